@@ -1,0 +1,65 @@
+-- The names in directives are names.
+use Rattle.std.proofs.Common.{◌≡◌, ℕ, Bool, true, false, cond, ◌&&◌, List, [], ◌∷◌, Option, Some, None, Result, Ok, Err, refl, ap}
+use Rattle.std.specs.Prelude.{IsTrue, codes, bytes_eq}
+use Rattle.std.specs.List.{AllByRecursion, list_all, cons_option}
+use Rattle.wq_text.specs.Lines.{LineView}
+use Rattle.wq_text.specs.Words.{WordView, words_of}
+use Rattle.wq_decl.specs.declared.directive.Directive.{Directive}
+use Rattle.wq_decl.specs.declared.directive.Directive.TheVariants.{Item, Flush}
+use Rattle.wq_decl.specs.declared.fault.DeclError.{DeclError}
+use Rattle.wq_decl.specs.declared.fault.DeclError.TheVariants.{BadByte, UnknownWord, MissingName, ExtraWord, BadName}
+use Rattle.wq_decl.specs.Names.{is_name, are_names}
+use Rattle.wq_decl.specs.Reading.{is_text_byte, item_reading, flush_reading, words_reading, reading, directive_in, directives, HasNames}
+
+-- a directive, if the reading found one, has names
+abbrev pub NamesIn : Result (Option Directive) DeclError → Type 0
+NamesIn (Ok (Some d)) = HasNames d
+NamesIn (Ok None) = Unit {0}
+NamesIn (Err e) = Unit {0}
+
+both : (a b : Bool) → (a && b) ≡ true → IsTrue a × IsTrue b
+both true b h = (refl, h)
+both false b h = absurd cc
+
+item_names : (n : ℕ) (ws : List WordView) → NamesIn (item_reading n ws)
+item_names n [] = tt
+item_names n (name ∷ []) = chosen (is_name name.bytes) refl
+  where
+    chosen : (b : Bool) → is_name name.bytes ≡ b → NamesIn (cond b (Ok (Some (Item name))) (Err (BadName n)))
+    chosen true e = e
+    chosen false e = tt
+item_names n (name ∷ extra ∷ others) = tt
+
+flush_names : (n : ℕ) (ws : List WordView) → NamesIn (flush_reading n ws)
+flush_names n [] = tt
+flush_names n (name ∷ []) = tt
+flush_names n (name ∷ target ∷ []) = chosen (are_names (name ∷ target ∷ [])) refl
+  where
+    chosen : (b : Bool) → are_names (name ∷ target ∷ []) ≡ b → NamesIn (cond b (Ok (Some (Flush name (target ∷ [])))) (Err (BadName n)))
+    chosen true e = let p = both (is_name name.bytes) _ e in (p.0, ((both (is_name target.bytes) _ p.1).0, tt))
+    chosen false e = tt
+flush_names n (name ∷ target ∷ extra ∷ others) = tt
+
+cond_names : (b : Bool) (x y : Result (Option Directive) DeclError) → NamesIn x → NamesIn y → NamesIn (cond b x y)
+cond_names true x y p q = p
+cond_names false x y p q = q
+
+words_names : (n : ℕ) (ws : List WordView) → NamesIn (words_reading n ws)
+words_names n [] = tt
+words_names n (first ∷ others) =
+    cond_names (bytes_eq first.bytes (codes "item")) _ _ (item_names n others) (cond_names (bytes_eq first.bytes (codes "flush")) _ _ (flush_names n others) tt)
+
+-- what a line says has names
+pub NamesIn-reading : (line : LineView) → NamesIn (reading line)
+NamesIn-reading line = cond_names (list_all is_text_byte line.bytes) _ _ (words_names line.no (words_of line)) tt
+
+with_first : (n : ℕ) (r : Result (Option Directive) DeclError) (lines : List LineView) → NamesIn r → AllByRecursion (λ (d : ℕ × Directive). HasNames d.1) (directives lines)
+    → AllByRecursion (λ (d : ℕ × Directive). HasNames d.1) (cons_option (directive_in n r) (directives lines))
+with_first n (Ok (Some d)) lines h rest = (h, rest)
+with_first n (Ok None) lines h rest = rest
+with_first n (Err e) lines h rest = rest
+
+-- the directives of any lines have names
+pub HasNames-directives : (lines : List LineView) → AllByRecursion (λ (d : ℕ × Directive). HasNames d.1) (directives lines)
+HasNames-directives [] = tt
+HasNames-directives (line ∷ lines) = with_first line.no (reading line) lines (NamesIn-reading line) (HasNames-directives lines)

@@ -1,0 +1,73 @@
+-- Directives: what a line of a declaration says, or its first fault by the rows of the format's table.
+use Rattle.std.specs.Prelude.{ℕ, ◌==◌, ◌||◌, ◌&&◌, Bool, true, false, nat_le, if◌then◌else◌, List, [], ◌∷◌, Option, Some, None, Result, Ok, Err, bytes_eq, codes, IsTrue}
+use Rattle.std.specs.Option.{option_or}
+use Rattle.std.specs.List.{list_all, filter_map, AllByRecursion}
+use Rattle.wq_text.specs.Lines.{LineView}
+use Rattle.wq_text.specs.Words.{WordView, words_of}
+use Rattle.wq_text.specs.Refusal.{Refusal}
+use Rattle.wq_decl.specs.declared.directive.Directive.{Directive}
+use Rattle.wq_decl.specs.declared.directive.Directive.TheVariants.{Item, Flush}
+use Rattle.wq_decl.specs.declared.fault.DeclError.{DeclError}
+use Rattle.wq_decl.specs.declared.fault.DeclError.TheVariants.{BadByte, UnknownWord, MissingName, ExtraWord, BadName}
+use Rattle.wq_decl.specs.Names.{is_name, are_names}
+
+-- a TAB, or a printable ASCII character
+abbrev pub is_text_byte : ℕ → Bool
+is_text_byte b = b == 9 || (nat_le 32 b && nat_le b 126)
+
+-- the words after `item` on line n: one name
+abbrev pub item_reading : ℕ → List WordView → Result (Option Directive) DeclError
+item_reading n [] = Err (MissingName n)
+item_reading n (name ∷ []) = if is_name name.bytes then Ok (Some (Item name)) else Err (BadName n)
+item_reading n (name ∷ extra ∷ others) = Err (ExtraWord n)
+
+-- the words after `flush` on line n: a name and a target
+abbrev pub flush_reading : ℕ → List WordView → Result (Option Directive) DeclError
+flush_reading n [] = Err (MissingName n)
+flush_reading n (name ∷ []) = Err (MissingName n)
+flush_reading n (name ∷ target ∷ []) = if are_names (name ∷ target ∷ []) then Ok (Some (Flush name (target ∷ []))) else Err (BadName n)
+flush_reading n (name ∷ target ∷ extra ∷ others) = Err (ExtraWord n)
+
+-- the words of line n: none on a blank line, else a directive
+abbrev pub words_reading : ℕ → List WordView → Result (Option Directive) DeclError
+words_reading n [] = Ok None
+words_reading n (first ∷ others) =
+    if bytes_eq first.bytes (codes "item") then item_reading n others
+    else (if bytes_eq first.bytes (codes "flush") then flush_reading n others else Err (UnknownWord n))
+
+-- what a line says, or its first fault
+abbrev pub reading : LineView → Result (Option Directive) DeclError
+reading line = if list_all is_text_byte line.bytes then words_reading line.no (words_of line) else Err (BadByte line.no)
+
+-- the fault of a line that has one
+abbrev pub fault_in : Result (Option Directive) DeclError → Option DeclError
+fault_in (Ok found) = None
+fault_in (Err fault) = Some fault
+
+-- the directive of line n, if it has one
+abbrev pub directive_in : ℕ → Result (Option Directive) DeclError → Option (ℕ × Directive)
+directive_in n (Ok (Some directive)) = Some (n, directive)
+directive_in n (Ok None) = None
+directive_in n (Err fault) = None
+
+-- the fault of the lowest line that has one
+abbrev pub first_fault : List LineView → Option DeclError
+first_fault [] = None
+first_fault (line ∷ lines) = option_or (fault_in (reading line)) (first_fault lines)
+
+-- the directives in order, each with the number of its line
+abbrev pub directives : List LineView → List (ℕ × Directive)
+directives lines = filter_map (λ (line : LineView). directive_in line.no (reading line)) lines
+
+-- the names in a directive are names
+abbrev pub HasNames : Directive → Type 0
+HasNames (Item name) = IsTrue (is_name name.bytes)
+HasNames (Flush name targets) = IsTrue (is_name name.bytes) × AllByRecursion (λ (w : WordView). IsTrue (is_name w.bytes)) targets
+
+-- 3, 4, 5, 12 or 6, with the line
+abbrev pub decl_refusal : DeclError → Refusal
+decl_refusal (BadByte line) = record { code = 3; line = line }
+decl_refusal (UnknownWord line) = record { code = 4; line = line }
+decl_refusal (MissingName line) = record { code = 5; line = line }
+decl_refusal (ExtraWord line) = record { code = 12; line = line }
+decl_refusal (BadName line) = record { code = 6; line = line }

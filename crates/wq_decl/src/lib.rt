@@ -1,0 +1,15 @@
+//! Declarations as directives: the second pass over a declaration, line by line.
+//!
+//! What the layer above relies on: the directives are those of the grammar, each with the number of its line, or
+//! else the answer is the first fault. The grammar is that of "Directives" in docs/FORMAT.md, a format of this
+//! project's own.
+#![tactic(auto)]
+
+mod directive;
+mod fault;
+mod reading;
+mod view;
+
+pub use directive::Directive;
+pub use fault::DeclError;
+pub use view::{DeclView, Directives};

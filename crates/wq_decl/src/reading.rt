@@ -1,0 +1,104 @@
+//! One line as a directive.
+//!
+//! Looks at each byte of the line a fixed number of times.
+
+ghost use Rattle.std.specs.Prelude.{◌≡◌};
+ghost use Rattle.std.specs.List.{list_all};
+ghost use Rattle.wq_decl.specs.Names.{is_name_byte, is_name};
+ghost use Rattle.wq_decl.specs.Reading.{is_text_byte, item_reading, flush_reading, reading};
+
+use crate::directive::Directive;
+use crate::fault::DeclError;
+use wq_text::{Line, Words};
+
+/// Whether a name may have this byte: an ASCII letter, a digit, `_`, `-` or `.`.
+fn is_name_byte(byte: u8) -> bool
+    ensures { result ≡ is_name_byte byte }
+{
+    byte.is_ascii_alphanumeric() || byte == b'_' || byte == b'-' || byte == b'.'
+}
+
+/// Whether each byte may stand in a name.
+fn are_name_bytes(word: &[u8]) -> bool
+    ensures { result ≡ list_all is_name_byte word.now }
+{
+    word.iter().all(|byte| is_name_byte(*byte))
+}
+
+/// Whether a word is a name: 1 to 63 bytes that a name may have.
+fn is_name(word: &[u8]) -> bool
+    ensures { result ≡ is_name word.now }
+{
+    !word.is_empty() && word.len() <= 63 && are_name_bytes(word)
+}
+
+/// Whether a line may have this byte: TAB, or a printable ASCII character.
+fn is_text_byte(byte: u8) -> bool
+    ensures { result ≡ is_text_byte byte }
+{
+    byte == b'\t' || (32 <= byte && byte <= 126)
+}
+
+/// Whether a line may have each of these bytes.
+fn are_text_bytes(line: &[u8]) -> bool
+    ensures { result ≡ list_all is_text_byte line.now }
+{
+    line.iter().all(|byte| is_text_byte(*byte))
+}
+
+/// The words behind `item` on this line.
+fn read_item<'a>(line: u32, mut words: Words<'a>) -> Result<Option<Directive<'a>>, DeclError>
+    ensures { result ≡ item_reading line words.entry }
+{
+    let Some(name) = words.next() else {
+        return Err(DeclError::MissingName { line });
+    };
+    if words.next().is_some() {
+        return Err(DeclError::ExtraWord { line });
+    }
+    if !is_name(name.bytes()) {
+        return Err(DeclError::BadName { line });
+    }
+    Ok(Some(Directive::Item(name)))
+}
+
+/// The words behind `flush` on this line.
+fn read_flush<'a>(line: u32, mut words: Words<'a>) -> Result<Option<Directive<'a>>, DeclError>
+    ensures { result ≡ flush_reading line words.entry }
+{
+    let Some(name) = words.next() else {
+        return Err(DeclError::MissingName { line });
+    };
+    let targets = words.again();
+    let Some(target) = words.next() else {
+        return Err(DeclError::MissingName { line });
+    };
+    if words.next().is_some() {
+        return Err(DeclError::ExtraWord { line });
+    }
+    if !is_name(name.bytes()) || !is_name(target.bytes()) {
+        return Err(DeclError::BadName { line });
+    }
+    Ok(Some(Directive::Flush(name, targets)))
+}
+
+/// What a line says: nothing where it is blank, else a directive, or its first fault.
+pub(crate) fn read_line<'a>(line: &Line<'a>) -> Result<Option<Directive<'a>>, DeclError>
+    ensures { result ≡ reading line.now }
+{
+    let no = line.no();
+    if !are_text_bytes(line.bytes()) {
+        return Err(DeclError::BadByte { line: no });
+    }
+    let mut words = line.words();
+    let Some(first) = words.next() else {
+        return Ok(None);
+    };
+    if first.bytes() == b"item".as_slice() {
+        read_item(no, words)
+    } else if first.bytes() == b"flush".as_slice() {
+        read_flush(no, words)
+    } else {
+        Err(DeclError::UnknownWord { line: no })
+    }
+}

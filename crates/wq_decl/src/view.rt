@@ -1,0 +1,107 @@
+//! A declaration as the list of its directives.
+//!
+//! Making a view looks at each line once, and so does going over its directives again. It takes no memory.
+
+ghost use Rattle.std.specs.Prelude.{◌≡◌, ℕ, None, Some, IfErr, IfOk};
+ghost use Rattle.std.specs.Iterator.{YieldsFirst, item_count};
+ghost use Rattle.std.specs.List.{AllByRecursion};
+ghost use Rattle.wq_text.specs.Lines.{lines_of};
+ghost use Rattle.wq_decl.specs.declared.directive.Directive.{Directive};
+ghost use Rattle.wq_decl.specs.Reading.{directives, first_fault, HasNames};
+
+use crate::directive::Directive;
+use crate::fault::DeclError;
+use crate::reading::read_line;
+use std::marker::Model;
+use wq_text::{Lines, Text};
+
+/// A text whose lines are directives. Contracts see the list of these, each with the number of its line.
+#[derive(Drop)]
+pub struct DeclView<'a> {
+    text: Text<'a>,
+}
+
+impl<'a> Model for DeclView<'a> {
+    ghost use Rattle.std.specs.Prelude.{◌≡◌, ℕ, List, None};
+    ghost use Rattle.wq_text.specs.Lines.{lines_of};
+    ghost use Rattle.wq_decl.specs.declared.directive.Directive.{Directive};
+
+    ghost Value = { List (ℕ × Directive) };
+
+    ghost use Rattle.wq_decl.specs.Reading.{directives, first_fault};
+
+    ghost view = { λ d. directives (lines_of d.text) };
+
+    ghost invariant = { λ d. first_fault (lines_of d.text) ≡ None };
+}
+
+impl<'a> DeclView<'a> {
+    /// The directives of a text.
+    ///
+    /// The answer is the first fault, of the lowest line that has one: `BadByte` (3), `UnknownWord` (4),
+    /// `MissingName` (5), `ExtraWord` (12) or `BadName` (6), in this order in a line.
+    pub fn new(text: Text<'a>) -> Result<DeclView<'a>, DeclError>
+        ensures directives { IfOk result (λ view. (view ≡ directives (lines_of text.entry)) × (first_fault (lines_of text.entry) ≡ None)) }
+        ensures fault { IfErr result (λ e. first_fault (lines_of text.entry) ≡ Some e) }
+    {
+        for line in text.lines() {
+            read_line(&line)?;
+        }
+        Ok(DeclView { text })
+    }
+
+    /// The directives in order, each with the number of its line.
+    pub fn directives(&self) -> Directives<'a>
+        ensures value { result ≡ self.now }
+        ensures names { AllByRecursion (λ (d : ℕ × Directive). HasNames d.1) self.now }
+    {
+        Directives {
+            lines: self.text.lines(),
+        }
+    }
+}
+
+/// The directives of a view, in order. Contracts see the list of those that are left.
+#[derive(Drop)]
+pub struct Directives<'a> {
+    lines: Lines<'a>,
+}
+
+impl<'a> Model for Directives<'a> {
+    ghost use Rattle.std.specs.Prelude.{◌≡◌, ℕ, List, None};
+    ghost use Rattle.wq_decl.specs.declared.directive.Directive.{Directive};
+
+    ghost Value = { List (ℕ × Directive) };
+
+    ghost use Rattle.wq_decl.specs.Reading.{directives, first_fault};
+
+    ghost view = { λ d. directives d.lines };
+
+    ghost invariant = { λ d. first_fault d.lines ≡ None };
+}
+
+/// The first directive of some lines, and the lines behind it.
+fn next_directive<'a>(lines: &mut Lines<'a>) -> Option<(u32, Directive<'a>)>
+    requires { first_fault lines.old ≡ None }
+    ensures steps { YieldsFirst directives lines.old result lines.new }
+    ensures sound { first_fault lines.new ≡ None }
+{
+    while let Some(line) = lines.next() {
+        if let Ok(Some(directive)) = read_line(&line) {
+            return Some((line.no(), directive));
+        }
+    }
+    None
+}
+
+impl<'a> Iterator for Directives<'a> {
+    type Item = (u32, Directive<'a>);
+
+    ghost next_gives = { YieldsFirst (λ rest. rest) };
+
+    ghost remaining = { item_count (λ rest. rest) };
+
+    fn next(&mut self) -> Option<(u32, Directive<'a>)> {
+        next_directive(&mut self.lines)
+    }
+}

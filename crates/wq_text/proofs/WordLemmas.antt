@@ -1,0 +1,121 @@
+-- What bytes begin with, as words.
+use Rattle.std.proofs.Common.{◌≡◌, ◌≢◌, ℕ, zero, suc, ◌+◌, ◌<◌, ◌≤◌, Bool, true, false, not, cond, eqb, List, [], ◌∷◌, ◌++◌, length, get_or, take, drop, refl, sym, ap, subst, ◌∙◌, arith, append_assoc, append-nil, one-add, inl, inr, ◌⊎◌}
+use Rattle.std.specs.List.{AllByRecursion, prefix_len}
+use Rattle.std.proofs.lemmas.List.{take-append-drop}
+use Rattle.wq_text.specs.Words.{WordView, words_from, is_blank, is_filled, begins_word, longer, AllBlank, NoBlank, EndsAWord, IsFirstWord, AreTheWords}
+
+cons_not_nil : (x : ℕ) (xs : List ℕ) → x ∷ xs ≡ [] → ⊥
+cons_not_nil x xs e = cc
+
+pub words_from-gap : (at : ℕ) (gap rest : List ℕ) → AllBlank gap → words_from at (gap ++ rest) ≡ words_from (at + length gap) rest
+words_from-gap at [] rest h = ap (λ k. words_from k rest) (omega arith)
+words_from-gap at (b ∷ gap) rest h =
+    let more : words_from at ((b ∷ gap) ++ rest) ≡ words_from (at + 1) (gap ++ rest) = rw h.0 refl in
+    more ∙ words_from-gap (at + 1) gap rest h.1 ∙ ap (λ k. words_from k rest) (omega arith)
+
+pub words_from-run : (at b : ℕ) (bs rest : List ℕ) → NoBlank (b ∷ bs) → EndsAWord rest
+    → words_from at ((b ∷ bs) ++ rest) ≡ record { start = at; bytes = b ∷ bs } ∷ words_from (at + length (b ∷ bs)) rest
+words_from-run at b [] rest h ends =
+    let one : words_from at (b ∷ rest) ≡ record { start = at; bytes = b ∷ [] } ∷ words_from (at + 1) rest = rw (h.0, ends) refl in
+    one
+words_from-run at b (c ∷ bs) rest h ends =
+    let step : words_from at ((b ∷ c ∷ bs) ++ rest) ≡ longer at b (words_from (at + 1) ((c ∷ bs) ++ rest)) = rw (h.0, h.1.0) refl in
+    let w : WordView = record { start = at; bytes = b ∷ c ∷ bs } in
+    step ∙ ap (longer at b) (words_from-run (at + 1) c bs rest h.1 ends) ∙ ap (λ k. w ∷ words_from k rest) (omega arith)
+
+word_is : (at : ℕ) (w : WordView) → w.start ≡ at → record { start = at; bytes = w.bytes } ≡ w
+word_is at w e = ap (λ k. record { start = k; bytes = w.bytes }) (sym e)
+
+pub words_from-filled : (at : ℕ) (w : List ℕ) (rest : List ℕ) → w ≢ [] → NoBlank w → EndsAWord rest → words_from at (w ++ rest) ≡ record { start = at; bytes = w } ∷ words_from (at + length w) rest
+words_from-filled at [] rest filled h ends = absurd (filled refl)
+words_from-filled at (b ∷ bs) rest filled h ends = words_from-run at b bs rest h ends
+
+-- the first word of some bytes is the first of their words
+pub words_from-first_word : (at : ℕ) (bs : List ℕ) (w : WordView) (rest : List ℕ) → IsFirstWord at bs w rest → words_from at bs ≡ w ∷ words_from (w.start + length w.bytes) rest
+words_from-first_word at bs w rest h =
+    let named : record { start = at + length h.gap; bytes = w.bytes } ≡ w = word_is (at + length h.gap) w h.starts in
+    ap (words_from at) h.parts ∙ words_from-gap at h.gap (w.bytes ++ rest) h.blanks ∙ words_from-filled (at + length h.gap) w.bytes rest h.filled h.unbroken h.longest
+    ∙ ap (λ (v : WordView). v ∷ words_from (at + length h.gap + length w.bytes) rest) named ∙ ap (λ k. w ∷ words_from (k + length w.bytes) rest) (sym h.starts)
+
+-- the words of nothing but blanks
+pub words_from-blank : (at : ℕ) (bs : List ℕ) → AllBlank bs → words_from at bs ≡ []
+words_from-blank at [] h = refl
+words_from-blank at (b ∷ bs) h = let more : words_from at (b ∷ bs) ≡ words_from (at + 1) bs = rw h.0 refl in more ∙ words_from-blank (at + 1) bs h.1
+
+-- ---- the longest front that passes a test
+
+passes-step : (p : ℕ → Bool) (x : ℕ) (xs : List ℕ) (b : Bool) → p x ≡ b → AllByRecursion (λ y. p y ≡ true) (take (prefix_len p xs) xs)
+    → AllByRecursion (λ y. p y ≡ true) (take (prefix_len p (x ∷ xs)) (x ∷ xs))
+passes-step p x xs true e rest = rw (e, one-add) (e, rest)
+passes-step p x xs false e rest = rw e tt
+
+-- each byte of the front passes
+pub AllByRecursion-take-prefix_len : (p : ℕ → Bool) (xs : List ℕ) → AllByRecursion (λ x. p x ≡ true) (take (prefix_len p xs) xs)
+AllByRecursion-take-prefix_len p [] = tt
+AllByRecursion-take-prefix_len p (x ∷ xs) = passes-step p x xs (p x) refl (AllByRecursion-take-prefix_len p xs)
+
+-- what follows the front is nothing, or begins with a byte that doesn't pass
+abbrev pub FailsAtOnce : (ℕ → Bool) → List ℕ → Type 0
+FailsAtOnce p [] = Unit {0}
+FailsAtOnce p (x ∷ xs) = p x ≡ false
+
+fails-step : (p : ℕ → Bool) (x : ℕ) (xs : List ℕ) (b : Bool) → p x ≡ b → FailsAtOnce p (drop (prefix_len p xs) xs) → FailsAtOnce p (drop (prefix_len p (x ∷ xs)) (x ∷ xs))
+fails-step p x xs true e rest = rw (e, one-add) rest
+fails-step p x xs false e rest = rw e e
+
+pub FailsAtOnce-drop-prefix_len : (p : ℕ → Bool) (xs : List ℕ) → FailsAtOnce p (drop (prefix_len p xs) xs)
+FailsAtOnce-drop-prefix_len p [] = tt
+FailsAtOnce-drop-prefix_len p (x ∷ xs) = fails-step p x xs (p x) refl (FailsAtOnce-drop-prefix_len p xs)
+
+not_true : (b : Bool) → not b ≡ true → b ≡ false
+not_true true h = absurd cc
+not_true false h = refl
+
+not_false : (b : Bool) → not b ≡ false → b ≡ true
+not_false true h = refl
+not_false false h = absurd cc
+
+pub NoBlank-from_filled : (bs : List ℕ) → AllByRecursion (λ b. is_filled b ≡ true) bs → NoBlank bs
+NoBlank-from_filled [] h = tt
+NoBlank-from_filled (b ∷ bs) h = (not_true (is_blank b) h.0, NoBlank-from_filled bs h.1)
+
+pub EndsAWord-from_fails : (bs : List ℕ) → FailsAtOnce is_filled bs → EndsAWord bs
+EndsAWord-from_fails [] h = refl
+EndsAWord-from_fails (b ∷ bs) h = h
+
+pub begins_word-from_fails : (bs : List ℕ) → FailsAtOnce is_blank bs → begins_word bs ≡ true ⊎ (bs ≡ [])
+begins_word-from_fails [] h = inr refl
+begins_word-from_fails (b ∷ bs) h = inl (rw h refl)
+
+pub filled-take : (bs : List ℕ) → begins_word bs ≡ true → take (prefix_len is_filled bs) bs ≢ []
+filled-take [] h e = absurd cc
+filled-take (b ∷ bs) h e = let step : take (prefix_len is_filled (b ∷ bs)) (b ∷ bs) ≡ b ∷ take (prefix_len is_filled bs) bs = rw (h, one-add) refl in absurd (cons_not_nil _ _ (sym step ∙ e))
+
+-- ---- blanks, a word and the rest, as they are cut off one after the other
+
+append-empty : (gap rest : List ℕ) → length rest ≡ 0 → gap ++ rest ≡ gap
+append-empty gap [] e = append-nil gap
+append-empty gap (b ∷ bs) e = absurd (omega arith)
+
+-- blanks, and nothing behind them
+pub words_from-blank_front : (at : ℕ) (bs gap rest : List ℕ) → bs ≡ gap ++ rest → AllBlank gap → length rest ≡ 0 → words_from at bs ≡ []
+words_from-blank_front at bs gap rest whole blank none = ap (words_from at) (whole ∙ append-empty gap rest none) ∙ words_from-blank at gap blank
+
+begins_here : (rest : List ℕ) → 0 < length rest → begins_word rest ≡ true ⊎ (rest ≡ []) → begins_word rest ≡ true
+begins_here rest some (inl begins) = begins
+begins_here rest some (inr none) = absurd (omega (arith, ap length none))
+
+-- blanks, a word, and the rest behind it
+pub words_from-two_splits : (at : ℕ) (bs gap rest word after : List ℕ) → bs ≡ gap ++ rest → AllBlank gap → begins_word rest ≡ true ⊎ (rest ≡ []) → 0 < length rest
+    → rest ≡ word ++ after → NoBlank word → (begins_word rest ≡ true → word ≢ []) → EndsAWord after
+    → words_from at bs ≡ record { start = at + length gap; bytes = word } ∷ words_from (at + length gap + length word) after
+words_from-two_splits at bs gap rest word after whole blank begins some cut unbroken filled longest =
+    words_from-first_word at bs (record { start = at + length gap; bytes = word }) after (record {
+      gap = gap;
+      blanks = blank;
+      parts = whole ∙ ap (λ (r : List ℕ). gap ++ r) cut;
+      starts = refl;
+      filled = filled (begins_here rest some begins);
+      unbroken = unbroken;
+      longest = longest;
+    })

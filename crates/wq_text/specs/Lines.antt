@@ -1,0 +1,59 @@
+-- Lines: how a text is cut at its line feeds (the byte 10).
+use Rattle.std.specs.Prelude.{◌≡◌, ◌≢◌, ℕ, ◌+◌, ◌==◌, if◌then◌else◌, Bool, true, false, List, [], ◌∷◌, ◌++◌, length, Contains, IsTrue, ◌⊎◌, ⊤, flat_map}
+use Rattle.std.specs.List.{AllByRecursion}
+
+-- the byte that ends a line
+abbrev pub line_feed : ℕ
+line_feed = 10
+
+-- what stands between two line feeds; `ended` says that one follows it
+pub record Piece : Type 0 where
+  pub bytes : List ℕ
+  pub ended : Bool
+
+-- these pieces with a byte more in front, in a piece of its own where there is none
+abbrev pub in_front : ℕ → List Piece → List Piece
+in_front b [] = record { bytes = b ∷ []; ended = false } ∷ []
+in_front b (p ∷ ps) = record { bytes = b ∷ p.bytes; ended = p.ended } ∷ ps
+
+-- a text cut at its line feeds; nothing after the last of them is no piece
+abbrev pub pieces : List ℕ → List Piece
+pieces [] = []
+pieces (b ∷ bs) = if b == 10 then record { bytes = []; ended = true } ∷ pieces bs else in_front b (pieces bs)
+
+-- a line: its number, from 1; the offset of its first byte in the text; its bytes, without the line feed
+pub record LineView : Type 0 where
+  pub no : ℕ
+  pub start : ℕ
+  pub bytes : List ℕ
+
+-- how many bytes of the text a piece takes, with the line feed that ends it
+abbrev pub taken : Piece → ℕ
+taken p = length p.bytes + (if p.ended then 1 else 0)
+
+-- the pieces as lines, the first of which has this number and begins at this offset
+abbrev pub lines_from : ℕ → ℕ → List Piece → List LineView
+lines_from n start [] = []
+lines_from n start (p ∷ ps) = record { no = n; start = start; bytes = p.bytes } ∷ lines_from (n + 1) (start + taken p) ps
+
+-- the lines of a text
+abbrev pub lines_of : List ℕ → List LineView
+lines_of text = lines_from 1 0 (pieces text)
+
+-- ---- the same without recursion over the bytes
+
+-- a piece as it stands in the text
+abbrev pub piece_text : Piece → List ℕ
+piece_text p = p.bytes ++ (if p.ended then 10 ∷ [] else [])
+
+-- each piece but the last has its line feed, and a last one without it isn't empty
+abbrev pub OnlyTheLastIsOpen : List Piece → Type 0
+OnlyTheLastIsOpen [] = ⊤
+OnlyTheLastIsOpen (p ∷ []) = IsTrue p.ended ⊎ (p.bytes ≢ [])
+OnlyTheLastIsOpen (p ∷ q ∷ ps) = IsTrue p.ended × OnlyTheLastIsOpen (q ∷ ps)
+
+-- the pieces, each with its line feed, make the text; none holds a line feed; only the last may lack its own
+pub record AreThePieces (text : List ℕ) (ps : List Piece) : Type 0 where
+  pub make_the_text : flat_map piece_text ps ≡ text
+  pub hold_no_feed : AllByRecursion (λ p. Contains p.bytes 10 → ⊥) ps
+  pub ended : OnlyTheLastIsOpen ps

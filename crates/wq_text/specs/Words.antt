@@ -1,0 +1,68 @@
+-- Words: the longest runs of bytes other than space and TAB.
+use Rattle.std.specs.Prelude.{◌≡◌, ◌≢◌, ℕ, ◌+◌, ◌-◌, ◌==◌, ◌||◌, not, if◌then◌else◌, Bool, true, false, List, [], ◌∷◌, ◌++◌, length, ⊤}
+use Rattle.std.specs.List.{AllByRecursion}
+use Rattle.wq_text.specs.Lines.{LineView}
+
+-- a space or a TAB
+abbrev pub is_blank : ℕ → Bool
+is_blank b = b == 32 || b == 9
+
+-- another byte: one of a word
+abbrev pub is_filled : ℕ → Bool
+is_filled b = not (is_blank b)
+
+-- a word: the offset of its first byte in the text, and its bytes
+pub record WordView : Type 0 where
+  pub start : ℕ
+  pub bytes : List ℕ
+
+-- the bytes begin with one that is no blank
+abbrev pub begins_word : List ℕ → Bool
+begins_word [] = false
+begins_word (b ∷ bs) = is_filled b
+
+-- these words with a byte more in front of the first, which then begins at this offset
+abbrev pub longer : ℕ → ℕ → List WordView → List WordView
+longer at b [] = record { start = at; bytes = b ∷ [] } ∷ []
+longer at b (w ∷ ws) = record { start = at; bytes = b ∷ w.bytes } ∷ ws
+
+-- the words of bytes, the first of which stands at this offset: a blank parts words, and another byte
+-- makes the word behind it longer, or is a word of its own where none begins there
+abbrev pub words_from : ℕ → List ℕ → List WordView
+words_from at [] = []
+words_from at (b ∷ bs) =
+    let others = words_from (at + 1) bs in
+    if is_blank b then others else (if begins_word bs then longer at b others else record { start = at; bytes = b ∷ [] } ∷ others)
+
+-- the words of a line
+abbrev pub words_of : LineView → List WordView
+words_of line = words_from line.start line.bytes
+
+-- ---- the same without recursion over the bytes
+
+-- only blanks
+abbrev pub AllBlank : List ℕ → Type 0
+AllBlank bs = AllByRecursion (λ b. is_blank b ≡ true) bs
+
+-- no blank
+abbrev pub NoBlank : List ℕ → Type 0
+NoBlank bs = AllByRecursion (λ b. is_blank b ≡ false) bs
+
+-- what stands behind a word: nothing, or bytes that begin with a blank
+abbrev pub EndsAWord : List ℕ → Type 0
+EndsAWord rest = begins_word rest ≡ false
+
+-- a gap of blanks, a word at its offset, and the rest, which begins with no byte of the word
+pub record IsFirstWord (at : ℕ) (bs : List ℕ) (w : WordView) (rest : List ℕ) : Type 0 where
+  pub gap : List ℕ
+  pub blanks : AllBlank gap
+  pub parts : bs ≡ gap ++ (w.bytes ++ rest)
+  pub starts : w.start ≡ at + length gap
+  pub filled : w.bytes ≢ []
+  pub unbroken : NoBlank w.bytes
+  pub longest : EndsAWord rest
+
+-- the words, one after the other, with only blanks between them and around them
+abbrev pub AreTheWords : ℕ → List ℕ → List WordView → Type 0
+AreTheWords at bs [] = AllBlank bs
+AreTheWords at bs (w ∷ ws) = (rest : List ℕ) × IsFirstWord at bs w rest × AreTheWords (w.start + length w.bytes) rest ws

@@ -1,0 +1,16 @@
+//! Texts as lines and words, and numbers in them: the lowest layer of a reader that copies nothing.
+//!
+//! What the layer above relies on: each line and each word is the slice of the text at its span, they come in
+//! order, and none is left out. The rules are those of "Lines, words and numbers" in docs/FORMAT.md, a format
+//! of this project's own.
+#![tactic(auto)]
+
+mod line;
+mod span;
+mod text;
+mod word;
+
+pub use line::{Line, Lines};
+pub use span::Span;
+pub use text::{Text, TextError};
+pub use word::{Word, Words};

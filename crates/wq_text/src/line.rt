@@ -1,0 +1,167 @@
+//! Lines: what stands between line feeds.
+//!
+//! A line feed (LF, the byte 10) ends a line, and what stands after the last one is a line if it isn't empty. Each
+//! byte of a text is looked at once, by `memchr`.
+
+ghost use Rattle.std.specs.Prelude.{◌≡◌, ◌+◌, ◌<◌, ◌^◌, ◌∷◌, List, ℕ, length, find, nat_lt, option_map};
+ghost use Rattle.std.specs.Iterator.{YieldsFirst, item_count};
+ghost use Rattle.wq_text.specs.Lines.{LineView, pieces, taken, lines_of};
+ghost use Rattle.wq_text.specs.Words.{words_of};
+ghost use Rattle.wq_text.specs.Limits.{first_long_line};
+
+use crate::span::Span;
+use crate::word::Words;
+use memchr::memchr;
+use std::marker::Model;
+
+/// A line of a text, without its line feed. Contracts see its number, its offset and its bytes.
+#[derive(Drop)]
+pub struct Line<'a> {
+    no: u32,
+    start: u32,
+    bytes: &'a [u8],
+}
+
+impl<'a> Model for Line<'a> {
+    ghost use Rattle.std.specs.Prelude.{length, ◌+◌, ◌<◌, ◌^◌};
+    ghost use Rattle.wq_text.specs.Lines.{LineView};
+
+    ghost Value = { LineView };
+
+    ghost view = { λ l. record { no = l.no; start = l.start; bytes = l.bytes.now } };
+
+    ghost invariant = { λ l. l.start + length l.bytes.now < 2 ^ 32 };
+}
+
+impl<'a> Line<'a> {
+    /// The number of the line, from 1.
+    pub fn no(&self) -> u32
+        ensures { result ≡ self.now.no }
+    {
+        self.no
+    }
+
+    /// Where the line stands in the text, its line feed left out.
+    pub fn span(&self) -> Span
+        ensures start { result.start ≡ self.now.start }
+        ensures end { result.end ≡ self.now.start + length self.now.bytes }
+    {
+        Span {
+            start: self.start,
+            end: self.start + self.bytes.len() as u32,
+        }
+    }
+
+    /// The bytes of the line, without its line feed.
+    pub fn bytes(&self) -> &'a [u8]
+        ensures { result.now ≡ self.now.bytes }
+    {
+        self.bytes
+    }
+
+    /// The words of the line, in order.
+    pub fn words(&self) -> Words<'a>
+        ensures { result ≡ words_of self.now }
+    {
+        Words::of(self.start, self.bytes)
+    }
+}
+
+/// The first piece of some bytes, and what stands behind it.
+#[derive(Clone, Copy)]
+struct Cut<'a> {
+    piece: &'a [u8],
+    ended: bool,
+    rest: &'a [u8],
+}
+
+/// Cuts bytes behind their first line feed.
+fn first_cut<'a>(bytes: &'a [u8]) -> Cut<'a>
+    requires { 0 < length bytes.now }
+    ensures first { pieces bytes.now ≡ record { bytes = result.piece.now; ended = result.ended } ∷ pieces result.rest.now }
+    ensures whole { taken (record { bytes = result.piece.now; ended = result.ended }) + length result.rest.now ≡ length bytes.now }
+    ensures shorter { length result.rest.now < length bytes.now }
+{
+    match memchr(b'\n', bytes) {
+        Some(feed) => Cut {
+            piece: &bytes[..feed],
+            ended: true,
+            rest: &bytes[feed + 1..],
+        },
+        None => Cut {
+            piece: bytes,
+            ended: false,
+            rest: &[],
+        },
+    }
+}
+
+/// The lines of a text, in order. Contracts see the list of the lines that are left.
+#[derive(Drop)]
+pub struct Lines<'a> {
+    /// How many lines were handed out.
+    before: u32,
+    start: u32,
+    rest: &'a [u8],
+}
+
+impl<'a> Model for Lines<'a> {
+    ghost use Rattle.std.specs.Prelude.{List, length, ◌+◌, ◌<◌, ◌^◌};
+    ghost use Rattle.wq_text.specs.Lines.{LineView, lines_from, pieces};
+
+    ghost Value = { List LineView };
+
+    ghost view = { λ s. lines_from (s.before + 1) s.start (pieces s.rest.now) };
+
+    ghost invariant = { λ s. (s.before + length s.rest.now < 2 ^ 32) × (s.start + length s.rest.now < 2 ^ 32) };
+}
+
+impl<'a> Lines<'a> {
+    /// The lines of a whole text.
+    pub(crate) fn of(text: &'a [u8]) -> Lines<'a>
+        requires { length text.now < 2 ^ 32 }
+        ensures { result ≡ lines_of text.now }
+    {
+        Lines {
+            before: 0,
+            start: 0,
+            rest: text,
+        }
+    }
+
+    /// The number of the first line that has more bytes than the limit.
+    pub(crate) fn first_longer_than(self, limit: u32) -> Option<u32>
+        ensures { result ≡ option_map (λ (line : LineView). line.no) (first_long_line limit self.entry) }
+    {
+        for line in self {
+            if line.bytes().len() > limit as usize {
+                return Some(line.no());
+            }
+        }
+        None
+    }
+}
+
+impl<'a> Iterator for Lines<'a> {
+    type Item = Line<'a>;
+
+    ghost next_gives = { YieldsFirst (λ rest. rest) };
+
+    ghost remaining = { item_count (λ rest. rest) };
+
+    fn next(&mut self) -> Option<Line<'a>> {
+        if self.rest.is_empty() {
+            return None;
+        }
+        let cut = first_cut(self.rest);
+        let line = Line {
+            no: self.before + 1,
+            start: self.start,
+            bytes: cut.piece,
+        };
+        self.start += (self.rest.len() - cut.rest.len()) as u32;
+        self.before += 1;
+        self.rest = cut.rest;
+        Some(line)
+    }
+}

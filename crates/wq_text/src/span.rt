@@ -1,0 +1,10 @@
+//! Spans: where something stands in a text.
+
+/// A range of bytes of a text, from `start` up to but not including `end`.
+#[derive(Clone, Copy, Debug, PartialEq, Eq)]
+pub struct Span {
+    /// The offset of the first byte.
+    pub start: u32,
+    /// The offset behind the last byte.
+    pub end: u32,
+}

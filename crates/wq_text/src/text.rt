@@ -1,0 +1,94 @@
+//! Texts within limits, and what is refused.
+//!
+//! The limits are the caller's: a declaration has others than a certificate (docs/FORMAT.md, "Limits"). Making a
+//! text looks at each byte once; handing it out takes constant time.
+
+ghost use Rattle.std.specs.Prelude.{◌≡◌, List, ℕ, length, IfErr, IfOk, None, Some};
+ghost use Rattle.wq_text.specs.Lines.{lines_of};
+ghost use Rattle.wq_text.specs.Limits.{limit_fault, text_refusal};
+
+use crate::line::Lines;
+use std::marker::Model;
+use thiserror::Error;
+
+/// Why bytes are no text within the limits.
+#[derive(Clone, Copy, Debug, PartialEq, Eq, Error)]
+pub enum TextError {
+    /// There are more bytes than the limit of a text (1, without a line).
+    #[error("the text is too long")]
+    TextTooLong,
+    /// A line has more bytes than the limit of a line, its line feed not counted (2, with its line).
+    #[error("line {line} is too long")]
+    LineTooLong { line: u32 },
+}
+
+impl TextError {
+    /// The number of the fault: 1 or 2.
+    pub fn code(self) -> u32
+        ensures { result ≡ (text_refusal self).code }
+    {
+        match self {
+            TextError::TextTooLong => 1,
+            TextError::LineTooLong { .. } => 2,
+        }
+    }
+
+    /// The line of the fault, from 1, or 0 where no line is meant.
+    pub fn line(self) -> u32
+        ensures { result ≡ (text_refusal self).line }
+    {
+        match self {
+            TextError::TextTooLong => 0,
+            TextError::LineTooLong { line } => line,
+        }
+    }
+}
+
+/// Bytes that are cut into lines. Contracts see the bytes.
+#[derive(Drop)]
+pub struct Text<'a> {
+    bytes: &'a [u8],
+}
+
+impl<'a> Model for Text<'a> {
+    ghost use Rattle.std.specs.Prelude.{List, ℕ, length, ◌<◌, ◌^◌};
+
+    ghost Value = { List ℕ };
+
+    ghost view = { λ t. t.bytes.now };
+
+    ghost invariant = { λ t. length t.bytes.now < 2 ^ 32 };
+}
+
+impl<'a> Text<'a> {
+    /// The bytes as a text of at most `max_text` bytes, with lines of at most `max_line` bytes.
+    ///
+    /// The answer is the first fault: `TextTooLong` (1), or else `LineTooLong` (2) with the lowest line that is.
+    pub fn new(text: &'a [u8], max_text: u32, max_line: u32) -> Result<Text<'a>, TextError>
+        ensures text { IfOk result (λ t. (t ≡ text.now) × (limit_fault max_text max_line text.now ≡ None)) }
+        ensures fault { IfErr result (λ e. limit_fault max_text max_line text.now ≡ Some e) }
+    {
+        if text.len() > max_text as usize {
+            return Err(TextError::TextTooLong);
+        }
+        let whole = Text { bytes: text };
+        match whole.lines().first_longer_than(max_line) {
+            Some(line) => Err(TextError::LineTooLong { line }),
+            None => Ok(whole),
+        }
+    }
+
+    /// The bytes.
+    pub fn bytes(&self) -> &'a [u8]
+        ensures { result.now ≡ self.now }
+    {
+        self.bytes
+    }
+
+    /// The lines, in order.
+    pub fn lines(&self) -> Lines<'a>
+        ensures { result ≡ lines_of self.now }
+    {
+        Lines::of(self.bytes)
+    }
+}
