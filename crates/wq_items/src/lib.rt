@@ -1,13 +1,17 @@
-// A library with one function.
+//! The items of a declaration and the flushes that they declare: the third pass.
+//!
+//! What the layer above relies on: items and waits are those that the directives declare, or else the answer is the
+//! first fault; and what holds of every table, its limits above all (`IsTable`). The rules are those of "Items" in
+//! docs/FORMAT.md. An item stands for a `struct work_struct`, a flush for `flush_work` in its function
+//! (Documentation/core-api/workqueue.rst; kernel/workqueue.c).
 #![tactic(auto)]
 
-ghost use Rattle.std.specs.Prelude.{◌≡◌};
-ghost use Rattle.wq_items.specs.Echo.{echo_of};
+mod fault;
+mod names;
+mod table;
+mod target;
+mod wait_lists;
 
-// The `ensures` clause is the contract: what `echo` returns is `echo_of` of its argument, a definition
-// in `specs/Echo.antt`, which a caller's clause can cite too.
-pub fn echo(x: usize) -> usize
-    ensures { result ≡ echo_of x }
-{
-    x
-}
+pub use fault::ItemError;
+pub use table::ItemTable;
+pub use target::{ItemId, Target};

@@ -119,3 +119,22 @@ words_from-two_splits at bs gap rest word after whole blank begins some cut unbr
       unbroken = unbroken;
       longest = longest;
     })
+
+-- ---- how many words there are
+
+length-longer-le : (at b : ℕ) (ws : List WordView) → length (longer at b ws) ≤ suc (length ws)
+length-longer-le at b [] = omega arith
+length-longer-le at b (w ∷ ws) = omega arith
+
+fewer-step : (blank begins : Bool) (ws longer_ws : List WordView) (w : WordView) (n : ℕ) → length ws ≤ n → length longer_ws ≤ suc (length ws)
+    → length (cond blank ws (cond begins longer_ws (w ∷ ws))) ≤ suc n
+fewer-step true begins ws longer_ws w n h k = omega arith
+fewer-step false true ws longer_ws w n h k = omega arith
+fewer-step false false ws longer_ws w n h k = omega arith
+
+-- no more words than bytes
+pub length-words_from-le : (at : ℕ) (bs : List ℕ) → length (words_from at bs) ≤ length bs
+length-words_from-le at [] = omega arith
+length-words_from-le at (b ∷ bs) =
+    fewer-step (is_blank b) (begins_word bs) (words_from (at + 1) bs) (longer at b (words_from (at + 1) bs)) (record { start = at; bytes = b ∷ [] }) (length bs)
+    (length-words_from-le (at + 1) bs) (length-longer-le at b (words_from (at + 1) bs))

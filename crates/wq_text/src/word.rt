@@ -127,9 +127,10 @@ impl<'a> Words<'a> {
         Words { start, rest: bytes }
     }
 
-    /// The same words once more.
+    /// The same words once more. There are fewer than 2^32.
     pub fn again(&self) -> Words<'a>
-        ensures { result ≡ self.now }
+        ensures same { result ≡ self.now }
+        ensures few { length self.now < 2 ^ 32 }
     {
         Words {
             start: self.start,

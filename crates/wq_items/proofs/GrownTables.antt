@@ -1,0 +1,52 @@
+-- A table that has grown, part by part, is a table.
+use Rattle.std.proofs.Common.{◌≡◌, ℕ, ◌+◌, ◌<◌, ◌≤◌, List, [], ◌∷◌, ◌++◌, length, set, Option, Some, None, refl, sym, ap, subst, ◌∙◌, arith, eqb}
+use Rattle.std.specs.Prelude.{IsTrue, IfSome, IsSome, option_map, slice_set, position, bytes_eq}
+use Rattle.std.proofs.lemmas.List.Quantifiers.{position-Some}
+use Rattle.wq_text.specs.declared.span.Span.{Span}
+use Rattle.wq_text.specs.Words.{WordView}
+use Rattle.wq_decl.specs.Names.{is_name}
+use Rattle.wq_items.specs.declared.target.Target.{Target}
+use Rattle.wq_items.specs.Table.{Table, IsTable, item_named, targets_of, flush_count}
+use Rattle.wq_items.specs.Building.{with_item, with_flushes, items_named, targets_from, span_of}
+use Rattle.wq_items.proofs.TableLemmas.{IsTable-with_item, IsTable-with_flushes, flush_count-with_item, flush_count-with_flushes, items_named-below, length-items_named}
+
+pub item_named-within : (names : List (List ℕ)) (name : List ℕ) (i : ℕ) → item_named names name ≡ Some i → i < length names
+item_named-within names name i found = (position-Some (bytes_eq name) names i [] found).0
+
+pub IsTable-item_added : (t : Table) (name : WordView) (names : List (List ℕ)) (spans : List Span) (waits : List (List Target)) → IsTable t → item_named t.names name.bytes ≡ None → length t.names < 4096
+    → IsTrue (is_name name.bytes) → names ≡ t.names ++ (name.bytes ∷ []) → spans ≡ t.spans ++ (span_of name ∷ []) → waits ≡ t.waits ++ ([] ∷ [])
+    → IsTable (record { names = names; spans = spans; waits = waits }) × (flush_count t.waits ≡ flush_count waits)
+IsTable-item_added t name names spans waits sound new room named n s w =
+    let table = IsTable-with_item t name sound new room named in (
+      subst (λ (ns : List (List ℕ)). IsTable (record { names = ns; spans = spans; waits = waits })) (sym n)
+          (subst (λ (ss : List Span). IsTable (record { names = t.names ++ (name.bytes ∷ []); spans = ss; waits = waits })) (sym s)
+          (subst (λ (ws : List (List Target)). IsTable (record { names = t.names ++ (name.bytes ∷ []); spans = t.spans ++ (span_of name ∷ []); waits = ws })) (sym w) table)),
+      sym (flush_count-with_item t name) ∙ ap flush_count (sym w),
+    )
+
+-- how many items the words of a line name, where all are known
+known_count : (o : Option (List ℕ)) (count : ℕ) → Some count ≡ option_map length o → (items : List ℕ) × (o ≡ Some items) × (length items ≡ count)
+known_count None count e = absurd cc
+known_count (Some items) count e = (items, refl, cc)
+
+pub count_is : (names : List (List ℕ)) (words : List WordView) (count : ℕ) → Some count ≡ option_map length (items_named names words) → count ≡ length words
+count_is names words count e =
+    let k = known_count (items_named names words) count e in
+    sym k.2 ∙ length-items_named names words k.0 k.1
+
+pub IsTable-flushes_added : (t : Table) (i : ℕ) (words : List WordView) (count : ℕ) (waits : List (List Target)) → IsTable t → i < length t.names
+    → Some count ≡ option_map length (items_named t.names words) → flush_count t.waits + count ≤ 16384
+    → IfSome (items_named t.names words) (λ items. waits ≡ slice_set t.waits i (targets_of t.waits i ++ targets_from (flush_count t.waits) items))
+    → IsTable (record { names = t.names; spans = t.spans; waits = waits }) × (flush_count t.waits + count ≡ flush_count waits)
+IsTable-flushes_added t i words count waits sound within known room grown =
+    let k = known_count (items_named t.names words) count known in
+    let items = k.0 in
+    let w : waits ≡ slice_set t.waits i (targets_of t.waits i ++ targets_from (flush_count t.waits) items) =
+    subst (λ (o : Option (List ℕ)). IfSome o (λ js. waits ≡ slice_set t.waits i (targets_of t.waits i ++ targets_from (flush_count t.waits) js))) k.1 grown in
+    let table = IsTable-with_flushes t i items sound within (items_named-below t.names words items k.1) (omega (arith, k.2)) in (
+      subst (λ (ws : List (List Target)). IsTable (record { names = t.names; spans = t.spans; waits = ws })) (sym w) table,
+      ap (λ (n : ℕ). flush_count t.waits + n) (sym k.2) ∙ sym (flush_count-with_flushes t i items (omega (arith, sound.waits))) ∙ ap flush_count (sym w),
+    )
+
+pub span_is : (s : Span) (w : WordView) → s.start ≡ w.start → s.end ≡ w.start + length w.bytes → s ≡ span_of w
+span_is s w a b = λ i. record { start = a i; end = b i }

@@ -1,0 +1,5 @@
+pub mod FoundNames
+pub mod WaitLemmas
+pub mod TargetLemmas
+pub mod TableLemmas
+pub mod GrownTables

@@ -1,0 +1,113 @@
+-- Going over the words of a `flush` line: how many were known, and what they added.
+use Rattle.std.proofs.Common.{◌≡◌, ℕ, zero, suc, ◌+◌, ◌<◌, ◌≤◌, List, [], ◌∷◌, ◌++◌, length, get_or, set, Option, Some, None, refl, sym, ap, subst, ◌∙◌, arith, append_assoc, append-nil}
+use Rattle.std.specs.Prelude.{IsSome, IfSome, option_map, slice_set}
+use Rattle.std.proofs.lemmas.List.{get_or-set_same, set-get_or, length-set, length-append}
+use Rattle.wq_text.specs.Words.{WordView}
+use Rattle.wq_items.specs.declared.target.Target.{Target}
+use Rattle.wq_items.specs.Table.{item_named, targets_of}
+use Rattle.wq_items.specs.Building.{items_named, and_item, targets_from}
+
+-- ---- counting
+
+-- `count` words were known so far, and `rest` of all the words are left
+pub record Counted (names : List (List ℕ)) (count : ℕ) (rest words : List WordView) : Type 0 where
+  pub known : option_map (λ (is : List ℕ). count + length is) (items_named names rest) ≡ option_map length (items_named names words)
+  pub all : count + length rest ≡ length words
+
+same_count : (o : Option (List ℕ)) → option_map (λ (is : List ℕ). 0 + length is) o ≡ option_map length o
+same_count None = refl
+same_count (Some is) = ap (λ (n : ℕ). Some n) (omega arith)
+
+pub Counted-none : (names : List (List ℕ)) (words : List WordView) → Counted names 0 words words
+Counted-none names words = record { known = same_count (items_named names words); all = omega arith }
+
+one_more : (i count : ℕ) (o : Option (List ℕ)) → option_map (λ (is : List ℕ). (count + 1) + length is) o ≡ option_map (λ (is : List ℕ). count + length is) (and_item (Some i) o)
+one_more i count None = refl
+one_more i count (Some is) = ap (λ (n : ℕ). Some n) (omega arith)
+
+pub Counted-more : (names : List (List ℕ)) (count : ℕ) (w : WordView) (rest words : List WordView) (i : ℕ) → item_named names w.bytes ≡ Some i → Counted names count (w ∷ rest) words
+    → Counted names (count + 1) rest words
+Counted-more names count w rest words i found h = record {
+  known = one_more i count (items_named names rest) ∙ ap (λ (o : Option ℕ). option_map (λ (is : List ℕ). count + length is) (and_item o (items_named names rest))) (sym found) ∙ h.known;
+  all = omega (arith, h.all);
+}
+
+pub Counted-unknown : (names : List (List ℕ)) (count : ℕ) (w : WordView) (rest words : List WordView) → item_named names w.bytes ≡ None → Counted names count (w ∷ rest) words
+    → option_map length (items_named names words) ≡ None
+Counted-unknown names count w rest words absent h =
+    sym h.known ∙ ap (λ (o : Option ℕ). option_map (λ (is : List ℕ). count + length is) (and_item o (items_named names rest))) absent
+
+pub Counted-all : (names : List (List ℕ)) (count : ℕ) (words : List WordView) → Counted names count [] words → Some count ≡ option_map length (items_named names words)
+Counted-all names count words h = ap (λ (n : ℕ). Some n) (omega arith) ∙ h.known
+
+-- ---- adding
+
+-- the items in front were added to those of one item, and `rest` of all the words are left
+pub record Added (names : List (List ℕ)) (old new : List (List Target)) (item first place : ℕ) (rest words : List WordView) : Type 0 where
+  pub front : List ℕ
+  pub known : option_map (λ (is : List ℕ). front ++ is) (items_named names rest) ≡ items_named names words
+  pub lists : new ≡ set old item (targets_of old item ++ targets_from first front)
+  pub next : place ≡ first + length front
+  pub all : length front + length rest ≡ length words
+
+same_items : (o : Option (List ℕ)) → option_map (λ (is : List ℕ). [] ++ is) o ≡ o
+same_items None = refl
+same_items (Some is) = refl
+
+pub Added-none : (names : List (List ℕ)) (old : List (List Target)) (item first : ℕ) (words : List WordView) → Added names old old item first first words words
+Added-none names old item first words = record {
+  front = [];
+  known = same_items (items_named names words);
+  lists = sym (ap (set old item) (append-nil (targets_of old item)) ∙ set-get_or old item []);
+  next = omega arith;
+  all = omega arith;
+}
+
+pub targets_from-append : (place : ℕ) (is js : List ℕ) → targets_from place (is ++ js) ≡ targets_from place is ++ targets_from (place + length is) js
+targets_from-append place [] js = ap (λ (p : ℕ). targets_from p js) (omega arith)
+targets_from-append place (i ∷ is) js =
+    let t : Target = record { item = i; place = place } in
+    ap (λ (ts : List Target). t ∷ ts) (targets_from-append (place + 1) is js ∙ ap (λ (p : ℕ). targets_from (place + 1) is ++ targets_from p js) (omega arith))
+
+set-set : {X : Type 0} (xs : List X) (i : ℕ) (a b : X) → set (set xs i a) i b ≡ set xs i b
+set-set [] i a b = refl
+set-set (x ∷ xs) zero a b = refl
+set-set (x ∷ xs) (suc i) a b = ap (λ (ys : List _). x ∷ ys) (set-set xs i a b)
+
+one_in_front : (i : ℕ) (front : List ℕ) (o : Option (List ℕ)) → option_map (λ (is : List ℕ). (front ++ (i ∷ [])) ++ is) o ≡ option_map (λ (is : List ℕ). front ++ is) (and_item (Some i) o)
+one_in_front i front None = refl
+one_in_front i front (Some is) = ap (λ (ys : List ℕ). Some ys) (append_assoc front (i ∷ []) is)
+
+pub Added-more : (names : List (List ℕ)) (old mid new : List (List Target)) (item first place : ℕ) (w : WordView) (rest words : List WordView) (i : ℕ) → item < length old
+    → item_named names w.bytes ≡ Some i → new ≡ set mid item (targets_of mid item ++ (record { item = i; place = place } ∷ [])) → Added names old mid item first place (w ∷ rest) words
+    → Added names old new item first (place + 1) rest words
+Added-more names old mid new item first place w rest words i within found grown h =
+    let t : Target = record { item = i; place = place } in
+    let before = targets_of old item ++ targets_from first h.front in
+    let stood : targets_of mid item ≡ before = ap (λ (m : List (List Target)). targets_of m item) h.lists ∙ get_or-set_same old item before [] within in
+    let one : targets_from (first + length h.front) (i ∷ []) ≡ t ∷ [] = ap (λ (p : ℕ). record { item = i; place = p } ∷ []) (sym h.next) in
+    record {
+      front = h.front ++ (i ∷ []);
+      known = one_in_front i h.front (items_named names rest) ∙ ap (λ (o : Option ℕ). option_map (λ (is : List ℕ). h.front ++ is) (and_item o (items_named names rest))) (sym found) ∙ h.known;
+      lists = grown ∙ ap (λ (ts : List Target). set mid item (ts ++ (t ∷ []))) stood ∙ ap (λ (m : List (List Target)). set m item (before ++ (t ∷ []))) h.lists
+          ∙ set-set old item before (before ++ (t ∷ []))
+          ∙ ap (set old item) (append_assoc (targets_of old item) (targets_from first h.front) (t ∷ [])
+          ∙ ap (λ (ts : List Target). targets_of old item ++ ts) (sym (targets_from-append first h.front (i ∷ []) ∙ ap (λ (ts : List Target). targets_from first h.front ++ ts) one)));
+      next = omega (arith, h.next, length-append h.front (i ∷ []));
+      all = omega (arith, h.all, length-append h.front (i ∷ []));
+    }
+
+found_first : (o : Option ℕ) (others : Option (List ℕ)) (front : List ℕ) (all : Option (List ℕ)) → option_map (λ (is : List ℕ). front ++ is) (and_item o others) ≡ all → IsSome all → IsSome o
+found_first None others front all e known = subst IsSome (sym e) known
+found_first (Some i) others front all e known = refl
+
+-- a word that is left is known where all are
+pub Added-known : (names : List (List ℕ)) (old new : List (List Target)) (item first place : ℕ) (w : WordView) (rest words : List WordView) → IsSome (items_named names words)
+    → Added names old new item first place (w ∷ rest) words → IsSome (item_named names w.bytes)
+Added-known names old new item first place w rest words known h = found_first (item_named names w.bytes) (items_named names rest) h.front (items_named names words) h.known known
+
+pub Added-all : (names : List (List ℕ)) (old new : List (List Target)) (item first place : ℕ) (words : List WordView) → Added names old new item first place [] words
+    → IfSome (items_named names words) (λ items. new ≡ set old item (targets_of old item ++ targets_from first items))
+Added-all names old new item first place words h =
+    let whole : Some h.front ≡ items_named names words = ap (λ (is : List ℕ). Some is) (sym (append-nil h.front)) ∙ h.known in
+    subst (λ (o : Option (List ℕ)). IfSome o (λ items. new ≡ set old item (targets_of old item ++ targets_from first items))) whole h.lists

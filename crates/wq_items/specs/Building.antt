@@ -1,0 +1,95 @@
+-- Building: how the directives of a declaration make its table, one after the other, or what the first fault is.
+use Rattle.std.specs.Prelude.{◌≡◌, ℕ, ◌+◌, ◌<◌, ◌≤◌, nat_le, nat_lt, if◌then◌else◌, List, [], ◌∷◌, ◌++◌, length, slice_set, Option, Some, None, Result, Ok, Err, is_some}
+use Rattle.wq_text.specs.declared.span.Span.{Span}
+use Rattle.wq_text.specs.Words.{WordView}
+use Rattle.wq_text.specs.Refusal.{Refusal}
+use Rattle.wq_decl.specs.declared.directive.Directive.{Directive}
+use Rattle.wq_decl.specs.declared.directive.Directive.TheVariants.{Item, Flush}
+use Rattle.wq_items.specs.declared.target.Target.{Target}
+use Rattle.wq_items.specs.declared.fault.ItemError.{ItemError}
+use Rattle.wq_items.specs.declared.fault.ItemError.TheVariants.{ItemTwice, UnknownItem, TooManyItems, TooManyFlushes, OutOfMemory}
+use Rattle.wq_items.specs.Table.{Table, item_named, targets_of, flush_count}
+
+-- no item
+abbrev pub empty_table : Table
+empty_table = record { names = []; spans = []; waits = [] }
+
+-- where a word stands
+abbrev pub span_of : WordView → Span
+span_of word = record { start = word.start; end = word.start + length word.bytes }
+
+-- the table with one item more, which flushes nothing
+abbrev pub with_item : Table → WordView → Table
+with_item t name = record {
+  names = t.names ++ (name.bytes ∷ []);
+  spans = t.spans ++ (span_of name ∷ []);
+  waits = t.waits ++ ([] ∷ []);
+}
+
+-- targets, the first of which is at this place
+abbrev pub targets_from : ℕ → List ℕ → List Target
+targets_from place [] = []
+targets_from place (item ∷ items) = record { item = item; place = place } ∷ targets_from (place + 1) items
+
+-- the table in which item i flushes these items too, at the next places
+abbrev pub with_flushes : Table → ℕ → List ℕ → Table
+with_flushes t i items = record t { waits = slice_set t.waits i (targets_of t.waits i ++ targets_from (flush_count t.waits) items) }
+
+-- an item in front of others, where all are known
+abbrev pub and_item : Option ℕ → Option (List ℕ) → Option (List ℕ)
+and_item None others = None
+and_item (Some i) None = None
+and_item (Some i) (Some others) = Some (i ∷ others)
+
+-- the items of these names, if each is declared
+abbrev pub items_named : List (List ℕ) → List WordView → Option (List ℕ)
+items_named names [] = Some []
+items_named names (word ∷ words) = and_item (item_named names word.bytes) (items_named names words)
+
+-- line n declares an item of this name
+abbrev pub item_declared : Table → ℕ → WordView → Result Table ItemError
+item_declared t n name =
+    if is_some (item_named t.names name.bytes) then Err (ItemTwice n)
+    else (if nat_le 4096 (length t.names) then Err (TooManyItems n) else Ok (with_item t name))
+
+-- line n declares flushes of these items, where all names on it are known
+abbrev pub flushes_declared : Table → ℕ → Option (List ℕ) → Result Table ItemError
+flushes_declared t n None = Err (UnknownItem n)
+flushes_declared t n (Some []) = Ok t
+flushes_declared t n (Some (i ∷ items)) =
+    if nat_lt 16384 (flush_count t.waits + length items) then Err (TooManyFlushes n) else Ok (with_flushes t i items)
+
+-- the table after the directive of line n, or its first fault by the rows of the format's table
+abbrev pub declared : Table → ℕ → Directive → Result Table ItemError
+declared t n (Item name) = item_declared t n name
+declared t n (Flush name targets) = flushes_declared t n (items_named t.names (name ∷ targets))
+
+-- a step after one that may have failed
+abbrev pub and_then : Result Table ItemError → (Table → Result Table ItemError) → Result Table ItemError
+and_then (Ok t) step = step t
+and_then (Err e) step = Err e
+
+-- the table after these directives, or the first fault
+abbrev pub table_after : Table → List (ℕ × Directive) → Result Table ItemError
+table_after t [] = Ok t
+table_after t (d ∷ ds) = and_then (declared t d.0 d.1) (λ u. table_after u ds)
+
+-- the table that directives declare, or their first fault
+abbrev pub table_of : List (ℕ × Directive) → Result Table ItemError
+table_of ds = table_after empty_table ds
+
+-- what a call answers in place of a table: that memory ran out, or else the first fault
+abbrev pub IsFaultOf : ItemError → Result Table ItemError → Type 0
+IsFaultOf (ItemTwice n) r = r ≡ Err (ItemTwice n)
+IsFaultOf (UnknownItem n) r = r ≡ Err (UnknownItem n)
+IsFaultOf (TooManyItems n) r = r ≡ Err (TooManyItems n)
+IsFaultOf (TooManyFlushes n) r = r ≡ Err (TooManyFlushes n)
+IsFaultOf OutOfMemory r = Unit {0}
+
+-- 7, 8, 9 or 10 with the line, 20 without one
+abbrev pub item_refusal : ItemError → Refusal
+item_refusal (ItemTwice line) = record { code = 7; line = line }
+item_refusal (UnknownItem line) = record { code = 8; line = line }
+item_refusal (TooManyItems line) = record { code = 9; line = line }
+item_refusal (TooManyFlushes line) = record { code = 10; line = line }
+item_refusal OutOfMemory = record { code = 20; line = 0 }

@@ -1,0 +1,48 @@
+-- Tables: what a declaration declares, item by item.
+use Rattle.std.specs.Prelude.{◌≡◌, ◌≢◌, ℕ, ◌+◌, ◌<◌, ◌≤◌, List, [], ◌∷◌, length, slice_index_or, IsTrue, Option, map, position, bytes_eq, sum_by, AllPairs, IsPermutation, flat_map}
+use Rattle.std.specs.List.{All, Any, range_with_len}
+use Rattle.wq_text.specs.declared.span.Span.{Span}
+use Rattle.wq_decl.specs.Names.{is_name}
+use Rattle.wq_items.specs.declared.target.Target.{Target}
+
+-- of each item in turn: its name, where the name stands, and the targets of the flushes that it declares
+pub record Table : Type 0 where
+  pub names : List (List ℕ)
+  pub spans : List Span
+  pub waits : List (List Target)
+
+-- the number of the item of this name, if there is one
+abbrev pub item_named : List (List ℕ) → List ℕ → Option ℕ
+item_named names name = position (bytes_eq name) names
+
+-- the targets of item i, in order of place
+abbrev pub targets_of : List (List Target) → ℕ → List Target
+targets_of waits i = slice_index_or waits i []
+
+-- item i declares a flush of item j: i waits for j
+abbrev pub ItemWaits : List (List Target) → ℕ → ℕ → Type 0
+ItemWaits waits i j = Any (λ (t : Target). t.item ≡ j) (targets_of waits i)
+
+-- how many flushes are declared, all items together
+abbrev pub flush_count : List (List Target) → ℕ
+flush_count waits = sum_by length waits
+
+-- each target is one of the items below n
+abbrev pub TargetsBelow : ℕ → List Target → Type 0
+TargetsBelow n targets = All (λ (t : Target). t.item < n) targets
+
+-- the places of all declared flushes, item by item
+abbrev pub places : List (List Target) → List ℕ
+places waits = flat_map (λ (targets : List Target). map (λ (t : Target). t.place) targets) waits
+
+-- what holds of every table: one span and one list of targets for each name; at most 4,096 names, which differ and
+-- are names; at most 16,384 flushes, each of an item, at the places 0, 1, 2 and so on
+pub record IsTable (t : Table) : Type 0 where
+  pub spans : length t.spans ≡ length t.names
+  pub waits : length t.waits ≡ length t.names
+  pub items : length t.names ≤ 4096
+  pub named : All (λ (name : List ℕ). IsTrue (is_name name)) t.names
+  pub distinct : AllPairs (λ (a b : List ℕ). a ≢ b) t.names
+  pub targets : All (TargetsBelow (length t.names)) t.waits
+  pub flushes : flush_count t.waits ≤ 16384
+  pub places : IsPermutation (range_with_len 0 (flush_count t.waits)) (places t.waits)

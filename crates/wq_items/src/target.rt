@@ -1,0 +1,47 @@
+//! An item by its number, and an item whose flush another one declares.
+ghost use Rattle.std.specs.Prelude.{◌≡◌, ℕ};
+
+use std::marker::Model;
+
+/// The number of an item, from 0 in order of declaration.
+#[derive(Clone, Copy, Debug, PartialEq, Eq)]
+pub struct ItemId(u16);
+
+impl Model for ItemId {
+    ghost Value = { ℕ };
+
+    ghost view = { λ i. i.0 };
+
+    ghost inverse = { λ n. record { 0 = n } };
+}
+
+impl ItemId {
+    /// The item of this number.
+    pub fn new(number: u16) -> Self
+        ensures { result ≡ number }
+    {
+        ItemId(number)
+    }
+
+    /// Its number.
+    pub fn get(self) -> u16
+        ensures { result ≡ self }
+    {
+        self.0
+    }
+}
+
+impl Default for ItemId {
+    ghost is_default = { λ i. i ≡ 0 };
+
+    fn default() -> Self {
+        ItemId(0)
+    }
+}
+
+/// An item whose flush is declared, and the place of the declaration in the text.
+#[derive(Clone, Copy, Debug, Default, PartialEq, Eq)]
+pub struct Target {
+    pub item: ItemId,
+    pub place: u32,
+}
