@@ -3,3 +3,7 @@ pub mod WaitLemmas
 pub mod TargetLemmas
 pub mod TableLemmas
 pub mod GrownTables
+pub mod Chains
+pub mod Circles
+pub mod Pigeonhole
+pub mod Tables

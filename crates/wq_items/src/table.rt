@@ -192,7 +192,7 @@ impl<'a, A: Allocator + Copy> ItemTable<'a, A> {
     /// How many items there are, at most 4,096.
     pub fn len(&self) -> u16
         ensures len { result ≡ length self.now.names }
-        ensures sound { IsTable self.now }
+        ensures table { IsTable self.now }
     {
         self.names.len() as u16
     }

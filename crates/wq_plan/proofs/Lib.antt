@@ -1,0 +1,7 @@
+pub mod Capped
+pub mod MidRound
+pub mod Plans
+pub mod Lanes
+pub mod Arcs
+pub mod Found
+pub mod LongestChain

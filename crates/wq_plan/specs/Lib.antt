@@ -1,0 +1,4 @@
+pub mod LongestChain
+pub mod Plan
+pub mod Rounds
+pub mod Solve
