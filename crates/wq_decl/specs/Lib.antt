@@ -3,3 +3,4 @@ pub use Rattle.wq_text.specs.Words
 pub use Rattle.wq_text.specs.Refusal
 pub mod Names
 pub mod Reading
+pub mod Faults

@@ -7,6 +7,7 @@
 
 mod directive;
 mod fault;
+pub mod laws;
 mod reading;
 mod view;
 

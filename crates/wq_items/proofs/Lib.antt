@@ -7,3 +7,6 @@ pub mod Chains
 pub mod Circles
 pub mod Pigeonhole
 pub mod Tables
+pub mod BuildingLemmas
+pub mod FlushLemmas
+pub mod FaultLemmas

@@ -7,6 +7,7 @@
 #![tactic(auto)]
 
 mod fault;
+pub mod laws;
 mod names;
 mod table;
 mod target;

@@ -7,4 +7,3 @@ mod rounds;
 mod single;
 
 pub use single::{Single, solve_single};
-

@@ -1,10 +1,9 @@
 -- What bytes begin with, as words.
-use Rattle.std.proofs.Common.{◌≡◌, ◌≢◌, ℕ, zero, suc, ◌+◌, ◌<◌, ◌≤◌, Bool, true, false, not, cond, eqb, List, [], ◌∷◌, ◌++◌, length, get_or, take, drop, refl, sym, ap, subst, ◌∙◌, arith, append_assoc, append-nil, one-add, inl, inr, ◌⊎◌}
+use Rattle.std.proofs.Common.{◌≡◌, ◌≢◌, ℕ, suc, ◌+◌, ◌<◌, ◌≤◌, Bool, true, false, not, cond, List, [], ◌∷◌, ◌++◌, length, take, drop, refl, sym, ap, ◌∙◌, arith, append-nil, one-add, inl, inr, ◌⊎◌}
 use Rattle.std.specs.List.{AllByRecursion, prefix_len}
-use Rattle.std.proofs.lemmas.List.{take-append-drop}
-use Rattle.wq_text.specs.Words.{WordView, words_from, is_blank, is_filled, begins_word, longer, AllBlank, NoBlank, EndsAWord, IsFirstWord, AreTheWords}
+use Rattle.wq_text.specs.Words.{WordView, words_from, is_blank, is_filled, begins_word, longer, AllBlank, NoBlank, EndsAWord, IsFirstWord}
 
-cons_not_nil : (x : ℕ) (xs : List ℕ) → x ∷ xs ≡ [] → ⊥
+pub cons_not_nil : (x : ℕ) (xs : List ℕ) → x ∷ xs ≡ [] → ⊥
 cons_not_nil x xs e = cc
 
 pub words_from-gap : (at : ℕ) (gap rest : List ℕ) → AllBlank gap → words_from at (gap ++ rest) ≡ words_from (at + length gap) rest

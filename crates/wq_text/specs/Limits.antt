@@ -1,5 +1,5 @@
 -- Limits: how long a text and a line of it may be.
-use Rattle.std.specs.Prelude.{ℕ, List, length, nat_lt, if◌then◌else◌, Option, Some, None, find, option_map}
+use Rattle.std.specs.Prelude.{ℕ, List, length, nat_lt, if◌then◌else◌, Option, Some, find, option_map}
 use Rattle.wq_text.specs.declared.text.TextError.{TextError}
 use Rattle.wq_text.specs.declared.text.TextError.TheVariants.{TextTooLong, LineTooLong}
 use Rattle.wq_text.specs.Lines.{LineView, lines_of}

@@ -5,12 +5,15 @@
 //! of this project's own.
 #![tactic(auto)]
 
+pub mod laws;
 mod line;
+mod numeral;
 mod span;
 mod text;
 mod word;
 
 pub use line::{Line, Lines};
+pub use numeral::number;
 pub use span::Span;
 pub use text::{Text, TextError};
 pub use word::{Word, Words};

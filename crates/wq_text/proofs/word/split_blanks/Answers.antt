@@ -1,5 +1,4 @@
-use Rattle.std.proofs.Common.{ℕ, ◌≤◌, length, take, drop, sym, ap, subst, ◌∙◌, arith}
-use Rattle.std.specs.List.{prefix_len}
+use Rattle.std.proofs.Common.{ℕ, take, drop, sym, ap, subst, ◌∙◌, arith}
 use Rattle.std.proofs.lemmas.List.Sums.{prefix_len-le-length}
 use Rattle.wq_text.specs.Words.{is_blank, AllBlank}
 use Rattle.wq_text.proofs.WordLemmas.{AllByRecursion-take-prefix_len, FailsAtOnce, FailsAtOnce-drop-prefix_len, begins_word-from_fails}

@@ -1,4 +1,4 @@
-use Rattle.std.proofs.Common.{ℕ, ◌≤◌, length, take, drop, sym, ap, subst, ◌∙◌, arith}
+use Rattle.std.proofs.Common.{ℕ, take, drop, sym, ap, subst, ◌∙◌, arith}
 use Rattle.std.proofs.lemmas.List.Sums.{prefix_len-le-length}
 use Rattle.wq_text.specs.Words.{is_filled, NoBlank}
 use Rattle.wq_text.proofs.WordLemmas.{AllByRecursion-take-prefix_len, FailsAtOnce, FailsAtOnce-drop-prefix_len, NoBlank-from_filled, EndsAWord-from_fails, filled-take}

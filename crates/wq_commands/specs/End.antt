@@ -1,0 +1,10 @@
+-- What each end of a run tells the process that started it.
+use Rattle.std.specs.Prelude.{ℕ}
+use Rattle.wq_commands.specs.declared.end.End.{End}
+use Rattle.wq_commands.specs.declared.end.End.TheVariants.{Good, Bad, Refused}
+
+-- the status of the process: 0 where the answer is good, 1 where it is bad, 2 where the input was refused
+abbrev pub exit_status : End → ℕ
+exit_status Good = 0
+exit_status Bad = 1
+exit_status Refused = 2

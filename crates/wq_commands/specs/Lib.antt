@@ -1,0 +1,12 @@
+pub use Rattle.wq_text.specs.Refusal
+pub use Rattle.wq_items.specs.Table
+pub use Rattle.wq_items.specs.Chain
+pub use Rattle.wq_plan.specs.Plan
+pub mod Answer
+pub mod Declaration
+pub mod End
+pub mod Fault
+pub mod LineText
+pub mod Meter
+pub mod PlanText
+pub mod Stop

@@ -1,0 +1,36 @@
+-- What is counted of the calls that are made of a reader or a writer.
+use Rattle.std.specs.Prelude.{◌≡◌, ℕ, ◌+◌, ◌-◌, ◌^◌, ◌<◌, ◌≤◌, min, max, List, length, take, Option, refl}
+use Rattle.std.specs.Io.KnownBytes.{Appends, Consumes}
+use Rattle.std.specs.Coded.{Coded, code_by, coded×, coded_ℕ}
+
+-- a device, and how many calls were made of it, how many bytes those moved, and how many of them failed
+pub record Meter (D : Type 0) : Type 0 where
+  pub device : D
+  pub calls : ℕ
+  pub bytes : ℕ
+  pub failures : ℕ
+
+-- a meter is stored as its fields
+abbrev pub meter_code : {D : Type 0} → Coded D → Coded (Meter D)
+meter_code {D} device_code =
+    code_by (D × (ℕ × (ℕ × ℕ))) (coded× device_code (coded× coded_ℕ (coded× coded_ℕ coded_ℕ)))
+    (λ m. (m.device, (m.calls, (m.bytes, m.failures))))
+    (λ p. record { device = p.0; calls = p.1.0; bytes = p.1.1.0; failures = p.1.1.1 }) (λ _. refl)
+
+-- a count of 64 bits after n more: it stops at the largest, and never falls
+abbrev pub count_after : ℕ → ℕ → ℕ
+count_after count n = max count (min (count + n) (2 ^ 64 - 1))
+
+-- a reader lost some bytes, no more than `most`, and they were counted
+pub record LosesFront {R : Type 0} (remaining : R → Option (List ℕ)) (old new : Meter R) (most : ℕ) : Type 0 where
+  pub lost : List ℕ
+  pub within : length lost ≤ most
+  pub consumed : Consumes (remaining old.device) (remaining new.device) lost
+  pub counted : new.bytes ≡ count_after old.bytes (length lost)
+
+-- a writer took the front of a text, and not all of it, and the bytes were counted
+pub record WritesFront {W : Type 0} (contents : W → Option (List ℕ)) (old new : Meter W) (text : List ℕ) : Type 0 where
+  pub written : ℕ
+  pub short : written < length text
+  pub appended : Appends (contents old.device) (contents new.device) (take written text)
+  pub counted : new.bytes ≡ count_after old.bytes written

@@ -1,0 +1,81 @@
+//! The three passes over a declaration text, one after the other.
+//!
+//! Takes time in the length of the text, and memory in the items and the flushes.
+
+ghost use Rattle.std.specs.Prelude.{◌≡◌, Ok, Err, Result, IfOk, IfErr};
+ghost use Rattle.wq_text.specs.Limits.{text_refusal};
+ghost use Rattle.wq_decl.specs.Reading.{decl_refusal};
+ghost use Rattle.wq_items.specs.Building.{item_refusal};
+ghost use Rattle.wq_commands.specs.Declaration.{declaration};
+ghost use Rattle.wq_commands.specs.Stop.{StopsAt, item_stop};
+ghost use Rattle.wq_commands.specs.declared.declaration.Stop.TheVariants.{Refused};
+
+use std::alloc::Allocator;
+use wq_decl::{DeclError, DeclView};
+use wq_items::{ItemError, ItemTable};
+use wq_text::{Text, TextError};
+
+/// How many bytes a declaration may have.
+pub const MAX_TEXT: u32 = 1_048_576;
+
+/// How many bytes a line of it may have, its line feed not counted.
+pub const MAX_LINE: u32 = 4096;
+
+/// Why a text has no table.
+#[derive(Clone, Copy, Debug, PartialEq, Eq)]
+pub enum Stop {
+    /// The text is refused, for the fault of this number on this line, or on line 0 where no line is meant.
+    Refused { code: u32, line: u32 },
+    /// Memory ran out.
+    OutOfMemory,
+}
+
+impl From<TextError> for Stop {
+    ghost from_gives = { λ e s. s ≡ Refused (text_refusal e).code (text_refusal e).line };
+
+    fn from(e: TextError) -> Stop {
+        Stop::Refused {
+            code: e.code(),
+            line: e.line(),
+        }
+    }
+}
+
+impl From<DeclError> for Stop {
+    ghost from_gives = { λ e s. s ≡ Refused (decl_refusal e).code (decl_refusal e).line };
+
+    fn from(e: DeclError) -> Stop {
+        Stop::Refused {
+            code: e.code(),
+            line: e.line(),
+        }
+    }
+}
+
+impl From<ItemError> for Stop {
+    ghost from_gives = { λ e s. s ≡ item_stop e };
+
+    fn from(e: ItemError) -> Stop {
+        match e {
+            ItemError::OutOfMemory => Stop::OutOfMemory,
+            fault => Stop::Refused {
+                code: fault.code(),
+                line: fault.line(),
+            },
+        }
+    }
+}
+
+/// The table that a text declares.
+///
+/// The answer is the first fault of the first pass that has one, or `OutOfMemory` where a growth was refused before
+/// it.
+pub fn read_declaration<A: Allocator + Copy>(alloc: A, text: &[u8]) -> Result<ItemTable<'_, A>, Stop>
+    ensures table { IfOk result (λ t. declaration text.now ≡ Ok t) }
+    ensures stop { IfErr result (λ s. StopsAt s (declaration text.now)) }
+{
+    let text = Text::new(text, MAX_TEXT, MAX_LINE)?;
+    let view = DeclView::new(text)?;
+    let table = ItemTable::read(alloc, &view)?;
+    Ok(table)
+}

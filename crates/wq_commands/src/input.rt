@@ -1,0 +1,79 @@
+//! Reading a text to its end, or to one byte past a limit: the extra byte shows that the text is too
+//! long, and the limit stops a reader without end. The time and the memory are linear in the bytes
+//! that come. Each call of the reader but the last brings at least one of them.
+ghost use Rattle.std.specs.Prelude.{◌≡◌, ◌≢◌, ◌+◌, ◌<◌, ◌≤◌, length, take, min, vec_len, Err, IfOk, IfSome, OnOk, OnErr, IsOkUnless};
+ghost use Rattle.std.specs.Result.{result_unwrap_or};
+ghost use Rattle.std.specs.Io.KnownBytes.{Consumes, IsAtEnd, Keeps};
+ghost use Rattle.wq_commands.specs.Meter.{count_after, LosesFront};
+
+use crate::fault::Fault;
+use crate::metered::Metered;
+use std::alloc::Allocator;
+use std::io::Read;
+
+/// How many bytes one call of the reader is asked for at most.
+const CHUNK_SIZE: usize = 4096;
+
+/// Reads to the end of the input, but no more than `limit + 1` bytes, in no more calls than that.
+/// A longer result than `limit` says that the input is longer too.
+///
+/// The errors are `Fault::Read`, where a read failed, and `Fault::Memory`. What was read before is lost.
+pub fn read_text<R: Read, A: Allocator + Copy>(
+    alloc: A,
+    reader: &mut Metered<R>,
+    limit: u32,
+) -> Result<Vec<u8, A>, Fault>
+    // What comes, and what is left.
+    ensures text { IfOk result (λ text. IfSome (R.remaining reader.old.device)
+        (λ known. text.items ≡ take (limit + 1) known)) }
+    ensures within { IfOk result (λ text. vec_len text ≤ limit + 1) }
+    ensures rest { IfOk result (λ text. Consumes (R.remaining reader.old.device)
+        (R.remaining reader.new.device) text.items) }
+    ensures lost { OnErr result (LosesFront R.remaining reader.old reader.new (limit + 1)) }
+
+    // What is asked of the reader, whatever the result.
+    ensures calls { reader.new.calls ≤ reader.old.calls + (limit + 1) }
+    ensures bytes { reader.new.bytes ≤ reader.old.bytes + (limit + 1) }
+    ensures counted { IfOk result (λ text. reader.new.bytes ≡ count_after reader.old.bytes (vec_len text)) }
+
+    // Which fault it is.
+    ensures failed { result ≡ Err Fault.Read → reader.new.failures ≡ count_after reader.old.failures 1 }
+    ensures not_failed { result ≢ Err Fault.Read → reader.new.failures ≡ reader.old.failures }
+    ensures never_writes { result ≢ Err Fault.Write }
+{
+    let mut text = Vec::new(alloc);
+    let mut chunk = [0u8; CHUNK_SIZE];
+    let mut room = limit as usize + 1;
+    while room > 0 {
+        let count = read_chunk(reader, &mut chunk, room)?;
+        if count == 0 {
+            return Ok(text);
+        }
+        text.extend_from_slice(&chunk[..count])?;
+        room -= count;
+    }
+    Ok(text)
+}
+
+/// Reads once, at most `most` bytes, into the front of `chunk`.
+fn read_chunk<R: Read>(
+    reader: &mut Metered<R>,
+    chunk: &mut [u8],
+    most: usize,
+) -> Result<usize, Fault>
+    requires some { 0 < most }
+    requires room { 0 < length chunk.old }
+    ensures within { IfOk result (λ count. count ≤ min most (length chunk.new)) }
+    ensures consumed { IfOk result (λ count. Consumes (R.remaining reader.old.device)
+        (R.remaining reader.new.device) (take count chunk.new)) }
+    ensures end { IfOk result (λ count. count ≡ 0 → IsAtEnd (R.remaining reader.new.device)) }
+    ensures kept { OnErr result (Keeps (R.remaining reader.old.device) (R.remaining reader.new.device)) }
+    ensures calls { reader.new.calls ≡ count_after reader.old.calls 1 }
+    ensures bytes { reader.new.bytes ≡ count_after reader.old.bytes (result_unwrap_or result 0) }
+    ensures failed { OnErr result (reader.new.failures ≡ count_after reader.old.failures 1) }
+    ensures not_failed { OnOk result (reader.new.failures ≡ reader.old.failures) }
+    ensures only_error { IsOkUnless result Fault.Read }
+{
+    let asked = most.min(chunk.len());
+    reader.read(&mut chunk[..asked])
+}

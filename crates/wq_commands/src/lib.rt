@@ -1,0 +1,25 @@
+//! The commands of the program, over any reader and any writer.
+//!
+//! What the program relies on: the bytes written are the answer text of the bytes read. The commands are those of
+//! docs/FORMAT.md; what a run reads and writes is bounded and counted.
+#![tactic(auto)]
+
+mod answer;
+mod declaration;
+mod end;
+mod fault;
+mod input;
+mod lines;
+mod metered;
+mod output;
+mod plan;
+mod plan_printing;
+
+pub use declaration::{Stop, read_declaration};
+pub use end::End;
+pub use fault::Fault;
+pub use input::read_text;
+pub use metered::Metered;
+pub use output::write_text;
+pub use plan::plan_cmd;
+pub use plan_printing::plan_text;

@@ -1,0 +1,35 @@
+//! Writing a text whole, a call at a time. The time is linear in the text, and each call that another
+//! one follows takes at least one byte.
+ghost use Rattle.std.specs.Prelude.{◌≡◌, ◌+◌, ◌≤◌, length, OnOk, OnErr, IsOkUnless};
+ghost use Rattle.std.specs.Io.KnownBytes.{Appends};
+ghost use Rattle.wq_commands.specs.Meter.{count_after, WritesFront};
+
+use crate::fault::Fault;
+use crate::metered::Metered;
+use std::io::Write;
+
+/// Writes all of `text`, in no more calls than it has bytes.
+///
+/// The only error is `Fault::Write`, where a write failed or took no byte. Then a front of the text,
+/// and not all of it, is written.
+pub fn write_text<W: Write>(writer: &mut Metered<W>, text: &[u8]) -> Result<(), Fault>
+    // What is written.
+    ensures written { OnOk result (Appends (W.contents writer.old.device)
+        (W.contents writer.new.device) text.now) }
+    ensures counted { OnOk result (writer.new.bytes ≡ count_after writer.old.bytes (length text.now)) }
+    ensures front { OnErr result (WritesFront W.contents writer.old writer.new text.now) }
+
+    // What is asked of the writer, whatever the result.
+    ensures calls { writer.new.calls ≤ writer.old.calls + length text.now }
+
+    // Which fault it is.
+    ensures failed { OnErr result (writer.new.failures ≡ count_after writer.old.failures 1) }
+    ensures not_failed { OnOk result (writer.new.failures ≡ writer.old.failures) }
+    ensures only_error { IsOkUnless result Fault.Write }
+{
+    let mut written = 0;
+    while written < text.len() {
+        written += writer.write(&text[written..])?;
+    }
+    Ok(())
+}

@@ -1,0 +1,57 @@
+//! The command `plan`: from the bytes of a declaration to the bytes of its answer.
+//!
+//! The answer is made whole before the first byte is written.
+
+ghost use Rattle.std.specs.Prelude.{◌≡◌, ◌≢◌, ◌≤◌, ◌+◌, ℕ, List, Err, IfOk};
+ghost use Rattle.std.specs.Io.KnownBytes.{Appends};
+ghost use Rattle.wq_commands.specs.Answer.{Answers, IsInput};
+ghost use Rattle.wq_commands.specs.Declaration.{max_text};
+ghost use Rattle.wq_commands.specs.Meter.{count_after, WritesFront};
+ghost use Rattle.wq_commands.specs.declared.end.End.{End};
+
+use crate::answer::answer;
+use crate::declaration::MAX_TEXT;
+use crate::end::End;
+use crate::fault::Fault;
+use crate::input::read_text;
+use crate::metered::Metered;
+use crate::output::write_text;
+use std::alloc::Allocator;
+use std::io::{Read, Write};
+
+/// Reads a declaration to its end and writes its answer: the text of its plan, `circle` where its items wait in a
+/// circle, or its refusal.
+///
+/// At most 1,048,577 bytes are read, in at most as many calls. The errors are `Fault::Read`, where a read failed,
+/// `Fault::Memory`, and `Fault::Write`, where a write failed or took no byte; after the last one a front of the answer
+/// is written, and after the others nothing.
+pub fn plan_cmd<R: Read, W: Write, A: Allocator + Copy>(
+    alloc: A,
+    reader: &mut Metered<R>,
+    writer: &mut Metered<W>,
+) -> Result<End, Fault>
+    // The answer to the text that the reader had is written, and nothing else.
+    ensures answered { IfOk result (λ end. (text out : List ℕ) × IsInput (R.remaining reader.old.device) text
+        × Answers text end out × Appends (W.contents writer.old.device) (W.contents writer.new.device) out) }
+
+    // What a fault leaves.
+    ensures front { result ≡ Err Fault.Write → (text out : List ℕ) × (end : End) × IsInput (R.remaining reader.old.device) text
+        × Answers text end out × WritesFront W.contents writer.old writer.new out }
+    ensures untouched { result ≡ Err Fault.Memory → writer.new ≡ writer.old }
+    ensures unwritten { result ≡ Err Fault.Read → writer.new ≡ writer.old }
+
+    // What is asked of the reader, whatever the result.
+    ensures reads { reader.new.calls ≤ reader.old.calls + (max_text + 1) }
+    ensures bytes_read { reader.new.bytes ≤ reader.old.bytes + (max_text + 1) }
+
+    // Which fault it is.
+    ensures read_failed { result ≡ Err Fault.Read → reader.new.failures ≡ count_after reader.old.failures 1 }
+    ensures no_read_failed { result ≢ Err Fault.Read → reader.new.failures ≡ reader.old.failures }
+    ensures write_failed { result ≡ Err Fault.Write → writer.new.failures ≡ count_after writer.old.failures 1 }
+    ensures no_write_failed { result ≢ Err Fault.Write → writer.new.failures ≡ writer.old.failures }
+{
+    let text = read_text(alloc, reader, MAX_TEXT)?;
+    let (end, answer) = answer(alloc, &text)?;
+    write_text(writer, &answer)?;
+    Ok(end)
+}

@@ -1,0 +1,106 @@
+//! Plan texts: what `plan` prints for items that wait in no circle.
+//!
+//! The format is that of "Plan texts" in docs/FORMAT.md. Printing takes time in the workqueues times the items, and
+//! in the length of the text.
+
+ghost use Rattle.std.specs.Prelude.{◌≡◌, ◌<◌, ◌++◌, ◌^◌, ℕ, length, OnOk, IfOk};
+ghost use Rattle.std.specs.List.{All};
+ghost use Rattle.wq_commands.specs.LineText.{line_text};
+ghost use Rattle.wq_commands.specs.PlanText.{plan_line, wq_line, chain_line, arc_line, plan_text};
+
+use crate::lines::{put, put_end, put_number, put_word};
+use std::alloc::{AllocError, Allocator};
+use wq_items::{ItemId, ItemTable};
+
+/// Adds `plan K`.
+fn put_plan_line<A: Allocator + Copy>(
+    alloc: A,
+    out: &mut Vec<u8, A>,
+    lanes: u16,
+) -> Result<(), AllocError>
+    ensures { OnOk result (out.new.items ≡ out.old.items ++ line_text (plan_line lanes)) }
+{
+    put(out, b"plan")?;
+    put_number(alloc, out, u32::from(lanes))?;
+    put_end(out)
+}
+
+/// Adds `wq Q NAME..`.
+fn put_wq_line<A: Allocator + Copy>(
+    alloc: A,
+    out: &mut Vec<u8, A>,
+    table: &ItemTable<'_, A>,
+    lane: &[u16],
+    q: u16,
+) -> Result<(), AllocError>
+    requires one_each { length lane.now ≡ length table.now.names }
+    ensures { OnOk result (out.new.items ≡ out.old.items ++ line_text (wq_line table.now.names lane.now q)) }
+{
+    put(out, b"wq")?;
+    put_number(alloc, out, u32::from(q))?;
+    for i in 0..table.len() {
+        if lane[usize::from(i)] == q {
+            put_word(out, table.name(ItemId::new(i)))?;
+        }
+    }
+    put_end(out)
+}
+
+/// Adds `chain N`.
+fn put_chain_line<A: Allocator + Copy>(
+    alloc: A,
+    out: &mut Vec<u8, A>,
+    lanes: u16,
+    chain: &[(ItemId, ItemId)],
+) -> Result<(), AllocError>
+    requires { length chain.now < 2 ^ 16 }
+    ensures { OnOk result (out.new.items ≡ out.old.items ++ line_text (chain_line lanes chain.now)) }
+{
+    let items = if lanes == 0 { 0 } else { chain.len() as u32 + 1 };
+    put(out, b"chain")?;
+    put_number(alloc, out, items)?;
+    put_end(out)
+}
+
+/// Adds `arc NAME TARGET`.
+fn put_arc_line<A: Allocator + Copy>(
+    out: &mut Vec<u8, A>,
+    table: &ItemTable<'_, A>,
+    arc: (ItemId, ItemId),
+) -> Result<(), AllocError>
+    requires source { arc.0 < length table.now.names }
+    requires target { arc.1 < length table.now.names }
+    ensures { OnOk result (out.new.items ≡ out.old.items ++ line_text (arc_line table.now.names arc)) }
+{
+    put(out, b"arc")?;
+    put_word(out, table.name(arc.0))?;
+    put_word(out, table.name(arc.1))?;
+    put_end(out)
+}
+
+/// The text of a plan: the number of the workqueues, the workqueue of each item, and the arcs of a waiting chain.
+///
+/// The chain has fewer than 65,536 arcs, each from an item of the table to another one.
+pub fn plan_text<A: Allocator + Copy>(
+    alloc: A,
+    table: &ItemTable<'_, A>,
+    lanes: u16,
+    lane: &[u16],
+    chain: &[(ItemId, ItemId)],
+) -> Result<Vec<u8, A>, AllocError>
+    requires one_each { length lane.now ≡ length table.now.names }
+    requires few { length chain.now < 2 ^ 16 }
+    requires items { All (λ (arc : ℕ × ℕ). (arc.0 < length table.now.names) × (arc.1 < length table.now.names)) chain.now }
+    ensures { IfOk result (λ text. text.items ≡ plan_text table.now.names lanes lane.now chain.now) }
+{
+    let mut out = Vec::new(alloc);
+    put_plan_line(alloc, &mut out, lanes)?;
+    for q in 0..lanes {
+        put_wq_line(alloc, &mut out, table, lane, q)?;
+    }
+    put_chain_line(alloc, &mut out, lanes, chain)?;
+    for arc in chain {
+        put_arc_line(&mut out, table, *arc)?;
+    }
+    Ok(out)
+}

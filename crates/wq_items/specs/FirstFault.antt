@@ -1,0 +1,58 @@
+-- First faults: which line of a declaration has one, by the table that the lines before it make, and without tables.
+use Rattle.std.specs.Prelude.{◌≡◌, ◌≢◌, ℕ, ◌<◌, ◌≤◌, List, [], ◌∷◌, ◌++◌, length, filter_map, IsSomeAnd, Ok, Err, Contains, AllPairs}
+use Rattle.std.specs.List.{All, Any}
+use Rattle.wq_decl.specs.declared.directive.Directive.{Directive}
+use Rattle.wq_items.specs.declared.fault.ItemError.{ItemError}
+use Rattle.wq_items.specs.declared.fault.ItemError.TheVariants.{ItemTwice, UnknownItem, TooManyItems, TooManyFlushes, OutOfMemory}
+use Rattle.wq_items.specs.Table.{Table}
+use Rattle.wq_items.specs.Building.{declared, table_of}
+use Rattle.wq_items.specs.Flushes.{item_name, flushes, names_used}
+
+-- e is the fault of the lowest line that has one: the directives before it make a table, and its own can't be added
+pub record IsFirstFault (ds : List (ℕ × Directive)) (e : ItemError) : Type 0 where
+  pub before : List (ℕ × Directive)
+  pub line : ℕ
+  pub directive : Directive
+  pub after : List (ℕ × Directive)
+  pub table : Table
+  pub parts : ds ≡ before ++ ((line, directive) ∷ after)
+  pub makes : table_of before ≡ Ok table
+  pub refused : declared table line directive ≡ Err e
+
+-- the directives before this one make a table, and it can be added
+pub record IsAccepted (before : List (ℕ × Directive)) (d : ℕ × Directive) : Type 0 where
+  pub table : Table
+  pub next : Table
+  pub makes : table_of before ≡ Ok table
+  pub taken : declared table d.0 d.1 ≡ Ok next
+
+-- ---- the same without tables
+
+-- one of these lines declares an item of this name
+abbrev pub IsDeclared : List (ℕ × Directive) → List ℕ → Type 0
+IsDeclared ds name = Contains (filter_map item_name ds) name
+
+-- no name is declared twice, each name on a `flush` line is declared by a line before it, and there are at most 4,096
+-- items and 16,384 flushes
+pub record IsFaultless (ds : List (ℕ × Directive)) : Type 0 where
+  pub once : AllPairs (λ (a b : List ℕ). a ≢ b) (filter_map item_name ds)
+  pub known : (before : List (ℕ × Directive)) (d : ℕ × Directive) (after : List (ℕ × Directive)) → ds ≡ before ++ (d ∷ after) → All (IsDeclared before) (names_used d)
+  pub items : length (filter_map item_name ds) ≤ 4096
+  pub flushes : length (flushes ds) ≤ 16384
+
+-- what each fault says of its line and of the lines before it
+abbrev pub IsFaultOfLine : List (ℕ × Directive) → ℕ × Directive → ItemError → Type 0
+IsFaultOfLine before d (ItemTwice n) = (d.0 ≡ n) × IsSomeAnd (item_name d) (IsDeclared before)
+IsFaultOfLine before d (TooManyItems n) = (d.0 ≡ n) × IsSomeAnd (item_name d) (λ (name : List ℕ). ¬ IsDeclared before name) × (4096 ≤ length (filter_map item_name before))
+IsFaultOfLine before d (UnknownItem n) = (d.0 ≡ n) × Any (λ (name : List ℕ). ¬ IsDeclared before name) (names_used d)
+IsFaultOfLine before d (TooManyFlushes n) = (d.0 ≡ n) × All (IsDeclared before) (names_used d) × (16384 < length (flushes (before ++ (d ∷ []))))
+IsFaultOfLine before d OutOfMemory = ⊥
+
+-- e is the fault of a line, and the lines before it are faultless
+pub record IsLowestFault (ds : List (ℕ × Directive)) (e : ItemError) : Type 0 where
+  pub before : List (ℕ × Directive)
+  pub line : ℕ × Directive
+  pub after : List (ℕ × Directive)
+  pub parts : ds ≡ before ++ (line ∷ after)
+  pub faultless : IsFaultless before
+  pub fault : IsFaultOfLine before line e

@@ -1,0 +1,73 @@
+//! Laws of lines and words, as contracts of functions that compute nothing.
+//!
+//! They follow from the definitions of docs/FORMAT.md, "Lines, words and numbers", for every text, and say them in
+//! other words: what a reader of a text relies on, and that no other cut of the text answers to it.
+
+ghost use Rattle.std.specs.List.{HoldsAt};
+ghost use Rattle.std.specs.Prelude.{◌≡◌, ◌+◌, ◌<◌, ◌≤◌, ◌↔◌, ℕ, List, length, map, slice_range, All, AllPairs, Any, EachIndex};
+ghost use Rattle.wq_text.specs.declared.text.TextError.TheVariants.{TextTooLong, LineTooLong};
+ghost use Rattle.wq_text.specs.Limits.{limit_fault};
+ghost use Rattle.wq_text.specs.Lines.{Piece, LineView, pieces, lines_of, AreThePieces};
+ghost use Rattle.wq_text.specs.Words.{WordView, words_from, words_of, AreTheWords};
+
+/// A text has one list of pieces, and only one, that make it, hold no line feed and lack one only at the end.
+pub fn pieces_are_the_only_ones()
+    ensures are { (text : List ℕ) → AreThePieces text (pieces text) }
+    ensures only { (text : List ℕ) (others : List Piece)
+        → AreThePieces text others → others ≡ pieces text }
+{}
+
+/// Bytes have one list of words, and only one: unbroken, as long as they can be, with only blanks around them.
+pub fn words_are_the_only_ones()
+    ensures are { (at : ℕ) (bs : List ℕ) → AreTheWords at bs (words_from at bs) }
+    ensures only { (at : ℕ) (bs : List ℕ) (others : List WordView)
+        → AreTheWords at bs others → others ≡ words_from at bs }
+{}
+
+/// The lines of a text are numbered from 1, stand in it in order where they say, and are what its pieces hold.
+pub fn lines_are_slices_of_the_text()
+    ensures numbers { (text : List ℕ) → EachIndex (lines_of text)
+        (λ k. HoldsAt (λ (line : LineView). line.no ≡ k + 1) (lines_of text) k) }
+    ensures slices { (text : List ℕ) → All
+        (λ (line : LineView). slice_range text line.start (line.start + length line.bytes) ≡ line.bytes)
+        (lines_of text) }
+    ensures within { (text : List ℕ)
+        → All (λ (line : LineView). line.start + length line.bytes ≤ length text) (lines_of text) }
+    ensures in_order { (text : List ℕ) → AllPairs
+        (λ (line next : LineView). line.start + length line.bytes < next.start)
+        (lines_of text) }
+    ensures none_left_out { (text : List ℕ) → map (λ (line : LineView). line.bytes) (lines_of text)
+        ≡ map (λ (piece : Piece). piece.bytes) (pieces text) }
+{}
+
+/// The words of each line of a text stand in the text where they say, within their line, in order and apart.
+pub fn words_are_slices_of_the_text()
+    ensures slices { (text : List ℕ) → All
+        (λ line. All
+        (λ (word : WordView). slice_range text word.start (word.start + length word.bytes) ≡ word.bytes)
+        (words_of line))
+        (lines_of text) }
+    ensures within { (line : LineView) → All
+        (λ (word : WordView). (line.start ≤ word.start)
+        × (word.start + length word.bytes ≤ line.start + length line.bytes))
+        (words_of line) }
+    ensures in_order { (line : LineView) → AllPairs
+        (λ (word next : WordView). word.start + length word.bytes < next.start)
+        (words_of line) }
+{}
+
+/// The limits find no fault in just the texts that keep them, and else that the text is too long or, in a text
+/// that isn't, the lowest line that is.
+pub fn limits_are_kept()
+    ensures none { (max_text max_line : ℕ) (text : List ℕ)
+        → (limit_fault max_text max_line text ≡ None)
+        ↔ ((length text ≤ max_text)
+        × All (λ (line : LineView). length line.bytes ≤ max_line) (lines_of text)) }
+    ensures text_too_long { (max_text max_line : ℕ) (text : List ℕ)
+        → (limit_fault max_text max_line text ≡ Some TextTooLong) ↔ (max_text < length text) }
+    ensures line_too_long { (max_text max_line n : ℕ) (text : List ℕ)
+        → (limit_fault max_text max_line text ≡ Some (LineTooLong n))
+        ↔ ((length text ≤ max_text)
+        × Any (λ (line : LineView). (line.no ≡ n) × (max_line < length line.bytes)) (lines_of text)
+        × All (λ (line : LineView). line.no < n → length line.bytes ≤ max_line) (lines_of text)) }
+{}

@@ -1,0 +1,34 @@
+//! Numbers of 32 bits in decimal digits, each with one spelling.
+//!
+//! Takes time in the length of the word.
+
+ghost use Rattle.std.specs.Int.{IsInRange};
+ghost use Rattle.std.specs.Prelude.{◌≡◌, ◌<◌, ◌↔◌, ℕ, IfSome, IfNone, IsTrue, length, slice_index};
+ghost use Rattle.wq_text.specs.Numbers.{Spells};
+
+use std::str;
+
+/// Whether bytes begin as a number does: with a digit, which is no `0` in front of others.
+fn begins_number(bytes: &[u8]) -> bool
+    ensures { IsTrue result
+        ↔ ((0 < length bytes.now) × IsInRange 48 57 (slice_index bytes.now 0)
+        × (slice_index bytes.now 0 ≡ 48 → length bytes.now ≡ 1)) }
+{
+    matches!(bytes, [b'0'] | [b'1'..=b'9', ..])
+}
+
+/// The number that the bytes spell: `0`, or a digit from 1 to 9 and digits after it, at most 4,294,967,295.
+///
+/// `None` for all other bytes: none at all, a leading zero, a sign, a byte that is no digit, a larger number.
+pub fn number(bytes: &[u8]) -> Option<u32>
+    ensures some { IfSome result (λ n. Spells bytes.now n) }
+    ensures none { IfNone result ((n : ℕ) → Spells bytes.now n → ⊥) }
+{
+    if !begins_number(bytes) {
+        return None;
+    }
+    let Ok(digits) = str::from_utf8(bytes) else {
+        return None;
+    };
+    digits.parse().ok()
+}
