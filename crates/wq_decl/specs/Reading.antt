@@ -1,5 +1,5 @@
 -- Directives: what a line of a declaration says, or its first fault by the rows of the format's table.
-use Rattle.std.specs.Prelude.{ℕ, ◌==◌, ◌||◌, ◌&&◌, Bool, true, false, nat_le, if◌then◌else◌, List, [], ◌∷◌, Option, Some, None, Result, Ok, Err, bytes_eq, codes, IsTrue}
+use Rattle.std.specs.Prelude.{ℕ, ◌==◌, ◌||◌, ◌&&◌, not, Bool, true, false, nat_le, if◌then◌else◌, List, [], ◌∷◌, Option, Some, None, Result, Ok, Err, bytes_eq, codes, IsTrue}
 use Rattle.std.specs.Option.{option_or}
 use Rattle.std.specs.List.{list_all, filter_map, AllByRecursion}
 use Rattle.wq_text.specs.Lines.{LineView}
@@ -11,9 +11,9 @@ use Rattle.wq_decl.specs.declared.fault.DeclError.{DeclError}
 use Rattle.wq_decl.specs.declared.fault.DeclError.TheVariants.{BadByte, UnknownWord, MissingName, ExtraWord, BadName}
 use Rattle.wq_decl.specs.Names.{is_name, are_names}
 
--- a TAB, or a printable ASCII character
+-- a TAB, or a printable ASCII character other than `#`
 abbrev pub is_text_byte : ℕ → Bool
-is_text_byte b = b == 9 || (nat_le 32 b && nat_le b 126)
+is_text_byte b = b == 9 || (nat_le 32 b && (nat_le b 126 && not (b == 35)))
 
 -- the words after `item` on line n: one name
 abbrev pub item_reading : ℕ → List WordView → Result (Option Directive) DeclError

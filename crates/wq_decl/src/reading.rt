@@ -32,11 +32,11 @@ fn is_name(word: &[u8]) -> bool
     !word.is_empty() && word.len() <= 63 && are_name_bytes(word)
 }
 
-/// Whether a line may have this byte: TAB, or a printable ASCII character.
+/// Whether a line may have this byte: TAB, or a printable ASCII character other than `#`.
 fn is_text_byte(byte: u8) -> bool
     ensures { result ≡ is_text_byte byte }
 {
-    byte == b'\t' || (32 <= byte && byte <= 126)
+    byte == b'\t' || (32 <= byte && byte <= 126 && byte != b'#')
 }
 
 /// Whether a line may have each of these bytes.

@@ -2,11 +2,7 @@
 use Rattle.std.specs.Prelude.{◌≡◌, ◌≢◌, ℕ, ◌+◌, ◌==◌, if◌then◌else◌, Bool, true, false, List, [], ◌∷◌, ◌++◌, length, Contains, IsTrue, ◌⊎◌, ⊤, flat_map}
 use Rattle.std.specs.List.{AllByRecursion}
 
--- the byte that ends a line
-abbrev pub line_feed : ℕ
-line_feed = 10
-
--- what stands between two line feeds; `ended` says that one follows it
+-- what stands in front of a line feed, or behind the last one; `ended` says that a line feed follows it
 pub record Piece : Type 0 where
   pub bytes : List ℕ
   pub ended : Bool
