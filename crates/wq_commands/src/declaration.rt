@@ -70,7 +70,10 @@ impl From<ItemError> for Stop {
 ///
 /// The answer is the first fault of the first pass that has one, or `OutOfMemory` where a growth was refused before
 /// it.
-pub fn read_declaration<A: Allocator + Copy>(alloc: A, text: &[u8]) -> Result<ItemTable<'_, A>, Stop>
+pub fn read_declaration<A: Allocator + Copy>(
+    alloc: A,
+    text: &[u8],
+) -> Result<ItemTable<'_, A>, Stop>
     ensures table { IfOk result (λ t. declaration text.now ≡ Ok t) }
     ensures stop { IfErr result (λ s. StopsAt s (declaration text.now)) }
 {

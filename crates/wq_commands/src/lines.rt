@@ -16,7 +16,10 @@ pub(crate) fn put<A: Allocator + Copy>(out: &mut Vec<u8, A>, bytes: &[u8]) -> Re
 }
 
 /// Adds a space and a word.
-pub(crate) fn put_word<A: Allocator + Copy>(out: &mut Vec<u8, A>, word: &[u8]) -> Result<(), AllocError>
+pub(crate) fn put_word<A: Allocator + Copy>(
+    out: &mut Vec<u8, A>,
+    word: &[u8],
+) -> Result<(), AllocError>
     ensures { OnOk result (out.new.items ≡ out.old.items ++ spaced word.now) }
 {
     out.push(b' ')?;

@@ -56,7 +56,11 @@ fn put_chain_line<A: Allocator + Copy>(
     requires { length chain.now < 2 ^ 16 }
     ensures { OnOk result (out.new.items ≡ out.old.items ++ line_text (chain_line lanes chain.now)) }
 {
-    let items = if lanes == 0 { 0 } else { chain.len() as u32 + 1 };
+    let items = if lanes == 0 {
+        0
+    } else {
+        chain.len() as u32 + 1
+    };
     put(out, b"chain")?;
     put_number(alloc, out, items)?;
     put_end(out)
