@@ -1,0 +1,8 @@
+#!/usr/bin/env bash
+# All tests: the toolchain's gate (proofs, must-fail edits, tests, the stored run), and then the scripts that test
+# what no proof covers. The scripts use the program that the gate leaves at crates/wqplan/out/wqplan.
+set -eu
+cd "$(dirname "$0")/.."
+rt ci
+bash tests/outlives.sh
+bash tests/program.sh
