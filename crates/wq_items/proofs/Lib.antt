@@ -11,3 +11,4 @@ pub mod Tables
 pub mod BuildingLemmas
 pub mod FlushLemmas
 pub mod FaultLemmas
+pub mod SliceLemmas
