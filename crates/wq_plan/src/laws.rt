@@ -3,6 +3,7 @@ ghost use Rattle.std.specs.Prelude.{◌≡◌, ℕ, ◌+◌, ◌<◌, ◌≤◌,
 ghost use Rattle.std.specs.List.{All};
 ghost use Rattle.wq_items.specs.declared.target.Target.{Target};
 ghost use Rattle.wq_items.specs.Table.{Table, IsTable, ItemWaits};
+ghost use Rattle.wq_items.specs.Chain.{IsChain};
 ghost use Rattle.wq_plan.specs.Plan.{IsPlan, lanes_of, chain_of};
 ghost use Rattle.wq_plan.specs.LongestChain.{IsLongestChain};
 
@@ -28,6 +29,12 @@ pub fn lanes_fall()
 pub fn plan_is_unique()
     ensures { (waits : List (List Target)) (items : ℕ) (one other : List ℕ) →
         IsPlan waits items one → IsPlan waits items other → one ≡ other }
+{}
+
+/// No chain of items has more of them than there are lanes.
+pub fn no_chain_is_longer()
+    ensures { (waits : List (List Target)) (items : ℕ) (lane vs : List ℕ) →
+        IsPlan waits items lane → IsChain (ItemWaits waits) vs → All (λ v. v < items) vs → length vs ≤ lanes_of lane }
 {}
 
 /// What is printed of a plan is a longest chain.
