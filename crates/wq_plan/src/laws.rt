@@ -1,9 +1,9 @@
 //! Laws of plans; those of chains and circles are in `wq_items`. No code runs here: the clauses are the laws.
-ghost use Rattle.std.specs.Prelude.{◌≡◌, ℕ, ◌+◌, ◌<◌, ◌≤◌, List, [], length, slice_index, SomeIndex};
+ghost use Rattle.std.specs.Prelude.{◌≡◌, ℕ, ◌+◌, ◌<◌, ◌≤◌, ◌⊎◌, List, [], length, slice_index, SomeIndex};
 ghost use Rattle.std.specs.List.{All};
 ghost use Rattle.wq_items.specs.declared.target.Target.{Target};
 ghost use Rattle.wq_items.specs.Table.{Table, IsTable, ItemWaits};
-ghost use Rattle.wq_items.specs.Chain.{IsChain};
+ghost use Rattle.wq_items.specs.Chain.{IsChain, HasCircle};
 ghost use Rattle.wq_plan.specs.Plan.{IsPlan, lanes_of, chain_of};
 ghost use Rattle.wq_plan.specs.LongestChain.{IsLongestChain};
 
@@ -23,6 +23,12 @@ pub fn lanes_are_few()
 pub fn lanes_fall()
     ensures { (waits : List (List Target)) (items : ℕ) (lane : List ℕ) (i j : ℕ) →
         IsPlan waits items lane → i < items → ItemWaits waits i j → slice_index lane j < slice_index lane i }
+{}
+
+/// The items of a table have a plan, or they wait in a circle.
+pub fn items_have_a_plan_or_a_circle()
+    ensures { (t : Table) → IsTable t →
+        ((lane : List ℕ) × IsPlan t.waits (length t.names) lane) ⊎ HasCircle (ItemWaits t.waits) (length t.names) }
 {}
 
 /// A table has one plan at most.
