@@ -1,5 +1,5 @@
 -- The words of directives are words of the lines.
-use Rattle.std.proofs.Common.{◌≡◌, ℕ, suc, ◌+◌, ◌<◌, Bool, true, false, cond, List, [], ◌∷◌, length, Option, Some, None, Result, Ok, Err, refl, arith}
+use Rattle.std.proofs.Common.{ℕ, suc, Bool, true, false, cond, List, [], ◌∷◌, Option, Some, None, Result, Ok, Err, refl, arith}
 use Rattle.std.specs.Prelude.{codes, bytes_eq, Contains}
 use Rattle.std.specs.List.{All, Any, list_all, cons_option}
 use Rattle.std.proofs.lemmas.List.Elements.{All-nil, All-cons, All-weaker}

@@ -1,13 +1,13 @@
 -- The names of a table are slices of the text.
-use Rattle.std.proofs.Common.{◌≡◌, ℕ, ◌+◌, ◌<◌, List, [], ◌∷◌, length, map, get_or, Some, Ok, refl, sym, ap, ◌∙◌}
+use Rattle.std.proofs.Common.{◌≡◌, ℕ, ◌+◌, List, [], ◌∷◌, length, map, get_or, Some, Ok, refl, sym, ap, ◌∙◌}
 use Rattle.std.specs.Prelude.{Contains}
 use Rattle.std.specs.List.{All, Any, AllByRecursion, filter_map, slice_range, slice_get}
 use Rattle.std.proofs.lemmas.List.{get_or-map}
 use Rattle.std.proofs.lemmas.List.Elements.{All-contains, All-weaker, All-head, recursion_from_All}
 use Rattle.std.proofs.lemmas.Option.{get_or_from_slice_get, slice_get_within}
 use Rattle.wq_text.specs.declared.span.Span.{Span}
-use Rattle.wq_text.specs.Lines.{LineView, lines_of}
-use Rattle.wq_text.specs.Words.{WordView, words_of}
+use Rattle.wq_text.specs.Lines.{lines_of}
+use Rattle.wq_text.specs.Words.{words_of}
 use Rattle.wq_text.proofs.SliceLaws.{LineStands, WordStands, LineStands-lines_of, WordStands-words_of, slice_range-StandsAt}
 use Rattle.wq_decl.specs.declared.directive.Directive.{Directive}
 use Rattle.wq_decl.specs.declared.directive.Directive.TheVariants.{Item, Flush}

@@ -22,9 +22,9 @@ Any-decided {X = X} P each [] = inr (λ found. absurd (omega (arith, found.2)))
 Any-decided {X = X} P each (x ∷ xs) = elim (each x) [
   | inl here ↦ inl (0, x, omega arith, refl, here)
   | inr none ↦ elim (Any-decided P each xs) [
-      | inl found ↦ inl (suc found.0, found.1, omega (arith, found.2), found.3, found.4)
-      | inr no_later ↦ inr (λ found. no_place found.0 found.1 found.2 found.3 found.4 none no_later)
-    ]
+    | inl found ↦ inl (suc found.0, found.1, omega (arith, found.2), found.3, found.4)
+    | inr no_later ↦ inr (λ found. no_place found.0 found.1 found.2 found.3 found.4 none no_later)
+  ]
 ]
   where
     no_place : (k : ℕ) (y : X) → k < length (x ∷ xs) → slice_index_or (x ∷ xs) k y ≡ y → P y → ¬ P x → ¬ Any P xs → ⊥
@@ -58,9 +58,9 @@ module _ (waits : List (List Target)) where
   rank_or_chain (suc n) v = elim (rank_or_chain n v) [
     | inl rank ↦ inl rank
     | inr begins ↦ elim (BeginsChain-decided (suc n) v) [
-        | inl longer ↦ inr longer
-        | inr none ↦ inl (n, (begins, λ longer. none (BeginsChain-at (ItemWaits waits) v (n + 2) (suc n + 1) (omega arith) longer)))
-      ]
+      | inl longer ↦ inr longer
+      | inr none ↦ inl (n, (begins, λ longer. none (BeginsChain-at (ItemWaits waits) v (n + 2) (suc n + 1) (omega arith) longer)))
+    ]
   ]
 
   module _ (items : ℕ) (each : All (TargetsBelow items) waits) where
@@ -84,9 +84,9 @@ module _ (waits : List (List Target)) where
     lanes_or_circle zero le = inl (record { lane = []; one_each = refl; ranks = λ i item. absurd (omega arith) })
     lanes_or_circle (suc n) le = elim (lanes_or_circle n (omega arith)) [
       | inl so_far ↦ elim (rank_or_chain items n) [
-          | inl rank ↦ inl (one_more n rank.0 so_far rank.1)
-          | inr long ↦ inr (circle_from_BeginsChain (ItemWaits waits) items n (ItemWaits-below items waits each) (omega arith) long)
-        ]
+        | inl rank ↦ inl (one_more n rank.0 so_far rank.1)
+        | inr long ↦ inr (circle_from_BeginsChain (ItemWaits waits) items n (ItemWaits-below items waits each) (omega arith) long)
+      ]
       | inr circle ↦ inr circle
     ]
 

@@ -55,9 +55,18 @@ module _ (waits : List (List Target)) (items : ℕ) (lane : List ℕ) (each : Al
       record {
         declared = (first.place, t, first.fits, first.here, refl);
         falls = omega arith;
-        first_place = (first.place, t, first.fits, first.here, (refl, λ k d fits other.
-            subst (λ (u : Target). u.place ≤ (get_or (targets_of waits item) k d).place) first.here
-            (PlacesRise-places (targets_of waits item) first.place k t d (targets_of-rise waits item rise) (first_comes k d (other ∙ on)) fits)));
+        first_place = (
+          first.place,
+          t,
+          first.fits,
+          first.here,
+          (
+            refl,
+            λ k d fits other.
+                subst (λ (u : Target). u.place ≤ (get_or (targets_of waits item) k d).place) first.here
+                (PlacesRise-places (targets_of waits item) first.place k t d (targets_of-rise waits item rise) (first_comes k d (other ∙ on)) fits),
+          ),
+        );
       }
     where
       -- a target on the lane stands no earlier
