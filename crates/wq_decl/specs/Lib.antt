@@ -4,3 +4,4 @@ pub use Rattle.wq_text.specs.Refusal
 pub mod Names
 pub mod Reading
 pub mod Faults
+pub mod Origins

@@ -1,5 +1,5 @@
 -- Directives: what a line of a declaration says, or its first fault by the rows of the format's table.
-use Rattle.std.specs.Prelude.{ℕ, ◌==◌, ◌||◌, ◌&&◌, not, Bool, true, false, nat_le, if◌then◌else◌, List, [], ◌∷◌, Option, Some, None, Result, Ok, Err, bytes_eq, codes, IsTrue}
+use Rattle.std.specs.Prelude.{ℕ, ◌==◌, ◌||◌, ◌&&◌, not, Bool, nat_le, if◌then◌else◌, List, [], ◌∷◌, Option, Some, None, Result, Ok, Err, bytes_eq, codes, IsTrue}
 use Rattle.std.specs.Option.{option_or}
 use Rattle.std.specs.List.{list_all, filter_map, AllByRecursion}
 use Rattle.wq_text.specs.Lines.{LineView}
@@ -59,7 +59,7 @@ first_fault (line ∷ lines) = option_or (fault_in (reading line)) (first_fault 
 abbrev pub directives : List LineView → List (ℕ × Directive)
 directives lines = filter_map (λ (line : LineView). directive_in line.no (reading line)) lines
 
--- the names in a directive are names
+-- each word of a directive is a name
 abbrev pub HasNames : Directive → Type 0
 HasNames (Item name) = IsTrue (is_name name.bytes)
 HasNames (Flush name targets) = IsTrue (is_name name.bytes) × AllByRecursion (λ (w : WordView). IsTrue (is_name w.bytes)) targets

@@ -10,7 +10,6 @@ use Rattle.wq_items.specs.declared.fault.ItemError.TheVariants.{ItemTwice, TooMa
 use Rattle.wq_items.specs.Table.{Table, IsTable, item_named, flush_count}
 use Rattle.wq_items.specs.Building.{empty_table, with_item, with_flushes, items_named, item_declared, flushes_declared, declared, and_then, table_after, table_of}
 use Rattle.wq_items.specs.Flushes.{item_name, item_span}
-use Rattle.wq_items.specs.FirstFault.{IsFirstFault, IsAccepted}
 use Rattle.wq_items.proofs.TableLemmas.{IsTable-empty, IsTable-with_item, IsTable-with_flushes, parts, item_named-below, items_named-below}
 
 -- ---- one step
@@ -145,19 +144,19 @@ pub table_after-append : (t : Table) (xs ys : List (ℕ × Directive)) → table
 table_after-append t [] ys = refl
 table_after-append t (d ∷ xs) ys = and_then-assoc (declared t d.0 d.1) xs ys (λ (u : Table). table_after-append u xs ys)
 
--- where steps from t on fail: those before the fault, and the fault
-record Fault (t : Table) (ds : List (ℕ × Directive)) (e : ItemError) : Type 0 where
-  before : List (ℕ × Directive)
-  line : ℕ
-  directive : Directive
-  after : List (ℕ × Directive)
-  table : Table
-  parts : ds ≡ before ++ ((line, directive) ∷ after)
-  makes : table_after t before ≡ Ok table
-  refused : declared table line directive ≡ Err e
+-- e is the fault of the lowest line that has one: from t on the directives before it make a table, and its own can't be added
+pub record IsFirstFault (t : Table) (ds : List (ℕ × Directive)) (e : ItemError) : Type 0 where
+  pub before : List (ℕ × Directive)
+  pub line : ℕ
+  pub directive : Directive
+  pub after : List (ℕ × Directive)
+  pub table : Table
+  pub parts : ds ≡ before ++ ((line, directive) ∷ after)
+  pub makes : table_after t before ≡ Ok table
+  pub refused : declared table line directive ≡ Err e
 
 fault_in : (t : Table) (n : ℕ) (d : Directive) (ds : List (ℕ × Directive)) (e : ItemError) (r : Result Table ItemError) → declared t n d ≡ r → and_then r (λ (u : Table). table_after u ds) ≡ Err e
-    → ((u : Table) → table_after u ds ≡ Err e → Fault u ds e) → Fault t ((n, d) ∷ ds) e
+    → ((u : Table) → table_after u ds ≡ Err e → IsFirstFault u ds e) → IsFirstFault t ((n, d) ∷ ds) e
 fault_in t n d ds e (Ok u) was is rest =
     let f = rest u is in
     record {
@@ -172,20 +171,22 @@ fault_in t n d ds e (Ok u) was is rest =
     }
 fault_in t n d ds e (Err f) was is rest = record { before = []; line = n; directive = d; after = ds; table = t; parts = refl; makes = refl; refused = was ∙ is }
 
-fault : (t : Table) (ds : List (ℕ × Directive)) (e : ItemError) → table_after t ds ≡ Err e → Fault t ds e
-fault t [] e is = absurd cc
-fault t ((n, d) ∷ ds) e is = fault_in t n d ds e (declared t n d) refl is (λ (u : Table) (h : table_after u ds ≡ Err e). fault u ds e h)
+pub IsFirstFault-table_after : (t : Table) (ds : List (ℕ × Directive)) (e : ItemError) → table_after t ds ≡ Err e → IsFirstFault t ds e
+IsFirstFault-table_after t [] e is = absurd cc
+IsFirstFault-table_after t ((n, d) ∷ ds) e is = fault_in t n d ds e (declared t n d) refl is (λ (u : Table) (h : table_after u ds ≡ Err e). IsFirstFault-table_after u ds e h)
 
-pub IsFirstFault-table_of : (ds : List (ℕ × Directive)) (e : ItemError) → table_of ds ≡ Err e → IsFirstFault ds e
-IsFirstFault-table_of ds e is =
-    let f = fault empty_table ds e is in
-    record { before = f.before; line = f.line; directive = f.directive; after = f.after; table = f.table; parts = f.parts; makes = f.makes; refused = f.refused }
-
-pub table_of-first_fault : (ds : List (ℕ × Directive)) (e : ItemError) → IsFirstFault ds e → table_of ds ≡ Err e
+pub table_of-first_fault : (ds : List (ℕ × Directive)) (e : ItemError) → IsFirstFault empty_table ds e → table_of ds ≡ Err e
 table_of-first_fault ds e f =
     ap table_of f.parts ∙ table_after-append empty_table f.before ((f.line, f.directive) ∷ f.after)
     ∙ ap (λ (r : Result Table ItemError). and_then r (λ (u : Table). table_after u ((f.line, f.directive) ∷ f.after))) f.makes
     ∙ ap (λ (r : Result Table ItemError). and_then r (λ (u : Table). table_after u f.after)) f.refused
+
+-- the directives before this one make a table, and it can be added
+pub record IsAccepted (before : List (ℕ × Directive)) (d : ℕ × Directive) : Type 0 where
+  pub table : Table
+  pub next : Table
+  pub makes : table_of before ≡ Ok table
+  pub taken : declared table d.0 d.1 ≡ Ok next
 
 pub IsAccepted-table_of : (ds : List (ℕ × Directive)) (t : Table) (before : List (ℕ × Directive)) (d : ℕ × Directive) (after : List (ℕ × Directive)) → table_of ds ≡ Ok t → ds ≡ before ++ (d ∷ after) → IsAccepted before d
 IsAccepted-table_of ds t before d after e parts =

@@ -28,7 +28,7 @@ module _ (R : ℕ → ℕ → Type 0) where
   pub BeginsChain-less : (v m n : ℕ) → 0 < m → m ≤ n → BeginsChain R v n → BeginsChain R v m
   BeginsChain-less v m n some le begins = BeginsChain-at v (m - 1 + 1) m (omega arith) (front v (m - 1) begins.0 begins.1 (omega (arith, begins.2)))
 
-  next : (v n : ℕ) (others : List ℕ) → IsChain R (v ∷ others) → suc (length others) ≡ n + 2 → (w : ℕ) × R v w × BeginsChain R w (n + 1)
+  next : (v n : ℕ) (others : List ℕ) → IsChain R (v ∷ others) → length (v ∷ others) ≡ n + 2 → (w : ℕ) × R v w × BeginsChain R w (n + 1)
   next v n [] chain size = absurd (omega arith)
   next v n (w ∷ ws) chain size = (w, chain.0, (ws, chain.1, omega arith))
 
@@ -40,6 +40,12 @@ module _ (R : ℕ → ℕ → Type 0) where
   pub IsRank-most : (v r n : ℕ) → IsRank R v r → BeginsChain R v (n + 1) → n ≤ r
   IsRank-most v r n rank begins = elim (cases_lt r n) [
     | inl longer ↦ absurd (rank.1 (BeginsChain-less v (r + 2) (n + 1) (omega arith) (omega arith) begins))
+    | inr most ↦ most
+  ]
+
+  pub IsRank-greatest : (v r n : ℕ) → IsRank R v r → BeginsChain R v n → n ≤ r + 1
+  IsRank-greatest v r n rank begins = elim (cases_lt (r + 1) n) [
+    | inl longer ↦ absurd (rank.1 (BeginsChain-less v (r + 2) n (omega arith) (omega arith) begins))
     | inr most ↦ most
   ]
 

@@ -15,7 +15,7 @@ use Rattle.wq_items.specs.Building.{empty_table, with_item, with_flushes, and_it
 use Rattle.wq_items.specs.Flushes.{item_name, line_flushes, flushes, names_used}
 use Rattle.wq_items.specs.FirstFault.{IsDeclared, IsFaultless, IsFaultOfLine, IsLowestFault}
 use Rattle.wq_items.proofs.TableLemmas.{differs-from-item_named, parts, item_named-below, length-items_named, flush_count-with_item}
-use Rattle.wq_items.proofs.BuildingLemmas.{item_step, flush_step, table_after-keeps, names-table_of, IsFirstFault-table_of, table_of-first_fault, IsAccepted-table_of}
+use Rattle.wq_items.proofs.BuildingLemmas.{item_step, flush_step, table_after-keeps, names-table_of, IsFirstFault-table_after, table_of-first_fault, IsAccepted-table_of}
 use Rattle.wq_items.proofs.FlushLemmas.{item_named-is, IsEven, IsEven-empty, IsEven-step, count_step, flush_count-table_of}
 
 words_bytes : List WordView → List (List ℕ)
@@ -298,7 +298,7 @@ no_fault_among ds before d after OutOfMemory h is p = p
 
 IsLowestFault-table_of : (ds : List (ℕ × Directive)) (e : ItemError) → table_of ds ≡ Err e → IsLowestFault ds e
 IsLowestFault-table_of ds e is =
-    let f = IsFirstFault-table_of ds e is in
+    let f = IsFirstFault-table_after empty_table ds e is in
     record {
       before = f.before;
       line = (f.line, f.directive);

@@ -1,13 +1,13 @@
 -- A table that has grown, part by part, is a table.
-use Rattle.std.proofs.Common.{◌≡◌, ℕ, ◌+◌, ◌<◌, ◌≤◌, List, [], ◌∷◌, ◌++◌, length, set, Option, Some, None, refl, sym, ap, subst, ◌∙◌, arith, eqb}
-use Rattle.std.specs.Prelude.{IsTrue, IfSome, IsSome, option_map, slice_set, position, bytes_eq}
+use Rattle.std.proofs.Common.{◌≡◌, ℕ, ◌+◌, ◌<◌, ◌≤◌, List, [], ◌∷◌, ◌++◌, length, Option, Some, None, refl, sym, ap, subst, ◌∙◌, arith}
+use Rattle.std.specs.Prelude.{IsTrue, IfSome, option_map, slice_set, bytes_eq}
 use Rattle.std.proofs.lemmas.List.Quantifiers.{position-Some}
 use Rattle.wq_text.specs.declared.span.Span.{Span}
 use Rattle.wq_text.specs.Words.{WordView}
 use Rattle.wq_decl.specs.Names.{is_name}
 use Rattle.wq_items.specs.declared.target.Target.{Target}
 use Rattle.wq_items.specs.Table.{Table, IsTable, item_named, targets_of, flush_count}
-use Rattle.wq_items.specs.Building.{with_item, with_flushes, items_named, targets_from, span_of}
+use Rattle.wq_items.specs.Building.{items_named, targets_from, span_of}
 use Rattle.wq_items.proofs.TableLemmas.{IsTable-with_item, IsTable-with_flushes, flush_count-with_item, flush_count-with_flushes, items_named-below, length-items_named}
 
 pub item_named-within : (names : List (List ℕ)) (name : List ℕ) (i : ℕ) → item_named names name ≡ Some i → i < length names
@@ -45,7 +45,7 @@ IsTable-flushes_added t i words count waits sound within known room grown =
     subst (λ (o : Option (List ℕ)). IfSome o (λ js. waits ≡ slice_set t.waits i (targets_of t.waits i ++ targets_from (flush_count t.waits) js))) k.1 grown in
     let table = IsTable-with_flushes t i items sound within (items_named-below t.names words items k.1) (omega (arith, k.2)) in (
       subst (λ (ws : List (List Target)). IsTable (record { names = t.names; spans = t.spans; waits = ws })) (sym w) table,
-      ap (λ (n : ℕ). flush_count t.waits + n) (sym k.2) ∙ sym (flush_count-with_flushes t i items (omega (arith, sound.waits))) ∙ ap flush_count (sym w),
+      ap (λ (n : ℕ). flush_count t.waits + n) (sym k.2) ∙ sym (flush_count-with_flushes t i items (omega (arith, sound.one_list_each))) ∙ ap flush_count (sym w),
     )
 
 pub span_is : (s : Span) (w : WordView) → s.start ≡ w.start → s.end ≡ w.start + length w.bytes → s ≡ span_of w

@@ -1,6 +1,7 @@
 pub mod FoundNames
 pub mod WaitLemmas
 pub mod TargetLemmas
+pub mod PlaceLemmas
 pub mod TableLemmas
 pub mod GrownTables
 pub mod Chains
@@ -10,3 +11,4 @@ pub mod Tables
 pub mod BuildingLemmas
 pub mod FlushLemmas
 pub mod FaultLemmas
+pub mod SliceLemmas

@@ -13,8 +13,9 @@ use Rattle.std.proofs.lemmas.Slice.Eq.{bytes_eq-Decides}
 use Rattle.wq_text.specs.Words.{WordView}
 use Rattle.wq_decl.specs.Names.{is_name}
 use Rattle.wq_items.specs.declared.target.Target.{Target}
-use Rattle.wq_items.specs.Table.{Table, IsTable, TargetsBelow, item_named, targets_of, flush_count, places}
+use Rattle.wq_items.specs.Table.{Table, IsTable, TargetsBelow, PlacesRise, item_named, targets_of, flush_count, places}
 use Rattle.wq_items.specs.Building.{empty_table, span_of, with_item, with_flushes, targets_from, and_item, items_named}
+use Rattle.wq_items.proofs.PlaceLemmas.{PlacesRise-set}
 
 -- ---- names
 
@@ -110,14 +111,15 @@ targets_of-below n waits i lt h = All-get_or (TargetsBelow n) waits i [] lt h
 
 pub IsTable-empty : IsTable empty_table
 IsTable-empty = record {
-  spans = refl;
-  waits = refl;
-  items = omega arith;
+  one_span_each = refl;
+  one_list_each = refl;
+  few_items = omega arith;
   named = All-nil (λ (name : List ℕ). IsTrue (is_name name));
   distinct = λ i j d lt within. absurd (omega arith);
-  targets = All-nil (TargetsBelow 0);
-  flushes = omega arith;
-  places = IsPermutation-refl [];
+  targets_are_items = All-nil (TargetsBelow 0);
+  few_flushes = omega arith;
+  places_are_numbered = IsPermutation-refl [];
+  places_rise = All-nil PlacesRise;
 }
 
 pub IsTable-with_item : (t : Table) (name : WordView) → IsTable t → item_named t.names name.bytes ≡ None → length t.names < 4096 → IsTrue (is_name name.bytes) → IsTable (with_item t name)
@@ -126,47 +128,49 @@ IsTable-with_item t name h none room is =
     let more : n ≡ length t.names + 1 = length_push t.names name.bytes in
     let count : flush_count (t.waits ++ ([] ∷ [])) ≡ flush_count t.waits = flush_count-with_item t name in
     record {
-      spans = omega (arith, length_push t.spans (span_of name), more, h.spans);
-      waits = omega (arith, length_push {X = List Target} t.waits [], more, h.waits);
-      items = omega arith;
+      one_span_each = omega (arith, length_push t.spans (span_of name), more, h.one_span_each);
+      one_list_each = omega (arith, length_push {X = List Target} t.waits [], more, h.one_list_each);
+      few_items = omega arith;
       named = All-push (λ (name : List ℕ). IsTrue (is_name name)) t.names name.bytes h.named is;
       distinct = all_pairs_push (λ (a b : List ℕ). a ≢ b) t.names name.bytes h.distinct (differs-from-item_named t.names name.bytes none);
-      targets = All-push (TargetsBelow n) t.waits [] (TargetsBelow-weaker (length t.names) n (omega arith) t.waits h.targets) (All-nil (λ (t : Target). t.item < n));
-      flushes = omega (arith, h.flushes, count);
-      places =
+      targets_are_items = All-push (TargetsBelow n) t.waits [] (TargetsBelow-weaker (length t.names) n (omega arith) t.waits h.targets_are_items) (All-nil (λ (t : Target). t.item < n));
+      few_flushes = omega (arith, h.few_flushes, count);
+      places_are_numbered =
           subst (λ (c : ℕ). IsPermutation (range_with_len 0 c) (places (t.waits ++ ([] ∷ [])))) (sym count) (
-          subst (λ (l : List ℕ). IsPermutation (range_with_len 0 (flush_count t.waits)) l) (sym (places-push_nil t.waits)) h.places
+          subst (λ (l : List ℕ). IsPermutation (range_with_len 0 (flush_count t.waits)) l) (sym (places-push_nil t.waits)) h.places_are_numbered
           );
+      places_rise = All-push PlacesRise t.waits [] h.places_rise (λ k within. absurd (omega arith));
     }
 
 pub IsTable-with_flushes : (t : Table) (i : ℕ) (items : List ℕ) → IsTable t → i < length t.names → All (λ (j : ℕ). j < length t.names) items → flush_count t.waits + length items ≤ 16384 → IsTable (with_flushes t i items)
 IsTable-with_flushes t i items h lt below room =
     let count : ℕ = flush_count t.waits in
-    let within : i < length t.waits = omega (arith, h.waits) in
+    let within : i < length t.waits = omega (arith, h.one_list_each) in
     let added : List Target = targets_from count items in
     let targets : List Target = targets_of t.waits i ++ added in
     let after : flush_count (set t.waits i targets) ≡ count + length items = flush_count-with_flushes t i items within in
     record {
-      spans = h.spans;
-      waits = length-set t.waits i targets ∙ h.waits;
-      items = h.items;
+      one_span_each = h.one_span_each;
+      one_list_each = length-set t.waits i targets ∙ h.one_list_each;
+      few_items = h.few_items;
       named = h.named;
       distinct = h.distinct;
-      targets =
+      targets_are_items =
           All-set (TargetsBelow (length t.names)) t.waits i targets (
-          All-append (λ (t' : Target). t'.item < length t.names) (targets_of t.waits i) added (targets_of-below (length t.names) t.waits i within h.targets) (
+          All-append (λ (t' : Target). t'.item < length t.names) (targets_of t.waits i) added (targets_of-below (length t.names) t.waits i within h.targets_are_items) (
           TargetsBelow-targets_from (length t.names) count items below
           )
-          ) h.targets;
-      flushes = omega (arith, after);
-      places =
+          ) h.targets_are_items;
+      few_flushes = omega (arith, after);
+      places_are_numbered =
           subst (λ (c : ℕ). IsPermutation (range_with_len 0 c) (places (set t.waits i targets))) (sym after) (
           subst (λ (l : List ℕ). IsPermutation l (places (set t.waits i targets))) (sym (range_with_len-append 0 count (length items))) (
           IsPermutation-trans (range_with_len 0 count ++ range_with_len (0 + count) (length items)) (places t.waits ++ map (λ (t : Target). t.place) added) (places (set t.waits i targets)) (
-          IsPermutation-both count (length items) (places t.waits) (map (λ (t : Target). t.place) added) h.places (places-targets_from count items)
+          IsPermutation-both count (length items) (places t.waits) (map (λ (t : Target). t.place) added) h.places_are_numbered (places-targets_from count items)
           ) (places-set t.waits i added within)
           )
           );
+      places_rise = PlacesRise-set count t.waits i (length items) added within h.places_are_numbered (places-targets_from count items) h.places_rise;
     }
   where
     IsPermutation-both : (m n : ℕ) (old new : List ℕ) → IsPermutation (range_with_len 0 m) old → new ≡ range_with_len m n → IsPermutation (range_with_len 0 m ++ range_with_len (0 + m) n) (old ++ new)

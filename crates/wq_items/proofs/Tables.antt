@@ -1,11 +1,12 @@
--- Laws of tables: what an item waits for is an item.
-use Rattle.std.proofs.Common.{ℕ, ◌<◌, inl, inr, List, [], length, subst, arith}
+-- Laws of tables: what an item waits for is an item, and its targets stand in order of place.
+use Rattle.std.proofs.Common.{◌≡◌, ℕ, ◌<◌, ◌≤◌, inl, inr, List, [], length, map, get_or, subst, arith}
 use Rattle.std.specs.List.{All}
-use Rattle.std.proofs.lemmas.Bool.{cases_lt}
-use Rattle.std.proofs.lemmas.List.{get_or_past}
+use Rattle.std.proofs.lemmas.Bool.{cases_lt, cases_eq}
+use Rattle.std.proofs.lemmas.List.{get_or_past, get_or-map, length-map}
 use Rattle.std.proofs.lemmas.List.Elements.{All-contains}
+use Rattle.std.proofs.lemmas.List.Kept.{AllPairs-from_increasing}
 use Rattle.wq_items.specs.declared.target.Target.{Target}
-use Rattle.wq_items.specs.Table.{ItemWaits, TargetsBelow, targets_of}
+use Rattle.wq_items.specs.Table.{ItemWaits, TargetsBelow, PlacesRise, targets_of}
 
 -- the targets of any number, also past the last item
 pub targets_of-below : (n : ℕ) (waits : List (List Target)) (i : ℕ) → All (TargetsBelow n) waits → TargetsBelow n (targets_of waits i)
@@ -16,3 +17,21 @@ targets_of-below n waits i each = elim (cases_lt i (length waits)) [
 
 pub ItemWaits-below : (n : ℕ) (waits : List (List Target)) → All (TargetsBelow n) waits → (i j : ℕ) → ItemWaits waits i j → j < n
 ItemWaits-below n waits each i j declared = subst (λ item. item < n) declared.4 (All-contains (λ t. t.item < n) (targets_of waits i) declared.1 (targets_of-below n waits i each) (declared.0, declared.2, declared.3))
+
+-- also past the last item
+pub targets_of-rise : (waits : List (List Target)) (i : ℕ) → All PlacesRise waits → PlacesRise (targets_of waits i)
+targets_of-rise waits i each = elim (cases_lt i (length waits)) [
+  | inl item ↦ each i [] item
+  | inr past ↦ rw (get_or_past waits i [] past) (λ k none. absurd (omega arith))
+]
+
+-- a target that stands no later has no greater place
+pub PlacesRise-places : (targets : List Target) (i j : ℕ) (d e : Target) → PlacesRise targets → i ≤ j → j < length targets → (get_or targets i d).place ≤ (get_or targets j e).place
+PlacesRise-places targets i j d e rise le lt =
+    let place_of : Target → ℕ = λ (t : Target). t.place in
+    let own = get_or-map place_of targets i d 0 (omega arith) in
+    let other = get_or-map place_of targets j e 0 lt in
+    elim (cases_eq i j) [
+      | inl same ↦ let own_at : get_or (map place_of targets) j 0 ≡ (get_or targets i d).place = subst (λ k. get_or (map place_of targets) k 0 ≡ (get_or targets i d).place) same own in omega (arith, own_at, other)
+      | inr apart ↦ omega (arith, own, other, AllPairs-from_increasing (map place_of targets) rise i j 0 (omega arith) (omega (arith, length-map targets place_of)))
+    ]

@@ -1,5 +1,5 @@
 -- Building: how the directives of a declaration make its table, one after the other, or what the first fault is.
-use Rattle.std.specs.Prelude.{◌≡◌, ℕ, ◌+◌, ◌<◌, ◌≤◌, nat_le, nat_lt, if◌then◌else◌, List, [], ◌∷◌, ◌++◌, length, slice_set, Option, Some, None, Result, Ok, Err, is_some}
+use Rattle.std.specs.Prelude.{◌≡◌, ℕ, ◌+◌, nat_le, nat_lt, if◌then◌else◌, List, [], ◌∷◌, ◌++◌, length, slice_set, Option, Some, None, Result, Ok, Err, is_some}
 use Rattle.wq_text.specs.declared.span.Span.{Span}
 use Rattle.wq_text.specs.Words.{WordView}
 use Rattle.wq_text.specs.Refusal.{Refusal}
@@ -52,7 +52,7 @@ item_declared t n name =
     if is_some (item_named t.names name.bytes) then Err (ItemTwice n)
     else (if nat_le 4096 (length t.names) then Err (TooManyItems n) else Ok (with_item t name))
 
--- line n declares flushes of these items, where all names on it are known
+-- line n declares that the first of these items flushes the others, where all names on it are known
 abbrev pub flushes_declared : Table → ℕ → Option (List ℕ) → Result Table ItemError
 flushes_declared t n None = Err (UnknownItem n)
 flushes_declared t n (Some []) = Ok t

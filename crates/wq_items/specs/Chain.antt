@@ -1,5 +1,5 @@
 -- Chains and circles of numbers, by any relation: R v w says that v waits for w.
-use Rattle.std.specs.Prelude.{◌≡◌, ℕ, suc, ◌+◌, ◌<◌, List, [], ◌∷◌, length, slice_index, ⊤}
+use Rattle.std.specs.Prelude.{◌≡◌, ℕ, ◌+◌, ◌<◌, List, [], ◌∷◌, length, slice_index, ⊤}
 use Rattle.std.specs.List.{All}
 
 -- each vertex waits for the next; a vertex may occur twice
@@ -26,7 +26,7 @@ HasCircle R n = (c : Circle R) × All (λ v. v < n) (c.first ∷ c.others)
 
 -- a chain of n vertices begins at v
 abbrev pub BeginsChain : (ℕ → ℕ → Type 0) → ℕ → ℕ → Type 0
-BeginsChain R v n = (others : List ℕ) × IsChain R (v ∷ others) × (suc (length others) ≡ n)
+BeginsChain R v n = (others : List ℕ) × IsChain R (v ∷ others) × (length (v ∷ others) ≡ n)
 
 -- a chain of r + 1 vertices begins at v, and none of r + 2
 abbrev pub IsRank : (ℕ → ℕ → Type 0) → ℕ → ℕ → Type 0

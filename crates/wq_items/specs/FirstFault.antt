@@ -1,32 +1,10 @@
--- First faults: which line of a declaration has one, by the table that the lines before it make, and without tables.
-use Rattle.std.specs.Prelude.{◌≡◌, ◌≢◌, ℕ, ◌<◌, ◌≤◌, List, [], ◌∷◌, ◌++◌, length, filter_map, IsSomeAnd, Ok, Err, Contains, AllPairs}
+-- First faults: which line of a declaration has one, said of the lines alone.
+use Rattle.std.specs.Prelude.{◌≡◌, ◌≢◌, ℕ, ◌<◌, ◌≤◌, List, [], ◌∷◌, ◌++◌, length, filter_map, IsSomeAnd, Contains, AllPairs}
 use Rattle.std.specs.List.{All, Any}
 use Rattle.wq_decl.specs.declared.directive.Directive.{Directive}
 use Rattle.wq_items.specs.declared.fault.ItemError.{ItemError}
 use Rattle.wq_items.specs.declared.fault.ItemError.TheVariants.{ItemTwice, UnknownItem, TooManyItems, TooManyFlushes, OutOfMemory}
-use Rattle.wq_items.specs.Table.{Table}
-use Rattle.wq_items.specs.Building.{declared, table_of}
 use Rattle.wq_items.specs.Flushes.{item_name, flushes, names_used}
-
--- e is the fault of the lowest line that has one: the directives before it make a table, and its own can't be added
-pub record IsFirstFault (ds : List (ℕ × Directive)) (e : ItemError) : Type 0 where
-  pub before : List (ℕ × Directive)
-  pub line : ℕ
-  pub directive : Directive
-  pub after : List (ℕ × Directive)
-  pub table : Table
-  pub parts : ds ≡ before ++ ((line, directive) ∷ after)
-  pub makes : table_of before ≡ Ok table
-  pub refused : declared table line directive ≡ Err e
-
--- the directives before this one make a table, and it can be added
-pub record IsAccepted (before : List (ℕ × Directive)) (d : ℕ × Directive) : Type 0 where
-  pub table : Table
-  pub next : Table
-  pub makes : table_of before ≡ Ok table
-  pub taken : declared table d.0 d.1 ≡ Ok next
-
--- ---- the same without tables
 
 -- one of these lines declares an item of this name
 abbrev pub IsDeclared : List (ℕ × Directive) → List ℕ → Type 0

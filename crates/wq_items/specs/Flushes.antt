@@ -34,7 +34,7 @@ flushes ds = flat_map line_flushes ds
 abbrev pub flushes_of : List ℕ → List (ℕ × (List ℕ × List ℕ)) → List (List ℕ × ℕ)
 flushes_of name numbered = filter_map (λ (f : ℕ × (List ℕ × List ℕ)). if bytes_eq f.1.0 name then Some (f.1.1, f.0) else None) numbered
 
--- the targets of item i: of each, the name of the item and the place of the flush
+-- the targets of item i: of each, the name of the target and the place of the flush
 abbrev pub named_targets : Table → ℕ → List (List ℕ × ℕ)
 named_targets t i = map (λ (target : Target). (slice_index_or t.names target.item [], target.place)) (targets_of t.waits i)
 

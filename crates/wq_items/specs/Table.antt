@@ -1,6 +1,7 @@
 -- Tables: what a declaration declares, item by item.
-use Rattle.std.specs.Prelude.{◌≡◌, ◌≢◌, ℕ, ◌+◌, ◌<◌, ◌≤◌, List, [], ◌∷◌, length, slice_index_or, IsTrue, Option, map, position, bytes_eq, sum_by, AllPairs, IsPermutation, flat_map}
+use Rattle.std.specs.Prelude.{◌≡◌, ◌≢◌, ℕ, ◌<◌, ◌≤◌, List, [], length, slice_index_or, IsTrue, Option, map, position, bytes_eq, sum_by, AllPairs, IsPermutation, flat_map}
 use Rattle.std.specs.List.{All, Any, range_with_len}
+use Rattle.std.specs.List.Sorted.{IsStrictlyIncreasing}
 use Rattle.wq_text.specs.declared.span.Span.{Span}
 use Rattle.wq_decl.specs.Names.{is_name}
 use Rattle.wq_items.specs.declared.target.Target.{Target}
@@ -35,14 +36,19 @@ TargetsBelow n targets = All (λ (t : Target). t.item < n) targets
 abbrev pub places : List (List Target) → List ℕ
 places waits = flat_map (λ (targets : List Target). map (λ (t : Target). t.place) targets) waits
 
+-- each target is declared further on than the one before it
+abbrev pub PlacesRise : List Target → Type 0
+PlacesRise targets = IsStrictlyIncreasing (map (λ (t : Target). t.place) targets)
+
 -- what holds of every table: one span and one list of targets for each name; at most 4,096 names, which differ and
--- are names; at most 16,384 flushes, each of an item, at the places 0, 1, 2 and so on
+-- are names; at most 16,384 flushes, each of an item, at the places 0, 1, 2 and so on, which rise within each item
 pub record IsTable (t : Table) : Type 0 where
-  pub spans : length t.spans ≡ length t.names
-  pub waits : length t.waits ≡ length t.names
-  pub items : length t.names ≤ 4096
+  pub one_span_each : length t.spans ≡ length t.names
+  pub one_list_each : length t.waits ≡ length t.names
+  pub few_items : length t.names ≤ 4096
   pub named : All (λ (name : List ℕ). IsTrue (is_name name)) t.names
   pub distinct : AllPairs (λ (a b : List ℕ). a ≢ b) t.names
-  pub targets : All (TargetsBelow (length t.names)) t.waits
-  pub flushes : flush_count t.waits ≤ 16384
-  pub places : IsPermutation (range_with_len 0 (flush_count t.waits)) (places t.waits)
+  pub targets_are_items : All (TargetsBelow (length t.names)) t.waits
+  pub few_flushes : flush_count t.waits ≤ 16384
+  pub places_are_numbered : IsPermutation (range_with_len 0 (flush_count t.waits)) (places t.waits)
+  pub places_rise : All PlacesRise t.waits

@@ -3,15 +3,17 @@
 //! `Building` makes the table of a declaration line by line. Here is what that comes to, said of the whole list of
 //! lines.
 
-ghost use Rattle.std.specs.Prelude.{◌≡◌, ◌↔◌, ℕ, ◌++◌, ◌∷◌, List, length, Ok, Err, IsOk, slice_get, filter_map, Some};
+ghost use Rattle.std.specs.Prelude.{◌≡◌, ◌↔◌, ℕ, List, length, map, Ok, Err, IsOk, slice_get, slice_range, filter_map, Some};
 ghost use Rattle.std.specs.List.{AllByRecursion, enumerate_from};
+ghost use Rattle.wq_text.specs.declared.span.Span.{Span};
+ghost use Rattle.wq_text.specs.Lines.{lines_of};
 ghost use Rattle.wq_decl.specs.declared.directive.Directive.{Directive};
-ghost use Rattle.wq_decl.specs.Reading.{HasNames};
+ghost use Rattle.wq_decl.specs.Reading.{HasNames, directives};
 ghost use Rattle.wq_items.specs.declared.fault.ItemError.{ItemError};
 ghost use Rattle.wq_items.specs.Table.{Table, IsTable, flush_count};
 ghost use Rattle.wq_items.specs.Building.{table_of};
 ghost use Rattle.wq_items.specs.Flushes.{item_name, item_span, flushes, flushes_of, named_targets};
-ghost use Rattle.wq_items.specs.FirstFault.{IsFirstFault, IsAccepted, IsFaultless, IsLowestFault};
+ghost use Rattle.wq_items.specs.FirstFault.{IsFaultless, IsLowestFault};
 
 /// The items of a table are those of the `item` lines, in order: their names, and where these stand.
 pub fn items_are_those_of_the_item_lines()
@@ -19,15 +21,14 @@ pub fn items_are_those_of_the_item_lines()
     ensures spans { (ds : List (ℕ × Directive)) (t : Table) → table_of ds ≡ Ok t → t.spans ≡ filter_map item_span ds }
 {}
 
-/// A fault is that of the lowest line that has one, and where there is a table no line has one.
-pub fn first_item_fault()
-    ensures lowest { (ds : List (ℕ × Directive)) (e : ItemError) → table_of ds ≡ Err e → IsFirstFault ds e }
-    ensures only { (ds : List (ℕ × Directive)) (e : ItemError) → IsFirstFault ds e → table_of ds ≡ Err e }
-    ensures none { (ds : List (ℕ × Directive)) (t : Table) (before : List (ℕ × Directive)) (d : ℕ × Directive) (after : List (ℕ × Directive)) → table_of ds ≡ Ok t → ds ≡ before ++ (d ∷ after) → IsAccepted before d }
+/// The names of a text's table are slices of the text: each stands where its span says.
+pub fn names_are_slices_of_the_text()
+    ensures each { (text : List ℕ) (t : Table) (i : ℕ) (name : List ℕ) (span : Span) → table_of (directives (lines_of text)) ≡ Ok t → slice_get t.names i ≡ Some name → slice_get t.spans i ≡ Some span → slice_range text span.start span.end ≡ name }
+    ensures all { (text : List ℕ) (t : Table) → table_of (directives (lines_of text)) ≡ Ok t → t.names ≡ map (λ (span : Span). slice_range text span.start span.end) t.spans }
 {}
 
-/// The same without tables: directives make a table exactly where they are faultless, and else the fault is that of
-/// the first one behind faultless ones.
+/// Directives make a table exactly where they are faultless, and else the fault is that of the first one behind
+/// faultless ones.
 pub fn faults_without_tables()
     ensures none { (ds : List (ℕ × Directive)) → IsOk (table_of ds) ↔ IsFaultless ds }
     ensures lowest { (ds : List (ℕ × Directive)) (e : ItemError) → (table_of ds ≡ Err e) ↔ IsLowestFault ds e }

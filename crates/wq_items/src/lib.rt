@@ -6,6 +6,7 @@
 //! (Documentation/core-api/workqueue.rst; kernel/workqueue.c).
 #![tactic(auto)]
 
+pub mod chain_laws;
 mod fault;
 pub mod laws;
 mod names;

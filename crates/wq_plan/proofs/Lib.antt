@@ -5,3 +5,4 @@ pub mod Lanes
 pub mod Arcs
 pub mod Found
 pub mod LongestChain
+pub mod Existence

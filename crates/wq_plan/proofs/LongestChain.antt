@@ -1,13 +1,13 @@
 -- Laws of the printed chain.
-use Rattle.std.proofs.Common.{◌≡◌, ℕ, zero, suc, ◌+◌, ◌-◌, ◌<◌, ◌≤◌, ◌==◌, not, List, [], ◌∷◌, length, get_or, slice_index, slice_get, IfSome, Option, Some, position, refl, sym, ap, subst, ◌∙◌, eq-eqb, eqb-true, arith}
+use Rattle.std.proofs.Common.{◌≡◌, ℕ, zero, suc, ◌+◌, ◌-◌, ◌<◌, ◌≤◌, ◌==◌, inl, inr, not, List, [], ◌∷◌, length, get_or, slice_index, slice_get, IfSome, Option, Some, position, refl, sym, ap, subst, ◌∙◌, eq-eqb, eqb-true, arith}
 use Rattle.std.specs.List.{All, AllByRecursion, AllAdjacentBelow, prefix_len}
 use Rattle.std.specs.Option.{option_map_or}
-use Rattle.std.proofs.lemmas.Bool.{eqb-false}
+use Rattle.std.proofs.lemmas.Bool.{eqb-false, cases_lt}
 use Rattle.std.proofs.lemmas.List.Elements.{All-from_recursion}
 use Rattle.std.proofs.lemmas.List.Quantifiers.{position-Some}
 use Rattle.wq_items.specs.declared.target.Target.{Target}
-use Rattle.wq_items.specs.Table.{TargetsBelow, ItemWaits, targets_of}
-use Rattle.wq_items.proofs.Tables.{ItemWaits-below}
+use Rattle.wq_items.specs.Table.{TargetsBelow, PlacesRise, ItemWaits, targets_of}
+use Rattle.wq_items.proofs.Tables.{ItemWaits-below, targets_of-rise, PlacesRise-places}
 use Rattle.wq_items.proofs.Chains.{BeginsChain-at, BeginsChain-next, IsRank-most}
 use Rattle.wq_plan.specs.Plan.{IsPlan, lanes_of, chain_from, chain_of}
 use Rattle.wq_plan.specs.LongestChain.{IsArc, IsFirstOnLast, IsLongestChain}
@@ -31,7 +31,7 @@ Follows-begins : (P : ℕ → Type 0) (v : ℕ) (arcs : List (ℕ × ℕ)) → F
 Follows-begins P v [] follows holds = tt
 Follows-begins P v (a ∷ arcs) follows holds = subst P (sym follows.0) holds
 
-module _ (waits : List (List Target)) (items : ℕ) (lane : List ℕ) (each : All (TargetsBelow items) waits) (plan : IsPlan waits items lane) where
+module _ (waits : List (List Target)) (items : ℕ) (lane : List ℕ) (each : All (TargetsBelow items) waits) (rise : All PlacesRise waits) (plan : IsPlan waits items lane) where
   -- an item above lane 0 waits for one on the next lane
   waited_on_next : (item below : ℕ) → item < items → slice_index lane item ≡ suc below → (w : ℕ) × ItemWaits waits item w × (slice_index lane w ≡ below)
   waited_on_next item below fits same =
@@ -55,8 +55,26 @@ module _ (waits : List (List Target)) (items : ℕ) (lane : List ℕ) (each : Al
       record {
         declared = (first.place, t, first.fits, first.here, refl);
         falls = omega arith;
-        first_place = (first.place, t, first.fits, first.here, refl, λ m d less other. eqb-false (slice_index lane (get_or (targets_of waits item) m d).item) below (first.earlier m d less) (other ∙ on));
+        first_place = (
+          first.place,
+          t,
+          first.fits,
+          first.here,
+          (
+            refl,
+            λ k d fits other.
+                subst (λ (u : Target). u.place ≤ (get_or (targets_of waits item) k d).place) first.here
+                (PlacesRise-places (targets_of waits item) first.place k t d (targets_of-rise waits item rise) (first_comes k d (other ∙ on)) fits),
+          ),
+        );
       }
+    where
+      -- a target on the lane stands no earlier
+      first_comes : (k : ℕ) (d : Target) → slice_index lane (get_or (targets_of waits item) k d).item ≡ below → first.place ≤ k
+      first_comes k d here = elim (cases_lt k first.place) [
+        | inl less ↦ absurd (eqb-false (slice_index lane (get_or (targets_of waits item) k d).item) below (first.earlier k d less) here)
+        | inr le ↦ le
+      ]
 
   -- as many arcs as lanes are below the item, one after the other
   pub path_from : (below item : ℕ) → item < items → slice_index lane item ≡ below → (length (chain_from waits lane below item) ≡ below) × AllByRecursion (IsArc waits lane) (chain_from waits lane below item) × Follows item (chain_from waits lane below item)
@@ -97,6 +115,6 @@ longest_from_none : (waits : List (List Target)) → IsLongestChain waits [] (ch
 longest_from_none waits = record { count = refl; arcs = λ k d fits. absurd (omega arith); joined = λ k d fits. absurd (omega arith); begins = tt }
 
 -- what is printed of a plan
-pub chain_of-longest : (waits : List (List Target)) (items : ℕ) (lane : List ℕ) → All (TargetsBelow items) waits → IsPlan waits items lane → IsLongestChain waits lane (chain_of waits lane)
-chain_of-longest waits items [] each plan = longest_from_none waits
-chain_of-longest waits items (l ∷ lane) each plan = longest_from_some waits items (l ∷ lane) each plan (omega arith)
+pub chain_of-longest : (waits : List (List Target)) (items : ℕ) (lane : List ℕ) → All (TargetsBelow items) waits → All PlacesRise waits → IsPlan waits items lane → IsLongestChain waits lane (chain_of waits lane)
+chain_of-longest waits items [] each rise plan = longest_from_none waits
+chain_of-longest waits items (l ∷ lane) each rise plan = longest_from_some waits items (l ∷ lane) each rise plan (omega arith)

@@ -1,18 +1,18 @@
 -- Laws of plans.
-use Rattle.std.proofs.Common.{◌≡◌, ℕ, zero, suc, ◌+◌, ◌<◌, ◌≤◌, inl, inr, List, length, slice_index, EachIndex, SomeIndex, MatchBool, nat_eq, refl, sym, ◌∙◌, ext_get_or, ne_eqb, ◌^◌, arith}
-use Rattle.std.proofs.lemmas.List.Elements.{All-from_get_or}
+use Rattle.std.proofs.Common.{◌≡◌, ℕ, zero, suc, ◌+◌, ◌<◌, ◌≤◌, inl, inr, List, [], ◌∷◌, length, slice_index, EachIndex, SomeIndex, MatchBool, nat_eq, refl, sym, ◌∙◌, ext_get_or, ne_eqb, ◌^◌, arith}
+use Rattle.std.proofs.lemmas.List.Elements.{All-from_get_or, All-head}
 use Rattle.std.specs.List.{All}
 use Rattle.std.proofs.lemmas.Bool.{cases_lt}
 use Rattle.std.proofs.lemmas.List.{get_or_past}
 use Rattle.wq_items.specs.declared.target.Target.{Target}
 use Rattle.wq_items.specs.Table.{ItemWaits, TargetsBelow}
-use Rattle.wq_items.specs.Chain.{HasCircle}
+use Rattle.wq_items.specs.Chain.{IsChain, HasCircle}
 use Rattle.wq_items.proofs.Tables.{ItemWaits-below}
-use Rattle.wq_items.proofs.Chains.{BeginsChain-one, BeginsChain-more, BeginsChain-less, IsRank-unique, IsRank-falls, IsRank-most}
+use Rattle.wq_items.proofs.Chains.{BeginsChain-one, BeginsChain-more, BeginsChain-less, IsRank-unique, IsRank-falls, IsRank-most, IsRank-greatest}
 use Rattle.wq_items.proofs.Circles.{no_circle_from_ranks, circle_from_BeginsChain}
 use Rattle.wq_plan.specs.Plan.{IsPlan, lanes_of}
 use Rattle.wq_plan.specs.Rounds.{AreCapped}
-use Rattle.wq_plan.proofs.Lanes.{lanes_of-most}
+use Rattle.wq_plan.proofs.Lanes.{lanes_of-above, lanes_of-most}
 use Rattle.wq_plan.proofs.Capped.{IsRank-from_capped}
 
 -- what a test for 0 decides
@@ -71,6 +71,14 @@ module _ (waits : List (List Target)) (items : ℕ) (lane : List ℕ) where
           let most : 1 ≤ slice_index lane i = IsRank-most (ItemWaits waits) i (slice_index lane i) 1 (plan.ranks i item) (BeginsChain-more (ItemWaits waits) i j 1 declared (BeginsChain-one (ItemWaits waits) j)) in
           omega arith
     ]
+
+    -- no chain has more items than there are lanes
+    pub IsPlan-most : (vs : List ℕ) → IsChain (ItemWaits waits) vs → All (λ v. v < items) vs → length vs ≤ lanes_of lane
+    IsPlan-most [] chain below = omega arith
+    IsPlan-most (v ∷ vs) chain below =
+        let item : v < items = All-head (λ w. w < items) v vs below in
+        let most : length (v ∷ vs) ≤ slice_index lane v + 1 = IsRank-greatest (ItemWaits waits) v (slice_index lane v) (length (v ∷ vs)) (plan.ranks v item) (vs, chain, refl) in
+        omega (arith, most, lanes_of-above lane v 0 (omega (arith, plan.one_each)))
 
 -- a table has one plan
 pub IsPlan-unique : (waits : List (List Target)) (items : ℕ) (one other : List ℕ) → IsPlan waits items one → IsPlan waits items other → one ≡ other

@@ -1,16 +1,15 @@
 -- The printed chain, said without recursion.
-use Rattle.std.specs.Prelude.{◌≡◌, ◌≢◌, ℕ, ◌+◌, ◌-◌, ◌<◌, List, length, slice_index, slice_index_or, slice_get, IfSome}
-use Rattle.std.specs.List.{All, AllAdjacentBelow}
+use Rattle.std.specs.Prelude.{◌≡◌, ℕ, ◌+◌, ◌-◌, ◌<◌, ◌≤◌, List, length, slice_index, slice_get, IfSome}
+use Rattle.std.specs.List.{All, Any, AllAdjacentBelow}
 use Rattle.wq_items.specs.declared.target.Target.{Target}
 use Rattle.wq_items.specs.Table.{targets_of, ItemWaits}
 use Rattle.wq_plan.specs.Plan.{lanes_of}
 
--- of the targets on the lane, `item` is the first in order of place
+-- one of the targets is `item`, at a place no greater than that of each target on this lane
 abbrev pub IsFirstOn : List Target → List ℕ → ℕ → ℕ → Type 0
-IsFirstOn targets lane on item =
-    (k : ℕ) × (t : Target) × (k < length targets) × (slice_index_or targets k t ≡ t) × (t.item ≡ item) × ((m : ℕ) (d : Target) → m < k → slice_index lane (slice_index_or targets m d).item ≢ on)
+IsFirstOn targets lane on item = Any (λ (t : Target). (t.item ≡ item) × All (λ (u : Target). slice_index lane u.item ≡ on → t.place ≤ u.place) targets) targets
 
--- a declared flush from an item to the first of its targets on the lane below its own
+-- a declared flush from an item to the first of its targets, in order of place, on the lane below its own
 pub record IsArc (waits : List (List Target)) (lane : List ℕ) (arc : ℕ × ℕ) : Type 0 where
   pub declared : ItemWaits waits arc.0 arc.1
   pub falls : slice_index lane arc.1 + 1 ≡ slice_index lane arc.0
@@ -20,7 +19,7 @@ pub record IsArc (waits : List (List Target)) (lane : List ℕ) (arc : ℕ × �
 abbrev pub IsFirstOnLast : List ℕ → ℕ → Type 0
 IsFirstOnLast lane item = (slice_index lane item + 1 ≡ lanes_of lane) × ((i : ℕ) → i < item → slice_index lane i < slice_index lane item)
 
--- one arc fewer than there are lanes, each beginning where the one before ended, from the first item on the last lane
+-- one arc fewer than there are lanes, none where there is no lane, each beginning where the one before ended, from the first item on the last lane
 pub record IsLongestChain (waits : List (List Target)) (lane : List ℕ) (chain : List (ℕ × ℕ)) : Type 0 where
   pub count : length chain ≡ lanes_of lane - 1
   pub arcs : All (IsArc waits lane) chain

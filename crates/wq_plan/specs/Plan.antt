@@ -6,7 +6,7 @@ use Rattle.wq_items.specs.declared.target.Target.{Target}
 use Rattle.wq_items.specs.Table.{targets_of, ItemWaits}
 use Rattle.wq_items.specs.Chain.{IsRank}
 
--- one lane for each item, and it is the item's rank
+-- one lane for each item, and it is the number of items on a longest chain that begins there, less one
 pub record IsPlan (waits : List (List Target)) (items : ℕ) (lane : List ℕ) : Type 0 where
   pub one_each : length lane ≡ items
   pub ranks : (i : ℕ) → i < items → IsRank (ItemWaits waits) i (slice_index lane i)
@@ -16,7 +16,8 @@ abbrev pub lanes_of : List ℕ → ℕ
 lanes_of lane = fold (λ most l. max most (l + 1)) 0 lane
 
 -- the arcs from an item down to lane 0, where `below` lanes are below the item's:
--- each goes to the first target, in order of place, that is on the next lane
+-- each goes to the first target, in order of place, that is on the next lane; it ends early where no target is on the
+-- next lane, which is so in no plan
 abbrev pub chain_from : List (List Target) → List ℕ → ℕ → ℕ → List (ℕ × ℕ)
 chain_from waits lane zero item = []
 chain_from waits lane (suc below) item =

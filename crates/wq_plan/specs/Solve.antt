@@ -7,7 +7,7 @@ use Rattle.wq_plan.specs.declared.single.Single.{Single}
 use Rattle.wq_plan.specs.declared.single.Single.TheVariants as single
 use Rattle.wq_plan.specs.Plan.{IsPlan, lanes_of, chain_of}
 
--- the lanes are a plan, so the items wait in no circle; their number and the chain are the plan's
+-- the lanes are a plan, so the items wait in no circle; the number of lanes and the chain are the plan's
 pub record IsPlanned (waits : List (List Target)) (items lanes : ℕ) (lane : List ℕ) (chain : List (ℕ × ℕ)) : Type 0 where
   pub plan : IsPlan waits items lane
   pub no_circle : ¬ HasCircle (ItemWaits waits) items

@@ -1,41 +1,11 @@
-//! Laws of waiting chains, circles and plans. No code runs here: the clauses are the laws.
-ghost use Rattle.std.specs.Prelude.{◌≡◌, ℕ, ◌+◌, ◌<◌, ◌≤◌, List, [], ◌∷◌, length, slice_index, SomeIndex};
+//! Laws of plans; those of chains and circles are in `wq_items`. No code runs here: the clauses are the laws.
+ghost use Rattle.std.specs.Prelude.{◌≡◌, ℕ, ◌+◌, ◌<◌, ◌≤◌, ◌⊎◌, List, [], length, slice_index, SomeIndex};
 ghost use Rattle.std.specs.List.{All};
 ghost use Rattle.wq_items.specs.declared.target.Target.{Target};
 ghost use Rattle.wq_items.specs.Table.{Table, IsTable, ItemWaits};
-ghost use Rattle.wq_items.specs.Chain.{IsChain, Circle, HasCircle, BeginsChain, IsRank, Repeats};
+ghost use Rattle.wq_items.specs.Chain.{IsChain, HasCircle};
 ghost use Rattle.wq_plan.specs.Plan.{IsPlan, lanes_of, chain_of};
 ghost use Rattle.wq_plan.specs.LongestChain.{IsLongestChain};
-
-/// At each item of a circle chains of every length begin, so none of them has a rank.
-pub fn circle_has_no_rank()
-    ensures lengths { (waits : List (List Target)) (circle : Circle (ItemWaits waits)) →
-        All (λ v. (n : ℕ) → BeginsChain (ItemWaits waits) v (n + 1)) (circle.first ∷ circle.others) }
-    ensures ranks { (waits : List (List Target)) (circle : Circle (ItemWaits waits)) →
-        All (λ v. (r : ℕ) → ¬ IsRank (ItemWaits waits) v r) (circle.first ∷ circle.others) }
-{}
-
-/// Where each item has a rank, the items wait in no circle.
-pub fn ranks_rule_out_circles()
-    ensures { (waits : List (List Target)) (items : ℕ) →
-        ((i : ℕ) → i < items → (r : ℕ) × IsRank (ItemWaits waits) i r) → ¬ HasCircle (ItemWaits waits) items }
-{}
-
-/// An item has one rank at most.
-pub fn rank_is_unique()
-    ensures { (waits : List (List Target)) (i r s : ℕ) → IsRank (ItemWaits waits) i r → IsRank (ItemWaits waits) i s → r ≡ s }
-{}
-
-/// A list of numbers below n that is longer than n has one of them twice.
-pub fn long_list_repeats()
-    ensures { (n : ℕ) (xs : List ℕ) → All (λ x. x < n) xs → n < length xs → Repeats xs }
-{}
-
-/// A waiting chain that is longer than there are items runs in a circle.
-pub fn long_chain_runs_in_circle()
-    ensures { (waits : List (List Target)) (items : ℕ) (vs : List ℕ) →
-        IsChain (ItemWaits waits) vs → All (λ v. v < items) vs → items < length vs → HasCircle (ItemWaits waits) items }
-{}
 
 /// The number of lanes is the greatest lane plus one, and 0 where there is no item.
 pub fn lanes_are_counted()
@@ -55,10 +25,22 @@ pub fn lanes_fall()
         IsPlan waits items lane → i < items → ItemWaits waits i j → slice_index lane j < slice_index lane i }
 {}
 
+/// The items of a table have a plan, or they wait in a circle.
+pub fn items_have_a_plan_or_a_circle()
+    ensures { (t : Table) → IsTable t →
+        ((lane : List ℕ) × IsPlan t.waits (length t.names) lane) ⊎ HasCircle (ItemWaits t.waits) (length t.names) }
+{}
+
 /// A table has one plan at most.
 pub fn plan_is_unique()
     ensures { (waits : List (List Target)) (items : ℕ) (one other : List ℕ) →
         IsPlan waits items one → IsPlan waits items other → one ≡ other }
+{}
+
+/// No chain of items has more of them than there are lanes.
+pub fn no_chain_is_longer()
+    ensures { (waits : List (List Target)) (items : ℕ) (lane vs : List ℕ) →
+        IsPlan waits items lane → IsChain (ItemWaits waits) vs → All (λ v. v < items) vs → length vs ≤ lanes_of lane }
 {}
 
 /// What is printed of a plan is a longest chain.

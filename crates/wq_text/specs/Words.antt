@@ -52,7 +52,7 @@ NoBlank bs = AllByRecursion (λ b. is_blank b ≡ false) bs
 abbrev pub EndsAWord : List ℕ → Type 0
 EndsAWord rest = begins_word rest ≡ false
 
--- a gap of blanks, a word at its offset, and the rest, which begins with no byte of the word
+-- a gap of blanks, a word at its offset, and the rest, which is empty or begins with a blank
 pub record IsFirstWord (at : ℕ) (bs : List ℕ) (w : WordView) (rest : List ℕ) : Type 0 where
   pub gap : List ℕ
   pub blanks : AllBlank gap

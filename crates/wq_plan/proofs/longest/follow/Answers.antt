@@ -7,7 +7,7 @@ use Rattle.wq_plan.proofs.longest.follow.Goals as goal
 pub first_on-requires : goal.first_on-requires
 first_on-requires g c =
     let t = c.args.table.now in
-    rw (c.waits.ensures, c.requires.one_each) (targets_of-below (length t.names) t.waits c.loop-on.item c.requires.table.targets)
+    rw (c.waits.ensures, c.requires.one_each) (targets_of-below (length t.names) t.waits c.loop-on.item c.requires.table.targets_are_items)
 
 pub returns-in_default : goal.returns-in_default
 returns-in_default g c =
@@ -28,5 +28,5 @@ loop-on-preserved g c =
     let next = rw c.waits.ensures at found in
     let total = chain_from t.waits lane c.args.below c.args.first in (
       rw c.in_ok-push.ensures.items (follow_more t.waits lane (on - 1) c.loop-on.item c.loop-on.chain.items total on target (omega arith) next c.loop-on.invariant.0),
-      next_target-below t.waits lane (on - 1) c.loop-on.item (length t.names) target c.requires.table.targets next,
+      next_target-below t.waits lane (on - 1) c.loop-on.item (length t.names) target c.requires.table.targets_are_items next,
     )

@@ -8,7 +8,7 @@ pub loop-i-preserved : goal.loop-i-preserved
 loop-i-preserved g c =
     let t = c.args.table.now in
     let item : c.loop-i.i < length t.names = omega arith in
-    let each = c.len-i-end.ensures.table.targets in
+    let each = c.len-i-end.ensures.table.targets_are_items in
     elim c.if-lane-at.branch [
       | then-lane-at+then-is_any_from w ↦
           let found = rw (w.waits.ensures, w.new.ensures) at (w.is_any_from.ensures.0 w.if-is_any_from.true) in

@@ -22,4 +22,4 @@ returns g c =
     (λ none. IsPlan-none t.waits n lane one_each none)
     (λ some.
     let over : n ≤ c.loop-round.round = omega arith in
-    circle_from_rounds t.waits n lane c.len.ensures.table.targets c.loop-round.round over one_each c.loop-round.invariant.0 (c.loop-round.invariant.1 (omega arith))))
+    circle_from_rounds t.waits n lane c.len.ensures.table.targets_are_items c.loop-round.round over one_each c.loop-round.invariant.0 (c.loop-round.invariant.1 (omega arith))))

@@ -7,7 +7,7 @@ lanes_used-lanes-requires g c =
     let t = c.args.table.now in
     let lane = c.settle.new.lane in
     let whole = take_at lane (drop (length lane) c.in_ok-lane.lane.items) c.in_ok-lane.lane.len (c.settle.auto.lane ∙ c.as_mut_slice.ensures.len) in
-    rw (c.deref.ensures.value ∙ whole) (IsPlan-fits t.waits (length t.names) lane c.if-not-settle.ensures c.len.ensures.table.targets c.len.ensures.table.items)
+    rw (c.deref.ensures.value ∙ whole) (IsPlan-fits t.waits (length t.names) lane c.if-not-settle.ensures c.len.ensures.table.targets_are_items c.len.ensures.table.few_items)
 
 pub returns : goal.returns
 returns g c =

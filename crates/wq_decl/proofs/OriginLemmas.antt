@@ -1,0 +1,72 @@
+-- The words of directives are words of the lines.
+use Rattle.std.proofs.Common.{ℕ, suc, Bool, true, false, cond, List, [], ◌∷◌, Option, Some, None, Result, Ok, Err, refl, arith}
+use Rattle.std.specs.Prelude.{codes, bytes_eq, Contains}
+use Rattle.std.specs.List.{All, Any, list_all, cons_option}
+use Rattle.std.proofs.lemmas.List.Elements.{All-nil, All-cons, All-weaker}
+use Rattle.wq_text.specs.Lines.{LineView}
+use Rattle.wq_text.specs.Words.{WordView, words_of}
+use Rattle.wq_decl.specs.declared.directive.Directive.{Directive}
+use Rattle.wq_decl.specs.declared.directive.Directive.TheVariants.{Item, Flush}
+use Rattle.wq_decl.specs.declared.fault.DeclError.{DeclError}
+use Rattle.wq_decl.specs.declared.fault.DeclError.TheVariants.{BadName}
+use Rattle.wq_decl.specs.Names.{is_name, are_names}
+use Rattle.wq_decl.specs.Reading.{is_text_byte, item_reading, flush_reading, words_reading, reading, directive_in, directives}
+use Rattle.wq_decl.specs.Origins.{words_in, IsFrom}
+
+-- a directive, if the reading found one, has these words
+abbrev WordsAmong : List WordView → Result (Option Directive) DeclError → Type 0
+WordsAmong ws (Ok (Some d)) = All (Contains ws) (words_in d)
+WordsAmong ws (Ok None) = Unit {0}
+WordsAmong ws (Err e) = Unit {0}
+
+item_words : (n : ℕ) (first : WordView) (ws : List WordView) → WordsAmong (first ∷ ws) (item_reading n ws)
+item_words n first [] = tt
+item_words n first (name ∷ []) = chosen (is_name name.bytes)
+  where
+    chosen : (b : Bool) → WordsAmong (first ∷ name ∷ []) (cond b (Ok (Some (Item name))) (Err (BadName n)))
+    chosen true = All-cons (Contains (first ∷ name ∷ [])) name [] (1, omega arith, refl) (All-nil (Contains (first ∷ name ∷ [])))
+    chosen false = tt
+item_words n first (name ∷ extra ∷ others) = tt
+
+flush_words : (n : ℕ) (first : WordView) (ws : List WordView) → WordsAmong (first ∷ ws) (flush_reading n ws)
+flush_words n first [] = tt
+flush_words n first (name ∷ []) = tt
+flush_words n first (name ∷ target ∷ []) = chosen (are_names (name ∷ target ∷ []))
+  where
+    chosen : (b : Bool) → WordsAmong (first ∷ name ∷ target ∷ []) (cond b (Ok (Some (Flush name (target ∷ [])))) (Err (BadName n)))
+    chosen true = let ws : List WordView = first ∷ name ∷ target ∷ [] in All-cons (Contains ws) name (target ∷ []) (1, omega arith, refl) (All-cons (Contains ws) target [] (2, omega arith, refl) (All-nil (Contains ws)))
+    chosen false = tt
+flush_words n first (name ∷ target ∷ extra ∷ others) = tt
+
+cond_words : (ws : List WordView) (b : Bool) (x y : Result (Option Directive) DeclError) → WordsAmong ws x → WordsAmong ws y → WordsAmong ws (cond b x y)
+cond_words ws true x y p q = p
+cond_words ws false x y p q = q
+
+all_words : (n : ℕ) (ws : List WordView) → WordsAmong ws (words_reading n ws)
+all_words n [] = tt
+all_words n (first ∷ others) =
+    cond_words (first ∷ others) (bytes_eq first.bytes (codes "item")) _ _ (item_words n first others)
+    (cond_words (first ∷ others) (bytes_eq first.bytes (codes "flush")) _ _ (flush_words n first others) tt)
+
+line_words : (line : LineView) → WordsAmong (words_of line) (reading line)
+line_words line = cond_words (words_of line) (list_all is_text_byte line.bytes) _ _ (all_words line.no (words_of line)) tt
+
+-- the directive comes from one of these lines
+abbrev IsFromSome : List LineView → ℕ × Directive → Type 0
+IsFromSome lines d = Any (IsFrom d) lines
+
+later : (line : LineView) (lines : List LineView) (d : ℕ × Directive) → IsFromSome lines d → IsFromSome (line ∷ lines) d
+later line lines d (k, from, lt, at, is) = (suc k, from, omega arith, at, is)
+
+with_first : (line : LineView) (lines : List LineView) (r : Result (Option Directive) DeclError) → WordsAmong (words_of line) r → All (IsFromSome lines) (directives lines)
+    → All (IsFromSome (line ∷ lines)) (cons_option (directive_in line.no r) (directives lines))
+with_first line lines (Ok (Some d)) words rest =
+    All-cons (IsFromSome (line ∷ lines)) (line.no, d) (directives lines) (0, line, omega arith, refl, record { number = refl; words = words })
+    (All-weaker (IsFromSome lines) (IsFromSome (line ∷ lines)) (later line lines) (directives lines) rest)
+with_first line lines (Ok None) words rest = All-weaker (IsFromSome lines) (IsFromSome (line ∷ lines)) (later line lines) (directives lines) rest
+with_first line lines (Err e) words rest = All-weaker (IsFromSome lines) (IsFromSome (line ∷ lines)) (later line lines) (directives lines) rest
+
+-- each directive comes from a line
+pub IsFrom-directives : (lines : List LineView) → All (λ (d : ℕ × Directive). Any (IsFrom d) lines) (directives lines)
+IsFrom-directives [] = All-nil (IsFromSome [])
+IsFrom-directives (line ∷ lines) = with_first line lines (reading line) (line_words line) (IsFrom-directives lines)

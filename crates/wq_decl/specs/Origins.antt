@@ -1,0 +1,17 @@
+-- Origins: which line a directive comes from.
+use Rattle.std.specs.Prelude.{◌≡◌, ℕ, List, [], ◌∷◌, Contains}
+use Rattle.std.specs.List.{All}
+use Rattle.wq_text.specs.Lines.{LineView}
+use Rattle.wq_text.specs.Words.{WordView, words_of}
+use Rattle.wq_decl.specs.declared.directive.Directive.{Directive}
+use Rattle.wq_decl.specs.declared.directive.Directive.TheVariants.{Item, Flush}
+
+-- the words of a directive
+abbrev pub words_in : Directive → List WordView
+words_in (Item name) = name ∷ []
+words_in (Flush name targets) = name ∷ targets
+
+-- the directive has the number of this line, and its words are words of it
+pub record IsFrom (d : ℕ × Directive) (line : LineView) : Type 0 where
+  pub number : d.0 ≡ line.no
+  pub words : All (Contains (words_of line)) (words_in d.1)
