@@ -64,12 +64,12 @@ pub IsPlanned-prints : (t : Table) (lanes : ℕ) (lane : List ℕ) (chain : List
     → (length chain < 2 ^ 16) × All (λ (arc : ℕ × ℕ). (arc.0 < length t.names) × (arc.1 < length t.names)) chain
 IsPlanned-prints t lanes lane chain table planned =
     let longest : IsLongestChain t.waits lane chain =
-    subst (IsLongestChain t.waits lane) (sym planned.longest) (chain_of-longest t.waits (length t.names) lane table.targets planned.plan) in
-    let few : lanes_of lane ≤ length t.names = IsPlan-lanes t.waits (length t.names) lane planned.plan table.targets in (
-      omega (arith, longest.count, table.items, few),
+    subst (IsLongestChain t.waits lane) (sym planned.longest) (chain_of-longest t.waits (length t.names) lane table.targets_are_items planned.plan) in
+    let few : lanes_of lane ≤ length t.names = IsPlan-lanes t.waits (length t.names) lane planned.plan table.targets_are_items in (
+      omega (arith, longest.count, table.few_items, few),
       λ k d within.
           let arc = longest.arcs k d within in
-          (omega (arith, ItemWaits-source t.waits _ _ arc.declared, table.waits), ItemWaits-below (length t.names) t.waits table.targets _ _ arc.declared),
+          (omega (arith, ItemWaits-source t.waits _ _ arc.declared, table.one_list_each), ItemWaits-below (length t.names) t.waits table.targets_are_items _ _ arc.declared),
     )
 
 -- ---- the text that was read, and the text that there was
