@@ -64,7 +64,7 @@ pub IsPlanned-prints : (t : Table) (lanes : ℕ) (lane : List ℕ) (chain : List
     → (length chain < 2 ^ 16) × All (λ (arc : ℕ × ℕ). (arc.0 < length t.names) × (arc.1 < length t.names)) chain
 IsPlanned-prints t lanes lane chain table planned =
     let longest : IsLongestChain t.waits lane chain =
-    subst (IsLongestChain t.waits lane) (sym planned.longest) (chain_of-longest t.waits (length t.names) lane table.targets_are_items planned.plan) in
+    subst (IsLongestChain t.waits lane) (sym planned.longest) (chain_of-longest t.waits (length t.names) lane table.targets_are_items table.places_rise planned.plan) in
     let few : lanes_of lane ≤ length t.names = IsPlan-lanes t.waits (length t.names) lane planned.plan table.targets_are_items in (
       omega (arith, longest.count, table.few_items, few),
       λ k d within.
