@@ -1,13 +1,13 @@
 -- A table that has grown, part by part, is a table.
-use Rattle.std.proofs.Common.{◌≡◌, ℕ, ◌+◌, ◌<◌, ◌≤◌, List, [], ◌∷◌, ◌++◌, length, set, Option, Some, None, refl, sym, ap, subst, ◌∙◌, arith, eqb}
-use Rattle.std.specs.Prelude.{IsTrue, IfSome, IsSome, option_map, slice_set, position, bytes_eq}
+use Rattle.std.proofs.Common.{◌≡◌, ℕ, ◌+◌, ◌<◌, ◌≤◌, List, [], ◌∷◌, ◌++◌, length, Option, Some, None, refl, sym, ap, subst, ◌∙◌, arith}
+use Rattle.std.specs.Prelude.{IsTrue, IfSome, option_map, slice_set, bytes_eq}
 use Rattle.std.proofs.lemmas.List.Quantifiers.{position-Some}
 use Rattle.wq_text.specs.declared.span.Span.{Span}
 use Rattle.wq_text.specs.Words.{WordView}
 use Rattle.wq_decl.specs.Names.{is_name}
 use Rattle.wq_items.specs.declared.target.Target.{Target}
 use Rattle.wq_items.specs.Table.{Table, IsTable, item_named, targets_of, flush_count}
-use Rattle.wq_items.specs.Building.{with_item, with_flushes, items_named, targets_from, span_of}
+use Rattle.wq_items.specs.Building.{items_named, targets_from, span_of}
 use Rattle.wq_items.proofs.TableLemmas.{IsTable-with_item, IsTable-with_flushes, flush_count-with_item, flush_count-with_flushes, items_named-below, length-items_named}
 
 pub item_named-within : (names : List (List ℕ)) (name : List ℕ) (i : ℕ) → item_named names name ≡ Some i → i < length names

@@ -10,3 +10,4 @@ pub mod Tables
 pub mod BuildingLemmas
 pub mod FlushLemmas
 pub mod FaultLemmas
+pub mod ReadLemmas

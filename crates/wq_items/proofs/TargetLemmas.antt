@@ -1,7 +1,7 @@
 -- Going over the words of a `flush` line: how many were known, and what they added.
-use Rattle.std.proofs.Common.{◌≡◌, ℕ, zero, suc, ◌+◌, ◌<◌, ◌≤◌, List, [], ◌∷◌, ◌++◌, length, get_or, set, Option, Some, None, refl, sym, ap, subst, ◌∙◌, arith, append_assoc, append-nil}
-use Rattle.std.specs.Prelude.{IsSome, IfSome, option_map, slice_set}
-use Rattle.std.proofs.lemmas.List.{get_or-set_same, set-get_or, length-set, length-append}
+use Rattle.std.proofs.Common.{◌≡◌, ℕ, zero, suc, ◌+◌, ◌<◌, List, [], ◌∷◌, ◌++◌, length, set, Option, Some, None, refl, sym, ap, subst, ◌∙◌, arith, append_assoc, append-nil}
+use Rattle.std.specs.Prelude.{IsSome, IfSome, option_map}
+use Rattle.std.proofs.lemmas.List.{get_or-set_same, set-get_or, length-append}
 use Rattle.wq_text.specs.Words.{WordView}
 use Rattle.wq_items.specs.declared.target.Target.{Target}
 use Rattle.wq_items.specs.Table.{item_named, targets_of}

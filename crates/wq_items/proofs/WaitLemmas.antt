@@ -1,5 +1,5 @@
 -- Lists of targets, kept as vectors, after one of them is written.
-use Rattle.std.proofs.Common.{◌≡◌, ℕ, ◌<◌, List, [], ◌∷◌, ◌++◌, length, get_or, set, map, Result, Ok, Err, refl, sym, ap, ◌∙◌, arith}
+use Rattle.std.proofs.Common.{◌≡◌, ℕ, ◌<◌, List, [], ◌++◌, length, get_or, set, map, Result, Ok, Err, sym, ap, ◌∙◌, arith}
 use Rattle.std.specs.Prelude.{OnErr, Vec}
 use Rattle.std.proofs.lemmas.List.{map-set, get_or-map, set-get_or, length-map}
 use Rattle.wq_items.specs.declared.target.Target.{Target}

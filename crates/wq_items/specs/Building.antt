@@ -1,5 +1,5 @@
 -- Building: how the directives of a declaration make its table, one after the other, or what the first fault is.
-use Rattle.std.specs.Prelude.{◌≡◌, ℕ, ◌+◌, ◌<◌, ◌≤◌, nat_le, nat_lt, if◌then◌else◌, List, [], ◌∷◌, ◌++◌, length, slice_set, Option, Some, None, Result, Ok, Err, is_some}
+use Rattle.std.specs.Prelude.{◌≡◌, ℕ, ◌+◌, nat_le, nat_lt, if◌then◌else◌, List, [], ◌∷◌, ◌++◌, length, slice_set, Option, Some, None, Result, Ok, Err, is_some}
 use Rattle.wq_text.specs.declared.span.Span.{Span}
 use Rattle.wq_text.specs.Words.{WordView}
 use Rattle.wq_text.specs.Refusal.{Refusal}

@@ -26,6 +26,14 @@ pub record IsAccepted (before : List (ℕ × Directive)) (d : ℕ × Directive) 
   pub makes : table_of before ≡ Ok table
   pub taken : declared table d.0 d.1 ≡ Ok next
 
+-- memory ran out at a line that can be added, as can those before it
+pub record RanOut (ds : List (ℕ × Directive)) : Type 0 where
+  pub before : List (ℕ × Directive)
+  pub line : ℕ × Directive
+  pub after : List (ℕ × Directive)
+  pub parts : ds ≡ before ++ (line ∷ after)
+  pub accepted : IsAccepted before line
+
 -- ---- the same without tables
 
 -- one of these lines declares an item of this name

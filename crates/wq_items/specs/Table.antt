@@ -1,5 +1,5 @@
 -- Tables: what a declaration declares, item by item.
-use Rattle.std.specs.Prelude.{◌≡◌, ◌≢◌, ℕ, ◌+◌, ◌<◌, ◌≤◌, List, [], ◌∷◌, length, slice_index_or, IsTrue, Option, map, position, bytes_eq, sum_by, AllPairs, IsPermutation, flat_map}
+use Rattle.std.specs.Prelude.{◌≡◌, ◌≢◌, ℕ, ◌<◌, ◌≤◌, List, [], length, slice_index_or, IsTrue, Option, map, position, bytes_eq, sum_by, AllPairs, IsPermutation, flat_map}
 use Rattle.std.specs.List.{All, Any, range_with_len}
 use Rattle.wq_text.specs.declared.span.Span.{Span}
 use Rattle.wq_decl.specs.Names.{is_name}

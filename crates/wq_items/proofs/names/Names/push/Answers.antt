@@ -1,4 +1,4 @@
-use Rattle.std.proofs.Common.{◌≡◌, ◌++◌, ◌∷◌, [], ℕ, List, map, sym, ap, ◌∙◌}
+use Rattle.std.proofs.Common.{◌++◌, ◌∷◌, [], ℕ, List, map, ap, ◌∙◌}
 use Rattle.std.specs.Borrow.{Bor}
 use Rattle.wq_items.specs.Table.{item_named}
 use Rattle.wq_items.proofs.FoundNames.{map-insert_key}

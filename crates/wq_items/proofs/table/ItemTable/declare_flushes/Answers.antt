@@ -1,7 +1,6 @@
 use Rattle.std.proofs.Common.{◌≡◌, ◌+◌, ◌<◌, ◌≤◌, ◌++◌, ℕ, List, Some, length, sym, ap, subst, ◌∙◌, arith}
 use Rattle.std.specs.Prelude.{IfSome, slice_set, option_map}
 use Rattle.wq_text.specs.Words.{WordView}
-use Rattle.wq_items.specs.declared.target.Target.{Target}
 use Rattle.wq_items.specs.Table.{Table, item_named, flush_count, targets_of}
 use Rattle.wq_items.specs.Building.{items_named, targets_from}
 use Rattle.wq_items.proofs.GrownTables.{IsTable-flushes_added, item_named-within, count_is}

@@ -1,4 +1,4 @@
-use Rattle.std.proofs.Common.{◌≡◌, ◌<◌, ◌∷◌, [], ◌++◌, ℕ, List, None, length, sym, ap, ◌∙◌, arith, rules}
+use Rattle.std.proofs.Common.{◌≡◌, ◌<◌, ◌∷◌, [], ◌++◌, ℕ, List, None, length, ap, ◌∙◌, arith, rules}
 use Rattle.wq_text.specs.declared.span.Span.{Span}
 use Rattle.wq_items.specs.Building.{span_of}
 use Rattle.wq_items.specs.Table.{Table, item_named}
