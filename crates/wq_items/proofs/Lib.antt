@@ -12,3 +12,4 @@ pub mod BuildingLemmas
 pub mod FlushLemmas
 pub mod FaultLemmas
 pub mod SliceLemmas
+pub mod ReadLemmas

@@ -1,9 +1,10 @@
 -- First faults: which line of a declaration has one, said of the lines alone.
-use Rattle.std.specs.Prelude.{◌≡◌, ◌≢◌, ℕ, ◌<◌, ◌≤◌, List, [], ◌∷◌, ◌++◌, length, filter_map, IsSomeAnd, Contains, AllPairs}
+use Rattle.std.specs.Prelude.{◌≡◌, ◌≢◌, ℕ, ◌<◌, ◌≤◌, List, [], ◌∷◌, ◌++◌, length, filter_map, IsOk, IsSomeAnd, Contains, AllPairs}
 use Rattle.std.specs.List.{All, Any}
 use Rattle.wq_decl.specs.declared.directive.Directive.{Directive}
 use Rattle.wq_items.specs.declared.fault.ItemError.{ItemError}
 use Rattle.wq_items.specs.declared.fault.ItemError.TheVariants.{ItemTwice, UnknownItem, TooManyItems, TooManyFlushes, OutOfMemory}
+use Rattle.wq_items.specs.Building.{table_of}
 use Rattle.wq_items.specs.Flushes.{item_name, flushes, names_used}
 
 -- one of these lines declares an item of this name
@@ -34,3 +35,13 @@ pub record IsLowestFault (ds : List (ℕ × Directive)) (e : ItemError) : Type 0
   pub parts : ds ≡ before ++ (line ∷ after)
   pub faultless : IsFaultless before
   pub fault : IsFaultOfLine before line e
+
+-- ---- want of memory
+
+-- memory ran out at a line: the directives before it and its own have no fault
+pub record RanOut (ds : List (ℕ × Directive)) : Type 0 where
+  pub before : List (ℕ × Directive)
+  pub line : ℕ × Directive
+  pub after : List (ℕ × Directive)
+  pub parts : ds ≡ before ++ (line ∷ after)
+  pub faultless : IsOk (table_of (before ++ (line ∷ [])))

@@ -3,10 +3,12 @@
 //! Reading takes time in the number of the words of the declaration, and memory in the number of items and flushes.
 //! Afterwards each question is answered in constant time, but for `find`, which takes the time to hash a name.
 
-ghost use Rattle.std.specs.Prelude.{◌≡◌, ◌+◌, ◌^◌, ◌<◌, ◌≤◌, ℕ, length, Ok, IfOk, IfErr, IfSome, IsSome, OnOk, slice_get, slice_set, Some, IsTrue, ◌↔◌, ◌∷◌, ◌++◌, option_map};
+ghost use Rattle.std.specs.Prelude.{◌≡◌, ◌+◌, ◌^◌, ◌<◌, ◌≤◌, ℕ, length, Ok, IfOk, IfErr, IfSome, IsOk, IsSome, OnOk, slice_get, slice_set, Some, IsTrue, ◌↔◌, ◌∷◌, ◌++◌, option_map};
 ghost use Rattle.wq_decl.specs.Names.{is_name};
 ghost use Rattle.wq_decl.specs.Reading.{HasNames};
 ghost use Rattle.wq_items.specs.Table.{IsTable, item_named, targets_of};
+ghost use Rattle.wq_items.specs.declared.fault.ItemError.TheVariants.{OutOfMemory};
+ghost use Rattle.wq_items.specs.FirstFault.{RanOut};
 ghost use Rattle.wq_items.specs.Building.{table_of, declared, item_declared, flushes_declared, items_named, targets_from, empty_table, IsFaultOf};
 
 use crate::fault::ItemError;
@@ -93,6 +95,7 @@ impl<'a, A: Allocator + Copy> ItemTable<'a, A> {
     pub fn read(alloc: A, view: &DeclView<'a>) -> Result<Self, ItemError>
         ensures table { IfOk result (λ t. table_of view.now ≡ Ok t) }
         ensures fault { IfErr result (λ e. IsFaultOf e (table_of view.now)) }
+        ensures memory { IfErr result (λ e. e ≡ OutOfMemory → RanOut view.now) }
     {
         let mut table = ItemTable::empty(alloc);
         for (line, directive) in view.directives() {
@@ -106,6 +109,7 @@ impl<'a, A: Allocator + Copy> ItemTable<'a, A> {
         requires { HasNames directive }
         ensures table { IfOk result (λ t. declared self.entry line directive.entry ≡ Ok t) }
         ensures fault { IfErr result (λ e. IsFaultOf e (declared self.entry line directive.entry)) }
+        ensures memory { IfErr result (λ e. e ≡ OutOfMemory → IsOk (declared self.entry line directive.entry)) }
     {
         match directive {
             Directive::Item(name) => self.declare_item(alloc, line, name),
@@ -118,6 +122,7 @@ impl<'a, A: Allocator + Copy> ItemTable<'a, A> {
         requires { IsTrue (is_name name.bytes) }
         ensures table { IfOk result (λ t. item_declared self.entry line name.entry ≡ Ok t) }
         ensures fault { IfErr result (λ e. IsFaultOf e (item_declared self.entry line name.entry)) }
+        ensures memory { IfErr result (λ e. e ≡ OutOfMemory → IsOk (item_declared self.entry line name.entry)) }
     {
         let ItemTable {
             mut names,
@@ -164,6 +169,7 @@ impl<'a, A: Allocator + Copy> ItemTable<'a, A> {
     ) -> Result<Self, ItemError>
         ensures table { IfOk result (λ t. flushes_declared self.entry line (items_named self.entry.names (name.entry ∷ targets.entry)) ≡ Ok t) }
         ensures fault { IfErr result (λ e. IsFaultOf e (flushes_declared self.entry line (items_named self.entry.names (name.entry ∷ targets.entry)))) }
+        ensures memory { IfErr result (λ e. e ≡ OutOfMemory → IsOk (flushes_declared self.entry line (items_named self.entry.names (name.entry ∷ targets.entry)))) }
     {
         let Some(item) = self.names.find(name.bytes()) else {
             return Err(ItemError::UnknownItem { line });

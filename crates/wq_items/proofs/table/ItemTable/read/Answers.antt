@@ -1,0 +1,21 @@
+use Rattle.std.proofs.Common.{◌≡◌, ℕ, List, sym, subst, rules}
+use Rattle.std.specs.List.{AllByRecursion}
+use Rattle.wq_decl.specs.declared.directive.Directive.{Directive}
+use Rattle.wq_decl.specs.Reading.{HasNames}
+use Rattle.wq_items.proofs.ReadLemmas.{Made-none, Made-more}
+use Rattle.wq_items.proofs.table.ItemTable.read.Goals as goal
+
+pub loop-line-init : goal.loop-line-init
+loop-line-init g c =
+    let all : c.into_iter-line-iterator.result ≡ c.args.view.now = search rules in (
+      Made-none c.empty-table.result c.into_iter-line-iterator.result c.args.view.now c.empty-table.ensures all,
+      search rules,
+      subst (λ (ds : List (ℕ × Directive)). AllByRecursion (λ (d : ℕ × Directive). HasNames d.1) ds) (sym all) c.directives-line-items.ensures.names,
+    )
+
+pub loop-line-preserved : goal.loop-line-preserved
+loop-line-preserved g c = (
+  Made-more c.loop-line.table c.in_ok-table.table c.in-Some.line c.in-Some.directive c.loop-line.line-iterator c.next.new.self c.args.view.now c.in-Some.ensures.steps c.in_ok-table.ensures.table c.loop-line.invariant.0,
+  search rules,
+  search rules,
+)
