@@ -74,11 +74,11 @@ IsPlanned-prints t lanes lane chain table planned =
 
 -- ---- the text that was read, and the text that there was
 
-too_long : (text : List ℕ) → max_text < length text → declaration text ≡ Err (record { code = 1; line = 0 })
+pub too_long : (text : List ℕ) → max_text < length text → declaration text ≡ Err (record { code = 1; line = 0 })
 too_long text long = rw (lt-ltb max_text (length text) long) refl
 
 -- a text that is too long is known to be so by its front
-declaration-take : (bytes : List ℕ) → declaration (take (max_text + 1) bytes) ≡ declaration bytes
+pub declaration-take : (bytes : List ℕ) → declaration (take (max_text + 1) bytes) ≡ declaration bytes
 declaration-take bytes = elim (cases_lt (max_text + 1) (length bytes)) [
   | inl long ↦ too_long (take (max_text + 1) bytes) (omega (arith, length-take (max_text + 1) bytes)) ∙ sym (too_long bytes (omega arith))
   | inr whole ↦ ap declaration (take_all (max_text + 1) bytes whole)
