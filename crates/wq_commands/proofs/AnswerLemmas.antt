@@ -1,6 +1,7 @@
 -- What a text declares is a table, and its plan has a text.
 use Rattle.std.proofs.Common.{◌≡◌, ℕ, ◌+◌, ◌-◌, ◌<◌, ◌≤◌, ◌^◌, List, [], ◌∷◌, length, Option, Some, None, Result, Ok, Err, refl, sym, ap, subst, ◌∙◌, arith, inl, inr}
 use Rattle.std.proofs.lemmas.Bool.{cases_lt, lt-ltb}
+use Rattle.std.specs.Io.KnownBytes.{Consumes}
 use Rattle.std.specs.List.{All, Any}
 use Rattle.std.specs.Prelude.{IfSome, MatchResult, take}
 use Rattle.std.proofs.lemmas.List.{get_or_past, length-take, take_all}
@@ -25,7 +26,9 @@ use Rattle.wq_plan.specs.Solve.{IsPlanned}
 use Rattle.wq_commands.specs.declared.end.End.{End}
 use Rattle.wq_commands.specs.declared.end.End.TheVariants.{Good, Refused}
 use Rattle.wq_commands.specs.PlanText.{plan_text}
-use Rattle.wq_commands.specs.Answer.{Answers, AnswersTable, IsInput, refusal_text}
+use Rattle.wq_commands.specs.Answer.{Answers, AnswersTable, refusal_text}
+use Rattle.wq_commands.specs.Meter.{Meter, count_after}
+use Rattle.wq_commands.specs.Run.{IsInput, AnswersInput}
 use Rattle.wq_commands.specs.Declaration.{max_text, max_line, by_limits, by_directives, by_table, declaration}
 
 past_limits : (fault : Option TextError) (rest : Result Table Refusal) (t : Table) → by_limits fault rest ≡ Ok t → rest ≡ Ok t
@@ -74,29 +77,47 @@ IsPlanned-prints t lanes lane chain table planned =
 
 -- ---- the text that was read, and the text that there was
 
-too_long : (text : List ℕ) → max_text < length text → declaration text ≡ Err (record { code = 1; line = 0 })
+pub too_long : (text : List ℕ) → max_text < length text → declaration text ≡ Err (record { code = 1; line = 0 })
 too_long text long = rw (lt-ltb max_text (length text) long) refl
 
 -- a text that is too long is known to be so by its front
-declaration-take : (bytes : List ℕ) → declaration (take (max_text + 1) bytes) ≡ declaration bytes
+pub declaration-take : (bytes : List ℕ) → declaration (take (max_text + 1) bytes) ≡ declaration bytes
 declaration-take bytes = elim (cases_lt (max_text + 1) (length bytes)) [
   | inl long ↦ too_long (take (max_text + 1) bytes) (omega (arith, length-take (max_text + 1) bytes)) ∙ sym (too_long bytes (omega arith))
   | inr whole ↦ ap declaration (take_all (max_text + 1) bytes whole)
 ]
 
 -- the text that a reader had, where what was read is its front
-pub record HasRead (known : Option (List ℕ)) (read : List ℕ) : Type 0 where
-  pub text : List ℕ
-  pub input : IsInput known text
-  pub same : declaration read ≡ declaration text
+record HasRead (known : Option (List ℕ)) (read : List ℕ) : Type 0 where
+  text : List ℕ
+  input : IsInput known text
+  front : read ≡ take (max_text + 1) text
 
-pub HasRead-front : (known : Option (List ℕ)) (read : List ℕ) → IfSome known (λ bytes. read ≡ take (max_text + 1) bytes) → HasRead known read
-HasRead-front None read front = record { text = read; input = tt; same = refl }
-HasRead-front (Some bytes) read front = record { text = bytes; input = refl; same = ap declaration front ∙ declaration-take bytes }
+HasRead-front : (known : Option (List ℕ)) (read : List ℕ) → IfSome known (λ bytes. read ≡ take (max_text + 1) bytes) → length read ≤ max_text + 1 → HasRead known read
+HasRead-front None read front within = record { text = read; input = tt; front = sym (take_all (max_text + 1) read within) }
+HasRead-front (Some bytes) read front within = record { text = bytes; input = refl; front = front }
 
-pub Answers-same : (read text : List ℕ) (end : End) (out : List ℕ) → declaration read ≡ declaration text → Answers read end out → Answers text end out
+Answers-same : (read text : List ℕ) (end : End) (out : List ℕ) → declaration read ≡ declaration text → Answers read end out → Answers text end out
 Answers-same read text end out same answers =
     subst (λ (d : Result Table Refusal). MatchResult d (λ t. AnswersTable t end out) (λ r. (end ≡ Refused) × (out ≡ refusal_text r))) same answers
+
+-- the answer to what was read is that to the text that there was
+pub AnswersInput-read : {R : Type 0} (remaining : R → Option (List ℕ)) (old new : Meter R) (read : List ℕ) (end : End) (out : List ℕ)
+    → IfSome (remaining old.device) (λ bytes. read ≡ take (max_text + 1) bytes) → length read ≤ max_text + 1
+    → Consumes (remaining old.device) (remaining new.device) read → new.bytes ≡ count_after old.bytes (length read) → new.calls ≤ old.calls + (length read + 1)
+    → Answers read end out → AnswersInput remaining old new end out
+AnswersInput-read remaining old new read end out front within consumed counted few_calls answers =
+    let had = HasRead-front (remaining old.device) read front within in
+    record {
+      text = had.text;
+      input = had.input;
+      taken = record {
+        consumed = subst (Consumes (remaining old.device) (remaining new.device)) had.front consumed;
+        counted = subst (λ (bytes : List ℕ). new.bytes ≡ count_after old.bytes (length bytes)) had.front counted;
+        few_calls = subst (λ (bytes : List ℕ). new.calls ≤ old.calls + (length bytes + 1)) had.front few_calls;
+      };
+      answer = Answers-same read had.text end out (ap declaration had.front ∙ declaration-take had.text) answers;
+    }
 
 -- the text of a table's plan is the answer
 pub Answers-planned : (text : List ℕ) (t : Table) (lanes : ℕ) (lane : List ℕ) (chain : List (ℕ × ℕ)) (out : List ℕ) → declaration text ≡ Ok t

@@ -1,3 +1,5 @@
 pub mod AnswerLemmas
+pub mod Examples
 pub mod LineLemmas
 pub mod MeterLemmas
+pub mod Uniqueness

@@ -1,5 +1,5 @@
 -- The answer to a declaration text: what is printed, and how the run ends.
-use Rattle.std.specs.Prelude.{◌≡◌, ℕ, List, [], ◌∷◌, length, codes, decimal, MatchResult, IfSome, Option}
+use Rattle.std.specs.Prelude.{◌≡◌, ℕ, List, [], ◌∷◌, length, codes, decimal, MatchResult}
 use Rattle.wq_text.specs.Refusal.{Refusal}
 use Rattle.wq_items.specs.Table.{Table, ItemWaits}
 use Rattle.wq_items.specs.Chain.{HasCircle}
@@ -28,7 +28,3 @@ AnswersTable t Refused out = ⊥
 abbrev pub Answers : List ℕ → End → List ℕ → Type 0
 Answers text end out =
     MatchResult (declaration text) (λ t. AnswersTable t end out) (λ r. (end ≡ Refused) × (out ≡ refusal_text r))
-
--- the text is what a reader has left, where that is known
-abbrev pub IsInput : Option (List ℕ) → List ℕ → Type 0
-IsInput known text = IfSome known (λ bytes. text ≡ bytes)

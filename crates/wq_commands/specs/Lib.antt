@@ -9,4 +9,5 @@ pub mod Fault
 pub mod LineText
 pub mod Meter
 pub mod PlanText
+pub mod Run
 pub mod Stop

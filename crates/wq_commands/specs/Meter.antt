@@ -28,9 +28,22 @@ pub record LosesFront {R : Type 0} (remaining : R → Option (List ℕ)) (old ne
   pub consumed : Consumes (remaining old.device) (remaining new.device) lost
   pub counted : new.bytes ≡ count_after old.bytes (length lost)
 
--- a writer took the front of a text, and not all of it, and the bytes were counted
+-- a reader gave the front of a text, up to `most` bytes, and they were counted; each call but the last gave one at least
+pub record TakesFront {R : Type 0} (remaining : R → Option (List ℕ)) (old new : Meter R) (most : ℕ) (text : List ℕ) : Type 0 where
+  pub consumed : Consumes (remaining old.device) (remaining new.device) (take most text)
+  pub counted : new.bytes ≡ count_after old.bytes (length (take most text))
+  pub few_calls : new.calls ≤ old.calls + (length (take most text) + 1)
+
+-- a writer took a text, and the bytes were counted; each call took one at least
+pub record WritesWhole {W : Type 0} (contents : W → Option (List ℕ)) (old new : Meter W) (text : List ℕ) : Type 0 where
+  pub appended : Appends (contents old.device) (contents new.device) text
+  pub counted : new.bytes ≡ count_after old.bytes (length text)
+  pub few_calls : new.calls ≤ old.calls + length text
+
+-- a writer took the front of a text, and not all of it, and the bytes were counted; each call but the last took one at least
 pub record WritesFront {W : Type 0} (contents : W → Option (List ℕ)) (old new : Meter W) (text : List ℕ) : Type 0 where
   pub written : ℕ
   pub short : written < length text
   pub appended : Appends (contents old.device) (contents new.device) (take written text)
   pub counted : new.bytes ≡ count_after old.bytes written
+  pub few_calls : new.calls ≤ old.calls + (written + 1)

@@ -2,13 +2,14 @@
 //!
 //! Takes time in the length of the text, and memory in the items and the flushes.
 
-ghost use Rattle.std.specs.Prelude.{◌≡◌, Ok, Err, Result, IfOk, IfErr};
-ghost use Rattle.wq_text.specs.Limits.{text_refusal};
-ghost use Rattle.wq_decl.specs.Reading.{decl_refusal};
+ghost use Rattle.std.specs.Prelude.{◌≡◌, Ok, Err, None, Result, IfOk, IfErr};
+ghost use Rattle.wq_text.specs.Lines.{lines_of};
+ghost use Rattle.wq_text.specs.Limits.{limit_fault, text_refusal};
+ghost use Rattle.wq_decl.specs.Reading.{first_fault, decl_refusal};
 ghost use Rattle.wq_items.specs.Building.{item_refusal};
-ghost use Rattle.wq_commands.specs.Declaration.{declaration};
+ghost use Rattle.wq_commands.specs.Declaration.{declaration, max_text, max_line};
 ghost use Rattle.wq_commands.specs.Stop.{StopsAt, item_stop};
-ghost use Rattle.wq_commands.specs.declared.declaration.Stop.TheVariants.{Refused};
+ghost use Rattle.wq_commands.specs.declared.declaration.Stop.TheVariants.{Refused, OutOfMemory};
 
 use std::alloc::Allocator;
 use wq_decl::{DeclError, DeclView};
@@ -76,6 +77,9 @@ pub fn read_declaration<A: Allocator + Copy>(
 ) -> Result<ItemTable<'_, A>, Stop>
     ensures table { IfOk result (λ t. declaration text.now ≡ Ok t) }
     ensures stop { IfErr result (λ s. StopsAt s (declaration text.now)) }
+    // Only the third pass takes memory.
+    ensures first_passes { result ≡ Err OutOfMemory → (limit_fault max_text max_line text.now ≡ None)
+        × (first_fault (lines_of text.now) ≡ None) }
 {
     let text = Text::new(text, MAX_TEXT, MAX_LINE)?;
     let view = DeclView::new(text)?;

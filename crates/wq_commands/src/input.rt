@@ -34,6 +34,7 @@ pub fn read_text<R: Read, A: Allocator + Copy>(
     // What is asked of the reader, whatever the result.
     ensures calls { reader.new.calls ≤ reader.old.calls + (limit + 1) }
     ensures bytes { reader.new.bytes ≤ reader.old.bytes + (limit + 1) }
+    ensures few_calls { IfOk result (λ text. reader.new.calls ≤ reader.old.calls + (vec_len text + 1)) }
     ensures counted { IfOk result (λ text. reader.new.bytes ≡ count_after reader.old.bytes (vec_len text)) }
 
     // Which fault it is.

@@ -9,6 +9,7 @@ mod declaration;
 mod end;
 mod fault;
 mod input;
+pub mod laws;
 mod lines;
 mod metered;
 mod output;

@@ -3,10 +3,9 @@
 //! The answer is made whole before the first byte is written.
 
 ghost use Rattle.std.specs.Prelude.{◌≡◌, ◌≢◌, ◌≤◌, ◌+◌, ℕ, List, Err, IfOk};
-ghost use Rattle.std.specs.Io.KnownBytes.{Appends};
-ghost use Rattle.wq_commands.specs.Answer.{Answers, IsInput};
 ghost use Rattle.wq_commands.specs.Declaration.{max_text};
-ghost use Rattle.wq_commands.specs.Meter.{count_after, WritesFront};
+ghost use Rattle.wq_commands.specs.Meter.{count_after, LosesFront, WritesFront, WritesWhole};
+ghost use Rattle.wq_commands.specs.Run.{AnswersInput};
 ghost use Rattle.wq_commands.specs.declared.end.End.{End};
 
 use crate::answer::answer;
@@ -31,16 +30,17 @@ pub fn plan_cmd<R: Read, W: Write, A: Allocator + Copy>(
     writer: &mut Metered<W>,
 ) -> Result<End, Fault>
     // The answer to the text that the reader had is written, and nothing else.
-    ensures answered { IfOk result (λ end. (text out : List ℕ) × IsInput (R.remaining reader.old.device) text
-        × Answers text end out × Appends (W.contents writer.old.device) (W.contents writer.new.device) out) }
+    ensures answered { IfOk result (λ end. (out : List ℕ) × AnswersInput R.remaining reader.old reader.new end out
+        × WritesWhole W.contents writer.old writer.new out) }
 
     // What a fault leaves.
-    ensures front { result ≡ Err Fault.Write → (text out : List ℕ) × (end : End) × IsInput (R.remaining reader.old.device) text
-        × Answers text end out × WritesFront W.contents writer.old writer.new out }
+    ensures front { result ≡ Err Fault.Write → (end : End) × (out : List ℕ) × AnswersInput R.remaining reader.old reader.new end out
+        × WritesFront W.contents writer.old writer.new out }
     ensures untouched { result ≡ Err Fault.Memory → writer.new ≡ writer.old }
     ensures unwritten { result ≡ Err Fault.Read → writer.new ≡ writer.old }
 
     // What is asked of the reader, whatever the result.
+    ensures lost { LosesFront R.remaining reader.old reader.new (max_text + 1) }
     ensures reads { reader.new.calls ≤ reader.old.calls + (max_text + 1) }
     ensures bytes_read { reader.new.bytes ≤ reader.old.bytes + (max_text + 1) }
 
