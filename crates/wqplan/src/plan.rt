@@ -4,7 +4,8 @@
 //! seen.
 
 ghost use Rattle.std.specs.Prelude.{ℕ, List, IfOk};
-ghost use Rattle.wq_commands.specs.Answer.{Answers, IsInput};
+ghost use Rattle.wq_commands.specs.Answer.{Answers};
+ghost use Rattle.wq_commands.specs.Run.{IsInput};
 
 use std::io::{Read, Write};
 use std::rt::Files;
