@@ -100,9 +100,6 @@ check 'standard output that is closed' 3 '' 'fault write\n'
 timeout 60 "$program" --help </dev/null >/dev/full 2>err
 status=$?
 check 'help on a standard output that is full' 3 '' 'fault write\n'
-(ulimit -v 4096; exec "$program" plan largest) </dev/null >out 2>err
-status=$?
-check 'no memory for the text' 3 '' 'fault memory\n'
 
 # Command lines.
 run </dev/null

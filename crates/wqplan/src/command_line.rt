@@ -1,8 +1,11 @@
 //! The command line: which command its words ask for, and on what.
+//!
+//! It is read by `clap`: one command, and positional arguments alone. The time is linear in the words.
 
-ghost use Rattle.std.specs.Prelude.{◌≡◌, IfOk, map};
-ghost use Rattle.clap.specs.Words.{app_of};
-ghost use Rattle.wqplan.specs.CommandLine.{wqplan, Asks};
+ghost use Rattle.std.specs.Prelude.{◌≡◌, ℕ, List, Option, IfOk, MatchResult, map};
+ghost use Rattle.clap.specs.Words.{app_of, kind_of};
+ghost use Rattle.clap.specs.declared.error.kind.ErrorKind.TheVariants.{OutOfMemory};
+ghost use Rattle.wqplan.specs.CommandLine.{wqplan, Asks, IsPlan, PlansFile};
 
 use crate::help;
 use clap::error::ErrorKind;
@@ -46,7 +49,9 @@ fn program<'a>(alloc: Global) -> Result<Command<'a>, AllocError>
 ///
 /// The error is a mistake in the words, a request for help or the version, or want of memory.
 pub(crate) fn parse<'a, S: AsStr>(alloc: Global, words: &'a [S]) -> Result<Request<'a>, Error>
-    ensures { IfOk result (Asks (map S.text words.entry.now)) }
+    ensures asked { IfOk result (Asks (map S.text words.entry.now)) }
+    ensures plan { (file : Option (List ℕ)) → IsPlan (map S.text words.entry.now) file
+        → MatchResult result (PlansFile file) (λ e. kind_of e ≡ OutOfMemory) }
 {
     let mut command = program(alloc)?;
     let matches = command.try_get_matches_from_mut(words)?;
@@ -54,6 +59,7 @@ pub(crate) fn parse<'a, S: AsStr>(alloc: Global, words: &'a [S]) -> Result<Reque
         Some(plan) => Ok(Request::Plan {
             file: plan.get_str("FILE"),
         }),
+        // `help` is a command too, but the parse itself answers it.
         None => Err(command.error(ErrorKind::MissingSubcommand, "a command is needed")?),
     }
 }

@@ -4,6 +4,8 @@
 //! fault. A line that can't be written to standard error is lost: the status says the same.
 
 ghost use Rattle.std.specs.Prelude.{◌≡◌, ◌≢◌, ◌⊎◌};
+ghost use Rattle.std.specs.IoError.{error_kind};
+ghost use Rattle.std.specs.declared.io.ErrorKind.TheVariants.{OutOfMemory as NoMemory};
 ghost use Rattle.clap.specs.Words.{kind_of};
 ghost use Rattle.clap.specs.declared.error.kind.ErrorKind.{ErrorKind};
 ghost use Rattle.wqplan.specs.Status.{status_of};
@@ -42,7 +44,8 @@ pub(crate) fn answered(rt: &impl Eprint, outcome: Result<End, Fault>) -> u8
 
 /// The status where the words of the command line couldn't be read.
 pub(crate) fn unread(rt: &impl Eprint, error: &io::Error) -> u8
-    ensures { (result ≡ 2) ⊎ (result ≡ 3) }
+    ensures memory { error_kind error.now ≡ NoMemory → result ≡ 3 }
+    ensures mistake { error_kind error.now ≢ NoMemory → result ≡ 2 }
 {
     if error.kind() == io::ErrorKind::OutOfMemory {
         return faulted(rt, Fault::Memory);

@@ -1,24 +1,27 @@
 //! What help says of the program and its commands.
 
 /// What the program is for.
-pub(crate) const PROGRAM: &str = "Plans workqueues with WQ_MEM_RECLAIM: says which work item goes on which workqueue, so \
-that no item shares one with an item that it waits for.";
+pub(crate) const PROGRAM: &str = "\
+Plans workqueues with WQ_MEM_RECLAIM: says which work item goes on which workqueue,
+so that no item shares one with an item that it waits for.";
 
 /// What `plan` reads and prints.
-pub(crate) const PLAN: &str = "Reads a declaration of work items and of their flushes, and prints a plan for them";
+pub(crate) const PLAN: &str =
+    "Reads a declaration of work items and their flushes, and prints a plan for them";
 
 /// What FILE is.
 pub(crate) const FILE: &str = "The declaration. Without FILE it is read from standard input";
 
-/// What the program returns, and where the formats are described.
+/// What is printed and returned, and where the formats are described.
 pub(crate) const STATUSES: &str = "\
-`plan` prints one answer to standard output: a plan, the line `circle`, or a line `refused CODE line N`.
+`plan` prints one answer to standard output: a plan, the line `circle`, or a line
+`refused CODE line N`.
 
 Exit status:
-  0  a plan was printed, or this help or the version
+  0  a plan was printed; or help or the version was
   1  `circle` was printed: the items wait in a circle, so there is no plan
-  2  a refusal was printed: the text is no declaration. Or the command line was wrong, which is
-     said on standard error
-  3  a fault: `fault memory`, `fault read` or `fault write` was printed to standard error
+  2  a refusal was printed: the text is no declaration. Or the command line is wrong;
+     then standard error says how, and nothing was read
+  3  a fault: standard error has the line `fault memory`, `fault read` or `fault write`
 
-docs/FORMAT.md describes declarations, answers and the numbers of refusals.";
+docs/FORMAT.md describes declarations, answers, and what each refusal's CODE means.";

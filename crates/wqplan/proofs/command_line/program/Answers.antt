@@ -1,7 +1,7 @@
-use Rattle.std.proofs.Common.{rules, true, ap, ap₂, refl, codes, ◌≡◌, ◌∙◌}
+use Rattle.std.proofs.Common.{rules, true, ap, ap₂, codes, ◌≡◌, ◌∙◌}
 use Rattle.std.proofs.lemmas.Result.{IfOk-weaker}
-use Rattle.clap.specs.Words.{App, Rule, app_of, new_app, new_rule, rule_of, with_rule, with_subcommand}
-use Rattle.wqplan.specs.CommandLine.{wqplan, plan}
+use Rattle.clap.specs.Words.{App, app_of, new_app, new_rule, rule_of, with_rule, with_subcommand}
+use Rattle.wqplan.specs.CommandLine.{plan}
 use Rattle.wqplan.proofs.command_line.program.Goals as goal
 
 pub returns : goal.returns
