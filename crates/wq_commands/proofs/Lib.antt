@@ -2,4 +2,5 @@ pub mod AnswerLemmas
 pub mod Examples
 pub mod LineLemmas
 pub mod MeterLemmas
+pub mod TextLength
 pub mod Uniqueness

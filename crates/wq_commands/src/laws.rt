@@ -2,9 +2,12 @@
 //!
 //! The examples are computed on the definitions, so that a reader can hold these against the format's own.
 
-ghost use Rattle.std.specs.Prelude.{◌≡◌, ℕ, ◌+◌, ◌<◌, List, length, take, codes, Err};
+ghost use Rattle.std.specs.Prelude.{◌≡◌, ℕ, ◌+◌, ◌<◌, ◌≤◌, List, length, take, codes, Err};
+ghost use Rattle.wq_items.specs.Table.{Table, IsTable};
+ghost use Rattle.wq_plan.specs.Plan.{IsPlan, lanes_of, chain_of};
 ghost use Rattle.wq_commands.specs.Answer.{Answers};
 ghost use Rattle.wq_commands.specs.Declaration.{declaration, max_text};
+ghost use Rattle.wq_commands.specs.PlanText.{plan_text};
 ghost use Rattle.wq_commands.specs.declared.end.End.{End};
 ghost use Rattle.wq_commands.specs.declared.end.End.TheVariants.{Good, Bad, Refused};
 
@@ -19,6 +22,12 @@ pub fn a_text_has_one_answer()
 pub fn a_long_text_is_refused_by_its_front()
     ensures refused { (text : List ℕ) → max_text < length text → declaration text ≡ Err (record { code = 1; line = 0 }) }
     ensures front { (text : List ℕ) → declaration (take (max_text + 1) text) ≡ declaration text }
+{}
+
+/// The text of a plan has at most 8,388,608 bytes, so whoever reads it back can set a limit.
+pub fn a_plan_text_is_within_the_limits()
+    ensures { (t : Table) (lane : List ℕ) → IsTable t → IsPlan t.waits (length t.names) lane →
+        length (plan_text t.names (lanes_of lane) lane (chain_of t.waits lane)) ≤ 8388608 }
 {}
 
 /// Of two items the one that flushes the other is on the workqueue above it.

@@ -1,0 +1,5 @@
+use Rattle.wq_commands.proofs.TextLength.{length-planned}
+use Rattle.wq_commands.proofs.laws.a_plan_text_is_within_the_limits.Goals as goal
+
+pub returns : goal.returns
+returns c = length-planned
