@@ -175,7 +175,7 @@ module _ (names : List (List ℕ)) (lane : List ℕ) (named : All (λ (name : Li
 pub length-planned : (t : Table) (lane : List ℕ) → IsTable t → IsPlan t.waits (length t.names) lane
     → length (plan_text t.names (lanes_of lane) lane (chain_of t.waits lane)) ≤ 8388608
 length-planned t lane table plan =
-    let longest : IsLongestChain t.waits lane (chain_of t.waits lane) = chain_of-longest t.waits (length t.names) lane table.targets plan in
-    let few : lanes_of lane ≤ length t.names = IsPlan-lanes t.waits (length t.names) lane plan table.targets in
-    length-plan_text t.names lane table.named (lanes_of lane) (chain_of t.waits lane) (omega (arith, table.items)) (omega (arith, plan.one_each, table.items))
-    (omega (arith, longest.count, table.items))
+    let longest : IsLongestChain t.waits lane (chain_of t.waits lane) = chain_of-longest t.waits (length t.names) lane table.targets_are_items table.places_rise plan in
+    let few : lanes_of lane ≤ length t.names = IsPlan-lanes t.waits (length t.names) lane plan table.targets_are_items in
+    length-plan_text t.names lane table.named (lanes_of lane) (chain_of t.waits lane) (omega (arith, table.few_items)) (omega (arith, plan.one_each, table.few_items))
+    (omega (arith, longest.count, table.few_items))
