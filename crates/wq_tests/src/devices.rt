@@ -1,7 +1,7 @@
 //! Readers that give little, never end or fail, and writers that take little, nothing or fail.
 
 use crate::answers::lines_of;
-use crate::fakes::{Endless, FailsAfter, Takes};
+use crate::fakes::{Endless, Fake};
 use std::io::ErrorKind;
 use std::test::Fail;
 use wq_commands::{End, Fault, Metered, plan_cmd, read_text, write_text};
@@ -19,18 +19,13 @@ fn counts<D>(metered: &Metered<D>) -> (u64, u64, u64) {
 #[test]
 fn pieces_change_no_answer(rt: HostRuntime) -> Result<(), Fail> {
     for (reads, writes) in [(1, 1), (1, 5), (5, 1), (7, 9), (24, 38)] {
-        let mut reader = Metered::new(Takes {
-            device: TEXT,
-            at_most: reads,
-        });
-        let mut writer = Metered::new(Takes {
-            device: Vec::new(rt.alloc()),
-            at_most: writes,
-        });
+        let mut reader = Metered::new(Fake::in_pieces(TEXT, reads));
+        let mut writer = Metered::new(Fake::in_pieces(Vec::new(rt.alloc()), writes));
         let end = plan_cmd(rt.alloc(), &mut reader, &mut writer)?;
+        let written = writer.into_inner().device;
         assert_eq!(rt; end, End::Good, "{reads} and {writes} bytes a call");
         assert_eq!(rt;
-            writer.into_inner().device.as_slice(),
+            written.as_slice(),
             ANSWER,
             "{reads} and {writes} bytes a call"
         );
@@ -43,14 +38,7 @@ fn each_failed_read_is_a_fault(rt: HostRuntime) -> Result<(), Fail> {
     for kind in [ErrorKind::Interrupted, ErrorKind::Other] {
         // A call for each byte, and one that finds the end.
         for successes in 0..25u32 {
-            let mut reader = Metered::new(FailsAfter {
-                device: Takes {
-                    device: TEXT,
-                    at_most: 1,
-                },
-                successes,
-                kind,
-            });
+            let mut reader = Metered::new(Fake::failing_after(TEXT, successes, kind));
             let mut writer = Metered::new(Vec::new(rt.alloc()));
             let outcome = plan_cmd(rt.alloc(), &mut reader, &mut writer);
             let before = u64::from(successes);
@@ -68,39 +56,31 @@ fn each_failed_read_is_a_fault(rt: HostRuntime) -> Result<(), Fail> {
 
 #[test]
 fn a_reader_without_end_is_left(rt: HostRuntime) -> Result<(), Fail> {
-    for at_most in [1, 1000, 1_048_577, 2_000_000] {
-        let mut reader = Metered::new(Takes {
+    for (at_most, successes, want) in [
+        (1, u32::MAX, Ok(End::Refused)),
+        (1000, u32::MAX, Ok(End::Refused)),
+        (2_000_000, u32::MAX, Ok(End::Refused)),
+        // Whatever follows so many bytes.
+        (1, 1_048_577, Ok(End::Refused)),
+        (1, 1_048_576, Err(Fault::Read)),
+    ] {
+        let mut reader = Metered::new(Fake {
             device: Endless,
             at_most,
-        });
-        let mut writer = Metered::new(Vec::new(rt.alloc()));
-        let end = plan_cmd(rt.alloc(), &mut reader, &mut writer)?;
-        assert_eq!(rt; end, End::Refused, "{at_most} bytes a call");
-        assert_eq!(rt;
-            writer.into_inner().as_slice(),
-            b"refused 1 line 0\n".as_slice(),
-            "{at_most} bytes a call"
-        );
-        assert_eq!(rt; reader.bytes(), 1_048_577, "{at_most} bytes a call");
-        assert!(rt; reader.calls() <= 1_048_577, "{at_most} bytes a call");
-    }
-    Ok(())
-}
-
-#[test]
-fn what_follows_a_text_too_long_is_not_read(rt: HostRuntime) -> Result<(), Fail> {
-    for (successes, want) in [(1_048_576, Err(Fault::Read)), (1_048_577, Ok(End::Refused))] {
-        let mut reader = Metered::new(FailsAfter {
-            device: Takes {
-                device: Endless,
-                at_most: 1,
-            },
             successes,
             kind: ErrorKind::Other,
         });
         let mut writer = Metered::new(Vec::new(rt.alloc()));
         let outcome = plan_cmd(rt.alloc(), &mut reader, &mut writer);
-        assert_eq!(rt; outcome, want, "after {successes} reads");
+        let written = writer.into_inner();
+        assert_eq!(rt; outcome, want, "{at_most} bytes a call");
+        if outcome.is_ok() {
+            assert_eq!(rt; written.as_slice(), b"refused 1 line 0\n".as_slice());
+        } else {
+            assert!(rt; written.is_empty());
+        }
+        assert!(rt; reader.bytes() <= 1_048_577, "{at_most} bytes a call");
+        assert!(rt; reader.calls() <= 1_048_577, "{at_most} bytes a call");
     }
     Ok(())
 }
@@ -113,33 +93,24 @@ fn each_failed_write_is_a_fault(rt: HostRuntime) -> Result<(), Fail> {
         ("item a / item a", b"refused 7 line 2\n"),
     ] {
         let text = lines_of(rt.alloc(), row)?;
-        for kind in [ErrorKind::Interrupted, ErrorKind::Other] {
-            let mut successes = 0u32;
-            for written in 0..answer.len() {
-                let mut writer = Metered::new(FailsAfter {
-                    device: Takes {
-                        device: Vec::new(rt.alloc()),
-                        at_most: 1,
-                    },
-                    successes,
-                    kind,
-                });
-                let mut reader = Metered::new(text.as_slice());
-                let outcome = plan_cmd(rt.alloc(), &mut reader, &mut writer);
-                let before = u64::from(successes);
-                assert_eq!(rt;
-                    outcome,
-                    Err(Fault::Write),
-                    "{row}: after {successes} writes"
-                );
-                assert_eq!(rt; counts(&writer), (before + 1, before, 1), "{row}");
-                assert_eq!(rt;
-                    writer.into_inner().device.device.as_slice(),
-                    &answer[..written],
-                    "{row}: after {successes} writes"
-                );
-                successes += 1;
-            }
+        for taken in 0..answer.len() {
+            let successes = u32::try_from(taken)?;
+            let fake = Fake::failing_after(Vec::new(rt.alloc()), successes, ErrorKind::Interrupted);
+            let mut writer = Metered::new(fake);
+            let outcome = plan_cmd(rt.alloc(), &mut Metered::new(text.as_slice()), &mut writer);
+            let before = u64::from(successes);
+            assert_eq!(rt; outcome, Err(Fault::Write), "{row}: after {taken} writes");
+            assert_eq!(rt;
+                counts(&writer),
+                (before + 1, before, 1),
+                "{row}: after {taken} writes"
+            );
+            let written = writer.into_inner().device;
+            assert_eq!(rt;
+                written.as_slice(),
+                &answer[..taken],
+                "{row}: after {taken} writes"
+            );
         }
     }
     Ok(())
@@ -147,10 +118,7 @@ fn each_failed_write_is_a_fault(rt: HostRuntime) -> Result<(), Fail> {
 
 #[test]
 fn a_writer_that_takes_nothing_is_left(rt: HostRuntime) -> Result<(), Fail> {
-    let mut writer = Metered::new(Takes {
-        device: Vec::new(rt.alloc()),
-        at_most: 0,
-    });
+    let mut writer = Metered::new(Fake::in_pieces(Vec::new(rt.alloc()), 0));
     assert_eq!(rt; write_text(&mut writer, b""), Ok(()));
     assert_eq!(rt; counts(&writer), (0, 0, 0));
     let outcome = plan_cmd(rt.alloc(), &mut Metered::new(TEXT), &mut writer);
@@ -169,10 +137,7 @@ fn one_byte_past_the_limit_is_read(rt: HostRuntime) -> Result<(), Fail> {
         (6, "abcdef", ""),
         (u32::MAX, "abcdef", ""),
     ] {
-        let mut reader = Metered::new(Takes {
-            device: b"abcdef".as_slice(),
-            at_most: 1,
-        });
+        let mut reader = Metered::new(Fake::in_pieces(b"abcdef".as_slice(), 1));
         let text = read_text(rt.alloc(), &mut reader, limit)?;
         assert_eq!(rt; text.as_slice(), front.as_bytes(), "limit {limit}");
         assert_eq!(rt;

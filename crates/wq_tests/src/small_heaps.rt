@@ -40,15 +40,15 @@ fn want_of_memory_changes_no_answer(rt: HostRuntime) -> Result<(), Fail> {
     ] {
         let text = lines_of(rt.alloc(), row)?;
         let answer = lines_of(rt.alloc(), answer)?;
-        let mut refused = 0u32;
-        let mut answered = 0u32;
+        let mut refused = false;
+        let mut answered = false;
         for size in (0..4096usize).step_by(16) {
             let (outcome, written, left) = run_in(rt.alloc(), size, &text)?;
             assert_eq!(rt; left, 0, "{row}: a heap of {size} bytes");
             if outcome == Err(Fault::Memory) {
                 assert!(rt; written.is_empty(), "{row}: a heap of {size} bytes");
-                assert_eq!(rt; answered, 0, "{row}: a heap of {size} bytes");
-                refused += 1;
+                assert!(rt; !answered, "{row}: a heap of {size} bytes");
+                refused = true;
             } else {
                 assert_eq!(rt; outcome, Ok(end), "{row}: a heap of {size} bytes");
                 assert_eq!(rt;
@@ -56,12 +56,12 @@ fn want_of_memory_changes_no_answer(rt: HostRuntime) -> Result<(), Fail> {
                     answer.as_slice(),
                     "{row}: a heap of {size} bytes"
                 );
-                answered += 1;
+                answered = true;
             }
         }
         assert!(rt;
-            refused > 0 && answered > 0,
-            "{row}: {refused} and {answered}"
+            refused && answered,
+            "{row}: refused {refused}, answered {answered}"
         );
     }
     Ok(())
