@@ -168,8 +168,16 @@ module _ (names : List (List ℕ)) (lane : List ℕ) (named : All (λ (name : Li
       let arcs = flat_map line_text (map (arc_line names) chain) in
       subst (λ (bytes : List ℕ). length bytes ≤ 8388608)
       (plan_text-parts (plan_line lanes) (map (wq_line names lane) (range_with_len 0 lanes)) (chain_line lanes chain) (map (arc_line names) chain))
-      (omega (arith, length-append ((first ++ wqs) ++ middle) arcs, length-append (first ++ wqs) middle, length-append first wqs,
-      length-plan_line lanes few, length-wq_lines lanes few, length-chain_line lanes chain short, length-arc_lines chain))
+      (omega (
+        arith,
+        length-append ((first ++ wqs) ++ middle) arcs,
+        length-append (first ++ wqs) middle,
+        length-append first wqs,
+        length-plan_line lanes few,
+        length-wq_lines lanes few,
+        length-chain_line lanes chain short,
+        length-arc_lines chain,
+      ))
 
 -- a plan of a table
 pub length-planned : (t : Table) (lane : List ℕ) → IsTable t → IsPlan t.waits (length t.names) lane

@@ -1,0 +1,170 @@
+//! Readers that give little, never end or fail, and writers that take little, nothing or fail.
+
+use crate::answers::lines_of;
+use crate::fakes::{Endless, Fake};
+use std::io::ErrorKind;
+use std::test::Fail;
+use wq_commands::{End, Fault, Metered, plan_cmd, read_text, write_text};
+
+/// A declaration of 24 bytes, and its answer.
+const TEXT: &[u8] = b"item a\nitem b\nflush a b\n";
+
+const ANSWER: &[u8] = b"plan 2\nwq 0 b\nwq 1 a\nchain 2\narc a b\n";
+
+/// What was counted: the calls, the bytes and the failures.
+fn counts<D>(metered: &Metered<D>) -> (u64, u64, u64) {
+    (metered.calls(), metered.bytes(), metered.failures())
+}
+
+#[test]
+fn pieces_change_no_answer(rt: HostRuntime) -> Result<(), Fail> {
+    for (reads, writes) in [(1, 1), (1, 5), (5, 1), (7, 9), (24, 38)] {
+        let mut reader = Metered::new(Fake::in_pieces(TEXT, reads));
+        let mut writer = Metered::new(Fake::in_pieces(Vec::new(rt.alloc()), writes));
+        let end = plan_cmd(rt.alloc(), &mut reader, &mut writer)?;
+        let written = writer.into_inner().device;
+        assert_eq!(rt; end, End::Good, "{reads} and {writes} bytes a call");
+        assert_eq!(rt;
+            written.as_slice(),
+            ANSWER,
+            "{reads} and {writes} bytes a call"
+        );
+    }
+    Ok(())
+}
+
+#[test]
+fn each_failed_read_is_a_fault(rt: HostRuntime) -> Result<(), Fail> {
+    for kind in [ErrorKind::Interrupted, ErrorKind::Other] {
+        // A call for each byte, and one that finds the end.
+        for successes in 0..25u32 {
+            let mut reader = Metered::new(Fake::failing_after(TEXT, successes, kind));
+            let mut writer = Metered::new(Vec::new(rt.alloc()));
+            let outcome = plan_cmd(rt.alloc(), &mut reader, &mut writer);
+            let before = u64::from(successes);
+            assert_eq!(rt; outcome, Err(Fault::Read), "after {successes} reads");
+            assert_eq!(rt;
+                counts(&reader),
+                (before + 1, before, 1),
+                "after {successes} reads"
+            );
+            assert_eq!(rt; counts(&writer), (0, 0, 0), "after {successes} reads");
+        }
+    }
+    Ok(())
+}
+
+#[test]
+fn a_reader_without_end_is_left(rt: HostRuntime) -> Result<(), Fail> {
+    for (at_most, successes, want) in [
+        (1, u32::MAX, Ok(End::Refused)),
+        (1000, u32::MAX, Ok(End::Refused)),
+        (2_000_000, u32::MAX, Ok(End::Refused)),
+        // Whatever follows so many bytes.
+        (1, 1_048_577, Ok(End::Refused)),
+        (1, 1_048_576, Err(Fault::Read)),
+    ] {
+        let mut reader = Metered::new(Fake {
+            device: Endless,
+            at_most,
+            successes,
+            kind: ErrorKind::Other,
+        });
+        let mut writer = Metered::new(Vec::new(rt.alloc()));
+        let outcome = plan_cmd(rt.alloc(), &mut reader, &mut writer);
+        let written = writer.into_inner();
+        assert_eq!(rt; outcome, want, "{at_most} bytes a call");
+        if outcome.is_ok() {
+            assert_eq!(rt; written.as_slice(), b"refused 1 line 0\n".as_slice());
+        } else {
+            assert!(rt; written.is_empty());
+        }
+        assert!(rt; reader.bytes() <= 1_048_577, "{at_most} bytes a call");
+        assert!(rt; reader.calls() <= 1_048_577, "{at_most} bytes a call");
+    }
+    Ok(())
+}
+
+#[test]
+fn each_failed_write_is_a_fault(rt: HostRuntime) -> Result<(), Fail> {
+    for (row, answer) in [
+        ("item a / item b / flush a b", ANSWER),
+        ("item a / flush a a", b"circle\n"),
+        ("item a / item a", b"refused 7 line 2\n"),
+    ] {
+        let text = lines_of(rt.alloc(), row)?;
+        for taken in 0..answer.len() {
+            let successes = u32::try_from(taken)?;
+            let fake = Fake::failing_after(Vec::new(rt.alloc()), successes, ErrorKind::Interrupted);
+            let mut writer = Metered::new(fake);
+            let outcome = plan_cmd(rt.alloc(), &mut Metered::new(text.as_slice()), &mut writer);
+            let before = u64::from(successes);
+            assert_eq!(rt; outcome, Err(Fault::Write), "{row}: after {taken} writes");
+            assert_eq!(rt;
+                counts(&writer),
+                (before + 1, before, 1),
+                "{row}: after {taken} writes"
+            );
+            let written = writer.into_inner().device;
+            assert_eq!(rt;
+                written.as_slice(),
+                &answer[..taken],
+                "{row}: after {taken} writes"
+            );
+        }
+    }
+    Ok(())
+}
+
+#[test]
+fn a_writer_that_takes_nothing_is_left(rt: HostRuntime) -> Result<(), Fail> {
+    let mut writer = Metered::new(Fake::in_pieces(Vec::new(rt.alloc()), 0));
+    assert_eq!(rt; write_text(&mut writer, b""), Ok(()));
+    assert_eq!(rt; counts(&writer), (0, 0, 0));
+    let outcome = plan_cmd(rt.alloc(), &mut Metered::new(TEXT), &mut writer);
+    assert_eq!(rt; outcome, Err(Fault::Write));
+    assert_eq!(rt; counts(&writer), (1, 0, 1));
+    assert!(rt; writer.into_inner().device.is_empty());
+    Ok(())
+}
+
+#[test]
+fn one_byte_past_the_limit_is_read(rt: HostRuntime) -> Result<(), Fail> {
+    for (limit, front, rest) in [
+        (0, "a", "bcdef"),
+        (2, "abc", "def"),
+        (5, "abcdef", ""),
+        (6, "abcdef", ""),
+        (u32::MAX, "abcdef", ""),
+    ] {
+        let mut reader = Metered::new(Fake::in_pieces(b"abcdef".as_slice(), 1));
+        let text = read_text(rt.alloc(), &mut reader, limit)?;
+        assert_eq!(rt; text.as_slice(), front.as_bytes(), "limit {limit}");
+        assert_eq!(rt;
+            reader.into_inner().device,
+            rest.as_bytes(),
+            "limit {limit}"
+        );
+    }
+    Ok(())
+}
+
+#[test]
+fn ends_and_faults_have_their_numbers_and_words(rt: HostRuntime) -> Result<(), Fail> {
+    for (end, status) in [(End::Good, 0), (End::Bad, 1), (End::Refused, 2)] {
+        assert_eq!(rt; end.status(), status, "{end:?}");
+    }
+    for (fault, words) in [
+        (Fault::Memory, "fault memory"),
+        (Fault::Read, "fault read"),
+        (Fault::Write, "fault write"),
+    ] {
+        assert_eq!(rt; fault.text(), words, "{fault:?}");
+        assert_eq!(rt;
+            format!(in rt.alloc(); "{fault}")?.as_str(),
+            words,
+            "{fault:?}"
+        );
+    }
+    Ok(())
+}

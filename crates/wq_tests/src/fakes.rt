@@ -1,0 +1,79 @@
+//! Readers and writers that misbehave, which no clause of `std` describes. Each call takes time in the bytes it moves.
+
+ghost use Rattle.std.specs.Prelude.{◌≤◌, IfOk};
+
+use std::io;
+use std::io::{ErrorKind, Read, Write};
+
+/// Fills the buffer at each call, and never ends.
+#[derive(Drop)]
+pub(crate) struct Endless;
+
+impl Read for Endless {
+    fn read(&mut self, buffer: &mut [u8]) -> io::Result<usize> {
+        buffer.fill(b'x');
+        Ok(buffer.len())
+    }
+}
+
+/// Moves at most so many bytes a call, and has one call fail after so many that succeed.
+#[derive(Drop)]
+pub(crate) struct Fake<D> {
+    pub(crate) device: D,
+    pub(crate) at_most: usize,
+    pub(crate) successes: u32,
+    pub(crate) kind: ErrorKind,
+}
+
+impl<D> Fake<D> {
+    /// None of the first four thousand million calls fails.
+    pub(crate) fn in_pieces(device: D, at_most: usize) -> Fake<D> {
+        Fake {
+            device,
+            at_most,
+            successes: u32::MAX,
+            kind: ErrorKind::Other,
+        }
+    }
+
+    /// Each call but the one that fails moves one byte.
+    pub(crate) fn failing_after(device: D, successes: u32, kind: ErrorKind) -> Fake<D> {
+        Fake {
+            device,
+            at_most: 1,
+            successes,
+            kind,
+        }
+    }
+
+    /// How many of so many bytes are moved, if this call doesn't fail.
+    fn count(&mut self, bytes: usize) -> io::Result<usize>
+        ensures { IfOk result (λ count. count ≤ bytes) }
+    {
+        let fails = self.successes == 0;
+        self.successes = self.successes.wrapping_sub(1);
+        if fails {
+            Err(io::Error::from(self.kind))
+        } else {
+            Ok(self.at_most.min(bytes))
+        }
+    }
+}
+
+impl<R: Read> Read for Fake<R> {
+    fn read(&mut self, buffer: &mut [u8]) -> io::Result<usize> {
+        let count = self.count(buffer.len())?;
+        self.device.read(&mut buffer[..count])
+    }
+}
+
+impl<W: Write> Write for Fake<W> {
+    fn write(&mut self, bytes: &[u8]) -> io::Result<usize> {
+        let count = self.count(bytes.len())?;
+        self.device.write(&bytes[..count])
+    }
+
+    fn flush(&mut self) -> io::Result<()> {
+        self.device.flush()
+    }
+}
