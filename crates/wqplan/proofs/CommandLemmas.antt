@@ -4,7 +4,7 @@ use Rattle.std.specs.Prelude.{option_map, unwrap_or}
 use Rattle.clap.specs.Words.{Row, Text, first_of, is_simple, takes}
 use Rattle.clap.specs.Lexer.{long_of, short_of}
 use Rattle.clap.proofs.OnLiterals.{clap_on_literals}
-use Rattle.wqplan.specs.CommandLine.{wqplan, named, is_no_option, IsPlan}
+use Rattle.wqplan.specs.CommandLine.{wqplan, named, is_no_option, CallsPlan}
 
 -- the matches of the program's words are those that `subcommand_of` gives
 pub wqplan_is_simple : is_simple wqplan ≡ true
@@ -60,13 +60,13 @@ named_file program (x ∷ xs) plain = go (x == 45) refl plain
         rw (no_long, no_short, e) refl
 
 -- the words of a plan are taken, and name `plan` and FILE
-pub takes_is_plan : (words : List Text) (file : Option Text) → IsPlan words file → takes wqplan words ≡ true
-takes_is_plan words None (program, are) = ap (takes wqplan) are ∙ takes_plan program
-takes_is_plan words (Some file) (program, are, plain) = ap (takes wqplan) are ∙ takes_file program file plain
+pub takes_CallsPlan : (words : List Text) (file : Option Text) → CallsPlan words file → takes wqplan words ≡ true
+takes_CallsPlan words None (program, are) = ap (takes wqplan) are ∙ takes_plan program
+takes_CallsPlan words (Some file) (program, are, plain) = ap (takes wqplan) are ∙ takes_file program file plain
 
-pub named_is_plan : (words : List Text) (file : Option Text) → IsPlan words file → named words ≡ Some (codes "plan", file)
-named_is_plan words None (program, are) = ap named are ∙ named_plan program
-named_is_plan words (Some file) (program, are, plain) = ap named are ∙ named_file program file plain
+pub named_CallsPlan : (words : List Text) (file : Option Text) → CallsPlan words file → named words ≡ Some (codes "plan", file)
+named_CallsPlan words None (program, are) = ap named are ∙ named_plan program
+named_CallsPlan words (Some file) (program, are, plain) = ap named are ∙ named_file program file plain
 
 -- what holds of an error holds of the result that has it
 pub failed_with : {T E : Type 0} (r : Result T E) (e : E) (P : T → Type 0) (Q : E → Type 0) → IsErrAnd r (λ y. y ≡ e) → Q e → MatchResult r P Q

@@ -28,9 +28,9 @@ is_no_option [] = true
 is_no_option (x ∷ xs) = not (x == 45)
 
 -- the words are the program's name and `plan`, and behind them FILE, if there is one
-abbrev pub IsPlan : List Text → Option Text → Type 0
-IsPlan words None = (program : Text) × (words ≡ program ∷ codes "plan" ∷ [])
-IsPlan words (Some file) = (program : Text) × (words ≡ program ∷ codes "plan" ∷ file ∷ []) × (is_no_option file ≡ true)
+abbrev pub CallsPlan : List Text → Option Text → Type 0
+CallsPlan words None = (program : Text) × (words ≡ program ∷ codes "plan" ∷ [])
+CallsPlan words (Some file) = (program : Text) × (words ≡ program ∷ codes "plan" ∷ file ∷ []) × (is_no_option file ≡ true)
 
 -- a request for a plan of this file, or of standard input
 abbrev pub PlansFile : Option Text → Request → Type 0

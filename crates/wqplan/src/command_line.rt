@@ -5,7 +5,7 @@
 ghost use Rattle.std.specs.Prelude.{◌≡◌, ℕ, List, Option, IfOk, MatchResult, map};
 ghost use Rattle.clap.specs.Words.{app_of, kind_of};
 ghost use Rattle.clap.specs.declared.error.kind.ErrorKind.TheVariants.{OutOfMemory};
-ghost use Rattle.wqplan.specs.CommandLine.{wqplan, Asks, IsPlan, PlansFile};
+ghost use Rattle.wqplan.specs.CommandLine.{wqplan, Asks, CallsPlan, PlansFile};
 
 use crate::help;
 use clap::error::ErrorKind;
@@ -50,7 +50,7 @@ fn program<'a>(alloc: Global) -> Result<Command<'a>, AllocError>
 /// The error is a mistake in the words, a request for help or the version, or want of memory.
 pub(crate) fn parse<'a, S: AsStr>(alloc: Global, words: &'a [S]) -> Result<Request<'a>, Error>
     ensures asked { IfOk result (Asks (map S.text words.entry.now)) }
-    ensures plan { (file : Option (List ℕ)) → IsPlan (map S.text words.entry.now) file
+    ensures plan { (file : Option (List ℕ)) → CallsPlan (map S.text words.entry.now) file
         → MatchResult result (PlansFile file) (λ e. kind_of e ≡ OutOfMemory) }
 {
     let mut command = program(alloc)?;
