@@ -1,5 +1,7 @@
 //! Readers and writers that misbehave, which no clause of `std` describes. Each call takes time in the bytes it moves.
 
+ghost use Rattle.std.specs.Prelude.{◌≤◌, IfOk};
+
 use std::io;
 use std::io::{ErrorKind, Read, Write};
 
@@ -45,7 +47,9 @@ impl<D> Fake<D> {
     }
 
     /// How many of so many bytes are moved, if this call doesn't fail.
-    fn count(&mut self, bytes: usize) -> io::Result<usize> {
+    fn count(&mut self, bytes: usize) -> io::Result<usize>
+        ensures { IfOk result (λ count. count ≤ bytes) }
+    {
         let fails = self.successes == 0;
         self.successes = self.successes.wrapping_sub(1);
         if fails {

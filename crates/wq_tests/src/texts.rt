@@ -79,24 +79,27 @@ fn limits_refuse_the_first_fault(rt: HostRuntime) -> Result<(), Fail> {
     Ok(())
 }
 
+/// Bytes, and the number that they are.
+const NUMBERS: &[(&[u8], Option<u32>)] = &[
+    (b"0", Some(0)),
+    (b"7", Some(7)),
+    (b"10", Some(10)),
+    (b"4294967295", Some(4_294_967_295)),
+    (b"4294967296", None),
+    (b"99999999999999999999", None),
+    (b"", None),
+    (b"00", None),
+    (b"01", None),
+    (b"+1", None),
+    (b"-1", None),
+    (b"1a", None),
+    (b" 1", None),
+    (b"\xff", None),
+];
+
 #[test]
 fn numbers_have_one_spelling(rt: HostRuntime) {
-    for (bytes, want) in [
-        (b"0".as_slice(), Some(0)),
-        (b"7", Some(7)),
-        (b"10", Some(10)),
-        (b"4294967295", Some(4_294_967_295)),
-        (b"4294967296", None),
-        (b"99999999999999999999", None),
-        (b"", None),
-        (b"00", None),
-        (b"01", None),
-        (b"+1", None),
-        (b"-1", None),
-        (b"1a", None),
-        (b" 1", None),
-        (b"\xff", None),
-    ] {
-        assert_eq!(rt; number(bytes), want, "{bytes:?}");
+    for (bytes, want) in NUMBERS {
+        assert_eq!(rt; number(bytes), *want, "{bytes:?}");
     }
 }
