@@ -5,11 +5,11 @@ use Rattle.std.specs.List.{AllByRecursion, list_all, cons_option}
 use Rattle.wq_text.specs.Lines.{LineView}
 use Rattle.wq_text.specs.Words.{WordView, words_of}
 use Rattle.wq_decl.specs.declared.directive.Directive.{Directive}
-use Rattle.wq_decl.specs.declared.directive.Directive.TheVariants.{Item, Flush}
+use Rattle.wq_decl.specs.declared.directive.Directive.TheVariants.{Item, Flush, Ordered}
 use Rattle.wq_decl.specs.declared.fault.DeclError.{DeclError}
 use Rattle.wq_decl.specs.declared.fault.DeclError.TheVariants.{BadName}
 use Rattle.wq_decl.specs.Names.{is_name, are_names}
-use Rattle.wq_decl.specs.Reading.{is_text_byte, item_reading, flush_reading, words_reading, reading, directive_in, directives, HasNames}
+use Rattle.wq_decl.specs.Reading.{is_text_byte, item_reading, flush_reading, ordered_reading, words_reading, reading, directive_in, directives, HasNames}
 
 -- a directive, if the reading found one, has names
 abbrev pub NamesIn : Result (Option Directive) DeclError → Type 0
@@ -20,6 +20,10 @@ NamesIn (Err e) = Unit {0}
 both : (a b : Bool) → (a && b) ≡ true → IsTrue a × IsTrue b
 both true b h = (refl, h)
 both false b h = absurd cc
+
+each_name : (ws : List WordView) → IsTrue (are_names ws) → AllByRecursion (λ (w : WordView). IsTrue (is_name w.bytes)) ws
+each_name [] h = tt
+each_name (w ∷ ws) h = let p = both (is_name w.bytes) _ h in (p.0, each_name ws p.1)
 
 item_names : (n : ℕ) (ws : List WordView) → NamesIn (item_reading n ws)
 item_names n [] = tt
@@ -33,12 +37,19 @@ item_names n (name ∷ extra ∷ others) = tt
 flush_names : (n : ℕ) (ws : List WordView) → NamesIn (flush_reading n ws)
 flush_names n [] = tt
 flush_names n (name ∷ []) = tt
-flush_names n (name ∷ target ∷ []) = chosen (are_names (name ∷ target ∷ [])) refl
+flush_names n (name ∷ target ∷ others) = chosen (are_names (name ∷ target ∷ others)) refl
   where
-    chosen : (b : Bool) → are_names (name ∷ target ∷ []) ≡ b → NamesIn (cond b (Ok (Some (Flush name (target ∷ [])))) (Err (BadName n)))
-    chosen true e = let p = both (is_name name.bytes) _ e in (p.0, ((both (is_name target.bytes) _ p.1).0, tt))
+    chosen : (b : Bool) → are_names (name ∷ target ∷ others) ≡ b → NamesIn (cond b (Ok (Some (Flush name (target ∷ others)))) (Err (BadName n)))
+    chosen true e = let p = both (is_name name.bytes) _ e in (p.0, each_name (target ∷ others) p.1)
     chosen false e = tt
-flush_names n (name ∷ target ∷ extra ∷ others) = tt
+
+ordered_names : (n : ℕ) (ws : List WordView) → NamesIn (ordered_reading n ws)
+ordered_names n [] = tt
+ordered_names n (name ∷ others) = chosen (are_names (name ∷ others)) refl
+  where
+    chosen : (b : Bool) → are_names (name ∷ others) ≡ b → NamesIn (cond b (Ok (Some (Ordered (name ∷ others)))) (Err (BadName n)))
+    chosen true e = each_name (name ∷ others) e
+    chosen false e = tt
 
 cond_names : (b : Bool) (x y : Result (Option Directive) DeclError) → NamesIn x → NamesIn y → NamesIn (cond b x y)
 cond_names true x y p q = p
@@ -47,7 +58,8 @@ cond_names false x y p q = q
 words_names : (n : ℕ) (ws : List WordView) → NamesIn (words_reading n ws)
 words_names n [] = tt
 words_names n (first ∷ others) =
-    cond_names (bytes_eq first.bytes (codes "item")) _ _ (item_names n others) (cond_names (bytes_eq first.bytes (codes "flush")) _ _ (flush_names n others) tt)
+    cond_names (bytes_eq first.bytes (codes "item")) _ _ (item_names n others) (cond_names (bytes_eq first.bytes (codes "flush")) _ _ (flush_names n others)
+    (cond_names (bytes_eq first.bytes (codes "ordered")) _ _ (ordered_names n others) tt))
 
 -- what a line says has names
 pub NamesIn-reading : (line : LineView) → NamesIn (reading line)

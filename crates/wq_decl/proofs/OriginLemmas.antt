@@ -6,11 +6,11 @@ use Rattle.std.proofs.lemmas.List.Elements.{All-nil, All-cons, All-weaker}
 use Rattle.wq_text.specs.Lines.{LineView}
 use Rattle.wq_text.specs.Words.{WordView, words_of}
 use Rattle.wq_decl.specs.declared.directive.Directive.{Directive}
-use Rattle.wq_decl.specs.declared.directive.Directive.TheVariants.{Item, Flush}
+use Rattle.wq_decl.specs.declared.directive.Directive.TheVariants.{Item, Flush, Ordered}
 use Rattle.wq_decl.specs.declared.fault.DeclError.{DeclError}
 use Rattle.wq_decl.specs.declared.fault.DeclError.TheVariants.{BadName}
 use Rattle.wq_decl.specs.Names.{is_name, are_names}
-use Rattle.wq_decl.specs.Reading.{is_text_byte, item_reading, flush_reading, words_reading, reading, directive_in, directives}
+use Rattle.wq_decl.specs.Reading.{is_text_byte, item_reading, flush_reading, ordered_reading, words_reading, reading, directive_in, directives}
 use Rattle.wq_decl.specs.Origins.{words_in, IsFrom}
 
 -- a directive, if the reading found one, has these words
@@ -18,6 +18,16 @@ abbrev WordsAmong : List WordView → Result (Option Directive) DeclError → Ty
 WordsAmong ws (Ok (Some d)) = All (Contains ws) (words_in d)
 WordsAmong ws (Ok None) = Unit {0}
 WordsAmong ws (Err e) = Unit {0}
+
+-- a list has its own elements, with another in front too
+among : (ws : List WordView) → All (Contains ws) ws
+among [] = All-nil (Contains [])
+among (w ∷ ws) =
+    All-cons (Contains (w ∷ ws)) w ws (0, omega arith, refl)
+    (All-weaker (Contains ws) (Contains (w ∷ ws)) (λ (v : WordView) (c : Contains ws v). (suc c.0, omega (arith, c.1), c.2)) ws (among ws))
+
+behind : (first : WordView) (ws : List WordView) → All (Contains (first ∷ ws)) ws
+behind first ws = All-weaker (Contains ws) (Contains (first ∷ ws)) (λ (v : WordView) (c : Contains ws v). (suc c.0, omega (arith, c.1), c.2)) ws (among ws)
 
 item_words : (n : ℕ) (first : WordView) (ws : List WordView) → WordsAmong (first ∷ ws) (item_reading n ws)
 item_words n first [] = tt
@@ -31,12 +41,19 @@ item_words n first (name ∷ extra ∷ others) = tt
 flush_words : (n : ℕ) (first : WordView) (ws : List WordView) → WordsAmong (first ∷ ws) (flush_reading n ws)
 flush_words n first [] = tt
 flush_words n first (name ∷ []) = tt
-flush_words n first (name ∷ target ∷ []) = chosen (are_names (name ∷ target ∷ []))
+flush_words n first (name ∷ target ∷ others) = chosen (are_names (name ∷ target ∷ others))
   where
-    chosen : (b : Bool) → WordsAmong (first ∷ name ∷ target ∷ []) (cond b (Ok (Some (Flush name (target ∷ [])))) (Err (BadName n)))
-    chosen true = let ws : List WordView = first ∷ name ∷ target ∷ [] in All-cons (Contains ws) name (target ∷ []) (1, omega arith, refl) (All-cons (Contains ws) target [] (2, omega arith, refl) (All-nil (Contains ws)))
+    chosen : (b : Bool) → WordsAmong (first ∷ name ∷ target ∷ others) (cond b (Ok (Some (Flush name (target ∷ others)))) (Err (BadName n)))
+    chosen true = behind first (name ∷ target ∷ others)
     chosen false = tt
-flush_words n first (name ∷ target ∷ extra ∷ others) = tt
+
+ordered_words : (n : ℕ) (first : WordView) (ws : List WordView) → WordsAmong (first ∷ ws) (ordered_reading n ws)
+ordered_words n first [] = tt
+ordered_words n first (name ∷ others) = chosen (are_names (name ∷ others))
+  where
+    chosen : (b : Bool) → WordsAmong (first ∷ name ∷ others) (cond b (Ok (Some (Ordered (name ∷ others)))) (Err (BadName n)))
+    chosen true = behind first (name ∷ others)
+    chosen false = tt
 
 cond_words : (ws : List WordView) (b : Bool) (x y : Result (Option Directive) DeclError) → WordsAmong ws x → WordsAmong ws y → WordsAmong ws (cond b x y)
 cond_words ws true x y p q = p
@@ -46,7 +63,8 @@ all_words : (n : ℕ) (ws : List WordView) → WordsAmong ws (words_reading n ws
 all_words n [] = tt
 all_words n (first ∷ others) =
     cond_words (first ∷ others) (bytes_eq first.bytes (codes "item")) _ _ (item_words n first others)
-    (cond_words (first ∷ others) (bytes_eq first.bytes (codes "flush")) _ _ (flush_words n first others) tt)
+    (cond_words (first ∷ others) (bytes_eq first.bytes (codes "flush")) _ _ (flush_words n first others)
+    (cond_words (first ∷ others) (bytes_eq first.bytes (codes "ordered")) _ _ (ordered_words n first others) tt))
 
 line_words : (line : LineView) → WordsAmong (words_of line) (reading line)
 line_words line = cond_words (words_of line) (list_all is_text_byte line.bytes) _ _ (all_words line.no (words_of line)) tt

@@ -4,12 +4,13 @@ use Rattle.std.specs.List.{All}
 use Rattle.wq_text.specs.Lines.{LineView}
 use Rattle.wq_text.specs.Words.{WordView, words_of}
 use Rattle.wq_decl.specs.declared.directive.Directive.{Directive}
-use Rattle.wq_decl.specs.declared.directive.Directive.TheVariants.{Item, Flush}
+use Rattle.wq_decl.specs.declared.directive.Directive.TheVariants.{Item, Flush, Ordered}
 
 -- the words of a directive
 abbrev pub words_in : Directive → List WordView
 words_in (Item name) = name ∷ []
 words_in (Flush name targets) = name ∷ targets
+words_in (Ordered names) = names
 
 -- the directive has the number of this line, and its words are words of it
 pub record IsFrom (d : ℕ × Directive) (line : LineView) : Type 0 where

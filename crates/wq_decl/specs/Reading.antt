@@ -6,7 +6,7 @@ use Rattle.wq_text.specs.Lines.{LineView}
 use Rattle.wq_text.specs.Words.{WordView, words_of}
 use Rattle.wq_text.specs.Refusal.{Refusal}
 use Rattle.wq_decl.specs.declared.directive.Directive.{Directive}
-use Rattle.wq_decl.specs.declared.directive.Directive.TheVariants.{Item, Flush}
+use Rattle.wq_decl.specs.declared.directive.Directive.TheVariants.{Item, Flush, Ordered}
 use Rattle.wq_decl.specs.declared.fault.DeclError.{DeclError}
 use Rattle.wq_decl.specs.declared.fault.DeclError.TheVariants.{BadByte, UnknownWord, MissingName, ExtraWord, BadName}
 use Rattle.wq_decl.specs.Names.{is_name, are_names}
@@ -25,15 +25,20 @@ item_reading n (name ∷ extra ∷ others) = Err (ExtraWord n)
 abbrev pub flush_reading : ℕ → List WordView → Result (Option Directive) DeclError
 flush_reading n [] = Err (MissingName n)
 flush_reading n (name ∷ []) = Err (MissingName n)
-flush_reading n (name ∷ target ∷ []) = if are_names (name ∷ target ∷ []) then Ok (Some (Flush name (target ∷ []))) else Err (BadName n)
-flush_reading n (name ∷ target ∷ extra ∷ others) = Err (ExtraWord n)
+flush_reading n (name ∷ target ∷ others) = if are_names (name ∷ target ∷ others) then Ok (Some (Flush name (target ∷ others))) else Err (BadName n)
+
+-- the words after `ordered` on line n: one name at least
+abbrev pub ordered_reading : ℕ → List WordView → Result (Option Directive) DeclError
+ordered_reading n [] = Err (MissingName n)
+ordered_reading n (name ∷ others) = if are_names (name ∷ others) then Ok (Some (Ordered (name ∷ others))) else Err (BadName n)
 
 -- the words of line n: none on a blank line, else a directive
 abbrev pub words_reading : ℕ → List WordView → Result (Option Directive) DeclError
 words_reading n [] = Ok None
 words_reading n (first ∷ others) =
     if bytes_eq first.bytes (codes "item") then item_reading n others
-    else (if bytes_eq first.bytes (codes "flush") then flush_reading n others else Err (UnknownWord n))
+    else (if bytes_eq first.bytes (codes "flush") then flush_reading n others
+    else (if bytes_eq first.bytes (codes "ordered") then ordered_reading n others else Err (UnknownWord n)))
 
 -- what a line says, or its first fault
 abbrev pub reading : LineView → Result (Option Directive) DeclError
@@ -63,6 +68,7 @@ directives lines = filter_map (λ (line : LineView). directive_in line.no (readi
 abbrev pub HasNames : Directive → Type 0
 HasNames (Item name) = IsTrue (is_name name.bytes)
 HasNames (Flush name targets) = IsTrue (is_name name.bytes) × AllByRecursion (λ (w : WordView). IsTrue (is_name w.bytes)) targets
+HasNames (Ordered names) = AllByRecursion (λ (w : WordView). IsTrue (is_name w.bytes)) names
 
 -- 3, 4, 5, 12 or 6, with the line
 abbrev pub decl_refusal : DeclError → Refusal

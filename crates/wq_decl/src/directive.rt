@@ -1,4 +1,6 @@
 //! What a line of a declaration says.
+//!
+//! The directives are those of "Directives" in docs/FORMAT.md. Nothing is computed here.
 
 use wq_text::{Word, Words};
 
@@ -7,6 +9,8 @@ use wq_text::{Word, Words};
 pub enum Directive<'a> {
     /// `item NAME`: declares an item.
     Item(Word<'a>),
-    /// `flush NAME TARGET`: the item of this name may flush the target each time that it runs.
+    /// `flush NAME TARGET..`: the item of this name may flush each of the targets each time that it runs.
     Flush(Word<'a>, Words<'a>),
+    /// `ordered NAME..`: the items of these names share one ordered workqueue.
+    Ordered(Words<'a>),
 }

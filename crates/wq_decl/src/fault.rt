@@ -1,4 +1,6 @@
 //! Why a line is no directive.
+//!
+//! The faults are those of the second pass in "Refusals" of docs/FORMAT.md. Each call takes constant time.
 
 ghost use Rattle.std.specs.Prelude.{◌≡◌};
 ghost use Rattle.wq_decl.specs.Reading.{decl_refusal};

@@ -4,8 +4,8 @@
 
 ghost use Rattle.std.specs.Prelude.{◌≡◌};
 ghost use Rattle.std.specs.List.{list_all};
-ghost use Rattle.wq_decl.specs.Names.{is_name_byte, is_name};
-ghost use Rattle.wq_decl.specs.Reading.{is_text_byte, item_reading, flush_reading, reading};
+ghost use Rattle.wq_decl.specs.Names.{is_name_byte, is_name, are_names};
+ghost use Rattle.wq_decl.specs.Reading.{is_text_byte, item_reading, flush_reading, ordered_reading, reading};
 
 use crate::directive::Directive;
 use crate::fault::DeclError;
@@ -30,6 +30,18 @@ fn is_name(word: &[u8]) -> bool
     ensures { result ≡ is_name word.now }
 {
     !word.is_empty() && word.len() <= 63 && are_name_bytes(word)
+}
+
+/// Whether each word is a name.
+fn are_names(words: Words<'_>) -> bool
+    ensures { result ≡ are_names words.entry }
+{
+    for word in words {
+        if !is_name(word.bytes()) {
+            return false;
+        }
+    }
+    true
 }
 
 /// Whether a line may have this byte: TAB, or a printable ASCII character other than `#`.
@@ -66,20 +78,32 @@ fn read_item<'a>(line: u32, mut words: Words<'a>) -> Result<Option<Directive<'a>
 fn read_flush<'a>(line: u32, mut words: Words<'a>) -> Result<Option<Directive<'a>>, DeclError>
     ensures { result ≡ flush_reading line words.entry }
 {
+    let names = words.again();
     let Some(name) = words.next() else {
         return Err(DeclError::MissingName { line });
     };
     let targets = words.again();
-    let Some(target) = words.next() else {
+    if words.next().is_none() {
         return Err(DeclError::MissingName { line });
-    };
-    if words.next().is_some() {
-        return Err(DeclError::ExtraWord { line });
     }
-    if !is_name(name.bytes()) || !is_name(target.bytes()) {
+    if !are_names(names) {
         return Err(DeclError::BadName { line });
     }
     Ok(Some(Directive::Flush(name, targets)))
+}
+
+/// The words behind `ordered` on this line.
+fn read_ordered<'a>(line: u32, mut words: Words<'a>) -> Result<Option<Directive<'a>>, DeclError>
+    ensures { result ≡ ordered_reading line words.entry }
+{
+    let names = words.again();
+    if words.next().is_none() {
+        return Err(DeclError::MissingName { line });
+    }
+    if !are_names(names.again()) {
+        return Err(DeclError::BadName { line });
+    }
+    Ok(Some(Directive::Ordered(names)))
 }
 
 /// What a line says: nothing where it is blank, else a directive, or its first fault.
@@ -98,6 +122,8 @@ pub(crate) fn read_line<'a>(line: &Line<'a>) -> Result<Option<Directive<'a>>, De
         read_item(no, words)
     } else if first.bytes() == b"flush".as_slice() {
         read_flush(no, words)
+    } else if first.bytes() == b"ordered".as_slice() {
+        read_ordered(no, words)
     } else {
         Err(DeclError::UnknownWord { line: no })
     }

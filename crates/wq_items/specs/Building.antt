@@ -4,7 +4,7 @@ use Rattle.wq_text.specs.declared.span.Span.{Span}
 use Rattle.wq_text.specs.Words.{WordView}
 use Rattle.wq_text.specs.Refusal.{Refusal}
 use Rattle.wq_decl.specs.declared.directive.Directive.{Directive}
-use Rattle.wq_decl.specs.declared.directive.Directive.TheVariants.{Item, Flush}
+use Rattle.wq_decl.specs.declared.directive.Directive.TheVariants.{Item, Flush, Ordered}
 use Rattle.wq_items.specs.declared.target.Target.{Target}
 use Rattle.wq_items.specs.declared.fault.ItemError.{ItemError}
 use Rattle.wq_items.specs.declared.fault.ItemError.TheVariants.{ItemTwice, UnknownItem, TooManyItems, TooManyFlushes, OutOfMemory}
@@ -59,10 +59,16 @@ flushes_declared t n (Some []) = Ok t
 flushes_declared t n (Some (i ∷ items)) =
     if nat_lt 16384 (flush_count t.waits + length items) then Err (TooManyFlushes n) else Ok (with_flushes t i items)
 
+-- line n puts these items into one group, where all names on it are known; the table stays as it is
+abbrev pub items_ordered : Table → ℕ → Option (List ℕ) → Result Table ItemError
+items_ordered t n None = Err (UnknownItem n)
+items_ordered t n (Some items) = Ok t
+
 -- the table after the directive of line n, or its first fault by the rows of the format's table
 abbrev pub declared : Table → ℕ → Directive → Result Table ItemError
 declared t n (Item name) = item_declared t n name
 declared t n (Flush name targets) = flushes_declared t n (items_named t.names (name ∷ targets))
+declared t n (Ordered names) = items_ordered t n (items_named t.names names)
 
 -- a step after one that may have failed
 abbrev pub and_then : Result Table ItemError → (Table → Result Table ItemError) → Result Table ItemError

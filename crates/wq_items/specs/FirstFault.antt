@@ -11,8 +11,8 @@ use Rattle.wq_items.specs.Flushes.{item_name, flushes, names_used}
 abbrev pub IsDeclared : List (ℕ × Directive) → List ℕ → Type 0
 IsDeclared ds name = Contains (filter_map item_name ds) name
 
--- no name is declared twice, each name on a `flush` line is declared by a line before it, and there are at most 4,096
--- items and 16,384 flushes
+-- no name is declared twice, each name on a `flush` or an `ordered` line is declared by a line before it, and there are
+-- at most 4,096 items and 16,384 flushes
 pub record IsFaultless (ds : List (ℕ × Directive)) : Type 0 where
   pub once : AllPairs (λ (a b : List ℕ). a ≢ b) (filter_map item_name ds)
   pub known : (before : List (ℕ × Directive)) (d : ℕ × Directive) (after : List (ℕ × Directive)) → ds ≡ before ++ (d ∷ after) → All (IsDeclared before) (names_used d)

@@ -3,7 +3,7 @@ use Rattle.std.specs.Prelude.{ℕ, if◌then◌else◌, List, [], ◌∷◌, map
 use Rattle.wq_text.specs.declared.span.Span.{Span}
 use Rattle.wq_text.specs.Words.{WordView}
 use Rattle.wq_decl.specs.declared.directive.Directive.{Directive}
-use Rattle.wq_decl.specs.declared.directive.Directive.TheVariants.{Item, Flush}
+use Rattle.wq_decl.specs.declared.directive.Directive.TheVariants.{Item, Flush, Ordered}
 use Rattle.wq_items.specs.declared.target.Target.{Target}
 use Rattle.wq_items.specs.Table.{Table, targets_of}
 use Rattle.wq_items.specs.Building.{span_of}
@@ -12,6 +12,7 @@ use Rattle.wq_items.specs.Building.{span_of}
 abbrev pub item_word : ℕ × Directive → Option WordView
 item_word (n, Item name) = Some name
 item_word (n, Flush name targets) = None
+item_word (n, Ordered names) = None
 
 -- the name of the item that a line declares, if it is an `item` line
 abbrev pub item_name : ℕ × Directive → Option (List ℕ)
@@ -25,6 +26,7 @@ item_span d = option_map span_of (item_word d)
 abbrev pub line_flushes : ℕ × Directive → List (List ℕ × List ℕ)
 line_flushes (n, Item name) = []
 line_flushes (n, Flush name targets) = map (λ (target : WordView). (name.bytes, target.bytes)) targets
+line_flushes (n, Ordered names) = []
 
 -- the flushes that all lines declare, in order
 abbrev pub flushes : List (ℕ × Directive) → List (List ℕ × List ℕ)
@@ -38,7 +40,8 @@ flushes_of name numbered = filter_map (λ (f : ℕ × (List ℕ × List ℕ)). i
 abbrev pub named_targets : Table → ℕ → List (List ℕ × ℕ)
 named_targets t i = map (λ (target : Target). (slice_index_or t.names target.item [], target.place)) (targets_of t.waits i)
 
--- the names on a `flush` line
+-- the names on a `flush` or an `ordered` line
 abbrev pub names_used : ℕ × Directive → List (List ℕ)
 names_used (n, Item name) = []
 names_used (n, Flush name targets) = map (λ (word : WordView). word.bytes) (name ∷ targets)
+names_used (n, Ordered names) = map (λ (word : WordView). word.bytes) names
