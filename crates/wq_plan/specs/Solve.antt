@@ -1,20 +1,27 @@
--- What it means that a table is solved.
-use Rattle.std.specs.Prelude.{◌≡◌, ℕ, List, length}
-use Rattle.wq_items.specs.declared.target.Target.{Target}
-use Rattle.wq_items.specs.Table.{Table, ItemWaits}
+-- What it means that a declaration is solved.
+use Rattle.std.specs.Prelude.{◌≡◌, ℕ, List}
 use Rattle.wq_items.specs.Chain.{HasCircle}
-use Rattle.wq_plan.specs.declared.single.Single.{Single}
-use Rattle.wq_plan.specs.declared.single.Single.TheVariants as single
-use Rattle.wq_plan.specs.Plan.{IsPlan, lanes_of, chain_of}
+use Rattle.wq_groups.specs.Declaration.{Declaration, GroupWaits}
+use Rattle.wq_groups.specs.Assignment.{Assignment}
+use Rattle.wq_graph.specs.declared.arc.WaitArc.{WaitArc}
+use Rattle.wq_graph.specs.Graph.{group_graph}
+use Rattle.wq_levels.specs.Walks.{IsWalkedCircle}
+use Rattle.wq_plan.specs.declared.answer.Answer.{Answer}
+use Rattle.wq_plan.specs.declared.answer.Answer.TheVariants as answer
+use Rattle.wq_plan.specs.Plan.{IsPlan, chain_of}
 
--- the lanes are a plan, so the items wait in no circle; the number of lanes and the chain are the plan's
-pub record IsPlanned (waits : List (List Target)) (items lanes : ℕ) (lane : List ℕ) (chain : List (ℕ × ℕ)) : Type 0 where
-  pub plan : IsPlan waits items lane
-  pub no_circle : ¬ HasCircle (ItemWaits waits) items
-  pub count : lanes ≡ lanes_of lane
-  pub longest : chain ≡ chain_of waits lane
+-- the assignment is the plan, so the groups wait in no circle; and the chain is the plan's
+pub record IsPlanned (d : Declaration) (a : Assignment) (chain : List WaitArc) : Type 0 where
+  pub plan : IsPlan d a
+  pub no_circle : ¬ HasCircle (GroupWaits d) d.groups
+  pub longest : chain ≡ chain_of (group_graph d) a.lane_of_group
 
--- a plan where the items wait in no circle, and `Circle` where they do
-abbrev pub Solves : {A : Type 0} → Table → Single A → Type 0
-Solves t (single.Plan lanes lane chain) = IsPlanned t.waits (length t.names) lanes lane.items chain.items
-Solves t single.Circle = HasCircle (ItemWaits t.waits) (length t.names)
+-- the groups wait in a circle, and it is that of the walk
+pub record IsCircled (d : Declaration) (circle : List WaitArc) : Type 0 where
+  pub has_circle : HasCircle (GroupWaits d) d.groups
+  pub walked : IsWalkedCircle (group_graph d) circle
+
+-- a plan where the groups wait in no circle, and the circle where they do
+abbrev pub Solves : {A : Type 0} → Declaration → Answer A → Type 0
+Solves d (answer.Plan assignment chain) = IsPlanned d assignment chain.items
+Solves d (answer.Circle arcs) = IsCircled d arcs.items

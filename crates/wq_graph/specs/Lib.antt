@@ -1,0 +1,3 @@
+pub use Rattle.wq_items.specs.Chain
+pub use Rattle.wq_groups.specs.Declaration
+pub mod Graph

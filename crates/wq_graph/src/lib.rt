@@ -1,0 +1,12 @@
+//! The wait graph of a declaration: which group waits for which, flush by flush.
+//!
+//! What the layer above relies on: the arcs of a vertex are the declared flushes that leave it, in order of place, one
+//! for each. The rules are those of "Items and groups" in docs/FORMAT.md. An arc says that work items depend on one
+//! another, so that they belong on separate workqueues (Documentation/core-api/workqueue.rst, "Guidelines").
+#![tactic(auto)]
+
+mod arc;
+mod graph;
+
+pub use arc::WaitArc;
+pub use graph::WaitGraph;

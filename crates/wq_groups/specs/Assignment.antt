@@ -1,0 +1,21 @@
+-- Assignments: which workqueue serves each group. A lane is a workqueue by its number.
+use Rattle.std.specs.Prelude.{◌≡◌, ℕ, ◌<◌, List, length, slice_index}
+use Rattle.std.specs.List.{All}
+
+-- how many lanes there are, and of each group in turn the number of its lane; a lane may serve no group
+pub record Assignment : Type 0 where
+  pub lanes : ℕ
+  pub lane_of_group : List ℕ
+
+-- one lane for each group, and each is one of the lanes
+pub record IsAssignment (groups : ℕ) (a : Assignment) : Type 0 where
+  pub one_each : length a.lane_of_group ≡ groups
+  pub within : All (λ l. l < a.lanes) a.lane_of_group
+
+-- the lane of group g
+abbrev pub lane_of : Assignment → ℕ → ℕ
+lane_of a g = slice_index a.lane_of_group g
+
+-- the lane of item i, that of its group
+abbrev pub lane_of_item : Assignment → List ℕ → ℕ → ℕ
+lane_of_item a group_of i = lane_of a (slice_index group_of i)

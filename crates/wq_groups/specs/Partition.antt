@@ -1,0 +1,20 @@
+-- Partitions: the groups of the items, each item in one.
+use Rattle.std.specs.Prelude.{◌≡◌, ℕ, ◌<◌, ◌≤◌, ◌==◌, List, length, filter, slice_index, take, Contains}
+use Rattle.std.specs.List.{All, range_with_len}
+
+-- of each item in turn the number of its group, and how many groups there are
+pub record Partition : Type 0 where
+  pub group_of : List ℕ
+  pub groups : ℕ
+
+-- the items of group g, in declaration order
+abbrev pub members_of : List ℕ → ℕ → List ℕ
+members_of group_of g = filter (λ i. slice_index group_of i == g) (range_with_len 0 (length group_of))
+
+-- at most 4,096 items, each in one of the groups; each group has a member; and groups are numbered by their first
+-- members: before an item stand members of all groups that are numbered below its own
+pub record IsPartition (p : Partition) : Type 0 where
+  pub few_items : length p.group_of ≤ 4096
+  pub within : All (λ g. g < p.groups) p.group_of
+  pub filled : (g : ℕ) → g < p.groups → Contains p.group_of g
+  pub in_order : (i g : ℕ) → i < length p.group_of → g < slice_index p.group_of i → Contains (take i p.group_of) g

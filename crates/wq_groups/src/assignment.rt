@@ -1,0 +1,80 @@
+//! Which workqueue serves each group.
+//!
+//! An assignment is what a driver's author decides: one `alloc_workqueue` with WQ_MEM_RECLAIM for each lane, and one lane
+//! for each group (Documentation/core-api/workqueue.rst, "Guidelines"). Making one takes time in the number of groups;
+//! each other call takes constant time.
+
+ghost use Rattle.std.specs.Prelude.{◌≡◌, ◌<◌, ◌≤◌, ◌↔◌, length, slice_get, Some, IsSome, IfSome};
+ghost use Rattle.std.specs.List.{All};
+
+use crate::ids::{GroupId, LaneId};
+use std::alloc::Allocator;
+use std::marker::Model;
+
+/// How many lanes an assignment may have.
+const MAX_LANES: u16 = 4096;
+
+/// A number of lanes, and the lane of each group. A lane may serve no group. Contracts see just these.
+#[derive(Drop)]
+pub struct Assignment<A: Allocator> {
+    lanes: u16,
+    of_group: Vec<LaneId, A>,
+}
+
+impl<A: Allocator> Model for Assignment<A> {
+    ghost use Rattle.std.specs.Prelude.{◌<◌, ◌≤◌};
+    ghost use Rattle.std.specs.List.{All};
+    ghost use Rattle.wq_groups.specs.Assignment.{Assignment as AssignmentView};
+
+    ghost Value = { AssignmentView };
+
+    ghost view = { λ a. record { lanes = a.lanes; lane_of_group = a.of_group.items } };
+
+    ghost invariant = { λ a. (a.lanes ≤ 4096) × All (λ l. l < a.lanes) a.of_group.items };
+}
+
+/// Whether each number is that of a lane below `lanes`.
+fn are_below(of_group: &[LaneId], lanes: u16) -> bool
+    ensures { IsTrue result ↔ All (λ l. l < lanes) of_group.now }
+{
+    of_group.iter().all(|lane| lane.get() < lanes)
+}
+
+impl<A: Allocator> Assignment<A> {
+    /// The assignment with so many lanes, in which the groups have these, in their order.
+    ///
+    /// `None` where a number isn't below `lanes`, or `lanes` is above 4,096; the list is then dropped.
+    pub fn new(lanes: u16, of_group: Vec<LaneId, A>) -> Option<Self>
+        ensures some { IfSome result (λ a. (a.lanes ≡ lanes) × (a.lane_of_group ≡ of_group.entry.items)) }
+        ensures exactly { IsSome result ↔ ((lanes ≤ 4096) × All (λ l. l < lanes) of_group.entry.items) }
+    {
+        if lanes > MAX_LANES || !are_below(of_group.as_slice(), lanes) {
+            return None;
+        }
+        Some(Assignment { lanes, of_group })
+    }
+
+    /// How many lanes there are, at most 4,096.
+    pub fn lanes(&self) -> u16
+        ensures lanes { result ≡ self.now.lanes }
+        ensures few { result ≤ 4096 }
+        ensures within { All (λ l. l < self.now.lanes) self.now.lane_of_group }
+    {
+        self.lanes
+    }
+
+    /// How many groups have a lane.
+    pub fn groups(&self) -> usize
+        ensures { result ≡ length self.now.lane_of_group }
+    {
+        self.of_group.len()
+    }
+
+    /// The lane of a group below `groups()`.
+    pub fn lane(&self, group: GroupId) -> LaneId
+        requires { group < length self.now.lane_of_group }
+        ensures { slice_get self.now.lane_of_group group ≡ Some result }
+    {
+        self.of_group[usize::from(group.get())]
+    }
+}

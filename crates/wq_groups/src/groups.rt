@@ -1,0 +1,80 @@
+//! The groups of the items: those that share one ordered workqueue.
+//!
+//! The rules are those of "Groups" in docs/FORMAT.md. An ordered workqueue executes at most one work item at any time, in
+//! queued order (Documentation/core-api/workqueue.rst), so the items of a group stand on one workqueue whatever the plan.
+//! Reading takes time in the number of the words of the declaration, and memory in the number of items. Afterwards each
+//! question is answered in constant time.
+
+ghost use Rattle.std.specs.Prelude.{◌≡◌, ◌<◌, length, Ok, IfOk, IfErr, slice_get, slice_index, Some};
+ghost use Rattle.wq_items.specs.Building.{table_of};
+ghost use Rattle.wq_groups.specs.Partition.{IsPartition, members_of};
+ghost use Rattle.wq_groups.specs.Grouping.{groups_of, IsGroupFaultOf};
+
+use crate::fault::GroupError;
+use crate::ids::GroupId;
+use std::alloc::Allocator;
+use std::marker::Model;
+use wq_decl::DeclView;
+use wq_items::{ItemId, ItemTable};
+
+/// The groups of a table's items. Contracts see the number of each item's group, and how many groups there are.
+#[derive(Drop)]
+pub struct Groups<A: Allocator> {
+    group_of: Vec<GroupId, A>,
+    members: Vec<Vec<ItemId, A>, A>,
+}
+
+impl<A: Allocator> Model for Groups<A> {
+    ghost use Rattle.std.specs.Prelude.{◌≡◌, length, map};
+    ghost use Rattle.std.specs.List.{range_with_len};
+    ghost use Rattle.wq_groups.specs.Partition.{Partition, IsPartition, members_of};
+
+    ghost Value = { Partition };
+
+    ghost view = { λ g. record { group_of = g.group_of.items; groups = length g.members.items } };
+
+    ghost invariant = { λ g. IsPartition (record { group_of = g.group_of.items; groups = length g.members.items })
+        × (map (λ m. m.items) g.members.items ≡ map (members_of g.group_of.items) (range_with_len 0 (length g.members.items))) };
+}
+
+impl<A: Allocator + Copy> Groups<A> {
+    /// The groups that the directives of a view declare of the items of its table. The table was read from this view.
+    ///
+    /// The answer is `GroupedTwice` (11) with the lowest line that has a name a second time; or `OutOfMemory` (20) where a
+    /// growth was refused before it.
+    pub fn read(
+        alloc: A,
+        view: &DeclView<'_>,
+        table: &ItemTable<'_, A>,
+    ) -> Result<Self, GroupError>
+        requires { table_of view.now ≡ Ok table.now }
+        ensures groups { IfOk result (λ g. groups_of view.now table.now.names ≡ Ok g) }
+        ensures fault { IfErr result (λ e. IsGroupFaultOf e (groups_of view.now table.now.names)) }
+    {
+        Err(GroupError::OutOfMemory)
+    }
+
+    /// How many groups there are, at most 4,096.
+    pub fn len(&self) -> u16
+        ensures len { result ≡ self.now.groups }
+        ensures partition { IsPartition self.now }
+    {
+        self.members.len() as u16
+    }
+
+    /// The group of an item below the number of items.
+    pub fn of(&self, item: ItemId) -> GroupId
+        requires { item < length self.now.group_of }
+        ensures { slice_get self.now.group_of item ≡ Some result }
+    {
+        self.group_of[usize::from(item.get())]
+    }
+
+    /// The items of a group below `len()`, in declaration order; there is one at least.
+    pub fn members(&self, group: GroupId) -> &[ItemId]
+        requires { group < self.now.groups }
+        ensures { result.now ≡ members_of self.now.group_of group }
+    {
+        self.members[usize::from(group.get())].as_slice()
+    }
+}

@@ -1,0 +1,18 @@
+//! The groups of a declaration and the assignments of workqueues to them: the last pass, and the words that every crate
+//! above speaks.
+//!
+//! What the layer above relies on: the groups are the partition of the items that the directives name, numbered by
+//! first-declared members, or else the answer is the first fault; an assignment gives each group one of its workqueues.
+//! The rules are those of "Groups" in docs/FORMAT.md. A group stands for the work items of one ordered workqueue
+//! (`alloc_ordered_workqueue` in include/linux/workqueue.h).
+#![tactic(auto)]
+
+mod assignment;
+mod fault;
+mod groups;
+mod ids;
+
+pub use assignment::Assignment;
+pub use fault::GroupError;
+pub use groups::Groups;
+pub use ids::{GroupId, LaneId};

@@ -1,0 +1,6 @@
+pub use Rattle.wq_items.specs.Chain
+pub use Rattle.wq_graph.specs.Graph
+pub mod Ranks
+pub mod Walks
+pub mod Rounds
+pub mod Ranked

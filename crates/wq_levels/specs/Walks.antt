@@ -1,0 +1,44 @@
+-- Walks along arcs of a wait graph, and the circle that is answered where there is one.
+use Rattle.std.specs.Prelude.{◌≡◌, ◌≢◌, ℕ, ◌+◌, ◌<◌, ◌≤◌, List, [], ◌∷◌, ◌++◌, length, Contains, AllPairs}
+use Rattle.std.specs.List.{All}
+use Rattle.wq_items.specs.Chain.{BeginsChain}
+use Rattle.wq_graph.specs.declared.arc.WaitArc.{WaitArc}
+use Rattle.wq_graph.specs.Graph.{HasArc, arcs_at}
+
+-- a walk of as many arcs as there are vertices begins at v: taking off, again and again, each vertex that has no arc into
+-- what remains would leave v
+abbrev pub Remains : List (List WaitArc) → ℕ → Type 0
+Remains graph v = (v < length graph) × BeginsChain (HasArc graph) v (length graph + 1)
+
+-- v remains, and no lower-numbered vertex does
+pub record IsLeastRemaining (graph : List (List WaitArc)) (v : ℕ) : Type 0 where
+  pub remains : Remains graph v
+  pub least : (w : ℕ) → w < v → ¬ Remains graph w
+
+-- an arc of v into what remains, and of these the one of least place
+pub record IsWayOn (graph : List (List WaitArc)) (v : ℕ) (a : WaitArc) : Type 0 where
+  pub leaves : Contains (arcs_at graph v) a
+  pub remains : Remains graph a.head
+  pub least : All (λ (b : WaitArc). Remains graph b.head → a.place ≤ b.place) (arcs_at graph v)
+
+-- the arcs lead from v to w, each being the way on from where the one before it led
+abbrev pub IsWalk : List (List WaitArc) → ℕ → List WaitArc → ℕ → Type 0
+IsWalk graph v [] w = v ≡ w
+IsWalk graph v (a ∷ arcs) w = IsWayOn graph v a × IsWalk graph a.head arcs w
+
+-- the vertices that arcs leave, where the first leaves v
+abbrev pub vertices_left : ℕ → List WaitArc → List ℕ
+vertices_left v [] = []
+vertices_left v (a ∷ arcs) = v ∷ vertices_left a.head arcs
+
+-- the circle of the walk from the least remaining vertex: what is walked from the first visit of the first vertex that
+-- repeats to the second; what leads in to it is left out
+pub record IsWalkedCircle (graph : List (List WaitArc)) (circle : List WaitArc) : Type 0 where
+  pub start : ℕ
+  pub least : IsLeastRemaining graph start
+  pub lead_in : List WaitArc
+  pub turn : ℕ
+  pub leads_in : IsWalk graph start lead_in turn
+  pub comes_back : IsWalk graph turn circle turn
+  pub some : circle ≢ []
+  pub once : AllPairs (λ (v w : ℕ). v ≢ w) (vertices_left start (lead_in ++ circle))

@@ -1,0 +1,12 @@
+//! Ranks of a wait graph, or the circle that leaves some vertex without one.
+//!
+//! What the layer above relies on: longest-chain ranks, or the circle of the walk, as "Plan texts" and "Circle texts" in
+//! docs/FORMAT.md say. The rule behind it is that of Documentation/core-api/workqueue.rst, "Guidelines": work items that
+//! depend on one another stand on separate workqueues, so a chain of n vertices needs n.
+#![tactic(auto)]
+
+mod rank;
+mod ranked;
+
+pub use rank::rank;
+pub use ranked::Ranked;

@@ -1,0 +1,19 @@
+//! What a declaration gives.
+//!
+//! Nothing is computed here.
+
+use std::alloc::Allocator;
+use wq_graph::WaitArc;
+use wq_groups::Assignment;
+
+/// A plan, or why there is none.
+#[derive(Drop)]
+pub enum Answer<A: Allocator> {
+    /// The lane of each group, and the arcs of a longest chain from its first group on.
+    Plan {
+        assignment: Assignment<A>,
+        chain: Vec<WaitArc, A>,
+    },
+    /// The groups wait in a circle, of which these are the arcs, so no assignment is safe.
+    Circle { arcs: Vec<WaitArc, A> },
+}
