@@ -3,12 +3,12 @@ use Rattle.std.proofs.Common.{◌≡◌, ℕ, ◌+◌, ◌<◌, ◌≤◌, Bool,
 use Rattle.std.specs.List.{AllByRecursion, filter_map, cons_option}
 use Rattle.wq_text.specs.Words.{WordView}
 use Rattle.wq_decl.specs.declared.directive.Directive.{Directive}
-use Rattle.wq_decl.specs.declared.directive.Directive.TheVariants.{Item, Flush}
+use Rattle.wq_decl.specs.declared.directive.Directive.TheVariants.{Item, Flush, Ordered}
 use Rattle.wq_decl.specs.Reading.{HasNames}
 use Rattle.wq_items.specs.declared.fault.ItemError.{ItemError}
 use Rattle.wq_items.specs.declared.fault.ItemError.TheVariants.{ItemTwice, TooManyItems, TooManyFlushes}
 use Rattle.wq_items.specs.Table.{Table, IsTable, item_named, flush_count}
-use Rattle.wq_items.specs.Building.{empty_table, with_item, with_flushes, items_named, item_declared, flushes_declared, declared, and_then, table_after, table_of}
+use Rattle.wq_items.specs.Building.{empty_table, with_item, with_flushes, items_named, item_declared, flushes_declared, items_ordered, declared, and_then, table_after, table_of}
 use Rattle.wq_items.specs.Flushes.{item_name, item_span}
 use Rattle.wq_items.proofs.TableLemmas.{IsTable-empty, IsTable-with_item, IsTable-with_flushes, parts, item_named-below, items_named-below}
 
@@ -28,6 +28,12 @@ pub record FlushStep (t : Table) (name : WordView) (targets : List WordView) (u 
   pub others : items_named t.names targets ≡ Some items
   pub room : flush_count t.waits + length items ≤ 16384
   pub after : u ≡ with_flushes t item items
+
+-- an `ordered` line was taken
+pub record OrderStep (t : Table) (names : List WordView) (u : Table) : Type 0 where
+  pub items : List ℕ
+  pub known : items_named t.names names ≡ Some items
+  pub after : u ≡ t
 
 pub item_step : (t : Table) (n : ℕ) (name : WordView) (u : Table) → item_declared t n name ≡ Ok u → ItemStep t name u
 item_step t n name u e = found (item_named t.names name.bytes) refl e
@@ -64,6 +70,13 @@ flush_step t n name targets u e = found (items_named t.names (name ∷ targets))
     found None is e = absurd cc
     found (Some []) is e = let p = parts (item_named t.names name.bytes) (items_named t.names targets) [] is in absurd (let w = p.whole in cc)
     found (Some (i ∷ items)) is e = room i items is (ltb 16384 (flush_count t.waits + length items)) refl e
+
+pub order_step : (t : Table) (n : ℕ) (names : List WordView) (u : Table) → items_ordered t n (items_named t.names names) ≡ Ok u → OrderStep t names u
+order_step t n names u e = found (items_named t.names names) refl e
+  where
+    found : (o : Option (List ℕ)) → items_named t.names names ≡ o → items_ordered t n o ≡ Ok u → OrderStep t names u
+    found None is e = absurd cc
+    found (Some items) is e = record { items = items; known = is; after = cc }
 
 -- ---- all steps
 
@@ -106,10 +119,12 @@ table_after-grows field said step t (d ∷ ds) w e =
 names_step : (t : Table) (d : ℕ × Directive) (u : Table) → declared t d.0 d.1 ≡ Ok u → u.names ≡ t.names ++ cons_option (item_name d) []
 names_step t (n, Item name) u e = ap (λ (v : Table). v.names) (item_step t n name u e).after
 names_step t (n, Flush name targets) u e = ap (λ (v : Table). v.names) (flush_step t n name targets u e).after ∙ sym (append-nil t.names)
+names_step t (n, Ordered names) u e = ap (λ (v : Table). v.names) (order_step t n names u e).after ∙ sym (append-nil t.names)
 
 spans_step : (t : Table) (d : ℕ × Directive) (u : Table) → declared t d.0 d.1 ≡ Ok u → u.spans ≡ t.spans ++ cons_option (item_span d) []
 spans_step t (n, Item name) u e = ap (λ (v : Table). v.spans) (item_step t n name u e).after
 spans_step t (n, Flush name targets) u e = ap (λ (v : Table). v.spans) (flush_step t n name targets u e).after ∙ sym (append-nil t.spans)
+spans_step t (n, Ordered names) u e = ap (λ (v : Table). v.spans) (order_step t n names u e).after ∙ sym (append-nil t.spans)
 
 pub names-table_after : (t : Table) (ds : List (ℕ × Directive)) (w : Table) → table_after t ds ≡ Ok w → w.names ≡ t.names ++ filter_map item_name ds
 names-table_after = table_after-grows (λ (v : Table). v.names) item_name names_step
@@ -129,6 +144,7 @@ IsTable-step t (n, Item name) u named h e =
 IsTable-step t (n, Flush name targets) u named h e =
     let s = flush_step t n name targets u e in
     subst IsTable (sym s.after) (IsTable-with_flushes t s.item s.items h (item_named-below t.names name.bytes s.item s.first) (items_named-below t.names targets s.items s.others) s.room)
+IsTable-step t (n, Ordered names) u named h e = subst IsTable (sym (order_step t n names u e).after) h
 
 pub IsTable-table_of : (ds : List (ℕ × Directive)) (t : Table) → AllByRecursion (λ (d : ℕ × Directive). HasNames d.1) ds → table_of ds ≡ Ok t → IsTable t
 IsTable-table_of ds t named e = table_after-keeps IsTable (λ (d : ℕ × Directive). HasNames d.1) IsTable-step empty_table ds t named IsTable-empty e

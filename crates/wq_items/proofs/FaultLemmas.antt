@@ -7,15 +7,15 @@ use Rattle.std.proofs.lemmas.List.Concat.{flat_map-append}
 use Rattle.std.proofs.lemmas.List.Elements.{All-nil, All-cons, filter_map-append}
 use Rattle.wq_text.specs.Words.{WordView}
 use Rattle.wq_decl.specs.declared.directive.Directive.{Directive}
-use Rattle.wq_decl.specs.declared.directive.Directive.TheVariants.{Item, Flush}
+use Rattle.wq_decl.specs.declared.directive.Directive.TheVariants.{Item, Flush, Ordered}
 use Rattle.wq_items.specs.declared.fault.ItemError.{ItemError}
 use Rattle.wq_items.specs.declared.fault.ItemError.TheVariants.{ItemTwice, UnknownItem, TooManyItems, TooManyFlushes, OutOfMemory}
 use Rattle.wq_items.specs.Table.{Table, item_named, flush_count}
-use Rattle.wq_items.specs.Building.{empty_table, with_item, with_flushes, and_item, items_named, item_declared, flushes_declared, declared, table_of}
+use Rattle.wq_items.specs.Building.{empty_table, with_item, with_flushes, and_item, items_named, item_declared, flushes_declared, items_ordered, declared, table_of}
 use Rattle.wq_items.specs.Flushes.{item_name, line_flushes, flushes, names_used}
 use Rattle.wq_items.specs.FirstFault.{IsDeclared, IsFaultless, IsFaultOfLine, IsLowestFault}
 use Rattle.wq_items.proofs.TableLemmas.{differs-from-item_named, parts, item_named-below, length-items_named, flush_count-with_item}
-use Rattle.wq_items.proofs.BuildingLemmas.{item_step, flush_step, table_after-keeps, names-table_of, IsFirstFault-table_after, table_of-first_fault, IsAccepted-table_of}
+use Rattle.wq_items.proofs.BuildingLemmas.{item_step, flush_step, order_step, table_after-keeps, names-table_of, IsFirstFault-table_after, table_of-first_fault, IsAccepted-table_of}
 use Rattle.wq_items.proofs.FlushLemmas.{item_named-is, IsEven, IsEven-empty, IsEven-step, count_step, flush_count-table_of}
 
 words_bytes : List WordView → List (List ℕ)
@@ -117,6 +117,7 @@ IsWithin-step t (n, Flush name targets) u q h e =
         s.room,
       );
     }
+IsWithin-step t (n, Ordered names) u q h e = subst IsWithin (sym (order_step t n names u e).after) h
 
 every : (ds : List (ℕ × Directive)) → AllByRecursion (λ (d : ℕ × Directive). Unit {0}) ds
 every [] = tt
@@ -132,6 +133,7 @@ names_known t (n, Item name) u e = All-nil (Contains t.names)
 names_known t (n, Flush name targets) u e =
     let s = flush_step t n name targets u e in
     All-cons (Contains t.names) name.bytes (words_bytes targets) (Contains-item_named t.names name.bytes s.item s.first) (All-items_named t.names targets s.items s.others)
+names_known t (n, Ordered names) u e = let s = order_step t n names u e in All-items_named t.names names s.items s.known
 
 IsFaultless-table_of : (ds : List (ℕ × Directive)) (t : Table) → table_of ds ≡ Ok t → IsFaultless ds
 IsFaultless-table_of ds t e =
@@ -217,9 +219,23 @@ module _ (before : List (ℕ × Directive)) (t : Table) (makes : table_of before
       found (Some []) there is = absurd cc
       found (Some (i ∷ items)) there is = room i items there (ltb 16384 (flush_count t.waits + length items)) refl is
 
+  order_fault : (n : ℕ) (names : List WordView) (e : ItemError) → items_ordered t n (items_named t.names names) ≡ Err e → IsFaultOfLine before (n, Ordered names) e
+  unfolding words_bytes
+  order_fault n names e is = found (items_named t.names names) refl is
+    where
+      found : (o : Option (List ℕ)) → items_named t.names names ≡ o → items_ordered t n o ≡ Err e → IsFaultOfLine before (n, Ordered names) e
+      found None there is =
+          let same : UnknownItem n ≡ e = cc in
+          subst (IsFaultOfLine before (n, Ordered names)) same (
+            refl,
+            subst (λ (l : List (List ℕ)). Any (λ (name : List ℕ). ¬ Contains l name) (map (λ (word : WordView). word.bytes) names)) names_are (Any-items_named t.names names there),
+          )
+      found (Some items) there is = absurd cc
+
   pub IsFaultOfLine-declared : (d : ℕ × Directive) (e : ItemError) → declared t d.0 d.1 ≡ Err e → IsFaultOfLine before d e
   IsFaultOfLine-declared (n, Item name) e is = item_fault n name e is
   IsFaultOfLine-declared (n, Flush name targets) e is = flush_fault n name targets e is
+  IsFaultOfLine-declared (n, Ordered names) e is = order_fault n names e is
 
   -- behind faultless lines, such a line is refused
   declared-from_fault : IsFaultless before → (d : ℕ × Directive) (e : ItemError) → IsFaultOfLine before d e → declared t d.0 d.1 ≡ Err e
@@ -257,6 +273,14 @@ module _ (before : List (ℕ × Directive)) (t : Table) (makes : table_of before
       ∙ ap (λ (b : Bool). cond b (Err (TooManyFlushes n)) (Ok (with_flushes t q.item q.others))) (lt-ltb 16384 (flush_count t.waits + length q.others) full)
       ∙ ap (λ (k : ℕ). Err (TooManyFlushes k)) p.0
   declared-from_fault h (n, Flush name targets) OutOfMemory p = absurd p
+  declared-from_fault h (n, Ordered names) (ItemTwice m) p = absurd p.1
+  declared-from_fault h (n, Ordered names) (TooManyItems m) p = absurd p.1
+  declared-from_fault h (n, Ordered names) (UnknownItem m) p =
+      let unknown = subst (λ (l : List (List ℕ)). Any (λ (name : List ℕ). ¬ Contains l name) (map (λ (word : WordView). word.bytes) names)) (sym names_are) p.1 in
+      ap (items_ordered t n) (items_named-from_Any t.names names unknown) ∙ ap (λ (k : ℕ). Err (UnknownItem k)) p.0
+  declared-from_fault h (n, Ordered names) (TooManyFlushes m) p =
+      absurd (omega (arith, p.2, flushes_more (n, Ordered names), flush_count-table_of before t makes, h.flushes))
+  declared-from_fault h (n, Ordered names) OutOfMemory p = absurd p
 
 -- ---- all lines
 
@@ -272,6 +296,7 @@ no_fault_among ds before (n, Item name) after (ItemTwice m) h is p =
     subst (AllPairs (λ (a b : List ℕ). a ≢ b)) (ap (filter_map item_name) is ∙ filter_map-append item_name before ((n, Item name) ∷ after)) h.once
     )
 no_fault_among ds before (n, Flush name targets) after (ItemTwice m) h is p = p.1
+no_fault_among ds before (n, Ordered names) after (ItemTwice m) h is p = p.1
 no_fault_among ds before (n, Item name) after (TooManyItems m) h is p =
     omega (
       arith,
@@ -281,6 +306,7 @@ no_fault_among ds before (n, Item name) after (TooManyItems m) h is p =
       length-append (filter_map item_name before) (name.bytes ∷ filter_map item_name after),
     )
 no_fault_among ds before (n, Flush name targets) after (TooManyItems m) h is p = p.1
+no_fault_among ds before (n, Ordered names) after (TooManyItems m) h is p = p.1
 no_fault_among ds before d after (UnknownItem m) h is p = not_both (filter_map item_name before) (names_used d) (h.known before d after is) p.1
 no_fault_among ds before d after (TooManyFlushes m) h is p =
     omega (

@@ -10,13 +10,13 @@ use Rattle.std.proofs.lemmas.Option.{get_or_from_slice_get, slice_get_within}
 use Rattle.std.proofs.lemmas.Slice.Eq.{bytes_eq-Decides}
 use Rattle.wq_text.specs.Words.{WordView}
 use Rattle.wq_decl.specs.declared.directive.Directive.{Directive}
-use Rattle.wq_decl.specs.declared.directive.Directive.TheVariants.{Item, Flush}
+use Rattle.wq_decl.specs.declared.directive.Directive.TheVariants.{Item, Flush, Ordered}
 use Rattle.wq_items.specs.declared.target.Target.{Target}
 use Rattle.wq_items.specs.Table.{Table, item_named, targets_of, flush_count}
 use Rattle.wq_items.specs.Building.{empty_table, with_item, with_flushes, targets_from, items_named, declared, table_after, table_of}
 use Rattle.wq_items.specs.Flushes.{item_name, line_flushes, flushes, flushes_of, named_targets}
 use Rattle.wq_items.proofs.TableLemmas.{differs-from-item_named, parts, item_named-below, length-items_named, flush_count-with_item, flush_count-with_flushes}
-use Rattle.wq_items.proofs.BuildingLemmas.{item_step, flush_step, and_then-Ok, table_after-keeps, names-table_after}
+use Rattle.wq_items.proofs.BuildingLemmas.{item_step, flush_step, order_step, and_then-Ok, table_after-keeps, names-table_after}
 
 -- ---- lists
 
@@ -61,6 +61,7 @@ IsEven-step t (n, Flush name targets) u q h e =
       distinct = h.distinct;
     }
     )
+IsEven-step t (n, Ordered names) u q h e = subst IsEven (sym (order_step t n names u e).after) h
 
 all : (ds : List (ℕ × Directive)) → AllByRecursion (λ (d : ℕ × Directive). Unit {0}) ds
 all [] = tt
@@ -78,6 +79,7 @@ count_step t (n, Flush name targets) u h e =
     let within : s.item < length t.waits = omega (arith, item_named-below t.names name.bytes s.item s.first, h.waits) in
     ap (λ (v : Table). flush_count v.waits) s.after ∙ flush_count-with_flushes t s.item s.items within
     ∙ ap (λ (k : ℕ). flush_count t.waits + k) (length-items_named t.names targets s.items s.others ∙ sym (length-map {B = List ℕ × List ℕ} targets (λ (w : WordView). (name.bytes, w.bytes))))
+count_step t (n, Ordered names) u h e = ap (λ (v : Table). flush_count v.waits) (order_step t n names u e).after ∙ omega arith
 
 pub flush_count-table_after : (t : Table) (ds : List (ℕ × Directive)) (w : Table) → IsEven t → table_after t ds ≡ Ok w → flush_count w.waits ≡ flush_count t.waits + length (flushes ds)
 flush_count-table_after t [] w h e = let same : w ≡ t = cc in ap (λ (v : Table). flush_count v.waits) same ∙ omega arith
@@ -128,6 +130,8 @@ record Adds (names : List (List ℕ)) (t : Table) (d : ℕ × Directive) (u : Ta
 
 adds_item : (names : List (List ℕ)) (t : Table) (n : ℕ) (name : WordView) (i : ℕ) → Adds names t (n, Item name) (with_item t name) i
 adds_item names t n name i = record { targets = ap (targets_in names) (get_or-push_nil t.waits i) ∙ sym (append-nil (targets_in names (targets_of t.waits i))) }
+adds_order : (names : List (List ℕ)) (t : Table) (n : ℕ) (ordered : List WordView) (i : ℕ) → Adds names t (n, Ordered ordered) t i
+adds_order names t n ordered i = record { targets = sym (append-nil (targets_in names (targets_of t.waits i))) }
 
 ne_places : (names : List (List ℕ)) (i j : ℕ) → AllPairs (λ (a b : List ℕ). a ≢ b) names → i < length names → j < length names → j ≢ i → get_or names j [] ≢ get_or names i []
 ne_places names i j distinct in-i in-j differ =
@@ -178,6 +182,7 @@ module _ (names rest : List (List ℕ)) (t : Table) (even : IsEven t) (front : n
   adds (n, Flush name targets) u i e within =
       let s = flush_step t n name targets u e in
       subst (λ (v : Table). Adds names t (n, Flush name targets) v i) (sym s.after) (adds_flush n name targets s.item s.items i s.first s.others within)
+  adds (n, Ordered ordered) u i e within = subst (λ (v : Table). Adds names t (n, Ordered ordered) v i) (sym (order_step t n ordered u e).after) (adds_order names t n ordered i)
 
 -- ---- all lines
 

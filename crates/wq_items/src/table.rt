@@ -6,10 +6,10 @@
 ghost use Rattle.std.specs.Prelude.{◌≡◌, ◌+◌, ◌^◌, ◌<◌, ◌≤◌, ℕ, length, Ok, IfOk, IfErr, IfSome, IsOk, IsSome, OnOk, slice_get, slice_set, Some, IsTrue, ◌↔◌, ◌∷◌, ◌++◌, option_map};
 ghost use Rattle.wq_decl.specs.Names.{is_name};
 ghost use Rattle.wq_decl.specs.Reading.{HasNames};
-ghost use Rattle.wq_items.specs.Table.{IsTable, item_named, targets_of};
+ghost use Rattle.wq_items.specs.Table.{IsTable, item_named, targets_of, flush_count};
 ghost use Rattle.wq_items.specs.declared.fault.ItemError.TheVariants.{OutOfMemory};
 ghost use Rattle.wq_items.specs.FirstFault.{RanOut};
-ghost use Rattle.wq_items.specs.Building.{table_of, declared, item_declared, flushes_declared, items_named, targets_from, empty_table, IsFaultOf};
+ghost use Rattle.wq_items.specs.Building.{table_of, declared, item_declared, flushes_declared, items_ordered, items_named, targets_from, empty_table, IsFaultOf};
 
 use crate::fault::ItemError;
 use crate::names::Names;
@@ -21,10 +21,10 @@ use wq_decl::{DeclView, Directive};
 use wq_text::{Span, Word, Words};
 
 /// How many items a declaration may declare.
-pub const MAX_ITEMS: usize = 4096;
+const MAX_ITEMS: usize = 4096;
 
 /// How many flushes a declaration may declare, all items together.
-pub const MAX_FLUSHES: u32 = 16_384;
+const MAX_FLUSHES: u32 = 16_384;
 
 /// The items of a declaration, by number. Contracts see the record of their names, spans and targets.
 #[derive(Drop)]
@@ -114,6 +114,7 @@ impl<'a, A: Allocator + Copy> ItemTable<'a, A> {
         match directive {
             Directive::Item(name) => self.declare_item(alloc, line, name),
             Directive::Flush(name, targets) => self.declare_flushes(line, name, targets),
+            Directive::Ordered(names) => self.declare_order(line, names),
         }
     }
 
@@ -195,6 +196,18 @@ impl<'a, A: Allocator + Copy> ItemTable<'a, A> {
         })
     }
 
+    /// The table as it is, where each of these names is an item's.
+    fn declare_order(self, line: u32, names: Words<'a>) -> Result<Self, ItemError>
+        ensures table { IfOk result (λ t. items_ordered self.entry line (items_named self.entry.names names.entry) ≡ Ok t) }
+        ensures fault { IfErr result (λ e. IsFaultOf e (items_ordered self.entry line (items_named self.entry.names names.entry))) }
+        ensures memory { IfErr result (λ e. e ≡ OutOfMemory → IsOk (items_ordered self.entry line (items_named self.entry.names names.entry))) }
+    {
+        if self.count_known(names.again()).is_none() {
+            return Err(ItemError::UnknownItem { line });
+        }
+        Ok(self)
+    }
+
     /// How many items there are, at most 4,096.
     pub fn len(&self) -> u16
         ensures len { result ≡ length self.now.names }
@@ -208,6 +221,14 @@ impl<'a, A: Allocator + Copy> ItemTable<'a, A> {
         ensures { IsTrue result ↔ (length self.now.names ≡ 0) }
     {
         self.names.len() == 0
+    }
+
+    /// How many flushes are declared, all items together, at most 16,384.
+    pub fn flushes(&self) -> u32
+        ensures count { result ≡ flush_count self.now.waits }
+        ensures limit { result ≤ 16384 }
+    {
+        self.flushes
     }
 
     /// The name of an item below `len()`, a slice of the text.
