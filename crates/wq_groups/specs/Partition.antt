@@ -11,10 +11,11 @@ pub record Partition : Type 0 where
 abbrev pub members_of : List ℕ → ℕ → List ℕ
 members_of group_of g = filter (λ i. slice_index group_of i == g) (range_with_len 0 (length group_of))
 
--- at most 4,096 items, each in one of the groups; each group has a member; and groups are numbered by their first
--- members: before an item stand members of all groups that are numbered below its own
+-- at most 4,096 items, and no more groups than items; each item is in one of the groups, and each group has a member;
+-- groups are numbered by their first members: before an item stand members of all groups that are numbered below its own
 pub record IsPartition (p : Partition) : Type 0 where
   pub few_items : length p.group_of ≤ 4096
+  pub few_groups : p.groups ≤ length p.group_of
   pub within : All (λ g. g < p.groups) p.group_of
   pub filled : (g : ℕ) → g < p.groups → Contains p.group_of g
   pub in_order : (i g : ℕ) → i < length p.group_of → g < slice_index p.group_of i → Contains (take i p.group_of) g

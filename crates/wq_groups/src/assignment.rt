@@ -4,7 +4,7 @@
 //! for each group (Documentation/core-api/workqueue.rst, "Guidelines"). Making one takes time in the number of groups;
 //! each other call takes constant time.
 
-ghost use Rattle.std.specs.Prelude.{◌≡◌, ◌<◌, ◌≤◌, ◌↔◌, length, slice_get, Some, IsSome, IfSome};
+ghost use Rattle.std.specs.Prelude.{◌≡◌, ◌<◌, ◌≤◌, ◌↔◌, length, slice_get, Some, IsSome, IsTrue, IfSome};
 ghost use Rattle.std.specs.List.{All};
 
 use crate::ids::{GroupId, LaneId};
@@ -45,8 +45,8 @@ impl<A: Allocator> Assignment<A> {
     ///
     /// `None` where a number isn't below `lanes`, or `lanes` is above 4,096; the list is then dropped.
     pub fn new(lanes: u16, of_group: Vec<LaneId, A>) -> Option<Self>
-        ensures some { IfSome result (λ a. (a.lanes ≡ lanes) × (a.lane_of_group ≡ of_group.entry.items)) }
-        ensures exactly { IsSome result ↔ ((lanes ≤ 4096) × All (λ l. l < lanes) of_group.entry.items) }
+        ensures some { IfSome result (λ a. (a.lanes ≡ lanes) × (a.lane_of_group ≡ of_group.items)) }
+        ensures exactly { IsSome result ↔ ((lanes ≤ 4096) × All (λ l. l < lanes) of_group.items) }
     {
         if lanes > MAX_LANES || !are_below(of_group.as_slice(), lanes) {
             return None;
