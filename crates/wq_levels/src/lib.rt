@@ -5,8 +5,8 @@
 //! depend on one another stand on separate workqueues, so a chain of n vertices needs n.
 #![tactic(auto)]
 
-mod rank;
 mod ranked;
+mod ranking;
 
-pub use rank::rank;
 pub use ranked::Ranked;
+pub use ranking::rank;

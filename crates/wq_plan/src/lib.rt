@@ -7,7 +7,7 @@
 #![tactic(auto)]
 
 mod answer;
-mod solve;
+mod solving;
 
 pub use answer::Answer;
-pub use solve::solve;
+pub use solving::solve;
