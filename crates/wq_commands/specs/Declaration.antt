@@ -1,5 +1,6 @@
 -- What a declaration text declares, pass by pass, or what it is refused for.
 use Rattle.std.specs.Prelude.{ℕ, List, Option, Some, None, Result, Ok, Err}
+use Rattle.wq_decl.specs.declared.directive.Directive.{Directive}
 use Rattle.wq_text.specs.declared.text.TextError.{TextError}
 use Rattle.wq_text.specs.Lines.{LineView, lines_of}
 use Rattle.wq_text.specs.Limits.{limit_fault, text_refusal}
@@ -9,6 +10,9 @@ use Rattle.wq_decl.specs.Reading.{first_fault, directives, decl_refusal}
 use Rattle.wq_items.specs.declared.fault.ItemError.{ItemError}
 use Rattle.wq_items.specs.Table.{Table}
 use Rattle.wq_items.specs.Building.{table_of, item_refusal}
+use Rattle.wq_groups.specs.declared.fault.GroupError.{GroupError}
+use Rattle.wq_groups.specs.Partition.{Partition}
+use Rattle.wq_groups.specs.Grouping.{groups_of, group_refusal}
 
 -- how many bytes a declaration may have
 abbrev pub max_text : ℕ
@@ -18,23 +22,33 @@ max_text = 1048576
 abbrev pub max_line : ℕ
 max_line = 4096
 
--- the table, or the refusal of the third pass
-abbrev pub by_table : Result Table ItemError → Result Table Refusal
-by_table (Ok table) = Ok table
-by_table (Err fault) = Err (item_refusal fault)
+-- the items of a text with their flushes, and their groups
+pub record Declared : Type 0 where
+  pub table : Table
+  pub partition : Partition
 
--- the refusal of the second pass, or what the third one says
-abbrev pub by_directives : Option DeclError → Result Table Refusal → Result Table Refusal
+-- the table with its groups, or the refusal of the fourth pass
+abbrev pub by_groups : Table → Result Partition GroupError → Result Declared Refusal
+by_groups table (Ok partition) = Ok (record { table = table; partition = partition })
+by_groups table (Err fault) = Err (group_refusal fault)
+
+-- the refusal of the third pass, or what the fourth one says
+abbrev pub by_table : List (ℕ × Directive) → Result Table ItemError → Result Declared Refusal
+by_table ds (Ok table) = by_groups table (groups_of ds table.names)
+by_table ds (Err fault) = Err (item_refusal fault)
+
+-- the refusal of the second pass, or what the other two say
+abbrev pub by_directives : Option DeclError → Result Declared Refusal → Result Declared Refusal
 by_directives (Some fault) rest = Err (decl_refusal fault)
 by_directives None rest = rest
 
--- the refusal of the first pass, or what the other two say
-abbrev pub by_limits : Option TextError → Result Table Refusal → Result Table Refusal
+-- the refusal of the first pass, or what the other three say
+abbrev pub by_limits : Option TextError → Result Declared Refusal → Result Declared Refusal
 by_limits (Some fault) rest = Err (text_refusal fault)
 by_limits None rest = rest
 
 -- what a text declares, or the first fault of the first pass that has one
-abbrev pub declaration : List ℕ → Result Table Refusal
+abbrev pub declaration : List ℕ → Result Declared Refusal
 declaration text =
     by_limits (limit_fault max_text max_line text)
-    (by_directives (first_fault (lines_of text)) (by_table (table_of (directives (lines_of text)))))
+    (by_directives (first_fault (lines_of text)) (by_table (directives (lines_of text)) (table_of (directives (lines_of text)))))

@@ -1,8 +1,12 @@
 pub use Rattle.wq_text.specs.Refusal
 pub use Rattle.wq_items.specs.Table
 pub use Rattle.wq_items.specs.Chain
+pub use Rattle.wq_groups.specs.Grouping
+pub use Rattle.wq_graph.specs.Graph
+pub use Rattle.wq_levels.specs.Walks
 pub use Rattle.wq_plan.specs.Plan
 pub mod Answer
+pub mod CircleText
 pub mod Declaration
 pub mod End
 pub mod Fault

@@ -1,11 +1,21 @@
 -- Plan texts: the workqueues with their items, and a longest waiting chain.
 use Rattle.std.specs.Prelude.{ℕ, ◌+◌, ◌==◌, List, [], ◌∷◌, ◌++◌, length, map, filter, flat_map, slice_index, slice_index_or, codes, decimal, if◌then◌else◌}
 use Rattle.std.specs.List.{range_with_len}
+use Rattle.wq_groups.specs.Assignment.{Assignment, lane_of}
+use Rattle.wq_graph.specs.declared.arc.WaitArc.{WaitArc}
 use Rattle.wq_commands.specs.LineText.{line_text}
 
 -- the name of an item
 abbrev pub name_of : List (List ℕ) → ℕ → List ℕ
 name_of names i = slice_index_or names i []
+
+-- of each item in turn the workqueue of its group
+abbrev pub item_lanes : Assignment → List ℕ → List ℕ
+item_lanes a group_of = map (lane_of a) group_of
+
+-- the item and the target of an arc
+abbrev pub ends_of : WaitArc → ℕ × ℕ
+ends_of arc = (arc.src, arc.dst)
 
 -- the items on workqueue q, in declaration order
 abbrev pub items_on : List ℕ → ℕ → List ℕ

@@ -3,15 +3,17 @@
 //! Takes time in the workqueues times the items and flushes, and memory in the length of the text.
 
 ghost use Rattle.std.specs.Prelude.{◌≡◌, IfOk, decimal};
-ghost use Rattle.wq_commands.specs.Answer.{Answers, refusal_text, circle_text};
+ghost use Rattle.wq_commands.specs.Answer.{Answers, refusal_text};
 ghost use Rattle.wq_text.specs.Refusal.{Refusal};
 
-use crate::declaration::{Stop, read_declaration};
+use crate::arc_printing::ends_of;
+use crate::circle_printing::circle_text;
+use crate::declaration::{Declaration, Stop, read_declaration};
 use crate::end::End;
 use crate::lines::{put, put_end, put_number, put_word};
 use crate::plan_printing::plan_text;
 use std::alloc::{AllocError, Allocator};
-use wq_plan::{Single, solve_single};
+use wq_plan::{Answer, solve};
 
 /// `refused CODE line N`.
 pub(crate) fn refusal_text<A: Allocator + Copy>(
@@ -30,16 +32,6 @@ pub(crate) fn refusal_text<A: Allocator + Copy>(
     Ok(out)
 }
 
-/// `circle`.
-fn circle_text<A: Allocator + Copy>(alloc: A) -> Result<Vec<u8, A>, AllocError>
-    ensures { IfOk result (λ text. text.items ≡ circle_text) }
-{
-    let mut out = Vec::new(alloc);
-    put(&mut out, b"circle")?;
-    put_end(&mut out)?;
-    Ok(out)
-}
-
 /// How a run ends that is given this text, and what it prints.
 pub(crate) fn answer<A: Allocator + Copy>(
     alloc: A,
@@ -47,18 +39,22 @@ pub(crate) fn answer<A: Allocator + Copy>(
 ) -> Result<(End, Vec<u8, A>), AllocError>
     ensures { IfOk result (λ answer. Answers text.now answer.0 answer.1.items) }
 {
-    let table = match read_declaration(alloc, text) {
-        Ok(table) => table,
+    let Declaration { table, groups } = match read_declaration(alloc, text) {
+        Ok(declaration) => declaration,
         Err(Stop::Refused { code, line }) => {
             return Ok((End::Refused, refusal_text(alloc, code, line)?));
         }
         Err(Stop::OutOfMemory) => return Err(AllocError),
     };
-    match solve_single(alloc, &table)? {
-        Single::Plan { lanes, lane, chain } => {
-            let text = plan_text(alloc, &table, lanes, &lane, &chain)?;
+    match solve(alloc, &table, &groups)? {
+        Answer::Plan { assignment, chain } => {
+            let chain = ends_of(alloc, &chain)?;
+            let text = plan_text(alloc, &table, &groups, &assignment, &chain)?;
             Ok((End::Good, text))
         }
-        Single::Circle => Ok((End::Bad, circle_text(alloc)?)),
+        Answer::Circle { arcs } => {
+            let arcs = ends_of(alloc, &arcs)?;
+            Ok((End::Bad, circle_text(alloc, &table, &arcs)?))
+        }
     }
 }

@@ -1,4 +1,4 @@
-//! The three passes over a declaration text, one after the other.
+//! The four passes over a declaration text, one after the other.
 //!
 //! Takes time in the length of the text, and memory in the items and the flushes.
 
@@ -6,23 +6,30 @@ ghost use Rattle.std.specs.Prelude.{◌≡◌, Ok, Err, None, Result, IfOk, IfEr
 ghost use Rattle.wq_text.specs.Lines.{lines_of};
 ghost use Rattle.wq_text.specs.Limits.{limit_fault, text_refusal};
 ghost use Rattle.wq_decl.specs.Reading.{first_fault, decl_refusal};
-ghost use Rattle.wq_items.specs.Building.{item_refusal};
 ghost use Rattle.wq_commands.specs.Declaration.{declaration, max_text, max_line};
-ghost use Rattle.wq_commands.specs.Stop.{StopsAt, item_stop};
+ghost use Rattle.wq_commands.specs.Stop.{StopsAt, item_stop, group_stop};
 ghost use Rattle.wq_commands.specs.declared.declaration.Stop.TheVariants.{Refused, OutOfMemory};
 
 use std::alloc::Allocator;
 use wq_decl::{DeclError, DeclView};
+use wq_groups::{GroupError, Groups};
 use wq_items::{ItemError, ItemTable};
 use wq_text::{Text, TextError};
 
 /// How many bytes a declaration may have.
-pub const MAX_TEXT: u32 = 1_048_576;
+pub(crate) const MAX_TEXT: u32 = 1_048_576;
 
-/// How many bytes a line of it may have, its line feed not counted.
-pub const MAX_LINE: u32 = 4096;
+/// How many bytes a line of it may have, its line feed and a carriage return before that not counted.
+const MAX_LINE: u32 = 4096;
 
-/// Why a text has no table.
+/// What a text declares: its items with their flushes, and their groups.
+#[derive(Drop)]
+pub struct Declaration<'a, A: Allocator> {
+    pub table: ItemTable<'a, A>,
+    pub groups: Groups<A>,
+}
+
+/// Why a text declares nothing.
 #[derive(Clone, Copy, Debug, PartialEq, Eq)]
 pub enum Stop {
     /// The text is refused, for the fault of this number on this line, or on line 0 where no line is meant.
@@ -67,22 +74,37 @@ impl From<ItemError> for Stop {
     }
 }
 
-/// The table that a text declares.
+impl From<GroupError> for Stop {
+    ghost from_gives = { λ e s. s ≡ group_stop e };
+
+    fn from(e: GroupError) -> Stop {
+        match e {
+            GroupError::OutOfMemory => Stop::OutOfMemory,
+            fault => Stop::Refused {
+                code: fault.code(),
+                line: fault.line(),
+            },
+        }
+    }
+}
+
+/// What a text declares.
 ///
 /// The answer is the first fault of the first pass that has one, or `OutOfMemory` where a growth was refused before
 /// it.
 pub fn read_declaration<A: Allocator + Copy>(
     alloc: A,
     text: &[u8],
-) -> Result<ItemTable<'_, A>, Stop>
-    ensures table { IfOk result (λ t. declaration text.now ≡ Ok t) }
+) -> Result<Declaration<'_, A>, Stop>
+    ensures declaration { IfOk result (λ d. declaration text.now ≡ Ok (record { table = d.table; partition = d.groups })) }
     ensures stop { IfErr result (λ s. StopsAt s (declaration text.now)) }
-    // Only the third pass takes memory.
+    // The first two passes take no memory.
     ensures first_passes { result ≡ Err OutOfMemory → (limit_fault max_text max_line text.now ≡ None)
         × (first_fault (lines_of text.now) ≡ None) }
 {
     let text = Text::new(text, MAX_TEXT, MAX_LINE)?;
     let view = DeclView::new(text)?;
     let table = ItemTable::read(alloc, &view)?;
-    Ok(table)
+    let groups = Groups::read(alloc, &view, &table)?;
+    Ok(Declaration { table, groups })
 }

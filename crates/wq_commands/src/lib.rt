@@ -5,6 +5,8 @@
 #![tactic(auto)]
 
 mod answer;
+mod arc_printing;
+mod circle_printing;
 mod declaration;
 mod end;
 mod fault;
@@ -16,7 +18,8 @@ mod output;
 mod plan;
 mod plan_printing;
 
-pub use declaration::{Stop, read_declaration};
+pub use circle_printing::circle_text;
+pub use declaration::{Declaration, Stop, read_declaration};
 pub use end::End;
 pub use fault::Fault;
 pub use input::read_text;

@@ -1,4 +1,4 @@
-//! Plan texts: what `plan` prints for items that wait in no circle.
+//! Plan texts: what `plan` prints for groups that wait in no circle.
 //!
 //! The format is that of "Plan texts" in docs/FORMAT.md. Printing takes time in the workqueues times the items, and
 //! in the length of the text.
@@ -6,10 +6,12 @@
 ghost use Rattle.std.specs.Prelude.{◌≡◌, ◌<◌, ◌++◌, ◌^◌, ℕ, length, OnOk, IfOk};
 ghost use Rattle.std.specs.List.{All};
 ghost use Rattle.wq_commands.specs.LineText.{line_text};
-ghost use Rattle.wq_commands.specs.PlanText.{plan_line, wq_line, chain_line, arc_line, plan_text};
+ghost use Rattle.wq_commands.specs.PlanText.{plan_line, wq_line, chain_line, item_lanes, plan_text};
 
+use crate::arc_printing::put_arc_line;
 use crate::lines::{put, put_end, put_number, put_word};
 use std::alloc::{AllocError, Allocator};
+use wq_groups::{Assignment, Groups};
 use wq_items::{ItemId, ItemTable};
 
 /// Adds `plan K`.
@@ -66,26 +68,49 @@ fn put_chain_line<A: Allocator + Copy>(
     put_end(out)
 }
 
-/// Adds `arc NAME TARGET`.
-fn put_arc_line<A: Allocator + Copy>(
-    out: &mut Vec<u8, A>,
-    table: &ItemTable<'_, A>,
-    arc: (ItemId, ItemId),
-) -> Result<(), AllocError>
-    requires source { arc.0 < length table.now.names }
-    requires target { arc.1 < length table.now.names }
-    ensures { OnOk result (out.new.items ≡ out.old.items ++ line_text (arc_line table.now.names arc)) }
+/// Of each item in turn the workqueue of its group.
+fn item_lanes<A: Allocator + Copy>(
+    alloc: A,
+    items: u16,
+    groups: &Groups<A>,
+    assignment: &Assignment<A>,
+) -> Result<Vec<u16, A>, AllocError>
+    requires items { length groups.now.group_of ≡ items }
+    requires groups { length assignment.now.lane_of_group ≡ groups.now.groups }
+    ensures { IfOk result (λ lane. lane.items ≡ item_lanes assignment.now groups.now.group_of) }
 {
-    put(out, b"arc")?;
-    put_word(out, table.name(arc.0))?;
-    put_word(out, table.name(arc.1))?;
-    put_end(out)
+    let mut lane = Vec::new(alloc);
+    for i in 0..items {
+        let group = groups.of(ItemId::new(i));
+        lane.push(assignment.lane(group).get())?;
+    }
+    Ok(lane)
 }
 
-/// The text of a plan: the number of the workqueues, the workqueue of each item, and the arcs of a waiting chain.
+/// The text of a plan: the number of the workqueues, the items of each, and the arcs of a waiting chain.
 ///
-/// The chain has fewer than 65,536 arcs, each from an item of the table to another one.
+/// The groups are those of the table's items, and each has a workqueue. The chain has fewer than 65,536 arcs, each from
+/// an item of the table to one of it.
 pub fn plan_text<A: Allocator + Copy>(
+    alloc: A,
+    table: &ItemTable<'_, A>,
+    groups: &Groups<A>,
+    assignment: &Assignment<A>,
+    chain: &[(ItemId, ItemId)],
+) -> Result<Vec<u8, A>, AllocError>
+    requires grouped { length groups.now.group_of ≡ length table.now.names }
+    requires assigned { length assignment.now.lane_of_group ≡ groups.now.groups }
+    requires few { length chain.now < 2 ^ 16 }
+    requires items { All (λ (arc : ℕ × ℕ). (arc.0 < length table.now.names) × (arc.1 < length table.now.names)) chain.now }
+    ensures { IfOk result (λ text. text.items
+        ≡ plan_text table.now.names assignment.now.lanes (item_lanes assignment.now groups.now.group_of) chain.now) }
+{
+    let lane = item_lanes(alloc, table.len(), groups, assignment)?;
+    print_plan(alloc, table, assignment.lanes(), &lane, chain)
+}
+
+/// The text of a plan that gives each item its workqueue.
+fn print_plan<A: Allocator + Copy>(
     alloc: A,
     table: &ItemTable<'_, A>,
     lanes: u16,

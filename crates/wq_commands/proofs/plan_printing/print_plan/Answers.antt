@@ -3,7 +3,7 @@ use Rattle.std.specs.List.{range_with_len}
 use Rattle.wq_commands.specs.LineText.{line_text}
 use Rattle.wq_commands.specs.PlanText.{plan_line, wq_line}
 use Rattle.wq_commands.proofs.LineLemmas.{lines, lines-push, range_with_len-more}
-use Rattle.wq_commands.proofs.plan_printing.plan_text.Goals as goal
+use Rattle.wq_commands.proofs.plan_printing.print_plan.Goals as goal
 
 pub loop-q-preserved : goal.loop-q-preserved
 loop-q-preserved g c =

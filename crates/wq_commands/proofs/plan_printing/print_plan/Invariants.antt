@@ -3,7 +3,7 @@ use Rattle.std.specs.List.{range_with_len}
 use Rattle.wq_commands.specs.LineText.{line_text}
 use Rattle.wq_commands.specs.PlanText.{plan_line, wq_line, chain_line, arc_line}
 use Rattle.wq_commands.proofs.LineLemmas.{lines}
-use Rattle.wq_commands.proofs.plan_printing.plan_text.Given as goal
+use Rattle.wq_commands.proofs.plan_printing.print_plan.Given as goal
 
 -- the lines of the workqueues below q
 abbrev pub invariant-loop-q : goal.invariant-loop-q

@@ -5,7 +5,7 @@ use Rattle.std.proofs.lemmas.Result.{on_ok_weaker}
 use Rattle.wq_commands.specs.LineText.{spaced}
 use Rattle.wq_commands.specs.PlanText.{name_of}
 use Rattle.wq_commands.proofs.LineLemmas.{line_text-three}
-use Rattle.wq_commands.proofs.plan_printing.put_arc_line.Goals as goal
+use Rattle.wq_commands.proofs.arc_printing.put_arc_line.Goals as goal
 
 pub returns : goal.returns
 returns g c =
