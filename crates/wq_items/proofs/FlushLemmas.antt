@@ -130,6 +130,7 @@ record Adds (names : List (List ℕ)) (t : Table) (d : ℕ × Directive) (u : Ta
 
 adds_item : (names : List (List ℕ)) (t : Table) (n : ℕ) (name : WordView) (i : ℕ) → Adds names t (n, Item name) (with_item t name) i
 adds_item names t n name i = record { targets = ap (targets_in names) (get_or-push_nil t.waits i) ∙ sym (append-nil (targets_in names (targets_of t.waits i))) }
+
 adds_order : (names : List (List ℕ)) (t : Table) (n : ℕ) (ordered : List WordView) (i : ℕ) → Adds names t (n, Ordered ordered) t i
 adds_order names t n ordered i = record { targets = sym (append-nil (targets_in names (targets_of t.waits i))) }
 

@@ -1,4 +1,4 @@
--- Going over the words of a `flush` line: how many were known, and what they added.
+-- Going over the words of a `flush` or an `ordered` line: how many were known, and what the targets of a flush added.
 use Rattle.std.proofs.Common.{◌≡◌, ℕ, zero, suc, ◌+◌, ◌<◌, List, [], ◌∷◌, ◌++◌, length, set, Option, Some, None, refl, sym, ap, subst, ◌∙◌, arith, append_assoc, append-nil}
 use Rattle.std.specs.Prelude.{IsSome, IfSome, option_map}
 use Rattle.std.proofs.lemmas.List.{get_or-set_same, set-get_or, length-append}

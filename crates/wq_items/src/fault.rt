@@ -1,4 +1,7 @@
 //! Why directives make no table.
+//!
+//! The faults are those of the pass over the items in the table of refusals in docs/FORMAT.md; the rules that they break
+//! stand in its "Items" and "Limits". Each answer takes constant time.
 
 ghost use Rattle.std.specs.Prelude.{◌≡◌};
 ghost use Rattle.wq_items.specs.Building.{item_refusal};
@@ -14,13 +17,13 @@ pub enum ItemError {
     /// The item is already declared (7).
     #[error("line {line}: the item is already declared")]
     ItemTwice { line: u32 },
-    /// A name that no earlier line declares (8).
+    /// A name on a `flush` or an `ordered` line that no earlier line declares (8).
     #[error("line {line}: no earlier line declares this item")]
     UnknownItem { line: u32 },
     /// There are 4,096 items already (9).
     #[error("line {line}: too many items")]
     TooManyItems { line: u32 },
-    /// With this line there are more than 16,384 flushes (10).
+    /// With the targets of this line there are more than 16,384 flushes (10).
     #[error("line {line}: too many flushes")]
     TooManyFlushes { line: u32 },
     /// Memory ran out (20, without a line).

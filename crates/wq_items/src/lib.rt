@@ -3,7 +3,8 @@
 //! What the layer above relies on: items and waits are those that the directives declare, or else the answer is the
 //! first fault; and what holds of every table, its limits above all (`IsTable`). The rules are those of "Items" in
 //! docs/FORMAT.md. An item stands for a `struct work_struct`, a flush for `flush_work` in its function
-//! (Documentation/core-api/workqueue.rst; kernel/workqueue.c).
+//! (Documentation/core-api/workqueue.rst; kernel/workqueue.c). Of the items that share one ordered workqueue only the
+//! names are looked up here.
 #![tactic(auto)]
 
 pub mod chain_laws;

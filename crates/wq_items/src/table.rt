@@ -1,5 +1,8 @@
 //! The table of items: names, where they stand, and what each item flushes.
 //!
+//! The rules are those of "Items" in docs/FORMAT.md. Of an `ordered` line only the names are looked up here; it changes
+//! nothing in the table.
+//!
 //! Reading takes time in the number of the words of the declaration, and memory in the number of items and flushes.
 //! Afterwards each question is answered in constant time, but for `find`, which takes the time to hash a name.
 
@@ -89,7 +92,10 @@ impl<'a, A: Allocator + Copy> ItemTable<'a, A> {
 
     /// The table that the directives of a view declare.
     ///
-    /// The answer is the first fault, of the lowest line that has one: `ItemTwice` (7), `TooManyItems` (9),
+    /// Each target of a `flush` line is a flush of its own. An `ordered` line adds nothing, but each name on it must be
+    /// declared by an earlier `item` line, as each name on a `flush` line.
+    ///
+    /// Else the answer is the first fault, of the lowest line that has one: `ItemTwice` (7), `TooManyItems` (9),
     /// `UnknownItem` (8) or `TooManyFlushes` (10), in this order in a line; or `OutOfMemory` (20) where a growth was
     /// refused before it.
     pub fn read(alloc: A, view: &DeclView<'a>) -> Result<Self, ItemError>
@@ -196,7 +202,7 @@ impl<'a, A: Allocator + Copy> ItemTable<'a, A> {
         })
     }
 
-    /// The table as it is, where each of these names is an item's.
+    /// The table as it is, if each of these words names an item.
     fn declare_order(self, line: u32, names: Words<'a>) -> Result<Self, ItemError>
         ensures table { IfOk result (λ t. items_ordered self.entry line (items_named self.entry.names names.entry) ≡ Ok t) }
         ensures fault { IfErr result (λ e. IsFaultOf e (items_ordered self.entry line (items_named self.entry.names names.entry))) }
