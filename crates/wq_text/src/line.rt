@@ -113,7 +113,7 @@ fn first_cut<'a>(bytes: &'a [u8]) -> Cut<'a>
     }
 }
 
-/// The bytes of the line that a piece is: those of the piece, without one CR directly before the line feed that ends it.
+/// The bytes of the line that a piece makes: those of the piece, without one CR directly before its line feed.
 fn line_bytes(piece: &[u8], ended: bool) -> &[u8]
     ensures bytes { result.now ≡ line_bytes (record { bytes = piece.now; ended = ended }) }
     ensures no_longer { length result.now ≤ length piece.now }
