@@ -3,6 +3,7 @@ use Rattle.std.proofs.Common.{◌≡◌, ℕ, Bool, true, false, cond, ◌&&◌,
 use Rattle.std.specs.Prelude.{IsTrue, codes, bytes_eq}
 use Rattle.std.specs.List.{AllByRecursion, list_all, cons_option}
 use Rattle.wq_text.specs.Lines.{LineView}
+use Rattle.wq_text.specs.Comments.{before_comment}
 use Rattle.wq_text.specs.Words.{WordView, words_of}
 use Rattle.wq_decl.specs.declared.directive.Directive.{Directive}
 use Rattle.wq_decl.specs.declared.directive.Directive.TheVariants.{Item, Flush, Ordered}
@@ -63,7 +64,7 @@ words_names n (first ∷ others) =
 
 -- what a line says has names
 pub NamesIn-reading : (line : LineView) → NamesIn (reading line)
-NamesIn-reading line = cond_names (list_all is_text_byte line.bytes) _ _ (words_names line.no (words_of line)) tt
+NamesIn-reading line = cond_names (list_all is_text_byte (before_comment line.bytes)) _ _ (words_names line.no (words_of line)) tt
 
 with_first : (n : ℕ) (r : Result (Option Directive) DeclError) (lines : List LineView) → NamesIn r → AllByRecursion (λ (d : ℕ × Directive). HasNames d.1) (directives lines)
     → AllByRecursion (λ (d : ℕ × Directive). HasNames d.1) (cons_option (directive_in n r) (directives lines))

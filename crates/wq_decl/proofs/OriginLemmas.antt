@@ -4,6 +4,7 @@ use Rattle.std.specs.Prelude.{codes, bytes_eq, Contains}
 use Rattle.std.specs.List.{All, Any, list_all, cons_option}
 use Rattle.std.proofs.lemmas.List.Elements.{All-nil, All-cons, All-weaker}
 use Rattle.wq_text.specs.Lines.{LineView}
+use Rattle.wq_text.specs.Comments.{before_comment}
 use Rattle.wq_text.specs.Words.{WordView, words_of}
 use Rattle.wq_decl.specs.declared.directive.Directive.{Directive}
 use Rattle.wq_decl.specs.declared.directive.Directive.TheVariants.{Item, Flush, Ordered}
@@ -67,7 +68,7 @@ all_words n (first ∷ others) =
     (cond_words (first ∷ others) (bytes_eq first.bytes (codes "ordered")) _ _ (ordered_words n first others) tt))
 
 line_words : (line : LineView) → WordsAmong (words_of line) (reading line)
-line_words line = cond_words (words_of line) (list_all is_text_byte line.bytes) _ _ (all_words line.no (words_of line)) tt
+line_words line = cond_words (words_of line) (list_all is_text_byte (before_comment line.bytes)) _ _ (all_words line.no (words_of line)) tt
 
 -- the directive comes from one of these lines
 abbrev IsFromSome : List LineView → ℕ × Directive → Type 0

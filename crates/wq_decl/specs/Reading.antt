@@ -1,8 +1,9 @@
 -- Directives: what a line of a declaration says, or its first fault by the rows of the format's table.
-use Rattle.std.specs.Prelude.{ℕ, ◌==◌, ◌||◌, ◌&&◌, not, Bool, nat_le, if◌then◌else◌, List, [], ◌∷◌, Option, Some, None, Result, Ok, Err, bytes_eq, codes, IsTrue}
+use Rattle.std.specs.Prelude.{ℕ, ◌==◌, ◌||◌, ◌&&◌, Bool, nat_le, if◌then◌else◌, List, [], ◌∷◌, Option, Some, None, Result, Ok, Err, bytes_eq, codes, IsTrue}
 use Rattle.std.specs.Option.{option_or}
 use Rattle.std.specs.List.{list_all, filter_map, AllByRecursion}
 use Rattle.wq_text.specs.Lines.{LineView}
+use Rattle.wq_text.specs.Comments.{before_comment}
 use Rattle.wq_text.specs.Words.{WordView, words_of}
 use Rattle.wq_text.specs.Refusal.{Refusal}
 use Rattle.wq_decl.specs.declared.directive.Directive.{Directive}
@@ -11,9 +12,9 @@ use Rattle.wq_decl.specs.declared.fault.DeclError.{DeclError}
 use Rattle.wq_decl.specs.declared.fault.DeclError.TheVariants.{BadByte, UnknownWord, MissingName, ExtraWord, BadName}
 use Rattle.wq_decl.specs.Names.{is_name, are_names}
 
--- a TAB, or a printable ASCII character other than `#`
+-- a TAB, or a printable ASCII character
 abbrev pub is_text_byte : ℕ → Bool
-is_text_byte b = b == 9 || (nat_le 32 b && (nat_le b 126 && not (b == 35)))
+is_text_byte b = b == 9 || (nat_le 32 b && nat_le b 126)
 
 -- the words after `item` on line n: one name
 abbrev pub item_reading : ℕ → List WordView → Result (Option Directive) DeclError
@@ -21,7 +22,7 @@ item_reading n [] = Err (MissingName n)
 item_reading n (name ∷ []) = if is_name name.bytes then Ok (Some (Item name)) else Err (BadName n)
 item_reading n (name ∷ extra ∷ others) = Err (ExtraWord n)
 
--- the words after `flush` on line n: a name and a target
+-- the words after `flush` on line n: a name and one target at least
 abbrev pub flush_reading : ℕ → List WordView → Result (Option Directive) DeclError
 flush_reading n [] = Err (MissingName n)
 flush_reading n (name ∷ []) = Err (MissingName n)
@@ -40,9 +41,9 @@ words_reading n (first ∷ others) =
     else (if bytes_eq first.bytes (codes "flush") then flush_reading n others
     else (if bytes_eq first.bytes (codes "ordered") then ordered_reading n others else Err (UnknownWord n)))
 
--- what a line says, or its first fault
+-- what a line says, or its first fault: its comment may hold any bytes
 abbrev pub reading : LineView → Result (Option Directive) DeclError
-reading line = if list_all is_text_byte line.bytes then words_reading line.no (words_of line) else Err (BadByte line.no)
+reading line = if list_all is_text_byte (before_comment line.bytes) then words_reading line.no (words_of line) else Err (BadByte line.no)
 
 -- the fault of a line that has one
 abbrev pub fault_in : Result (Option Directive) DeclError → Option DeclError

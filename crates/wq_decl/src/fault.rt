@@ -10,7 +10,7 @@ use thiserror::Error;
 /// The first fault of a line, by the rows of the table of refusals in docs/FORMAT.md.
 #[derive(Clone, Copy, Debug, PartialEq, Eq, Error)]
 pub enum DeclError {
-    /// A byte that is neither TAB nor a printable ASCII character, or `#` (3).
+    /// A byte before the comment that is neither TAB nor a printable ASCII character (3).
     #[error("line {line}: a byte that a declaration can't hold")]
     BadByte { line: u32 },
     /// The first word is no directive (4).

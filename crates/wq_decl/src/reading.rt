@@ -44,18 +44,18 @@ fn are_names(words: Words<'_>) -> bool
     true
 }
 
-/// Whether a line may have this byte: TAB, or a printable ASCII character other than `#`.
+/// Whether a line may have this byte before its comment: TAB, or a printable ASCII character.
 fn is_text_byte(byte: u8) -> bool
     ensures { result ≡ is_text_byte byte }
 {
-    byte == b'\t' || (32 <= byte && byte <= 126 && byte != b'#')
+    byte == b'\t' || (32 <= byte && byte <= 126)
 }
 
-/// Whether a line may have each of these bytes.
-fn are_text_bytes(line: &[u8]) -> bool
-    ensures { result ≡ list_all is_text_byte line.now }
+/// Whether a line may have each of these bytes before its comment.
+fn are_text_bytes(content: &[u8]) -> bool
+    ensures { result ≡ list_all is_text_byte content.now }
 {
-    line.iter().all(|byte| is_text_byte(*byte))
+    content.iter().all(|byte| is_text_byte(*byte))
 }
 
 /// The words behind `item` on this line.
@@ -106,12 +106,12 @@ fn read_ordered<'a>(line: u32, mut words: Words<'a>) -> Result<Option<Directive<
     Ok(Some(Directive::Ordered(names)))
 }
 
-/// What a line says: nothing where it is blank, else a directive, or its first fault.
+/// What a line says: nothing where no word stands before its comment, else a directive, or its first fault.
 pub(crate) fn read_line<'a>(line: &Line<'a>) -> Result<Option<Directive<'a>>, DeclError>
     ensures { result ≡ reading line.now }
 {
     let no = line.no();
-    if !are_text_bytes(line.bytes()) {
+    if !are_text_bytes(line.content()) {
         return Err(DeclError::BadByte { line: no });
     }
     let mut words = line.words();

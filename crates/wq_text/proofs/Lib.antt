@@ -1,4 +1,6 @@
+pub mod CommentLemmas
 pub mod LimitLaws
+pub mod LineLemmas
 pub mod NumberLemmas
 pub mod PieceLaws
 pub mod PieceLemmas

@@ -5,7 +5,7 @@ use Rattle.std.proofs.lemmas.Bool.{ltb-true, ltb-false, le-ltb}
 use Rattle.std.proofs.lemmas.List.Elements.{All-nil, All-cons, All-head, All-tail, All-weaker}
 use Rattle.wq_text.specs.declared.text.TextError.{TextError}
 use Rattle.wq_text.specs.declared.text.TextError.TheVariants.{LineTooLong}
-use Rattle.wq_text.specs.Lines.{Piece, LineView, taken, lines_from, lines_of, pieces}
+use Rattle.wq_text.specs.Lines.{Piece, LineView, taken, line_bytes, lines_from, lines_of, pieces}
 use Rattle.wq_text.specs.Limits.{first_long_line, limit_fault}
 
 -- the fault of the first line that is too long
@@ -48,7 +48,7 @@ NoFrom n line = n ≤ line.no
 NoFrom-lines_from : (n start : ℕ) (ps : List Piece) → All (NoFrom n) (lines_from n start ps)
 NoFrom-lines_from n start [] = All-nil (NoFrom n)
 NoFrom-lines_from n start (p ∷ ps) =
-    All-cons (NoFrom n) (record { no = n; start = start; bytes = p.bytes }) (lines_from (n + 1) (start + taken p) ps) (omega arith)
+    All-cons (NoFrom n) (record { no = n; start = start; bytes = line_bytes p }) (lines_from (n + 1) (start + taken p) ps) (omega arith)
     (All-weaker (NoFrom (n + 1)) (NoFrom n) (λ line h. omega arith) (lines_from (n + 1) (start + taken p) ps) (NoFrom-lines_from (n + 1) (start + taken p) ps))
 
 Any-later : (P : LineView → Type 0) (x : LineView) (xs : List LineView) → Any P xs → Any P (x ∷ xs)
@@ -58,27 +58,27 @@ Any-later P x xs (k, y, lt, at, h) = (suc k, y, omega arith, at, h)
 abbrev pub IsFirstLong : ℕ → ℕ → List LineView → Type 0
 IsFirstLong m n lines = Any (IsLongAt m n) lines × All (IsShortBelow m n) lines
 
-first-step : (m n start k : ℕ) (p : Piece) (ps : List Piece) (long : Bool) → ltb m (length p.bytes) ≡ long
+first-step : (m n start k : ℕ) (p : Piece) (ps : List Piece) (long : Bool) → ltb m (length (line_bytes p)) ≡ long
     → (long_fault m (lines_from (n + 1) (start + taken p) ps) ≡ Some (LineTooLong k) → IsFirstLong m k (lines_from (n + 1) (start + taken p) ps))
     → long_fault m (lines_from n start (p ∷ ps)) ≡ Some (LineTooLong k) → IsFirstLong m k (lines_from n start (p ∷ ps))
 first-step m n start k p ps true e others h =
-    let line : LineView = record { no = n; start = start; bytes = p.bytes } in
+    let line : LineView = record { no = n; start = start; bytes = line_bytes p } in
     let lines = lines_from (n + 1) (start + taken p) ps in
     let here : n ≡ k = (let found = rw e at h in cc) in
-    let one : Any (IsLongAt m k) (line ∷ lines) = (0, line, omega arith, refl, (here, ltb-true m (length p.bytes) e)) in (
+    let one : Any (IsLongAt m k) (line ∷ lines) = (0, line, omega arith, refl, (here, ltb-true m (length (line_bytes p)) e)) in (
       one,
       All-cons (IsShortBelow m k) line lines (λ lt. absurd (omega arith))
           (All-weaker (NoFrom (n + 1)) (IsShortBelow m k) (λ next from lt. absurd (omega arith)) lines (NoFrom-lines_from (n + 1) (start + taken p) ps)),
     )
 first-step m n start k p ps false e others h =
-    let line : LineView = record { no = n; start = start; bytes = p.bytes } in
+    let line : LineView = record { no = n; start = start; bytes = line_bytes p } in
     let lines = lines_from (n + 1) (start + taken p) ps in
     let first = others (rw e at h) in
-    (Any-later (IsLongAt m k) line lines first.0, All-cons (IsShortBelow m k) line lines (λ lt. ltb-false m (length p.bytes) e) first.1)
+    (Any-later (IsLongAt m k) line lines first.0, All-cons (IsShortBelow m k) line lines (λ lt. ltb-false m (length (line_bytes p)) e) first.1)
 
 IsFirstLong-long_fault : (m n start k : ℕ) (ps : List Piece) → long_fault m (lines_from n start ps) ≡ Some (LineTooLong k) → IsFirstLong m k (lines_from n start ps)
 IsFirstLong-long_fault m n start k [] h = absurd cc
-IsFirstLong-long_fault m n start k (p ∷ ps) h = first-step m n start k p ps (ltb m (length p.bytes)) refl (IsFirstLong-long_fault m (n + 1) (start + taken p) k ps) h
+IsFirstLong-long_fault m n start k (p ∷ ps) h = first-step m n start k p ps (ltb m (length (line_bytes p))) refl (IsFirstLong-long_fault m (n + 1) (start + taken p) k ps) h
 
 -- the number of a line is no less than that of the first
 from_any : (m n k : ℕ) (lines : List LineView) → All (NoFrom n) lines → Any (IsLongAt m k) lines → n ≤ k
@@ -98,26 +98,26 @@ any_rest m k x xs short (i, y, lt, at, h) = any_rest_at m k i x y xs short lt at
 same_number : (n k : ℕ) → n ≤ k → (n < k → ⊥) → n ≡ k
 same_number n k from last = grind arith
 
-fault-step : (m n start k : ℕ) (p : Piece) (ps : List Piece) (long : Bool) → ltb m (length p.bytes) ≡ long
+fault-step : (m n start k : ℕ) (p : Piece) (ps : List Piece) (long : Bool) → ltb m (length (line_bytes p)) ≡ long
     → (IsFirstLong m k (lines_from (n + 1) (start + taken p) ps) → long_fault m (lines_from (n + 1) (start + taken p) ps) ≡ Some (LineTooLong k))
     → IsFirstLong m k (lines_from n start (p ∷ ps)) → long_fault m (lines_from n start (p ∷ ps)) ≡ Some (LineTooLong k)
 fault-step m n start k p ps true e others first =
-    let line : LineView = record { no = n; start = start; bytes = p.bytes } in
+    let line : LineView = record { no = n; start = start; bytes = line_bytes p } in
     let lines = lines_from (n + 1) (start + taken p) ps in
     let from : n ≤ k = from_any m n k (line ∷ lines) (NoFrom-lines_from n start (p ∷ ps)) first.0 in
-    let long : m < length p.bytes = ltb-true m (length p.bytes) e in
-    let last : n < k → ⊥ = λ lt. (let short : length p.bytes ≤ m = All-head (IsShortBelow m k) line lines first.1 lt in absurd (omega arith)) in
+    let long : m < length (line_bytes p) = ltb-true m (length (line_bytes p)) e in
+    let last : n < k → ⊥ = λ lt. (let short : length (line_bytes p) ≤ m = All-head (IsShortBelow m k) line lines first.1 lt in absurd (omega arith)) in
     let here : n ≡ k = same_number n k from last in
     rw e (ap (λ (j : ℕ). Some (LineTooLong j)) here)
 fault-step m n start k p ps false e others first =
-    let line : LineView = record { no = n; start = start; bytes = p.bytes } in
+    let line : LineView = record { no = n; start = start; bytes = line_bytes p } in
     let lines = lines_from (n + 1) (start + taken p) ps in
-    rw e (others (any_rest m k line lines (ltb-false m (length p.bytes) e) first.0, All-tail (IsShortBelow m k) line lines first.1))
+    rw e (others (any_rest m k line lines (ltb-false m (length (line_bytes p)) e) first.0, All-tail (IsShortBelow m k) line lines first.1))
 
 long_fault-IsFirstLong : (m n start k : ℕ) (ps : List Piece) → IsFirstLong m k (lines_from n start ps) → long_fault m (lines_from n start ps) ≡ Some (LineTooLong k)
 long_fault-IsFirstLong m n start k [] ((i, y, lt, at, h), short) = absurd (omega arith)
 long_fault-IsFirstLong m n start k (p ∷ ps) first =
-    fault-step m n start k p ps (ltb m (length p.bytes)) refl (long_fault-IsFirstLong m (n + 1) (start + taken p) k ps) first
+    fault-step m n start k p ps (ltb m (length (line_bytes p))) refl (long_fault-IsFirstLong m (n + 1) (start + taken p) k ps) first
 
 -- ---- the fault of a text
 

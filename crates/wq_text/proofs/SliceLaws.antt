@@ -5,8 +5,11 @@ use Rattle.std.proofs.lemmas.Bool.{false≢true}
 use Rattle.std.proofs.lemmas.List.Elements.{All-nil, All-cons, All-weaker}
 use Rattle.std.proofs.lemmas.List.Kept.{AllPairs-cons}
 use Rattle.std.proofs.Math.Seq.{drop-append_seam, take-append_seam}
-use Rattle.wq_text.specs.Lines.{Piece, LineView, pieces, taken, lines_from, lines_of, piece_text, OnlyTheLastIsOpen}
+use Rattle.wq_text.specs.Lines.{Piece, LineView, pieces, taken, line_bytes, lines_from, lines_of, piece_text, OnlyTheLastIsOpen}
+use Rattle.wq_text.specs.Comments.{before_comment}
 use Rattle.wq_text.specs.Words.{WordView, words_of, AreTheWords}
+use Rattle.wq_text.proofs.CommentLemmas.{before_comment-front}
+use Rattle.wq_text.proofs.LineLemmas.{line_bytes-front, length-line_bytes-le}
 use Rattle.wq_text.proofs.PieceLaws.{AreThePieces-pieces, OnlyTheLastIsOpen-tail}
 use Rattle.wq_text.proofs.WordLaws.{AreTheWords-words_from}
 
@@ -34,6 +37,15 @@ within-StandsAt text start bytes s =
     let total : length text ≡ length s.front + (length bytes + length s.behind) = ap length s.parts ∙ simp length-append in
     omega (arith, s.starts)
 
+-- what bytes begin with stands where they do
+StandsAt-front : (text : List ℕ) (start : ℕ) (bytes front rest : List ℕ) → bytes ≡ front ++ rest → StandsAt text start bytes → StandsAt text start front
+StandsAt-front text start bytes front rest e s = record {
+  front = s.front;
+  behind = rest ++ s.behind;
+  parts = s.parts ∙ ap (λ (ys : List ℕ). s.front ++ (ys ++ s.behind)) e ∙ ap (λ (ys : List ℕ). s.front ++ ys) (append_assoc front rest s.behind);
+  starts = s.starts;
+}
+
 -- ---- lines
 
 abbrev pub LineStands : List ℕ → LineView → Type 0
@@ -50,9 +62,11 @@ LineStands-lines_from text front n start (p ∷ ps) whole starts =
     let feed : List ℕ = cond p.ended (10 ∷ []) [] in
     let others = flat_map piece_text ps in
     let end : start + taken p ≡ length (front ++ piece_text p) = omega (arith, length-append front (piece_text p), length-piece_text p.bytes p.ended) in
-    let line : StandsAt text start p.bytes =
+    let piece : StandsAt text start p.bytes =
     record { front = front; behind = feed ++ others; parts = whole ∙ ap (λ (ys : List ℕ). front ++ ys) (append_assoc p.bytes feed others); starts = starts } in
-    All-cons (LineStands text) (record { no = n; start = start; bytes = p.bytes }) (lines_from (n + 1) (start + taken p) ps) line
+    let kept = line_bytes-front p in
+    let line : StandsAt text start (line_bytes p) = StandsAt-front text start p.bytes (line_bytes p) kept.0 kept.1 piece in
+    All-cons (LineStands text) (record { no = n; start = start; bytes = line_bytes p }) (lines_from (n + 1) (start + taken p) ps) line
     (LineStands-lines_from text (front ++ piece_text p) (n + 1) (start + taken p) ps (whole ∙ sym (append_assoc front (piece_text p) others)) end)
 
 pub LineStands-lines_of : (text : List ℕ) → All (LineStands text) (lines_of text)
@@ -70,7 +84,7 @@ BeginsFrom at line = at ≤ line.start
 begin_from : (n start : ℕ) (ps : List Piece) → All (BeginsFrom start) (lines_from n start ps)
 begin_from n start [] = All-nil (BeginsFrom start)
 begin_from n start (p ∷ ps) =
-    All-cons (BeginsFrom start) (record { no = n; start = start; bytes = p.bytes }) (lines_from (n + 1) (start + taken p) ps) (omega arith)
+    All-cons (BeginsFrom start) (record { no = n; start = start; bytes = line_bytes p }) (lines_from (n + 1) (start + taken p) ps) (omega arith)
     (All-weaker (BeginsFrom (start + taken p)) (BeginsFrom start) (λ line h. omega arith) (lines_from (n + 1) (start + taken p) ps) (begin_from (n + 1) (start + taken p) ps))
 
 -- the line ends before the other begins
@@ -78,10 +92,12 @@ abbrev pub LineEndsBefore : LineView → LineView → Type 0
 LineEndsBefore line next = line.start + length line.bytes < next.start
 
 all_later : (n start : ℕ) (xs : List ℕ) (t : Bool) (ps : List Piece) → OnlyTheLastIsOpen (record { bytes = xs; ended = t } ∷ ps)
-    → All (LineEndsBefore (record { no = n; start = start; bytes = xs })) (lines_from (n + 1) (start + taken (record { bytes = xs; ended = t })) ps)
+    → All (LineEndsBefore (record { no = n; start = start; bytes = line_bytes (record { bytes = xs; ended = t }) })) (lines_from (n + 1) (start + taken (record { bytes = xs; ended = t })) ps)
 all_later n start xs true ps last =
-    let line : LineView = record { no = n; start = start; bytes = xs } in
+    let p : Piece = record { bytes = xs; ended = true } in
+    let line : LineView = record { no = n; start = start; bytes = line_bytes p } in
     let end : ℕ = start + (length xs + 1) in
+    let shorter : length (line_bytes p) ≤ length xs = length-line_bytes-le p in
     All-weaker (BeginsFrom end) (LineEndsBefore line) (λ next h. omega arith) (lines_from (n + 1) end ps) (begin_from (n + 1) end ps)
 all_later n start xs false [] last = All-nil (LineEndsBefore (record { no = n; start = start; bytes = xs }))
 all_later n start xs false (q ∷ ps) last = absurd (false≢true last.0)
@@ -89,15 +105,15 @@ all_later n start xs false (q ∷ ps) last = absurd (false≢true last.0)
 AllPairs-lines_from : (n start : ℕ) (ps : List Piece) → OnlyTheLastIsOpen ps → AllPairs LineEndsBefore (lines_from n start ps)
 AllPairs-lines_from n start [] last = λ i j d lt len. absurd (omega arith)
 AllPairs-lines_from n start (p ∷ ps) last =
-    AllPairs-cons LineEndsBefore (record { no = n; start = start; bytes = p.bytes }) (lines_from (n + 1) (start + taken p) ps) (all_later n start p.bytes p.ended ps last)
+    AllPairs-cons LineEndsBefore (record { no = n; start = start; bytes = line_bytes p }) (lines_from (n + 1) (start + taken p) ps) (all_later n start p.bytes p.ended ps last)
     (AllPairs-lines_from (n + 1) (start + taken p) ps (OnlyTheLastIsOpen-tail p ps last))
 
 pub AllPairs-lines_of : (text : List ℕ) → AllPairs LineEndsBefore (lines_of text)
 AllPairs-lines_of text = AllPairs-lines_from 1 0 (pieces text) (AreThePieces-pieces text).ended
 
-pub map-lines_from : (n start : ℕ) (ps : List Piece) → map (λ (line : LineView). line.bytes) (lines_from n start ps) ≡ map (λ (p : Piece). p.bytes) ps
+pub map-lines_from : (n start : ℕ) (ps : List Piece) → map (λ (line : LineView). line.bytes) (lines_from n start ps) ≡ map line_bytes ps
 map-lines_from n start [] = refl
-map-lines_from n start (p ∷ ps) = ap (λ (ls : List (List ℕ)). p.bytes ∷ ls) (map-lines_from (n + 1) (start + taken p) ps)
+map-lines_from n start (p ∷ ps) = ap (λ (ls : List (List ℕ)). line_bytes p ∷ ls) (map-lines_from (n + 1) (start + taken p) ps)
 
 -- ---- words
 
@@ -120,4 +136,7 @@ WordStands-AreTheWords text front bs behind at (w ∷ ws) whole starts (rest, fi
 
 pub WordStands-words_of : (text : List ℕ) (line : LineView) → LineStands text line → All (WordStands text) (words_of line)
 WordStands-words_of text line s =
-    WordStands-AreTheWords text s.front line.bytes s.behind line.start (words_of line) s.parts s.starts (AreTheWords-words_from line.start line.bytes)
+    let bs = before_comment line.bytes in
+    let part = before_comment-front line.bytes in
+    let content : StandsAt text line.start bs = StandsAt-front text line.start line.bytes bs part.0 part.1 s in
+    WordStands-AreTheWords text content.front bs content.behind line.start (words_of line) content.parts content.starts (AreTheWords-words_from line.start bs)

@@ -1,4 +1,5 @@
 pub mod Lines
+pub mod Comments
 pub mod Words
 pub mod Numbers
 pub mod Refusal

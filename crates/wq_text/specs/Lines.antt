@@ -1,6 +1,8 @@
--- Lines: how a text is cut at its line feeds (the byte 10).
+-- Lines: how a text is cut at its line feeds (LF, the byte 10), and that one carriage return (CR, the byte 13) before
+-- a line feed is no part of the line.
 use Rattle.std.specs.Prelude.{◌≡◌, ◌≢◌, ℕ, ◌+◌, ◌==◌, if◌then◌else◌, Bool, true, false, List, [], ◌∷◌, ◌++◌, length, Contains, IsTrue, ◌⊎◌, ⊤, flat_map}
 use Rattle.std.specs.List.{AllByRecursion}
+use Rattle.std.specs.Str.Lines.{strip_carriage_return}
 
 -- what stands in front of a line feed, or behind the last one; `ended` says that a line feed follows it
 pub record Piece : Type 0 where
@@ -17,7 +19,11 @@ abbrev pub pieces : List ℕ → List Piece
 pieces [] = []
 pieces (b ∷ bs) = if b == 10 then record { bytes = []; ended = true } ∷ pieces bs else in_front b (pieces bs)
 
--- a line: its number, from 1; the offset of its first byte in the text; its bytes, without the line feed
+-- the bytes of a line: those of its piece, without one carriage return that stands directly before the line feed
+abbrev pub line_bytes : Piece → List ℕ
+line_bytes p = if p.ended then strip_carriage_return p.bytes else p.bytes
+
+-- a line: its number, from 1; the offset of its first byte in the text; its bytes
 pub record LineView : Type 0 where
   pub no : ℕ
   pub start : ℕ
@@ -30,7 +36,7 @@ taken p = length p.bytes + (if p.ended then 1 else 0)
 -- the pieces as lines, the first of which has this number and begins at this offset
 abbrev pub lines_from : ℕ → ℕ → List Piece → List LineView
 lines_from n start [] = []
-lines_from n start (p ∷ ps) = record { no = n; start = start; bytes = p.bytes } ∷ lines_from (n + 1) (start + taken p) ps
+lines_from n start (p ∷ ps) = record { no = n; start = start; bytes = line_bytes p } ∷ lines_from (n + 1) (start + taken p) ps
 
 -- the lines of a text
 abbrev pub lines_of : List ℕ → List LineView

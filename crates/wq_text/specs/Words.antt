@@ -1,7 +1,8 @@
--- Words: the longest runs of bytes other than space and TAB.
+-- Words: the longest runs of bytes other than space and TAB before a line's comment.
 use Rattle.std.specs.Prelude.{◌≡◌, ◌≢◌, ℕ, ◌+◌, ◌==◌, ◌||◌, not, if◌then◌else◌, Bool, true, false, List, [], ◌∷◌, ◌++◌, length}
 use Rattle.std.specs.List.{AllByRecursion}
 use Rattle.wq_text.specs.Lines.{LineView}
+use Rattle.wq_text.specs.Comments.{before_comment}
 
 -- a space or a TAB
 abbrev pub is_blank : ℕ → Bool
@@ -34,9 +35,9 @@ words_from at (b ∷ bs) =
     let others = words_from (at + 1) bs in
     if is_blank b then others else (if begins_word bs then longer at b others else record { start = at; bytes = b ∷ [] } ∷ others)
 
--- the words of a line
+-- the words of a line: those of the bytes before its comment
 abbrev pub words_of : LineView → List WordView
-words_of line = words_from line.start line.bytes
+words_of line = words_from line.start (before_comment line.bytes)
 
 -- ---- the same without recursion over the bytes
 

@@ -4,10 +4,11 @@
 //! other words: what a reader of a text relies on, and that no other cut of the text answers to it.
 
 ghost use Rattle.std.specs.List.{HoldsAt};
-ghost use Rattle.std.specs.Prelude.{◌≡◌, ◌+◌, ◌<◌, ◌≤◌, ◌↔◌, ℕ, List, length, map, slice_range, All, AllPairs, Any, EachIndex};
+ghost use Rattle.std.specs.Prelude.{◌≡◌, ◌≢◌, ◌+◌, ◌<◌, ◌≤◌, ◌↔◌, ◌∷◌, ◌++◌, [], true, false, ℕ, List, length, map, slice_range, All, AllPairs, Any, EachIndex};
 ghost use Rattle.wq_text.specs.declared.text.TextError.TheVariants.{TextTooLong, LineTooLong};
 ghost use Rattle.wq_text.specs.Limits.{limit_fault};
-ghost use Rattle.wq_text.specs.Lines.{Piece, LineView, pieces, lines_of, AreThePieces};
+ghost use Rattle.wq_text.specs.Lines.{Piece, LineView, pieces, line_bytes, lines_of, AreThePieces};
+ghost use Rattle.wq_text.specs.Comments.{before_comment, IsBeforeComment};
 ghost use Rattle.wq_text.specs.Words.{WordView, words_from, words_of, AreTheWords};
 
 /// A text has one list of pieces, and only one, that make it, hold no line feed and lack one only at the end.
@@ -17,6 +18,23 @@ pub fn pieces_are_the_only_ones()
         → AreThePieces text others → others ≡ pieces text }
 {}
 
+/// A line feed takes one carriage return directly before it, and no more: not a second, no other byte, and nothing
+/// where a last line ends without it.
+pub fn one_carriage_return_is_dropped()
+    ensures dropped { (bs : List ℕ) → line_bytes (record { bytes = bs ++ (13 ∷ []); ended = true }) ≡ bs }
+    ensures others_stay { (bs : List ℕ) (b : ℕ) → b ≢ 13
+        → line_bytes (record { bytes = bs ++ (b ∷ []); ended = true }) ≡ bs ++ (b ∷ []) }
+    ensures none_of_nothing { line_bytes (record { bytes = []; ended = true }) ≡ [] }
+    ensures last_line_stays { (bs : List ℕ) → line_bytes (record { bytes = bs; ended = false }) ≡ bs }
+{}
+
+/// Bytes have one front, and only one, that holds no `#` and is all of them or stands directly before a `#`: what
+/// stands before the comment.
+pub fn a_comment_begins_at_the_first_hash()
+    ensures is { (bs : List ℕ) → IsBeforeComment bs (before_comment bs) }
+    ensures only { (bs front : List ℕ) → IsBeforeComment bs front → front ≡ before_comment bs }
+{}
+
 /// Bytes have one list of words, and only one: unbroken, as long as they can be, with only blanks around them.
 pub fn words_are_the_only_ones()
     ensures are { (at : ℕ) (bs : List ℕ) → AreTheWords at bs (words_from at bs) }
@@ -24,7 +42,8 @@ pub fn words_are_the_only_ones()
         → AreTheWords at bs others → others ≡ words_from at bs }
 {}
 
-/// The lines of a text are numbered from 1, stand in it in order where they say, and are what its pieces hold.
+/// The lines of a text are numbered from 1, stand in it in order where they say, and are what its pieces hold, each
+/// without one carriage return directly before its line feed.
 pub fn lines_are_slices_of_the_text()
     ensures numbers { (text : List ℕ) → EachIndex (lines_of text)
         (λ k. HoldsAt (λ (line : LineView). line.no ≡ k + 1) (lines_of text) k) }
@@ -37,7 +56,7 @@ pub fn lines_are_slices_of_the_text()
         (λ (line next : LineView). line.start + length line.bytes < next.start)
         (lines_of text) }
     ensures none_left_out { (text : List ℕ) → map (λ (line : LineView). line.bytes) (lines_of text)
-        ≡ map (λ (piece : Piece). piece.bytes) (pieces text) }
+        ≡ map line_bytes (pieces text) }
 {}
 
 /// The words of each line of a text stand in the text where they say, within their line, in order and apart.

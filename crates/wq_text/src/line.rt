@@ -1,11 +1,16 @@
-//! Lines: what stands between line feeds.
+//! Lines: what stands between line feeds, and what of a line stands before its comment.
 //!
-//! A line feed (LF, the byte 10) ends a line, and what stands after the last one is a line if it isn't empty. Each
-//! byte of a text is looked at once, by `memchr`.
+//! A line feed (LF, the byte 10) ends a line, and what stands after the last one is a line if it isn't empty. One
+//! carriage return (CR, the byte 13) directly before a line feed is no part of the line. A comment begins at the first
+//! `#` of a line and reaches to the line's end. The rules are those of "Lines, words and numbers" in docs/FORMAT.md.
+//!
+//! Going through the lines looks at each byte of the text once, by `memchr`; looking for the comment of a line looks at
+//! each byte of the line once more.
 
-ghost use Rattle.std.specs.Prelude.{◌≡◌, ◌+◌, ◌<◌, ◌^◌, ◌∷◌, List, ℕ, length, find, nat_lt, option_map};
+ghost use Rattle.std.specs.Prelude.{◌≡◌, ◌+◌, ◌<◌, ◌≤◌, ◌^◌, ◌∷◌, List, ℕ, length, find, nat_lt, option_map};
 ghost use Rattle.std.specs.Iterator.{YieldsFirst, item_count};
-ghost use Rattle.wq_text.specs.Lines.{LineView, pieces, taken, lines_of};
+ghost use Rattle.wq_text.specs.Lines.{LineView, pieces, taken, line_bytes, lines_of};
+ghost use Rattle.wq_text.specs.Comments.{before_comment};
 ghost use Rattle.wq_text.specs.Words.{words_of};
 ghost use Rattle.wq_text.specs.Limits.{first_long_line};
 
@@ -14,7 +19,8 @@ use crate::word::Words;
 use memchr::memchr;
 use std::marker::Model;
 
-/// A line of a text, without its line feed. Contracts see its number, its offset and its bytes.
+/// A line of a text, without its line feed and without one CR directly before that. Contracts see its number, its
+/// offset and its bytes.
 #[derive(Drop)]
 pub struct Line<'a> {
     no: u32,
@@ -41,7 +47,7 @@ impl<'a> Line<'a> {
         self.no
     }
 
-    /// Where the line stands in the text, its line feed left out.
+    /// Where the line stands in the text, its line feed and one CR directly before that left out.
     pub fn span(&self) -> Span
         ensures start { result.start ≡ self.now.start }
         ensures end { result.end ≡ self.now.start + length self.now.bytes }
@@ -52,18 +58,29 @@ impl<'a> Line<'a> {
         }
     }
 
-    /// The bytes of the line, without its line feed.
+    /// The bytes of the line with its comment, without its line feed and without one CR directly before that.
     pub fn bytes(&self) -> &'a [u8]
         ensures { result.now ≡ self.now.bytes }
     {
         self.bytes
     }
 
-    /// The words of the line, in order.
+    /// The bytes of the line before its comment, which begins at the first `#` and reaches to the line's end: all
+    /// bytes where there is no `#`.
+    pub fn content(&self) -> &'a [u8]
+        ensures { result.now ≡ before_comment self.now.bytes }
+    {
+        match memchr(b'#', self.bytes) {
+            Some(hash) => &self.bytes[..hash],
+            None => self.bytes,
+        }
+    }
+
+    /// The words of the line before its comment, in order.
     pub fn words(&self) -> Words<'a>
         ensures { result ≡ words_of self.now }
     {
-        Words::of(self.start, self.bytes)
+        Words::of(self.start, self.content())
     }
 }
 
@@ -93,6 +110,17 @@ fn first_cut<'a>(bytes: &'a [u8]) -> Cut<'a>
             ended: false,
             rest: &[],
         },
+    }
+}
+
+/// The bytes of the line that a piece makes: those of the piece, without one CR directly before its line feed.
+fn line_bytes(piece: &[u8], ended: bool) -> &[u8]
+    ensures bytes { result.now ≡ line_bytes (record { bytes = piece.now; ended = ended }) }
+    ensures no_longer { length result.now ≤ length piece.now }
+{
+    match piece {
+        [front @ .., b'\r'] if ended => front,
+        _ => piece,
     }
 }
 
@@ -129,7 +157,7 @@ impl<'a> Lines<'a> {
         }
     }
 
-    /// The number of the first line that has more bytes than the limit.
+    /// The number of the first line that has more bytes than the limit, its comment counted.
     pub(crate) fn first_longer_than(self, limit: u32) -> Option<u32>
         ensures { result ≡ option_map (λ (line : LineView). line.no) (first_long_line limit self.entry) }
     {
@@ -157,7 +185,7 @@ impl<'a> Iterator for Lines<'a> {
         let line = Line {
             no: self.before + 1,
             start: self.start,
-            bytes: cut.piece,
+            bytes: line_bytes(cut.piece, cut.ended),
         };
         self.start += (self.rest.len() - cut.rest.len()) as u32;
         self.before += 1;

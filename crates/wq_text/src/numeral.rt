@@ -1,6 +1,6 @@
 //! Numbers of 32 bits in decimal digits, each with one spelling.
 //!
-//! Takes time in the length of the word.
+//! The spelling is that of "Lines, words and numbers" in docs/FORMAT.md. Reading takes time in the length of the word.
 
 ghost use Rattle.std.specs.Int.{IsInRange};
 ghost use Rattle.std.specs.Prelude.{◌≡◌, ◌<◌, ◌↔◌, ℕ, IfSome, IfNone, IsTrue, length, slice_index};

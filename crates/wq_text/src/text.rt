@@ -17,7 +17,8 @@ pub enum TextError {
     /// There are more bytes than the limit of a text (1, without a line).
     #[error("the text is too long")]
     TextTooLong,
-    /// A line has more bytes than the limit of a line, its line feed not counted (2, with its line).
+    /// A line has more bytes than the limit of a line (2, with its line). Its comment counts; its line feed and one CR
+    /// directly before that don't.
     #[error("line {line} is too long")]
     LineTooLong { line: u32 },
 }
@@ -61,7 +62,8 @@ impl<'a> Model for Text<'a> {
 }
 
 impl<'a> Text<'a> {
-    /// The bytes as a text of at most `max_text` bytes, with lines of at most `max_line` bytes.
+    /// The bytes as a text of at most `max_text` bytes, with lines of at most `max_line` bytes each. The comment of a
+    /// line counts; its line feed and one CR directly before that don't.
     ///
     /// The answer is the first fault: `TextTooLong` (1), or else `LineTooLong` (2) with the lowest line that is.
     pub fn new(text: &'a [u8], max_text: u32, max_line: u32) -> Result<Text<'a>, TextError>

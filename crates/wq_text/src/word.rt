@@ -1,6 +1,7 @@
 //! Words: the longest runs of bytes other than space and TAB.
 //!
-//! Each byte of a line is looked at once.
+//! The rule is that of "Lines, words and numbers" in docs/FORMAT.md. Which bytes of a line stand before its comment is
+//! settled before its words are sought. Each of those bytes is looked at once.
 
 ghost use Rattle.std.specs.Prelude.{◌≡◌, ◌≢◌, ◌+◌, ◌<◌, ◌^◌, ◌⊎◌, true, [], ◌++◌, length};
 ghost use Rattle.std.specs.List.{prefix_len};
