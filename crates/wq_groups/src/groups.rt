@@ -65,7 +65,8 @@ impl<A: Allocator + Copy> Groups<A> {
     /// The group of an item below the number of items.
     pub fn of(&self, item: ItemId) -> GroupId
         requires { item < length self.now.group_of }
-        ensures { slice_get self.now.group_of item ≡ Some result }
+        ensures group { slice_get self.now.group_of item ≡ Some result }
+        ensures within { result < self.now.groups }
     {
         self.group_of[usize::from(item.get())]
     }
