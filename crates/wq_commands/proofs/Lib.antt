@@ -1,6 +1,7 @@
 pub mod AnswerLemmas
 pub mod Examples
 pub mod LineLemmas
+pub mod ItemLanes
 pub mod MeterLemmas
 pub mod TextLength
 pub mod Uniqueness

@@ -1,13 +1,16 @@
-use Rattle.std.proofs.Common.{rules, ◌≡◌, ◌<◌, ◌++◌, ◌^◌, ℕ, length, OnOk, IfOk, ◌+◌, ◌-◌, ◌*◌, ◌≤◌, ◌/◌, ◌%◌, Bool, true, false, nat_eq, nat_lt, List, [], ◌∷◌, slice_index_or, slice_set, bit_and, bit_or, Fits, w8, w32, w64, Bor, MutBor}
-use Rattle.std.specs.List.{All}
-use Rattle.wq_commands.specs.LineText.{line_text}
-use Rattle.wq_commands.specs.PlanText.{plan_line, wq_line, chain_line, item_lanes, plan_text}
+use Rattle.std.proofs.Common.{◌≡◌, ◌++◌, ◌∷◌, [], ◌+◌, ◌<◌, ℕ, List, length, sym, ap, subst, ◌∙◌, arith}
+use Rattle.std.specs.Prelude.{slice_get, Some}
+use Rattle.wq_commands.proofs.ItemLanes.{item_lanes-more}
 use Rattle.wq_commands.proofs.plan_printing.item_lanes.Goals as goal
 
--- src/plan_printing.rt:85:19
 pub lane-requires : goal.lane-requires
-lane-requires g c = ?
+lane-requires g c = omega (arith, c.of-group.ensures.within, c.requires.groups)
 
--- src/plan_printing.rt:83:5
 pub loop-i-preserved : goal.loop-i-preserved
-loop-i-preserved g c = ?
+loop-i-preserved g c =
+    let a = c.args.assignment.now in
+    let group_of = c.args.groups.now.group_of in
+    let group = subst (λ (i : ℕ). slice_get group_of i ≡ Some c.of-group.result) c.new.ensures c.of-group.ensures.group in
+    let lane = subst (λ (l : ℕ). slice_get a.lane_of_group c.of-group.result ≡ Some l) (sym c.get.ensures) c.lane.ensures in
+    c.in_ok-push.ensures.items ∙ ap (λ (ls : List ℕ). ls ++ (c.get.result ∷ [])) c.loop-i.invariant
+    ∙ sym (item_lanes-more a group_of c.loop-i.i c.of-group.result c.get.result (omega (arith, c.requires.items)) group lane)
