@@ -1,14 +1,15 @@
--- What a text declares is a table, and its plan has a text.
-use Rattle.std.proofs.Common.{◌≡◌, ℕ, ◌+◌, ◌-◌, ◌<◌, ◌≤◌, ◌^◌, List, [], ◌∷◌, length, Option, Some, None, Result, Ok, Err, refl, sym, ap, subst, ◌∙◌, arith, inl, inr}
+-- What a text declares is a declaration, and its plan or its circle has a text.
+use Rattle.std.proofs.Common.{◌≡◌, ℕ, ◌+◌, ◌-◌, ◌<◌, ◌≤◌, ◌^◌, List, [], ◌∷◌, length, map, Option, Some, None, Result, Ok, Err, refl, sym, ap, subst, ◌∙◌, arith, inl, inr}
 use Rattle.std.proofs.lemmas.Bool.{cases_lt, lt-ltb}
+use Rattle.std.proofs.lemmas.List.{get_or_past, length-take, take_all, length-map, All-map}
 use Rattle.std.specs.Io.KnownBytes.{Consumes}
 use Rattle.std.specs.List.{All, Any}
 use Rattle.std.specs.Prelude.{IfSome, MatchResult, take}
-use Rattle.std.proofs.lemmas.List.{get_or_past, length-take, take_all}
 use Rattle.wq_text.specs.declared.text.TextError.{TextError}
 use Rattle.wq_text.specs.Lines.{lines_of}
 use Rattle.wq_text.specs.Limits.{limit_fault}
 use Rattle.wq_text.specs.Refusal.{Refusal}
+use Rattle.wq_decl.specs.declared.directive.Directive.{Directive}
 use Rattle.wq_decl.specs.declared.fault.DeclError.{DeclError}
 use Rattle.wq_decl.specs.Reading.{directives, first_fault}
 use Rattle.wq_decl.proofs.NameLemmas.{HasNames-directives}
@@ -18,40 +19,79 @@ use Rattle.wq_items.specs.Table.{Table, IsTable, ItemWaits, targets_of}
 use Rattle.wq_items.specs.Building.{table_of}
 use Rattle.wq_items.proofs.BuildingLemmas.{IsTable-table_of}
 use Rattle.wq_items.proofs.Tables.{ItemWaits-below}
-use Rattle.wq_plan.specs.Plan.{IsPlan, lanes_of, chain_of}
-use Rattle.wq_plan.specs.LongestChain.{IsArc, IsLongestChain}
+use Rattle.wq_groups.specs.declared.fault.GroupError.{GroupError}
+use Rattle.wq_groups.specs.Partition.{Partition, IsPartition}
+use Rattle.wq_groups.specs.Grouping.{groups_of}
+use Rattle.wq_groups.specs.Declaration.{Declaration, IsDeclaration}
+use Rattle.wq_groups.specs.Assignment.{Assignment}
+use Rattle.wq_groups.proofs.Partitions.{IsPartition-groups_of, length-groups_of}
+use Rattle.wq_groups.proofs.Declarations.{IsDeclaration-of}
+use Rattle.wq_graph.specs.declared.arc.WaitArc.{WaitArc}
+use Rattle.wq_graph.specs.Graph.{IsArc, group_graph}
+use Rattle.wq_levels.specs.Walks.{IsWalkedCircle}
+use Rattle.wq_plan.specs.Plan.{IsPlan, chain_of}
+use Rattle.wq_plan.specs.LongestChain.{IsStepDown, IsLongestChain}
+use Rattle.wq_plan.specs.CircleOfGroups.{IsCircleOfGroups}
+use Rattle.wq_plan.specs.Solve.{IsPlanned, IsCircled}
 use Rattle.wq_plan.proofs.LongestChain.{chain_of-longest}
+use Rattle.wq_plan.proofs.GroupCircles.{IsCircleOfGroups-walked, IsCircleOfGroups-few}
 use Rattle.wq_plan.proofs.Plans.{IsPlan-lanes}
-use Rattle.wq_plan.specs.Solve.{IsPlanned}
 use Rattle.wq_commands.specs.declared.end.End.{End}
-use Rattle.wq_commands.specs.declared.end.End.TheVariants.{Good, Refused}
-use Rattle.wq_commands.specs.PlanText.{plan_text}
-use Rattle.wq_commands.specs.Answer.{Answers, AnswersTable, refusal_text}
+use Rattle.wq_commands.specs.declared.end.End.TheVariants.{Good, Bad, Refused}
+use Rattle.wq_commands.specs.PlanText.{plan_text, item_lanes, ends_of}
+use Rattle.wq_commands.specs.CircleText.{circle_text}
+use Rattle.wq_commands.specs.Answer.{Answers, AnswersDeclared, refusal_text, declared_waits, text_of_plan, text_of_circle}
 use Rattle.wq_commands.specs.Meter.{Meter, count_after}
 use Rattle.wq_commands.specs.Run.{IsInput, AnswersInput}
-use Rattle.wq_commands.specs.Declaration.{max_text, max_line, by_limits, by_directives, by_table, declaration}
+use Rattle.wq_commands.specs.Declaration.{Declared, max_text, max_line, by_limits, by_directives, by_table, by_groups, declaration}
 
-past_limits : (fault : Option TextError) (rest : Result Table Refusal) (t : Table) → by_limits fault rest ≡ Ok t → rest ≡ Ok t
-past_limits None rest t e = e
-past_limits (Some fault) rest t e = absurd cc
+past_limits : (fault : Option TextError) (rest : Result Declared Refusal) (s : Declared) → by_limits fault rest ≡ Ok s → rest ≡ Ok s
+past_limits None rest s e = e
+past_limits (Some fault) rest s e = absurd cc
 
-past_directives : (fault : Option DeclError) (rest : Result Table Refusal) (t : Table) → by_directives fault rest ≡ Ok t → rest ≡ Ok t
-past_directives None rest t e = e
-past_directives (Some fault) rest t e = absurd cc
+past_directives : (fault : Option DeclError) (rest : Result Declared Refusal) (s : Declared) → by_directives fault rest ≡ Ok s → rest ≡ Ok s
+past_directives None rest s e = e
+past_directives (Some fault) rest s e = absurd cc
 
-past_table : (r : Result Table ItemError) (t : Table) → by_table r ≡ Ok t → r ≡ Ok t
-past_table (Ok u) t e = cc
-past_table (Err fault) t e = absurd cc
+past_groups : (t : Table) (r : Result Partition GroupError) (s : Declared) → by_groups t r ≡ Ok s → (t ≡ s.table) × (r ≡ Ok s.partition)
+past_groups t (Ok p) s e =
+    let same : record { table = t; partition = p } ≡ s = cc in
+    (ap (λ (d : Declared). d.table) same, ap (λ (d : Declared). Ok d.partition) same)
+past_groups t (Err fault) s e = absurd cc
 
--- what a text declares is a table
-pub IsTable-declaration : (text : List ℕ) (t : Table) → declaration text ≡ Ok t → IsTable t
-IsTable-declaration text t e =
+-- the passes made this table and these groups
+record IsMade (ds : List (ℕ × Directive)) (s : Declared) : Type 0 where
+  table : table_of ds ≡ Ok s.table
+  groups : groups_of ds s.table.names ≡ Ok s.partition
+
+past_table : (ds : List (ℕ × Directive)) (r : Result Table ItemError) (s : Declared) → table_of ds ≡ r → by_table ds r ≡ Ok s → IsMade ds s
+past_table ds (Ok t) s is e =
+    let p = past_groups t (groups_of ds t.names) s e in
+    record { table = is ∙ ap (λ (u : Table). Ok u) p.0; groups = subst (λ (u : Table). groups_of ds u.names ≡ Ok s.partition) p.0 p.1 }
+past_table ds (Err fault) s is e = absurd cc
+
+-- a table, and the groups of its items
+pub record IsSound (s : Declared) : Type 0 where
+  pub table : IsTable s.table
+  pub partition : IsPartition s.partition
+  pub one_group_each : length s.partition.group_of ≡ length s.table.names
+
+-- what a text declares
+pub IsSound-declaration : (text : List ℕ) (s : Declared) → declaration text ≡ Ok s → IsSound s
+IsSound-declaration text s e =
     let ds = directives (lines_of text) in
-    let made : table_of ds ≡ Ok t = past_table (table_of ds) t (past_directives (first_fault (lines_of text)) (by_table (table_of ds)) t
-    (past_limits (limit_fault max_text max_line text) (by_directives (first_fault (lines_of text)) (by_table (table_of ds))) t e)) in
-    IsTable-table_of ds t (HasNames-directives (lines_of text)) made
+    let made = past_table ds (table_of ds) s refl (past_directives (first_fault (lines_of text)) (by_table ds (table_of ds)) s
+    (past_limits (limit_fault max_text max_line text) (by_directives (first_fault (lines_of text)) (by_table ds (table_of ds))) s e)) in
+    record {
+      table = IsTable-table_of ds s.table (HasNames-directives (lines_of text)) made.table;
+      partition = IsPartition-groups_of ds s.table s.partition made.table made.groups;
+      one_group_each = length-groups_of ds s.table s.partition made.groups;
+    }
 
--- ---- a plan fits the printer
+pub IsDeclaration-sound : (s : Declared) → IsSound s → IsDeclaration (declared_waits s)
+IsDeclaration-sound s sound = IsDeclaration-of s.table s.partition sound.table sound.partition sound.one_group_each
+
+-- ---- a plan and a circle fit the printer
 
 ItemWaits-source : (waits : List (List Target)) (i j : ℕ) → ItemWaits waits i j → i < length waits
 ItemWaits-source waits i j declared = elim (cases_lt i (length waits)) [
@@ -62,17 +102,41 @@ ItemWaits-source waits i j declared = elim (cases_lt i (length waits)) [
     none_past : (waits : List (List Target)) (i : ℕ) → length waits ≤ i → (k : ℕ) → k < length (targets_of waits i) → ⊥
     none_past waits i past k within = omega (arith, ap length (get_or_past waits i [] past))
 
+-- an arc joins items of the table
+abbrev pub JoinsItems : Table → ℕ × ℕ → Type 0
+JoinsItems t arc = (arc.0 < length t.names) × (arc.1 < length t.names)
+
+IsArc-joins : (s : Declared) (a : WaitArc) → IsSound s → IsArc s.table.waits s.partition.group_of a → JoinsItems s.table (ends_of a)
+IsArc-joins s a sound arc =
+    let d = arc.declared in
+    let waits : ItemWaits s.table.waits a.src a.dst = (d.0, d.1, d.2, d.3, d.4.0) in
+    (omega (arith, ItemWaits-source s.table.waits a.src a.dst waits, sound.table.one_list_each), ItemWaits-below (length s.table.names) s.table.waits sound.table.targets_are_items a.src a.dst waits)
+
+joined : (s : Declared) (arcs : List WaitArc) → IsSound s → All (IsArc s.table.waits s.partition.group_of) arcs → All (JoinsItems s.table) (map ends_of arcs)
+joined s arcs sound are = ?
+
 -- the arcs of a plan's chain are few, and they join items
-pub IsPlanned-prints : (t : Table) (lanes : ℕ) (lane : List ℕ) (chain : List (ℕ × ℕ)) → IsTable t → IsPlanned t.waits (length t.names) lanes lane chain
-    → (length chain < 2 ^ 16) × All (λ (arc : ℕ × ℕ). (arc.0 < length t.names) × (arc.1 < length t.names)) chain
-IsPlanned-prints t lanes lane chain table planned =
-    let longest : IsLongestChain t.waits lane chain =
-    subst (IsLongestChain t.waits lane) (sym planned.longest) (chain_of-longest t.waits (length t.names) lane table.targets_are_items table.places_rise planned.plan) in
-    let few : lanes_of lane ≤ length t.names = IsPlan-lanes t.waits (length t.names) lane planned.plan table.targets_are_items in (
-      omega (arith, longest.count, table.few_items, few),
-      λ k d within.
-          let arc = longest.arcs k d within in
-          (omega (arith, ItemWaits-source t.waits _ _ arc.declared, table.one_list_each), ItemWaits-below (length t.names) t.waits table.targets_are_items _ _ arc.declared),
+pub IsPlanned-prints : (s : Declared) (a : Assignment) (chain : List WaitArc) → IsSound s → IsPlanned (declared_waits s) a chain
+    → (length chain < 2 ^ 16) × All (JoinsItems s.table) (map ends_of chain)
+IsPlanned-prints s a chain sound planned =
+    let d = declared_waits s in
+    let is = IsDeclaration-sound s sound in
+    let longest : IsLongestChain d a chain = subst (IsLongestChain d a) (sym planned.longest) (chain_of-longest d is a planned.plan) in
+    let few : a.lanes ≤ d.groups = IsPlan-lanes d a planned.plan is in (
+      omega (arith, longest.count, few, is.partition.few_groups, is.partition.few_items),
+      joined s chain sound (λ k x within. (longest.arcs k x within).declared),
+    )
+
+-- so are those of a circle
+pub IsCircled-prints : (s : Declared) (circle : List WaitArc) → IsSound s → IsWalkedCircle (group_graph (declared_waits s)) circle
+    → (length circle < 2 ^ 16) × All (JoinsItems s.table) (map ends_of circle)
+IsCircled-prints s circle sound walked =
+    let d = declared_waits s in
+    let is = IsDeclaration-sound s sound in
+    let round : IsCircleOfGroups d circle = IsCircleOfGroups-walked d is circle walked in
+    let few : length circle ≤ d.groups = IsCircleOfGroups-few d is circle round in (
+      omega (arith, few, is.partition.few_groups, is.partition.few_items),
+      joined s circle sound round.declared,
     )
 
 -- ---- the text that was read, and the text that there was
@@ -99,7 +163,7 @@ HasRead-front (Some bytes) read front within = record { text = bytes; input = re
 
 Answers-same : (read text : List ℕ) (end : End) (out : List ℕ) → declaration read ≡ declaration text → Answers read end out → Answers text end out
 Answers-same read text end out same answers =
-    subst (λ (d : Result Table Refusal). MatchResult d (λ t. AnswersTable t end out) (λ r. (end ≡ Refused) × (out ≡ refusal_text r))) same answers
+    subst (λ (d : Result Declared Refusal). MatchResult d (λ s. AnswersDeclared s end out) (λ r. (end ≡ Refused) × (out ≡ refusal_text r))) same answers
 
 -- the answer to what was read is that to the text that there was
 pub AnswersInput-read : {R : Type 0} (remaining : R → Option (List ℕ)) (old new : Meter R) (read : List ℕ) (end : End) (out : List ℕ)
@@ -119,10 +183,15 @@ AnswersInput-read remaining old new read end out front within consumed counted f
       answer = Answers-same read had.text end out (ap declaration had.front ∙ declaration-take had.text) answers;
     }
 
--- the text of a table's plan is the answer
-pub Answers-planned : (text : List ℕ) (t : Table) (lanes : ℕ) (lane : List ℕ) (chain : List (ℕ × ℕ)) (out : List ℕ) → declaration text ≡ Ok t
-    → IsPlanned t.waits (length t.names) lanes lane chain → out ≡ plan_text t.names lanes lane chain → Answers text Good out
-Answers-planned text t lanes lane chain out declared planned printed =
-    let whole : out ≡ plan_text t.names (lanes_of lane) lane (chain_of t.waits lane) =
-    printed ∙ ap (λ (k : ℕ). plan_text t.names k lane chain) planned.count ∙ ap (plan_text t.names (lanes_of lane) lane) planned.longest in
-    subst (λ (d : Result Table Refusal). MatchResult d (λ u. AnswersTable u Good out) (λ r. (Good ≡ Refused) × (out ≡ refusal_text r))) (sym declared) (lane, planned.plan, whole)
+-- the text of a plan is the answer
+pub Answers-planned : (text : List ℕ) (s : Declared) (a : Assignment) (chain : List WaitArc) (out : List ℕ) → declaration text ≡ Ok s
+    → IsPlanned (declared_waits s) a chain → out ≡ plan_text s.table.names a.lanes (item_lanes a s.partition.group_of) (map ends_of chain) → Answers text Good out
+Answers-planned text s a chain out declared planned printed =
+    let whole : out ≡ text_of_plan s a = printed ∙ ap (λ (arcs : List WaitArc). plan_text s.table.names a.lanes (item_lanes a s.partition.group_of) (map ends_of arcs)) planned.longest in
+    subst (λ (d : Result Declared Refusal). MatchResult d (λ u. AnswersDeclared u Good out) (λ r. (Good ≡ Refused) × (out ≡ refusal_text r))) (sym declared) (a, planned.plan, whole)
+
+-- the text of a circle is the answer
+pub Answers-circled : (text : List ℕ) (s : Declared) (circle : List WaitArc) (out : List ℕ) → declaration text ≡ Ok s
+    → IsCircled (declared_waits s) circle → out ≡ circle_text s.table.names (map ends_of circle) → Answers text Bad out
+Answers-circled text s circle out declared circled printed =
+    subst (λ (d : Result Declared Refusal). MatchResult d (λ u. AnswersDeclared u Bad out) (λ r. (Bad ≡ Refused) × (out ≡ refusal_text r))) (sym declared) (circle, circled.walked, printed)

@@ -10,13 +10,20 @@ use Rattle.std.proofs.lemmas.List.FromFn.{length-range_with_len}
 use Rattle.std.specs.List.{All, AllByRecursion, list_all, range_with_len}
 use Rattle.std.specs.Prelude.{IsTrue, codes, decimal, filter, flat_map}
 use Rattle.wq_decl.specs.Names.{is_name, is_name_byte}
-use Rattle.wq_items.specs.Table.{Table, IsTable}
-use Rattle.wq_plan.specs.Plan.{IsPlan, lanes_of, chain_of}
+use Rattle.wq_groups.specs.Assignment.{Assignment, lane_of}
+use Rattle.wq_graph.specs.declared.arc.WaitArc.{WaitArc}
+use Rattle.wq_graph.specs.Graph.{group_graph}
+use Rattle.wq_levels.specs.Walks.{IsWalkedCircle}
+use Rattle.wq_plan.specs.Plan.{IsPlan, chain_of}
 use Rattle.wq_plan.specs.LongestChain.{IsLongestChain}
 use Rattle.wq_plan.proofs.LongestChain.{chain_of-longest}
 use Rattle.wq_plan.proofs.Plans.{IsPlan-lanes}
 use Rattle.wq_commands.specs.LineText.{spaced, line_text}
-use Rattle.wq_commands.specs.PlanText.{name_of, items_on, plan_line, wq_line, chain_line, arc_line, plan_text}
+use Rattle.wq_commands.specs.PlanText.{name_of, items_on, plan_line, wq_line, chain_line, arc_line, plan_text, item_lanes, ends_of}
+use Rattle.wq_commands.specs.CircleText.{circle_line, circle_text}
+use Rattle.wq_commands.specs.Answer.{declared_waits, text_of_plan, text_of_circle}
+use Rattle.wq_commands.specs.Declaration.{Declared}
+use Rattle.wq_commands.proofs.AnswerLemmas.{IsSound, IsDeclaration-sound, IsCircled-prints}
 use Rattle.wq_commands.proofs.LineLemmas.{plan_text-parts}
 
 -- ---- sums of lengths
@@ -179,11 +186,20 @@ module _ (names : List (List ℕ)) (lane : List ℕ) (named : All (λ (name : Li
         length-arc_lines chain,
       ))
 
--- a plan of a table
-pub length-planned : (t : Table) (lane : List ℕ) → IsTable t → IsPlan t.waits (length t.names) lane
-    → length (plan_text t.names (lanes_of lane) lane (chain_of t.waits lane)) ≤ 8388608
-length-planned t lane table plan =
-    let longest : IsLongestChain t.waits lane (chain_of t.waits lane) = chain_of-longest t.waits (length t.names) lane table.targets_are_items table.places_rise plan in
-    let few : lanes_of lane ≤ length t.names = IsPlan-lanes t.waits (length t.names) lane plan table.targets_are_items in
-    length-plan_text t.names lane table.named (lanes_of lane) (chain_of t.waits lane) (omega (arith, table.few_items)) (omega (arith, plan.one_each, table.few_items))
-    (omega (arith, longest.count, table.few_items))
+-- a plan of what a text declares
+pub length-planned : (s : Declared) (a : Assignment) → IsSound s → IsPlan (declared_waits s) a → length (text_of_plan s a) ≤ 8388608
+length-planned s a sound plan =
+    let d = declared_waits s in
+    let is = IsDeclaration-sound s sound in
+    let chain = chain_of (group_graph d) a.lane_of_group in
+    let longest : IsLongestChain d a chain = chain_of-longest d is a plan in
+    let few : a.lanes ≤ d.groups = IsPlan-lanes d a plan is in
+    let items : length (item_lanes a s.partition.group_of) ≡ length s.partition.group_of = length-map s.partition.group_of (lane_of a) in
+    let arcs : length (map ends_of chain) ≡ length chain = length-map chain ends_of in
+    let short : length (map ends_of chain) + 1 ≤ 4096 = omega (arith, longest.count, few, is.partition.few_groups, is.partition.few_items, arcs) in
+    length-plan_text s.table.names (item_lanes a s.partition.group_of) sound.table.named a.lanes (map ends_of chain) (omega (arith, few, is.partition.few_groups, is.partition.few_items))
+    (omega (arith, items, is.partition.few_items)) short
+
+-- a circle of what a text declares
+pub length-circled : (s : Declared) (circle : List WaitArc) → IsSound s → IsWalkedCircle (group_graph (declared_waits s)) circle → length (text_of_circle s circle) ≤ 8388608
+length-circled s circle sound walked = ?

@@ -1,32 +1,30 @@
 -- A text has one answer.
-use Rattle.std.proofs.Common.{◌≡◌, ℕ, List, length, Result, Ok, Err, refl, sym, ap, ◌∙◌}
+use Rattle.std.proofs.Common.{◌≡◌, ℕ, List, Result, Ok, Err, refl, sym, ap, ◌∙◌}
 use Rattle.std.specs.Prelude.{MatchResult}
 use Rattle.wq_text.specs.Refusal.{Refusal}
-use Rattle.wq_items.specs.Table.{Table}
-use Rattle.wq_plan.specs.Plan.{lanes_of, chain_of}
-use Rattle.wq_plan.proofs.Plans.{IsPlan-unique, IsPlan-no_circle}
+use Rattle.wq_groups.specs.Assignment.{Assignment}
+use Rattle.wq_graph.specs.declared.arc.WaitArc.{WaitArc}
+use Rattle.wq_plan.proofs.Plans.{IsPlan-unique, IsPlan-no_walked_circle, IsWalkedCircle-same}
 use Rattle.wq_commands.specs.declared.end.End.{End}
 use Rattle.wq_commands.specs.declared.end.End.TheVariants.{Good, Bad, Refused}
-use Rattle.wq_commands.specs.PlanText.{plan_text}
-use Rattle.wq_commands.specs.Answer.{Answers, AnswersTable, refusal_text}
-use Rattle.wq_commands.specs.Declaration.{declaration}
+use Rattle.wq_commands.specs.Answer.{Answers, AnswersDeclared, refusal_text, declared_waits, text_of_plan, text_of_circle}
+use Rattle.wq_commands.specs.Declaration.{Declared, declaration}
+use Rattle.wq_commands.proofs.AnswerLemmas.{IsSound, IsSound-declaration, IsDeclaration-sound}
 
-AnswersTable-unique : (t : Table) (end other : End) (out printed : List ℕ) → AnswersTable t end out → AnswersTable t other printed → (end ≡ other) × (out ≡ printed)
-AnswersTable-unique t Good Good out printed one two =
-    let text = λ (lane : List ℕ). plan_text t.names (lanes_of lane) lane (chain_of t.waits lane) in
-    (refl, one.2 ∙ ap text (IsPlan-unique t.waits (length t.names) one.0 two.0 one.1 two.1) ∙ sym two.2)
-AnswersTable-unique t Good Bad out printed one two = absurd (IsPlan-no_circle t.waits (length t.names) one.0 one.1 two.0)
-AnswersTable-unique t Good Refused out printed one two = absurd two
-AnswersTable-unique t Bad Good out printed one two = absurd (IsPlan-no_circle t.waits (length t.names) two.0 two.1 one.0)
-AnswersTable-unique t Bad Bad out printed one two = (refl, one.1 ∙ sym two.1)
-AnswersTable-unique t Bad Refused out printed one two = absurd two
-AnswersTable-unique t Refused other out printed one two = absurd one
+AnswersDeclared-unique : (s : Declared) (end other : End) (out printed : List ℕ) → IsSound s → AnswersDeclared s end out → AnswersDeclared s other printed → (end ≡ other) × (out ≡ printed)
+AnswersDeclared-unique s Good Good out printed sound one two = (refl, one.2 ∙ ap (text_of_plan s) (IsPlan-unique (declared_waits s) one.0 two.0 one.1 two.1) ∙ sym two.2)
+AnswersDeclared-unique s Good Bad out printed sound one two = absurd (IsPlan-no_walked_circle (declared_waits s) (IsDeclaration-sound s sound) one.0 two.0 one.1 two.1)
+AnswersDeclared-unique s Good Refused out printed sound one two = absurd two
+AnswersDeclared-unique s Bad Good out printed sound one two = absurd (IsPlan-no_walked_circle (declared_waits s) (IsDeclaration-sound s sound) two.0 one.0 two.1 one.1)
+AnswersDeclared-unique s Bad Bad out printed sound one two = (refl, one.2 ∙ ap (text_of_circle s) (IsWalkedCircle-same (declared_waits s) (IsDeclaration-sound s sound) one.0 two.0 one.1 two.1) ∙ sym two.2)
+AnswersDeclared-unique s Bad Refused out printed sound one two = absurd two
+AnswersDeclared-unique s Refused other out printed sound one two = absurd one
 
-answers_unique : (declared : Result Table Refusal) (end other : End) (out printed : List ℕ)
-    → MatchResult declared (λ t. AnswersTable t end out) (λ r. (end ≡ Refused) × (out ≡ refusal_text r))
-    → MatchResult declared (λ t. AnswersTable t other printed) (λ r. (other ≡ Refused) × (printed ≡ refusal_text r)) → (end ≡ other) × (out ≡ printed)
-answers_unique (Ok t) end other out printed one two = AnswersTable-unique t end other out printed one two
-answers_unique (Err r) end other out printed one two = (one.0 ∙ sym two.0, one.1 ∙ sym two.1)
+answers_unique : (declared : Result Declared Refusal) (end other : End) (out printed : List ℕ) → ((s : Declared) → declared ≡ Ok s → IsSound s)
+    → MatchResult declared (λ s. AnswersDeclared s end out) (λ r. (end ≡ Refused) × (out ≡ refusal_text r))
+    → MatchResult declared (λ s. AnswersDeclared s other printed) (λ r. (other ≡ Refused) × (printed ≡ refusal_text r)) → (end ≡ other) × (out ≡ printed)
+answers_unique (Ok s) end other out printed sound one two = AnswersDeclared-unique s end other out printed (sound s refl) one two
+answers_unique (Err r) end other out printed sound one two = (one.0 ∙ sym two.0, one.1 ∙ sym two.1)
 
 pub Answers-unique : (text : List ℕ) (end other : End) (out printed : List ℕ) → Answers text end out → Answers text other printed → (end ≡ other) × (out ≡ printed)
-Answers-unique text = answers_unique (declaration text)
+Answers-unique text end other out printed = answers_unique (declaration text) end other out printed (IsSound-declaration text)

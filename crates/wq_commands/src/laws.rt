@@ -1,13 +1,12 @@
-//! Laws of answers, as contracts of functions with empty bodies, and three worked examples.
+//! Laws of answers, as contracts of functions with empty bodies, and worked examples.
 //!
 //! The examples are computed on the definitions, so that a reader can hold these against the format's own.
 
-ghost use Rattle.std.specs.Prelude.{◌≡◌, ℕ, ◌+◌, ◌<◌, ◌≤◌, List, length, take, codes, Err};
-ghost use Rattle.wq_items.specs.Table.{Table, IsTable};
-ghost use Rattle.wq_plan.specs.Plan.{IsPlan, lanes_of, chain_of};
-ghost use Rattle.wq_commands.specs.Answer.{Answers};
-ghost use Rattle.wq_commands.specs.Declaration.{declaration, max_text};
-ghost use Rattle.wq_commands.specs.PlanText.{plan_text};
+ghost use Rattle.std.specs.Prelude.{◌≡◌, ℕ, ◌+◌, ◌<◌, ◌≤◌, List, length, take, codes, Ok, Err};
+ghost use Rattle.wq_groups.specs.Assignment.{Assignment};
+ghost use Rattle.wq_plan.specs.Plan.{IsPlan};
+ghost use Rattle.wq_commands.specs.Answer.{Answers, declared_waits, text_of_plan};
+ghost use Rattle.wq_commands.specs.Declaration.{Declared, declaration, max_text};
 ghost use Rattle.wq_commands.specs.declared.end.End.{End};
 ghost use Rattle.wq_commands.specs.declared.end.End.TheVariants.{Good, Bad, Refused};
 
@@ -26,8 +25,8 @@ pub fn a_long_text_is_refused_by_its_front()
 
 /// The text of a plan has at most 8,388,608 bytes, so whoever reads it back can set a limit.
 pub fn a_plan_text_is_within_the_limits()
-    ensures { (t : Table) (lane : List ℕ) → IsTable t → IsPlan t.waits (length t.names) lane →
-        length (plan_text t.names (lanes_of lane) lane (chain_of t.waits lane)) ≤ 8388608 }
+    ensures { (text : List ℕ) (s : Declared) (a : Assignment) → declaration text ≡ Ok s → IsPlan (declared_waits s) a →
+        length (text_of_plan s a) ≤ 8388608 }
 {}
 
 /// Of two items the one that flushes the other is on the workqueue above it.
@@ -40,7 +39,22 @@ pub fn a_use_before_its_declaration_is_refused()
     ensures { Answers (codes "item a\nflush a b\nitem b\n") Refused (codes "refused 8 line 2\n") }
 {}
 
+/// Blanks, comments and a carriage return before a line feed change no answer, nor does a last line feed that is missing.
+pub fn blanks_comments_and_carriage_returns_change_no_answer()
+    ensures { Answers (codes "item a # x\r\n\titem\tb\r\nflush a b") Good (codes "plan 2\nwq 0 b\nwq 1 a\nchain 2\narc a b\n") }
+{}
+
+/// An item is on one `ordered` line at most.
+pub fn an_item_on_two_ordered_lines_is_refused()
+    ensures { Answers (codes "item a\nitem b\nordered a b\nordered b\n") Refused (codes "refused 11 line 4\n") }
+{}
+
 /// The shortest circle has one item.
 pub fn an_item_that_flushes_itself_is_a_circle()
-    ensures { Answers (codes "item a\nflush a a\n") Bad (codes "circle\n") }
+    ensures { Answers (codes "item a\nflush a a\n") Bad (codes "circle 1\narc a a\n") }
+{}
+
+/// So has a group in which one item flushes another: an ordered workqueue executes one item at a time.
+pub fn a_flush_within_an_ordered_line_is_a_circle()
+    ensures { Answers (codes "item a\nitem b\nordered a b\nflush a b\n") Bad (codes "circle 1\narc a b\n") }
 {}
