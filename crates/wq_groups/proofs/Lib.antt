@@ -1,2 +1,3 @@
 pub mod MemberLemmas
 pub mod Declarations
+pub mod Heads
