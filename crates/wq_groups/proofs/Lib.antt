@@ -1,3 +1,5 @@
 pub mod MemberLemmas
 pub mod Declarations
 pub mod Heads
+pub mod Among
+pub mod Regrouped
