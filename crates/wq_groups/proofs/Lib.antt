@@ -3,3 +3,4 @@ pub mod Declarations
 pub mod Heads
 pub mod Among
 pub mod Regrouped
+pub mod Together
