@@ -4,3 +4,4 @@ pub mod Heads
 pub mod Among
 pub mod Regrouped
 pub mod Together
+pub mod Partitions

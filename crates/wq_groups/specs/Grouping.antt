@@ -47,6 +47,10 @@ pub record IsLowestRegrouped (ds : List (ℕ × Directive)) (n : ℕ) : Type 0 w
 
 -- ---- the groups
 
+-- an `ordered` line has both names
+abbrev pub ShareLine : List (ℕ × Directive) → List ℕ → List ℕ → Type 0
+ShareLine ds a b = Any (λ (d : ℕ × Directive). Contains (names_ordered d) a × Contains (names_ordered d) b) ds
+
 -- the two names are one, or an `ordered` line has both
 abbrev pub are_together : List (ℕ × Directive) → List ℕ → List ℕ → Bool
 are_together ds a b = bytes_eq a b || list_any (λ d. list_any (bytes_eq a) (names_ordered d) && list_any (bytes_eq b) (names_ordered d)) ds
