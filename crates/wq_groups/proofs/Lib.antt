@@ -1,1 +1,7 @@
 pub mod MemberLemmas
+pub mod Declarations
+pub mod Heads
+pub mod Among
+pub mod Regrouped
+pub mod Together
+pub mod Partitions

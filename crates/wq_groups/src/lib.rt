@@ -11,6 +11,7 @@ mod assignment;
 mod fault;
 mod groups;
 mod ids;
+pub mod laws;
 
 pub use assignment::Assignment;
 pub use fault::GroupError;
