@@ -132,3 +132,11 @@ module _ (d : Declaration) (h : IsDeclaration d) where
   -- a group waits for a group exactly where an arc leaves the one for the other
   pub GroupWaits-HasArc : (v w : ℕ) → GroupWaits d v w ↔ HasArc (group_graph d) v w
   GroupWaits-HasArc v w = (arc_from_wait v w, wait_from_arc v w)
+
+-- what making a graph asks of the arcs that it spreads: each leaves an item with a vertex
+pub src-by_place : (waits : List (List Target)) (vertex_of : List ℕ) (arcs : List WaitArc) (n : ℕ) → IsPermutation (range_with_len 0 (flush_count waits)) (places waits) → arcs ≡ arcs_by_place waits vertex_of → length waits ≡ n
+    → All (λ (a : WaitArc). a.src < n) arcs
+src-by_place waits vertex_of arcs n numbered is long =
+    subst (All (λ (a : WaitArc). a.src < n)) (sym is) (
+    λ k d within. let item = src-below waits vertex_of (get_or (arcs_by_place waits vertex_of) k d) (IsArc-by_place waits vertex_of numbered k d within) in omega (arith, item, long)
+    )

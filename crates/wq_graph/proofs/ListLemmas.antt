@@ -49,13 +49,13 @@ Contains-filter p (y ∷ ys) x h passes = elim (cases_Bool (p y)) [
         | inl here ↦ subst (Contains (y ∷ filter p ys)) here (Contains-here y (filter p ys))
         | inr later ↦ Contains-later y (filter p ys) x (Contains-filter p ys x later passes)
       ]
-    )
+      )
   | inr goes ↦ subst (λ l. Contains l x) (sym (cond-false (p y) (y ∷ filter p ys) (filter p ys) goes)) (
       elim (Contains-cases y ys x h) [
         | inl here ↦ absurd (both_ways (p y) goes (ap p here ∙ passes))
         | inr later ↦ Contains-filter p ys x later passes
       ]
-    )
+      )
 ]
 
 pub Contains-range_with_len : (n k : ℕ) → k < n → Contains (range_with_len 0 n) k
