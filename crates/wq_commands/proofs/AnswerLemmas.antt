@@ -1,7 +1,8 @@
 -- What a text declares is a declaration, and its plan or its circle has a text.
 use Rattle.std.proofs.Common.{◌≡◌, ℕ, ◌+◌, ◌-◌, ◌<◌, ◌≤◌, ◌^◌, List, [], ◌∷◌, length, map, Option, Some, None, Result, Ok, Err, refl, sym, ap, subst, ◌∙◌, arith, inl, inr}
 use Rattle.std.proofs.lemmas.Bool.{cases_lt, lt-ltb}
-use Rattle.std.proofs.lemmas.List.{get_or_past, length-take, take_all, length-map, All-map}
+use Rattle.std.proofs.lemmas.List.{get_or_past, length-take, take_all}
+use Rattle.std.proofs.lemmas.List.Elements.{All-map, All-weaker}
 use Rattle.std.specs.Io.KnownBytes.{Consumes}
 use Rattle.std.specs.List.{All, Any}
 use Rattle.std.specs.Prelude.{IfSome, MatchResult, take}
@@ -113,7 +114,7 @@ IsArc-joins s a sound arc =
     (omega (arith, ItemWaits-source s.table.waits a.src a.dst waits, sound.table.one_list_each), ItemWaits-below (length s.table.names) s.table.waits sound.table.targets_are_items a.src a.dst waits)
 
 joined : (s : Declared) (arcs : List WaitArc) → IsSound s → All (IsArc s.table.waits s.partition.group_of) arcs → All (JoinsItems s.table) (map ends_of arcs)
-joined s arcs sound are = ?
+joined s arcs sound are = All-map (JoinsItems s.table) ends_of arcs (All-weaker (IsArc s.table.waits s.partition.group_of) (λ (a : WaitArc). JoinsItems s.table (ends_of a)) (λ a is. IsArc-joins s a sound is) arcs are)
 
 -- the arcs of a plan's chain are few, and they join items
 pub IsPlanned-prints : (s : Declared) (a : Assignment) (chain : List WaitArc) → IsSound s → IsPlanned (declared_waits s) a chain
@@ -128,16 +129,18 @@ IsPlanned-prints s a chain sound planned =
     )
 
 -- so are those of a circle
+pub IsCircled-few : (s : Declared) (circle : List WaitArc) → IsSound s → IsWalkedCircle (group_graph (declared_waits s)) circle → length circle ≤ 4096
+IsCircled-few s circle sound walked =
+    let d = declared_waits s in
+    let is = IsDeclaration-sound s sound in
+    let few : length circle ≤ d.groups = IsCircleOfGroups-few d is circle (IsCircleOfGroups-walked d is circle walked) in
+    omega (arith, few, is.partition.few_groups, is.partition.few_items)
+
 pub IsCircled-prints : (s : Declared) (circle : List WaitArc) → IsSound s → IsWalkedCircle (group_graph (declared_waits s)) circle
     → (length circle < 2 ^ 16) × All (JoinsItems s.table) (map ends_of circle)
 IsCircled-prints s circle sound walked =
-    let d = declared_waits s in
-    let is = IsDeclaration-sound s sound in
-    let round : IsCircleOfGroups d circle = IsCircleOfGroups-walked d is circle walked in
-    let few : length circle ≤ d.groups = IsCircleOfGroups-few d is circle round in (
-      omega (arith, few, is.partition.few_groups, is.partition.few_items),
-      joined s circle sound round.declared,
-    )
+    let few : length circle ≤ 4096 = IsCircled-few s circle sound walked in
+    (omega arith, joined s circle sound (IsCircleOfGroups-walked (declared_waits s) (IsDeclaration-sound s sound) circle walked).declared)
 
 -- ---- the text that was read, and the text that there was
 

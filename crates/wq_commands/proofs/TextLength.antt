@@ -23,7 +23,7 @@ use Rattle.wq_commands.specs.PlanText.{name_of, items_on, plan_line, wq_line, ch
 use Rattle.wq_commands.specs.CircleText.{circle_line, circle_text}
 use Rattle.wq_commands.specs.Answer.{declared_waits, text_of_plan, text_of_circle}
 use Rattle.wq_commands.specs.Declaration.{Declared}
-use Rattle.wq_commands.proofs.AnswerLemmas.{IsSound, IsDeclaration-sound, IsCircled-prints}
+use Rattle.wq_commands.proofs.AnswerLemmas.{IsSound, IsDeclaration-sound, IsCircled-few}
 use Rattle.wq_commands.proofs.LineLemmas.{plan_text-parts}
 
 -- ---- sums of lengths
@@ -186,6 +186,19 @@ module _ (names : List (List ℕ)) (lane : List ℕ) (named : All (λ (name : Li
         length-arc_lines chain,
       ))
 
+  pub length-circle_text : (arcs : List (ℕ × ℕ)) → length arcs ≤ 4096 → length (circle_text names arcs) ≤ 8388608
+  length-circle_text arcs few =
+      let first = line_text (circle_line arcs) in
+      let lines = flat_map line_text (map (arc_line names) arcs) in
+      omega (
+        arith,
+        length-append first lines,
+        length-line_text (codes "circle") (decimal (length arcs) ∷ []),
+        length-spaced (decimal (length arcs)) [],
+        few_digits (length arcs) few,
+        length-arc_lines arcs,
+      )
+
 -- a plan of what a text declares
 pub length-planned : (s : Declared) (a : Assignment) → IsSound s → IsPlan (declared_waits s) a → length (text_of_plan s a) ≤ 8388608
 length-planned s a sound plan =
@@ -202,4 +215,9 @@ length-planned s a sound plan =
 
 -- a circle of what a text declares
 pub length-circled : (s : Declared) (circle : List WaitArc) → IsSound s → IsWalkedCircle (group_graph (declared_waits s)) circle → length (text_of_circle s circle) ≤ 8388608
-length-circled s circle sound walked = ?
+length-circled s circle sound walked =
+    let names = s.table.names in
+    let arcs = map ends_of circle in
+    let same : length arcs ≡ length circle = length-map circle ends_of in
+    let few : length circle ≤ 4096 = IsCircled-few s circle sound walked in
+    length-circle_text names [] sound.table.named arcs (omega arith)
