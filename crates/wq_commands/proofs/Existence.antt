@@ -1,0 +1,24 @@
+-- A text has an answer.
+use Rattle.std.proofs.Common.{◌≡◌, ℕ, List, Result, Ok, Err, refl, inl, inr}
+use Rattle.std.specs.Prelude.{MatchResult}
+use Rattle.wq_text.specs.Refusal.{Refusal}
+use Rattle.wq_plan.proofs.Existence.{IsPlan-or_walked_circle}
+use Rattle.wq_commands.specs.declared.end.End.{End}
+use Rattle.wq_commands.specs.declared.end.End.TheVariants.{Good, Bad, Refused}
+use Rattle.wq_commands.specs.Answer.{Answers, AnswersDeclared, refusal_text, declared_waits, text_of_plan, text_of_circle}
+use Rattle.wq_commands.specs.Declaration.{Declared, declaration}
+use Rattle.wq_commands.proofs.AnswerLemmas.{IsSound, IsSound-declaration, IsDeclaration-sound}
+
+AnswersDeclared-exist : (s : Declared) → IsSound s → (end : End) × (out : List ℕ) × AnswersDeclared s end out
+AnswersDeclared-exist s sound = elim (IsPlan-or_walked_circle (declared_waits s) (IsDeclaration-sound s sound)) [
+  | inl plan ↦ (Good, text_of_plan s plan.0, (plan.0, plan.1, refl))
+  | inr circle ↦ (Bad, text_of_circle s circle.0, (circle.0, circle.1, refl))
+]
+
+answers_exist : (declared : Result Declared Refusal) → ((s : Declared) → declared ≡ Ok s → IsSound s)
+    → (end : End) × (out : List ℕ) × MatchResult declared (λ s. AnswersDeclared s end out) (λ r. (end ≡ Refused) × (out ≡ refusal_text r))
+answers_exist (Ok s) sound = AnswersDeclared-exist s (sound s refl)
+answers_exist (Err r) sound = (Refused, refusal_text r, (refl, refl))
+
+pub Answers-exist : (text : List ℕ) → (end : End) × (out : List ℕ) × Answers text end out
+Answers-exist text = answers_exist (declaration text) (IsSound-declaration text)
