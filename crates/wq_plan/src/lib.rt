@@ -7,6 +7,7 @@
 #![tactic(auto)]
 
 mod answer;
+mod longest;
 mod solving;
 
 pub use answer::Answer;
