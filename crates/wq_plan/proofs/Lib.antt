@@ -6,3 +6,6 @@ pub mod Ranked
 pub mod Graphs
 pub mod Pending
 pub mod Plans
+pub mod Paths
+pub mod GroupCircles
+pub mod LongestChain
