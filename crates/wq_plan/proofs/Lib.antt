@@ -9,3 +9,5 @@ pub mod Plans
 pub mod Paths
 pub mod GroupCircles
 pub mod LongestChain
+pub mod UniqueChain
+pub mod Existence

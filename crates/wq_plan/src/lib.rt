@@ -7,6 +7,7 @@
 #![tactic(auto)]
 
 mod answer;
+pub mod laws;
 mod longest;
 mod solving;
 
