@@ -1,0 +1,4 @@
+pub mod ListLemmas
+pub mod Arcs
+pub mod BuildingLemmas
+pub mod Graphs

@@ -8,6 +8,7 @@ ghost use Rattle.wq_groups.specs.Declaration.{IsDeclaration, declaration_of};
 ghost use Rattle.wq_graph.specs.Graph.{IsGraph, arcs_at, group_graph};
 
 use crate::arc::WaitArc;
+use crate::building::{arcs_by_place, arcs_by_vertex};
 use std::alloc::{AllocError, Allocator};
 use std::marker::Model;
 use wq_groups::Groups;
@@ -41,7 +42,9 @@ impl<A: Allocator + Copy> WaitGraph<A> {
         requires { length groups.now.group_of ≡ length table.now.names }
         ensures { IfOk result (λ g. g ≡ group_graph (declaration_of table.now groups.now)) }
     {
-        Err(AllocError)
+        let arcs = arcs_by_place(alloc, table, groups)?;
+        let arcs = arcs_by_vertex(alloc, arcs.as_slice(), groups)?;
+        Ok(WaitGraph { arcs })
     }
 
     /// How many vertices there are, at most 4,096.

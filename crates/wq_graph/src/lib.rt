@@ -6,6 +6,7 @@
 #![tactic(auto)]
 
 mod arc;
+mod building;
 mod graph;
 
 pub use arc::WaitArc;

@@ -1,0 +1,142 @@
+-- Graphs of declarations: which arcs a vertex has, and what holds of every such graph.
+use Rattle.std.proofs.Common.{◌≡◌, ◌≢◌, ℕ, zero, suc, ◌+◌, ◌<◌, ◌≤◌, ◌==◌, Bool, true, inl, inr, List, [], ◌∷◌, ◌++◌, length, map, get_or, Option, Some, refl, sym, ap, subst, ◌∙◌, arith}
+use Rattle.std.specs.Prelude.{IsPermutation, AllPairs, Contains, slice_index, slice_get, filter, ◌↔◌}
+use Rattle.std.specs.List.{All, Any, range_with_len}
+use Rattle.std.specs.List.Sorted.{IsStrictlyIncreasing}
+use Rattle.std.proofs.lemmas.Bool.{cases_lt, eqb-true, eq-eqb}
+use Rattle.std.proofs.lemmas.List.{get_or_past, get_or_default}
+use Rattle.std.proofs.lemmas.List.Elements.{All-map, All-filter, All-weaker, All-contains, Contains-get_or, filter_passes}
+use Rattle.std.proofs.lemmas.List.FromFn.{length-range_with_len, length-map-range_with_len, get_or-map-range_with_len}
+use Rattle.std.proofs.lemmas.List.Kept.{AllPairs-filter}
+use Rattle.std.proofs.lemmas.Option.{get_or_from_slice_get, slice_get-get_or, slice_get_within}
+use Rattle.wq_items.specs.declared.target.Target.{Target}
+use Rattle.wq_items.specs.Table.{ItemWaits, TargetsBelow, targets_of, flush_count, places}
+use Rattle.wq_items.proofs.Tables.{ItemWaits-below}
+use Rattle.wq_groups.specs.Declaration.{Declaration, GroupWaits, IsDeclaration}
+use Rattle.wq_graph.specs.declared.arc.WaitArc.{WaitArc}
+use Rattle.wq_graph.specs.Graph.{arc_of, arcs_by_item, arcs_by_place, arcs_from, graph_of, group_graph, arcs_at, HasArc, IsArc, AreArcsFrom, IsGraph}
+use Rattle.wq_graph.proofs.ListLemmas.{Contains-filter, IsStrictlyIncreasing-map}
+use Rattle.wq_graph.proofs.Arcs.{IsArc-by_item, Contains-by_item, src-below, ByPlace, ByPlace-arc, ByPlace-arcs_by_place, place-below}
+
+-- ---- the arcs of a vertex
+
+module _ (waits : List (List Target)) (vertex_of : List ℕ) (numbered : IsPermutation (range_with_len 0 (flush_count waits)) (places waits)) where
+  by_place : ByPlace waits vertex_of (arcs_by_place waits vertex_of)
+  by_place = ByPlace-arcs_by_place waits vertex_of numbered
+
+  pub IsArc-by_place : All (IsArc waits vertex_of) (arcs_by_place waits vertex_of)
+  IsArc-by_place k d within =
+      All-contains (IsArc waits vertex_of) (arcs_by_item waits vertex_of) (get_or (arcs_by_place waits vertex_of) k d) (IsArc-by_item waits vertex_of)
+      (ByPlace-arc waits vertex_of numbered (arcs_by_place waits vertex_of) by_place k d within).0
+
+  pub Contains-by_place : (a : WaitArc) → IsArc waits vertex_of a → Contains (arcs_by_place waits vertex_of) a
+  Contains-by_place a h =
+      let there = Contains-by_item waits vertex_of a h in
+      (a.place, omega (arith, place-below waits vertex_of numbered a there, by_place.long), by_place.at a a there)
+
+  rise-by_place : AllPairs (λ (a b : WaitArc). a.place < b.place) (arcs_by_place waits vertex_of)
+  rise-by_place i j d lt within =
+      let at = λ (k : ℕ) (inside : k < length (arcs_by_place waits vertex_of)). (ByPlace-arc waits vertex_of numbered (arcs_by_place waits vertex_of) by_place k d inside).1 in
+      omega (arith, at i (omega arith), at j within)
+
+  pub AreArcsFrom-arcs_from : (v : ℕ) → AreArcsFrom waits vertex_of v (arcs_from waits vertex_of v)
+  AreArcsFrom-arcs_from v =
+      let leaves : WaitArc → Bool = λ (a : WaitArc). slice_index vertex_of a.src == v in
+      let arcs : List WaitArc = arcs_by_place waits vertex_of in
+      record {
+        declared = λ k d within. (All-filter leaves (IsArc waits vertex_of) arcs IsArc-by_place k d within, eqb-true (slice_index vertex_of (get_or (filter leaves arcs) k d).src) v (filter_passes leaves arcs k d within));
+        all = λ a h leaves_v. Contains-filter leaves arcs a (Contains-by_place a h) (eq-eqb (slice_index vertex_of a.src) v leaves_v);
+        in_order =
+            IsStrictlyIncreasing-map (λ (a : WaitArc). a.place) (filter leaves arcs) (record { src = 0; dst = 0; head = 0; place = 0 }) (
+            AllPairs-filter (λ (a b : WaitArc). a.place < b.place) leaves arcs rise-by_place
+            );
+      }
+
+pub arcs_at-graph_of : (waits : List (List Target)) (vertex_of : List ℕ) (n v : ℕ) → v < n → arcs_at (graph_of waits vertex_of n) v ≡ arcs_from waits vertex_of v
+arcs_at-graph_of waits vertex_of n v lt = get_or-map-range_with_len (arcs_from waits vertex_of) 0 n v v [] lt (omega arith)
+
+-- a vertex with an arc is one of the graph's
+pub HasArc-below : (graph : List (List WaitArc)) (v w : ℕ) → HasArc graph v w → v < length graph
+HasArc-below graph v w h = elim (cases_lt v (length graph)) [
+  | inl vertex ↦ vertex
+  | inr past ↦
+      let none : length (arcs_at graph v) ≡ 0 = ap length (get_or_past graph v [] past) in
+      absurd (omega (arith, h.2))
+]
+
+-- ---- graphs of groups
+
+module _ (d : Declaration) (h : IsDeclaration d) where
+  -- an arc leads from an item to an item
+  dst-below : (a : WaitArc) → IsArc d.waits d.group_of a → a.dst < length d.group_of
+  dst-below a arc = ItemWaits-below (length d.group_of) d.waits h.targets_are_items a.src a.dst (arc.declared.0, arc.declared.1, arc.declared.2, arc.declared.3, arc.declared.4.0)
+
+  head-below : (a : WaitArc) → IsArc d.waits d.group_of a → a.head < d.groups
+  head-below a arc = let inside = h.partition.within a.dst 0 (dst-below a arc) in omega (arith, inside, arc.head)
+
+  pub IsGraph-group_graph : IsGraph (group_graph d)
+  IsGraph-group_graph =
+      let long : length (group_graph d) ≡ d.groups = length-map-range_with_len (arcs_from d.waits d.group_of) 0 d.groups in
+      record {
+        few = omega (arith, long, h.partition.few_groups, h.partition.few_items);
+        heads =
+            subst (λ n. All (λ (arcs : List WaitArc). All (λ (a : WaitArc). a.head < n) arcs) (group_graph d)) (sym long) (
+            All-map (λ (arcs : List WaitArc). All (λ (a : WaitArc). a.head < d.groups) arcs) (arcs_from d.waits d.group_of) (range_with_len 0 d.groups) (
+            λ k e within m a inside. let arcs = AreArcsFrom-arcs_from d.waits d.group_of h.places_are_numbered (get_or (range_with_len 0 d.groups) k e) in
+            head-below (get_or (arcs_from d.waits d.group_of (get_or (range_with_len 0 d.groups) k e)) m a) (arcs.declared m a inside).0
+            )
+            );
+        places_rise =
+            All-map (λ (arcs : List WaitArc). IsStrictlyIncreasing (map (λ (a : WaitArc). a.place) arcs)) (arcs_from d.waits d.group_of) (range_with_len 0 d.groups) (
+            λ k e within. (AreArcsFrom-arcs_from d.waits d.group_of h.places_are_numbered (get_or (range_with_len 0 d.groups) k e)).in_order
+            );
+      }
+
+  -- the arcs of any number, also past the last vertex
+  pub AreArcsFrom-group_graph : (v : ℕ) → AreArcsFrom d.waits d.group_of v (arcs_at (group_graph d) v)
+  AreArcsFrom-group_graph v = elim (cases_lt v d.groups) [
+    | inl vertex ↦ subst (AreArcsFrom d.waits d.group_of v) (sym (arcs_at-graph_of d.waits d.group_of d.groups v vertex)) (AreArcsFrom-arcs_from d.waits d.group_of h.places_are_numbered v)
+    | inr past ↦
+        subst (AreArcsFrom d.waits d.group_of v) (sym (get_or_past (group_graph d) v [] (omega (arith, length-map-range_with_len (arcs_from d.waits d.group_of) 0 d.groups)))) (
+        record {
+          declared = λ k e within. absurd (omega (arith, within));
+          all = λ a arc leaves. let inside = h.partition.within a.src 0 (omega (arith, src-below d.waits d.group_of a arc, h.one_list_each)) in absurd (omega (arith, inside, leaves));
+          in_order = λ k within. absurd (omega (arith, within));
+        }
+        )
+  ]
+
+  arc_from_wait : (v w : ℕ) → GroupWaits d v w → HasArc (group_graph d) v w
+  arc_from_wait v w g =
+      let t = g.declares.1 in
+      let a : WaitArc = arc_of d.group_of g.item t in
+      let target : t.item ≡ g.target = g.declares.4 in
+      let arc : IsArc d.waits d.group_of a = record { declared = (g.declares.0, t, g.declares.2, g.declares.3, (refl, refl)); head = refl } in
+      let there = (AreArcsFrom-group_graph v).all a arc (get_or_from_slice_get d.group_of g.item v 0 g.of_item) in
+      (there.0, a, there.1, there.2, ap (slice_index d.group_of) target ∙ get_or_from_slice_get d.group_of g.target w 0 g.of_target)
+
+  wait_from_arc : (v w : ℕ) → HasArc (group_graph d) v w → GroupWaits d v w
+  wait_from_arc v w has =
+      let a = has.1 in
+      let arcs = arcs_at (group_graph d) v in
+      let own = All-contains (λ (b : WaitArc). IsArc d.waits d.group_of b × (slice_index d.group_of b.src ≡ v)) arcs a (AreArcsFrom-group_graph v).declared (has.0, has.2, has.3) in
+      let arc : IsArc d.waits d.group_of a = own.0 in
+      record {
+        item = a.src;
+        target = a.dst;
+        declares = (arc.declared.0, arc.declared.1, arc.declared.2, arc.declared.3, arc.declared.4.0);
+        of_item = slice_get-get_or d.group_of a.src 0 (omega (arith, src-below d.waits d.group_of a arc, h.one_list_each)) ∙ ap (λ (g : ℕ). Some g) own.1;
+        of_target = slice_get-get_or d.group_of a.dst 0 (dst-below a arc) ∙ ap (λ (g : ℕ). Some g) (sym arc.head ∙ has.4);
+      }
+
+  -- a group waits for a group exactly where an arc leaves the one for the other
+  pub GroupWaits-HasArc : (v w : ℕ) → GroupWaits d v w ↔ HasArc (group_graph d) v w
+  GroupWaits-HasArc v w = (arc_from_wait v w, wait_from_arc v w)
+
+-- what making a graph asks of the arcs that it spreads: each leaves an item with a vertex
+pub src-by_place : (waits : List (List Target)) (vertex_of : List ℕ) (arcs : List WaitArc) (n : ℕ) → IsPermutation (range_with_len 0 (flush_count waits)) (places waits) → arcs ≡ arcs_by_place waits vertex_of → length waits ≡ n
+    → All (λ (a : WaitArc). a.src < n) arcs
+src-by_place waits vertex_of arcs n numbered is long =
+    subst (All (λ (a : WaitArc). a.src < n)) (sym is) (
+    λ k d within. let item = src-below waits vertex_of (get_or (arcs_by_place waits vertex_of) k d) (IsArc-by_place waits vertex_of numbered k d within) in omega (arith, item, long)
+    )

@@ -1,0 +1,201 @@
+-- Lists in general: what they contain, in which order, and what is found in them.
+use Rattle.std.proofs.Common.{◌≡◌, ◌≢◌, ℕ, zero, suc, ◌+◌, ◌<◌, Bool, true, cond, eqb, ◌⊎◌, inl, inr, List, [], ◌∷◌, ◌++◌, length, map, get_or, set, Option, Some, refl, sym, ap, subst, ◌∙◌, arith}
+use Rattle.std.specs.Prelude.{IsPermutation, AllPairs, Contains, find, filter, filter_map}
+use Rattle.std.specs.List.{All, range_with_len, flat_map, swap, cons_option}
+use Rattle.std.specs.List.Sorted.{IsStrictlyIncreasing}
+use Rattle.std.proofs.lemmas.Bool.{cases_Bool, cases_eq, both_ways, cond-true, cond-false}
+use Rattle.std.proofs.lemmas.Bool.Decides.{nat_tests}
+use Rattle.std.proofs.lemmas.List.{length-map, length-set, map-append, get_or-map, get_or-set_same, get_or-set_other, get_or_default}
+use Rattle.std.proofs.lemmas.List.Edits.{swap_is, length-swap}
+use Rattle.std.proofs.lemmas.List.Elements.{All-nil, All-append, All-head, All-tail, Contains-append_left, Contains-append_right}
+use Rattle.std.proofs.lemmas.List.FromFn.{fill_by_all, get_or-range_with_len, length-range_with_len}
+use Rattle.std.proofs.lemmas.List.Sorted.{IsPermutation-keeps}
+
+-- ---- elements
+
+pub Contains-here : {X : Type 0} (x : X) (xs : List X) → Contains (x ∷ xs) x
+Contains-here x xs = (0, omega arith, refl)
+
+pub Contains-later : {X : Type 0} (y : X) (xs : List X) (x : X) → Contains xs x → Contains (y ∷ xs) x
+Contains-later y xs x h = (suc h.0, omega (arith, h.1), h.2)
+
+pub Contains-cases : {X : Type 0} (y : X) (xs : List X) (x : X) → Contains (y ∷ xs) x → (y ≡ x) ⊎ Contains xs x
+Contains-cases y xs x (zero, within, is) = inl is
+Contains-cases y xs x (suc k, within, is) = inr (k, omega (arith, within), is)
+
+pub Contains-map : {X Y : Type 0} (f : X → Y) (xs : List X) (x : X) → Contains xs x → Contains (map f xs) (f x)
+Contains-map f xs x h = (h.0, omega (arith, h.1, length-map xs f), get_or-map f xs h.0 x (f x) h.1 ∙ ap f h.2)
+
+-- what f made an element of
+pub Contains-from_map : {X Y : Type 0} (f : X → Y) (xs : List X) (y : Y) → Contains (map f xs) y → (x : X) × Contains xs x × (f x ≡ y)
+Contains-from_map f [] y h = absurd (omega (arith, h.1))
+Contains-from_map f (x ∷ xs) y h = elim (Contains-cases (f x) (map f xs) y h) [
+  | inl here ↦ (x, Contains-here x xs, here)
+  | inr later ↦ let from = Contains-from_map f xs y later in (from.0, Contains-later x xs from.0 from.1, from.2)
+]
+
+pub Contains-flat_map : {X Y : Type 0} (f : X → List Y) (xs : List X) (x : X) (y : Y) → Contains xs x → Contains (f x) y → Contains (flat_map f xs) y
+Contains-flat_map f [] x y h own = absurd (omega (arith, h.1))
+Contains-flat_map f (z ∷ zs) x y h own = elim (Contains-cases z zs x h) [
+  | inl here ↦ Contains-append_left (f z) (flat_map f zs) y (subst (λ w. Contains (f w) y) (sym here) own)
+  | inr later ↦ Contains-append_right (f z) (flat_map f zs) y (Contains-flat_map f zs x y later own)
+]
+
+pub Contains-filter : {X : Type 0} (p : X → Bool) (xs : List X) (x : X) → Contains xs x → p x ≡ true → Contains (filter p xs) x
+Contains-filter p [] x h passes = absurd (omega (arith, h.1))
+Contains-filter p (y ∷ ys) x h passes = elim (cases_Bool (p y)) [
+  | inl stays ↦ subst (λ l. Contains l x) (sym (cond-true (p y) (y ∷ filter p ys) (filter p ys) stays)) (
+      elim (Contains-cases y ys x h) [
+        | inl here ↦ subst (Contains (y ∷ filter p ys)) here (Contains-here y (filter p ys))
+        | inr later ↦ Contains-later y (filter p ys) x (Contains-filter p ys x later passes)
+      ]
+      )
+  | inr goes ↦ subst (λ l. Contains l x) (sym (cond-false (p y) (y ∷ filter p ys) (filter p ys) goes)) (
+      elim (Contains-cases y ys x h) [
+        | inl here ↦ absurd (both_ways (p y) goes (ap p here ∙ passes))
+        | inr later ↦ Contains-filter p ys x later passes
+      ]
+      )
+]
+
+pub Contains-range_with_len : (n k : ℕ) → k < n → Contains (range_with_len 0 n) k
+Contains-range_with_len n k lt = (k, omega (arith, length-range_with_len 0 n), get_or-range_with_len 0 n k k lt ∙ omega arith)
+
+pub All-flat_map : {X Y : Type 0} (P : Y → Type 0) (f : X → List Y) (xs : List X) → ((x : X) → All P (f x)) → All P (flat_map f xs)
+All-flat_map P f [] each = All-nil P
+All-flat_map P f (x ∷ xs) each = All-append P (f x) (flat_map f xs) (each x) (All-flat_map P f xs each)
+
+-- ---- lists made of others
+
+pub map-map : {X Y Z : Type 0} (g : Y → Z) (f : X → Y) (xs : List X) → map g (map f xs) ≡ map (λ x. g (f x)) xs
+map-map g f [] = refl
+map-map g f (x ∷ xs) = ap (λ l. g (f x) ∷ l) (map-map g f xs)
+
+pub map-flat_map : {X Y Z : Type 0} (g : Y → Z) (f : X → List Y) (xs : List X) → map g (flat_map f xs) ≡ flat_map (λ x. map g (f x)) xs
+map-flat_map g f [] = refl
+map-flat_map g f (x ∷ xs) = map-append g (f x) (flat_map f xs) ∙ ap (λ l. map g (f x) ++ l) (map-flat_map g f xs)
+
+pub flat_map_agree : {X Y : Type 0} (f g : X → List Y) → ((x : X) → f x ≡ g x) → (xs : List X) → flat_map f xs ≡ flat_map g xs
+flat_map_agree f g same [] = refl
+flat_map_agree f g same (x ∷ xs) = ap (λ l. l ++ flat_map f xs) (same x) ∙ ap (λ l. g x ++ l) (flat_map_agree f g same xs)
+
+-- the elements by their numbers
+pub map-get_or-range_with_len : {X : Type 0} (xs : List X) (d : X) → map (λ i. get_or xs i d) (range_with_len 0 (length xs)) ≡ xs
+map-get_or-range_with_len xs d = sym (fill_by_all (λ i. get_or xs i d) xs (length xs) d refl (λ k within. refl))
+
+-- ---- what is found
+
+-- the first element that passes
+pub record Found {X : Type 0} (p : X → Bool) (xs : List X) : Type 0 where
+  pub item : X
+  pub is : find p xs ≡ Some item
+  pub passes : p item ≡ true
+  pub there : Contains xs item
+
+pub found : {X : Type 0} (p : X → Bool) (xs : List X) (x : X) → Contains xs x → p x ≡ true → Found p xs
+found p [] x h passes = absurd (omega (arith, h.1))
+found p (y ∷ ys) x h passes = elim (cases_Bool (p y)) [
+  | inl first ↦ record { item = y; is = cond-true (p y) (Some y) (find p ys) first; passes = first; there = Contains-here y ys }
+  | inr fails ↦
+      elim (Contains-cases y ys x h) [
+        | inl here ↦ absurd (both_ways (p y) fails (ap p here ∙ passes))
+        | inr later ↦
+            let rest = found p ys x later passes in
+            record { item = rest.item; is = cond-false (p y) (Some y) (find p ys) fails ∙ rest.is; passes = rest.passes; there = Contains-later y ys rest.item rest.there }
+      ]
+]
+
+-- where h gives the elements of a list at the numbers from n on
+pub filter_map-range_with_len : {X : Type 0} (h : ℕ → Option X) (n : ℕ) (xs : List X) → ((k m : ℕ) (d : X) → k < length xs → n + k ≡ m → h m ≡ Some (get_or xs k d)) → filter_map h (range_with_len n (length xs)) ≡ xs
+filter_map-range_with_len h n [] gives = refl
+filter_map-range_with_len {X} h n (x ∷ xs) gives =
+    ap (λ (o : Option X). cons_option o (filter_map h (range_with_len (n + 1) (length xs)))) (gives 0 n x (omega arith) (omega arith))
+    ∙ ap (λ (l : List X). x ∷ l) (filter_map-range_with_len h (n + 1) xs (λ k m d within e. gives (suc k) m d (omega arith) (omega (arith, e))))
+
+-- ---- pairs
+
+pub AllPairs-head : {X : Type 0} (R : X → X → Type 0) (x : X) (xs : List X) → AllPairs R (x ∷ xs) → All (R x) xs
+AllPairs-head R x xs h = λ k d within. h 0 (suc k) d (omega arith) (omega arith)
+
+pub AllPairs-tail : {X : Type 0} (R : X → X → Type 0) (x : X) (xs : List X) → AllPairs R (x ∷ xs) → AllPairs R xs
+AllPairs-tail R x xs h = λ i j d lt within. h (suc i) (suc j) d (omega arith) (omega arith)
+
+pub AllPairs-from_map : {X Y : Type 0} (R : Y → Y → Type 0) (f : X → Y) (xs : List X) → AllPairs R (map f xs) → AllPairs (λ a b. R (f a) (f b)) xs
+AllPairs-from_map R f xs h i j d lt within =
+    subst (λ a. R a (f (get_or xs j d))) (get_or-map f xs i d (f d) (omega arith)) (
+    subst (λ b. R (get_or (map f xs) i (f d)) b) (get_or-map f xs j d (f d) within) (h i j (f d) lt (omega (arith, length-map xs f)))
+    )
+
+pub IsStrictlyIncreasing-map : {X : Type 0} (f : X → ℕ) (xs : List X) (d : X) → AllPairs (λ a b. f a < f b) xs → IsStrictlyIncreasing (map f xs)
+IsStrictlyIncreasing-map f xs d h k within =
+    let fits : k + 1 < length xs = omega (arith, within, length-map xs f) in
+    omega (arith, get_or-map f xs k d 0 (omega arith), get_or-map f xs (k + 1) d 0 fits, h k (k + 1) d (omega arith) fits)
+
+-- ---- numbers that differ
+
+-- elements at two places differ
+abbrev Differ : List ℕ → Type 0
+Differ xs = (i j : ℕ) → i < length xs → j < length xs → i ≢ j → get_or xs i 0 ≢ get_or xs j 0
+
+-- where the element at k comes from, when those at i and j are exchanged
+exchanged : ℕ → ℕ → ℕ → ℕ
+exchanged i j k = cond (eqb k i) j (cond (eqb k j) i k)
+
+exchanged-below : (n i j k : ℕ) → i < n → j < n → k < n → exchanged i j k < n
+unfolding exchanged
+exchanged-below n i j k in-i in-j in-k = grind (arith, nat_tests)
+
+exchanged-same : (i j k m : ℕ) → exchanged i j k ≡ exchanged i j m → k ≡ m
+unfolding exchanged
+exchanged-same i j k m same = grind (arith, nat_tests)
+
+exchanged-second : (i j k : ℕ) → k ≡ j → exchanged i j k ≡ i
+unfolding exchanged
+exchanged-second i j k at = grind (arith, nat_tests)
+
+exchanged-first : (i j k : ℕ) → k ≡ i → exchanged i j k ≡ j
+unfolding exchanged
+exchanged-first i j k at = grind (arith, nat_tests)
+
+exchanged-other : (i j k : ℕ) → k ≢ i → k ≢ j → exchanged i j k ≡ k
+unfolding exchanged
+exchanged-other i j k off-i off-j = grind (arith, nat_tests)
+
+get_or-swap : (xs : List ℕ) (i j k : ℕ) → i < length xs → j < length xs → k < length xs → get_or (swap xs i j) k 0 ≡ get_or xs (exchanged i j k) 0
+get_or-swap xs i j k in-i in-j in-k =
+    let x : ℕ = get_or xs i 0 in
+    let y : ℕ = get_or xs j 0 in
+    ap (λ l. get_or l k 0) (sym (swap_is xs i j 0 in-i in-j)) ∙ elim (cases_eq k j) [
+      | inl second ↦
+          ap (λ m. get_or (set (set xs i y) j x) m 0) second ∙ get_or-set_same (set xs i y) j x 0 (omega (arith, length-set xs i y)) ∙ ap (λ m. get_or xs m 0) (sym (exchanged-second i j k second))
+      | inr off-j ↦
+          get_or-set_other (set xs i y) j k x 0 off-j ∙ elim (cases_eq k i) [
+            | inl first ↦ ap (λ m. get_or (set xs i y) m 0) first ∙ get_or-set_same xs i y 0 in-i ∙ ap (λ m. get_or xs m 0) (sym (exchanged-first i j k first))
+            | inr off-i ↦ get_or-set_other xs i k y 0 off-i ∙ ap (λ m. get_or xs m 0) (sym (exchanged-other i j k off-i off-j))
+          ]
+    ]
+
+Differ-swap : (xs : List ℕ) (i j : ℕ) → i < length xs → j < length xs → Differ xs → Differ (swap xs i j)
+Differ-swap xs i j in-i in-j h k m in-k in-m apart same =
+    let long : length (swap xs i j) ≡ length xs = length-swap xs i j in
+    let k_in : k < length xs = omega arith in
+    let m_in : m < length xs = omega arith in
+    h (exchanged i j k) (exchanged i j m) (exchanged-below (length xs) i j k in-i in-j k_in) (exchanged-below (length xs) i j m in-i in-j m_in)
+    (λ e. apart (exchanged-same i j k m e)) (sym (get_or-swap xs i j k in-i in-j k_in) ∙ same ∙ get_or-swap xs i j m in-i in-j m_in)
+
+Differ-range_with_len : (n : ℕ) → Differ (range_with_len 0 n)
+Differ-range_with_len n i j in-i in-j apart same =
+    let i_in : i < n = omega (arith, in-i, length-range_with_len 0 n) in
+    let j_in : j < n = omega (arith, in-j, length-range_with_len 0 n) in
+    apart (omega (arith, same, get_or-range_with_len 0 n i 0 i_in, get_or-range_with_len 0 n j 0 j_in))
+
+-- the numbers below n in any order differ
+pub AllPairs-numbered : (n : ℕ) (xs : List ℕ) → IsPermutation (range_with_len 0 n) xs → AllPairs (λ (a b : ℕ). a ≢ b) xs
+AllPairs-numbered n xs numbered i j d lt within same =
+    IsPermutation-keeps (range_with_len 0 n) Differ (Differ-range_with_len n) (λ l a b in-a in-b h. Differ-swap l a b in-a in-b h) xs numbered i j (omega arith) within (omega arith)
+    (get_or_default xs i 0 d (omega arith) ∙ same ∙ get_or_default xs j d 0 within)
+
+pub range_with_len-below : (n : ℕ) → All (λ p. p < n) (range_with_len 0 n)
+range_with_len-below n k d within =
+    let fits : k < n = omega (arith, within, length-range_with_len 0 n) in
+    omega (arith, get_or-range_with_len 0 n k d fits)
