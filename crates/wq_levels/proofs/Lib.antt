@@ -1,0 +1,4 @@
+pub mod Capped
+pub mod Graphs
+pub mod MidRound
+pub mod Ranks

@@ -1,5 +1,5 @@
 -- Walks along arcs of a wait graph, and the circle that is answered where there is one.
-use Rattle.std.specs.Prelude.{◌≡◌, ◌≢◌, ℕ, ◌+◌, ◌<◌, ◌≤◌, List, [], ◌∷◌, ◌++◌, length, Contains, AllPairs}
+use Rattle.std.specs.Prelude.{◌≡◌, ◌≢◌, ◌↔◌, ℕ, ◌+◌, ◌<◌, ◌≤◌, List, [], ◌∷◌, ◌++◌, length, slice_index, SomeIndex, Contains, AllPairs}
 use Rattle.std.specs.List.{All}
 use Rattle.wq_items.specs.Chain.{BeginsChain}
 use Rattle.wq_graph.specs.declared.arc.WaitArc.{WaitArc}
@@ -9,6 +9,12 @@ use Rattle.wq_graph.specs.Graph.{HasArc, arcs_at}
 -- what remains would leave v
 abbrev pub Remains : List (List WaitArc) → ℕ → Type 0
 Remains graph v = (v < length graph) × BeginsChain (HasArc graph) v (length graph + 1)
+
+-- ranks that are as high as there are vertices at the vertices that remain and at no other, and some vertex remains
+pub record MarkRemaining (graph : List (List WaitArc)) (ranks : List ℕ) : Type 0 where
+  pub one_each : length ranks ≡ length graph
+  pub marked : (v : ℕ) → v < length graph → (slice_index ranks v ≡ length graph) ↔ Remains graph v
+  pub some : SomeIndex ranks (λ v. slice_index ranks v ≡ length graph)
 
 -- v remains, and no lower-numbered vertex does
 pub record IsLeastRemaining (graph : List (List WaitArc)) (v : ℕ) : Type 0 where
