@@ -7,6 +7,7 @@ use Rattle.std.proofs.lemmas.List.{get_or_past}
 use Rattle.std.proofs.lemmas.List.Elements.{recursion_from_All}
 use Rattle.wq_graph.specs.declared.arc.WaitArc.{WaitArc}
 use Rattle.wq_graph.specs.Graph.{IsGraph, arcs_at}
+use Rattle.wq_levels.proofs.Graphs.{arcs_at-below}
 use Rattle.wq_plan.specs.Plan.{chain_from}
 
 -- what is found is one of the elements
@@ -17,13 +18,6 @@ find-All P test (y ∷ ys) x each found = elim (cases_Bool (test y)) [
   | inr fails ↦ find-All P test ys x each.1 (rw fails at found)
 ]
 
--- the arcs of any number, also past the last vertex, lead to vertices
-pub arcs_at-heads : (graph : List (List WaitArc)) (v : ℕ) → IsGraph graph → All (λ (a : WaitArc). a.head < length graph) (arcs_at graph v)
-arcs_at-heads graph v is = elim (cases_lt v (length graph)) [
-  | inl vertex ↦ is.heads v [] vertex
-  | inr past ↦ rw (get_or_past graph v [] past) (λ k d none. absurd (omega arith))
-]
-
 module _ (graph : List (List WaitArc)) (lane : List ℕ) (below v : ℕ) where
   -- the first arc to the lane `below`
   abbrev pub next_arc : Option WaitArc
@@ -32,7 +26,7 @@ module _ (graph : List (List WaitArc)) (lane : List ℕ) (below v : ℕ) where
   pub next_arc-below : (arc : WaitArc) → IsGraph graph → next_arc ≡ Some arc → arc.head < length graph
   next_arc-below arc is found =
       find-All (λ (a : WaitArc). a.head < length graph) (λ (a : WaitArc). slice_index lane a.head == below) (arcs_at graph v) arc
-      (recursion_from_All (λ (a : WaitArc). a.head < length graph) (arcs_at graph v) (arcs_at-heads graph v is)) found
+      (recursion_from_All (λ (a : WaitArc). a.head < length graph) (arcs_at graph v) (arcs_at-below graph is v)) found
 
   pub chain_from-some : (on : ℕ) (arc : WaitArc) → on ≡ suc below → next_arc ≡ Some arc → chain_from graph lane on v ≡ arc ∷ chain_from graph lane below arc.head
   chain_from-some on arc same found = rw same (ap (λ (o : Option WaitArc). option_map_or (λ (a : WaitArc). a ∷ chain_from graph lane below a.head) o []) found)

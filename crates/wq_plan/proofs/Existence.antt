@@ -13,9 +13,9 @@ use Rattle.wq_graph.specs.declared.arc.WaitArc.{WaitArc}
 use Rattle.wq_graph.specs.Graph.{IsGraph, HasArc, arcs_at, group_graph}
 use Rattle.wq_levels.specs.Ranks.{AreRanks}
 use Rattle.wq_plan.specs.Plan.{IsPlan, lanes_of}
-use Rattle.wq_plan.proofs.Graphs.{HasArc-below}
+use Rattle.wq_levels.proofs.Graphs.{HasArc-below}
 use Rattle.wq_plan.proofs.Plans.{IsPlan-from_ranks, HasCircle-from_graph}
-use Rattle.wq_plan.proofs.Pending.{IsGraph-group_graph}
+use Rattle.wq_graph.proofs.Graphs.{IsGraph-group_graph}
 
 -- it holds or it doesn't
 abbrev Decided : Type 0 → Type 0

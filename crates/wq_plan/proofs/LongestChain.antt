@@ -19,11 +19,11 @@ use Rattle.wq_plan.specs.LongestChain.{IsStepDown, IsFirstOnLast, IsLongestChain
 use Rattle.wq_plan.specs.CircleOfGroups.{tail_of}
 use Rattle.wq_plan.proofs.Arcs.{next_arc, next_arc-below, chain_from-some}
 use Rattle.wq_plan.proofs.Found.{IsFirst, find-Some, position-is}
-use Rattle.wq_plan.proofs.Graphs.{PlacesRise, arcs_at-below, arcs_at-rise, HasArc-below}
+use Rattle.wq_levels.proofs.Graphs.{PlacesRise, arcs_at-below, arcs_at-rise, HasArc-below}
 use Rattle.wq_plan.proofs.Lanes.{lanes_of-above, lanes_of-some}
-use Rattle.wq_plan.proofs.Paths.{IsPath, Follows-joined, Follows-begins, GoesOn-path, leaving-declared, leaving-head}
-use Rattle.wq_plan.proofs.Plans.{AreRanks-from_plan}
-use Rattle.wq_plan.proofs.Pending.{length-group_graph, IsGraph-group_graph, AreArcsFrom-group_graph}
+use Rattle.wq_plan.proofs.Paths.{IsPath, Follows-joined, Follows-begins, GoesOn-path, leaving-declared}
+use Rattle.wq_plan.proofs.Plans.{length-group_graph, AreRanks-from_plan}
+use Rattle.wq_graph.proofs.Graphs.{IsGraph-group_graph, AreArcsFrom-group_graph}
 
 -- an arc that stands no later has no greater place
 PlacesRise-places : (arcs : List WaitArc) (i j : ℕ) (d e : WaitArc) → PlacesRise arcs → i ≤ j → j < length arcs → (get_or arcs i d).place ≤ (get_or arcs j e).place
@@ -100,22 +100,22 @@ module _ (graph : List (List WaitArc)) (lane : List ℕ) (sound : IsGraph graph)
 
 module _ (d : Declaration) (is : IsDeclaration d) (a : Assignment) where
   -- an arc of a group to the next lane, by the groups of its items
-  IsStepDown-from_step : (g : ℕ) (arc : WaitArc) → g < d.groups → IsStep (group_graph d) a.lane_of_group g arc → IsStepDown d a arc
-  IsStepDown-from_step g arc group step =
-      let here = leaving-declared d is g group arc step.leaves in
+  IsStepDown-from_step : (g : ℕ) (arc : WaitArc) → IsStep (group_graph d) a.lane_of_group g arc → IsStepDown d a arc
+  IsStepDown-from_step g arc step =
+      let here = leaving-declared d is g arc step.leaves in
       let to : lane_of a arc.head ≡ lane_of_item a d.group_of arc.dst = ap (lane_of a) here.0.head in
       let from : lane_of_item a d.group_of arc.src ≡ lane_of a g = ap (lane_of a) here.1 in
       record {
         declared = here.0;
         falls = omega (arith, to, from, step.falls);
         least = λ b declared same_group same_lane.
-            let among = (AreArcsFrom-group_graph d is g group).all b declared (same_group ∙ here.1) in
+            let among = (AreArcsFrom-group_graph d is g).all b declared (same_group ∙ here.1) in
             All-contains (λ (e : WaitArc). lane_of a e.head ≡ lane_of a arc.head → arc.place ≤ e.place) (arcs_at (group_graph d) g) b step.least among (ap (lane_of a) declared.head ∙ same_lane ∙ sym to);
       }
 
-  AreStepsDown : (g : ℕ) (arcs : List WaitArc) → g < d.groups → AreSteps (group_graph d) a.lane_of_group g arcs → AllByRecursion (IsStepDown d a) arcs
-  AreStepsDown g [] group steps = tt
-  AreStepsDown g (arc ∷ arcs) group steps = (IsStepDown-from_step g arc group steps.0, AreStepsDown arc.head arcs (leaving-head d is g group arc steps.0.leaves) steps.1)
+  AreStepsDown : (g : ℕ) (arcs : List WaitArc) → AreSteps (group_graph d) a.lane_of_group g arcs → AllByRecursion (IsStepDown d a) arcs
+  AreStepsDown g [] steps = tt
+  AreStepsDown g (arc ∷ arcs) steps = (IsStepDown-from_step g arc steps.0, AreStepsDown arc.head arcs steps.1)
 
   module _ (plan : IsPlan d a) where
     longest_from : (first : ℕ) → first < d.groups → IsFirstOnLast a first → chain_of (group_graph d) a.lane_of_group ≡ chain_from (group_graph d) a.lane_of_group (lanes_of a.lane_of_group - 1) first → IsLongestChain d a (chain_of (group_graph d) a.lane_of_group)
@@ -124,11 +124,11 @@ module _ (d : Declaration) (is : IsDeclaration d) (a : Assignment) where
         let chain = chain_from (group_graph d) lane (lanes_of lane - 1) first in
         let below : slice_index lane first ≡ lanes_of lane - 1 = omega (arith, last.0, plan.count) in
         let steps = chain_from-steps (group_graph d) lane (IsGraph-group_graph d is) (AreRanks-from_plan d is a plan) (lanes_of lane - 1) first (omega (arith, length-group_graph d)) below in
-        let on = GoesOn-path d is first chain group (IsPath-from_steps (group_graph d) lane first chain steps.1) in
+        let on = GoesOn-path d is first chain (IsPath-from_steps (group_graph d) lane first chain steps.1) in
         rw same
         (record {
           count = omega (arith, steps.0, plan.count);
-          arcs = All-from_recursion (IsStepDown d a) chain (AreStepsDown first chain group steps.1);
+          arcs = All-from_recursion (IsStepDown d a) chain (AreStepsDown first chain steps.1);
           joined = Follows-joined d first chain on.follows;
           begins = Follows-begins d (λ g. IsFirstOnLast a g) first chain on.follows last;
         })

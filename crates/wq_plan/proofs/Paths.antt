@@ -8,8 +8,9 @@ use Rattle.wq_graph.specs.declared.arc.WaitArc.{WaitArc}
 use Rattle.wq_graph.specs.Graph.{IsArc, arcs_at, group_graph}
 use Rattle.wq_levels.specs.Walks.{IsWalk, vertices_left}
 use Rattle.wq_plan.specs.CircleOfGroups.{tail_of}
-use Rattle.wq_plan.proofs.Graphs.{arcs_at-below}
-use Rattle.wq_plan.proofs.Pending.{length-group_graph, IsGraph-group_graph, AreArcsFrom-group_graph}
+use Rattle.wq_levels.proofs.Graphs.{arcs_at-below}
+use Rattle.wq_graph.proofs.Graphs.{IsGraph-group_graph, AreArcsFrom-group_graph}
+use Rattle.wq_plan.proofs.Plans.{length-group_graph}
 
 -- the first arc leaves v
 abbrev pub IsPath : List (List WaitArc) → ℕ → List WaitArc → Type 0
@@ -19,11 +20,6 @@ IsPath graph v (a ∷ arcs) = Contains (arcs_at graph v) a × IsPath graph a.hea
 pub IsPath-from_walk : (graph : List (List WaitArc)) (v w : ℕ) (arcs : List WaitArc) → IsWalk graph v arcs w → IsPath graph v arcs
 IsPath-from_walk graph v w [] walk = tt
 IsPath-from_walk graph v w (a ∷ arcs) walk = (walk.0.leaves, IsPath-from_walk graph a.head w arcs walk.1)
-
--- a walk that begins at a vertex ends at one
-pub IsWalk-end : (graph : List (List WaitArc)) (v w : ℕ) (arcs : List WaitArc) → v < length graph → IsWalk graph v arcs w → w < length graph
-IsWalk-end graph v w [] vertex walk = subst (λ x. x < length graph) walk vertex
-IsWalk-end graph v w (a ∷ arcs) vertex walk = IsWalk-end graph a.head w arcs walk.0.remains.0 walk.1
 
 -- where the last of the arcs leads
 pub IsWalk-last : (graph : List (List WaitArc)) (v w : ℕ) (arc : WaitArc) (arcs : List WaitArc) → IsWalk graph v (arc ∷ arcs) w → (last : WaitArc) × (slice_get (arc ∷ arcs) (length (arc ∷ arcs) - 1) ≡ Some last) × (last.head ≡ w)
@@ -55,18 +51,10 @@ module _ (d : Declaration) where
   Follows-begins P g [] follows holds = tt
   Follows-begins P g (a ∷ arcs) follows holds = subst P (sym follows.0) holds
 
-  module _ (is : IsDeclaration d) (g : ℕ) (group : g < d.groups) (a : WaitArc) (leaves : Contains (arcs_at (group_graph d) g) a) where
+  module _ (is : IsDeclaration d) (g : ℕ) (a : WaitArc) (leaves : Contains (arcs_at (group_graph d) g) a) where
     -- what leaves a group is a flush that an item of it declares
     pub leaving-declared : IsArc d.waits d.group_of a × (tail_of d a ≡ g)
-    leaving-declared = All-contains (λ (b : WaitArc). IsArc d.waits d.group_of b × (tail_of d b ≡ g)) (arcs_at (group_graph d) g) a (AreArcsFrom-group_graph d is g group).declared leaves
-
-    pub leaving-head : a.head < d.groups
-    leaving-head =
-        omega (
-          arith,
-          length-group_graph d,
-          All-contains (λ (b : WaitArc). b.head < length (group_graph d)) (arcs_at (group_graph d) g) a (arcs_at-below (group_graph d) (IsGraph-group_graph d is) g) leaves,
-        )
+    leaving-declared = All-contains (λ (b : WaitArc). IsArc d.waits d.group_of b × (tail_of d b ≡ g)) (arcs_at (group_graph d) g) a (AreArcsFrom-group_graph d is g).declared leaves
 
   -- what a path is by the groups of the items
   pub record GoesOn (g : ℕ) (arcs : List WaitArc) : Type 0 where
@@ -74,11 +62,11 @@ module _ (d : Declaration) where
     pub follows : Follows d g arcs
     pub left : map (tail_of d) arcs ≡ vertices_left g arcs
 
-  pub GoesOn-path : IsDeclaration d → (g : ℕ) (arcs : List WaitArc) → g < d.groups → IsPath (group_graph d) g arcs → GoesOn g arcs
-  GoesOn-path is g [] group path = record { declared = tt; follows = tt; left = refl }
-  GoesOn-path is g (a ∷ arcs) group path =
-      let here = leaving-declared is g group a path.0 in
-      let rest = GoesOn-path is a.head arcs (leaving-head is g group a path.0) path.1 in
+  pub GoesOn-path : IsDeclaration d → (g : ℕ) (arcs : List WaitArc) → IsPath (group_graph d) g arcs → GoesOn g arcs
+  GoesOn-path is g [] path = record { declared = tt; follows = tt; left = refl }
+  GoesOn-path is g (a ∷ arcs) path =
+      let here = leaving-declared is g a path.0 in
+      let rest = GoesOn-path is a.head arcs path.1 in
       record {
         declared = (here.0, rest.declared);
         follows = (here.1, subst (λ h. Follows d h arcs) here.0.head rest.follows);

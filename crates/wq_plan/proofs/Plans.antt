@@ -2,6 +2,7 @@
 use Rattle.std.proofs.Common.{◌≡◌, ℕ, ◌+◌, ◌<◌, ◌≤◌, ◌^◌, List, length, slice_index, refl, sym, ap, ◌∙◌, subst, ext_get_or, arith}
 use Rattle.std.specs.List.{All}
 use Rattle.std.proofs.lemmas.List.Elements.{All-get_or}
+use Rattle.std.proofs.lemmas.List.FromFn.{length-map-range_with_len}
 use Rattle.std.proofs.lemmas.Option.{slice_get_within, get_or_from_slice_get}
 use Rattle.wq_items.specs.Chain.{IsChain, HasCircle}
 use Rattle.wq_items.proofs.Chains.{IsRank-unique}
@@ -9,16 +10,20 @@ use Rattle.wq_items.proofs.Circles.{no_circle_from_ranks, circle_from_BeginsChai
 use Rattle.wq_groups.specs.Declaration.{Declaration, GroupWaits, IsDeclaration}
 use Rattle.wq_groups.specs.Assignment.{Assignment, lane_of}
 use Rattle.wq_graph.specs.declared.arc.WaitArc.{WaitArc}
-use Rattle.wq_graph.specs.Graph.{IsGraph, HasArc, group_graph}
+use Rattle.wq_graph.specs.Graph.{IsGraph, HasArc, arcs_from, group_graph}
 use Rattle.wq_levels.specs.Ranks.{AreRanks}
 use Rattle.wq_levels.specs.Walks.{IsWalkedCircle}
 use Rattle.wq_plan.specs.Plan.{IsPlan, lanes_of, chain_of}
 use Rattle.wq_plan.specs.Solve.{IsPlanned, IsCircled}
-use Rattle.wq_plan.proofs.Graphs.{HasArc-below}
+use Rattle.wq_levels.proofs.Graphs.{HasArc-below}
 use Rattle.wq_plan.proofs.Relations.{HasCircle-implied, IsRank-same}
 use Rattle.wq_plan.proofs.Ranked.{ranks-fall, ranks-most, ranks-below, ranks-lanes}
 use Rattle.wq_plan.proofs.Lanes.{lanes_of-above}
-use Rattle.wq_plan.proofs.Pending.{length-group_graph, IsGraph-group_graph, GroupWaits-HasArc}
+use Rattle.wq_graph.proofs.Graphs.{IsGraph-group_graph, GroupWaits-HasArc}
+
+-- the wait graph has the groups for vertices
+pub length-group_graph : (d : Declaration) → length (group_graph d) ≡ d.groups
+length-group_graph d = length-map-range_with_len (arcs_from d.waits d.group_of) 0 d.groups
 
 -- what a group waits for is one of the groups
 pub GroupWaits-below : (d : Declaration) → IsDeclaration d → (g h : ℕ) → GroupWaits d g h → h < d.groups

@@ -4,7 +4,7 @@ use Rattle.std.specs.Prelude.{Contains}
 use Rattle.std.specs.List.{All, AllByRecursion, AllAdjacentBelow}
 use Rattle.std.proofs.lemmas.Bool.{cases_order}
 use Rattle.std.proofs.lemmas.List.{get_or-map, length-map, get_or_default}
-use Rattle.std.proofs.lemmas.List.Elements.{recursion_from_All, All-get_or}
+use Rattle.std.proofs.lemmas.List.Elements.{recursion_from_All}
 use Rattle.std.proofs.lemmas.List.Kept.{AllPairs-from_increasing}
 use Rattle.wq_groups.specs.Declaration.{Declaration, IsDeclaration}
 use Rattle.wq_groups.specs.Assignment.{Assignment, lane_of, lane_of_item}
@@ -12,9 +12,9 @@ use Rattle.wq_graph.specs.declared.arc.WaitArc.{WaitArc}
 use Rattle.wq_graph.specs.Graph.{IsArc, arcs_at, group_graph}
 use Rattle.wq_plan.specs.LongestChain.{IsStepDown, IsFirstOnLast, IsLongestChain}
 use Rattle.wq_plan.specs.CircleOfGroups.{tail_of}
-use Rattle.wq_plan.proofs.Graphs.{PlacesRise, arcs_at-rise}
+use Rattle.wq_levels.proofs.Graphs.{PlacesRise, arcs_at-rise}
 use Rattle.wq_plan.proofs.Paths.{Follows, Follows-joined}
-use Rattle.wq_plan.proofs.Pending.{IsGraph-group_graph, AreArcsFrom-group_graph, src-below}
+use Rattle.wq_graph.proofs.Graphs.{IsGraph-group_graph, AreArcsFrom-group_graph}
 
 -- an arc that stands further on has a greater place
 later_place : (arcs : List WaitArc) (i j : ℕ) (d e : WaitArc) → PlacesRise arcs → i < j → j < length arcs → (get_or arcs i d).place < (get_or arcs j e).place
@@ -57,16 +57,11 @@ module _ (d : Declaration) (a : Assignment) where
   ]
 
   module _ (is : IsDeclaration d) where
-    -- a flush is declared by an item of a group
-    tail_of-below : (x : WaitArc) → IsArc d.waits d.group_of x → tail_of d x < d.groups
-    tail_of-below x declared =
-        All-get_or (λ g. g < d.groups) d.group_of x.src 0 (omega (arith, src-below d.waits d.group_of x declared, is.one_list_each)) is.partition.within
-
     -- one arc of a group is the step down
     IsStepDown-unique : (x y : WaitArc) → IsStepDown d a x → IsStepDown d a y → tail_of d x ≡ tail_of d y → x ≡ y
     IsStepDown-unique x y one other same =
         let g : ℕ = tail_of d x in
-        let from = AreArcsFrom-group_graph d is g (tail_of-below x one.declared) in
+        let from = AreArcsFrom-group_graph d is g in
         let lanes : lane_of_item a d.group_of x.dst ≡ lane_of_item a d.group_of y.dst = omega (arith, one.falls, other.falls, ap (lane_of a) same) in
         let up : x.place ≤ y.place = one.least y other.declared (sym same) (sym lanes) in
         let down : y.place ≤ x.place = other.least x one.declared same lanes in

@@ -1,11 +1,12 @@
 use Rattle.std.proofs.Common.{◌≡◌, ◌-◌, length, ◌==◌, slice_index, find, Some, None, sym, arith}
 use Rattle.wq_graph.specs.declared.arc.WaitArc.{WaitArc}
 use Rattle.wq_plan.specs.Plan.{chain_from}
-use Rattle.wq_plan.proofs.Arcs.{arcs_at-heads, follow_more, follow_none, next_arc-below}
+use Rattle.wq_levels.proofs.Graphs.{arcs_at-below}
+use Rattle.wq_plan.proofs.Arcs.{follow_more, follow_none, next_arc-below}
 use Rattle.wq_plan.proofs.longest.follow.Goals as goal
 
 pub first_on-requires : goal.first_on-requires
-first_on-requires g c = rw (c.arcs.ensures, c.requires.one_each) (arcs_at-heads c.args.graph.now c.loop-on.vertex c.requires.graph)
+first_on-requires g c = rw (c.arcs.ensures, c.requires.one_each) (arcs_at-below c.args.graph.now c.requires.graph c.loop-on.vertex)
 
 pub returns-in_default : goal.returns-in_default
 returns-in_default g c =
