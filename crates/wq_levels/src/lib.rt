@@ -7,6 +7,7 @@
 
 mod ranked;
 mod ranking;
+mod rounds;
 
 pub use ranked::Ranked;
 pub use ranking::rank;

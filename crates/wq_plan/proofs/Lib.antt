@@ -1,0 +1,12 @@
+pub mod Lanes
+pub mod Arcs
+pub mod Found
+pub mod Relations
+pub mod Ranked
+pub mod Pending
+pub mod Plans
+pub mod Paths
+pub mod GroupCircles
+pub mod LongestChain
+pub mod UniqueChain
+pub mod Existence
