@@ -1,13 +1,21 @@
 -- A text has an answer.
-use Rattle.std.proofs.Common.{◌≡◌, ℕ, List, Result, Ok, Err, refl, inl, inr}
+use Rattle.std.proofs.Common.{◌≡◌, ℕ, List, Result, Ok, Err, refl, inl, inr, ◌⊎◌}
 use Rattle.std.specs.Prelude.{MatchResult}
 use Rattle.wq_text.specs.Refusal.{Refusal}
-use Rattle.wq_plan.proofs.Existence.{IsPlan-or_walked_circle}
+use Rattle.wq_plan.specs.Plan.{IsPlan}
+use Rattle.wq_groups.specs.Declaration.{Declaration, IsDeclaration}
+use Rattle.wq_groups.specs.Assignment.{Assignment}
+use Rattle.wq_graph.specs.declared.arc.WaitArc.{WaitArc}
+use Rattle.wq_graph.specs.Graph.{group_graph}
+use Rattle.wq_levels.specs.Walks.{IsWalkedCircle}
 use Rattle.wq_commands.specs.declared.end.End.{End}
 use Rattle.wq_commands.specs.declared.end.End.TheVariants.{Good, Bad, Refused}
 use Rattle.wq_commands.specs.Answer.{Answers, AnswersDeclared, refusal_text, declared_waits, text_of_plan, text_of_circle}
 use Rattle.wq_commands.specs.Declaration.{Declared, declaration}
 use Rattle.wq_commands.proofs.AnswerLemmas.{IsSound, IsSound-declaration, IsDeclaration-sound}
+
+IsPlan-or_walked_circle : (d : Declaration) → IsDeclaration d → ((a : Assignment) × IsPlan d a) ⊎ ((circle : List WaitArc) × IsWalkedCircle (group_graph d) circle)
+IsPlan-or_walked_circle d is = ?
 
 AnswersDeclared-exist : (s : Declared) → IsSound s → (end : End) × (out : List ℕ) × AnswersDeclared s end out
 AnswersDeclared-exist s sound = elim (IsPlan-or_walked_circle (declared_waits s) (IsDeclaration-sound s sound)) [
