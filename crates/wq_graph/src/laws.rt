@@ -11,18 +11,22 @@ ghost use Rattle.wq_graph.specs.Graph.{arcs_from, arcs_at, group_graph, AreArcsF
 /// The arcs that leave a vertex are the declared flushes that do, one for each, in order of place: whatever the vertices
 /// of the items are, and so in the graph of the groups.
 pub fn arcs_are_the_declared_flushes()
-    ensures from { (d : Declaration) (vertex_of : List ℕ) (v : ℕ) → IsDeclaration d → AreArcsFrom d.waits vertex_of v (arcs_from d.waits vertex_of v) }
-    ensures graph { (d : Declaration) (g : ℕ) → IsDeclaration d → AreArcsFrom d.waits d.group_of g (arcs_at (group_graph d) g) }
+    ensures from { (d : Declaration) (vertex_of : List ℕ) (v : ℕ) →
+        IsDeclaration d → AreArcsFrom d.waits vertex_of v (arcs_from d.waits vertex_of v) }
+    ensures graph { (d : Declaration) (g : ℕ) →
+        IsDeclaration d → AreArcsFrom d.waits d.group_of g (arcs_at (group_graph d) g) }
 {}
 
 /// No other list has the arcs of the flushes that leave a vertex in order of place.
 pub fn arcs_are_the_only_ones()
-    ensures { (waits : List (List Target)) (vertex_of : List ℕ) (v : ℕ) (arcs others : List WaitArc) → AreArcsFrom waits vertex_of v arcs → AreArcsFrom waits vertex_of v others → arcs ≡ others }
+    ensures { (waits : List (List Target)) (vertex_of : List ℕ) (v : ℕ) (arcs others : List WaitArc) →
+        AreArcsFrom waits vertex_of v arcs → AreArcsFrom waits vertex_of v others → arcs ≡ others }
 {}
 
 /// A group waits for a group exactly where an arc leaves the one for the other.
 pub fn groups_wait_along_arcs()
-    ensures { (d : Declaration) (g h : ℕ) → IsDeclaration d → (GroupWaits d g h ↔ HasArc (group_graph d) g h) }
+    ensures { (d : Declaration) (g h : ℕ) →
+        IsDeclaration d → (GroupWaits d g h ↔ HasArc (group_graph d) g h) }
 {}
 
 /// What holds of every wait graph holds of the graph of the groups of a declaration.
