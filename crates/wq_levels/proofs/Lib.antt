@@ -6,3 +6,6 @@ pub mod Endless
 pub mod First
 pub mod WaysOn
 pub mod Walks
+pub mod UnderWay
+pub mod OneCircle
+pub mod Existence

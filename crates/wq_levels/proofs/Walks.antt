@@ -81,6 +81,19 @@ module _ (graph : List (List WaitArc)) where
   starts_at v [] some = absurd (some refl)
   starts_at v (a ∷ xs) some = refl
 
+  -- the vertex that a circle begins at is the one that is left after what leads in
+  pub IsWalk-turn : (v u : ℕ) (xs ys : List WaitArc) → IsWalk graph v xs u → ys ≢ [] → get_or (vertices_left v (xs ++ ys)) (length xs) 0 ≡ u
+  IsWalk-turn v u [] ys walk some = starts_at v ys some ∙ walk
+  IsWalk-turn v u (a ∷ xs) ys walk some = IsWalk-turn a.head u xs ys walk.1 some
+
+  -- the same arcs lead to the same vertex
+  pub IsWalk-leads : (v w u : ℕ) (xs ys : List WaitArc) → IsWalk graph v xs w → IsWalk graph v ys u → xs ≡ ys → w ≡ u
+  IsWalk-leads v w u xs ys one other same = leads_to v w u ys (subst (λ (l : List WaitArc). IsWalk graph v l w) same one) other
+    where
+      leads_to : (x y z : ℕ) (arcs : List WaitArc) → IsWalk graph x arcs y → IsWalk graph x arcs z → y ≡ z
+      leads_to x y z [] first second = sym first ∙ second
+      leads_to x y z (a ∷ arcs) first second = leads_to a.head y z arcs first.1 second.1
+
   pub LeadsRound-walked : (circle : List WaitArc) → IsWalkedCircle graph circle → LeadsRound graph circle
   LeadsRound-walked circle walked =
       let turn = walked.turn in
