@@ -1,5 +1,9 @@
 -- The first element of a list that has a property, and the least number that has it.
-use Rattle.std.proofs.Common.{◌≡◌, ℕ, zero, suc, ◌<◌, ◌⊎◌, inl, inr, Bool, true, false, List, [], ◌∷◌, length, get_or, find, Some, Any, refl, sym, subst, arith}
+use Rattle.std.proofs.Common.{◌≡◌, ℕ, zero, suc, ◌<◌, ◌⊎◌, inl, inr, Bool, true, false, not, List, [], ◌∷◌, length, get_or, find, position, Option, Some, None, Any, Bor, refl, sym, ◌∙◌, ap, subst, lt-ltb, arith}
+use Rattle.std.specs.Prelude.{IsSome}
+use Rattle.std.specs.Option.{option_copied}
+use Rattle.std.proofs.lemmas.Option.{same_Some}
+use Rattle.std.specs.List.{prefix_len}
 use Rattle.std.proofs.lemmas.Bool.{cases_Bool, cases_lt, true≢false}
 
 -- x is the first element that has P
@@ -87,3 +91,24 @@ module _ (P : ℕ → Type 0) (each : (v : ℕ) → Decided (P v)) where
     | inl none ↦ absurd (none v (omega arith) holds)
     | inr found ↦ found
   ]
+
+-- where an element passes, the place of the first that does is found
+prefix_len-fails : {X : Type 0} (test : X → Bool) (xs : List X) (k : ℕ) (d : X) → k < length xs → test (get_or xs k d) ≡ true → prefix_len (λ x. not (test x)) xs < length xs
+prefix_len-fails test [] k d fits passes = absurd (omega arith)
+prefix_len-fails test (y ∷ ys) zero d fits passes = rw passes (omega arith)
+prefix_len-fails test (y ∷ ys) (suc k) d fits passes = elim (cases_Bool (test y)) [
+  | inl now ↦ rw now (omega arith)
+  | inr fails ↦ let later = prefix_len-fails test ys k d (omega arith) passes in rw fails (omega arith)
+]
+
+pub position-is : {X : Type 0} (test : X → Bool) (xs : List X) (k : ℕ) (d : X) → k < length xs → test (get_or xs k d) ≡ true → (i : ℕ) × (position test xs ≡ Some i)
+position-is test xs k d fits passes =
+    (prefix_len (λ x. not (test x)) xs, rw (lt-ltb (prefix_len (λ x. not (test x)) xs) (length xs) (prefix_len-fails test xs k d fits passes)) refl)
+
+-- what is copied of a value is there where the value is
+pub IsSome-copied : {T : Type 0} (o : Option (Bor T)) (x : T) → option_copied o ≡ Some x → IsSome o
+IsSome-copied None x copied = cc
+IsSome-copied (Some y) x copied = refl
+
+pub same_copied : {T : Type 0} (o : Option (Bor T)) (y : Bor T) (x : T) → o ≡ Some y → option_copied o ≡ Some x → x ≡ y.now
+same_copied o y x some copied = same_Some x y.now (sym copied ∙ ap (λ (p : Option (Bor _)). option_copied p) some)

@@ -6,3 +6,4 @@ pub mod Endless
 pub mod First
 pub mod WaysOn
 pub mod Walks
+pub mod UnderWay

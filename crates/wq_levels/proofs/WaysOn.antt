@@ -1,17 +1,18 @@
 -- The way on from a vertex that remains: there is one, and only one.
-use Rattle.std.proofs.Common.{◌≡◌, ℕ, ◌+◌, ◌<◌, ◌≤◌, ◌==◌, ◌↔◌, inl, inr, List, [], length, map, get_or, slice_index, Some, find, Any, Contains, refl, sym, ◌∙◌, subst, ap, arith}
+use Rattle.std.proofs.Common.{◌≡◌, ℕ, ◌+◌, ◌<◌, ◌≤◌, ◌==◌, ◌↔◌, Bool, inl, inr, List, [], length, map, get_or, slice_index, Some, find, position, Any, Contains, refl, sym, ◌∙◌, subst, ap, eq-eqb, arith}
 use Rattle.std.specs.List.{All}
 use Rattle.std.proofs.lemmas.Bool.{cases_lt, cases_order, eqb-true, eqb-false}
 use Rattle.std.proofs.lemmas.List.{get_or_past, get_or-map, length-map, get_or_default}
 use Rattle.std.proofs.lemmas.List.Elements.{All-contains}
 use Rattle.std.proofs.lemmas.List.Kept.{AllPairs-from_increasing}
+use Rattle.std.proofs.lemmas.List.Quantifiers.{position-Some}
 use Rattle.wq_items.specs.Chain.{BeginsChain}
 use Rattle.wq_graph.specs.declared.arc.WaitArc.{WaitArc}
 use Rattle.wq_graph.specs.Graph.{IsGraph, HasArc, arcs_at}
-use Rattle.wq_levels.specs.Walks.{Remains, MarkRemaining, IsWayOn}
+use Rattle.wq_levels.specs.Walks.{Remains, MarkRemaining, IsLeastRemaining, IsWayOn}
 use Rattle.wq_levels.proofs.Graphs.{PlacesRise, HasArc-below, arcs_at-rise}
 use Rattle.wq_levels.proofs.Endless.{IsEndless, IsEndless-next}
-use Rattle.wq_levels.proofs.First.{IsFirst, IsFirst-find, Tells}
+use Rattle.wq_levels.proofs.First.{IsFirst, IsFirst-find, Tells, position-is}
 
 -- an arc that stands further on has a greater place
 later_place : (arcs : List WaitArc) (i j : ℕ) (d e : WaitArc) → PlacesRise arcs → i < j → j < length arcs → (get_or arcs i d).place < (get_or arcs j e).place
@@ -87,3 +88,15 @@ pub IsWayOn-find : (graph : List (List WaitArc)) (ranks : List ℕ) → IsGraph 
 IsWayOn-find graph ranks sound marks v remains =
     let found = IsFirst-find (λ (b : WaitArc). Remains graph b.head) (λ (b : WaitArc). slice_index ranks b.head == length graph) (Tells-top graph ranks marks) (arcs_at graph v) (Remains-next graph sound v remains) in
     (found.0, found.1, IsWayOn-first graph sound v found.0 found.2)
+
+-- the lowest-numbered vertex of the top rank
+pub IsLeastRemaining-position : (graph : List (List WaitArc)) (ranks : List ℕ) → MarkRemaining graph ranks → (v : ℕ) × (position (λ r. r == length graph) ranks ≡ Some v) × IsLeastRemaining graph v
+IsLeastRemaining-position graph ranks marks =
+    let top : ℕ → Bool = λ (r : ℕ). r == length graph in
+    let found = position-is top ranks marks.some.0 0 marks.some.1 (eq-eqb (slice_index ranks marks.some.0) (length graph) marks.some.2) in
+    let v = found.0 in
+    let here = position-Some top ranks v 0 found.1 in
+    (v, found.1, record {
+      remains = (MarkRemaining-any graph ranks marks v).0 (eqb-true (slice_index ranks v) (length graph) here.1);
+      least = λ w less remains. eqb-false (slice_index ranks w) (length graph) (here.2 w less) ((MarkRemaining-any graph ranks marks w).1 remains);
+    })

@@ -8,6 +8,7 @@
 mod ranked;
 mod ranking;
 mod rounds;
+mod walk;
 
 pub use ranked::Ranked;
 pub use ranking::rank;

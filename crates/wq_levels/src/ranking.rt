@@ -1,10 +1,14 @@
 //! The rank of each vertex, or the circle that leaves some without one.
+//!
+//! The rounds find the ranks, or else which vertices remain, and the walk then finds the circle. Most of the running time is
+//! that of the rounds: at most the vertices times the vertices and arcs.
 
 ghost use Rattle.std.specs.Prelude.{IfOk};
 ghost use Rattle.wq_levels.specs.Ranked.{IsRanking};
 
 use crate::ranked::Ranked;
 use crate::rounds::settle;
+use crate::walk::walk_circle;
 use std::alloc::{AllocError, Allocator};
 use wq_graph::WaitGraph;
 
@@ -16,5 +20,5 @@ pub fn rank<A: Allocator + Copy>(alloc: A, graph: &WaitGraph<A>) -> Result<Ranke
     if settle(graph, ranks.as_mut_slice()) {
         return Ok(Ranked::Ranks(ranks));
     }
-    Err(AllocError)
+    Ok(Ranked::Circle(walk_circle(alloc, graph, &ranks)?))
 }
