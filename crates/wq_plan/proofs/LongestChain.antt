@@ -1,5 +1,5 @@
 -- Laws of the printed chain.
-use Rattle.std.proofs.Common.{◌≡◌, ℕ, zero, suc, ◌+◌, ◌-◌, ◌<◌, ◌≤◌, ◌==◌, inl, inr, not, List, [], ◌∷◌, length, map, get_or, slice_index, slice_get, IfSome, Option, Some, position, refl, sym, ap, subst, ◌∙◌, eq-eqb, eqb-true, arith}
+use Rattle.std.proofs.Common.{◌≡◌, ℕ, zero, suc, ◌+◌, ◌-◌, ◌<◌, ◌≤◌, ◌==◌, true, inl, inr, List, [], ◌∷◌, length, map, get_or, slice_index, slice_get, IfSome, Option, Some, position, refl, sym, ap, subst, ◌∙◌, eq-eqb, eqb-true, arith}
 use Rattle.std.specs.Prelude.{Contains}
 use Rattle.std.specs.List.{All, AllByRecursion, AllAdjacentBelow, prefix_len}
 use Rattle.std.specs.Option.{option_map_or}
