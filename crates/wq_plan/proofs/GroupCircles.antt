@@ -1,42 +1,43 @@
 -- Laws of the printed circle.
-use Rattle.std.proofs.Common.{◌≡◌, ◌≢◌, ℕ, ◌-◌, ◌<◌, List, [], ◌∷◌, ◌++◌, length, map, slice_index, slice_get, Some, refl, sym, subst, ◌∙◌, arith}
+use Rattle.std.proofs.Common.{◌≡◌, ◌≢◌, ℕ, ◌+◌, ◌-◌, ◌<◌, List, [], ◌∷◌, length, map, get_or, slice_index, refl, sym, subst, ◌∙◌, ext_get_or, arith}
 use Rattle.std.specs.Prelude.{AllPairs}
-use Rattle.std.specs.List.{All}
-use Rattle.std.proofs.lemmas.List.Elements.{All-from_recursion, All-get_or}
-use Rattle.std.proofs.lemmas.Option.{slice_get_within, get_or_from_slice_get}
+use Rattle.std.proofs.lemmas.List.{get_or-map, length-map}
+use Rattle.std.proofs.lemmas.Option.{slice_get-get_or}
 use Rattle.wq_groups.specs.Declaration.{Declaration, IsDeclaration}
 use Rattle.wq_graph.specs.declared.arc.WaitArc.{WaitArc}
 use Rattle.wq_graph.specs.Graph.{IsArc, group_graph}
-use Rattle.wq_levels.specs.Walks.{IsWalk, IsWalkedCircle, vertices_left}
+use Rattle.wq_levels.specs.Walks.{IsWalkedCircle, LeadsRound}
+use Rattle.wq_levels.proofs.Walks.{LeadsRound-walked}
 use Rattle.wq_plan.specs.CircleOfGroups.{tail_of, IsCircleOfGroups}
-use Rattle.wq_plan.proofs.Paths.{IsPath-from_walk, IsWalk-last, vertices_left-once, GoesOn-path, Follows-joined}
-
--- what holds of each element holds of the one at k
-All-slice_get : {X : Type 0} (P : X → Type 0) (xs : List X) (k : ℕ) (x : X) → All P xs → slice_get xs k ≡ Some x → P x
-All-slice_get P xs k x each at = subst P (get_or_from_slice_get xs k x x at) (All-get_or P xs k x (slice_get_within xs k x at) each)
+use Rattle.wq_plan.proofs.Paths.{leaving-declared}
 
 module _ (d : Declaration) (is : IsDeclaration d) where
-  circle_from_turn : (turn : ℕ) (circle : List WaitArc) → circle ≢ [] → IsWalk (group_graph d) turn circle turn → AllPairs (λ (v w : ℕ). v ≢ w) (vertices_left turn circle) → IsCircleOfGroups d circle
-  circle_from_turn turn [] some walk once = absurd (some refl)
-  circle_from_turn turn (a ∷ arcs) some walk once =
-      let on = GoesOn-path d is turn (a ∷ arcs) (IsPath-from_walk (group_graph d) turn turn (a ∷ arcs) walk) in
-      let declared = All-from_recursion (IsArc d.waits d.group_of) (a ∷ arcs) on.declared in
-      let last = IsWalk-last (group_graph d) turn turn a arcs walk in
-      let last_declared = All-slice_get (IsArc d.waits d.group_of) (a ∷ arcs) (length (a ∷ arcs) - 1) last.0 declared last.1 in
+  module _ (circle : List WaitArc) (round : LeadsRound (group_graph d) circle) where
+    -- each arc is that of a flush which an item of the group that it leaves declares
+    own : (k : ℕ) (e : WaitArc) → k < length circle → IsArc d.waits d.group_of (get_or circle k e) × (tail_of d (get_or circle k e) ≡ slice_index round.left k)
+    own k e fits = leaving-declared d is (slice_index round.left k) (get_or circle k e) (round.leaves k e fits)
+
+    tails : WaitArc → map (tail_of d) circle ≡ round.left
+    tails e = ext_get_or 0 (map (tail_of d) circle) round.left (length-map circle (tail_of d) ∙ sym round.one_each) (λ k fits.
+        let within : k < length circle = omega (arith, length-map circle (tail_of d)) in
+        get_or-map (tail_of d) circle k e 0 within ∙ (own k e within).1)
+
+  IsCircleOfGroups-round : (circle : List WaitArc) → LeadsRound (group_graph d) circle → IsCircleOfGroups d circle
+  IsCircleOfGroups-round [] round = absurd (round.some refl)
+  IsCircleOfGroups-round (a ∷ arcs) round =
+      let end : ℕ = length (a ∷ arcs) - 1 in
+      let within : end < length (a ∷ arcs) = omega arith in
       record {
-        declared = declared;
-        joined = Follows-joined d turn (a ∷ arcs) on.follows;
+        declared = λ k e fits. (own (a ∷ arcs) round k e fits).0;
+        joined = λ k e fits. sym (own (a ∷ arcs) round k e (omega arith)).0.head ∙ round.joined k e fits ∙ sym (own (a ∷ arcs) round (k + 1) e fits).1;
         first = a;
         begins = refl;
-        ends = last.0;
-        last = last.1;
-        closes = sym last_declared.head ∙ last.2 ∙ sym on.follows.0;
-        once = subst (AllPairs (λ (g h : ℕ). g ≢ h)) (sym on.left) once;
+        ends = get_or (a ∷ arcs) end a;
+        last = slice_get-get_or (a ∷ arcs) end a within;
+        closes = sym (own (a ∷ arcs) round end a within).0.head ∙ round.closes a ∙ sym (own (a ∷ arcs) round 0 a (omega arith)).1;
+        once = subst (AllPairs (λ (g h : ℕ). g ≢ h)) (sym (tails (a ∷ arcs) round a)) round.once;
       }
 
   -- the circle of the walk goes round groups
   pub IsCircleOfGroups-walked : (circle : List WaitArc) → IsWalkedCircle (group_graph d) circle → IsCircleOfGroups d circle
-  IsCircleOfGroups-walked circle walked =
-      let turn = walked.turn in
-      circle_from_turn turn circle walked.some walked.comes_back
-      (vertices_left-once (group_graph d) walked.start turn walked.lead_in circle walked.leads_in walked.once)
+  IsCircleOfGroups-walked circle walked = IsCircleOfGroups-round circle (LeadsRound-walked (group_graph d) circle walked)

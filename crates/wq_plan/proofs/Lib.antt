@@ -1,10 +1,10 @@
 pub mod Lanes
 pub mod Arcs
-pub mod Found
 pub mod Relations
 pub mod Ranked
 pub mod Pending
 pub mod Plans
+pub mod Places
 pub mod Paths
 pub mod GroupCircles
 pub mod LongestChain

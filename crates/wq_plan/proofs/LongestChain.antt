@@ -1,5 +1,5 @@
 -- Laws of the printed chain.
-use Rattle.std.proofs.Common.{◌≡◌, ℕ, zero, suc, ◌+◌, ◌-◌, ◌<◌, ◌≤◌, ◌==◌, inl, inr, not, List, [], ◌∷◌, length, map, get_or, slice_index, slice_get, IfSome, Option, Some, position, refl, sym, ap, subst, ◌∙◌, eq-eqb, eqb-true, arith}
+use Rattle.std.proofs.Common.{◌≡◌, ℕ, zero, suc, ◌+◌, ◌-◌, ◌<◌, ◌≤◌, ◌==◌, true, inl, inr, List, [], ◌∷◌, length, map, get_or, slice_index, slice_get, IfSome, Option, Some, position, refl, sym, ap, subst, ◌∙◌, eq-eqb, eqb-true, arith}
 use Rattle.std.specs.Prelude.{Contains}
 use Rattle.std.specs.List.{All, AllByRecursion, AllAdjacentBelow, prefix_len}
 use Rattle.std.specs.Option.{option_map_or}
@@ -18,23 +18,13 @@ use Rattle.wq_plan.specs.Plan.{IsPlan, lanes_of, chain_from, chain_of}
 use Rattle.wq_plan.specs.LongestChain.{IsStepDown, IsFirstOnLast, IsLongestChain}
 use Rattle.wq_plan.specs.CircleOfGroups.{tail_of}
 use Rattle.wq_plan.proofs.Arcs.{next_arc, next_arc-below, chain_from-some}
-use Rattle.wq_plan.proofs.Found.{IsFirst, find-Some, position-is}
-use Rattle.wq_levels.proofs.Graphs.{PlacesRise, arcs_at-below, arcs_at-rise, HasArc-below}
+use Rattle.wq_levels.proofs.First.{IsFirst, IsFirst-find, position-is}
+use Rattle.wq_levels.proofs.Graphs.{arcs_at-rise, HasArc-below}
 use Rattle.wq_plan.proofs.Lanes.{lanes_of-above, lanes_of-some}
-use Rattle.wq_plan.proofs.Paths.{IsPath, Follows-joined, Follows-begins, GoesOn-path, leaving-declared}
+use Rattle.wq_plan.proofs.Paths.{IsPath, Follows-joined, Follows-begins, Follows-path, leaving-declared}
+use Rattle.wq_plan.proofs.Places.{earlier_place}
 use Rattle.wq_plan.proofs.Plans.{length-group_graph, AreRanks-from_plan}
 use Rattle.wq_graph.proofs.Graphs.{IsGraph-group_graph, AreArcsFrom-group_graph}
-
--- an arc that stands no later has no greater place
-PlacesRise-places : (arcs : List WaitArc) (i j : ℕ) (d e : WaitArc) → PlacesRise arcs → i ≤ j → j < length arcs → (get_or arcs i d).place ≤ (get_or arcs j e).place
-PlacesRise-places arcs i j d e rise le lt =
-    let place_of : WaitArc → ℕ = λ (a : WaitArc). a.place in
-    let own = get_or-map place_of arcs i d 0 (omega arith) in
-    let other = get_or-map place_of arcs j e 0 lt in
-    elim (cases_eq i j) [
-      | inl same ↦ let own_at : get_or (map place_of arcs) j 0 ≡ (get_or arcs i d).place = subst (λ k. get_or (map place_of arcs) k 0 ≡ (get_or arcs i d).place) same own in omega (arith, own_at, other)
-      | inr apart ↦ omega (arith, own, other, AllPairs-from_increasing (map place_of arcs) rise i j 0 (omega arith) (omega (arith, length-map arcs place_of)))
-    ]
 
 -- an arc of v to the next lane, and of all such arcs the one of least place
 pub record IsStep (graph : List (List WaitArc)) (lane : List ℕ) (v : ℕ) (arc : WaitArc) : Type 0 where
@@ -63,27 +53,29 @@ module _ (graph : List (List WaitArc)) (lane : List ℕ) (sound : IsGraph graph)
       let low : slice_index lane w < slice_index lane v = IsRank-falls (HasArc graph) v w (slice_index lane v) (slice_index lane w) on.1 (are.longest v vertex) (are.longest w w_fits) in
       (w, on.1, omega arith)
 
-  -- where it stands among the arcs
-  arc_on_next : (v below w : ℕ) → HasArc graph v w → slice_index lane w ≡ below → (arc : WaitArc) × (next_arc graph lane below v ≡ Some arc) × IsFirst (λ (a : WaitArc). slice_index lane a.head == below) (arcs_at graph v) arc
-  arc_on_next v below w has same =
-      let on : slice_index lane has.1.head ≡ below = ap (λ u. slice_index lane u) has.4 ∙ same in
-      find-Some (λ (a : WaitArc). slice_index lane a.head == below) (arcs_at graph v) has.0 has.1 has.2 (rw has.3 (eq-eqb (slice_index lane has.1.head) below on))
+  -- the first arc to that lane
+  abbrev OnLane : ℕ → WaitArc → Type 0
+  OnLane below arc = slice_index lane arc.head ≡ below
 
-  step_from_first : (v below : ℕ) (arc : WaitArc) → slice_index lane v ≡ suc below → IsFirst (λ (a : WaitArc). slice_index lane a.head == below) (arcs_at graph v) arc → IsStep graph lane v arc
+  arc_on_next : (v below w : ℕ) → HasArc graph v w → slice_index lane w ≡ below → (arc : WaitArc) × (next_arc graph lane below v ≡ Some arc) × IsFirst (OnLane below) (arcs_at graph v) arc
+  arc_on_next v below w has same =
+      IsFirst-find (OnLane below) (λ (a : WaitArc). slice_index lane a.head == below)
+      (record { passes = λ a. eqb-true (slice_index lane a.head) below; fails = λ a. eqb-false (slice_index lane a.head) below }) (arcs_at graph v)
+      (has.0, has.1, has.2, has.3, ap (λ u. slice_index lane u) has.4 ∙ same)
+
+  step_from_first : (v below : ℕ) (arc : WaitArc) → slice_index lane v ≡ suc below → IsFirst (OnLane below) (arcs_at graph v) arc → IsStep graph lane v arc
   step_from_first v below arc same first =
-      let on : slice_index lane arc.head ≡ below = eqb-true (slice_index lane arc.head) below first.passes in
+      let on : slice_index lane arc.head ≡ below = first.holds in
       record {
         leaves = (first.place, first.fits, first.here);
         falls = omega arith;
-        least = λ k e fits other.
-            subst (λ (a : WaitArc). a.place ≤ (get_or (arcs_at graph v) k e).place) first.here
-            (PlacesRise-places (arcs_at graph v) first.place k arc e (arcs_at-rise graph sound v) (first_comes k e (other ∙ on)) fits);
+        least = λ k e fits other. earlier_place (arcs_at graph v) arc first.place k e (arcs_at-rise graph sound v) first.fits first.here (first_comes k e (other ∙ on)) fits;
       }
     where
       -- an arc to the lane stands no earlier
       first_comes : (k : ℕ) (e : WaitArc) → slice_index lane (get_or (arcs_at graph v) k e).head ≡ below → first.place ≤ k
       first_comes k e here = elim (cases_lt k first.place) [
-        | inl less ↦ absurd (eqb-false (slice_index lane (get_or (arcs_at graph v) k e).head) below (first.earlier k e less) here)
+        | inl less ↦ absurd (first.earlier k e less here)
         | inr le ↦ le
       ]
 
@@ -94,8 +86,7 @@ module _ (graph : List (List WaitArc)) (lane : List ℕ) (sound : IsGraph graph)
       let next = waited_on_next v below vertex same in
       let found = arc_on_next v below next.0 next.1 next.2 in
       let arc = found.0 in
-      let on : slice_index lane arc.head ≡ below = eqb-true (slice_index lane arc.head) below found.2.passes in
-      let rest = chain_from-steps below arc.head (next_arc-below graph lane below v arc sound found.1) on in
+      let rest = chain_from-steps below arc.head (next_arc-below graph lane below v arc sound found.1) found.2.holds in
       rw (chain_from-some graph lane below v (suc below) arc refl found.1) (omega (arith, rest.0), (step_from_first v below arc same found.2, rest.1))
 
 module _ (d : Declaration) (is : IsDeclaration d) (a : Assignment) where
@@ -124,26 +115,27 @@ module _ (d : Declaration) (is : IsDeclaration d) (a : Assignment) where
         let chain = chain_from (group_graph d) lane (lanes_of lane - 1) first in
         let below : slice_index lane first ≡ lanes_of lane - 1 = omega (arith, last.0, plan.count) in
         let steps = chain_from-steps (group_graph d) lane (IsGraph-group_graph d is) (AreRanks-from_plan d is a plan) (lanes_of lane - 1) first (omega (arith, length-group_graph d)) below in
-        let on = GoesOn-path d is first chain (IsPath-from_steps (group_graph d) lane first chain steps.1) in
+        let follows = Follows-path d is first chain (IsPath-from_steps (group_graph d) lane first chain steps.1) in
         rw same
         (record {
           count = omega (arith, steps.0, plan.count);
           arcs = All-from_recursion (IsStepDown d a) chain (AreStepsDown first chain steps.1);
-          joined = Follows-joined d first chain on.follows;
-          begins = Follows-begins d (λ g. IsFirstOnLast a g) first chain on.follows last;
+          joined = Follows-joined d first chain follows;
+          begins = Follows-begins d (λ g. IsFirstOnLast a g) first chain follows last;
         })
 
     longest_from_some : 0 < length a.lane_of_group → IsLongestChain d a (chain_of (group_graph d) a.lane_of_group)
     longest_from_some some =
         let lane = a.lane_of_group in
         let last = lanes_of-some lane some in
-        let first = prefix_len (λ (l : ℕ). not (l + 1 == lanes_of lane)) lane in
-        let found : position (λ l. l + 1 == lanes_of lane) lane ≡ Some first = position-is (λ l. l + 1 == lanes_of lane) lane last.0 0 last.1 (eq-eqb (slice_index lane last.0 + 1) (lanes_of lane) last.2) in
-        let at = position-Some (λ l. l + 1 == lanes_of lane) lane first 0 found in
+        let passes : (slice_index lane last.0 + 1 == lanes_of lane) ≡ true = eq-eqb (slice_index lane last.0 + 1) (lanes_of lane) last.2 in
+        let found = position-is (λ (l : ℕ). l + 1 == lanes_of lane) lane last.0 0 last.1 passes in
+        let first = found.0 in
+        let at = position-Some (λ l. l + 1 == lanes_of lane) lane first 0 found.1 in
         let on_last : slice_index lane first + 1 ≡ lanes_of lane = eqb-true (slice_index lane first + 1) (lanes_of lane) at.1 in
         longest_from first (omega (arith, at.0, plan.one_each))
         (on_last ∙ sym plan.count, λ g less. omega (arith, eqb-false (slice_index lane g + 1) (lanes_of lane) (at.2 g less), lanes_of-above lane g 0 (omega (arith, at.0)), on_last))
-        (ap (λ (o : Option ℕ). option_map_or (λ v. chain_from (group_graph d) lane (lanes_of lane - 1) v) o []) found)
+        (ap (λ (o : Option ℕ). option_map_or (λ v. chain_from (group_graph d) lane (lanes_of lane - 1) v) o []) found.1)
 
     longest_from_none : a.lane_of_group ≡ [] → IsLongestChain d a (chain_of (group_graph d) a.lane_of_group)
     longest_from_none none =

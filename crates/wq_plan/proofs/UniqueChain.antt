@@ -1,53 +1,20 @@
 -- There is one longest chain that begins at the lowest-numbered group on the last lane and goes by arcs of least place.
 use Rattle.std.proofs.Common.{◌≡◌, ℕ, zero, suc, ◌+◌, ◌<◌, ◌≤◌, inl, inr, List, [], ◌∷◌, length, map, get_or, slice_index, slice_get, IfSome, refl, sym, ap, subst, ◌∙◌, arith}
-use Rattle.std.specs.Prelude.{Contains}
 use Rattle.std.specs.List.{All, AllByRecursion, AllAdjacentBelow}
 use Rattle.std.proofs.lemmas.Bool.{cases_order}
-use Rattle.std.proofs.lemmas.List.{get_or-map, length-map, get_or_default}
 use Rattle.std.proofs.lemmas.List.Elements.{recursion_from_All}
-use Rattle.std.proofs.lemmas.List.Kept.{AllPairs-from_increasing}
 use Rattle.wq_groups.specs.Declaration.{Declaration, IsDeclaration}
 use Rattle.wq_groups.specs.Assignment.{Assignment, lane_of, lane_of_item}
 use Rattle.wq_graph.specs.declared.arc.WaitArc.{WaitArc}
 use Rattle.wq_graph.specs.Graph.{IsArc, arcs_at, group_graph}
 use Rattle.wq_plan.specs.LongestChain.{IsStepDown, IsFirstOnLast, IsLongestChain}
 use Rattle.wq_plan.specs.CircleOfGroups.{tail_of}
-use Rattle.wq_levels.proofs.Graphs.{PlacesRise, arcs_at-rise}
-use Rattle.wq_plan.proofs.Paths.{Follows, Follows-joined}
+use Rattle.wq_levels.proofs.Graphs.{arcs_at-rise}
+use Rattle.wq_plan.proofs.Paths.{Follows, Follows-from_joined}
+use Rattle.wq_plan.proofs.Places.{same_place}
 use Rattle.wq_graph.proofs.Graphs.{IsGraph-group_graph, AreArcsFrom-group_graph}
 
--- an arc that stands further on has a greater place
-later_place : (arcs : List WaitArc) (i j : ℕ) (d e : WaitArc) → PlacesRise arcs → i < j → j < length arcs → (get_or arcs i d).place < (get_or arcs j e).place
-later_place arcs i j d e rise lt fits =
-    let place_of : WaitArc → ℕ = λ (a : WaitArc). a.place in
-    let own = get_or-map place_of arcs i d 0 (omega arith) in
-    let other = get_or-map place_of arcs j e 0 fits in
-    omega (arith, own, other, AllPairs-from_increasing (map place_of arcs) rise i j 0 lt (omega (arith, length-map arcs place_of)))
-
--- an arc is known by its place
-same_place : (arcs : List WaitArc) (x y : WaitArc) → PlacesRise arcs → Contains arcs x → Contains arcs y → x.place ≡ y.place → x ≡ y
-same_place arcs x y rise in-x in-y same =
-    let i : ℕ = in-x.0 in
-    let j : ℕ = in-y.0 in
-    let own : (get_or arcs i x).place ≡ x.place = ap (λ (a : WaitArc). a.place) in-x.2 in
-    let other : (get_or arcs j y).place ≡ y.place = ap (λ (a : WaitArc). a.place) in-y.2 in
-    elim (cases_order i j) [
-      | inl at ↦ sym in-x.2 ∙ get_or_default arcs i x y in-x.1 ∙ ap (λ k. get_or arcs k y) at ∙ in-y.2
-      | inr (inl less) ↦ absurd (omega (arith, own, other, later_place arcs i j x y rise less in-y.1))
-      | inr (inr less) ↦ absurd (omega (arith, own, other, later_place arcs j i y x rise less in-x.1))
-    ]
-
 module _ (d : Declaration) (a : Assignment) where
-  Follows-from_joined : (g : ℕ) (arcs : List WaitArc) → IfSome (slice_get arcs 0) (λ (arc : WaitArc). tail_of d arc ≡ g) → AllAdjacentBelow (λ (x y : WaitArc). slice_index d.group_of x.dst ≡ tail_of d y) arcs (length arcs) → Follows d g arcs
-  Follows-from_joined g [] begins joined = tt
-  Follows-from_joined g (x ∷ []) begins joined = (begins, tt)
-  Follows-from_joined g (x ∷ y ∷ arcs) begins joined = (
-    begins,
-    Follows-from_joined (slice_index d.group_of x.dst) (y ∷ arcs) (sym (joined 0 x (omega arith))) (λ k e fits.
-    let at : suc k + 1 ≡ suc (k + 1) = omega arith in
-    rw at at (joined (suc k) e (omega arith))),
-  )
-
   -- one group is the lowest-numbered on the last lane
   first_on_last-unique : (g h : ℕ) → IsFirstOnLast a g → IsFirstOnLast a h → g ≡ h
   first_on_last-unique g h one other = elim (cases_order g h) [
@@ -84,7 +51,7 @@ module _ (d : Declaration) (a : Assignment) where
     IsLongestChain-unique (x ∷ xs) (y ∷ ys) first second =
         let same : tail_of d y ≡ tail_of d x = first_on_last-unique (tail_of d y) (tail_of d x) second.begins first.begins in
         chains-same (tail_of d x) (x ∷ xs) (y ∷ ys) (first.count ∙ sym second.count)
-        (Follows-from_joined (tail_of d x) (x ∷ xs) refl first.joined)
-        (Follows-from_joined (tail_of d x) (y ∷ ys) same second.joined)
+        (Follows-from_joined d (tail_of d x) (x ∷ xs) refl first.joined)
+        (Follows-from_joined d (tail_of d x) (y ∷ ys) same second.joined)
         (recursion_from_All (IsStepDown d a) (x ∷ xs) first.arcs)
         (recursion_from_All (IsStepDown d a) (y ∷ ys) second.arcs)
