@@ -29,7 +29,7 @@ use Rattle.wq_groups.proofs.Partitions.{IsPartition-groups_of, length-groups_of}
 use Rattle.wq_groups.proofs.Declarations.{IsDeclaration-of}
 use Rattle.wq_graph.specs.declared.arc.WaitArc.{WaitArc}
 use Rattle.wq_graph.specs.Graph.{IsArc, group_graph}
-use Rattle.wq_graph.proofs.Graphs.{src-below}
+use Rattle.wq_graph.proofs.Arcs.{src-below}
 use Rattle.wq_levels.specs.Walks.{IsWalkedCircle}
 use Rattle.wq_plan.specs.Plan.{IsPlan, chain_of}
 use Rattle.wq_plan.specs.LongestChain.{IsStepDown, IsLongestChain}
@@ -37,8 +37,8 @@ use Rattle.wq_plan.specs.CircleOfGroups.{IsCircleOfGroups}
 use Rattle.wq_plan.specs.Solve.{IsPlanned, IsCircled}
 use Rattle.wq_plan.proofs.LongestChain.{chain_of-longest}
 use Rattle.wq_plan.proofs.GroupCircles.{IsCircleOfGroups-walked}
-use Rattle.wq_graph.specs.Graph.{IsGraph}
-use Rattle.wq_graph.proofs.Graphs.{IsGraph-group_graph, length-group_graph}
+use Rattle.wq_levels.proofs.OneCircle.{IsWalkedCircle-few}
+use Rattle.wq_plan.proofs.Plans.{length-group_graph}
 use Rattle.wq_plan.proofs.Plans.{IsPlan-lanes}
 use Rattle.wq_commands.specs.declared.end.End.{End}
 use Rattle.wq_commands.specs.declared.end.End.TheVariants.{Good, Bad, Refused}
@@ -97,9 +97,6 @@ IsDeclaration-sound s sound = IsDeclaration-of s.table s.partition sound.table s
 
 -- ---- a plan and a circle fit the printer
 
-IsWalkedCircle-few : (graph : List (List WaitArc)) → IsGraph graph → (circle : List WaitArc) → IsWalkedCircle graph circle → length circle ≤ length graph
-IsWalkedCircle-few graph is circle walked = ?
-
 -- an arc joins items of the table
 abbrev pub JoinsItems : Table → ℕ × ℕ → Type 0
 JoinsItems t arc = (arc.0 < length t.names) × (arc.1 < length t.names)
@@ -142,7 +139,7 @@ pub IsWalkedCircle-short : (s : Declared) (circle : List WaitArc) → IsSound s 
 IsWalkedCircle-short s circle sound walked =
     let d = declared_waits s in
     let is = IsDeclaration-sound s sound in
-    let few : length circle ≤ length (group_graph d) = IsWalkedCircle-few (group_graph d) (IsGraph-group_graph d is) circle walked in
+    let few : length circle ≤ length (group_graph d) = IsWalkedCircle-few (group_graph d) circle walked in
     omega (arith, few, length-group_graph d, is.partition.few_groups, is.partition.few_items)
 
 pub ArePrintable-circled : (text : List ℕ) (s : Declared) (circle : List WaitArc) (ends : List (ℕ × ℕ)) → declaration text ≡ Ok s

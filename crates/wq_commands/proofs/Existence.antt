@@ -2,7 +2,10 @@
 use Rattle.std.proofs.Common.{◌≡◌, ℕ, List, Result, Ok, Err, refl, inl, inr, ◌⊎◌}
 use Rattle.std.specs.Prelude.{MatchResult}
 use Rattle.wq_text.specs.Refusal.{Refusal}
-use Rattle.wq_plan.specs.Plan.{IsPlan}
+use Rattle.wq_plan.specs.Plan.{IsPlan, lanes_of}
+use Rattle.wq_plan.proofs.Plans.{IsPlan-from_ranks}
+use Rattle.wq_graph.proofs.Graphs.{IsGraph-group_graph}
+use Rattle.wq_levels.proofs.Existence.{AreRanks-or_walk}
 use Rattle.wq_groups.specs.Declaration.{Declaration, IsDeclaration}
 use Rattle.wq_groups.specs.Assignment.{Assignment}
 use Rattle.wq_graph.specs.declared.arc.WaitArc.{WaitArc}
@@ -15,7 +18,10 @@ use Rattle.wq_commands.specs.Declaration.{Declared, declaration}
 use Rattle.wq_commands.proofs.AnswerLemmas.{IsSound, IsSound-declaration, IsDeclaration-sound}
 
 IsPlan-or_walked_circle : (d : Declaration) → IsDeclaration d → ((a : Assignment) × IsPlan d a) ⊎ ((circle : List WaitArc) × IsWalkedCircle (group_graph d) circle)
-IsPlan-or_walked_circle d is = ?
+IsPlan-or_walked_circle d is = elim (AreRanks-or_walk (group_graph d) (IsGraph-group_graph d is)) [
+  | inl ranks ↦ let a : Assignment = record { lanes = lanes_of ranks.0; lane_of_group = ranks.0 } in inl (a, IsPlan-from_ranks d is a ranks.1 refl)
+  | inr walk ↦ inr walk
+]
 
 AnswersDeclared-exist : (s : Declared) → IsSound s → (end : End) × (out : List ℕ) × AnswersDeclared s end out
 AnswersDeclared-exist s sound = elim (IsPlan-or_walked_circle (declared_waits s) (IsDeclaration-sound s sound)) [

@@ -7,17 +7,14 @@ use Rattle.wq_graph.specs.declared.arc.WaitArc.{WaitArc}
 use Rattle.wq_plan.specs.Plan.{IsPlan}
 use Rattle.wq_plan.proofs.Plans.{IsPlan-unique, IsPlan-no_circle, IsCircled-from_walk}
 use Rattle.wq_graph.specs.Graph.{group_graph}
-use Rattle.wq_graph.specs.Graph.{IsGraph}
 use Rattle.wq_graph.proofs.Graphs.{IsGraph-group_graph}
 use Rattle.wq_levels.specs.Walks.{IsWalkedCircle}
+use Rattle.wq_levels.proofs.OneCircle.{IsWalkedCircle-unique}
 use Rattle.wq_commands.specs.declared.end.End.{End}
 use Rattle.wq_commands.specs.declared.end.End.TheVariants.{Good, Bad, Refused}
 use Rattle.wq_commands.specs.Answer.{Answers, AnswersDeclared, refusal_text, declared_waits, text_of_plan, text_of_circle}
 use Rattle.wq_commands.specs.Declaration.{Declared, declaration}
 use Rattle.wq_commands.proofs.AnswerLemmas.{IsSound, IsSound-declaration, IsDeclaration-sound}
-
-IsWalkedCircle-unique : (graph : List (List WaitArc)) → IsGraph graph → (one other : List WaitArc) → IsWalkedCircle graph one → IsWalkedCircle graph other → one ≡ other
-IsWalkedCircle-unique graph sound one other first second = ?
 
 -- what has a plan has no circle
 not_both : (s : Declared) (a : Assignment) (circle : List WaitArc) → IsSound s → IsPlan (declared_waits s) a → IsWalkedCircle (group_graph (declared_waits s)) circle → ⊥
