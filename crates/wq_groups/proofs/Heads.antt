@@ -104,9 +104,9 @@ module _ (F : ℕ → ℕ) where
       kept (suc m) le = elim (cases_eq k (suc m)) [
         | inl same ↦ subst (λ l. filter (λ j. ltb j k) (filter (λ i. eqb (F i) i) (range_with_len 0 l)) ≡ filter (λ i. eqb (F i) i) (range_with_len 0 k)) same (below k (omega arith))
         | inr other ↦
-            ap (filter (λ j. ltb j k)) (heads_more m) ∙ filter-append (λ j. ltb j k) (filter (λ i. eqb (F i) i) (range_with_len 0 m)) (cond (eqb (F m) m) (m ∷ []) [])
-            ∙ ap (λ (l : List ℕ). l ++ filter (λ j. ltb j k) (cond (eqb (F m) m) (m ∷ []) [])) (kept m (omega arith))
-            ∙ ap (λ (l : List ℕ). filter (λ i. eqb (F i) i) (range_with_len 0 k) ++ l) (none m (omega arith) (eqb (F m) m)) ∙ append-nil (filter (λ i. eqb (F i) i) (range_with_len 0 k))
+          ap (filter (λ j. ltb j k)) (heads_more m) ∙ filter-append (λ j. ltb j k) (filter (λ i. eqb (F i) i) (range_with_len 0 m)) (cond (eqb (F m) m) (m ∷ []) [])
+          ∙ ap (λ (l : List ℕ). l ++ filter (λ j. ltb j k) (cond (eqb (F m) m) (m ∷ []) [])) (kept m (omega arith))
+          ∙ ap (λ (l : List ℕ). filter (λ i. eqb (F i) i) (range_with_len 0 k) ++ l) (none m (omega arith) (eqb (F m) m)) ∙ append-nil (filter (λ i. eqb (F i) i) (range_with_len 0 k))
       ]
         where
           none : (m : ℕ) → k ≤ m → (b : Bool) → filter (λ j. ltb j k) (cond b (m ∷ []) []) ≡ []

@@ -81,8 +81,8 @@ ShareLine-on_one_line : (ds : List (ℕ × Directive)) (a b : List ℕ) → on_o
 ShareLine-on_one_line [] a b e = absurd cc
 ShareLine-on_one_line (d ∷ ds) a b e = elim (or_cases (is_among a (names_ordered d) && is_among b (names_ordered d)) (on_one_line ds a b) e) [
   | inl here ↦
-      let parts = and_parts (is_among a (names_ordered d)) (is_among b (names_ordered d)) here in
-      (0, d, omega arith, refl, (Contains-is_among a (names_ordered d) parts.0, Contains-is_among b (names_ordered d) parts.1))
+    let parts = and_parts (is_among a (names_ordered d)) (is_among b (names_ordered d)) here in
+    (0, d, omega arith, refl, (Contains-is_among a (names_ordered d) parts.0, Contains-is_among b (names_ordered d) parts.1))
   | inr later ↦ let h = ShareLine-on_one_line ds a b later in (suc h.0, h.1, omega (arith, h.2), h.3, h.4)
 ]
 

@@ -51,8 +51,8 @@ pub on_one_line-flip : (ds : List (ℕ × Directive)) (a b : List ℕ) → on_on
 on_one_line-flip [] a b e = e
 on_one_line-flip (d ∷ ds) a b e = elim (or_cases (is_among a (names_ordered d) && is_among b (names_ordered d)) (on_one_line ds a b) e) [
   | inl here ↦
-      let parts = and_parts (is_among a (names_ordered d)) (is_among b (names_ordered d)) here in
-      or_left (is_among b (names_ordered d) && is_among a (names_ordered d)) (on_one_line ds b a) (and_from (is_among b (names_ordered d)) (is_among a (names_ordered d)) parts.1 parts.0)
+    let parts = and_parts (is_among a (names_ordered d)) (is_among b (names_ordered d)) here in
+    or_left (is_among b (names_ordered d) && is_among a (names_ordered d)) (on_one_line ds b a) (and_from (is_among b (names_ordered d)) (is_among a (names_ordered d)) parts.1 parts.0)
   | inr later ↦ or_right (is_among b (names_ordered d) && is_among a (names_ordered d)) (on_one_line ds b a) (on_one_line-flip ds a b later)
 ]
 
@@ -61,7 +61,7 @@ pub on_one_line-ordered : (ds : List (ℕ × Directive)) (a b : List ℕ) → on
 on_one_line-ordered [] a b e = absurd cc
 on_one_line-ordered (d ∷ ds) a b e = elim (or_cases (is_among a (names_ordered d) && is_among b (names_ordered d)) (on_one_line ds a b) e) [
   | inl here ↦
-      Contains-append_left (names_ordered d) (all_ordered ds) a (Contains-is_among a (names_ordered d) (and_parts (is_among a (names_ordered d)) (is_among b (names_ordered d)) here).0)
+    Contains-append_left (names_ordered d) (all_ordered ds) a (Contains-is_among a (names_ordered d) (and_parts (is_among a (names_ordered d)) (is_among b (names_ordered d)) here).0)
   | inr later ↦ Contains-append_right (names_ordered d) (all_ordered ds) a (on_one_line-ordered ds a b later)
 ]
 
@@ -72,17 +72,17 @@ on_one_line-chain (d ∷ ds) a b c differ ab bc =
     elim (or_cases (is_among a names && is_among b names) (on_one_line ds a b) ab) [
       | inl ab_here ↦ elim (or_cases (is_among b names && is_among c names) (on_one_line ds b c) bc) [
         | inl bc_here ↦
-            or_left (is_among a names && is_among c names) (on_one_line ds a c)
-            (and_from (is_among a names) (is_among c names) (and_parts (is_among a names) (is_among b names) ab_here).0 (and_parts (is_among b names) (is_among c names) bc_here).1)
+          or_left (is_among a names && is_among c names) (on_one_line ds a c)
+          (and_from (is_among a names) (is_among c names) (and_parts (is_among a names) (is_among b names) ab_here).0 (and_parts (is_among b names) (is_among c names) bc_here).1)
         | inr bc_later ↦
-            absurd (Differ-parts names (all_ordered ds) b differ (Contains-is_among b names (and_parts (is_among a names) (is_among b names) ab_here).1) (on_one_line-ordered ds b c bc_later))
+          absurd (Differ-parts names (all_ordered ds) b differ (Contains-is_among b names (and_parts (is_among a names) (is_among b names) ab_here).1) (on_one_line-ordered ds b c bc_later))
       ]
       | inr ab_later ↦ elim (or_cases (is_among b names && is_among c names) (on_one_line ds b c) bc) [
         | inl bc_here ↦
-            absurd (Differ-parts names (all_ordered ds) b differ (Contains-is_among b names (and_parts (is_among b names) (is_among c names) bc_here).0)
-            (on_one_line-ordered ds b a (on_one_line-flip ds a b ab_later)))
+          absurd (Differ-parts names (all_ordered ds) b differ (Contains-is_among b names (and_parts (is_among b names) (is_among c names) bc_here).0)
+          (on_one_line-ordered ds b a (on_one_line-flip ds a b ab_later)))
         | inr bc_later ↦
-            or_right (is_among a names && is_among c names) (on_one_line ds a c) (on_one_line-chain ds a b c (Differ-append_right names (all_ordered ds) differ) ab_later bc_later)
+          or_right (is_among a names && is_among c names) (on_one_line ds a c) (on_one_line-chain ds a b c (Differ-append_right names (all_ordered ds) differ) ab_later bc_later)
       ]
     ]
 
