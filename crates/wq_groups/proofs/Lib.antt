@@ -5,3 +5,5 @@ pub mod Among
 pub mod Regrouped
 pub mod Together
 pub mod Partitions
+mod MarkLemmas
+mod NoteLemmas

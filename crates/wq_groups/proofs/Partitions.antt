@@ -22,7 +22,7 @@ use Rattle.wq_groups.proofs.Together.{on_one_line, are_together-same, are_togeth
 
 -- ---- what a table says of the names
 
-faultless : (ds : List (ℕ × Directive)) (t : Table) → table_of ds ≡ Ok t → IsFaultless ds
+pub faultless : (ds : List (ℕ × Directive)) (t : Table) → table_of ds ≡ Ok t → IsFaultless ds
 faultless ds t made = (IsOk-table_of ds).0 (subst (λ (r : Result Table _). IsOk r) (sym made) refl)
 
 pub Differ-table_of : (ds : List (ℕ × Directive)) (t : Table) → table_of ds ≡ Ok t → Differ t.names
