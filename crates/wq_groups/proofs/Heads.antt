@@ -24,6 +24,11 @@ heads_below F (suc m) = heads_below F m + cond (eqb (F m) m) 1 0
 abbrev pub head_number : (ℕ → ℕ) → ℕ → ℕ
 head_number F i = heads_below F (F i)
 
+pub range_with_len-push : (n : ℕ) → range_with_len 0 (n + 1) ≡ range_with_len 0 n ++ (n ∷ [])
+range_with_len-push n =
+    let end : 0 + n ≡ n = omega arith in
+    range_with_len-append 0 n 1 ∙ ap (λ k. range_with_len 0 n ++ range_with_len k 1) end
+
 module _ (F : ℕ → ℕ) where
   pub heads_below-head : (m : ℕ) → F m ≡ m → heads_below F (suc m) ≡ heads_below F m + 1
   heads_below-head m head = ap (λ n. heads_below F m + n) (cond-true (eqb (F m) m) 1 0 (eq-eqb (F m) m head))
@@ -66,10 +71,7 @@ module _ (F : ℕ → ℕ) where
   -- ---- the heads as a list
 
   range_more : (n : ℕ) → range_with_len 0 (suc n) ≡ range_with_len 0 n ++ (n ∷ [])
-  range_more n =
-      let long : suc n ≡ n + 1 = omega arith in
-      let end : 0 + n ≡ n = omega arith in
-      ap (range_with_len 0) long ∙ range_with_len-append 0 n 1 ∙ ap (λ k. range_with_len 0 n ++ range_with_len k 1) end
+  range_more n = let long : suc n ≡ n + 1 = omega arith in ap (range_with_len 0) long ∙ range_with_len-push n
 
   heads_more : (n : ℕ) → filter (λ i. eqb (F i) i) (range_with_len 0 (suc n)) ≡ filter (λ i. eqb (F i) i) (range_with_len 0 n) ++ cond (eqb (F n) n) (n ∷ []) []
   heads_more n = ap (filter (λ i. eqb (F i) i)) (range_more n) ∙ filter-append (λ i. eqb (F i) i) (range_with_len 0 n) (n ∷ [])

@@ -1,10 +1,10 @@
 -- Going over the directives: what is noted of the items so far.
-use Rattle.std.proofs.Common.{◌≡◌, ◌≢◌, ◌↔◌, ℕ, zero, suc, ◌+◌, ◌<◌, ◌≤◌, ◌⊎◌, inl, inr, Bool, true, false, ◌||◌, ◌&&◌, cond, ltb, List, [], ◌∷◌, ◌++◌, length, map, get_or, Option, Some, None, Result, Ok, Err, refl, sym, ap, ap₂, subst, ◌∙◌, arith, append_assoc, append-nil}
+use Rattle.std.proofs.Common.{◌≡◌, ◌≢◌, ◌↔◌, ℕ, zero, suc, ◌+◌, ◌<◌, ◌≤◌, ◌⊎◌, inl, inr, Bool, true, false, ◌||◌, ◌&&◌, cond, ltb, List, [], ◌∷◌, ◌++◌, length, map, get_or, take, drop, Option, Some, None, Result, Ok, Err, refl, sym, ap, ap₂, subst, ◌∙◌, arith, append_assoc, append-nil}
 use Rattle.std.specs.Prelude.{IsSome, is_some, Contains, bytes_eq, replicate}
 use Rattle.std.specs.List.{All, list_any, position, position_or_len, range_with_len, filter_map}
 use Rattle.std.specs.Option.{unwrap_or}
 use Rattle.std.proofs.lemmas.Bool.{cases_Bool, both_ways, or_cases, or_left, or_right, and_parts, and_from, cond-true, cond-false, lt-ltb, false_from_ne_true}
-use Rattle.std.proofs.lemmas.List.{length-map, get_or-map, ext_get_or, get_or-replicate, length-replicate, get_or_default}
+use Rattle.std.proofs.lemmas.List.{length-map, get_or-map, ext_get_or, get_or-replicate, length-replicate, drop_all, take_all}
 use Rattle.std.proofs.lemmas.List.Folds.{list_any-append}
 use Rattle.std.proofs.lemmas.List.FromFn.{length-range_with_len, get_or-range_with_len}
 use Rattle.std.proofs.lemmas.List.Elements.{All-weaker, All-head, All-tail, Contains-append_left, Contains-get_or, filter_map-append}
@@ -172,6 +172,16 @@ known_names ds t before n words after made parts =
     (names_in words) ((faultless ds t made).known before (n, Ordered words) after parts))
 
 -- ---- going over them
+
+-- what a vector holds after a write through a slice of it all
+pub written_back : {X : Type 0} (new old : List X) (n : ℕ) → length new ≡ length old → n ≡ length old → take n (new ++ drop (length new) old) ≡ new
+written_back new old n long all =
+    ap (λ (rest : List _). take n (new ++ rest)) (drop_all (length new) old (omega (arith, long))) ∙ ap (take n) (append-nil new) ∙ take_all n new (omega (arith, long, all))
+
+pub names_ordered-other : (n : ℕ) (d : Directive) → ((names : List WordView) → d ≡ Ordered names → ⊥) → names_ordered (n, d) ≡ []
+names_ordered-other n (Item name) other = refl
+names_ordered-other n (Flush name targets) other = refl
+names_ordered-other n (Ordered names) other = absurd (other names refl)
 
 -- `rest` of the directives are left, and those before them are noted
 pub record NotedSoFar (ds rest : List (ℕ × Directive)) (names : List (List ℕ)) (first : List ℕ) (marks : List Bool) : Type 0 where
