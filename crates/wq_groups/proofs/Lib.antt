@@ -7,3 +7,4 @@ pub mod Together
 pub mod Partitions
 mod MarkLemmas
 mod NoteLemmas
+mod NumberLemmas

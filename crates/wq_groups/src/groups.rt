@@ -12,6 +12,8 @@ ghost use Rattle.wq_groups.specs.Grouping.{groups_of, IsGroupFaultOf};
 
 use crate::fault::GroupError;
 use crate::ids::GroupId;
+use crate::numbering::number;
+use crate::reading::first_members;
 use std::alloc::Allocator;
 use std::marker::Model;
 use wq_decl::DeclView;
@@ -51,7 +53,9 @@ impl<A: Allocator + Copy> Groups<A> {
         ensures groups { IfOk result (λ g. groups_of view.now table.now.names ≡ Ok g) }
         ensures fault { IfErr result (λ e. IsGroupFaultOf e (groups_of view.now table.now.names)) }
     {
-        Err(GroupError::OutOfMemory)
+        let first = first_members(alloc, view, table)?;
+        let (group_of, members) = number(alloc, first.as_slice())?;
+        Ok(Groups { group_of, members })
     }
 
     /// How many groups there are, at most 4,096.

@@ -12,6 +12,7 @@ mod fault;
 mod groups;
 mod ids;
 pub mod laws;
+mod numbering;
 mod reading;
 
 pub use assignment::Assignment;
