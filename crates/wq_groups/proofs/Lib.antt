@@ -8,3 +8,4 @@ pub mod Partitions
 mod MarkLemmas
 mod NoteLemmas
 mod NumberLemmas
+mod FirstLists

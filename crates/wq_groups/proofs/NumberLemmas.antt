@@ -1,9 +1,9 @@
 -- Numbering the items one after the other: the groups so far, and their members.
-use Rattle.std.proofs.Common.{◌≡◌, ◌≢◌, ℕ, zero, suc, ◌+◌, ◌<◌, ◌≤◌, inl, inr, Bool, true, false, cond, eqb, List, [], ◌∷◌, ◌++◌, length, map, get_or, set, refl, sym, ap, ap₂, subst, ◌∙◌, arith, append-nil}
+use Rattle.std.proofs.Common.{◌≡◌, ◌≢◌, ℕ, zero, suc, ◌+◌, ◌<◌, ◌≤◌, inl, inr, Bool, true, false, cond, eqb, List, [], ◌∷◌, ◌++◌, length, map, get_or, set, refl, sym, ap, ap₂, subst, ◌∙◌, arith, append-nil, Vec}
 use Rattle.std.specs.Prelude.{slice_index}
 use Rattle.std.specs.List.{All, filter, range_with_len}
 use Rattle.std.proofs.lemmas.Bool.{cases_eq, cond-true, cond-false, eq-eqb, ne_eqb}
-use Rattle.std.proofs.lemmas.List.{length-append, length_push, length-set, length-map, get_or_append_left, get_or_push, get_or-set_same, get_or-set_other, get_or-map}
+use Rattle.std.proofs.lemmas.List.{length-append, length_push, length-set, length-map, get_or_append_left, get_or_push, get_or-set_same, get_or-set_other, get_or-map, map-set, map_push}
 use Rattle.std.proofs.lemmas.List.FromFn.{length-map-range_with_len, get_or-map-range_with_len, map-range_with_len_more, fill_by_all}
 use Rattle.std.proofs.lemmas.List.Elements.{filter-append}
 use Rattle.wq_groups.specs.Partition.{Partition, members_of}
@@ -125,3 +125,18 @@ module _ (n : ℕ) (F : ℕ → ℕ) (are : AreHeads n F) (i : ℕ) (group_of : 
 
 pub Numbered-all : (F : ℕ → ℕ) (n : ℕ) (group_of : List ℕ) (members : List (List ℕ)) → Numbered F n group_of members → ◌≡◌ {A = Partition} (record { group_of = group_of; groups = length members }) (headed n F)
 Numbered-all F n group_of members so_far = ap₂ (λ (gs : List ℕ) (k : ℕ). record { group_of = gs; groups = k }) so_far.numbers so_far.count
+
+-- ---- members kept as vectors
+
+abbrev pub items_of : {A : Type 0} → List (Vec ℕ A) → List (List ℕ)
+items_of lists = map (λ m. m.items) lists
+
+pub items_of-push : {A : Type 0} (lists : List (Vec ℕ A)) (own : Vec ℕ A) (i : ℕ) → own.items ≡ i ∷ [] → items_of (lists ++ (own ∷ [])) ≡ items_of lists ++ ((i ∷ []) ∷ [])
+items_of-push {A} lists own i is = map_push (λ (m : Vec ℕ A). m.items) lists own ∙ ap (λ (l : List ℕ). items_of lists ++ (l ∷ [])) is
+
+-- one of the lists, as it was read, has grown
+pub items_of-set : {A : Type 0} (lists : List (Vec ℕ A)) (g : ℕ) (now new : Vec ℕ A) (i : ℕ) → g < length lists → now ≡ get_or lists g now → new.items ≡ now.items ++ (i ∷ [])
+    → items_of (set lists g new) ≡ set (items_of lists) g (get_or (items_of lists) g [] ++ (i ∷ []))
+items_of-set {A} lists g now new i within at grown =
+    map-set (λ (m : Vec ℕ A). m.items) lists g new
+    ∙ ap (set (items_of lists) g) (grown ∙ ap (λ (l : List ℕ). l ++ (i ∷ [])) (ap (λ (m : Vec ℕ A). m.items) at ∙ sym (get_or-map (λ (m : Vec ℕ A). m.items) lists g now [] within)))
