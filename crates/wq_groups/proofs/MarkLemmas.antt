@@ -50,6 +50,10 @@ set-named {X} f names w i v differ found =
 pub get_or-named : {X : Type 0} (f : List ℕ → X) (names : List (List ℕ)) (w : List ℕ) (i : ℕ) (d : X) → item_named names w ≡ Some i → get_or (map f names) i d ≡ f w
 get_or-named f names w i d found = get_or-map f names i [] d (item_named-within names w i found) ∙ ap f (item_named-is names w i found)
 
+-- the item that a look-up of a word's bytes gave, as an index
+pub found_item : (names : List (List ℕ)) (word bytes : List ℕ) (o : Option ℕ) (id number i : ℕ) → bytes ≡ word → o ≡ item_named names bytes → o ≡ Some id → number ≡ id → i ≡ number → item_named names word ≡ Some i
+found_item names word bytes o id number i read found some as_number as_index = ap (item_named names) (sym read) ∙ sym found ∙ some ∙ ap (λ (n : ℕ). Some n) (sym (as_index ∙ as_number))
+
 -- ---- words that all name items
 
 pub known_first : (names : List (List ℕ)) (w : WordView) (rest : List WordView) → IsSome (items_named names (w ∷ rest)) → IsSome (item_named names w.bytes)

@@ -3,7 +3,7 @@ use Rattle.std.proofs.Common.{◌≡◌, ◌≢◌, ℕ, zero, suc, ◌+◌, ◌
 use Rattle.std.specs.Prelude.{slice_index}
 use Rattle.std.specs.List.{All, filter, range_with_len}
 use Rattle.std.proofs.lemmas.Bool.{cases_eq, cond-true, cond-false, eq-eqb, ne_eqb}
-use Rattle.std.proofs.lemmas.List.{length-append, length_push, length-set, length-map, get_or_append_left, get_or_push, get_or-set_same, get_or-set_other, get_or-map, map-set, map_push}
+use Rattle.std.proofs.lemmas.List.{length-append, length_push, length-set, length-map, get_or_append_left, get_or_push, get_or-set_same, get_or-set_other, get_or-map, map-set, map_push, get_or_default}
 use Rattle.std.proofs.lemmas.List.FromFn.{length-map-range_with_len, get_or-map-range_with_len, map-range_with_len_more, fill_by_all}
 use Rattle.std.proofs.lemmas.List.Elements.{filter-append}
 use Rattle.wq_groups.specs.Partition.{Partition, members_of}
@@ -133,6 +133,17 @@ items_of lists = map (λ m. m.items) lists
 
 pub items_of-push : {A : Type 0} (lists : List (Vec ℕ A)) (own : Vec ℕ A) (i : ℕ) → own.items ≡ i ∷ [] → items_of (lists ++ (own ∷ [])) ≡ items_of lists ++ ((i ∷ []) ∷ [])
 items_of-push {A} lists own i is = map_push (λ (m : Vec ℕ A). m.items) lists own ∙ ap (λ (l : List ℕ). items_of lists ++ (l ∷ [])) is
+
+-- a vector that is another after a push
+pub items-pushed : {A : Type 0} (v u : Vec ℕ A) (xs : List ℕ) (pushed k : ℕ) → v ≡ u → u.items ≡ xs ++ (pushed ∷ []) → pushed ≡ k → v.items ≡ xs ++ (k ∷ [])
+items-pushed {A} v u xs pushed k same grown is = ap (λ (w : Vec ℕ A). w.items) same ∙ grown ∙ ap (λ n. xs ++ (n ∷ [])) is
+
+pub items_of-pushed : {A : Type 0} (v u : Vec (Vec ℕ A) A) (lists : List (Vec ℕ A)) (own : Vec ℕ A) (i : ℕ) → v ≡ u → u.items ≡ lists ++ (own ∷ []) → own.items ≡ i ∷ [] → items_of v.items ≡ items_of lists ++ ((i ∷ []) ∷ [])
+items_of-pushed {A} v u lists own i same grown is = ap (λ (w : Vec (Vec ℕ A) A). items_of w.items) same ∙ ap items_of grown ∙ items_of-push lists own i is
+
+-- what a number read from a list is, and as an index
+pub read_index : (xs : List ℕ) (at read number i : ℕ) → at < length xs → read ≡ get_or xs at read → number ≡ read → i ≡ number → i ≡ slice_index xs at
+read_index xs at read number i within is as_number as_index = as_index ∙ as_number ∙ is ∙ get_or_default xs at read 0 within
 
 -- one of the lists, as it was read, has grown
 pub items_of-set : {A : Type 0} (lists : List (Vec ℕ A)) (g : ℕ) (now new : Vec ℕ A) (i : ℕ) → g < length lists → now ≡ get_or lists g now → new.items ≡ now.items ++ (i ∷ [])

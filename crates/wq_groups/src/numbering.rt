@@ -2,7 +2,7 @@
 //!
 //! This takes time and memory in the number of the items.
 
-ghost use Rattle.std.specs.Prelude.{◌≡◌, ◌≤◌, length, map, slice_index, IfOk};
+ghost use Rattle.std.specs.Prelude.{◌≡◌, ◌<◌, ◌≤◌, length, map, slice_index, IfOk, IfErr};
 ghost use Rattle.std.specs.List.{range_with_len};
 ghost use Rattle.wq_groups.specs.Partition.{members_of};
 ghost use Rattle.wq_groups.specs.Numbering.{AreHeads, headed};
@@ -20,6 +20,7 @@ pub(crate) fn number<A: Allocator + Copy>(
     requires heads { AreHeads (length first.now) (slice_index first.now) }
     ensures groups { IfOk result (λ r. record { group_of = r.0.items; groups = length r.1.items } ≡ headed (length first.now) (slice_index first.now)) }
     ensures members { IfOk result (λ r. map (λ m. m.items) r.1.items ≡ map (members_of r.0.items) (range_with_len 0 (length r.1.items))) }
+    ensures memory { IfErr result (λ _. 0 < length first.now) }
 {
     let mut group_of: Vec<GroupId, A> = Vec::new(alloc);
     let mut members: Vec<Vec<ItemId, A>, A> = Vec::new(alloc);

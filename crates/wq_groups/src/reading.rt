@@ -3,12 +3,13 @@
 //! The words of each line are gone over twice, so this takes time in the number of the words, and memory in the number of
 //! items.
 
-ghost use Rattle.std.specs.Prelude.{◌≡◌, ◌≢◌, ◌↔◌, ◌++◌, ◌∷◌, [], ℕ, List, Bool, length, map, Ok, IfOk, IfErr, IfSome, IsSome, OnSome, IsTrue, AllPairs, None, if◌then◌else◌, bytes_eq};
+ghost use Rattle.std.specs.Prelude.{◌≡◌, ◌≢◌, ◌↔◌, ◌++◌, ◌∷◌, ◌<◌, [], ℕ, List, length, map, Ok, IfOk, IfErr, IfSome, IsSome, OnSome, IsTrue, AllPairs, None, if◌then◌else◌, bytes_eq};
 ghost use Rattle.std.specs.List.{list_any};
 ghost use Rattle.wq_decl.specs.declared.directive.Directive.{Directive};
 ghost use Rattle.wq_decl.specs.declared.directive.Directive.TheVariants.{Ordered};
 ghost use Rattle.wq_items.specs.Table.{IsTable};
 ghost use Rattle.wq_items.specs.Building.{table_of, items_named};
+ghost use Rattle.wq_groups.specs.declared.fault.GroupError.TheVariants.{OutOfMemory};
 ghost use Rattle.wq_groups.specs.Grouping.{all_ordered, first_regrouped, first_member, groups_of, IsGroupFaultOf};
 ghost use Rattle.wq_groups.specs.Reading.{names_in, marks_of, lowest_of, IsNoted};
 
@@ -98,6 +99,7 @@ pub(crate) fn first_members<A: Allocator + Copy>(
     ensures once { IfOk result (λ _. first_regrouped [] view.now ≡ None) }
     ensures first { IfOk result (λ first. first.items ≡ map (first_member view.now table.now.names) table.now.names) }
     ensures fault { IfErr result (λ e. IsGroupFaultOf e (groups_of view.now table.now.names)) }
+    ensures memory { IfErr result (λ e. e ≡ OutOfMemory → 0 < length table.now.names) }
 {
     let mut first = Vec::new(alloc);
     let mut ordered = Vec::new(alloc);

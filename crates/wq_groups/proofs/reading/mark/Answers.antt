@@ -1,7 +1,7 @@
 use Rattle.std.proofs.Common.{◌≡◌, ◌≤◌, inl, inr, Bool, true, false, get_or, ℕ, List, Some, refl, sym, ap, subst, ◌∙◌, arith}
 use Rattle.wq_text.specs.Words.{WordView}
 use Rattle.wq_items.specs.Table.{item_named}
-use Rattle.wq_groups.proofs.MarkLemmas.{Marked, Marked-none, Marked-more, Marked-twice, Marked-all}
+use Rattle.wq_groups.proofs.MarkLemmas.{Marked, Marked-none, Marked-more, Marked-twice, found_item}
 use Rattle.wq_groups.proofs.reading.mark.Goals as goal
 
 pub loop-word-init : goal.loop-word-init
@@ -13,7 +13,7 @@ pub returns-then-ordered-i-clause-apart : goal.returns-then-ordered-i-clause-apa
 returns-then-ordered-i-clause-apart g c =
     let names = c.args.table.now.names in
     let found : item_named names c.in-Some.word.bytes ≡ Some c.from-i.result =
-    ap (item_named names) (sym c.bytes.ensures) ∙ sym c.find.ensures ∙ c.unwrap.ensures ∙ ap (λ (n : ℕ). Some n) (sym (c.from-i.ensures ∙ c.get-item.ensures)) in
+    found_item names c.in-Some.word.bytes c.bytes.result.now c.find.result c.unwrap.result c.get-item.result c.from-i.result c.bytes.ensures c.find.ensures c.unwrap.ensures c.get-item.ensures c.from-i.ensures in
     let so_far = subst (λ (ws : List WordView). Marked names c.args.ordered.now c.loop-word.ordered c.loop-word.lowest ws c.args.names) c.in-Some.ensures.steps c.loop-word.invariant in
     let marked : get_or c.loop-word.ordered c.from-i.result false ≡ true = c.if-ordered-i.true in
     λ before is apart. (
@@ -25,7 +25,7 @@ pub loop-word-preserved-then-item-lowest : goal.loop-word-preserved-then-item-lo
 loop-word-preserved-then-item-lowest g c =
     let names = c.args.table.now.names in
     let found : item_named names c.in-Some.word.bytes ≡ Some c.from-i.result =
-    ap (item_named names) (sym c.bytes.ensures) ∙ sym c.find.ensures ∙ c.unwrap.ensures ∙ ap (λ (n : ℕ). Some n) (sym (c.from-i.ensures ∙ c.get-item.ensures)) in
+    found_item names c.in-Some.word.bytes c.bytes.result.now c.find.result c.unwrap.result c.get-item.result c.from-i.result c.bytes.ensures c.find.ensures c.unwrap.ensures c.get-item.ensures c.from-i.ensures in
     let so_far = subst (λ (ws : List WordView). Marked names c.args.ordered.now c.loop-word.ordered c.loop-word.lowest ws c.args.names) c.in-Some.ensures.steps c.loop-word.invariant in
     let fresh : get_or c.loop-word.ordered c.from-i.result false ≡ false = c.if-ordered-i.false in
     Marked-more names c.args.ordered.now c.loop-word.ordered c.loop-word.lowest c.get-item.result c.in-Some.word c.next.new.self c.args.names c.from-i.result c.requires.table.distinct found fresh
@@ -35,7 +35,7 @@ pub loop-word-preserved : goal.loop-word-preserved
 loop-word-preserved g c =
     let names = c.args.table.now.names in
     let found : item_named names c.in-Some.word.bytes ≡ Some c.from-i.result =
-    ap (item_named names) (sym c.bytes.ensures) ∙ sym c.find.ensures ∙ c.unwrap.ensures ∙ ap (λ (n : ℕ). Some n) (sym (c.from-i.ensures ∙ c.get-item.ensures)) in
+    found_item names c.in-Some.word.bytes c.bytes.result.now c.find.result c.unwrap.result c.get-item.result c.from-i.result c.bytes.ensures c.find.ensures c.unwrap.ensures c.get-item.ensures c.from-i.ensures in
     let so_far = subst (λ (ws : List WordView). Marked names c.args.ordered.now c.loop-word.ordered c.loop-word.lowest ws c.args.names) c.in-Some.ensures.steps c.loop-word.invariant in
     let fresh : get_or c.loop-word.ordered c.from-i.result false ≡ false = c.if-ordered-i.false in
     Marked-more names c.args.ordered.now c.loop-word.ordered c.loop-word.lowest c.loop-word.lowest c.in-Some.word c.next.new.self c.args.names c.from-i.result c.requires.table.distinct found fresh
