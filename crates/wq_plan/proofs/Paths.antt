@@ -32,8 +32,8 @@ module _ (d : Declaration) where
   Follows-from_joined g (x ∷ y ∷ arcs) begins joined = (
     begins,
     Follows-from_joined (slice_index d.group_of x.dst) (y ∷ arcs) (sym (joined 0 x (omega arith))) (λ k e fits.
-    let at : suc k + 1 ≡ suc (k + 1) = omega arith in
-    rw at at (joined (suc k) e (omega arith))),
+        let at : suc k + 1 ≡ suc (k + 1) = omega arith in
+        rw at at (joined (suc k) e (omega arith))),
   )
 
   pub Follows-begins : (P : ℕ → Type 0) (g : ℕ) (arcs : List WaitArc) → Follows d g arcs → P g → IfSome (slice_get arcs 0) (λ (arc : WaitArc). P (tail_of d arc))

@@ -52,9 +52,9 @@ module _ (d : Declaration) (a : Assignment) (plan : IsPlan d a) where
 pub IsPlan-unique : (d : Declaration) (a b : Assignment) → IsPlan d a → IsPlan d b → a ≡ b
 IsPlan-unique d a b one other =
     let same : a.lane_of_group ≡ b.lane_of_group =
-        ext_get_or 0 a.lane_of_group b.lane_of_group (one.one_each ∙ sym other.one_each) (λ g fits.
-        let group : g < d.groups = omega (arith, one.one_each) in
-        IsRank-unique (GroupWaits d) g (lane_of a g) (lane_of b g) (one.ranks g group) (other.ranks g group)) in
+    ext_get_or 0 a.lane_of_group b.lane_of_group (one.one_each ∙ sym other.one_each) (λ g fits.
+    let group : g < d.groups = omega (arith, one.one_each) in
+    IsRank-unique (GroupWaits d) g (lane_of a g) (lane_of b g) (one.ranks g group) (other.ranks g group)) in
     let count : a.lanes ≡ b.lanes = one.count ∙ ap lanes_of same ∙ sym other.count in
     rw (count, same) refl
 

@@ -41,7 +41,7 @@ module _ (d : Declaration) (a : Assignment) where
     chains-same g (x ∷ xs) (y ∷ ys) size one other steps others =
         let first : x ≡ y = IsStepDown-unique x y steps.0 others.0 (one.0 ∙ sym other.0) in
         let rest : xs ≡ ys =
-            chains-same (slice_index d.group_of y.dst) xs ys (omega arith) (subst (λ (z : WaitArc). Follows d (slice_index d.group_of z.dst) xs) first one.1) other.1 steps.1 others.1 in
+        chains-same (slice_index d.group_of y.dst) xs ys (omega arith) (subst (λ (z : WaitArc). Follows d (slice_index d.group_of z.dst) xs) first one.1) other.1 steps.1 others.1 in
         ap (λ (z : WaitArc). z ∷ xs) first ∙ ap (λ (zs : List WaitArc). y ∷ zs) rest
 
     pub IsLongestChain-unique : (one other : List WaitArc) → IsLongestChain d a one → IsLongestChain d a other → one ≡ other
