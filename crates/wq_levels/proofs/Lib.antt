@@ -7,3 +7,5 @@ pub mod First
 pub mod WaysOn
 pub mod Walks
 pub mod UnderWay
+pub mod OneCircle
+pub mod Existence

@@ -1,14 +1,17 @@
 -- Laws of ranks of wait graphs.
 use Rattle.std.proofs.Common.{◌≡◌, ℕ, zero, suc, ◌+◌, ◌<◌, ◌≤◌, inl, inr, List, length, slice_index, EachIndex, SomeIndex, MatchBool, nat_eq, refl, sym, ◌∙◌, ext_get_or, ne_eqb, arith}
+use Rattle.std.specs.List.{All}
 use Rattle.std.proofs.lemmas.Bool.{cases_lt}
+use Rattle.std.proofs.lemmas.List.Elements.{All-from_get_or}
 use Rattle.wq_items.specs.Chain.{HasCircle}
-use Rattle.wq_items.proofs.Chains.{BeginsChain-at, BeginsChain-less, IsRank-unique}
-use Rattle.wq_items.proofs.Circles.{no_circle_from_ranks}
+use Rattle.wq_items.proofs.Chains.{BeginsChain-at, BeginsChain-less, IsRank-unique, IsRank-falls}
+use Rattle.wq_items.proofs.Circles.{no_circle_from_ranks, circle_from_BeginsChain}
 use Rattle.wq_graph.specs.declared.arc.WaitArc.{WaitArc}
-use Rattle.wq_graph.specs.Graph.{HasArc}
+use Rattle.wq_graph.specs.Graph.{IsGraph, HasArc}
 use Rattle.wq_levels.specs.Ranks.{AreRanks}
 use Rattle.wq_levels.specs.Rounds.{AreCapped}
 use Rattle.wq_levels.specs.Walks.{Remains, MarkRemaining}
+use Rattle.wq_levels.proofs.Graphs.{HasArc-below}
 use Rattle.wq_levels.proofs.Capped.{IsRank-from_capped}
 
 -- what a test for 0 decides
@@ -55,6 +58,22 @@ module _ (graph : List (List WaitArc)) (ranks : List ℕ) where
   -- no circle has ranks
   pub AreRanks-no_circle : AreRanks graph ranks → ¬ HasCircle (HasArc graph) (length graph)
   AreRanks-no_circle are = no_circle_from_ranks (HasArc graph) (length graph) (λ v vertex. (slice_index ranks v, are.longest v vertex))
+
+module _ (graph : List (List WaitArc)) (ranks : List ℕ) (sound : IsGraph graph) (are : AreRanks graph ranks) where
+  -- a vertex ranks above each that it has an arc to
+  pub AreRanks-fall : (v w : ℕ) → v < length graph → HasArc graph v w → slice_index ranks w < slice_index ranks v
+  AreRanks-fall v w vertex arc =
+      IsRank-falls (HasArc graph) v w (slice_index ranks v) (slice_index ranks w) arc (are.longest v vertex) (are.longest w (HasArc-below graph sound v w arc))
+
+  -- no vertex ranks as high as there are vertices
+  pub AreRanks-few : All (λ r. r < length graph) ranks
+  AreRanks-few = All-from_get_or (λ r. r < length graph) ranks 0 (λ v fits.
+      let vertex : v < length graph = omega (arith, are.one_each) in
+      elim (cases_lt (slice_index ranks v) (length graph)) [
+        | inl below ↦ below
+        | inr above ↦ absurd (AreRanks-no_circle graph ranks are (circle_from_BeginsChain (HasArc graph) (length graph) v (HasArc-below graph sound) vertex
+            (BeginsChain-less (HasArc graph) v (length graph + 1) (slice_index ranks v + 1) (omega arith) (omega arith) (are.longest v vertex).0)))
+      ])
 
 -- a graph's ranks are the only ones
 pub AreRanks-unique : (graph : List (List WaitArc)) (one other : List ℕ) → AreRanks graph one → AreRanks graph other → one ≡ other

@@ -1,11 +1,11 @@
 -- Laws of walks.
-use Rattle.std.proofs.Common.{◌≡◌, ◌≢◌, ℕ, zero, suc, ◌+◌, ◌-◌, ◌<◌, inl, inr, List, [], ◌∷◌, ◌++◌, length, get_or, take, drop, AllPairs, refl, sym, ◌∙◌, subst, ap, arith}
+use Rattle.std.proofs.Common.{◌≡◌, ◌≢◌, ℕ, zero, suc, ◌+◌, ◌-◌, ◌<◌, List, [], ◌∷◌, ◌++◌, length, get_or, take, drop, AllPairs, refl, sym, ◌∙◌, subst, ap, arith}
 use Rattle.std.specs.List.{All, AllByRecursion}
 use Rattle.std.proofs.lemmas.List.{length-append, get_or-append-add}
 use Rattle.std.proofs.lemmas.List.Elements.{All-from_recursion}
 use Rattle.wq_graph.specs.declared.arc.WaitArc.{WaitArc}
 use Rattle.wq_graph.specs.Graph.{IsGraph}
-use Rattle.wq_levels.specs.Walks.{Remains, IsLeastRemaining, IsWayOn, IsWalk, vertices_left, IsWalkedCircle, LeadsRound}
+use Rattle.wq_levels.specs.Walks.{Remains, IsWayOn, IsWalk, vertices_left, IsWalkedCircle, LeadsRound}
 use Rattle.wq_levels.proofs.WaysOn.{IsWayOn-unique}
 
 pub length-vertices_left : (v : ℕ) (arcs : List WaitArc) → length (vertices_left v arcs) ≡ length arcs
@@ -80,6 +80,19 @@ module _ (graph : List (List WaitArc)) where
   starts_at : (v : ℕ) (xs : List WaitArc) → xs ≢ [] → get_or (vertices_left v xs) 0 0 ≡ v
   starts_at v [] some = absurd (some refl)
   starts_at v (a ∷ xs) some = refl
+
+  -- the vertex that a circle begins at is the one that is left after what leads in
+  pub IsWalk-turn : (v u : ℕ) (xs ys : List WaitArc) → IsWalk graph v xs u → ys ≢ [] → get_or (vertices_left v (xs ++ ys)) (length xs) 0 ≡ u
+  IsWalk-turn v u [] ys walk some = starts_at v ys some ∙ walk
+  IsWalk-turn v u (a ∷ xs) ys walk some = IsWalk-turn a.head u xs ys walk.1 some
+
+  -- the same arcs lead to the same vertex
+  pub IsWalk-leads : (v w u : ℕ) (xs ys : List WaitArc) → IsWalk graph v xs w → IsWalk graph v ys u → xs ≡ ys → w ≡ u
+  IsWalk-leads v w u xs ys one other same = leads_to v w u ys (subst (λ (l : List WaitArc). IsWalk graph v l w) same one) other
+    where
+      leads_to : (x y z : ℕ) (arcs : List WaitArc) → IsWalk graph x arcs y → IsWalk graph x arcs z → y ≡ z
+      leads_to x y z [] first second = sym first ∙ second
+      leads_to x y z (a ∷ arcs) first second = leads_to a.head y z arcs first.1 second.1
 
   pub LeadsRound-walked : (circle : List WaitArc) → IsWalkedCircle graph circle → LeadsRound graph circle
   LeadsRound-walked circle walked =

@@ -5,6 +5,7 @@
 //! depend on one another stand on separate workqueues, so a chain of n vertices needs n.
 #![tactic(auto)]
 
+pub mod laws;
 mod ranked;
 mod ranking;
 mod rounds;
