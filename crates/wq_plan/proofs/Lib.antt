@@ -2,7 +2,6 @@ pub mod Lanes
 pub mod Arcs
 pub mod Relations
 pub mod Ranked
-pub mod Pending
 pub mod Plans
 pub mod Places
 pub mod Paths

@@ -1,12 +1,12 @@
 -- There is one longest chain that begins at the lowest-numbered group on the last lane and goes by arcs of least place.
-use Rattle.std.proofs.Common.{◌≡◌, ℕ, zero, suc, ◌+◌, ◌<◌, ◌≤◌, inl, inr, List, [], ◌∷◌, length, map, get_or, slice_index, slice_get, IfSome, refl, sym, ap, subst, ◌∙◌, arith}
-use Rattle.std.specs.List.{All, AllByRecursion, AllAdjacentBelow}
+use Rattle.std.proofs.Common.{◌≡◌, ℕ, ◌≤◌, inl, inr, List, [], ◌∷◌, length, slice_index, refl, sym, ap, subst, ◌∙◌, arith}
+use Rattle.std.specs.List.{AllByRecursion}
 use Rattle.std.proofs.lemmas.Bool.{cases_order}
 use Rattle.std.proofs.lemmas.List.Elements.{recursion_from_All}
 use Rattle.wq_groups.specs.Declaration.{Declaration, IsDeclaration}
 use Rattle.wq_groups.specs.Assignment.{Assignment, lane_of, lane_of_item}
 use Rattle.wq_graph.specs.declared.arc.WaitArc.{WaitArc}
-use Rattle.wq_graph.specs.Graph.{IsArc, arcs_at, group_graph}
+use Rattle.wq_graph.specs.Graph.{arcs_at, group_graph}
 use Rattle.wq_plan.specs.LongestChain.{IsStepDown, IsFirstOnLast, IsLongestChain}
 use Rattle.wq_plan.specs.CircleOfGroups.{tail_of}
 use Rattle.wq_levels.proofs.Graphs.{arcs_at-rise}
