@@ -1,23 +1,21 @@
 -- Laws of the printed chain.
-use Rattle.std.proofs.Common.{◌≡◌, ℕ, zero, suc, ◌+◌, ◌-◌, ◌<◌, ◌≤◌, ◌==◌, true, inl, inr, List, [], ◌∷◌, length, map, get_or, slice_index, slice_get, IfSome, Option, Some, position, refl, sym, ap, subst, ◌∙◌, eq-eqb, eqb-true, arith}
+use Rattle.std.proofs.Common.{◌≡◌, ℕ, zero, suc, ◌+◌, ◌-◌, ◌<◌, ◌≤◌, ◌==◌, true, inl, inr, List, [], ◌∷◌, length, get_or, slice_index, Option, Some, refl, sym, ap, ◌∙◌, eq-eqb, eqb-true, arith}
 use Rattle.std.specs.Prelude.{Contains}
-use Rattle.std.specs.List.{All, AllByRecursion, AllAdjacentBelow, prefix_len}
+use Rattle.std.specs.List.{All, AllByRecursion}
 use Rattle.std.specs.Option.{option_map_or}
-use Rattle.std.proofs.lemmas.Bool.{eqb-false, cases_lt, cases_eq}
-use Rattle.std.proofs.lemmas.List.{get_or-map, length-map}
+use Rattle.std.proofs.lemmas.Bool.{eqb-false, cases_lt}
 use Rattle.std.proofs.lemmas.List.Elements.{All-from_recursion, All-contains}
-use Rattle.std.proofs.lemmas.List.Kept.{AllPairs-from_increasing}
 use Rattle.std.proofs.lemmas.List.Quantifiers.{position-Some}
-use Rattle.wq_items.proofs.Chains.{BeginsChain-at, BeginsChain-next, IsRank-most, IsRank-falls}
+use Rattle.wq_items.proofs.Chains.{BeginsChain-at, BeginsChain-next, IsRank-most}
 use Rattle.wq_groups.specs.Declaration.{Declaration, IsDeclaration}
 use Rattle.wq_groups.specs.Assignment.{Assignment, lane_of, lane_of_item}
 use Rattle.wq_graph.specs.declared.arc.WaitArc.{WaitArc}
-use Rattle.wq_graph.specs.Graph.{IsGraph, HasArc, IsArc, arcs_at, group_graph}
+use Rattle.wq_graph.specs.Graph.{IsGraph, HasArc, arcs_at, group_graph}
 use Rattle.wq_levels.specs.Ranks.{AreRanks}
 use Rattle.wq_plan.specs.Plan.{IsPlan, lanes_of, chain_from, chain_of}
 use Rattle.wq_plan.specs.LongestChain.{IsStepDown, IsFirstOnLast, IsLongestChain}
-use Rattle.wq_plan.specs.CircleOfGroups.{tail_of}
 use Rattle.wq_plan.proofs.Arcs.{next_arc, next_arc-below, chain_from-some}
+use Rattle.wq_levels.proofs.Ranks.{AreRanks-fall}
 use Rattle.wq_levels.proofs.First.{IsFirst, IsFirst-find, position-is}
 use Rattle.wq_levels.proofs.Graphs.{arcs_at-rise, HasArc-below}
 use Rattle.wq_plan.proofs.Lanes.{lanes_of-above, lanes_of-some}
@@ -50,7 +48,7 @@ module _ (graph : List (List WaitArc)) (lane : List ℕ) (sound : IsGraph graph)
       let w = on.0 in
       let w_fits : w < length graph = HasArc-below graph sound v w on.1 in
       let high : below ≤ slice_index lane w = IsRank-most (HasArc graph) w (slice_index lane w) below (are.longest w w_fits) on.2 in
-      let low : slice_index lane w < slice_index lane v = IsRank-falls (HasArc graph) v w (slice_index lane v) (slice_index lane w) on.1 (are.longest v vertex) (are.longest w w_fits) in
+      let low : slice_index lane w < slice_index lane v = AreRanks-fall graph lane sound are v w vertex on.1 in
       (w, on.1, omega arith)
 
   -- the first arc to that lane
