@@ -1,7 +1,7 @@
 -- What a text declares is a declaration, and its plan or its circle has a text.
 use Rattle.std.proofs.Common.{◌≡◌, ℕ, ◌+◌, ◌-◌, ◌<◌, ◌≤◌, ◌^◌, List, [], ◌∷◌, length, map, Option, Some, None, Result, Ok, Err, refl, sym, ap, subst, ◌∙◌, arith, inl, inr}
 use Rattle.std.proofs.lemmas.Bool.{cases_lt, lt-ltb}
-use Rattle.std.proofs.lemmas.List.{get_or_past, length-take, take_all}
+use Rattle.std.proofs.lemmas.List.{length-take, take_all, length-map}
 use Rattle.std.proofs.lemmas.List.Elements.{All-map, All-weaker}
 use Rattle.std.specs.Io.KnownBytes.{Consumes}
 use Rattle.std.specs.List.{All, Any}
@@ -29,13 +29,16 @@ use Rattle.wq_groups.proofs.Partitions.{IsPartition-groups_of, length-groups_of}
 use Rattle.wq_groups.proofs.Declarations.{IsDeclaration-of}
 use Rattle.wq_graph.specs.declared.arc.WaitArc.{WaitArc}
 use Rattle.wq_graph.specs.Graph.{IsArc, group_graph}
+use Rattle.wq_graph.proofs.Arcs.{src-below}
 use Rattle.wq_levels.specs.Walks.{IsWalkedCircle}
 use Rattle.wq_plan.specs.Plan.{IsPlan, chain_of}
 use Rattle.wq_plan.specs.LongestChain.{IsStepDown, IsLongestChain}
 use Rattle.wq_plan.specs.CircleOfGroups.{IsCircleOfGroups}
 use Rattle.wq_plan.specs.Solve.{IsPlanned, IsCircled}
 use Rattle.wq_plan.proofs.LongestChain.{chain_of-longest}
-use Rattle.wq_plan.proofs.GroupCircles.{IsCircleOfGroups-walked, IsCircleOfGroups-few}
+use Rattle.wq_plan.proofs.GroupCircles.{IsCircleOfGroups-walked}
+use Rattle.wq_levels.proofs.OneCircle.{IsWalkedCircle-few}
+use Rattle.wq_plan.proofs.Plans.{length-group_graph}
 use Rattle.wq_plan.proofs.Plans.{IsPlan-lanes}
 use Rattle.wq_commands.specs.declared.end.End.{End}
 use Rattle.wq_commands.specs.declared.end.End.TheVariants.{Good, Bad, Refused}
@@ -94,15 +97,6 @@ IsDeclaration-sound s sound = IsDeclaration-of s.table s.partition sound.table s
 
 -- ---- a plan and a circle fit the printer
 
-ItemWaits-source : (waits : List (List Target)) (i j : ℕ) → ItemWaits waits i j → i < length waits
-ItemWaits-source waits i j declared = elim (cases_lt i (length waits)) [
-  | inl item ↦ item
-  | inr past ↦ absurd (none_past waits i past declared.0 declared.2)
-]
-  where
-    none_past : (waits : List (List Target)) (i : ℕ) → length waits ≤ i → (k : ℕ) → k < length (targets_of waits i) → ⊥
-    none_past waits i past k within = omega (arith, ap length (get_or_past waits i [] past))
-
 -- an arc joins items of the table
 abbrev pub JoinsItems : Table → ℕ × ℕ → Type 0
 JoinsItems t arc = (arc.0 < length t.names) × (arc.1 < length t.names)
@@ -111,36 +105,48 @@ IsArc-joins : (s : Declared) (a : WaitArc) → IsSound s → IsArc s.table.waits
 IsArc-joins s a sound arc =
     let d = arc.declared in
     let waits : ItemWaits s.table.waits a.src a.dst = (d.0, d.1, d.2, d.3, d.4.0) in
-    (omega (arith, ItemWaits-source s.table.waits a.src a.dst waits, sound.table.one_list_each), ItemWaits-below (length s.table.names) s.table.waits sound.table.targets_are_items a.src a.dst waits)
+    let source : a.src < length s.table.waits = src-below s.table.waits s.partition.group_of a arc in
+    (omega (arith, source, sound.table.one_list_each), ItemWaits-below (length s.table.names) s.table.waits sound.table.targets_are_items a.src a.dst waits)
 
-joined : (s : Declared) (arcs : List WaitArc) → IsSound s → All (IsArc s.table.waits s.partition.group_of) arcs → All (JoinsItems s.table) (map ends_of arcs)
-joined s arcs sound are = All-map (JoinsItems s.table) ends_of arcs (All-weaker (IsArc s.table.waits s.partition.group_of) (λ (a : WaitArc). JoinsItems s.table (ends_of a)) (λ a is. IsArc-joins s a sound is) arcs are)
+-- few arcs that join items
+pub record ArePrintable (t : Table) (arcs : List (ℕ × ℕ)) : Type 0 where
+  pub few : length arcs < 2 ^ 16
+  pub items : All (JoinsItems t) arcs
 
--- the arcs of a plan's chain are few, and they join items
-pub IsPlanned-prints : (s : Declared) (a : Assignment) (chain : List WaitArc) → IsSound s → IsPlanned (declared_waits s) a chain
-    → (length chain < 2 ^ 16) × All (JoinsItems s.table) (map ends_of chain)
-IsPlanned-prints s a chain sound planned =
+printable : (s : Declared) (arcs : List WaitArc) (ends : List (ℕ × ℕ)) → IsSound s → length arcs ≤ 4096 → All (IsArc s.table.waits s.partition.group_of) arcs → ends ≡ map ends_of arcs
+    → ArePrintable s.table ends
+printable s arcs ends sound few are is =
+    let joins = All-map (JoinsItems s.table) ends_of arcs
+    (All-weaker (IsArc s.table.waits s.partition.group_of) (λ (a : WaitArc). JoinsItems s.table (ends_of a)) (λ a arc. IsArc-joins s a sound arc) arcs are) in
+    record {
+      few = omega (arith, few, ap length is, length-map arcs ends_of);
+      items = subst (All (JoinsItems s.table)) (sym is) joins;
+    }
+
+-- so are those of a plan's chain
+pub ArePrintable-planned : (text : List ℕ) (s : Declared) (a : Assignment) (chain : List WaitArc) (ends : List (ℕ × ℕ)) → declaration text ≡ Ok s
+    → IsPlanned (declared_waits s) a chain → ends ≡ map ends_of chain → ArePrintable s.table ends
+ArePrintable-planned text s a chain ends declared planned is =
+    let d = declared_waits s in
+    let sound = IsSound-declaration text s declared in
+    let declaration = IsDeclaration-sound s sound in
+    let longest : IsLongestChain d a chain = subst (IsLongestChain d a) (sym planned.longest) (chain_of-longest d declaration a planned.plan) in
+    let few : a.lanes ≤ d.groups = IsPlan-lanes d a planned.plan declaration in
+    printable s chain ends sound (omega (arith, longest.count, few, declaration.partition.few_groups, declaration.partition.few_items)) (λ k x within. (longest.arcs k x within).declared) is
+
+-- and those of a circle
+pub IsWalkedCircle-short : (s : Declared) (circle : List WaitArc) → IsSound s → IsWalkedCircle (group_graph (declared_waits s)) circle → length circle ≤ 4096
+IsWalkedCircle-short s circle sound walked =
     let d = declared_waits s in
     let is = IsDeclaration-sound s sound in
-    let longest : IsLongestChain d a chain = subst (IsLongestChain d a) (sym planned.longest) (chain_of-longest d is a planned.plan) in
-    let few : a.lanes ≤ d.groups = IsPlan-lanes d a planned.plan is in (
-      omega (arith, longest.count, few, is.partition.few_groups, is.partition.few_items),
-      joined s chain sound (λ k x within. (longest.arcs k x within).declared),
-    )
+    let few : length circle ≤ length (group_graph d) = IsWalkedCircle-few (group_graph d) circle walked in
+    omega (arith, few, length-group_graph d, is.partition.few_groups, is.partition.few_items)
 
--- so are those of a circle
-pub IsCircled-few : (s : Declared) (circle : List WaitArc) → IsSound s → IsWalkedCircle (group_graph (declared_waits s)) circle → length circle ≤ 4096
-IsCircled-few s circle sound walked =
-    let d = declared_waits s in
-    let is = IsDeclaration-sound s sound in
-    let few : length circle ≤ d.groups = IsCircleOfGroups-few d is circle (IsCircleOfGroups-walked d is circle walked) in
-    omega (arith, few, is.partition.few_groups, is.partition.few_items)
-
-pub IsCircled-prints : (s : Declared) (circle : List WaitArc) → IsSound s → IsWalkedCircle (group_graph (declared_waits s)) circle
-    → (length circle < 2 ^ 16) × All (JoinsItems s.table) (map ends_of circle)
-IsCircled-prints s circle sound walked =
-    let few : length circle ≤ 4096 = IsCircled-few s circle sound walked in
-    (omega arith, joined s circle sound (IsCircleOfGroups-walked (declared_waits s) (IsDeclaration-sound s sound) circle walked).declared)
+pub ArePrintable-circled : (text : List ℕ) (s : Declared) (circle : List WaitArc) (ends : List (ℕ × ℕ)) → declaration text ≡ Ok s
+    → IsCircled (declared_waits s) circle → ends ≡ map ends_of circle → ArePrintable s.table ends
+ArePrintable-circled text s circle ends declared circled is =
+    let sound = IsSound-declaration text s declared in
+    printable s circle ends sound (IsWalkedCircle-short s circle sound circled.walked) (IsCircleOfGroups-walked (declared_waits s) (IsDeclaration-sound s sound) circle circled.walked).declared is
 
 -- ---- the text that was read, and the text that there was
 
@@ -187,14 +193,14 @@ AnswersInput-read remaining old new read end out front within consumed counted f
     }
 
 -- the text of a plan is the answer
-pub Answers-planned : (text : List ℕ) (s : Declared) (a : Assignment) (chain : List WaitArc) (out : List ℕ) → declaration text ≡ Ok s
-    → IsPlanned (declared_waits s) a chain → out ≡ plan_text s.table.names a.lanes (item_lanes a s.partition.group_of) (map ends_of chain) → Answers text Good out
-Answers-planned text s a chain out declared planned printed =
-    let whole : out ≡ text_of_plan s a = printed ∙ ap (λ (arcs : List WaitArc). plan_text s.table.names a.lanes (item_lanes a s.partition.group_of) (map ends_of arcs)) planned.longest in
+pub Answers-planned : (text : List ℕ) (s : Declared) (a : Assignment) (chain : List WaitArc) (ends : List (ℕ × ℕ)) (out : List ℕ) → declaration text ≡ Ok s
+    → IsPlanned (declared_waits s) a chain → ends ≡ map ends_of chain → out ≡ plan_text s.table.names a.lanes (item_lanes a s.partition.group_of) ends → Answers text Good out
+Answers-planned text s a chain ends out declared planned is printed =
+    let whole : out ≡ text_of_plan s a = printed ∙ ap (plan_text s.table.names a.lanes (item_lanes a s.partition.group_of)) is ∙ ap (λ (arcs : List WaitArc). plan_text s.table.names a.lanes (item_lanes a s.partition.group_of) (map ends_of arcs)) planned.longest in
     subst (λ (d : Result Declared Refusal). MatchResult d (λ u. AnswersDeclared u Good out) (λ r. (Good ≡ Refused) × (out ≡ refusal_text r))) (sym declared) (a, planned.plan, whole)
 
 -- the text of a circle is the answer
-pub Answers-circled : (text : List ℕ) (s : Declared) (circle : List WaitArc) (out : List ℕ) → declaration text ≡ Ok s
-    → IsCircled (declared_waits s) circle → out ≡ circle_text s.table.names (map ends_of circle) → Answers text Bad out
-Answers-circled text s circle out declared circled printed =
-    subst (λ (d : Result Declared Refusal). MatchResult d (λ u. AnswersDeclared u Bad out) (λ r. (Bad ≡ Refused) × (out ≡ refusal_text r))) (sym declared) (circle, circled.walked, printed)
+pub Answers-circled : (text : List ℕ) (s : Declared) (circle : List WaitArc) (ends : List (ℕ × ℕ)) (out : List ℕ) → declaration text ≡ Ok s
+    → IsCircled (declared_waits s) circle → ends ≡ map ends_of circle → out ≡ circle_text s.table.names ends → Answers text Bad out
+Answers-circled text s circle ends out declared circled is printed =
+    subst (λ (d : Result Declared Refusal). MatchResult d (λ u. AnswersDeclared u Bad out) (λ r. (Bad ≡ Refused) × (out ≡ refusal_text r))) (sym declared) (circle, circled.walked, printed ∙ ap (circle_text s.table.names) is)

@@ -1,5 +1,6 @@
 pub mod AnswerLemmas
 pub mod Examples
+pub mod Existence
 pub mod LineLemmas
 pub mod ItemLanes
 pub mod MeterLemmas

@@ -4,7 +4,7 @@ use Rattle.std.proofs.Math.Nat.{mul-suc}
 use Rattle.std.proofs.lemmas.Bool.{cases_lt, leb-true}
 use Rattle.std.proofs.lemmas.Bool.Decides.{nat_tests}
 use Rattle.std.proofs.lemmas.Fmt.{length-decimal-le}
-use Rattle.std.proofs.lemmas.List.{get_or_past}
+use Rattle.std.proofs.lemmas.List.{get_or_past, length-map}
 use Rattle.std.proofs.lemmas.List.Folds.{flat_map-map}
 use Rattle.std.proofs.lemmas.List.FromFn.{length-range_with_len}
 use Rattle.std.specs.List.{All, AllByRecursion, list_all, range_with_len}
@@ -23,7 +23,7 @@ use Rattle.wq_commands.specs.PlanText.{name_of, items_on, plan_line, wq_line, ch
 use Rattle.wq_commands.specs.CircleText.{circle_line, circle_text}
 use Rattle.wq_commands.specs.Answer.{declared_waits, text_of_plan, text_of_circle}
 use Rattle.wq_commands.specs.Declaration.{Declared}
-use Rattle.wq_commands.proofs.AnswerLemmas.{IsSound, IsDeclaration-sound, IsCircled-few}
+use Rattle.wq_commands.proofs.AnswerLemmas.{IsSound, IsDeclaration-sound, IsWalkedCircle-short}
 use Rattle.wq_commands.proofs.LineLemmas.{plan_text-parts}
 
 -- ---- sums of lengths
@@ -219,5 +219,5 @@ length-circled s circle sound walked =
     let names = s.table.names in
     let arcs = map ends_of circle in
     let same : length arcs ≡ length circle = length-map circle ends_of in
-    let few : length circle ≤ 4096 = IsCircled-few s circle sound walked in
+    let few : length circle ≤ 4096 = IsWalkedCircle-short s circle sound walked in
     length-circle_text names [] sound.table.named arcs (omega arith)

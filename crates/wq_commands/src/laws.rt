@@ -4,8 +4,11 @@
 
 ghost use Rattle.std.specs.Prelude.{◌≡◌, ℕ, ◌+◌, ◌<◌, ◌≤◌, List, length, take, codes, Ok, Err};
 ghost use Rattle.wq_groups.specs.Assignment.{Assignment};
+ghost use Rattle.wq_graph.specs.declared.arc.WaitArc.{WaitArc};
+ghost use Rattle.wq_graph.specs.Graph.{group_graph};
+ghost use Rattle.wq_levels.specs.Walks.{IsWalkedCircle};
 ghost use Rattle.wq_plan.specs.Plan.{IsPlan};
-ghost use Rattle.wq_commands.specs.Answer.{Answers, declared_waits, text_of_plan};
+ghost use Rattle.wq_commands.specs.Answer.{Answers, declared_waits, text_of_plan, text_of_circle};
 ghost use Rattle.wq_commands.specs.Declaration.{Declared, declaration, max_text};
 ghost use Rattle.wq_commands.specs.declared.end.End.{End};
 ghost use Rattle.wq_commands.specs.declared.end.End.TheVariants.{Good, Bad, Refused};
@@ -14,6 +17,11 @@ ghost use Rattle.wq_commands.specs.declared.end.End.TheVariants.{Good, Bad, Refu
 pub fn a_text_has_one_answer()
     ensures end { (text : List ℕ) (end other : End) (out printed : List ℕ) → Answers text end out → Answers text other printed → end ≡ other }
     ensures out { (text : List ℕ) (end other : End) (out printed : List ℕ) → Answers text end out → Answers text other printed → out ≡ printed }
+{}
+
+/// A text has an answer.
+pub fn a_text_has_an_answer()
+    ensures { (text : List ℕ) → (end : End) × (out : List ℕ) × Answers text end out }
 {}
 
 /// Texts that are too long are all refused alike, and the bytes up to the first one too many show it: what comes after
@@ -27,6 +35,12 @@ pub fn a_long_text_is_refused_by_its_front()
 pub fn a_plan_text_is_within_the_limits()
     ensures { (text : List ℕ) (s : Declared) (a : Assignment) → declaration text ≡ Ok s → IsPlan (declared_waits s) a →
         length (text_of_plan s a) ≤ 8388608 }
+{}
+
+/// So has that of a circle.
+pub fn a_circle_text_is_within_the_limits()
+    ensures { (text : List ℕ) (s : Declared) (circle : List WaitArc) → declaration text ≡ Ok s →
+        IsWalkedCircle (group_graph (declared_waits s)) circle → length (text_of_circle s circle) ≤ 8388608 }
 {}
 
 /// Of two items the one that flushes the other is on the workqueue above it.

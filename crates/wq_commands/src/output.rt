@@ -1,8 +1,7 @@
 //! Writing a text whole, a call at a time. The time is linear in the text, and each call that another
 //! one follows takes at least one byte.
 ghost use Rattle.std.specs.Prelude.{◌≡◌, ◌+◌, ◌≤◌, length, OnOk, OnErr, IsOkUnless};
-ghost use Rattle.std.specs.Io.KnownBytes.{Appends};
-ghost use Rattle.wq_commands.specs.Meter.{count_after, WritesFront};
+ghost use Rattle.wq_commands.specs.Meter.{count_after, WritesFront, WritesWhole};
 
 use crate::fault::Fault;
 use crate::metered::Metered;
@@ -14,9 +13,7 @@ use std::io::Write;
 /// and not all of it, is written.
 pub fn write_text<W: Write>(writer: &mut Metered<W>, text: &[u8]) -> Result<(), Fault>
     // What is written.
-    ensures written { OnOk result (Appends (W.contents writer.old.device)
-        (W.contents writer.new.device) text.now) }
-    ensures counted { OnOk result (writer.new.bytes ≡ count_after writer.old.bytes (length text.now)) }
+    ensures whole { OnOk result (WritesWhole W.contents writer.old writer.new text.now) }
     ensures front { OnErr result (WritesFront W.contents writer.old writer.new text.now) }
 
     // What is asked of the writer, whatever the result.

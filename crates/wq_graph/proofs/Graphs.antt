@@ -1,21 +1,21 @@
 -- Graphs of declarations: which arcs a vertex has, and what holds of every such graph.
-use Rattle.std.proofs.Common.{◌≡◌, ◌≢◌, ℕ, zero, suc, ◌+◌, ◌<◌, ◌≤◌, ◌==◌, Bool, true, inl, inr, List, [], ◌∷◌, ◌++◌, length, map, get_or, Option, Some, refl, sym, ap, subst, ◌∙◌, arith}
-use Rattle.std.specs.Prelude.{IsPermutation, AllPairs, Contains, slice_index, slice_get, filter, ◌↔◌}
-use Rattle.std.specs.List.{All, Any, range_with_len}
+use Rattle.std.proofs.Common.{◌≡◌, ℕ, ◌<◌, ◌==◌, Bool, inl, inr, List, [], length, map, get_or, Some, refl, sym, ap, subst, ◌∙◌, arith}
+use Rattle.std.specs.Prelude.{IsPermutation, AllPairs, Contains, slice_index, filter, ◌↔◌}
+use Rattle.std.specs.List.{All, range_with_len}
 use Rattle.std.specs.List.Sorted.{IsStrictlyIncreasing}
 use Rattle.std.proofs.lemmas.Bool.{cases_lt, eqb-true, eq-eqb}
-use Rattle.std.proofs.lemmas.List.{get_or_past, get_or_default}
-use Rattle.std.proofs.lemmas.List.Elements.{All-map, All-filter, All-weaker, All-contains, Contains-get_or, filter_passes}
-use Rattle.std.proofs.lemmas.List.FromFn.{length-range_with_len, length-map-range_with_len, get_or-map-range_with_len}
-use Rattle.std.proofs.lemmas.List.Kept.{AllPairs-filter}
-use Rattle.std.proofs.lemmas.Option.{get_or_from_slice_get, slice_get-get_or, slice_get_within}
+use Rattle.std.proofs.lemmas.List.{get_or_past}
+use Rattle.std.proofs.lemmas.List.Elements.{All-map, All-filter, All-contains, filter_passes}
+use Rattle.std.proofs.lemmas.List.FromFn.{length-map-range_with_len, get_or-map-range_with_len}
+use Rattle.std.proofs.lemmas.List.Kept.{AllPairs-filter, AllPairs-from_increasing}
+use Rattle.std.proofs.lemmas.Option.{get_or_from_slice_get, slice_get-get_or}
 use Rattle.wq_items.specs.declared.target.Target.{Target}
-use Rattle.wq_items.specs.Table.{ItemWaits, TargetsBelow, targets_of, flush_count, places}
+use Rattle.wq_items.specs.Table.{flush_count, places}
 use Rattle.wq_items.proofs.Tables.{ItemWaits-below}
 use Rattle.wq_groups.specs.Declaration.{Declaration, GroupWaits, IsDeclaration}
 use Rattle.wq_graph.specs.declared.arc.WaitArc.{WaitArc}
 use Rattle.wq_graph.specs.Graph.{arc_of, arcs_by_item, arcs_by_place, arcs_from, graph_of, group_graph, arcs_at, HasArc, IsArc, AreArcsFrom, IsGraph}
-use Rattle.wq_graph.proofs.ListLemmas.{Contains-filter, IsStrictlyIncreasing-map}
+use Rattle.wq_graph.proofs.ListLemmas.{Contains-filter, IsStrictlyIncreasing-map, AllPairs-from_map, same_from_rising}
 use Rattle.wq_graph.proofs.Arcs.{IsArc-by_item, Contains-by_item, src-below, ByPlace, ByPlace-arc, ByPlace-arcs_by_place, place-below}
 
 -- ---- the arcs of a vertex
@@ -140,3 +140,16 @@ src-by_place waits vertex_of arcs n numbered is long =
     subst (All (λ (a : WaitArc). a.src < n)) (sym is) (
     λ k d within. let item = src-below waits vertex_of (get_or (arcs_by_place waits vertex_of) k d) (IsArc-by_place waits vertex_of numbered k d within) in omega (arith, item, long)
     )
+
+-- ---- no other arcs
+
+-- the arcs of a vertex rise by place
+rise-AreArcsFrom : (waits : List (List Target)) (vertex_of : List ℕ) (v : ℕ) (arcs : List WaitArc) → AreArcsFrom waits vertex_of v arcs → AllPairs (λ (a b : WaitArc). a.place < b.place) arcs
+rise-AreArcsFrom waits vertex_of v arcs h =
+    AllPairs-from_map (λ (m n : ℕ). m < n) (λ (a : WaitArc). a.place) arcs (AllPairs-from_increasing (map (λ (a : WaitArc). a.place) arcs) h.in_order)
+
+pub same_from_AreArcsFrom : (waits : List (List Target)) (vertex_of : List ℕ) (v : ℕ) (arcs others : List WaitArc) → AreArcsFrom waits vertex_of v arcs → AreArcsFrom waits vertex_of v others → arcs ≡ others
+same_from_AreArcsFrom waits vertex_of v arcs others h k =
+    same_from_rising (λ (a : WaitArc). a.place) arcs others (rise-AreArcsFrom waits vertex_of v arcs h) (rise-AreArcsFrom waits vertex_of v others k)
+    (λ i d within. let one = h.declared i d within in k.all (get_or arcs i d) one.0 one.1)
+    (λ i d within. let one = k.declared i d within in h.all (get_or others i d) one.0 one.1)

@@ -7,7 +7,7 @@ use Rattle.std.proofs.lemmas.Bool.{cases_Bool, cases_eq, both_ways, cond-true, c
 use Rattle.std.proofs.lemmas.Bool.Decides.{nat_tests}
 use Rattle.std.proofs.lemmas.List.{length-map, length-set, map-append, get_or-map, get_or-set_same, get_or-set_other, get_or_default}
 use Rattle.std.proofs.lemmas.List.Edits.{swap_is, length-swap}
-use Rattle.std.proofs.lemmas.List.Elements.{All-nil, All-append, All-head, All-tail, Contains-append_left, Contains-append_right}
+use Rattle.std.proofs.lemmas.List.Elements.{All-nil, All-append, All-contains, Contains-append_left, Contains-append_right}
 use Rattle.std.proofs.lemmas.List.FromFn.{fill_by_all, get_or-range_with_len, length-range_with_len}
 use Rattle.std.proofs.lemmas.List.Sorted.{IsPermutation-keeps}
 
@@ -199,3 +199,34 @@ pub range_with_len-below : (n : ℕ) → All (λ p. p < n) (range_with_len 0 n)
 range_with_len-below n k d within =
     let fits : k < n = omega (arith, within, length-range_with_len 0 n) in
     omega (arith, get_or-range_with_len 0 n k d fits)
+
+-- ---- lists that rise
+
+-- a list whose keys rise is one with the same elements whose keys rise too
+pub same_from_rising : {X : Type 0} (n : X → ℕ) (xs ys : List X) → AllPairs (λ a b. n a < n b) xs → AllPairs (λ a b. n a < n b) ys → All (Contains ys) xs → All (Contains xs) ys → xs ≡ ys
+same_from_rising n [] [] rise_x rise_y x_in_y y_in_x = refl
+same_from_rising n [] (y ∷ ys) rise_x rise_y x_in_y y_in_x = absurd (omega (arith, (y_in_x 0 y (omega arith)).1))
+same_from_rising n (x ∷ xs) [] rise_x rise_y x_in_y y_in_x = absurd (omega (arith, (x_in_y 0 x (omega arith)).1))
+same_from_rising {X} n (x ∷ xs) (y ∷ ys) rise_x rise_y x_in_y y_in_x =
+    let R : X → X → Type 0 = λ a b. n a < n b in
+    let above_x = AllPairs-head R x xs rise_x in
+    let above_y = AllPairs-head R y ys rise_y in
+    let first : x ≡ y = elim (Contains-cases y ys x (x_in_y 0 x (omega arith))) [
+      | inl same ↦ sym same
+      | inr later ↦ elim (Contains-cases x xs y (y_in_x 0 y (omega arith))) [
+        | inl same ↦ same
+        | inr also ↦ absurd (omega (arith, All-contains (R y) ys x above_y later, All-contains (R x) xs y above_x also))
+      ]
+    ] in
+    let level : n x ≡ n y = ap n first in
+    ap (λ a. a ∷ xs) first ∙ ap (λ l. y ∷ l) (
+    same_from_rising n xs ys (AllPairs-tail R x xs rise_x) (AllPairs-tail R y ys rise_y)
+    (λ k d within. elim (Contains-cases y ys (get_or xs k d) (x_in_y (suc k) d (omega arith))) [
+      | inl same ↦ absurd (omega (arith, ap n same, level, above_x k d within))
+      | inr later ↦ later
+    ])
+    (λ k d within. elim (Contains-cases x xs (get_or ys k d) (y_in_x (suc k) d (omega arith))) [
+      | inl same ↦ absurd (omega (arith, ap n same, level, above_y k d within))
+      | inr later ↦ later
+    ])
+    )

@@ -3,8 +3,8 @@
 //! The vertices are the groups of the items, so an arc leaves a group whichever of its items declares the flush. Making a
 //! graph takes time and memory in the items, the groups and the flushes; each other call takes constant time.
 
-ghost use Rattle.std.specs.Prelude.{◌≡◌, ◌<◌, ◌≤◌, length, IfOk};
-ghost use Rattle.wq_groups.specs.Declaration.{IsDeclaration, declaration_of};
+ghost use Rattle.std.specs.Prelude.{◌≡◌, ◌<◌, length, IfOk};
+ghost use Rattle.wq_groups.specs.Declaration.{declaration_of};
 ghost use Rattle.wq_graph.specs.Graph.{IsGraph, arcs_at, group_graph};
 
 use crate::arc::WaitArc;

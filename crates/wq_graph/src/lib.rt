@@ -8,6 +8,7 @@
 mod arc;
 mod building;
 mod graph;
+pub mod laws;
 
 pub use arc::WaitArc;
 pub use graph::WaitGraph;

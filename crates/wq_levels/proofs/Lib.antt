@@ -1,0 +1,11 @@
+pub mod Capped
+pub mod Graphs
+pub mod MidRound
+pub mod Ranks
+pub mod Endless
+pub mod First
+pub mod WaysOn
+pub mod Walks
+pub mod UnderWay
+pub mod OneCircle
+pub mod Existence

@@ -1,5 +1,5 @@
 -- Walks along arcs of a wait graph, and the circle that is answered where there is one.
-use Rattle.std.specs.Prelude.{◌≡◌, ◌≢◌, ℕ, ◌+◌, ◌<◌, ◌≤◌, List, [], ◌∷◌, ◌++◌, length, Contains, AllPairs}
+use Rattle.std.specs.Prelude.{◌≡◌, ◌≢◌, ◌↔◌, ℕ, ◌+◌, ◌-◌, ◌<◌, ◌≤◌, List, [], ◌∷◌, ◌++◌, length, slice_index, slice_index_or, SomeIndex, Contains, AllPairs}
 use Rattle.std.specs.List.{All}
 use Rattle.wq_items.specs.Chain.{BeginsChain}
 use Rattle.wq_graph.specs.declared.arc.WaitArc.{WaitArc}
@@ -9,6 +9,12 @@ use Rattle.wq_graph.specs.Graph.{HasArc, arcs_at}
 -- what remains would leave v
 abbrev pub Remains : List (List WaitArc) → ℕ → Type 0
 Remains graph v = (v < length graph) × BeginsChain (HasArc graph) v (length graph + 1)
+
+-- ranks that are as high as there are vertices at the vertices that remain and at no other, and some vertex remains
+pub record MarkRemaining (graph : List (List WaitArc)) (ranks : List ℕ) : Type 0 where
+  pub one_each : length ranks ≡ length graph
+  pub marked : (v : ℕ) → v < length graph → (slice_index ranks v ≡ length graph) ↔ Remains graph v
+  pub some : SomeIndex ranks (λ v. slice_index ranks v ≡ length graph)
 
 -- v remains, and no lower-numbered vertex does
 pub record IsLeastRemaining (graph : List (List WaitArc)) (v : ℕ) : Type 0 where
@@ -42,3 +48,14 @@ pub record IsWalkedCircle (graph : List (List WaitArc)) (circle : List WaitArc) 
   pub comes_back : IsWalk graph turn circle turn
   pub some : circle ≢ []
   pub once : AllPairs (λ (v w : ℕ). v ≢ w) (vertices_left start (lead_in ++ circle))
+
+-- arcs of the graph, one at least, that lead round: `left` has of each the vertex that it leaves; it leads to the vertex
+-- that the next one leaves, and the last leads to the vertex that the first leaves; no vertex is left twice
+pub record LeadsRound (graph : List (List WaitArc)) (circle : List WaitArc) : Type 0 where
+  pub some : circle ≢ []
+  pub left : List ℕ
+  pub one_each : length left ≡ length circle
+  pub leaves : (k : ℕ) (d : WaitArc) → k < length circle → Contains (arcs_at graph (slice_index left k)) (slice_index_or circle k d)
+  pub joined : (k : ℕ) (d : WaitArc) → k + 1 < length circle → (slice_index_or circle k d).head ≡ slice_index left (k + 1)
+  pub closes : (d : WaitArc) → (slice_index_or circle (length circle - 1) d).head ≡ slice_index left 0
+  pub once : AllPairs (λ (v w : ℕ). v ≢ w) left

@@ -5,8 +5,11 @@
 //! depend on one another stand on separate workqueues, so a chain of n vertices needs n.
 #![tactic(auto)]
 
+pub mod laws;
 mod ranked;
 mod ranking;
+mod rounds;
+mod walk;
 
 pub use ranked::Ranked;
 pub use ranking::rank;

@@ -1,9 +1,14 @@
 //! The rank of each vertex, or the circle that leaves some without one.
+//!
+//! The rounds find the ranks, or else which vertices remain, and the walk then finds the circle. Most of the running time is
+//! that of the rounds: at most the vertices times the vertices and arcs.
 
 ghost use Rattle.std.specs.Prelude.{IfOk};
 ghost use Rattle.wq_levels.specs.Ranked.{IsRanking};
 
 use crate::ranked::Ranked;
+use crate::rounds::settle;
+use crate::walk::walk_circle;
 use std::alloc::{AllocError, Allocator};
 use wq_graph::WaitGraph;
 
@@ -11,5 +16,9 @@ use wq_graph::WaitGraph;
 pub fn rank<A: Allocator + Copy>(alloc: A, graph: &WaitGraph<A>) -> Result<Ranked<A>, AllocError>
     ensures { IfOk result (IsRanking graph.now) }
 {
-    Err(AllocError)
+    let mut ranks = vec![in alloc; 0; usize::from(graph.vertices())]?;
+    if settle(graph, ranks.as_mut_slice()) {
+        return Ok(Ranked::Ranks(ranks));
+    }
+    Ok(Ranked::Circle(walk_circle(alloc, graph, &ranks)?))
 }

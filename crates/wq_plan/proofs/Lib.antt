@@ -1,0 +1,11 @@
+pub mod Lanes
+pub mod Arcs
+pub mod Relations
+pub mod Ranked
+pub mod Plans
+pub mod Places
+pub mod Paths
+pub mod GroupCircles
+pub mod LongestChain
+pub mod UniqueChain
+pub mod Existence

@@ -7,6 +7,8 @@
 #![tactic(auto)]
 
 mod answer;
+pub mod laws;
+mod longest;
 mod solving;
 
 pub use answer::Answer;

@@ -1,13 +1,36 @@
 //! One workqueue for each length of waiting chain.
+//!
+//! The lane of a group is its rank in the wait graph of the groups, so a group waits only for groups on lower lanes.
+//! Where the groups wait in a circle none of it has a rank, and the circle is answered in place of a plan. The time is
+//! that of the graph and of the ranks.
 
-ghost use Rattle.std.specs.Prelude.{◌≡◌, length, IfOk};
+ghost use Rattle.std.specs.Prelude.{◌≡◌, ◌<◌, ◌≤◌, length, IfOk};
+ghost use Rattle.std.specs.List.{All};
 ghost use Rattle.wq_groups.specs.Declaration.{declaration_of};
 ghost use Rattle.wq_plan.specs.Solve.{Solves};
 
 use crate::answer::Answer;
+use crate::longest::{lanes_used, longest_chain};
 use std::alloc::{AllocError, Allocator};
-use wq_groups::Groups;
+use wq_graph::WaitGraph;
+use wq_groups::{Assignment, Groups, LaneId};
 use wq_items::ItemTable;
+use wq_levels::{Ranked, rank};
+
+/// The assignment with so many lanes in which the groups have these, in their order.
+fn assign<A: Allocator + Copy>(
+    alloc: A,
+    lane: &[u16],
+    lanes: u16,
+) -> Result<Assignment<A>, AllocError>
+    requires few { lanes ≤ 4096 }
+    requires within { All (λ l. l < lanes) lane.now }
+    ensures lanes { IfOk result (λ a. a.lanes ≡ lanes) }
+    ensures of_groups { IfOk result (λ a. a.lane_of_group ≡ lane.now) }
+{
+    let ids = lane.iter().map(|l| LaneId::new(*l)).collect(alloc)?;
+    Ok(Assignment::new(lanes, ids).unwrap())
+}
 
 /// The plan of the groups of a table's items, or the circle in which they wait. The groups are those of this table.
 pub fn solve<A: Allocator + Copy>(
@@ -18,5 +41,15 @@ pub fn solve<A: Allocator + Copy>(
     requires { length groups.now.group_of ≡ length table.now.names }
     ensures { IfOk result (Solves (declaration_of table.now groups.now)) }
 {
-    Err(AllocError)
+    // Each group has a member.
+    prove!(groups.len() <= table.len());
+    let graph = WaitGraph::of_groups(alloc, table, groups)?;
+    let lane = match rank(alloc, &graph)? {
+        Ranked::Ranks(lane) => lane,
+        Ranked::Circle(arcs) => return Ok(Answer::Circle { arcs }),
+    };
+    let lanes = lanes_used(&lane);
+    let chain = longest_chain(alloc, &graph, &lane, lanes)?;
+    let assignment = assign(alloc, &lane, lanes)?;
+    Ok(Answer::Plan { assignment, chain })
 }

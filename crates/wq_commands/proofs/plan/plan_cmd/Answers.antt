@@ -27,6 +27,4 @@ returns-clause-answered g c =
     AnswersInput-read g.R.Read.remaining c.args.reader.now c.read_text.new.reader text.items c.in_ok-end.end c.in_ok-end.answer.items
     read.text (omega arith) read.rest (omega arith) (omega arith)
     (subst (λ (bytes : List ℕ). Answers bytes c.in_ok-end.end c.in_ok-end.answer.items) c.deref.ensures.value c.in_ok-end.ensures) in
-    let one = c.in_ok-write_text.ensures in
-    let written : WritesWhole g.W.Write.contents c.args.writer.now c.write_text.new.writer c.deref-2.result.now = record { appended = one.written; counted = one.counted; few_calls = one.calls } in
-    (c.in_ok-end.answer.items, answered, subst (λ (bytes : List ℕ). WritesWhole g.W.Write.contents c.args.writer.now c.write_text.new.writer bytes) c.deref-2.ensures.value written)
+    (c.in_ok-end.answer.items, answered, subst (λ (bytes : List ℕ). WritesWhole g.W.Write.contents c.args.writer.now c.write_text.new.writer bytes) c.deref-2.ensures.value c.in_ok-write_text.ensures.whole)

@@ -1,9 +1,9 @@
-use Rattle.std.proofs.Common.{◌≡◌, List, map, sym, ap, subst, ◌∙◌}
+use Rattle.std.proofs.Common.{List, map, sym, ap, subst, ◌∙◌}
 use Rattle.std.specs.List.{range_with_len}
 use Rattle.wq_groups.specs.Declaration.{declaration_of}
 use Rattle.wq_groups.proofs.Declarations.{IsDeclaration-of}
 use Rattle.wq_graph.specs.declared.arc.WaitArc.{WaitArc}
-use Rattle.wq_graph.specs.Graph.{IsGraph, group_graph}
+use Rattle.wq_graph.specs.Graph.{IsGraph}
 use Rattle.wq_graph.specs.Building.{arcs_leaving}
 use Rattle.wq_graph.proofs.Graphs.{IsGraph-group_graph, src-by_place}
 use Rattle.wq_graph.proofs.graph.WaitGraph.of_groups.Goals as goal

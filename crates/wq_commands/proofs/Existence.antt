@@ -1,0 +1,38 @@
+-- A text has an answer.
+use Rattle.std.proofs.Common.{◌≡◌, ℕ, List, Result, Ok, Err, refl, inl, inr, ◌⊎◌}
+use Rattle.std.specs.Prelude.{MatchResult}
+use Rattle.wq_text.specs.Refusal.{Refusal}
+use Rattle.wq_plan.specs.Plan.{IsPlan, lanes_of}
+use Rattle.wq_plan.proofs.Plans.{IsPlan-from_ranks}
+use Rattle.wq_graph.proofs.Graphs.{IsGraph-group_graph}
+use Rattle.wq_levels.proofs.Existence.{AreRanks-or_walk}
+use Rattle.wq_groups.specs.Declaration.{Declaration, IsDeclaration}
+use Rattle.wq_groups.specs.Assignment.{Assignment}
+use Rattle.wq_graph.specs.declared.arc.WaitArc.{WaitArc}
+use Rattle.wq_graph.specs.Graph.{group_graph}
+use Rattle.wq_levels.specs.Walks.{IsWalkedCircle}
+use Rattle.wq_commands.specs.declared.end.End.{End}
+use Rattle.wq_commands.specs.declared.end.End.TheVariants.{Good, Bad, Refused}
+use Rattle.wq_commands.specs.Answer.{Answers, AnswersDeclared, refusal_text, declared_waits, text_of_plan, text_of_circle}
+use Rattle.wq_commands.specs.Declaration.{Declared, declaration}
+use Rattle.wq_commands.proofs.AnswerLemmas.{IsSound, IsSound-declaration, IsDeclaration-sound}
+
+IsPlan-or_walked_circle : (d : Declaration) → IsDeclaration d → ((a : Assignment) × IsPlan d a) ⊎ ((circle : List WaitArc) × IsWalkedCircle (group_graph d) circle)
+IsPlan-or_walked_circle d is = elim (AreRanks-or_walk (group_graph d) (IsGraph-group_graph d is)) [
+  | inl ranks ↦ let a : Assignment = record { lanes = lanes_of ranks.0; lane_of_group = ranks.0 } in inl (a, IsPlan-from_ranks d is a ranks.1 refl)
+  | inr walk ↦ inr walk
+]
+
+AnswersDeclared-exist : (s : Declared) → IsSound s → (end : End) × (out : List ℕ) × AnswersDeclared s end out
+AnswersDeclared-exist s sound = elim (IsPlan-or_walked_circle (declared_waits s) (IsDeclaration-sound s sound)) [
+  | inl plan ↦ (Good, text_of_plan s plan.0, (plan.0, plan.1, refl))
+  | inr circle ↦ (Bad, text_of_circle s circle.0, (circle.0, circle.1, refl))
+]
+
+answers_exist : (declared : Result Declared Refusal) → ((s : Declared) → declared ≡ Ok s → IsSound s)
+    → (end : End) × (out : List ℕ) × MatchResult declared (λ s. AnswersDeclared s end out) (λ r. (end ≡ Refused) × (out ≡ refusal_text r))
+answers_exist (Ok s) sound = AnswersDeclared-exist s (sound s refl)
+answers_exist (Err r) sound = (Refused, refusal_text r, (refl, refl))
+
+pub Answers-exist : (text : List ℕ) → (end : End) × (out : List ℕ) × Answers text end out
+Answers-exist text = answers_exist (declaration text) (IsSound-declaration text)

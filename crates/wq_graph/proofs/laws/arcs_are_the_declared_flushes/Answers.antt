@@ -1,0 +1,8 @@
+use Rattle.wq_graph.proofs.Graphs.{AreArcsFrom-arcs_from, AreArcsFrom-group_graph}
+use Rattle.wq_graph.proofs.laws.arcs_are_the_declared_flushes.Goals as goal
+
+pub returns-clause-from : goal.returns-clause-from
+returns-clause-from c d vertex_of v h = AreArcsFrom-arcs_from d.waits vertex_of h.places_are_numbered v
+
+pub returns-clause-graph : goal.returns-clause-graph
+returns-clause-graph c d g h = AreArcsFrom-group_graph d h g

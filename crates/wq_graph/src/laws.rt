@@ -1,0 +1,35 @@
+//! Laws of wait graphs, as contracts of functions with empty bodies.
+//!
+//! `Graph` makes the arcs of a vertex from a list of all arcs. Here is what that comes to, said of the declared flushes.
+
+ghost use Rattle.std.specs.Prelude.{◌≡◌, ◌↔◌, ℕ, List};
+ghost use Rattle.wq_items.specs.declared.target.Target.{Target};
+ghost use Rattle.wq_groups.specs.Declaration.{Declaration, IsDeclaration, GroupWaits};
+ghost use Rattle.wq_graph.specs.declared.arc.WaitArc.{WaitArc};
+ghost use Rattle.wq_graph.specs.Graph.{arcs_from, arcs_at, group_graph, AreArcsFrom, HasArc, IsGraph};
+
+/// The arcs that leave a vertex are the declared flushes that do, one for each, in order of place: whatever the vertices
+/// of the items are, and so in the graph of the groups.
+pub fn arcs_are_the_declared_flushes()
+    ensures from { (d : Declaration) (vertex_of : List ℕ) (v : ℕ) →
+        IsDeclaration d → AreArcsFrom d.waits vertex_of v (arcs_from d.waits vertex_of v) }
+    ensures graph { (d : Declaration) (g : ℕ) →
+        IsDeclaration d → AreArcsFrom d.waits d.group_of g (arcs_at (group_graph d) g) }
+{}
+
+/// No other list has the arcs of the flushes that leave a vertex in order of place.
+pub fn arcs_are_the_only_ones()
+    ensures { (waits : List (List Target)) (vertex_of : List ℕ) (v : ℕ) (arcs others : List WaitArc) →
+        AreArcsFrom waits vertex_of v arcs → AreArcsFrom waits vertex_of v others → arcs ≡ others }
+{}
+
+/// A group waits for a group exactly where an arc leaves the one for the other.
+pub fn groups_wait_along_arcs()
+    ensures { (d : Declaration) (g h : ℕ) →
+        IsDeclaration d → (GroupWaits d g h ↔ HasArc (group_graph d) g h) }
+{}
+
+/// What holds of every wait graph holds of the graph of the groups of a declaration.
+pub fn graphs_are_sound()
+    ensures { (d : Declaration) → IsDeclaration d → IsGraph (group_graph d) }
+{}
