@@ -1,10 +1,10 @@
 -- What a text declares is a declaration, and its plan or its circle has a text.
-use Rattle.std.proofs.Common.{◌≡◌, ℕ, ◌+◌, ◌-◌, ◌<◌, ◌≤◌, ◌^◌, List, [], ◌∷◌, length, map, Option, Some, None, Result, Ok, Err, refl, sym, ap, subst, ◌∙◌, arith, inl, inr}
+use Rattle.std.proofs.Common.{◌≡◌, ℕ, ◌+◌, ◌<◌, ◌≤◌, ◌^◌, List, length, map, Option, Some, None, Result, Ok, Err, refl, sym, ap, subst, ◌∙◌, arith, inl, inr}
 use Rattle.std.proofs.lemmas.Bool.{cases_lt, lt-ltb}
 use Rattle.std.proofs.lemmas.List.{length-take, take_all, length-map}
 use Rattle.std.proofs.lemmas.List.Elements.{All-map, All-weaker}
 use Rattle.std.specs.Io.KnownBytes.{Consumes}
-use Rattle.std.specs.List.{All, Any}
+use Rattle.std.specs.List.{All}
 use Rattle.std.specs.Prelude.{IfSome, MatchResult, take}
 use Rattle.wq_text.specs.declared.text.TextError.{TextError}
 use Rattle.wq_text.specs.Lines.{lines_of}
@@ -14,16 +14,15 @@ use Rattle.wq_decl.specs.declared.directive.Directive.{Directive}
 use Rattle.wq_decl.specs.declared.fault.DeclError.{DeclError}
 use Rattle.wq_decl.specs.Reading.{directives, first_fault}
 use Rattle.wq_decl.proofs.NameLemmas.{HasNames-directives}
-use Rattle.wq_items.specs.declared.target.Target.{Target}
 use Rattle.wq_items.specs.declared.fault.ItemError.{ItemError}
-use Rattle.wq_items.specs.Table.{Table, IsTable, ItemWaits, targets_of}
+use Rattle.wq_items.specs.Table.{Table, IsTable, ItemWaits}
 use Rattle.wq_items.specs.Building.{table_of}
 use Rattle.wq_items.proofs.BuildingLemmas.{IsTable-table_of}
 use Rattle.wq_items.proofs.Tables.{ItemWaits-below}
 use Rattle.wq_groups.specs.declared.fault.GroupError.{GroupError}
 use Rattle.wq_groups.specs.Partition.{Partition, IsPartition}
 use Rattle.wq_groups.specs.Grouping.{groups_of}
-use Rattle.wq_groups.specs.Declaration.{Declaration, IsDeclaration}
+use Rattle.wq_groups.specs.Declaration.{IsDeclaration}
 use Rattle.wq_groups.specs.Assignment.{Assignment}
 use Rattle.wq_groups.proofs.Partitions.{IsPartition-groups_of, length-groups_of}
 use Rattle.wq_groups.proofs.Declarations.{IsDeclaration-of}
@@ -31,9 +30,7 @@ use Rattle.wq_graph.specs.declared.arc.WaitArc.{WaitArc}
 use Rattle.wq_graph.specs.Graph.{IsArc, group_graph}
 use Rattle.wq_graph.proofs.Arcs.{src-below}
 use Rattle.wq_levels.specs.Walks.{IsWalkedCircle}
-use Rattle.wq_plan.specs.Plan.{IsPlan, chain_of}
-use Rattle.wq_plan.specs.LongestChain.{IsStepDown, IsLongestChain}
-use Rattle.wq_plan.specs.CircleOfGroups.{IsCircleOfGroups}
+use Rattle.wq_plan.specs.LongestChain.{IsLongestChain}
 use Rattle.wq_plan.specs.Solve.{IsPlanned, IsCircled}
 use Rattle.wq_plan.proofs.LongestChain.{chain_of-longest}
 use Rattle.wq_plan.proofs.GroupCircles.{IsCircleOfGroups-walked}
@@ -44,7 +41,7 @@ use Rattle.wq_commands.specs.declared.end.End.{End}
 use Rattle.wq_commands.specs.declared.end.End.TheVariants.{Good, Bad, Refused}
 use Rattle.wq_commands.specs.PlanText.{plan_text, item_lanes, ends_of}
 use Rattle.wq_commands.specs.CircleText.{circle_text}
-use Rattle.wq_commands.specs.Answer.{Answers, AnswersDeclared, refusal_text, declared_waits, text_of_plan, text_of_circle}
+use Rattle.wq_commands.specs.Answer.{Answers, AnswersDeclared, refusal_text, declared_waits, text_of_plan}
 use Rattle.wq_commands.specs.Meter.{Meter, count_after}
 use Rattle.wq_commands.specs.Run.{IsInput, AnswersInput}
 use Rattle.wq_commands.specs.Declaration.{Declared, max_text, max_line, by_limits, by_directives, by_table, by_groups, declaration}

@@ -1,19 +1,18 @@
 -- Answers, computed.
-use Rattle.std.proofs.Common.{◌≡◌, ◌≢◌, ℕ, zero, suc, ◌+◌, ◌<◌, ◌≤◌, List, [], ◌∷◌, length, slice_index, codes, decimal, refl, sym, subst, ◌∙◌, ap, arith, Some}
+use Rattle.std.proofs.Common.{◌≡◌, ℕ, zero, suc, ◌<◌, ◌≤◌, List, [], ◌∷◌, codes, refl, sym, subst, ◌∙◌, ap, arith, Some}
 use Rattle.std.specs.Prelude.{slice_get, map}
-use Rattle.std.specs.List.{All, AllPairs}
 use Rattle.std.proofs.lemmas.Fmt.{decimal_digit, decimal-digits_of}
 use Rattle.std.proofs.lemmas.List.Elements.{All-from_recursion}
 use Rattle.wq_items.specs.declared.target.Target.{Target}
 use Rattle.wq_items.specs.Table.{ItemWaits}
-use Rattle.wq_items.specs.Chain.{IsChain, BeginsChain, IsRank}
+use Rattle.wq_items.specs.Chain.{BeginsChain, IsRank}
 use Rattle.wq_items.proofs.Chains.{BeginsChain-one, BeginsChain-more, BeginsChain-next}
 use Rattle.wq_groups.specs.Declaration.{Declaration, GroupWaits}
 use Rattle.wq_groups.specs.Assignment.{Assignment, lane_of}
 use Rattle.wq_graph.specs.declared.arc.WaitArc.{WaitArc}
 use Rattle.wq_graph.specs.Graph.{HasArc, group_graph}
 use Rattle.wq_levels.specs.Walks.{Remains, IsWalkedCircle}
-use Rattle.wq_plan.specs.Plan.{IsPlan, lanes_of, chain_of}
+use Rattle.wq_plan.specs.Plan.{chain_of}
 use Rattle.wq_commands.specs.declared.end.End.TheVariants.{Good, Bad, Refused}
 use Rattle.wq_commands.specs.PlanText.{plan_text, item_lanes, ends_of}
 use Rattle.wq_commands.specs.CircleText.{circle_text}
@@ -54,11 +53,14 @@ module _ (arc : WaitArc) (own : arc.head ≡ 0) where
     lead_in = [];
     turn = 0;
     leads_in = refl;
-    comes_back = (record {
-      leaves = (0, omega arith, refl);
-      remains = subst (Remains graph) (sym own) remains;
-      least = All-from_recursion (λ (b : WaitArc). Remains graph b.head → arc.place ≤ b.place) (arc ∷ []) ((λ _. omega arith), tt);
-    }, own);
+    comes_back = (
+      record {
+        leaves = (0, omega arith, refl);
+        remains = subst (Remains graph) (sym own) remains;
+        least = All-from_recursion (λ (b : WaitArc). Remains graph b.head → arc.place ≤ b.place) (arc ∷ []) ((λ _. omega arith), tt);
+      },
+      own,
+    );
     some = λ e. absurd cc;
     once = λ i j d apart within. absurd (omega (arith, apart, within));
   }

@@ -1,6 +1,6 @@
 -- Lines of a plan text, as they grow word by word.
-use Rattle.std.proofs.Common.{◌≡◌, ◌≢◌, ℕ, suc, ◌+◌, ◌<◌, Bool, true, false, cond, eqb, List, [], ◌∷◌, ◌++◌, length, map, refl, sym, ap, subst, ◌∙◌, arith, append_assoc, append-nil, Result, Ok, Err}
-use Rattle.std.specs.Prelude.{codes, decimal, filter, flat_map, slice_index, slice_get, Some, ◌==◌, OnOk}
+use Rattle.std.proofs.Common.{◌≡◌, ◌≢◌, ℕ, ◌+◌, Bool, true, false, cond, List, [], ◌∷◌, ◌++◌, length, map, sym, ap, ◌∙◌, arith, append_assoc, append-nil}
+use Rattle.std.specs.Prelude.{codes, decimal, filter, flat_map, slice_index, ◌==◌}
 use Rattle.std.specs.List.{range_with_len}
 use Rattle.std.proofs.lemmas.Bool.{eq-eqb, ne_eqb}
 use Rattle.std.proofs.lemmas.List.{map-append}
@@ -8,7 +8,7 @@ use Rattle.std.proofs.lemmas.List.Elements.{filter-append}
 use Rattle.std.proofs.lemmas.Grind.{flat_map-append}
 use Rattle.wq_items.proofs.TableLemmas.{range_with_len-append}
 use Rattle.wq_commands.specs.LineText.{spaced, line_text}
-use Rattle.wq_commands.specs.PlanText.{name_of, items_on, wq_line, arc_line}
+use Rattle.wq_commands.specs.PlanText.{name_of, items_on, wq_line}
 
 -- the numbers below n + 1 are those below n, and n
 pub range_with_len-more : (n : ℕ) → range_with_len 0 (n + 1) ≡ range_with_len 0 n ++ (n ∷ [])

@@ -2,7 +2,7 @@
 use Rattle.std.specs.Prelude.{ℕ, List, Option, Some, None, Result, Ok, Err}
 use Rattle.wq_decl.specs.declared.directive.Directive.{Directive}
 use Rattle.wq_text.specs.declared.text.TextError.{TextError}
-use Rattle.wq_text.specs.Lines.{LineView, lines_of}
+use Rattle.wq_text.specs.Lines.{lines_of}
 use Rattle.wq_text.specs.Limits.{limit_fault, text_refusal}
 use Rattle.wq_text.specs.Refusal.{Refusal}
 use Rattle.wq_decl.specs.declared.fault.DeclError.{DeclError}

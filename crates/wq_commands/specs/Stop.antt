@@ -1,5 +1,5 @@
 -- What a call answers in place of a declaration.
-use Rattle.std.specs.Prelude.{◌≡◌, ℕ, Result, Ok, Err}
+use Rattle.std.specs.Prelude.{◌≡◌, Result, Err}
 use Rattle.wq_text.specs.Refusal.{Refusal}
 use Rattle.wq_items.specs.declared.fault.ItemError.{ItemError}
 use Rattle.wq_items.specs.declared.fault.ItemError.TheVariants as items

@@ -18,8 +18,8 @@ use crate::output::write_text;
 use std::alloc::Allocator;
 use std::io::{Read, Write};
 
-/// Reads a declaration to its end and writes its answer: the text of its plan, `circle` where its items wait in a
-/// circle, or its refusal.
+/// Reads a declaration to its end and writes its answer: the text of its plan, that of the circle in which its groups
+/// wait, or its refusal.
 ///
 /// At most 1,048,577 bytes are read, in at most as many calls. The errors are `Fault::Read`, where a read failed,
 /// `Fault::Memory`, and `Fault::Write`, where a write failed or took no byte; after the last one a front of the answer

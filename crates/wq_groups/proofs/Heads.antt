@@ -1,28 +1,20 @@
 -- Heads: items that are the first of their group, counted, where each item has a head F i that stands no later.
-use Rattle.std.proofs.Common.{◌≡◌, ◌≢◌, ℕ, zero, suc, ◌+◌, ◌<◌, ◌≤◌, inl, inr, Bool, true, false, cond, eqb, ltb, List, [], ◌∷◌, ◌++◌, length, map, get_or, take, append-nil, refl, sym, ap, subst, ◌∙◌, arith}
+use Rattle.std.proofs.Common.{◌≡◌, ◌≢◌, ℕ, zero, suc, ◌+◌, ◌<◌, ◌≤◌, inl, inr, Bool, true, false, cond, eqb, ltb, List, [], ◌∷◌, ◌++◌, length, map, get_or, take, append-nil, refl, sym, ap, ap₂, subst, ◌∙◌, arith}
 use Rattle.std.specs.Prelude.{Contains}
 use Rattle.std.specs.List.{All, count_by, filter, range_with_len}
 use Rattle.std.proofs.lemmas.Bool.{cases_eq, cases_lt, cases_order, cond-true, cond-false, cond_both, eqb-true, eqb-false, eq-eqb, ne_eqb, lt-ltb, le-ltb}
 use Rattle.std.proofs.lemmas.List.{length-append, length-map, length-take-le, get_or-take}
-use Rattle.std.proofs.lemmas.List.FromFn.{length-range_with_len, length-map-range_with_len, get_or-map-range_with_len}
+use Rattle.std.proofs.lemmas.List.FromFn.{length-range_with_len, length-map-range_with_len, fill_by_all, get_or-map-range_with_len}
 use Rattle.std.proofs.lemmas.List.Elements.{filter-append}
 use Rattle.std.proofs.lemmas.List.Sums.{length-filter}
 use Rattle.wq_items.proofs.TableLemmas.{range_with_len-append}
 use Rattle.wq_groups.specs.Partition.{Partition, IsPartition}
+use Rattle.wq_groups.specs.Numbering.{AreHeads, heads_below, head_number, headed}
 
--- of the items below n: none stands before its head, and a head is its own
-pub record AreHeads (n : ℕ) (F : ℕ → ℕ) : Type 0 where
-  pub no_later : (i : ℕ) → i < n → F i ≤ i
-  pub own : (i : ℕ) → i < n → F (F i) ≡ F i
-
--- how many heads stand below m
-abbrev pub heads_below : (ℕ → ℕ) → ℕ → ℕ
-heads_below F zero = 0
-heads_below F (suc m) = heads_below F m + cond (eqb (F m) m) 1 0
-
--- the number of item i's group
-abbrev pub head_number : (ℕ → ℕ) → ℕ → ℕ
-head_number F i = heads_below F (F i)
+pub range_with_len-push : (n : ℕ) → range_with_len 0 (n + 1) ≡ range_with_len 0 n ++ (n ∷ [])
+range_with_len-push n =
+    let end : 0 + n ≡ n = omega arith in
+    range_with_len-append 0 n 1 ∙ ap (λ k. range_with_len 0 n ++ range_with_len k 1) end
 
 module _ (F : ℕ → ℕ) where
   pub heads_below-head : (m : ℕ) → F m ≡ m → heads_below F (suc m) ≡ heads_below F m + 1
@@ -66,10 +58,7 @@ module _ (F : ℕ → ℕ) where
   -- ---- the heads as a list
 
   range_more : (n : ℕ) → range_with_len 0 (suc n) ≡ range_with_len 0 n ++ (n ∷ [])
-  range_more n =
-      let long : suc n ≡ n + 1 = omega arith in
-      let end : 0 + n ≡ n = omega arith in
-      ap (range_with_len 0) long ∙ range_with_len-append 0 n 1 ∙ ap (λ k. range_with_len 0 n ++ range_with_len k 1) end
+  range_more n = let long : suc n ≡ n + 1 = omega arith in ap (range_with_len 0) long ∙ range_with_len-push n
 
   heads_more : (n : ℕ) → filter (λ i. eqb (F i) i) (range_with_len 0 (suc n)) ≡ filter (λ i. eqb (F i) i) (range_with_len 0 n) ++ cond (eqb (F n) n) (n ∷ []) []
   heads_more n = ap (filter (λ i. eqb (F i) i)) (range_more n) ∙ filter-append (λ i. eqb (F i) i) (range_with_len 0 n) (n ∷ [])
@@ -115,9 +104,18 @@ module _ (F : ℕ → ℕ) where
 
 -- ---- the groups that heads make
 
--- the groups of the items below n
-abbrev pub headed : ℕ → (ℕ → ℕ) → Partition
-headed n F = record { group_of = map (head_number F) (range_with_len 0 n); groups = heads_below F n }
+module _ (F G : ℕ → ℕ) where
+  heads_below-agree : (n m : ℕ) → ((i : ℕ) → i < n → F i ≡ G i) → m ≤ n → heads_below F m ≡ heads_below G m
+  heads_below-agree n zero agree le = refl
+  heads_below-agree n (suc m) agree le = ap₂ (λ (a k : ℕ). a + cond (eqb k m) 1 0) (heads_below-agree n m agree (omega arith)) (agree m (omega arith))
+
+  -- heads that are the same below n make the same groups
+  pub headed-agree : (n : ℕ) → AreHeads n F → ((i : ℕ) → i < n → F i ≡ G i) → headed n F ≡ headed n G
+  headed-agree n are agree =
+      ap₂ (λ (gs : List ℕ) (k : ℕ). record { group_of = gs; groups = k })
+      (fill_by_all (head_number G) (map (head_number F) (range_with_len 0 n)) n 0 (length-map-range_with_len (head_number F) 0 n)
+      (λ k lt. get_or-map-range_with_len (head_number F) 0 n k k 0 lt (omega arith) ∙ heads_below-agree n (F k) agree (omega (arith, are.no_later k lt)) ∙ ap (heads_below G) (agree k lt)))
+      (heads_below-agree n n agree (omega arith))
 
 module _ (n : ℕ) (F : ℕ → ℕ) (are : AreHeads n F) where
   pub head_number-below : (i m : ℕ) → i < n → i < m → head_number F i < heads_below F m

@@ -5,3 +5,7 @@ pub mod Among
 pub mod Regrouped
 pub mod Together
 pub mod Partitions
+mod MarkLemmas
+mod NoteLemmas
+mod NumberLemmas
+mod FirstLists

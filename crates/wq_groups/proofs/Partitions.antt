@@ -17,12 +17,13 @@ use Rattle.wq_groups.specs.Partition.{Partition, IsPartition, ShareGroup, AreAli
 use Rattle.wq_groups.specs.Grouping.{names_ordered, all_ordered, first_regrouped, ShareLine, are_together, partition_of, groups_of}
 use Rattle.wq_groups.proofs.Among.{is_among, Contains-is_among, is_among-Contains, Differ, Differ-places}
 use Rattle.wq_groups.proofs.Regrouped.{Differ-all_ordered}
-use Rattle.wq_groups.proofs.Heads.{head_number, headed, heads_below, head_number-at, head_number-same, IsPartition-headed}
+use Rattle.wq_groups.specs.Numbering.{heads_below, head_number, headed}
+use Rattle.wq_groups.proofs.Heads.{head_number-at, head_number-same, IsPartition-headed}
 use Rattle.wq_groups.proofs.Together.{on_one_line, are_together-same, are_together-line, together_cases, first_of, first_of-same, together_from_first_of, AreHeads-first_of, partition_of-headed}
 
 -- ---- what a table says of the names
 
-faultless : (ds : List (ℕ × Directive)) (t : Table) → table_of ds ≡ Ok t → IsFaultless ds
+pub faultless : (ds : List (ℕ × Directive)) (t : Table) → table_of ds ≡ Ok t → IsFaultless ds
 faultless ds t made = (IsOk-table_of ds).0 (subst (λ (r : Result Table _). IsOk r) (sym made) refl)
 
 pub Differ-table_of : (ds : List (ℕ × Directive)) (t : Table) → table_of ds ≡ Ok t → Differ t.names

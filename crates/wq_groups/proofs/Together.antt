@@ -12,7 +12,8 @@ use Rattle.wq_decl.specs.declared.directive.Directive.{Directive}
 use Rattle.wq_groups.specs.Partition.{Partition, IsPartition}
 use Rattle.wq_groups.specs.Grouping.{names_ordered, all_ordered, are_together, first_member, first_members, group_number, partition_of}
 use Rattle.wq_groups.proofs.Among.{is_among, same_name, bytes_eq-same, Contains-is_among, is_among-Contains, Differ, Differ-append_right, Differ-parts, Differ-places}
-use Rattle.wq_groups.proofs.Heads.{AreHeads, heads_below, head_number, headed, heads_count, heads_length, head_number-at, head_number-same, IsPartition-headed}
+use Rattle.wq_groups.specs.Numbering.{AreHeads, heads_below, head_number, headed}
+use Rattle.wq_groups.proofs.Heads.{heads_count, heads_length, head_number-at, head_number-same, IsPartition-headed}
 
 -- ---- tests
 

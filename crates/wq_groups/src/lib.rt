@@ -12,6 +12,8 @@ mod fault;
 mod groups;
 mod ids;
 pub mod laws;
+mod numbering;
+mod reading;
 
 pub use assignment::Assignment;
 pub use fault::GroupError;

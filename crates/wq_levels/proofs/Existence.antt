@@ -1,5 +1,5 @@
 -- Each graph has ranks or a circle of the walk: how long a chain begins at a vertex can be tried out, along its arcs.
-use Rattle.std.proofs.Common.{◌≡◌, ◌≢◌, ℕ, zero, suc, ◌+◌, ◌<◌, ◌≤◌, ◌⊎◌, inl, inr, List, [], ◌∷◌, ◌++◌, length, get_or, slice_index, Contains, refl, sym, subst, arith}
+use Rattle.std.proofs.Common.{◌≡◌, ℕ, zero, suc, ◌+◌, ◌<◌, ◌≤◌, ◌⊎◌, inl, inr, List, [], ◌∷◌, ◌++◌, length, get_or, slice_index, Contains, refl, sym, subst, arith}
 use Rattle.std.specs.List.{All, Any}
 use Rattle.std.proofs.lemmas.Bool.{cases_lt}
 use Rattle.std.proofs.lemmas.List.{length_push, get_or_append_left, get_or_at}
@@ -10,7 +10,7 @@ use Rattle.wq_items.proofs.Circles.{circle_from_BeginsChain, Circle-begins}
 use Rattle.wq_graph.specs.declared.arc.WaitArc.{WaitArc}
 use Rattle.wq_graph.specs.Graph.{IsGraph, HasArc, arcs_at}
 use Rattle.wq_levels.specs.Ranks.{AreRanks}
-use Rattle.wq_levels.specs.Walks.{Remains, IsLeastRemaining, IsWayOn, vertices_left, IsWalkedCircle}
+use Rattle.wq_levels.specs.Walks.{Remains, IsWayOn, vertices_left, IsWalkedCircle}
 use Rattle.wq_levels.proofs.Graphs.{HasArc-below}
 use Rattle.wq_levels.proofs.First.{Decided, Tells-told, told, IsFirst-find, least_from}
 use Rattle.wq_levels.proofs.WaysOn.{IsWayOn-first, Remains-next}

@@ -1,5 +1,5 @@
 -- The circle of the walk is the only one of its kind, and has no more arcs than there are vertices.
-use Rattle.std.proofs.Common.{◌≡◌, ◌≢◌, ℕ, ◌+◌, ◌<◌, ◌≤◌, inl, inr, List, [], ◌∷◌, ◌++◌, length, get_or, drop, AllPairs, refl, sym, ◌∙◌, subst, ap, arith}
+use Rattle.std.proofs.Common.{◌≡◌, ◌≢◌, ℕ, ◌<◌, ◌≤◌, inl, inr, List, [], ◌∷◌, ◌++◌, length, get_or, drop, AllPairs, refl, sym, ◌∙◌, subst, ap, arith}
 use Rattle.std.proofs.lemmas.Bool.{cases_order}
 use Rattle.std.proofs.lemmas.List.{length-append, drop_at}
 use Rattle.wq_items.specs.Chain.{HasCircle}
@@ -13,7 +13,7 @@ use Rattle.wq_levels.proofs.Ranks.{AreRanks-no_circle}
 use Rattle.wq_levels.proofs.Walks.{length-vertices_left, IsWalk-append, IsWalk-same, IsWalk-end, IsWalk-passes, IsWalk-leads, IsWalk-turn}
 use Rattle.wq_levels.proofs.UnderWay.{IsUnderWay, IsUnderWay-few}
 
-some_length : {X : Type 0} (xs : List X) → xs ≢ [] → 0 < length xs
+pub some_length : {X : Type 0} (xs : List X) → xs ≢ [] → 0 < length xs
 some_length [] some = absurd (some refl)
 some_length (x ∷ xs) some = omega arith
 

@@ -1,8 +1,8 @@
 -- The walk from the least remaining vertex, under way: no vertex was left twice so far.
-use Rattle.std.proofs.Common.{◌≡◌, ◌≢◌, ℕ, zero, suc, ◌+◌, ◌<◌, ◌≤◌, ◌⊎◌, inl, inr, List, [], ◌∷◌, ◌++◌, length, get_or, set, take, drop, replicate, AllPairs, Option, Some, None, MatchOption, refl, sym, ◌∙◌, subst, ap, arith}
+use Rattle.std.proofs.Common.{◌≡◌, ◌≢◌, ℕ, zero, suc, ◌<◌, ◌≤◌, ◌⊎◌, inl, inr, List, [], ◌∷◌, ◌++◌, length, get_or, set, take, drop, replicate, AllPairs, Option, Some, None, MatchOption, refl, sym, ◌∙◌, subst, ap, arith}
 use Rattle.std.specs.List.{All}
 use Rattle.std.proofs.lemmas.Bool.{cases_lt, cases_eq}
-use Rattle.std.proofs.lemmas.List.{length-append, length_push, length-drop, get_or_push, get_or_append_left, get_or_default, get_or-set_same, get_or-set_other, length-set, length-replicate, get_or-replicate, take-append-drop}
+use Rattle.std.proofs.lemmas.List.{length_push, length-drop, get_or_push, get_or_append_left, get_or_default, get_or-set_same, get_or-set_other, length-set, length-replicate, get_or-replicate, take-append-drop}
 use Rattle.std.proofs.lemmas.List.Elements.{All-push}
 use Rattle.std.proofs.lemmas.List.Quantifiers.{all_pairs_push}
 use Rattle.wq_items.proofs.Pigeonhole.{repeats_from_length}

@@ -1,11 +1,11 @@
 -- Laws of walks.
-use Rattle.std.proofs.Common.{◌≡◌, ◌≢◌, ℕ, zero, suc, ◌+◌, ◌-◌, ◌<◌, inl, inr, List, [], ◌∷◌, ◌++◌, length, get_or, take, drop, AllPairs, refl, sym, ◌∙◌, subst, ap, arith}
+use Rattle.std.proofs.Common.{◌≡◌, ◌≢◌, ℕ, zero, suc, ◌+◌, ◌-◌, ◌<◌, List, [], ◌∷◌, ◌++◌, length, get_or, take, drop, AllPairs, refl, sym, ◌∙◌, subst, ap, arith}
 use Rattle.std.specs.List.{All, AllByRecursion}
 use Rattle.std.proofs.lemmas.List.{length-append, get_or-append-add}
 use Rattle.std.proofs.lemmas.List.Elements.{All-from_recursion}
 use Rattle.wq_graph.specs.declared.arc.WaitArc.{WaitArc}
 use Rattle.wq_graph.specs.Graph.{IsGraph}
-use Rattle.wq_levels.specs.Walks.{Remains, IsLeastRemaining, IsWayOn, IsWalk, vertices_left, IsWalkedCircle, LeadsRound}
+use Rattle.wq_levels.specs.Walks.{Remains, IsWayOn, IsWalk, vertices_left, IsWalkedCircle, LeadsRound}
 use Rattle.wq_levels.proofs.WaysOn.{IsWayOn-unique}
 
 pub length-vertices_left : (v : ℕ) (arcs : List WaitArc) → length (vertices_left v arcs) ≡ length arcs

@@ -1,12 +1,10 @@
 -- The way on from a vertex that remains: there is one, and only one.
-use Rattle.std.proofs.Common.{◌≡◌, ℕ, ◌+◌, ◌<◌, ◌≤◌, ◌==◌, ◌↔◌, Bool, inl, inr, List, [], length, map, get_or, slice_index, Some, find, position, Any, Contains, refl, sym, ◌∙◌, subst, ap, eq-eqb, arith}
-use Rattle.std.specs.List.{All}
+use Rattle.std.proofs.Common.{◌≡◌, ℕ, ◌<◌, ◌≤◌, ◌==◌, ◌↔◌, Bool, inl, inr, List, length, map, get_or, slice_index, Some, find, position, Any, Contains, sym, ◌∙◌, subst, ap, eq-eqb, arith}
 use Rattle.std.proofs.lemmas.Bool.{cases_lt, cases_order, eqb-true, eqb-false}
 use Rattle.std.proofs.lemmas.List.{get_or_past, get_or-map, length-map, get_or_default}
 use Rattle.std.proofs.lemmas.List.Elements.{All-contains}
 use Rattle.std.proofs.lemmas.List.Kept.{AllPairs-from_increasing}
 use Rattle.std.proofs.lemmas.List.Quantifiers.{position-Some}
-use Rattle.wq_items.specs.Chain.{BeginsChain}
 use Rattle.wq_graph.specs.declared.arc.WaitArc.{WaitArc}
 use Rattle.wq_graph.specs.Graph.{IsGraph, HasArc, arcs_at}
 use Rattle.wq_levels.specs.Walks.{Remains, MarkRemaining, IsLeastRemaining, IsWayOn}
@@ -71,9 +69,10 @@ module _ (graph : List (List WaitArc)) (sound : IsGraph graph) where
 pub MarkRemaining-any : (graph : List (List WaitArc)) (ranks : List ℕ) → MarkRemaining graph ranks → (v : ℕ) → (slice_index ranks v ≡ length graph) ↔ Remains graph v
 MarkRemaining-any graph ranks marks v = elim (cases_lt v (length graph)) [
   | inl vertex ↦ marks.marked v vertex
-  | inr past ↦
-      (λ top. absurd (omega (arith, marks.one_each, marks.some.1, get_or_past ranks v 0 (omega (arith, marks.one_each)))),
-      λ remains. absurd (omega (arith, remains.0)))
+  | inr past ↦ (
+    λ top. absurd (omega (arith, marks.one_each, marks.some.1, get_or_past ranks v 0 (omega (arith, marks.one_each)))),
+    λ remains. absurd (omega (arith, remains.0)),
+  )
 ]
 
 pub Tells-top : (graph : List (List WaitArc)) (ranks : List ℕ) → MarkRemaining graph ranks → Tells (λ (a : WaitArc). Remains graph a.head) (λ (a : WaitArc). slice_index ranks a.head == length graph)
@@ -95,8 +94,11 @@ IsLeastRemaining-position graph ranks marks =
     let top : ℕ → Bool = λ (r : ℕ). r == length graph in
     let found = position-is top ranks marks.some.0 0 marks.some.1 (eq-eqb (slice_index ranks marks.some.0) (length graph) marks.some.2) in
     let v = found.0 in
-    let here = position-Some top ranks v 0 found.1 in
-    (v, found.1, record {
-      remains = (MarkRemaining-any graph ranks marks v).0 (eqb-true (slice_index ranks v) (length graph) here.1);
-      least = λ w less remains. eqb-false (slice_index ranks w) (length graph) (here.2 w less) ((MarkRemaining-any graph ranks marks w).1 remains);
-    })
+    let here = position-Some top ranks v 0 found.1 in (
+      v,
+      found.1,
+      record {
+        remains = (MarkRemaining-any graph ranks marks v).0 (eqb-true (slice_index ranks v) (length graph) here.1);
+        least = λ w less remains. eqb-false (slice_index ranks w) (length graph) (here.2 w less) ((MarkRemaining-any graph ranks marks w).1 remains);
+      },
+    )

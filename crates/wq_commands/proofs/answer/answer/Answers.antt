@@ -1,11 +1,11 @@
-use Rattle.std.proofs.Common.{◌≡◌, ℕ, List, Ok, ap, subst, ◌∙◌}
+use Rattle.std.proofs.Common.{List, ap, subst, ◌∙◌}
 use Rattle.std.specs.Prelude.{map}
 use Rattle.wq_graph.specs.declared.arc.WaitArc.{WaitArc}
 use Rattle.wq_plan.specs.Solve.{IsPlanned, IsCircled, Solves}
 use Rattle.wq_commands.specs.Answer.{declared_waits}
 use Rattle.wq_commands.specs.Declaration.{Declared}
 use Rattle.wq_commands.specs.PlanText.{ends_of}
-use Rattle.wq_commands.proofs.AnswerLemmas.{IsSound-declaration, ArePrintable-planned, ArePrintable-circled, Answers-planned, Answers-circled}
+use Rattle.wq_commands.proofs.AnswerLemmas.{IsSound-declaration, ArePrintable-planned, ArePrintable-circled, Answers-planned}
 use Rattle.wq_commands.proofs.answer.answer.Goals as goal
 
 pub plan_text-requires-clause-grouped : goal.plan_text-requires-clause-grouped

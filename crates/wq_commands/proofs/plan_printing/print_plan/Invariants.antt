@@ -1,4 +1,4 @@
-use Rattle.std.proofs.Common.{◌≡◌, ◌++◌, take, ℕ}
+use Rattle.std.proofs.Common.{◌≡◌, ◌++◌, take}
 use Rattle.std.specs.List.{range_with_len}
 use Rattle.wq_commands.specs.LineText.{line_text}
 use Rattle.wq_commands.specs.PlanText.{plan_line, wq_line, chain_line, arc_line}

@@ -1,10 +1,10 @@
-use Rattle.std.proofs.Common.{get_or, ◌≡◌, ◌++◌, ◌∷◌, [], ℕ, ◌+◌, List, length, sym, ap, ◌∙◌, arith}
-use Rattle.std.specs.Prelude.{codes, decimal, slice_index, Vec}
+use Rattle.std.proofs.Common.{get_or, ◌≡◌, ◌++◌, ◌∷◌, [], ℕ, List, length, sym, ap, ◌∙◌, arith}
+use Rattle.std.specs.Prelude.{decimal, slice_index, Vec}
 use Rattle.std.proofs.lemmas.Option.{get_or_from_slice_get}
 use Rattle.std.proofs.lemmas.Result.{on_ok_weaker}
 use Rattle.wq_commands.specs.LineText.{spaced}
 use Rattle.wq_commands.specs.PlanText.{name_of}
-use Rattle.wq_commands.proofs.LineLemmas.{wq_front, wq_front-none, wq_front-on, wq_front-off, wq_front-all}
+use Rattle.wq_commands.proofs.LineLemmas.{wq_front-none, wq_front-on, wq_front-off, wq_front-all}
 use Rattle.wq_commands.proofs.plan_printing.put_wq_line.Goals as goal
 use Rattle.wq_commands.proofs.plan_printing.put_wq_line.Goals.{then-lane-from+in_ok-put_word, else-lane-from}
 

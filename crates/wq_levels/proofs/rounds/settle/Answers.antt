@@ -1,4 +1,4 @@
-use Rattle.std.proofs.Common.{◌≡◌, ◌≤◌, length, arith}
+use Rattle.std.proofs.Common.{◌≡◌, length, arith}
 use Rattle.wq_levels.specs.Ranks.{AreRanks}
 use Rattle.wq_levels.specs.Walks.{MarkRemaining}
 use Rattle.wq_levels.proofs.Ranks.{MatchBool-zero, AreRanks-from_capped, AreRanks-none, MarkRemaining-from_capped}

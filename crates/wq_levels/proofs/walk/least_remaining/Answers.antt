@@ -1,4 +1,4 @@
-use Rattle.std.proofs.Common.{◌≡◌, sym, ◌∙◌, subst, refl}
+use Rattle.std.proofs.Common.{sym, ◌∙◌, subst, refl}
 use Rattle.std.proofs.lemmas.Option.{same_Some}
 use Rattle.wq_levels.specs.Walks.{IsLeastRemaining}
 use Rattle.wq_levels.proofs.WaysOn.{IsLeastRemaining-position}
