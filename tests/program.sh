@@ -45,8 +45,12 @@ check() {
 
 plan='plan 2\nwq 0 b\nwq 1 a\nchain 2\narc a b\n'
 printf 'item a\nitem b\nflush a b\n' >declaration
+printf 'item a # x\r\n\titem\tb\r\n\r\n# \377\r\nflush a b' >carriage_returns
+printf 'item a\nitem b\nitem c\nitem d\nordered b c\nflush a b\nflush c d\n' >ordered
 printf 'item a\nflush a a\n' >circle
+printf 'item a\nitem b\nordered a b\nflush a b\n' >ordered_circle
 printf 'item a\nflush a b\nitem b\n' >refused
+printf 'item a\nitem b\nordered a b\nordered b\n' >grouped_twice
 mkdir folder
 
 # Answers.
@@ -64,10 +68,18 @@ run plan < <(printf 'item a\nit'; sleep 0.2; printf 'em b\nflush a b\n')
 check 'a plan, from a pipe that pauses' 0 "$plan" ''
 run plan </dev/null
 check 'no byte at all' 0 'plan 0\nchain 0\n' ''
+run plan carriage_returns </dev/null
+check 'a plan of lines that end with CR LF, with comments' 0 "$plan" ''
+run plan ordered </dev/null
+check 'a plan with an ordered group' 0 'plan 3\nwq 0 d\nwq 1 b c\nwq 2 a\nchain 3\narc a b\narc c d\n' ''
 run plan circle </dev/null
-check 'a circle' 1 'circle\n' ''
+check 'a circle' 1 'circle 1\narc a a\n' ''
+run plan ordered_circle </dev/null
+check 'a circle within an ordered group' 1 'circle 1\narc a b\n' ''
 run plan refused </dev/null
 check 'a refusal' 2 'refused 8 line 2\n' ''
+run plan grouped_twice </dev/null
+check 'a refusal of an item on two ordered lines' 2 'refused 11 line 4\n' ''
 
 # Limits: 1,048,576 bytes are read as a declaration, and one byte more is refused.
 yes '' | head -c 1048576 >largest

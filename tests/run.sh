@@ -6,3 +6,4 @@ cd "$(dirname "$0")/.."
 rt ci
 bash tests/outlives.sh
 bash tests/program.sh
+bash tests/model.sh

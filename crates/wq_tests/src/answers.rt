@@ -4,6 +4,8 @@
 //! that of the command.
 
 use std::alloc::{AllocError, Global};
+use std::process::Abort;
+use std::test::Fail;
 use wq_commands::{End, Fault, Metered, plan_cmd};
 
 /// How a run ends that is given this text, and what it writes.
@@ -25,4 +27,22 @@ pub(crate) fn lines_of(alloc: Global, row: &str) -> Result<Vec<u8>, AllocError> 
         text.push(b'\n')?;
     }
     Ok(text)
+}
+
+/// Asserts how a run ends that is given this text, and the lines that it writes.
+pub(crate) fn assert_answer(
+    rt: &impl Abort,
+    alloc: Global,
+    text: &[u8],
+    end: End,
+    answer: &str,
+) -> Result<(), Fail> {
+    let (is, bytes) = answer_of(alloc, text)?;
+    assert_eq!(rt; is, end, "for {text:?}");
+    assert_eq!(rt;
+        bytes.as_slice(),
+        lines_of(alloc, answer)?.as_slice(),
+        "for {text:?}"
+    );
+    Ok(())
 }

@@ -89,7 +89,7 @@ fn a_reader_without_end_is_left(rt: HostRuntime) -> Result<(), Fail> {
 fn each_failed_write_is_a_fault(rt: HostRuntime) -> Result<(), Fail> {
     for (row, answer) in [
         ("item a / item b / flush a b", ANSWER),
-        ("item a / flush a a", b"circle\n"),
+        ("item a / flush a a", b"circle 1\narc a a\n"),
         ("item a / item a", b"refused 7 line 2\n"),
     ] {
         let text = lines_of(rt.alloc(), row)?;

@@ -7,9 +7,17 @@
 #[cfg(test)]
 mod answers;
 #[cfg(test)]
+mod bytes;
+#[cfg(test)]
+mod declared;
+#[cfg(test)]
 mod devices;
 #[cfg(test)]
 mod fakes;
+#[cfg(test)]
+mod graphs;
+#[cfg(test)]
+mod groups;
 #[cfg(test)]
 mod limits;
 #[cfg(test)]

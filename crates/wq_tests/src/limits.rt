@@ -1,4 +1,6 @@
 //! What is as large as its limit, and what is one larger.
+//!
+//! The limits are those of "Limits" in docs/FORMAT.md.
 
 use crate::answers::answer_of;
 use std::alloc::{AllocError, Global};
@@ -21,10 +23,10 @@ fn assert_begins(
     Ok(())
 }
 
-/// Adds the same line so many times.
-fn add_lines(text: &mut String, line: &str, count: u32) -> Result<(), AllocError> {
+/// Adds the same text so many times.
+fn add_times(text: &mut String, more: &str, count: u32) -> Result<(), AllocError> {
     for _ in 0..count {
-        text.push_str(line)?;
+        text.push_str(more)?;
     }
     Ok(())
 }
@@ -38,120 +40,291 @@ fn items(alloc: Global, count: u32) -> Result<String, AllocError> {
     Ok(text)
 }
 
-/// The declaration of 4,096 items, each of which waits for the next.
-fn longest_chain(alloc: Global) -> Result<String, AllocError> {
-    let mut text = items(alloc, 4096)?;
+/// Adds a line for each of the first 4,095 items: this word, the item, and the next one.
+fn add_steps(text: &mut String, word: &str) -> Result<(), AllocError> {
     for i in 0..4095u32 {
-        write!(text, "flush i{i:04} i{:04}\n", i + 1)?;
+        write!(text, "{word} i{i:04} i{:04}\n", i + 1)?;
     }
-    Ok(text)
+    Ok(())
 }
 
-/// Its plan.
+/// The plan of 4,096 items, each of which waits for the next.
 fn longest_plan(alloc: Global) -> Result<String, AllocError> {
     let mut text = String::from_str(alloc, "plan 4096\n")?;
     for q in 0..4096u32 {
         write!(text, "wq {q} i{:04}\n", 4095 - q)?;
     }
     text.push_str("chain 4096\n")?;
-    for i in 0..4095u32 {
-        write!(text, "arc i{i:04} i{:04}\n", i + 1)?;
+    add_steps(&mut text, "arc")?;
+    Ok(text)
+}
+
+/// Adds a line for each of 512 groups: the word `ordered`, and each eighth of the items in turn, the last one first.
+fn add_groups(text: &mut String) -> Result<(), AllocError> {
+    for group in 0..512u32 {
+        text.push_str("ordered")?;
+        for eighth in 0..8u32 {
+            write!(text, " i{:04}", group + 512 * (7 - eighth))?;
+        }
+        text.push_str("\n")?;
     }
+    Ok(())
+}
+
+/// Adds a line for each of the first 511 groups: this word, its last item, and the first one of the next group.
+fn add_group_steps(text: &mut String, word: &str) -> Result<(), AllocError> {
+    for group in 0..511u32 {
+        write!(text, "{word} i{:04} i{:04}\n", group + 3584, group + 1)?;
+    }
+    Ok(())
+}
+
+/// The plan of 512 groups of eight items, each of which waits for the next.
+fn group_plan(alloc: Global) -> Result<String, AllocError> {
+    let mut text = String::from_str(alloc, "plan 512\n")?;
+    for q in 0..512u32 {
+        write!(text, "wq {q}")?;
+        for eighth in 0..8u32 {
+            write!(text, " i{:04}", 511 - q + 512 * eighth)?;
+        }
+        text.push_str("\n")?;
+    }
+    text.push_str("chain 512\n")?;
+    add_group_steps(&mut text, "arc")?;
     Ok(text)
 }
 
 #[test]
-fn texts_and_lines_have_limits(rt: HostRuntime) -> Result<(), Fail> {
+fn texts_and_names_have_limits(rt: HostRuntime) -> Result<(), Fail> {
     let alloc = rt.alloc();
-    for (lines, end, front) in [
-        (1_048_576, End::Good, "plan 0\nchain 0\n"),
-        (1_048_577, End::Refused, "refused 1 line 0\n"),
-    ] {
-        let text = vec![in alloc; b'\n'; lines]?;
-        assert_begins(&rt, alloc, &text, end, front)?;
-    }
-    // A line of blanks, behind an item and before a flush.
-    for (blanks, end, front) in [
-        (4096, End::Good, "plan 1\nwq 0 a\nchain 1\n"),
-        (4097, End::Refused, "refused 2 line 2\n"),
-    ] {
-        let mut text = Vec::from_slice(alloc, b"item a\n")?;
-        text.extend_from_slice(&vec![in alloc; b' '; blanks]?)?;
-        assert_begins(&rt, alloc, &text, end, front)?;
-        text.push(b'\n')?;
-        assert_begins(&rt, alloc, &text, end, front)?;
-    }
-    Ok(())
-}
-
-#[test]
-fn names_have_a_limit(rt: HostRuntime) -> Result<(), Fail> {
-    let alloc = rt.alloc();
-    for (len, end, front) in [
-        (1, End::Good, "plan 1\nwq 0 n\nchain 1\n"),
+    for (front, byte, count, end, answer) in [
+        ("", b'\n', 1_048_576, End::Good, "plan 0\nchain 0\n"),
+        ("", b'\n', 1_048_577, End::Refused, "refused 1 line 0\n"),
+        ("", b'x', 1_048_577, End::Refused, "refused 1 line 0\n"),
+        ("item ", b'n', 1, End::Good, "plan 1\nwq 0 n\nchain 1\n"),
         (
+            "item ",
+            b'n',
             63,
             End::Good,
             "plan 1\nwq 0 nnnnnnnnnnnnnnnnnnnnnnnnnnnnnnnnnnnnnnnnnnnnnnnnnnnnnnnnnnnnnnn\nchain 1\n",
         ),
-        (64, End::Refused, "refused 6 line 1\n"),
+        ("item ", b'n', 64, End::Refused, "refused 6 line 1\n"),
     ] {
-        let mut text = Vec::from_slice(alloc, b"item ")?;
-        text.extend_from_slice(&vec![in alloc; b'n'; len]?)?;
-        assert_begins(&rt, alloc, &text, end, front)?;
+        let mut text = Vec::from_slice(alloc, front.as_bytes())?;
+        text.extend_from_slice(&vec![in alloc; byte; count]?)?;
+        assert_begins(&rt, alloc, &text, end, answer)?;
+    }
+    Ok(())
+}
+
+/// What a long line begins with, how often a byte stands behind that, what ends the text, and how its answer begins.
+const LINES: &[(&str, u8, usize, &str, End, &str)] = &[
+    // 4,096 bytes, and one more: a comment.
+    ("#", b'x', 4095, "", End::Good, "plan 0\nchain 0\n"),
+    ("#", b'x', 4095, "\n", End::Good, "plan 0\nchain 0\n"),
+    ("#", b'x', 4095, "\r\n", End::Good, "plan 0\nchain 0\n"),
+    ("#", b'x', 4095, "\r", End::Refused, "refused 2 line 1\n"),
+    (
+        "#",
+        b'x',
+        4095,
+        "\r\r\n",
+        End::Refused,
+        "refused 2 line 1\n",
+    ),
+    ("#", b'x', 4096, "", End::Refused, "refused 2 line 1\n"),
+    ("#", b'x', 4096, "\n", End::Refused, "refused 2 line 1\n"),
+    ("#", b'x', 4096, "\r\n", End::Refused, "refused 2 line 1\n"),
+    ("#", b'x', 4094, "\r\r\n", End::Good, "plan 0\nchain 0\n"),
+    // A blank line behind an item.
+    ("item a\n", b' ', 4096, "", End::Good, "plan 1\nwq 0 a\n"),
+    ("item a\n", b' ', 4096, "\n", End::Good, "plan 1\nwq 0 a\n"),
+    (
+        "item a\n",
+        b' ',
+        4096,
+        "\r\n",
+        End::Good,
+        "plan 1\nwq 0 a\n",
+    ),
+    (
+        "item a\n",
+        b' ',
+        4097,
+        "",
+        End::Refused,
+        "refused 2 line 2\n",
+    ),
+    (
+        "item a\n",
+        b' ',
+        4097,
+        "\n",
+        End::Refused,
+        "refused 2 line 2\n",
+    ),
+    (
+        "item a\n",
+        b' ',
+        4097,
+        "\r\n",
+        End::Refused,
+        "refused 2 line 2\n",
+    ),
+    // A directive, and one that is none on a line above.
+    ("item", b'\t', 4091, "a\r\n", End::Good, "plan 1\nwq 0 a\n"),
+    (
+        "item",
+        b'\t',
+        4092,
+        "a\r\n",
+        End::Refused,
+        "refused 2 line 1\n",
+    ),
+    ("nope\n", b'x', 4097, "", End::Refused, "refused 2 line 2\n"),
+];
+
+#[test]
+fn lines_have_a_limit(rt: HostRuntime) -> Result<(), Fail> {
+    for (front, byte, count, rest, end, answer) in LINES {
+        let mut text = Vec::from_slice(rt.alloc(), front.as_bytes())?;
+        text.extend_from_slice(&vec![in rt.alloc(); *byte; *count]?)?;
+        text.extend_from_slice(rest.as_bytes())?;
+        assert_begins(&rt, rt.alloc(), &text, *end, answer)?;
     }
     Ok(())
 }
 
 #[test]
-fn items_and_flushes_have_limits(rt: HostRuntime) -> Result<(), Fail> {
-    let alloc = rt.alloc();
-    for (count, end, front) in [
-        (4096, End::Good, "plan 1\nwq 0 i0000 i0001 "),
-        (4097, End::Refused, "refused 9 line 4097\n"),
-    ] {
-        assert_begins(&rt, alloc, items(alloc, count)?.as_bytes(), end, front)?;
-    }
-    for (count, end, front) in [
+fn items_have_a_limit(rt: HostRuntime) -> Result<(), Fail> {
+    for (count, rest, end, answer) in [
+        (4096, "", End::Good, "plan 1\nwq 0 i0000 i0001 "),
+        (4097, "", End::Refused, "refused 9 line 4097\n"),
+        // The limit comes behind the other fault of its line, and before the faults of other lines.
+        (4096, "item i0000\n", End::Refused, "refused 7 line 4097\n"),
         (
-            16_384,
-            End::Good,
-            "plan 2\nwq 0 b\nwq 1 a\nchain 2\narc a b\n",
+            4096,
+            "item x\nitem i0000\n",
+            End::Refused,
+            "refused 9 line 4097\n",
         ),
-        (16_385, End::Refused, "refused 10 line 16387\n"),
     ] {
-        let mut text = String::from_str(alloc, "item a\nitem b\n")?;
-        add_lines(&mut text, "flush a b\n", count)?;
-        assert_begins(&rt, alloc, text.as_bytes(), end, front)?;
+        let mut text = items(rt.alloc(), count)?;
+        text.push_str(rest)?;
+        assert_begins(&rt, rt.alloc(), text.as_bytes(), end, answer)?;
     }
-    // The limits come behind the other faults of their lines.
-    for (line, front) in [
-        ("item i0000\n", "refused 7 line 4097\n"),
-        ("item x\n", "refused 9 line 4097\n"),
-    ] {
-        let mut text = items(alloc, 4096)?;
-        text.push_str(line)?;
-        assert_begins(&rt, alloc, text.as_bytes(), End::Refused, front)?;
+    Ok(())
+}
+
+/// How many lines `flush a b` stand behind two items, what follows them, and how the answer begins.
+const FLUSHES: &[(u32, &str, End, &str)] = &[
+    (
+        16_384,
+        "",
+        End::Good,
+        "plan 2\nwq 0 b\nwq 1 a\nchain 2\narc a b\n",
+    ),
+    (16_385, "", End::Refused, "refused 10 line 16387\n"),
+    (
+        16_383,
+        "flush b a\n",
+        End::Bad,
+        "circle 2\narc a b\narc b a\n",
+    ),
+    // Each target counts.
+    (
+        16_382,
+        "flush b a a\n",
+        End::Bad,
+        "circle 2\narc a b\narc b a\n",
+    ),
+    (
+        16_382,
+        "flush b a a a\n",
+        End::Refused,
+        "refused 10 line 16385\n",
+    ),
+    (
+        16_383,
+        "flush b a a\nflush c a\n",
+        End::Refused,
+        "refused 10 line 16386\n",
+    ),
+    // The limit comes behind the other fault of its line.
+    (
+        16_384,
+        "flush b a c\n",
+        End::Refused,
+        "refused 8 line 16387\n",
+    ),
+];
+
+#[test]
+fn flushes_have_a_limit(rt: HostRuntime) -> Result<(), Fail> {
+    for (count, rest, end, answer) in FLUSHES {
+        let mut text = String::from_str(rt.alloc(), "item a\nitem b\n")?;
+        add_times(&mut text, "flush a b\n", *count)?;
+        text.push_str(rest)?;
+        assert_begins(&rt, rt.alloc(), text.as_bytes(), *end, answer)?;
     }
-    for (line, front) in [
-        ("flush a c\n", "refused 8 line 16387\n"),
-        ("flush b a\n", "refused 10 line 16387\n"),
+    Ok(())
+}
+
+#[test]
+fn targets_have_a_limit(rt: HostRuntime) -> Result<(), Fail> {
+    for (last, end, answer) in [
+        (1024, End::Bad, "circle 1\narc a a\n"),
+        (1025, End::Refused, "refused 10 line 17\n"),
     ] {
-        let mut text = String::from_str(alloc, "item a\nitem b\n")?;
-        add_lines(&mut text, "flush a b\n", 16_384)?;
-        text.push_str(line)?;
-        assert_begins(&rt, alloc, text.as_bytes(), End::Refused, front)?;
+        let mut text = String::from_str(rt.alloc(), "item a\n")?;
+        for _ in 0..15u32 {
+            text.push_str("flush a")?;
+            add_times(&mut text, " a", 1024)?;
+            text.push_str("\n")?;
+        }
+        text.push_str("flush a")?;
+        add_times(&mut text, " a", last)?;
+        assert_begins(&rt, rt.alloc(), text.as_bytes(), end, answer)?;
     }
     Ok(())
 }
 
 #[test]
 fn the_longest_chain_has_its_plan(rt: HostRuntime) -> Result<(), Fail> {
-    let text = longest_chain(rt.alloc())?;
-    let plan = longest_plan(rt.alloc())?;
+    let mut text = items(rt.alloc(), 4096)?;
+    add_steps(&mut text, "flush")?;
     let (end, answer) = answer_of(rt.alloc(), text.as_bytes())?;
+    let plan = longest_plan(rt.alloc())?;
     assert_eq!(rt; end, End::Good);
     assert!(rt; answer.starts_with(b"plan 4096\nwq 0 i4095\nwq 1 i4094\n"));
+    assert!(rt; answer.as_slice() == plan.as_bytes());
+    Ok(())
+}
+
+#[test]
+fn the_longest_circle_has_its_text(rt: HostRuntime) -> Result<(), Fail> {
+    let mut text = items(rt.alloc(), 4096)?;
+    add_steps(&mut text, "flush")?;
+    text.push_str("flush i4095 i0000\n")?;
+    let (end, answer) = answer_of(rt.alloc(), text.as_bytes())?;
+    let mut circle = String::from_str(rt.alloc(), "circle 4096\n")?;
+    add_steps(&mut circle, "arc")?;
+    circle.push_str("arc i4095 i0000\n")?;
+    assert_eq!(rt; end, End::Bad);
+    assert!(rt; answer.as_slice() == circle.as_bytes());
+    Ok(())
+}
+
+#[test]
+fn many_groups_have_their_plan(rt: HostRuntime) -> Result<(), Fail> {
+    let mut text = items(rt.alloc(), 4096)?;
+    add_groups(&mut text)?;
+    add_group_steps(&mut text, "flush")?;
+    let (end, answer) = answer_of(rt.alloc(), text.as_bytes())?;
+    let plan = group_plan(rt.alloc())?;
+    assert_eq!(rt; end, End::Good);
+    assert!(rt; answer.starts_with(b"plan 512\nwq 0 i0511 i1023 "));
     assert!(rt; answer.as_slice() == plan.as_bytes());
     Ok(())
 }

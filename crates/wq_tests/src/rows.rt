@@ -1,202 +1,267 @@
 //! The worked rows of docs/FORMAT.md, and others worked out from its rules.
 
-use crate::answers::{answer_of, lines_of};
-use std::alloc::Global;
-use std::process::Abort;
+use crate::answers::{assert_answer, lines_of};
 use std::test::Fail;
 use wq_commands::End;
 
-/// Asserts how a run ends that is given this text, and the lines that it writes.
-fn assert_answer(
-    rt: &impl Abort,
-    alloc: Global,
-    text: &[u8],
-    end: End,
-    answer: &str,
-) -> Result<(), Fail> {
-    let (is, bytes) = answer_of(alloc, text)?;
-    assert_eq!(rt; is, end, "for {text:?}");
-    assert_eq!(rt;
-        bytes.as_slice(),
-        lines_of(alloc, answer)?.as_slice(),
-        "for {text:?}"
-    );
-    Ok(())
-}
-
-/// Texts whose lines all end, how a run on each ends, and its answer.
-const ROWS: &[(&str, End, &str)] = &[
-    // Plans.
-    ("", End::Good, "plan 0 / chain 0"),
-    (" / \t / ", End::Good, "plan 0 / chain 0"),
+/// Texts whose lines all end, and their plans.
+const PLANS: &[(&str, &str)] = &[
+    ("", "plan 0 / chain 0"),
+    (" / \t / ", "plan 0 / chain 0"),
+    ("# / # item a", "plan 0 / chain 0"),
     (
         "item a / item b / flush a b",
-        End::Good,
         "plan 2 / wq 0 b / wq 1 a / chain 2 / arc a b",
     ),
     (
-        "item a / item b / item c",
-        End::Good,
-        "plan 1 / wq 0 a b c / chain 1",
+        "# a / item a # b! / item b#x / flush a b # a / #ordered a a",
+        "plan 2 / wq 0 b / wq 1 a / chain 2 / arc a b",
     ),
+    ("item a / item b / item c", "plan 1 / wq 0 a b c / chain 1"),
     (
         "item a / item b / item c / item d / flush a b / flush b c",
-        End::Good,
         "plan 3 / wq 0 c d / wq 1 b / wq 2 a / chain 3 / arc a b / arc b c",
     ),
     (
         "item a / item b / item c / item d / flush c b / flush d a / flush c a",
-        End::Good,
         "plan 2 / wq 0 a b / wq 1 c d / chain 2 / arc c b",
     ),
     (
         "item a / item b / item c / flush a c / flush a b / flush b c",
-        End::Good,
         "plan 3 / wq 0 c / wq 1 b / wq 2 a / chain 3 / arc a b / arc b c",
     ),
     // The chain begins at the lowest-numbered item and takes the flush of least place, here of d, not of c.
     (
         "item a / item b / item c / item d / item e / flush b e / flush b d / flush b c / flush d e / flush c e",
-        End::Good,
         "plan 3 / wq 0 a e / wq 1 c d / wq 2 b / chain 3 / arc b d / arc d e",
     ),
     // Two equal flushes, and names that are words of the grammar or differ only in case.
     (
         "item item / item flush / item A / item a / flush item flush / flush item flush / flush A a",
-        End::Good,
         "plan 2 / wq 0 flush a / wq 1 item A / chain 2 / arc item flush",
     ),
     (
         "item 7 / item - / item _.9Zz",
-        End::Good,
         "plan 1 / wq 0 7 - _.9Zz / chain 1",
     ),
-    // Circles.
-    ("item a / flush a a", End::Bad, "circle"),
-    (
-        "item a / item b / flush a b / flush b a",
-        End::Bad,
-        "circle",
-    ),
-    (
-        "item a / item b / item c / item d / flush a b / flush b c / flush c b / flush a d",
-        End::Bad,
-        "circle",
-    ),
-    // Items and flushes that are refused.
-    (
-        "item a / flush a b / item b",
-        End::Refused,
-        "refused 8 line 2",
-    ),
-    (
-        "item b / flush a b / item a",
-        End::Refused,
-        "refused 8 line 2",
-    ),
-    ("item a / item a", End::Refused, "refused 7 line 2"),
-    (
-        "item a / flush a a / item a / flush a b",
-        End::Refused,
-        "refused 7 line 3",
-    ),
-    // Lines that are no directives.
-    ("item a!", End::Refused, "refused 6 line 1"),
-    ("item a / flush a b!", End::Refused, "refused 6 line 2"),
-    ("item", End::Refused, "refused 5 line 1"),
-    ("item a / flush a", End::Refused, "refused 5 line 2"),
-    ("item a! / flush a", End::Refused, "refused 6 line 1"),
-    ("flush a!", End::Refused, "refused 5 line 1"),
-    ("item a b!", End::Refused, "refused 12 line 1"),
+    // Several targets on a line: their places are in the order in which they stand.
     (
         "item a / item b / item c / flush a b c",
-        End::Refused,
-        "refused 12 line 4",
-    ),
-    ("ordered a", End::Refused, "refused 4 line 1"),
-    ("Item a", End::Refused, "refused 4 line 1"),
-    ("# a", End::Refused, "refused 3 line 1"),
-    ("item a / #", End::Refused, "refused 3 line 2"),
-    ("#", End::Refused, "refused 3 line 1"),
-    // Directives are judged before items.
-    (
-        "item a / flush a zz / items b",
-        End::Refused,
-        "refused 4 line 3",
+        "plan 2 / wq 0 b c / wq 1 a / chain 2 / arc a b",
     ),
     (
-        "item a / item a /  / item",
-        End::Refused,
-        "refused 5 line 4",
+        "item a / item b / item c / flush a c b c",
+        "plan 2 / wq 0 b c / wq 1 a / chain 2 / arc a c",
     ),
+    (
+        "item a / item b / item c / flush a c b / flush b c c",
+        "plan 3 / wq 0 c / wq 1 b / wq 2 a / chain 3 / arc a b / arc b c",
+    ),
+    // Groups: the chain leaves one by whichever member, and the rank of a group is that of its members together.
+    (
+        "item a / item b / item c / item d / ordered b c / flush a b / flush c d",
+        "plan 3 / wq 0 d / wq 1 b c / wq 2 a / chain 3 / arc a b / arc c d",
+    ),
+    (
+        "item a / item b / item c / item d / item e / ordered b c d / flush a c / flush d e",
+        "plan 3 / wq 0 e / wq 1 b c d / wq 2 a / chain 3 / arc a c / arc d e",
+    ),
+    (
+        "item a / item b / item c / item d / ordered a b / flush a c / flush b d / flush d c",
+        "plan 3 / wq 0 c / wq 1 d / wq 2 a b / chain 3 / arc b d / arc d c",
+    ),
+    // Groups are numbered by their first-declared members.
+    (
+        "item a / item b / item c / item d / ordered d b / flush c a / flush d a",
+        "plan 2 / wq 0 a / wq 1 b c d / chain 2 / arc d a",
+    ),
+    (
+        "item a / item b / item c / item d / ordered d a / flush b c / flush d c",
+        "plan 2 / wq 0 c / wq 1 a b d / chain 2 / arc d c",
+    ),
+    (
+        "item a / item b / item c / ordered c a / flush c b",
+        "plan 2 / wq 0 b / wq 1 a c / chain 2 / arc c b",
+    ),
+    // The arcs of a group are those of its members together, by place alone.
+    (
+        "item a / item b / item c / item d / flush b d / flush a c d / ordered a b",
+        "plan 2 / wq 0 c d / wq 1 a b / chain 2 / arc b d",
+    ),
+    (
+        "item a / item b / item c / item d / ordered b a / flush a d / flush b c",
+        "plan 2 / wq 0 c d / wq 1 a b / chain 2 / arc a d",
+    ),
+    // Several groups, items declared between them, and an ordered line with one name.
+    (
+        "item a / item b / ordered b / item c / item d / ordered d c / flush a d / flush c b",
+        "plan 3 / wq 0 b / wq 1 c d / wq 2 a / chain 3 / arc a d / arc c b",
+    ),
+    (
+        "item a / item b / ordered b a",
+        "plan 1 / wq 0 a b / chain 1",
+    ),
+    (
+        "item ordered / item item / item flush / ordered ordered item / flush flush ordered",
+        "plan 2 / wq 0 ordered item / wq 1 flush / chain 2 / arc flush ordered",
+    ),
+];
+
+/// Texts whose lines all end, and their circles.
+const CIRCLES: &[(&str, &str)] = &[
+    ("item a / flush a a", "circle 1 / arc a a"),
+    (
+        "item a / item b / flush a b / flush b a",
+        "circle 2 / arc a b / arc b a",
+    ),
+    (
+        "item a / item b / ordered a b / flush a b",
+        "circle 1 / arc a b",
+    ),
+    (
+        "item a / item b / flush a b / ordered b a",
+        "circle 1 / arc a b",
+    ),
+    (
+        "item a / item b / item c / item d / ordered a d / ordered b c / flush a b / flush c d",
+        "circle 2 / arc a b / arc c d",
+    ),
+    // Arcs that lead to what is taken off are passed over: here to c, to b behind it, and to d.
+    (
+        "item a / item b / item c / flush a c b / flush b a",
+        "circle 2 / arc a b / arc b a",
+    ),
+    (
+        "item a / item b / item c / flush a b / flush b c / flush a a",
+        "circle 1 / arc a a",
+    ),
+    (
+        "item a / item b / item c / item d / flush a d / flush a b / flush b c / flush c b",
+        "circle 2 / arc b c / arc c b",
+    ),
+    // The arc of least place decides, also where one leads back at once.
+    (
+        "item a / item b / flush a a b / flush b a",
+        "circle 1 / arc a a",
+    ),
+    (
+        "item a / item b / flush a b a / flush b a",
+        "circle 2 / arc a b / arc b a",
+    ),
+    (
+        "item a / item b / flush b a / flush b a / flush a b",
+        "circle 2 / arc a b / arc b a",
+    ),
+    (
+        "item a / item b / item c / ordered a b / flush b c / flush a b / flush c a",
+        "circle 2 / arc b c / arc c a",
+    ),
+    // What leads to a circle isn't printed.
+    (
+        "item a / item b / item c / flush a b / flush b c / flush c b",
+        "circle 2 / arc b c / arc c b",
+    ),
+    (
+        "item a / item b / item c / item d / item e / flush a b / flush b c / flush c d / flush d e / flush e c",
+        "circle 3 / arc c d / arc d e / arc e c",
+    ),
+    (
+        "item a / item b / item c / item d / ordered b c d / flush a c / flush d b",
+        "circle 1 / arc d b",
+    ),
+    // Of two circles the answer is the one that the walk from the lowest-numbered group comes to.
+    (
+        "item a / item b / item c / item d / flush c d / flush d c / flush a b / flush b a",
+        "circle 2 / arc a b / arc b a",
+    ),
+    (
+        "item a / item b / item c / item d / item e / flush b c / flush c b / flush e d / flush d e / flush a e",
+        "circle 2 / arc e d / arc d e",
+    ),
+    (
+        "item a / item b / item c / flush a c / flush a b / flush b b / flush c c",
+        "circle 1 / arc c c",
+    ),
+    (
+        "item a / item b / item c / item d / ordered d a / flush b c / flush c b / flush d d",
+        "circle 1 / arc d d",
+    ),
+    ("item a / item b / flush b b", "circle 1 / arc b b"),
+    // The item of a line needn't be the target of the line above it.
+    (
+        "item a / item b / item c / item d / item e / item f / ordered a f / ordered b e / ordered c d / flush a b / flush e c / flush d f",
+        "circle 3 / arc a b / arc e c / arc d f",
+    ),
+];
+
+/// Texts whose lines all end, and their refusals.
+const REFUSALS: &[(&str, &str)] = &[
+    // Items and flushes that are refused.
+    ("item a / flush a b / item b", "refused 8 line 2"),
+    ("item b / flush a b / item a", "refused 8 line 2"),
+    ("item a / flush a a b", "refused 8 line 2"),
+    ("item a / item a", "refused 7 line 2"),
+    (
+        "item a / flush a a / item a / flush a b",
+        "refused 7 line 3",
+    ),
+    ("item a / ordered a b / item b", "refused 8 line 2"),
+    ("ordered a", "refused 8 line 1"),
+    // Names that stand on an ordered line a second time.
+    ("item a / ordered a a", "refused 11 line 2"),
+    ("item a / ordered a / ordered a", "refused 11 line 3"),
+    (
+        "item a / item b / ordered a b / ordered b",
+        "refused 11 line 4",
+    ),
+    (
+        "item a / item b / item c / ordered b c b / ordered a / ordered a",
+        "refused 11 line 4",
+    ),
+    (
+        "item a / item b / ordered b / ordered a / ordered b / ordered a",
+        "refused 11 line 5",
+    ),
+    ("item a / flush a a / ordered a a", "refused 11 line 3"),
+    // Lines that are no directives.
+    ("item a!", "refused 6 line 1"),
+    ("item a / flush a b!", "refused 6 line 2"),
+    ("item a / flush a a b!", "refused 6 line 2"),
+    ("item a / flush a! a", "refused 6 line 2"),
+    ("ordered a b!", "refused 6 line 1"),
+    ("item", "refused 5 line 1"),
+    ("item #a", "refused 5 line 1"),
+    ("item a / flush a", "refused 5 line 2"),
+    ("item a / flush a #a", "refused 5 line 2"),
+    ("ordered", "refused 5 line 1"),
+    ("item a / ordered#a", "refused 5 line 2"),
+    ("item a! / flush a", "refused 6 line 1"),
+    ("flush a!", "refused 5 line 1"),
+    ("item a b!", "refused 12 line 1"),
+    ("item a b", "refused 12 line 1"),
+    ("Item a", "refused 4 line 1"),
+    ("ordereds a", "refused 4 line 1"),
+    ("item a / order a", "refused 4 line 2"),
+    // Directives are judged before items, and items before groups.
+    ("item a / flush a zz / items b", "refused 4 line 3"),
+    ("item a / item a /  / item", "refused 5 line 4"),
+    ("item a / item a / item b c", "refused 12 line 3"),
+    ("item a / ordered a a / flush", "refused 5 line 3"),
+    ("item a / ordered a a / flush a zz", "refused 8 line 3"),
+    ("item a / ordered a a / item a", "refused 7 line 3"),
+    ("item a / ordered a a zz", "refused 8 line 2"),
 ];
 
 #[test]
 fn rows_have_their_answers(rt: HostRuntime) -> Result<(), Fail> {
-    for (row, end, answer) in ROWS {
-        let text = lines_of(rt.alloc(), row)?;
-        assert_answer(&rt, rt.alloc(), &text, *end, answer)?;
-    }
-    Ok(())
-}
-
-/// Texts byte by byte.
-const BYTES: &[(&[u8], End, &str)] = &[
-    // Blanks and blank lines, and a last line without a line feed.
-    (
-        b"item a\n\n\titem\tb \nflush a b",
-        End::Good,
-        "plan 2 / wq 0 b / wq 1 a / chain 2 / arc a b",
-    ),
-    (
-        b" \t \nitem  a\n \titem \t b\t\n\n\nflush a\tb \t\n",
-        End::Good,
-        "plan 2 / wq 0 b / wq 1 a / chain 2 / arc a b",
-    ),
-    (b"\n\n\n", End::Good, "plan 0 / chain 0"),
-    (b" ", End::Good, "plan 0 / chain 0"),
-    (b"\n\n \nitem a b", End::Refused, "refused 12 line 4"),
-    // Bytes that no line may hold.
-    (b"item a\r\nitem b\n", End::Refused, "refused 3 line 1"),
-    (b"item a\n\r\n", End::Refused, "refused 3 line 2"),
-    (b"item \xc3\xa9", End::Refused, "refused 3 line 1"),
-    (b"item a\nitem \x7f\n", End::Refused, "refused 3 line 2"),
-    (b"\0", End::Refused, "refused 3 line 1"),
-    (b"nope \x0b\n", End::Refused, "refused 3 line 1"),
-    (b"item ~\n", End::Refused, "refused 6 line 1"),
-];
-
-#[test]
-fn bytes_have_their_answers(rt: HostRuntime) -> Result<(), Fail> {
-    for (text, end, answer) in BYTES {
-        assert_answer(&rt, rt.alloc(), text, *end, answer)?;
-    }
-    Ok(())
-}
-
-#[test]
-fn prefixes_have_their_answers(rt: HostRuntime) -> Result<(), Fail> {
-    let text = b"item a\nitem b\nflush a b\n";
-    for (first, last, end, answer) in [
-        (0, 0, End::Good, "plan 0 / chain 0"),
-        (1, 3, End::Refused, "refused 4 line 1"),
-        (4, 5, End::Refused, "refused 5 line 1"),
-        (6, 7, End::Good, "plan 1 / wq 0 a / chain 1"),
-        (8, 10, End::Refused, "refused 4 line 2"),
-        (11, 12, End::Refused, "refused 5 line 2"),
-        (13, 14, End::Good, "plan 1 / wq 0 a b / chain 1"),
-        (15, 18, End::Refused, "refused 4 line 3"),
-        (19, 22, End::Refused, "refused 5 line 3"),
-        (
-            23,
-            24,
-            End::Good,
-            "plan 2 / wq 0 b / wq 1 a / chain 2 / arc a b",
-        ),
+    for (end, rows) in [
+        (End::Good, PLANS),
+        (End::Bad, CIRCLES),
+        (End::Refused, REFUSALS),
     ] {
-        for len in first..=last {
-            let prefix = text.get(..len).ok_or("a text of 24 bytes")?;
-            assert_answer(&rt, rt.alloc(), prefix, end, answer)?;
+        for (row, answer) in rows {
+            let text = lines_of(rt.alloc(), row)?;
+            assert_answer(&rt, rt.alloc(), &text, end, answer)?;
         }
     }
     Ok(())

@@ -27,14 +27,29 @@ fn want_of_memory_changes_no_answer(rt: HostRuntime) -> Result<(), Fail> {
             "plan 2 / wq 0 b / wq 1 a / chain 2 / arc a b",
         ),
         (
+            "item a / item b / item c / ordered c b / flush a c / flush c b",
+            End::Bad,
+            "circle 1 / arc c b",
+        ),
+        (
             "item a / item b / flush b a / flush a b",
             End::Bad,
-            "circle",
+            "circle 2 / arc a b / arc b a",
+        ),
+        (
+            "item a / item b / item c / item d / ordered b c / flush a b / flush c d",
+            End::Good,
+            "plan 3 / wq 0 d / wq 1 b c / wq 2 a / chain 3 / arc a b / arc c d",
         ),
         (
             "item a / item b / flush a b / flush b c",
             End::Refused,
             "refused 8 line 4",
+        ),
+        (
+            "item a / item b / ordered a b / ordered b",
+            End::Refused,
+            "refused 11 line 4",
         ),
         ("item a / items b", End::Refused, "refused 4 line 2"),
     ] {
@@ -42,7 +57,7 @@ fn want_of_memory_changes_no_answer(rt: HostRuntime) -> Result<(), Fail> {
         let answer = lines_of(rt.alloc(), answer)?;
         let mut refused = false;
         let mut answered = false;
-        for size in (0..4096usize).step_by(16) {
+        for size in (0..8192usize).step_by(16) {
             let (outcome, written, left) = run_in(rt.alloc(), size, &text)?;
             assert_eq!(rt; left, 0, "{row}: a heap of {size} bytes");
             if outcome == Err(Fault::Memory) {

@@ -63,6 +63,35 @@ fn lines_and_words_stand_in_their_text(rt: HostRuntime) -> Result<(), Fail> {
 }
 
 #[test]
+fn comments_stand_in_no_word(rt: HostRuntime) -> Result<(), Fail> {
+    let text = Text::new(b"wq a # b\r\n\tx#y\r\r\nz\r", 99, 99)?;
+    assert_lines(
+        &rt,
+        &text,
+        &[
+            (1, 0, 8, b"wq a # b"),
+            (2, 10, 15, b"\tx#y\r"),
+            (3, 17, 19, b"z\r"),
+        ],
+    );
+    assert_words(
+        &rt,
+        &text,
+        &[
+            (1, 0, 2, b"wq"),
+            (1, 3, 4, b"a"),
+            (2, 11, 12, b"x"),
+            (3, 17, 19, b"z\r"),
+        ],
+    );
+    let contents = [b"wq a ".as_slice(), b"\tx", b"z\r"];
+    for (line, content) in text.lines().zip(contents) {
+        assert_eq!(rt; line.content(), content);
+    }
+    Ok(())
+}
+
+#[test]
 fn limits_refuse_the_first_fault(rt: HostRuntime) -> Result<(), Fail> {
     let text = b"abc\nabcd\nabcde";
     assert_eq!(rt; Text::new(text, 14, 5)?.bytes(), text.as_slice());
@@ -76,6 +105,10 @@ fn limits_refuse_the_first_fault(rt: HostRuntime) -> Result<(), Fail> {
         assert_eq!(rt; is, Some(fault), "limits {max_text} and {max_line}");
         assert_eq!(rt; (fault.code(), fault.line()), (code, no), "{fault:?}");
     }
+    // A carriage return that is dropped isn't counted in its line, and one that stays is.
+    assert!(rt; Text::new(b"abc\r\n#bc\r\n", 10, 3).is_ok());
+    let is = Text::new(b"abc\r\nabc\r", 10, 3).err();
+    assert_eq!(rt; is, Some(TextError::LineTooLong { line: 2 }));
     Ok(())
 }
 
