@@ -1,5 +1,5 @@
 -- Grouping: which groups the `ordered` lines of a declaration make, or what the first fault is.
-use Rattle.std.specs.Prelude.{◌≡◌, ◌≢◌, ℕ, ◌+◌, ◌==◌, ◌||◌, ◌&&◌, nat_lt, Bool, true, false, if◌then◌else◌, List, [], ◌∷◌, ◌++◌, length, map, flat_map, filter, position, slice_index_or, bytes_eq, Option, Some, None, Result, Ok, Err, Contains, AllPairs}
+use Rattle.std.specs.Prelude.{◌≡◌, ◌≢◌, ℕ, ◌==◌, ◌||◌, ◌&&◌, nat_lt, Bool, false, if◌then◌else◌, List, [], ◌∷◌, ◌++◌, length, map, flat_map, filter, position, slice_index_or, bytes_eq, Option, Some, None, Result, Ok, Err, Contains, AllPairs}
 use Rattle.std.specs.List.{Any, list_any, count_by, range_with_len}
 use Rattle.std.specs.Option.{unwrap_or}
 use Rattle.wq_text.specs.Refusal.{Refusal}

@@ -45,11 +45,7 @@ impl<A: Allocator + Copy> Groups<A> {
     ///
     /// The answer is `GroupedTwice` (11) with the lowest line that has a name a second time; or `OutOfMemory` (20) where a
     /// growth was refused before it.
-    pub fn read(
-        alloc: A,
-        view: &DeclView<'_>,
-        table: &ItemTable<'_, A>,
-    ) -> Result<Self, GroupError>
+    pub fn read(alloc: A, view: &DeclView<'_>, table: &ItemTable<'_, A>) -> Result<Self, GroupError>
         requires { table_of view.now ≡ Ok table.now }
         ensures groups { IfOk result (λ g. groups_of view.now table.now.names ≡ Ok g) }
         ensures fault { IfErr result (λ e. IsGroupFaultOf e (groups_of view.now table.now.names)) }
