@@ -9,3 +9,4 @@ pub mod Walks
 pub mod UnderWay
 pub mod OneCircle
 pub mod Existence
+pub mod Tails

@@ -13,7 +13,7 @@ use Rattle.wq_levels.proofs.Ranks.{AreRanks-no_circle}
 use Rattle.wq_levels.proofs.Walks.{length-vertices_left, IsWalk-append, IsWalk-same, IsWalk-end, IsWalk-passes, IsWalk-leads, IsWalk-turn}
 use Rattle.wq_levels.proofs.UnderWay.{IsUnderWay, IsUnderWay-few}
 
-some_length : {X : Type 0} (xs : List X) → xs ≢ [] → 0 < length xs
+pub some_length : {X : Type 0} (xs : List X) → xs ≢ [] → 0 < length xs
 some_length [] some = absurd (some refl)
 some_length (x ∷ xs) some = omega arith
 

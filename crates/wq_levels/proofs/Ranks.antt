@@ -1,13 +1,13 @@
 -- Laws of ranks of wait graphs.
-use Rattle.std.proofs.Common.{◌≡◌, ℕ, zero, suc, ◌+◌, ◌<◌, ◌≤◌, inl, inr, List, length, slice_index, EachIndex, SomeIndex, MatchBool, nat_eq, refl, sym, ◌∙◌, ext_get_or, ne_eqb, arith}
-use Rattle.std.specs.List.{All}
+use Rattle.std.proofs.Common.{◌≡◌, ℕ, zero, suc, ◌+◌, ◌<◌, ◌≤◌, inl, inr, List, length, slice_index, EachIndex, SomeIndex, MatchBool, nat_eq, refl, sym, ◌∙◌, ext_get_or, ne_eqb, subst, arith}
+use Rattle.std.specs.List.{All, Any}
 use Rattle.std.proofs.lemmas.Bool.{cases_lt}
 use Rattle.std.proofs.lemmas.List.Elements.{All-from_get_or}
 use Rattle.wq_items.specs.Chain.{HasCircle}
-use Rattle.wq_items.proofs.Chains.{BeginsChain-at, BeginsChain-less, IsRank-unique, IsRank-falls}
+use Rattle.wq_items.proofs.Chains.{BeginsChain-at, BeginsChain-less, BeginsChain-next, IsRank-unique, IsRank-falls, IsRank-most}
 use Rattle.wq_items.proofs.Circles.{no_circle_from_ranks, circle_from_BeginsChain}
 use Rattle.wq_graph.specs.declared.arc.WaitArc.{WaitArc}
-use Rattle.wq_graph.specs.Graph.{IsGraph, HasArc}
+use Rattle.wq_graph.specs.Graph.{IsGraph, HasArc, arcs_at}
 use Rattle.wq_levels.specs.Ranks.{AreRanks}
 use Rattle.wq_levels.specs.Rounds.{AreCapped}
 use Rattle.wq_levels.specs.Walks.{Remains, MarkRemaining}
@@ -64,6 +64,17 @@ module _ (graph : List (List WaitArc)) (ranks : List ℕ) (sound : IsGraph graph
   pub AreRanks-fall : (v w : ℕ) → v < length graph → HasArc graph v w → slice_index ranks w < slice_index ranks v
   AreRanks-fall v w vertex arc =
       IsRank-falls (HasArc graph) v w (slice_index ranks v) (slice_index ranks w) arc (are.longest v vertex) (are.longest w (HasArc-below graph sound v w arc))
+
+  -- and has an arc to one of the next lower rank, if it is not of the lowest
+  pub AreRanks-next : (v r : ℕ) → v < length graph → slice_index ranks v ≡ r + 1 → Any (λ (a : WaitArc). slice_index ranks a.head ≡ r) (arcs_at graph v)
+  AreRanks-next v r vertex above =
+      let on = BeginsChain-next (HasArc graph) v r (BeginsChain-at (HasArc graph) v (slice_index ranks v + 1) (r + 2) (omega arith) (are.longest v vertex).0) in
+      let w = on.0 in
+      let arc = on.1 in
+      let most : r ≤ slice_index ranks w = IsRank-most (HasArc graph) w (slice_index ranks w) r (are.longest w (HasArc-below graph sound v w arc)) on.2 in
+      let less : slice_index ranks w < slice_index ranks v = AreRanks-fall v w vertex arc in
+      let same : slice_index ranks w ≡ r = omega arith in
+      (arc.0, arc.1, arc.2, arc.3, subst (λ u. slice_index ranks u ≡ r) (sym arc.4) same)
 
   -- no vertex ranks as high as there are vertices
   pub AreRanks-few : All (λ r. r < length graph) ranks

@@ -5,8 +5,8 @@ use Rattle.wq_items.specs.Chain.{BeginsChain}
 use Rattle.wq_graph.specs.declared.arc.WaitArc.{WaitArc}
 use Rattle.wq_graph.specs.Graph.{HasArc, arcs_at}
 
--- a walk of as many arcs as there are vertices begins at v: taking off, again and again, each vertex that has no arc into
--- what remains would leave v
+-- a walk of as many arcs as there are vertices begins at v: taking off, again and again, each vertex that has no arc
+-- into what remains would leave v
 abbrev pub Remains : List (List WaitArc) → ℕ → Type 0
 Remains graph v = (v < length graph) × BeginsChain (HasArc graph) v (length graph + 1)
 
@@ -49,8 +49,8 @@ pub record IsWalkedCircle (graph : List (List WaitArc)) (circle : List WaitArc) 
   pub some : circle ≢ []
   pub once : AllPairs (λ (v w : ℕ). v ≢ w) (vertices_left start (lead_in ++ circle))
 
--- arcs of the graph, one at least, that lead round: `left` has of each the vertex that it leaves; it leads to the vertex
--- that the next one leaves, and the last leads to the vertex that the first leaves; no vertex is left twice
+-- arcs of the graph, one at least, that lead round: `left` has of each the vertex that it leaves; it leads to the
+-- vertex that the next one leaves, and the last leads to the vertex that the first leaves; no vertex is left twice
 pub record LeadsRound (graph : List (List WaitArc)) (circle : List WaitArc) : Type 0 where
   pub some : circle ≢ []
   pub left : List ℕ

@@ -17,18 +17,24 @@ pub fn a_graph_has_ranks_or_a_circle()
 pub fn ranks_rule_out_the_circle()
     ensures walked { (graph : List (List WaitArc)) (ranks : List ℕ) (circle : List WaitArc) →
         IsGraph graph → AreRanks graph ranks → ¬ IsWalkedCircle graph circle }
-    ensures any { (graph : List (List WaitArc)) (ranks : List ℕ) → AreRanks graph ranks → ¬ HasCircle (HasArc graph) (length graph) }
+    ensures any { (graph : List (List WaitArc)) (ranks : List ℕ) →
+        AreRanks graph ranks → ¬ HasCircle (HasArc graph) (length graph) }
 {}
 
 /// A wait graph has one list of ranks at most.
 pub fn the_ranks_are_the_only_ones()
-    ensures { (graph : List (List WaitArc)) (one other : List ℕ) → AreRanks graph one → AreRanks graph other → one ≡ other }
+    ensures { (graph : List (List WaitArc)) (one other : List ℕ) →
+        AreRanks graph one → AreRanks graph other → one ≡ other }
 {}
 
-/// A vertex ranks above each vertex that it has an arc to, and below the number of vertices.
+/// A vertex ranks one above the highest of those that its arcs lead to, at 0 where it has no arc, and below the number
+/// of vertices.
 pub fn ranks_fall_along_arcs()
-    ensures fall { (graph : List (List WaitArc)) (ranks : List ℕ) (v w : ℕ) →
-        IsGraph graph → AreRanks graph ranks → v < length graph → HasArc graph v w → slice_index ranks w < slice_index ranks v }
+    ensures fall { (graph : List (List WaitArc)) (ranks : List ℕ) (v w : ℕ) → IsGraph graph → AreRanks graph ranks →
+        v < length graph → HasArc graph v w → slice_index ranks w < slice_index ranks v }
+    ensures by_one { (graph : List (List WaitArc)) (ranks : List ℕ) (v r : ℕ) → IsGraph graph → AreRanks graph ranks →
+        v < length graph → slice_index ranks v ≡ r + 1 →
+        Any (λ (a : WaitArc). slice_index ranks a.head ≡ r) (arcs_at graph v) }
     ensures few { (graph : List (List WaitArc)) (ranks : List ℕ) →
         IsGraph graph → AreRanks graph ranks → All (λ r. r < length graph) ranks }
 {}
@@ -41,16 +47,18 @@ pub fn the_circle_is_the_only_one()
 
 /// The circle of the walk is a circle: its arcs are arcs of the graph and lead round, and it leaves no vertex twice.
 pub fn a_walked_circle_is_a_circle()
-    ensures round { (graph : List (List WaitArc)) (circle : List WaitArc) → IsWalkedCircle graph circle → LeadsRound graph circle }
-    ensures few { (graph : List (List WaitArc)) (circle : List WaitArc) → IsWalkedCircle graph circle → length circle ≤ length graph }
+    ensures round { (graph : List (List WaitArc)) (circle : List WaitArc) →
+        IsWalkedCircle graph circle → LeadsRound graph circle }
+    ensures few { (graph : List (List WaitArc)) (circle : List WaitArc) →
+        IsWalkedCircle graph circle → length circle ≤ length graph }
     ensures has_circle { (graph : List (List WaitArc)) (circle : List WaitArc) →
         IsGraph graph → IsWalkedCircle graph circle → HasCircle (HasArc graph) (length graph) }
 {}
 
 /// Where vertices wait in a circle, whichever it is, the walk runs into one.
 pub fn the_walk_finds_a_circle()
-    ensures { (graph : List (List WaitArc)) →
-        IsGraph graph → HasCircle (HasArc graph) (length graph) → (circle : List WaitArc) × IsWalkedCircle graph circle }
+    ensures { (graph : List (List WaitArc)) → IsGraph graph → HasCircle (HasArc graph) (length graph) →
+        (circle : List WaitArc) × IsWalkedCircle graph circle }
 {}
 
 /// Each vertex that remains has an arc to one that remains, and no more vertices than these hold each other so.
@@ -58,5 +66,6 @@ pub fn what_remains_is_what_holds_each_other()
     ensures held { (graph : List (List WaitArc)) (v : ℕ) →
         IsGraph graph → Remains graph v → Any (λ (a : WaitArc). Remains graph a.head) (arcs_at graph v) }
     ensures most { (graph : List (List WaitArc)) (vs : List ℕ) →
-        All (λ v. (v < length graph) × Any (λ (a : WaitArc). Contains vs a.head) (arcs_at graph v)) vs → All (Remains graph) vs }
+        All (λ v. (v < length graph) × Any (λ (a : WaitArc). Contains vs a.head) (arcs_at graph v)) vs →
+        All (Remains graph) vs }
 {}

@@ -1,7 +1,8 @@
 //! The rank of each vertex, or the circle that leaves some without one.
 //!
-//! The rounds find the ranks, or else which vertices remain, and the walk then finds the circle. Most of the running time is
-//! that of the rounds: at most the vertices times the vertices and arcs.
+//! The rounds find the ranks, or else which vertices remain, and the walk then finds the circle: the
+//! workqueues of "Plan texts" and the circle of "Circle texts" in docs/FORMAT.md. Most of the running time is that of
+//! the rounds: at most the vertices times the vertices and arcs.
 
 ghost use Rattle.std.specs.Prelude.{IfOk};
 ghost use Rattle.wq_levels.specs.Ranked.{IsRanking};
