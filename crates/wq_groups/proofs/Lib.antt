@@ -1,2 +1,11 @@
 pub mod MemberLemmas
 pub mod Declarations
+pub mod Heads
+pub mod Among
+pub mod Regrouped
+pub mod Together
+pub mod Partitions
+mod MarkLemmas
+mod NoteLemmas
+mod NumberLemmas
+mod FirstLists

@@ -1,5 +1,5 @@
 -- Grouping: which groups the `ordered` lines of a declaration make, or what the first fault is.
-use Rattle.std.specs.Prelude.{◌≡◌, ℕ, ◌+◌, ◌==◌, ◌||◌, ◌&&◌, nat_lt, Bool, true, false, if◌then◌else◌, List, [], ◌∷◌, ◌++◌, length, map, filter, position, slice_index_or, bytes_eq, Option, Some, None, Result, Ok, Err, Contains}
+use Rattle.std.specs.Prelude.{◌≡◌, ◌≢◌, ℕ, ◌==◌, ◌||◌, ◌&&◌, nat_lt, Bool, false, if◌then◌else◌, List, [], ◌∷◌, ◌++◌, length, map, flat_map, filter, position, slice_index_or, bytes_eq, Option, Some, None, Result, Ok, Err, Contains, AllPairs}
 use Rattle.std.specs.List.{Any, list_any, count_by, range_with_len}
 use Rattle.std.specs.Option.{unwrap_or}
 use Rattle.wq_text.specs.Refusal.{Refusal}
@@ -30,7 +30,26 @@ first_regrouped before [] = None
 first_regrouped before (d ∷ ds) =
     if has_twin (before ++ names_ordered d) then Some d.0 else first_regrouped (before ++ names_ordered d) ds
 
+-- the names on all `ordered` lines, in order
+abbrev pub all_ordered : List (ℕ × Directive) → List (List ℕ)
+all_ordered ds = flat_map names_ordered ds
+
+-- line n is the first that orders a name again: the names on the `ordered` lines before it all differ, and with those on
+-- the line they don't
+pub record IsLowestRegrouped (ds : List (ℕ × Directive)) (n : ℕ) : Type 0 where
+  pub before : List (ℕ × Directive)
+  pub line : ℕ × Directive
+  pub after : List (ℕ × Directive)
+  pub parts : ds ≡ before ++ (line ∷ after)
+  pub number : line.0 ≡ n
+  pub apart : AllPairs (λ (a b : List ℕ). a ≢ b) (all_ordered before)
+  pub twice : ¬ AllPairs (λ (a b : List ℕ). a ≢ b) (all_ordered (before ++ (line ∷ [])))
+
 -- ---- the groups
+
+-- an `ordered` line has both names
+abbrev pub ShareLine : List (ℕ × Directive) → List ℕ → List ℕ → Type 0
+ShareLine ds a b = Any (λ (d : ℕ × Directive). Contains (names_ordered d) a × Contains (names_ordered d) b) ds
 
 -- the two names are one, or an `ordered` line has both
 abbrev pub are_together : List (ℕ × Directive) → List ℕ → List ℕ → Bool

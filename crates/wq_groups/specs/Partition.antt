@@ -1,5 +1,5 @@
 -- Partitions: the groups of the items, each item in one.
-use Rattle.std.specs.Prelude.{◌≡◌, ℕ, ◌<◌, ◌≤◌, ◌==◌, List, length, filter, slice_index, take, Contains}
+use Rattle.std.specs.Prelude.{◌≡◌, ◌↔◌, ℕ, ◌<◌, ◌≤◌, ◌==◌, List, length, filter, slice_index, take, Contains}
 use Rattle.std.specs.List.{All, range_with_len}
 
 -- of each item in turn the number of its group, and how many groups there are
@@ -19,3 +19,11 @@ pub record IsPartition (p : Partition) : Type 0 where
   pub within : All (λ g. g < p.groups) p.group_of
   pub filled : (g : ℕ) → g < p.groups → Contains p.group_of g
   pub in_order : (i g : ℕ) → i < length p.group_of → g < slice_index p.group_of i → Contains (take i p.group_of) g
+
+-- items i and j are in one group
+abbrev pub ShareGroup : Partition → ℕ → ℕ → Type 0
+ShareGroup p i j = slice_index p.group_of i ≡ slice_index p.group_of j
+
+-- items share a group in the one partition exactly where they do in the other
+abbrev pub AreAlike : Partition → Partition → Type 0
+AreAlike p q = (i j : ℕ) → i < length p.group_of → j < length p.group_of → ShareGroup p i j ↔ ShareGroup q i j

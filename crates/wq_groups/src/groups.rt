@@ -8,10 +8,13 @@
 ghost use Rattle.std.specs.Prelude.{◌≡◌, ◌<◌, length, Ok, IfOk, IfErr, slice_get, slice_index, Some};
 ghost use Rattle.wq_items.specs.Building.{table_of};
 ghost use Rattle.wq_groups.specs.Partition.{IsPartition, members_of};
+ghost use Rattle.wq_groups.specs.declared.fault.GroupError.TheVariants.{OutOfMemory};
 ghost use Rattle.wq_groups.specs.Grouping.{groups_of, IsGroupFaultOf};
 
 use crate::fault::GroupError;
 use crate::ids::GroupId;
+use crate::numbering::number;
+use crate::reading::first_members;
 use std::alloc::Allocator;
 use std::marker::Model;
 use wq_decl::DeclView;
@@ -42,16 +45,15 @@ impl<A: Allocator + Copy> Groups<A> {
     ///
     /// The answer is `GroupedTwice` (11) with the lowest line that has a name a second time; or `OutOfMemory` (20) where a
     /// growth was refused before it.
-    pub fn read(
-        alloc: A,
-        view: &DeclView<'_>,
-        table: &ItemTable<'_, A>,
-    ) -> Result<Self, GroupError>
+    pub fn read(alloc: A, view: &DeclView<'_>, table: &ItemTable<'_, A>) -> Result<Self, GroupError>
         requires { table_of view.now ≡ Ok table.now }
         ensures groups { IfOk result (λ g. groups_of view.now table.now.names ≡ Ok g) }
         ensures fault { IfErr result (λ e. IsGroupFaultOf e (groups_of view.now table.now.names)) }
+        ensures memory { IfErr result (λ e. e ≡ OutOfMemory → 0 < length table.now.names) }
     {
-        Err(GroupError::OutOfMemory)
+        let first = first_members(alloc, view, table)?;
+        let (group_of, members) = number(alloc, first.as_slice())?;
+        Ok(Groups { group_of, members })
     }
 
     /// How many groups there are, at most 4,096.

@@ -11,6 +11,9 @@ mod assignment;
 mod fault;
 mod groups;
 mod ids;
+pub mod laws;
+mod numbering;
+mod reading;
 
 pub use assignment::Assignment;
 pub use fault::GroupError;

@@ -1,0 +1,118 @@
+//! Going over the `ordered` lines: of each item the first-declared one of its group.
+//!
+//! The words of each line are gone over twice, so this takes time in the number of the words, and memory in the number of
+//! items.
+
+ghost use Rattle.std.specs.Prelude.{◌≡◌, ◌≢◌, ◌↔◌, ◌++◌, ◌∷◌, ◌<◌, [], ℕ, List, length, map, Ok, IfOk, IfErr, IfSome, IsSome, OnSome, IsTrue, AllPairs, None, if◌then◌else◌, bytes_eq};
+ghost use Rattle.std.specs.List.{list_any};
+ghost use Rattle.wq_decl.specs.declared.directive.Directive.{Directive};
+ghost use Rattle.wq_decl.specs.declared.directive.Directive.TheVariants.{Ordered};
+ghost use Rattle.wq_items.specs.Table.{IsTable};
+ghost use Rattle.wq_items.specs.Building.{table_of, items_named};
+ghost use Rattle.wq_groups.specs.declared.fault.GroupError.TheVariants.{OutOfMemory};
+ghost use Rattle.wq_groups.specs.Grouping.{all_ordered, first_regrouped, first_member, groups_of, IsGroupFaultOf};
+ghost use Rattle.wq_groups.specs.Reading.{names_in, marks_of, lowest_of, IsNoted};
+
+use crate::fault::GroupError;
+use std::alloc::Allocator;
+use wq_decl::{DeclView, Directive};
+use wq_items::{ItemId, ItemTable};
+use wq_text::Words;
+
+/// Marks the items of these names, unless one of them is marked already or stands there twice: then `None`. Otherwise the
+/// first-declared of these items.
+fn mark<A: Allocator + Copy>(
+    table: &ItemTable<'_, A>,
+    ordered: &mut [bool],
+    names: Words<'_>,
+) -> Option<ItemId>
+    requires table { IsTable table.now }
+    requires marks { length ordered.old ≡ length table.now.names }
+    requires known { IsSome (items_named table.now.names names) }
+    ensures first { IfSome result (λ i. i ≡ lowest_of table.now.names (names_in names.entry)) }
+    ensures marked { (before : List (List ℕ)) → ordered.old ≡ marks_of table.now.names before → OnSome result (ordered.new ≡ marks_of table.now.names (before ++ names_in names.entry)) }
+    ensures apart { (before : List (List ℕ)) → ordered.old ≡ marks_of table.now.names before → AllPairs (λ (a b : List ℕ). a ≢ b) before → IsSome result ↔ AllPairs (λ (a b : List ℕ). a ≢ b) (before ++ names_in names.entry) }
+{
+    let mut lowest = table.len();
+    for word in names {
+        let item = table.find(word.bytes()).unwrap().get();
+        let i = usize::from(item);
+        if ordered[i] {
+            return None;
+        }
+        ordered[i] = true;
+        if item < lowest {
+            lowest = item;
+        }
+    }
+    Some(ItemId::new(lowest))
+}
+
+/// Sets the first-declared item of the group of the items of these names.
+fn set_first<A: Allocator + Copy>(
+    table: &ItemTable<'_, A>,
+    first: &mut [ItemId],
+    names: Words<'_>,
+    lowest: ItemId,
+)
+    requires table { IsTable table.now }
+    requires items { length first.old ≡ length table.now.names }
+    requires known { IsSome (items_named table.now.names names) }
+    ensures { (before : List ℕ → ℕ) → first.old ≡ map before table.now.names → first.new ≡ map (λ (name : List ℕ). if list_any (bytes_eq name) (names_in names.entry) then lowest else before name) table.now.names }
+{
+    for word in names {
+        let item = table.find(word.bytes()).unwrap();
+        first[usize::from(item.get())] = lowest;
+    }
+}
+
+/// Puts the items of these names into one group, if none of them is in one already and none stands there twice.
+fn put_together<A: Allocator + Copy>(
+    table: &ItemTable<'_, A>,
+    first: &mut [ItemId],
+    ordered: &mut [bool],
+    names: Words<'_>,
+) -> bool
+    requires table { IsTable table.now }
+    requires items { length first.old ≡ length table.now.names }
+    requires marks { length ordered.old ≡ length table.now.names }
+    requires known { IsSome (items_named table.now.names names) }
+    ensures noted { (ds : List (ℕ × Directive)) (n : ℕ) → IsNoted ds table.now.names first.old ordered.old → IsTrue result → IsNoted (ds ++ ((n, Ordered names.entry) ∷ [])) table.now.names first.new ordered.new }
+    ensures apart { (ds : List (ℕ × Directive)) → IsNoted ds table.now.names first.old ordered.old → IsTrue result ↔ AllPairs (λ (a b : List ℕ). a ≢ b) (all_ordered ds ++ names_in names.entry) }
+{
+    let Some(lowest) = mark(table, ordered, names.again()) else {
+        return false;
+    };
+    set_first(table, first, names, lowest);
+    true
+}
+
+/// Of each item of a table the first-declared item of its group. The table was read from this view.
+///
+/// The errors are those of `Groups::read`.
+pub(crate) fn first_members<A: Allocator + Copy>(
+    alloc: A,
+    view: &DeclView<'_>,
+    table: &ItemTable<'_, A>,
+) -> Result<Vec<ItemId, A>, GroupError>
+    requires { table_of view.now ≡ Ok table.now }
+    ensures once { IfOk result (λ _. first_regrouped [] view.now ≡ None) }
+    ensures first { IfOk result (λ first. first.items ≡ map (first_member view.now table.now.names) table.now.names) }
+    ensures fault { IfErr result (λ e. IsGroupFaultOf e (groups_of view.now table.now.names)) }
+    ensures memory { IfErr result (λ e. e ≡ OutOfMemory → 0 < length table.now.names) }
+{
+    let mut first = Vec::new(alloc);
+    let mut ordered = Vec::new(alloc);
+    for i in 0..table.len() {
+        first.push(ItemId::new(i))?;
+        ordered.push(false)?;
+    }
+    for (line, directive) in view.directives() {
+        if let Directive::Ordered(names) = directive {
+            if !put_together(table, first.as_mut_slice(), ordered.as_mut_slice(), names) {
+                return Err(GroupError::GroupedTwice { line });
+            }
+        }
+    }
+    Ok(first)
+}
