@@ -44,7 +44,7 @@ impl<A: Allocator + Copy> Groups<A> {
     /// The groups that the directives of a view declare of the items of its table. The table was read from this view.
     ///
     /// The answer is `GroupedTwice` (11) with the lowest line that has a name a second time; or `OutOfMemory` (20) where a
-    /// growth was refused before it.
+    /// growth was refused before it. Without an item nothing grows.
     pub fn read(alloc: A, view: &DeclView<'_>, table: &ItemTable<'_, A>) -> Result<Self, GroupError>
         requires { table_of view.now ≡ Ok table.now }
         ensures groups { IfOk result (λ g. groups_of view.now table.now.names ≡ Ok g) }
