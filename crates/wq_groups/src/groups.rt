@@ -44,7 +44,7 @@ impl<A: Allocator + Copy> Groups<A> {
     /// The groups that the directives of a view declare of the items of its table. The table was read from this view.
     ///
     /// The error is `GroupedTwice` (11) with the lowest `ordered` line that has a name twice, or one that stands on an
-    /// earlier `ordered` line; or `OutOfMemory` (20) where a growth was refused.
+    /// earlier `ordered` line; or `OutOfMemory` (20) where a growth was refused. Without an item nothing grows.
     pub fn read(alloc: A, view: &DeclView<'_>, table: &ItemTable<'_, A>) -> Result<Self, GroupError>
         requires { table_of view.now ≡ Ok table.now }
         ensures groups { IfOk result (λ g. groups_of view.now table.now.names ≡ Ok g) }

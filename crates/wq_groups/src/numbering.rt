@@ -1,6 +1,6 @@
 //! Numbering the groups in the order of their first-declared members.
 //!
-//! This takes time and memory in the number of the items.
+//! The order is that of "Groups" in docs/FORMAT.md. This takes time and memory in the number of the items.
 
 ghost use Rattle.std.specs.Prelude.{◌≡◌, ◌<◌, ◌≤◌, length, map, slice_index, IfOk, IfErr};
 ghost use Rattle.std.specs.List.{range_with_len};

@@ -1,7 +1,7 @@
 //! Going over the `ordered` lines: of each item the first-declared one of its group.
 //!
-//! The words of each line are gone over twice, so this takes time in the number of the words, and memory in the number of
-//! items.
+//! The rules are those of "Groups" in docs/FORMAT.md. The words of each line are gone over twice, so this takes time in the
+//! number of the words, and memory in the number of items.
 
 ghost use Rattle.std.specs.Prelude.{◌≡◌, ◌≢◌, ◌↔◌, ◌++◌, ◌∷◌, ◌<◌, [], ℕ, List, length, map, Ok, IfOk, IfErr, IfSome, IsSome, OnSome, IsTrue, AllPairs, None, if◌then◌else◌, bytes_eq};
 ghost use Rattle.std.specs.List.{list_any};
@@ -19,8 +19,8 @@ use wq_decl::{DeclView, Directive};
 use wq_items::{ItemId, ItemTable};
 use wq_text::Words;
 
-/// Marks the items of these names, unless one of them is marked already or stands there twice: then `None`. Otherwise the
-/// first-declared of these items.
+/// Marks the items of these names. The answer is the first-declared of them, or `None` where one is marked already or
+/// stands there twice; those before it are marked then.
 fn mark<A: Allocator + Copy>(
     table: &ItemTable<'_, A>,
     ordered: &mut [bool],
@@ -37,7 +37,8 @@ fn mark<A: Allocator + Copy>(
     for word in names {
         let item = table.find(word.bytes()).unwrap().get();
         let i = usize::from(item);
-        if ordered[i] {
+        let is_marked = ordered[i];
+        if is_marked {
             return None;
         }
         ordered[i] = true;
@@ -66,7 +67,8 @@ fn set_first<A: Allocator + Copy>(
     }
 }
 
-/// Puts the items of these names into one group, if none of them is in one already and none stands there twice.
+/// Puts the items of these names into one group, if none of them is in one already and none stands there twice. Otherwise
+/// the answer is `false`, and some are marked that are in no group.
 fn put_together<A: Allocator + Copy>(
     table: &ItemTable<'_, A>,
     first: &mut [ItemId],
