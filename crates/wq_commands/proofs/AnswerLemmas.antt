@@ -128,7 +128,7 @@ ArePrintable-planned text s a chain ends declared planned is =
     let sound = IsSound-declaration text s declared in
     let declaration = IsDeclaration-sound s sound in
     let longest : IsLongestChain d a chain = subst (IsLongestChain d a) (sym planned.longest) (chain_of-longest d declaration a planned.plan) in
-    let few : a.lanes ≤ d.groups = IsPlan-lanes d a planned.plan declaration in
+    let few : a.lanes ≤ d.groups = IsPlan-lanes d declaration a planned.plan in
     printable s chain ends sound (omega (arith, longest.count, few, declaration.partition.few_groups, declaration.partition.few_items)) (λ k x within. (longest.arcs k x within).declared) is
 
 -- and those of a circle

@@ -51,7 +51,7 @@ module _ (arc : WaitArc) (own : arc.head ≡ 0) where
     start = 0;
     least = record { remains = remains; least = λ w lower. absurd (omega (arith, lower)) };
     lead_in = [];
-    turn = 0;
+    entry = 0;
     leads_in = refl;
     comes_back = (
       record {

@@ -1,6 +1,6 @@
 -- The words of directives are words of the lines.
-use Rattle.std.proofs.Common.{ℕ, suc, Bool, true, false, cond, List, [], ◌∷◌, Option, Some, None, Result, Ok, Err, refl, arith}
-use Rattle.std.specs.Prelude.{codes, bytes_eq, Contains}
+use Rattle.std.proofs.Common.{◌≡◌, ℕ, suc, Bool, true, false, cond, List, [], ◌∷◌, Option, Some, None, Result, Ok, Err, refl, arith}
+use Rattle.std.specs.Prelude.{codes, bytes_eq}
 use Rattle.std.specs.List.{All, Any, list_all, cons_option}
 use Rattle.std.proofs.lemmas.List.Elements.{All-nil, All-cons, All-weaker}
 use Rattle.wq_text.specs.Lines.{LineView}
@@ -14,28 +14,22 @@ use Rattle.wq_decl.specs.Names.{is_name, are_names}
 use Rattle.wq_decl.specs.Reading.{is_text_byte, item_reading, flush_reading, ordered_reading, words_reading, reading, directive_in, directives}
 use Rattle.wq_decl.specs.Origins.{words_in, IsFrom}
 
--- a directive, if the reading found one, has these words
+-- a directive, if the reading found one, has the words behind the first
+pub record IsBehindFirst (ws : List WordView) (d : Directive) : Type 0 where
+  pub first : WordView
+  pub words : ws ≡ first ∷ words_in d
+
 abbrev WordsAmong : List WordView → Result (Option Directive) DeclError → Type 0
-WordsAmong ws (Ok (Some d)) = All (Contains ws) (words_in d)
+WordsAmong ws (Ok (Some d)) = IsBehindFirst ws d
 WordsAmong ws (Ok None) = Unit {0}
 WordsAmong ws (Err e) = Unit {0}
-
--- a list has its own elements, with another in front too
-among : (ws : List WordView) → All (Contains ws) ws
-among [] = All-nil (Contains [])
-among (w ∷ ws) =
-    All-cons (Contains (w ∷ ws)) w ws (0, omega arith, refl)
-    (All-weaker (Contains ws) (Contains (w ∷ ws)) (λ (v : WordView) (c : Contains ws v). (suc c.0, omega (arith, c.1), c.2)) ws (among ws))
-
-behind : (first : WordView) (ws : List WordView) → All (Contains (first ∷ ws)) ws
-behind first ws = All-weaker (Contains ws) (Contains (first ∷ ws)) (λ (v : WordView) (c : Contains ws v). (suc c.0, omega (arith, c.1), c.2)) ws (among ws)
 
 item_words : (n : ℕ) (first : WordView) (ws : List WordView) → WordsAmong (first ∷ ws) (item_reading n ws)
 item_words n first [] = tt
 item_words n first (name ∷ []) = chosen (is_name name.bytes)
   where
     chosen : (b : Bool) → WordsAmong (first ∷ name ∷ []) (cond b (Ok (Some (Item name))) (Err (BadName n)))
-    chosen true = All-cons (Contains (first ∷ name ∷ [])) name [] (1, omega arith, refl) (All-nil (Contains (first ∷ name ∷ [])))
+    chosen true = record { first = first; words = refl }
     chosen false = tt
 item_words n first (name ∷ extra ∷ others) = tt
 
@@ -45,7 +39,7 @@ flush_words n first (name ∷ []) = tt
 flush_words n first (name ∷ target ∷ others) = chosen (are_names (name ∷ target ∷ others))
   where
     chosen : (b : Bool) → WordsAmong (first ∷ name ∷ target ∷ others) (cond b (Ok (Some (Flush name (target ∷ others)))) (Err (BadName n)))
-    chosen true = behind first (name ∷ target ∷ others)
+    chosen true = record { first = first; words = refl }
     chosen false = tt
 
 ordered_words : (n : ℕ) (first : WordView) (ws : List WordView) → WordsAmong (first ∷ ws) (ordered_reading n ws)
@@ -53,7 +47,7 @@ ordered_words n first [] = tt
 ordered_words n first (name ∷ others) = chosen (are_names (name ∷ others))
   where
     chosen : (b : Bool) → WordsAmong (first ∷ name ∷ others) (cond b (Ok (Some (Ordered (name ∷ others)))) (Err (BadName n)))
-    chosen true = behind first (name ∷ others)
+    chosen true = record { first = first; words = refl }
     chosen false = tt
 
 cond_words : (ws : List WordView) (b : Bool) (x y : Result (Option Directive) DeclError) → WordsAmong ws x → WordsAmong ws y → WordsAmong ws (cond b x y)
@@ -80,7 +74,7 @@ later line lines d (k, from, lt, at, is) = (suc k, from, omega arith, at, is)
 with_first : (line : LineView) (lines : List LineView) (r : Result (Option Directive) DeclError) → WordsAmong (words_of line) r → All (IsFromSome lines) (directives lines)
     → All (IsFromSome (line ∷ lines)) (cons_option (directive_in line.no r) (directives lines))
 with_first line lines (Ok (Some d)) words rest =
-    All-cons (IsFromSome (line ∷ lines)) (line.no, d) (directives lines) (0, line, omega arith, refl, record { number = refl; words = words })
+    All-cons (IsFromSome (line ∷ lines)) (line.no, d) (directives lines) (0, line, omega arith, refl, record { number = refl; first = words.first; words = words.words })
     (All-weaker (IsFromSome lines) (IsFromSome (line ∷ lines)) (later line lines) (directives lines) rest)
 with_first line lines (Ok None) words rest = All-weaker (IsFromSome lines) (IsFromSome (line ∷ lines)) (later line lines) (directives lines) rest
 with_first line lines (Err e) words rest = All-weaker (IsFromSome lines) (IsFromSome (line ∷ lines)) (later line lines) (directives lines) rest

@@ -1,6 +1,5 @@
 -- Origins: which line a directive comes from.
-use Rattle.std.specs.Prelude.{◌≡◌, ℕ, List, [], ◌∷◌, Contains}
-use Rattle.std.specs.List.{All}
+use Rattle.std.specs.Prelude.{◌≡◌, ℕ, List, [], ◌∷◌}
 use Rattle.wq_text.specs.Lines.{LineView}
 use Rattle.wq_text.specs.Words.{WordView, words_of}
 use Rattle.wq_decl.specs.declared.directive.Directive.{Directive}
@@ -12,7 +11,8 @@ words_in (Item name) = name ∷ []
 words_in (Flush name targets) = name ∷ targets
 words_in (Ordered names) = names
 
--- the directive has the number of this line, and its words are words of it
+-- the directive has the number of this line, and its words are all that follow the first word of it
 pub record IsFrom (d : ℕ × Directive) (line : LineView) : Type 0 where
   pub number : d.0 ≡ line.no
-  pub words : All (Contains (words_of line)) (words_in d.1)
+  pub first : WordView
+  pub words : words_of line ≡ first ∷ words_in d.1

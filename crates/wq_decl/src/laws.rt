@@ -16,7 +16,7 @@ pub fn first_fault_is_the_lowest()
     ensures some { (lines : List LineView) (e : DeclError) → (first_fault lines ≡ Some e) ↔ IsLowestFault lines e }
 {}
 
-/// Each directive has the number of a line and words of that line.
+/// Each directive has the number of a line, and all words of that line but the first.
 pub fn words_are_those_of_the_lines()
     ensures { (lines : List LineView) → All (λ (d : ℕ × Directive). Any (IsFrom d) lines) (directives lines) }
 {}

@@ -34,6 +34,8 @@ impl<A: Allocator> Model for WaitGraph<A> {
 
 impl<A: Allocator + Copy> WaitGraph<A> {
     /// The wait graph of the groups of a table's items. The groups are those of this table.
+    ///
+    /// The only error is want of memory (20).
     pub fn of_groups(
         alloc: A,
         table: &ItemTable<'_, A>,

@@ -1,12 +1,10 @@
 -- The list of first-declared members: what its numbers make.
-use Rattle.std.proofs.Common.{◌≡◌, ℕ, ◌<◌, ◌≤◌, List, [], length, map, Result, Ok, None, refl, sym, ap, subst, ◌∙◌, arith}
+use Rattle.std.proofs.Common.{◌≡◌, ℕ, ◌<◌, ◌≤◌, List, [], length, map, Ok, None, sym, ap, subst, ◌∙◌, arith}
 use Rattle.std.specs.Prelude.{slice_index}
-use Rattle.std.specs.List.{range_with_len}
 use Rattle.std.proofs.lemmas.List.{length-map, get_or-map}
 use Rattle.wq_decl.specs.declared.directive.Directive.{Directive}
 use Rattle.wq_items.specs.Table.{Table}
 use Rattle.wq_items.specs.Building.{table_of}
-use Rattle.wq_groups.specs.Partition.{Partition, IsPartition}
 use Rattle.wq_groups.specs.Grouping.{first_regrouped, first_member, partition_of}
 use Rattle.wq_groups.specs.Numbering.{AreHeads, headed}
 use Rattle.wq_groups.proofs.Heads.{headed-agree}

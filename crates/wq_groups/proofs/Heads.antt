@@ -1,14 +1,14 @@
 -- Heads: items that are the first of their group, counted, where each item has a head F i that stands no later.
 use Rattle.std.proofs.Common.{◌≡◌, ◌≢◌, ℕ, zero, suc, ◌+◌, ◌<◌, ◌≤◌, inl, inr, Bool, true, false, cond, eqb, ltb, List, [], ◌∷◌, ◌++◌, length, map, get_or, take, append-nil, refl, sym, ap, ap₂, subst, ◌∙◌, arith}
 use Rattle.std.specs.Prelude.{Contains}
-use Rattle.std.specs.List.{All, count_by, filter, range_with_len}
-use Rattle.std.proofs.lemmas.Bool.{cases_eq, cases_lt, cases_order, cond-true, cond-false, cond_both, eqb-true, eqb-false, eq-eqb, ne_eqb, lt-ltb, le-ltb}
-use Rattle.std.proofs.lemmas.List.{length-append, length-map, length-take-le, get_or-take}
-use Rattle.std.proofs.lemmas.List.FromFn.{length-range_with_len, length-map-range_with_len, fill_by_all, get_or-map-range_with_len}
+use Rattle.std.specs.List.{count_by, filter, range_with_len}
+use Rattle.std.proofs.lemmas.Bool.{cases_eq, cases_lt, cases_order, cond-true, cond-false, cond_both, eq-eqb, ne_eqb, lt-ltb, le-ltb}
+use Rattle.std.proofs.lemmas.List.{length-append, length-take-le, get_or-take}
+use Rattle.std.proofs.lemmas.List.FromFn.{length-map-range_with_len, fill_by_all, get_or-map-range_with_len}
 use Rattle.std.proofs.lemmas.List.Elements.{filter-append}
 use Rattle.std.proofs.lemmas.List.Sums.{length-filter}
 use Rattle.wq_items.proofs.TableLemmas.{range_with_len-append}
-use Rattle.wq_groups.specs.Partition.{Partition, IsPartition}
+use Rattle.wq_groups.specs.Partition.{IsPartition}
 use Rattle.wq_groups.specs.Numbering.{AreHeads, heads_below, head_number, headed}
 
 pub range_with_len-push : (n : ℕ) → range_with_len 0 (n + 1) ≡ range_with_len 0 n ++ (n ∷ [])
@@ -93,9 +93,9 @@ module _ (F : ℕ → ℕ) where
       kept (suc m) le = elim (cases_eq k (suc m)) [
         | inl same ↦ subst (λ l. filter (λ j. ltb j k) (filter (λ i. eqb (F i) i) (range_with_len 0 l)) ≡ filter (λ i. eqb (F i) i) (range_with_len 0 k)) same (below k (omega arith))
         | inr other ↦
-          ap (filter (λ j. ltb j k)) (heads_more m) ∙ filter-append (λ j. ltb j k) (filter (λ i. eqb (F i) i) (range_with_len 0 m)) (cond (eqb (F m) m) (m ∷ []) [])
-          ∙ ap (λ (l : List ℕ). l ++ filter (λ j. ltb j k) (cond (eqb (F m) m) (m ∷ []) [])) (kept m (omega arith))
-          ∙ ap (λ (l : List ℕ). filter (λ i. eqb (F i) i) (range_with_len 0 k) ++ l) (none m (omega arith) (eqb (F m) m)) ∙ append-nil (filter (λ i. eqb (F i) i) (range_with_len 0 k))
+            ap (filter (λ j. ltb j k)) (heads_more m) ∙ filter-append (λ j. ltb j k) (filter (λ i. eqb (F i) i) (range_with_len 0 m)) (cond (eqb (F m) m) (m ∷ []) [])
+            ∙ ap (λ (l : List ℕ). l ++ filter (λ j. ltb j k) (cond (eqb (F m) m) (m ∷ []) [])) (kept m (omega arith))
+            ∙ ap (λ (l : List ℕ). filter (λ i. eqb (F i) i) (range_with_len 0 k) ++ l) (none m (omega arith) (eqb (F m) m)) ∙ append-nil (filter (λ i. eqb (F i) i) (range_with_len 0 k))
       ]
         where
           none : (m : ℕ) → k ≤ m → (b : Bool) → filter (λ j. ltb j k) (cond b (m ∷ []) []) ≡ []

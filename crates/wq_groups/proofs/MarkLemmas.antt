@@ -1,12 +1,10 @@
 -- Going over the names of an `ordered` line: what is marked, which item is the first, and whose first it becomes.
-use Rattle.std.proofs.Common.{◌≡◌, ◌≢◌, ◌↔◌, ℕ, zero, suc, ◌+◌, ◌<◌, ◌≤◌, ◌⊎◌, inl, inr, Bool, true, false, ◌||◌, cond, List, [], ◌∷◌, ◌++◌, length, map, get_or, set, Option, Some, None, refl, sym, ap, ap₂, subst, ◌∙◌, arith, append_assoc, append-nil}
+use Rattle.std.proofs.Common.{◌≡◌, ℕ, ◌<◌, ◌≤◌, ◌⊎◌, inl, inr, Bool, true, false, ◌||◌, cond, List, [], ◌∷◌, ◌++◌, length, map, get_or, set, Option, Some, None, refl, sym, ap, ap₂, subst, ◌∙◌, arith, append_assoc, append-nil}
 use Rattle.std.specs.Prelude.{IsSome, Contains, bytes_eq}
-use Rattle.std.specs.List.{list_any, position_or_len}
-use Rattle.std.proofs.lemmas.Bool.{cases_Bool, cases_eq, both_ways, or_cases, or_left, or_right, or_parts, cond-true, cond-false, false_from_ne_true, true≢false}
-use Rattle.std.proofs.lemmas.List.{length-map, length-set, get_or-map, get_or-set_same, get_or-set_other, ext_get_or, map-append}
+use Rattle.std.proofs.lemmas.Bool.{cases_Bool, cases_eq, both_ways, cond-true, cond-false, false_from_ne_true}
+use Rattle.std.proofs.lemmas.List.{length-map, length-set, get_or-map, get_or-set_same, get_or-set_other, ext_get_or}
 use Rattle.std.proofs.lemmas.List.Folds.{list_any-append}
-use Rattle.std.proofs.lemmas.List.Elements.{Contains-append_left, Contains-append_right}
-use Rattle.std.proofs.lemmas.List.Sums.{fails_before_first, passes_at_first, position_or_len_is, prefix_len-le-length}
+use Rattle.std.proofs.lemmas.List.Sums.{fails_before_first, passes_at_first, position_or_len_is}
 use Rattle.std.proofs.lemmas.List.Quantifiers.{position-Some}
 use Rattle.wq_text.specs.Words.{WordView}
 use Rattle.wq_items.specs.Table.{item_named}
@@ -14,7 +12,7 @@ use Rattle.wq_items.specs.Building.{items_named, and_item}
 use Rattle.wq_items.proofs.FlushLemmas.{item_named-is}
 use Rattle.wq_items.proofs.GrownTables.{item_named-within}
 use Rattle.wq_groups.specs.Reading.{names_in, marks_of, lowest_of}
-use Rattle.wq_groups.proofs.Among.{is_among, same_name, bytes_eq-same, Contains-is_among, is_among-Contains, Differ, Differ-places, Differ-push, Differ-parts, Differ-append_left}
+use Rattle.wq_groups.proofs.Among.{is_among, same_name, bytes_eq-same, Contains-is_among, is_among-Contains, Differ, Differ-places, Differ-push, Differ-parts}
 
 -- ---- one name of a table
 
@@ -38,12 +36,12 @@ set-named {X} f names w i v differ found =
     at : (k : ℕ) → k < length names → get_or (set (map f names) i v) k v ≡ get_or (map g names) k v
     at k lt = elim (cases_eq k i) [
       | inl same ↦
-        ap (λ n. get_or (set (map f names) i v) n v) same ∙ get_or-set_same (map f names) i v v (omega (arith, i_in, length-map names f))
-        ∙ sym (ap (λ n. get_or (map g names) n v) same ∙ get_or-map g names i [] v i_in ∙ cond-true (bytes_eq (get_or names i []) w) v (f (get_or names i [])) (bytes_eq-same (get_or names i []) w (item_named-is names w i found)))
+          ap (λ n. get_or (set (map f names) i v) n v) same ∙ get_or-set_same (map f names) i v v (omega (arith, i_in, length-map names f))
+          ∙ sym (ap (λ n. get_or (map g names) n v) same ∙ get_or-map g names i [] v i_in ∙ cond-true (bytes_eq (get_or names i []) w) v (f (get_or names i [])) (bytes_eq-same (get_or names i []) w (item_named-is names w i found)))
       | inr other ↦
-        let differs : bytes_eq (get_or names k []) w ≡ false =
-        false_from_ne_true (bytes_eq (get_or names k []) w) (λ e. other (Differ-places names k i differ lt i_in (same_name (get_or names k []) w e ∙ sym (item_named-is names w i found)))) in
-        get_or-set_other (map f names) i k v v other ∙ get_or-map f names k [] v lt ∙ sym (get_or-map g names k [] v lt ∙ cond-false (bytes_eq (get_or names k []) w) v (f (get_or names k [])) differs)
+          let differs : bytes_eq (get_or names k []) w ≡ false =
+          false_from_ne_true (bytes_eq (get_or names k []) w) (λ e. other (Differ-places names k i differ lt i_in (same_name (get_or names k []) w e ∙ sym (item_named-is names w i found)))) in
+          get_or-set_other (map f names) i k v v other ∙ get_or-map f names k [] v lt ∙ sym (get_or-map g names k [] v lt ∙ cond-false (bytes_eq (get_or names k []) w) v (f (get_or names k [])) differs)
     ]
 
 -- what is noted at the item of a name
@@ -112,8 +110,8 @@ lowest_of-push names front w i low found le_own le_front one =
         passes (inr front_is) = elim (cases_Bool (bytes_eq (get_or names low []) w)) [
           | inl own ↦ cond-true (bytes_eq (get_or names low []) w) true (is_among (get_or names low []) front) own
           | inr other ↦
-            cond-false (bytes_eq (get_or names low []) w) true (is_among (get_or names low []) front) other
-            ∙ subst (λ k. is_among (get_or names k []) front ≡ true) (sym front_is) (passes_at_first (λ (name : List ℕ). is_among name front) names [] (subst (λ k. k < length names) front_is lt))
+              cond-false (bytes_eq (get_or names low []) w) true (is_among (get_or names low []) front) other
+              ∙ subst (λ k. is_among (get_or names k []) front ≡ true) (sym front_is) (passes_at_first (λ (name : List ℕ). is_among name front) names [] (subst (λ k. k < length names) front_is lt))
         ]
 
 -- ---- marking

@@ -1,32 +1,29 @@
 -- Going over the directives: what is noted of the items so far.
-use Rattle.std.proofs.Common.{◌≡◌, ◌≢◌, ◌↔◌, ℕ, zero, suc, ◌+◌, ◌<◌, ◌≤◌, ◌⊎◌, inl, inr, Bool, true, false, ◌||◌, ◌&&◌, cond, ltb, List, [], ◌∷◌, ◌++◌, length, map, get_or, take, drop, Option, Some, None, Result, Ok, Err, refl, sym, ap, ap₂, subst, ◌∙◌, arith, append_assoc, append-nil}
+use Rattle.std.proofs.Common.{◌≡◌, ℕ, ◌+◌, ◌<◌, ◌⊎◌, inl, inr, Bool, true, false, ◌||◌, ◌&&◌, cond, ltb, List, [], ◌∷◌, ◌++◌, length, map, get_or, take, drop, Option, Some, None, Ok, Err, refl, sym, ap, subst, ◌∙◌, arith, append_assoc, append-nil}
 use Rattle.std.specs.Prelude.{IsSome, is_some, Contains, bytes_eq, replicate}
-use Rattle.std.specs.List.{All, list_any, position, position_or_len, range_with_len, filter_map}
+use Rattle.std.specs.List.{All, position, position_or_len, range_with_len, filter_map}
 use Rattle.std.specs.Option.{unwrap_or}
-use Rattle.std.proofs.lemmas.Bool.{cases_Bool, both_ways, or_cases, or_left, or_right, and_parts, and_from, cond-true, cond-false, lt-ltb, false_from_ne_true}
+use Rattle.std.proofs.lemmas.Bool.{cases_Bool, or_cases, or_left, or_right, and_parts, and_from, cond-true, cond-false, lt-ltb, false_from_ne_true}
 use Rattle.std.proofs.lemmas.List.{length-map, get_or-map, ext_get_or, get_or-replicate, length-replicate, drop_all, take_all}
 use Rattle.std.proofs.lemmas.List.Folds.{list_any-append}
 use Rattle.std.proofs.lemmas.List.FromFn.{length-range_with_len, get_or-range_with_len}
-use Rattle.std.proofs.lemmas.List.Elements.{All-weaker, All-head, All-tail, Contains-append_left, Contains-get_or, filter_map-append}
+use Rattle.std.proofs.lemmas.List.Elements.{All-weaker, All-head, All-tail, Contains-append_left, filter_map-append}
 use Rattle.std.proofs.lemmas.List.Sums.{position_or_len_is}
 use Rattle.wq_text.specs.Words.{WordView}
 use Rattle.wq_decl.specs.declared.directive.Directive.{Directive}
 use Rattle.wq_decl.specs.declared.directive.Directive.TheVariants.{Item, Flush, Ordered}
 use Rattle.wq_items.specs.Table.{Table, item_named}
 use Rattle.wq_items.specs.Building.{table_of, items_named, and_item}
-use Rattle.wq_items.specs.Flushes.{item_name, names_used}
+use Rattle.wq_items.specs.Flushes.{item_name}
 use Rattle.wq_items.specs.FirstFault.{IsDeclared}
 use Rattle.wq_items.proofs.BuildingLemmas.{names-table_of}
-use Rattle.wq_groups.specs.declared.fault.GroupError.{GroupError}
 use Rattle.wq_groups.specs.declared.fault.GroupError.TheVariants.{GroupedTwice}
-use Rattle.wq_groups.specs.Partition.{Partition}
-use Rattle.wq_groups.specs.Grouping.{names_ordered, all_ordered, first_regrouped, are_together, first_member, groups_of, IsLowestRegrouped}
+use Rattle.wq_groups.specs.Grouping.{names_ordered, all_ordered, are_together, first_member, groups_of}
 use Rattle.wq_groups.specs.Reading.{names_in, marks_of, lowest_of, IsNoted}
-use Rattle.wq_groups.proofs.Among.{is_among, same_name, bytes_eq-same, Contains-is_among, is_among-Contains, Differ, Differ-places, Differ-parts}
-use Rattle.wq_groups.proofs.Regrouped.{all_ordered-push, first_regrouped-none, first_regrouped-lowest}
-use Rattle.wq_groups.proofs.Together.{same_test, prefix_len-agree, position_or_len-agree, position_or_len-le, first_place, on_one_line, on_one_line-ordered, are_together-same, together_cases}
+use Rattle.wq_groups.proofs.Among.{is_among, same_name, bytes_eq-same, Contains-is_among, Differ, Differ-parts}
+use Rattle.wq_groups.proofs.Regrouped.{all_ordered-push, first_regrouped-lowest}
+use Rattle.wq_groups.proofs.Together.{same_test, position_or_len-agree, position_or_len-le, first_place, on_one_line, on_one_line-ordered, are_together-same, together_cases}
 use Rattle.wq_groups.proofs.Partitions.{faultless, groups_of-some}
-use Rattle.wq_groups.proofs.MarkLemmas.{map-agree}
 
 -- ---- one directive more
 
@@ -76,12 +73,12 @@ module _ (ds : List (ℕ × Directive)) (d : ℕ × Directive) (names : List (Li
       → first_member (ds ++ (d ∷ [])) names (get_or names i []) ≡ cond (is_among (get_or names i []) (names_ordered d)) (lowest_of names (names_ordered d)) (first_member ds names (get_or names i []))
   first_member-push i within differ = elim (cases_Bool (is_among (get_or names i []) (names_ordered d))) [
     | inl on ↦
-      ap (λ (o : Option ℕ). unwrap_or o 0) (position-agree (are_together (ds ++ (d ∷ [])) (get_or names i [])) (λ (b : List ℕ). is_among b (names_ordered d)) (λ (b : List ℕ). together_line (get_or names i []) b differ on) names)
-      ∙ first_place (λ (b : List ℕ). is_among b (names_ordered d)) names i [] within on
-      ∙ sym (cond-true (is_among (get_or names i []) (names_ordered d)) (lowest_of names (names_ordered d)) (first_member ds names (get_or names i [])) on)
+        ap (λ (o : Option ℕ). unwrap_or o 0) (position-agree (are_together (ds ++ (d ∷ [])) (get_or names i [])) (λ (b : List ℕ). is_among b (names_ordered d)) (λ (b : List ℕ). together_line (get_or names i []) b differ on) names)
+        ∙ first_place (λ (b : List ℕ). is_among b (names_ordered d)) names i [] within on
+        ∙ sym (cond-true (is_among (get_or names i []) (names_ordered d)) (lowest_of names (names_ordered d)) (first_member ds names (get_or names i [])) on)
     | inr other ↦
-      ap (λ (o : Option ℕ). unwrap_or o 0) (position-agree (are_together (ds ++ (d ∷ [])) (get_or names i [])) (are_together ds (get_or names i [])) (λ (b : List ℕ). together_other (get_or names i []) b other) names)
-      ∙ sym (cond-false (is_among (get_or names i []) (names_ordered d)) (lowest_of names (names_ordered d)) (first_member ds names (get_or names i [])) other)
+        ap (λ (o : Option ℕ). unwrap_or o 0) (position-agree (are_together (ds ++ (d ∷ [])) (get_or names i [])) (are_together ds (get_or names i [])) (λ (b : List ℕ). together_other (get_or names i []) b other) names)
+        ∙ sym (cond-false (is_among (get_or names i []) (names_ordered d)) (lowest_of names (names_ordered d)) (first_member ds names (get_or names i [])) other)
   ]
 
   firsts-push : Differ (all_ordered ds ++ names_ordered d)

@@ -1,9 +1,10 @@
 -- Numbering the items one after the other: the groups so far, and their members.
-use Rattle.std.proofs.Common.{◌≡◌, ◌≢◌, ℕ, zero, suc, ◌+◌, ◌<◌, ◌≤◌, inl, inr, Bool, true, false, cond, eqb, List, [], ◌∷◌, ◌++◌, length, map, get_or, set, refl, sym, ap, ap₂, subst, ◌∙◌, arith, append-nil, Vec}
+use Rattle.std.proofs.Common.{◌≡◌, ◌≢◌, ℕ, zero, suc, ◌+◌, ◌<◌, inl, inr, Bool, false, cond, eqb, List, [], ◌∷◌, ◌++◌, length, map, get_or, set, refl, sym, ap, ap₂, ◌∙◌, arith, append-nil, Vec}
 use Rattle.std.specs.Prelude.{slice_index}
-use Rattle.std.specs.List.{All, filter, range_with_len}
+use Rattle.std.specs.Vec.{with_item}
+use Rattle.std.specs.List.{filter, range_with_len}
 use Rattle.std.proofs.lemmas.Bool.{cases_eq, cond-true, cond-false, eq-eqb, ne_eqb}
-use Rattle.std.proofs.lemmas.List.{length-append, length_push, length-set, length-map, get_or_append_left, get_or_push, get_or-set_same, get_or-set_other, get_or-map, map-set, map_push, get_or_default}
+use Rattle.std.proofs.lemmas.List.{length_push, length-set, get_or_append_left, get_or_push, get_or-set_same, get_or-set_other, get_or-map, map-set, map_push, get_or_default}
 use Rattle.std.proofs.lemmas.List.FromFn.{length-map-range_with_len, get_or-map-range_with_len, map-range_with_len_more, fill_by_all}
 use Rattle.std.proofs.lemmas.List.Elements.{filter-append}
 use Rattle.wq_groups.specs.Partition.{Partition, members_of}
@@ -85,8 +86,8 @@ module _ (n : ℕ) (F : ℕ → ℕ) (are : AreHeads n F) (i : ℕ) (group_of : 
       at : (k : ℕ) → k < length members + 1 → get_or (members ++ ((i ∷ []) ∷ [])) k [] ≡ members_of (group_of ++ (length members ∷ [])) k
       at k lt = elim (cases_eq (length members) k) [
         | inl last ↦
-          get_or_push members (i ∷ []) [] k last
-          ∙ sym (ap (members_of (group_of ++ (length members ∷ []))) (sym last) ∙ members_of-own group_of (length members) ∙ ap₂ (λ (xs : List ℕ) (j : ℕ). xs ++ (j ∷ [])) none long)
+            get_or_push members (i ∷ []) [] k last
+            ∙ sym (ap (members_of (group_of ++ (length members ∷ []))) (sym last) ∙ members_of-own group_of (length members) ∙ ap₂ (λ (xs : List ℕ) (j : ℕ). xs ++ (j ∷ [])) none long)
         | inr other ↦ get_or_append_left members ((i ∷ []) ∷ []) [] k (omega (arith, lt)) ∙ list_of k (omega (arith, lt)) ∙ sym (members_of-other group_of (length members) k other)
       ]
 
@@ -118,8 +119,8 @@ module _ (n : ℕ) (F : ℕ → ℕ) (are : AreHeads n F) (i : ℕ) (group_of : 
         at : (k : ℕ) → k < length members → get_or (set members g (get_or members g [] ++ (i ∷ []))) k [] ≡ members_of (group_of ++ (g ∷ [])) k
         at k lt = elim (cases_eq g k) [
           | inl own ↦
-            ap (λ j. get_or (set members g (get_or members g [] ++ (i ∷ []))) j []) (sym own) ∙ get_or-set_same members g (get_or members g [] ++ (i ∷ [])) [] g_in
-            ∙ ap₂ (λ (xs : List ℕ) (j : ℕ). xs ++ (j ∷ [])) (list_of g g_in) (sym long) ∙ sym (members_of-own group_of g) ∙ ap (members_of (group_of ++ (g ∷ []))) own
+              ap (λ j. get_or (set members g (get_or members g [] ++ (i ∷ []))) j []) (sym own) ∙ get_or-set_same members g (get_or members g [] ++ (i ∷ [])) [] g_in
+              ∙ ap₂ (λ (xs : List ℕ) (j : ℕ). xs ++ (j ∷ [])) (list_of g g_in) (sym long) ∙ sym (members_of-own group_of g) ∙ ap (members_of (group_of ++ (g ∷ []))) own
           | inr apart ↦ get_or-set_other members g k (get_or members g [] ++ (i ∷ [])) [] (λ same. apart (sym same)) ∙ list_of k lt ∙ sym (members_of-other group_of g k apart)
         ]
 
@@ -138,6 +139,9 @@ items_of-push {A} lists own i is = map_push (λ (m : Vec ℕ A). m.items) lists 
 pub items-pushed : {A : Type 0} (v u : Vec ℕ A) (xs : List ℕ) (pushed k : ℕ) → v ≡ u → u.items ≡ xs ++ (pushed ∷ []) → pushed ≡ k → v.items ≡ xs ++ (k ∷ [])
 items-pushed {A} v u xs pushed k same grown is = ap (λ (w : Vec ℕ A). w.items) same ∙ grown ∙ ap (λ n. xs ++ (n ∷ [])) is
 
+pub items-begun : {A : Type 0} (own empty : Vec ℕ A) (item i : ℕ) → own.items ≡ empty.items ++ (item ∷ []) → empty.items ≡ [] → item ≡ i → own.items ≡ i ∷ []
+items-begun own empty item i grown none is = grown ∙ ap₂ (λ (xs : List ℕ) (k : ℕ). xs ++ (k ∷ [])) none is
+
 pub items_of-pushed : {A : Type 0} (v u : Vec (Vec ℕ A) A) (lists : List (Vec ℕ A)) (own : Vec ℕ A) (i : ℕ) → v ≡ u → u.items ≡ lists ++ (own ∷ []) → own.items ≡ i ∷ [] → items_of v.items ≡ items_of lists ++ ((i ∷ []) ∷ [])
 items_of-pushed {A} v u lists own i same grown is = ap (λ (w : Vec (Vec ℕ A) A). items_of w.items) same ∙ ap items_of grown ∙ items_of-push lists own i is
 
@@ -151,3 +155,8 @@ pub items_of-set : {A : Type 0} (lists : List (Vec ℕ A)) (g : ℕ) (now new : 
 items_of-set {A} lists g now new i within at grown =
     map-set (λ (m : Vec ℕ A). m.items) lists g new
     ∙ ap (set (items_of lists) g) (grown ∙ ap (λ (l : List ℕ). l ++ (i ∷ [])) (ap (λ (m : Vec ℕ A). m.items) at ∙ sym (get_or-map (λ (m : Vec ℕ A). m.items) lists g now [] within)))
+
+pub items_of-written : {A : Type 0} (v old : Vec (Vec ℕ A) A) (g : ℕ) (now new : Vec ℕ A) (i item : ℕ) → v ≡ with_item old g new → g < length old.items → now ≡ get_or old.items g now → new.items ≡ now.items ++ (item ∷ []) → item ≡ i
+    → items_of v.items ≡ set (items_of old.items) g (get_or (items_of old.items) g [] ++ (i ∷ []))
+items_of-written {A} v old g now new i item same within at grown is =
+    ap (λ (w : Vec (Vec ℕ A) A). items_of w.items) same ∙ items_of-set old.items g now new i within at (grown ∙ ap (λ k. now.items ++ (k ∷ [])) is)

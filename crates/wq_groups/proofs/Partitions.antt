@@ -1,8 +1,7 @@
 -- The groups of a declaration: that they are a partition, which items share one, and that no other is alike.
-use Rattle.std.proofs.Common.{◌≡◌, ◌≢◌, ◌↔◌, ℕ, zero, suc, ◌+◌, ◌<◌, ◌≤◌, ◌⊎◌, inl, inr, Bool, true, false, ◌&&◌, List, [], ◌∷◌, length, map, get_or, take, Option, Some, None, Result, Ok, Err, IsOk, refl, sym, ap, ap₂, subst, subst₂, ◌∙◌, arith}
-use Rattle.std.specs.Prelude.{AllPairs, Contains, slice_get, slice_index}
-use Rattle.std.specs.List.{All, Any, list_any}
-use Rattle.std.proofs.lemmas.Bool.{cases_lt, cases_order, or_cases, or_left, or_right, and_parts, and_from}
+use Rattle.std.proofs.Common.{◌≡◌, ◌↔◌, ℕ, zero, suc, ◌<◌, ◌≤◌, ◌⊎◌, inl, inr, true, ◌&&◌, List, [], ◌∷◌, length, get_or, Option, Some, None, Result, Ok, Err, IsOk, refl, sym, ap, ap₂, subst, subst₂, ◌∙◌, arith}
+use Rattle.std.specs.Prelude.{Contains, slice_get, slice_index}
+use Rattle.std.proofs.lemmas.Bool.{cases_order, or_cases, or_left, or_right, and_parts, and_from}
 use Rattle.std.proofs.lemmas.List.{length-map, length-take-le, get_or-take, get_or_default, ext_get_or}
 use Rattle.std.proofs.lemmas.Option.{get_or_from_slice_get, slice_get_within}
 use Rattle.wq_decl.specs.declared.directive.Directive.{Directive}
@@ -12,14 +11,14 @@ use Rattle.wq_items.specs.FirstFault.{IsFaultless}
 use Rattle.wq_items.proofs.BuildingLemmas.{names-table_of}
 use Rattle.wq_items.proofs.FaultLemmas.{IsOk-table_of}
 use Rattle.wq_groups.specs.declared.fault.GroupError.{GroupError}
-use Rattle.wq_groups.specs.declared.fault.GroupError.TheVariants.{GroupedTwice, OutOfMemory}
+use Rattle.wq_groups.specs.declared.fault.GroupError.TheVariants.{GroupedTwice}
 use Rattle.wq_groups.specs.Partition.{Partition, IsPartition, ShareGroup, AreAlike}
-use Rattle.wq_groups.specs.Grouping.{names_ordered, all_ordered, first_regrouped, ShareLine, are_together, partition_of, groups_of}
+use Rattle.wq_groups.specs.Grouping.{names_ordered, first_regrouped, ShareLine, are_together, partition_of, groups_of}
 use Rattle.wq_groups.proofs.Among.{is_among, Contains-is_among, is_among-Contains, Differ, Differ-places}
 use Rattle.wq_groups.proofs.Regrouped.{Differ-all_ordered}
-use Rattle.wq_groups.specs.Numbering.{heads_below, head_number, headed}
+use Rattle.wq_groups.specs.Numbering.{heads_below, head_number}
 use Rattle.wq_groups.proofs.Heads.{head_number-at, head_number-same, IsPartition-headed}
-use Rattle.wq_groups.proofs.Together.{on_one_line, are_together-same, are_together-line, together_cases, first_of, first_of-same, together_from_first_of, AreHeads-first_of, partition_of-headed}
+use Rattle.wq_groups.proofs.Together.{on_one_line, are_together-line, together_cases, first_of, first_of-same, together_from_first_of, AreHeads-first_of, partition_of-headed}
 
 -- ---- what a table says of the names
 
@@ -82,8 +81,8 @@ ShareLine-on_one_line : (ds : List (ℕ × Directive)) (a b : List ℕ) → on_o
 ShareLine-on_one_line [] a b e = absurd cc
 ShareLine-on_one_line (d ∷ ds) a b e = elim (or_cases (is_among a (names_ordered d) && is_among b (names_ordered d)) (on_one_line ds a b) e) [
   | inl here ↦
-    let parts = and_parts (is_among a (names_ordered d)) (is_among b (names_ordered d)) here in
-    (0, d, omega arith, refl, (Contains-is_among a (names_ordered d) parts.0, Contains-is_among b (names_ordered d) parts.1))
+      let parts = and_parts (is_among a (names_ordered d)) (is_among b (names_ordered d)) here in
+      (0, d, omega arith, refl, (Contains-is_among a (names_ordered d) parts.0, Contains-is_among b (names_ordered d) parts.1))
   | inr later ↦ let h = ShareLine-on_one_line ds a b later in (suc h.0, h.1, omega (arith, h.2), h.3, h.4)
 ]
 

@@ -1,7 +1,5 @@
 -- The first line that orders a name again.
-use Rattle.std.proofs.Common.{◌≡◌, ◌≢◌, ◌↔◌, ℕ, ◌+◌, inl, inr, Bool, true, false, cond, List, [], ◌∷◌, ◌++◌, Option, Some, None, refl, sym, ap, subst, ◌∙◌, append_assoc, append-nil, arith}
-use Rattle.std.specs.Prelude.{AllPairs}
-use Rattle.std.specs.List.{flat_map}
+use Rattle.std.proofs.Common.{◌≡◌, ◌↔◌, ℕ, inl, inr, true, List, [], ◌∷◌, ◌++◌, Some, None, refl, sym, ap, subst, ◌∙◌, append_assoc, append-nil, arith}
 use Rattle.std.proofs.lemmas.Bool.{cases_Bool, both_ways, cond-true, cond-false}
 use Rattle.std.proofs.lemmas.List.Concat.{flat_map-append}
 use Rattle.wq_decl.specs.declared.directive.Directive.{Directive}
@@ -29,8 +27,8 @@ Differ-none names [] differ none = subst Differ (sym (append-nil names)) differ
 Differ-none names (d ∷ ds) differ none = elim (cases_Bool (has_twin (names ++ names_ordered d))) [
   | inl twin ↦ absurd cc (sym (first_regrouped-here names d ds twin) ∙ none)
   | inr apart ↦
-    let more = Differ-has_twin (names ++ names_ordered d) apart in
-    subst Differ (append_assoc names (names_ordered d) (all_ordered ds)) (Differ-none (names ++ names_ordered d) ds more (sym (first_regrouped-skip names d ds more) ∙ none))
+      let more = Differ-has_twin (names ++ names_ordered d) apart in
+      subst Differ (append_assoc names (names_ordered d) (all_ordered ds)) (Differ-none (names ++ names_ordered d) ds more (sym (first_regrouped-skip names d ds more) ∙ none))
 ]
 
 first_regrouped-append : (names : List (List ℕ)) (xs ys : List (ℕ × Directive)) → Differ (names ++ all_ordered xs) → first_regrouped names (xs ++ ys) ≡ first_regrouped (names ++ all_ordered xs) ys
@@ -70,10 +68,10 @@ lowest_after before (d ∷ ds) n differ is = elim (cases_Bool (has_twin (all_ord
     twice = λ (again : Differ (all_ordered (before ++ (d ∷ [])))). both_ways (has_twin (all_ordered before ++ names_ordered d)) (has_twin-Differ (all_ordered before ++ names_ordered d) (subst Differ (all_ordered-push before d) again)) twin;
   }
   | inr apart ↦
-    let more = Differ-has_twin (all_ordered before ++ names_ordered d) apart in
-    subst (λ (l : List (ℕ × Directive)). IsLowestRegrouped l n) (append_assoc before (d ∷ []) ds)
-    (lowest_after (before ++ (d ∷ [])) ds n (subst Differ (sym (all_ordered-push before d)) more)
-    (ap (λ (l : List (List ℕ)). first_regrouped l ds) (all_ordered-push before d) ∙ sym (first_regrouped-skip (all_ordered before) d ds more) ∙ is))
+      let more = Differ-has_twin (all_ordered before ++ names_ordered d) apart in
+      subst (λ (l : List (ℕ × Directive)). IsLowestRegrouped l n) (append_assoc before (d ∷ []) ds)
+      (lowest_after (before ++ (d ∷ [])) ds n (subst Differ (sym (all_ordered-push before d)) more)
+      (ap (λ (l : List (List ℕ)). first_regrouped l ds) (all_ordered-push before d) ∙ sym (first_regrouped-skip (all_ordered before) d ds more) ∙ is))
 ]
   where
     same_number : {a b : ℕ} → Some a ≡ Some b → a ≡ b

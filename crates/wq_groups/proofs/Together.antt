@@ -1,19 +1,18 @@
 -- Names that are together: who shares a line with whom, and the first-declared items of groups.
-use Rattle.std.proofs.Common.{◌≡◌, ◌≢◌, ◌↔◌, ℕ, zero, suc, ◌+◌, ◌<◌, ◌≤◌, ◌⊎◌, inl, inr, Bool, true, false, ◌||◌, ◌&&◌, not, cond, ltb, List, [], ◌∷◌, ◌++◌, length, map, get_or, Option, Some, None, refl, sym, ap, ap₂, subst, ◌∙◌, arith}
-use Rattle.std.specs.Prelude.{AllPairs, Contains, bytes_eq}
-use Rattle.std.specs.List.{Any, list_any, position, position_or_len, prefix_len, count_by, range_with_len}
+use Rattle.std.proofs.Common.{◌≡◌, ℕ, ◌+◌, ◌<◌, ◌≤◌, ◌⊎◌, inl, inr, Bool, true, false, ◌&&◌, not, cond, List, [], ◌∷◌, length, map, get_or, Some, None, refl, sym, ap, ap₂, subst, ◌∙◌, arith}
+use Rattle.std.specs.Prelude.{Contains, bytes_eq}
+use Rattle.std.specs.List.{list_any, position, position_or_len, prefix_len}
 use Rattle.std.specs.Option.{unwrap_or}
-use Rattle.std.proofs.lemmas.Bool.{cases_Bool, cases_lt, cases_order, both_ways, or_cases, or_left, or_right, and_parts, and_from, true_from_ne_false, false_from_ne_true, lt-ltb}
+use Rattle.std.proofs.lemmas.Bool.{cases_lt, both_ways, or_cases, or_left, or_right, and_parts, and_from, lt-ltb}
 use Rattle.std.proofs.lemmas.List.{length-map, get_or-map}
 use Rattle.std.proofs.lemmas.List.Elements.{Contains-append_left, Contains-append_right}
 use Rattle.std.proofs.lemmas.List.FromFn.{fill_by_all}
 use Rattle.std.proofs.lemmas.List.Sums.{fails_before_first, passes_at_first}
 use Rattle.wq_decl.specs.declared.directive.Directive.{Directive}
-use Rattle.wq_groups.specs.Partition.{Partition, IsPartition}
-use Rattle.wq_groups.specs.Grouping.{names_ordered, all_ordered, are_together, first_member, first_members, group_number, partition_of}
-use Rattle.wq_groups.proofs.Among.{is_among, same_name, bytes_eq-same, Contains-is_among, is_among-Contains, Differ, Differ-append_right, Differ-parts, Differ-places}
-use Rattle.wq_groups.specs.Numbering.{AreHeads, heads_below, head_number, headed}
-use Rattle.wq_groups.proofs.Heads.{heads_count, heads_length, head_number-at, head_number-same, IsPartition-headed}
+use Rattle.wq_groups.specs.Grouping.{names_ordered, all_ordered, are_together, first_member, group_number, partition_of}
+use Rattle.wq_groups.proofs.Among.{is_among, same_name, bytes_eq-same, Contains-is_among, Differ, Differ-append_right, Differ-parts}
+use Rattle.wq_groups.specs.Numbering.{AreHeads, head_number, headed}
+use Rattle.wq_groups.proofs.Heads.{heads_count, heads_length}
 
 -- ---- tests
 
@@ -52,8 +51,8 @@ pub on_one_line-flip : (ds : List (ℕ × Directive)) (a b : List ℕ) → on_on
 on_one_line-flip [] a b e = e
 on_one_line-flip (d ∷ ds) a b e = elim (or_cases (is_among a (names_ordered d) && is_among b (names_ordered d)) (on_one_line ds a b) e) [
   | inl here ↦
-    let parts = and_parts (is_among a (names_ordered d)) (is_among b (names_ordered d)) here in
-    or_left (is_among b (names_ordered d) && is_among a (names_ordered d)) (on_one_line ds b a) (and_from (is_among b (names_ordered d)) (is_among a (names_ordered d)) parts.1 parts.0)
+      let parts = and_parts (is_among a (names_ordered d)) (is_among b (names_ordered d)) here in
+      or_left (is_among b (names_ordered d) && is_among a (names_ordered d)) (on_one_line ds b a) (and_from (is_among b (names_ordered d)) (is_among a (names_ordered d)) parts.1 parts.0)
   | inr later ↦ or_right (is_among b (names_ordered d) && is_among a (names_ordered d)) (on_one_line ds b a) (on_one_line-flip ds a b later)
 ]
 
@@ -62,7 +61,7 @@ pub on_one_line-ordered : (ds : List (ℕ × Directive)) (a b : List ℕ) → on
 on_one_line-ordered [] a b e = absurd cc
 on_one_line-ordered (d ∷ ds) a b e = elim (or_cases (is_among a (names_ordered d) && is_among b (names_ordered d)) (on_one_line ds a b) e) [
   | inl here ↦
-    Contains-append_left (names_ordered d) (all_ordered ds) a (Contains-is_among a (names_ordered d) (and_parts (is_among a (names_ordered d)) (is_among b (names_ordered d)) here).0)
+      Contains-append_left (names_ordered d) (all_ordered ds) a (Contains-is_among a (names_ordered d) (and_parts (is_among a (names_ordered d)) (is_among b (names_ordered d)) here).0)
   | inr later ↦ Contains-append_right (names_ordered d) (all_ordered ds) a (on_one_line-ordered ds a b later)
 ]
 
@@ -73,17 +72,17 @@ on_one_line-chain (d ∷ ds) a b c differ ab bc =
     elim (or_cases (is_among a names && is_among b names) (on_one_line ds a b) ab) [
       | inl ab_here ↦ elim (or_cases (is_among b names && is_among c names) (on_one_line ds b c) bc) [
         | inl bc_here ↦
-          or_left (is_among a names && is_among c names) (on_one_line ds a c)
-          (and_from (is_among a names) (is_among c names) (and_parts (is_among a names) (is_among b names) ab_here).0 (and_parts (is_among b names) (is_among c names) bc_here).1)
+            or_left (is_among a names && is_among c names) (on_one_line ds a c)
+            (and_from (is_among a names) (is_among c names) (and_parts (is_among a names) (is_among b names) ab_here).0 (and_parts (is_among b names) (is_among c names) bc_here).1)
         | inr bc_later ↦
-          absurd (Differ-parts names (all_ordered ds) b differ (Contains-is_among b names (and_parts (is_among a names) (is_among b names) ab_here).1) (on_one_line-ordered ds b c bc_later))
+            absurd (Differ-parts names (all_ordered ds) b differ (Contains-is_among b names (and_parts (is_among a names) (is_among b names) ab_here).1) (on_one_line-ordered ds b c bc_later))
       ]
       | inr ab_later ↦ elim (or_cases (is_among b names && is_among c names) (on_one_line ds b c) bc) [
         | inl bc_here ↦
-          absurd (Differ-parts names (all_ordered ds) b differ (Contains-is_among b names (and_parts (is_among b names) (is_among c names) bc_here).0)
-          (on_one_line-ordered ds b a (on_one_line-flip ds a b ab_later)))
+            absurd (Differ-parts names (all_ordered ds) b differ (Contains-is_among b names (and_parts (is_among b names) (is_among c names) bc_here).0)
+            (on_one_line-ordered ds b a (on_one_line-flip ds a b ab_later)))
         | inr bc_later ↦
-          or_right (is_among a names && is_among c names) (on_one_line ds a c) (on_one_line-chain ds a b c (Differ-append_right names (all_ordered ds) differ) ab_later bc_later)
+            or_right (is_among a names && is_among c names) (on_one_line ds a c) (on_one_line-chain ds a b c (Differ-append_right names (all_ordered ds) differ) ab_later bc_later)
       ]
     ]
 

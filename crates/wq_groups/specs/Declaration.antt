@@ -15,7 +15,7 @@ pub record Declaration : Type 0 where
 abbrev pub declaration_of : Table → Partition → Declaration
 declaration_of t p = record { waits = t.waits; group_of = p.group_of; groups = p.groups }
 
--- a group waits for a group: an item of the one declares a flush of an item of the other
+-- a group waits for a group, which may be the same: an item of the one declares a flush of an item of the other
 pub record GroupWaits (d : Declaration) (g h : ℕ) : Type 0 where
   pub item : ℕ
   pub target : ℕ

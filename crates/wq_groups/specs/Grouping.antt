@@ -1,5 +1,5 @@
 -- Grouping: which groups the `ordered` lines of a declaration make, or what the first fault is.
-use Rattle.std.specs.Prelude.{◌≡◌, ◌≢◌, ℕ, ◌+◌, ◌==◌, ◌||◌, ◌&&◌, nat_lt, Bool, true, false, if◌then◌else◌, List, [], ◌∷◌, ◌++◌, length, map, flat_map, filter, position, slice_index_or, bytes_eq, Option, Some, None, Result, Ok, Err, Contains, AllPairs}
+use Rattle.std.specs.Prelude.{◌≡◌, ◌≢◌, ℕ, ◌==◌, ◌||◌, ◌&&◌, nat_lt, Bool, false, if◌then◌else◌, List, [], ◌∷◌, ◌++◌, length, map, flat_map, filter, position, slice_index_or, bytes_eq, Option, Some, None, Result, Ok, Err, Contains, AllPairs}
 use Rattle.std.specs.List.{Any, list_any, count_by, range_with_len}
 use Rattle.std.specs.Option.{unwrap_or}
 use Rattle.wq_text.specs.Refusal.{Refusal}
@@ -55,7 +55,7 @@ ShareLine ds a b = Any (λ (d : ℕ × Directive). Contains (names_ordered d) a 
 abbrev pub are_together : List (ℕ × Directive) → List ℕ → List ℕ → Bool
 are_together ds a b = bytes_eq a b || list_any (λ d. list_any (bytes_eq a) (names_ordered d) && list_any (bytes_eq b) (names_ordered d)) ds
 
--- the first-declared item of the group of this name
+-- the first-declared item of the group of this name, which an item has
 abbrev pub first_member : List (ℕ × Directive) → List (List ℕ) → List ℕ → ℕ
 first_member ds names name = unwrap_or (position (are_together ds name) names) 0
 
@@ -67,7 +67,7 @@ first_members ds names = filter (λ i. first_member ds names (slice_index_or nam
 abbrev pub group_number : List (ℕ × Directive) → List (List ℕ) → List ℕ → ℕ
 group_number ds names name = count_by (λ i. nat_lt i (first_member ds names name)) (first_members ds names)
 
--- the groups of the items of these names
+-- the groups of the items of these names, where no name is ordered twice
 abbrev pub partition_of : List (ℕ × Directive) → List (List ℕ) → Partition
 partition_of ds names = record { group_of = map (group_number ds names) names; groups = length (first_members ds names) }
 

@@ -41,7 +41,7 @@ fn are_below(of_group: &[LaneId], lanes: u16) -> bool
 }
 
 impl<A: Allocator> Assignment<A> {
-    /// The assignment with so many lanes, in which the groups have these, in their order.
+    /// The assignment with so many lanes, in which group g is on lane `of_group[g]`.
     ///
     /// `None` where a number isn't below `lanes`, or `lanes` is above 4,096; the list is then dropped.
     pub fn new(lanes: u16, of_group: Vec<LaneId, A>) -> Option<Self>

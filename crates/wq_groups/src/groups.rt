@@ -5,7 +5,7 @@
 //! Reading takes time in the number of the words of the declaration, and memory in the number of items. Afterwards each
 //! question is answered in constant time.
 
-ghost use Rattle.std.specs.Prelude.{◌≡◌, ◌<◌, length, Ok, IfOk, IfErr, slice_get, slice_index, Some};
+ghost use Rattle.std.specs.Prelude.{◌≡◌, ◌<◌, ◌≤◌, length, Ok, IfOk, IfErr, slice_get, slice_index, Some};
 ghost use Rattle.wq_items.specs.Building.{table_of};
 ghost use Rattle.wq_groups.specs.Partition.{IsPartition, members_of};
 ghost use Rattle.wq_groups.specs.declared.fault.GroupError.TheVariants.{OutOfMemory};
@@ -43,13 +43,9 @@ impl<A: Allocator> Model for Groups<A> {
 impl<A: Allocator + Copy> Groups<A> {
     /// The groups that the directives of a view declare of the items of its table. The table was read from this view.
     ///
-    /// The answer is `GroupedTwice` (11) with the lowest line that has a name a second time; or `OutOfMemory` (20) where a
-    /// growth was refused before it.
-    pub fn read(
-        alloc: A,
-        view: &DeclView<'_>,
-        table: &ItemTable<'_, A>,
-    ) -> Result<Self, GroupError>
+    /// The error is `GroupedTwice` (11) with the lowest `ordered` line that has a name twice, or one that stands on an
+    /// earlier `ordered` line; or `OutOfMemory` (20) where a growth was refused.
+    pub fn read(alloc: A, view: &DeclView<'_>, table: &ItemTable<'_, A>) -> Result<Self, GroupError>
         requires { table_of view.now ≡ Ok table.now }
         ensures groups { IfOk result (λ g. groups_of view.now table.now.names ≡ Ok g) }
         ensures fault { IfErr result (λ e. IsGroupFaultOf e (groups_of view.now table.now.names)) }
@@ -63,6 +59,7 @@ impl<A: Allocator + Copy> Groups<A> {
     /// How many groups there are, at most 4,096.
     pub fn len(&self) -> u16
         ensures len { result ≡ self.now.groups }
+        ensures few { result ≤ 4096 }
         ensures partition { IsPartition self.now }
     {
         self.members.len() as u16

@@ -1,13 +1,11 @@
 -- The names of a table are slices of the text.
-use Rattle.std.proofs.Common.{◌≡◌, ℕ, ◌+◌, List, [], ◌∷◌, length, map, get_or, Some, Ok, refl, sym, ap, ◌∙◌}
-use Rattle.std.specs.Prelude.{Contains}
+use Rattle.std.proofs.Common.{◌≡◌, ℕ, ◌+◌, List, [], ◌∷◌, length, map, get_or, Some, Ok, refl, sym, ap, subst, ◌∙◌}
 use Rattle.std.specs.List.{All, Any, AllByRecursion, filter_map, slice_range, slice_get}
 use Rattle.std.proofs.lemmas.List.{get_or-map}
-use Rattle.std.proofs.lemmas.List.Elements.{All-contains, All-weaker, All-head, recursion_from_All}
+use Rattle.std.proofs.lemmas.List.Elements.{All-contains, All-head, All-tail, All-weaker, recursion_from_All}
 use Rattle.std.proofs.lemmas.Option.{get_or_from_slice_get, slice_get_within}
 use Rattle.wq_text.specs.declared.span.Span.{Span}
 use Rattle.wq_text.specs.Lines.{lines_of}
-use Rattle.wq_text.specs.Words.{words_of}
 use Rattle.wq_text.proofs.SliceLaws.{LineStands, WordStands, LineStands-lines_of, WordStands-words_of, slice_range-StandsAt}
 use Rattle.wq_decl.specs.declared.directive.Directive.{Directive}
 use Rattle.wq_decl.specs.declared.directive.Directive.TheVariants.{Item, Flush, Ordered}
@@ -31,8 +29,7 @@ module _ (text : List ℕ) where
   Stands-IsFrom : (d : ℕ × Directive) → Any (IsFrom d) (lines_of text) → Stands d
   Stands-IsFrom d (k, line, lt, at, from) =
       let there : LineStands text line = All-contains (LineStands text) (lines_of text) line (LineStands-lines_of text) (k, lt, at) in
-      All-weaker (Contains (words_of line)) (WordStands text)
-      (λ word is. All-contains (WordStands text) (words_of line) word (WordStands-words_of text line there) is) (words_in d.1) from.words
+      All-tail (WordStands text) from.first (words_in d.1) (subst (All (WordStands text)) from.words (WordStands-words_of text line there))
 
   names_are : (ds : List (ℕ × Directive)) → AllByRecursion Stands ds → filter_map item_name ds ≡ map slice_at (filter_map item_span ds)
   names_are [] stand = refl

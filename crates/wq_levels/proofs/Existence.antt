@@ -10,11 +10,11 @@ use Rattle.wq_items.proofs.Circles.{circle_from_BeginsChain, Circle-begins}
 use Rattle.wq_graph.specs.declared.arc.WaitArc.{WaitArc}
 use Rattle.wq_graph.specs.Graph.{IsGraph, HasArc, arcs_at}
 use Rattle.wq_levels.specs.Ranks.{AreRanks}
-use Rattle.wq_levels.specs.Walks.{Remains, IsWayOn, vertices_left, IsWalkedCircle}
+use Rattle.wq_levels.specs.Walks.{Remains, IsWayOn, vertices_walked, IsWalkedCircle}
 use Rattle.wq_levels.proofs.Graphs.{HasArc-below}
 use Rattle.wq_levels.proofs.First.{Decided, Tells-told, told, IsFirst-find, least_from}
 use Rattle.wq_levels.proofs.WaysOn.{IsWayOn-first, Remains-next}
-use Rattle.wq_levels.proofs.Walks.{length-vertices_left}
+use Rattle.wq_levels.proofs.Walks.{length-vertices_walked}
 use Rattle.wq_levels.proofs.UnderWay.{cases_new, IsUnderWay, IsUnderWay-start, IsUnderWay-remains, IsUnderWay-more, IsUnderWay-few, IsWalkedCircle-drop}
 
 -- whether P holds of an element, where it is decided of each
@@ -117,8 +117,8 @@ module _ (graph : List (List WaitArc)) where
     -- `more` further arcs are enough to come back
     comes_back : (start more : ℕ) (walked : List WaitArc) (at : ℕ) → length graph < length walked + more → IsUnderWay graph start walked at → (circle : List WaitArc) × IsWalkedCircle graph circle
     comes_back start zero walked at room so_far = absurd (omega (arith, IsUnderWay-few graph start walked at so_far))
-    comes_back start (suc more) walked at room so_far = elim (cases_new (vertices_left start walked) at) [
-      | inl found ↦ (_, IsWalkedCircle-drop graph start walked at so_far found.0 (omega (arith, found.1, length-vertices_left start walked)) found.2)
+    comes_back start (suc more) walked at room so_far = elim (cases_new (vertices_walked start walked) at) [
+      | inl found ↦ (_, IsWalkedCircle-drop graph start walked at so_far found.0 (omega (arith, found.1, length-vertices_walked start walked)) found.2)
       | inr new ↦
           let way = way_on at (IsUnderWay-remains graph start walked at so_far) in
           comes_back start more (walked ++ way.0 ∷ []) way.0.head (omega (arith, length_push walked way.0)) (IsUnderWay-more graph start walked at so_far way.0 new way.1)

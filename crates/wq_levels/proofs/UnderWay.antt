@@ -7,8 +7,8 @@ use Rattle.std.proofs.lemmas.List.Elements.{All-push}
 use Rattle.std.proofs.lemmas.List.Quantifiers.{all_pairs_push}
 use Rattle.wq_items.proofs.Pigeonhole.{repeats_from_length}
 use Rattle.wq_graph.specs.declared.arc.WaitArc.{WaitArc}
-use Rattle.wq_levels.specs.Walks.{Remains, IsLeastRemaining, IsWayOn, IsWalk, vertices_left, IsWalkedCircle}
-use Rattle.wq_levels.proofs.Walks.{length-vertices_left, vertices_left-append, IsWalk-append, IsWalk-take, IsWalk-drop, IsWalk-remains, vertices_left-below}
+use Rattle.wq_levels.specs.Walks.{Remains, IsLeastRemaining, IsWayOn, IsWalk, vertices_walked, IsWalkedCircle}
+use Rattle.wq_levels.proofs.Walks.{length-vertices_walked, vertices_walked-append, IsWalk-append, IsWalk-take, IsWalk-drop, IsWalk-remains, vertices_walked-below}
 
 -- v is none of these
 abbrev pub IsNew : List ℕ → ℕ → Type 0
@@ -43,7 +43,7 @@ cases_new (x ∷ vs) v = elim (cases_eq x v) [
 pub record IsUnderWay (graph : List (List WaitArc)) (start : ℕ) (walked : List WaitArc) (at : ℕ) : Type 0 where
   pub least : IsLeastRemaining graph start
   pub walk : IsWalk graph start walked at
-  pub once : AllPairs (λ (v w : ℕ). v ≢ w) (vertices_left start walked)
+  pub once : AllPairs (λ (v w : ℕ). v ≢ w) (vertices_walked start walked)
 
 module _ (graph : List (List WaitArc)) (start : ℕ) where
   pub IsUnderWay-start : IsLeastRemaining graph start → IsUnderWay graph start [] start
@@ -53,41 +53,41 @@ module _ (graph : List (List WaitArc)) (start : ℕ) where
     pub IsUnderWay-remains : Remains graph at
     IsUnderWay-remains = IsWalk-remains graph start at walked so_far.least.remains so_far.walk
 
-    pub vertices_left-push : (a : WaitArc) → vertices_left start (walked ++ a ∷ []) ≡ vertices_left start walked ++ at ∷ []
-    vertices_left-push a = vertices_left-append graph start at walked (a ∷ []) so_far.walk
+    pub vertices_walked-push : (a : WaitArc) → vertices_walked start (walked ++ a ∷ []) ≡ vertices_walked start walked ++ at ∷ []
+    vertices_walked-push a = vertices_walked-append graph start at walked (a ∷ []) so_far.walk
 
     -- one arc more, from a vertex that was not left yet
-    pub IsUnderWay-more : (a : WaitArc) → IsNew (vertices_left start walked) at → IsWayOn graph at a → IsUnderWay graph start (walked ++ a ∷ []) a.head
+    pub IsUnderWay-more : (a : WaitArc) → IsNew (vertices_walked start walked) at → IsWayOn graph at a → IsUnderWay graph start (walked ++ a ∷ []) a.head
     IsUnderWay-more a new way = record {
       least = so_far.least;
       walk = IsWalk-append graph start at a.head walked (a ∷ []) so_far.walk (way, refl);
-      once = subst (λ (l : List ℕ). AllPairs (λ (v w : ℕ). v ≢ w) l) (sym (vertices_left-push a)) (different_push (vertices_left start walked) at so_far.once new);
+      once = subst (λ (l : List ℕ). AllPairs (λ (v w : ℕ). v ≢ w) l) (sym (vertices_walked-push a)) (different_push (vertices_walked start walked) at so_far.once new);
     }
 
     -- no more arcs were walked than there are vertices
     pub IsUnderWay-few : length walked ≤ length graph
     IsUnderWay-few =
-        let few = different_few (length graph) (vertices_left start walked) (vertices_left-below graph start at walked so_far.least.remains so_far.walk) so_far.once in
-        omega (arith, few, length-vertices_left start walked)
+        let few = different_few (length graph) (vertices_walked start walked) (vertices_walked-below graph start at walked so_far.least.remains so_far.walk) so_far.once in
+        omega (arith, few, length-vertices_walked start walked)
 
     -- and fewer where there is a vertex that was not left yet
-    pub IsUnderWay-room : IsNew (vertices_left start walked) at → length walked < length graph
+    pub IsUnderWay-room : IsNew (vertices_walked start walked) at → length walked < length graph
     IsUnderWay-room new =
-        let vs = vertices_left start walked in
-        let below = All-push (λ (v : ℕ). v < length graph) vs at (vertices_left-below graph start at walked so_far.least.remains so_far.walk) IsUnderWay-remains.0 in
-        omega (arith, different_few (length graph) (vs ++ at ∷ []) below (different_push vs at so_far.once new), length_push vs at, length-vertices_left start walked)
+        let vs = vertices_walked start walked in
+        let below = All-push (λ (v : ℕ). v < length graph) vs at (vertices_walked-below graph start at walked so_far.least.remains so_far.walk) IsUnderWay-remains.0 in
+        omega (arith, different_few (length graph) (vs ++ at ∷ []) below (different_push vs at so_far.once new), length_push vs at, length-vertices_walked start walked)
 
     -- where the walk comes back to the vertex that the arc at k left, the arcs from there on are the circle
-    pub IsWalkedCircle-drop : (k : ℕ) → k < length walked → get_or (vertices_left start walked) k 0 ≡ at → IsWalkedCircle graph (drop k walked)
+    pub IsWalkedCircle-drop : (k : ℕ) → k < length walked → get_or (vertices_walked start walked) k 0 ≡ at → IsWalkedCircle graph (drop k walked)
     IsWalkedCircle-drop k fits back = record {
       start = start;
       least = so_far.least;
       lead_in = take k walked;
-      turn = at;
+      entry = at;
       leads_in = subst (λ (v : ℕ). IsWalk graph start (take k walked) v) back (IsWalk-take graph start at walked k so_far.walk fits);
       comes_back = subst (λ (v : ℕ). IsWalk graph v (drop k walked) at) back (IsWalk-drop graph start at walked k so_far.walk fits);
       some = λ none. absurd (omega (arith, ap (λ (l : List WaitArc). length l) none, length-drop k walked));
-      once = subst (λ (l : List WaitArc). AllPairs (λ (v w : ℕ). v ≢ w) (vertices_left start l)) (sym (take-append-drop k walked)) so_far.once;
+      once = subst (λ (l : List WaitArc). AllPairs (λ (v w : ℕ). v ≢ w) (vertices_walked start l)) (sym (take-append-drop k walked)) so_far.once;
     }
 
 -- ---- what is noted of each vertex
@@ -128,7 +128,7 @@ TellsLeft-set n vs left v vertex tells = record {
 pub record IsNoted (graph : List (List WaitArc)) (walked : List WaitArc) (left : List (Option ℕ)) (at : ℕ) : Type 0 where
   pub start : ℕ
   pub so_far : IsUnderWay graph start walked at
-  pub tells : TellsLeft (length graph) (vertices_left start walked) left
+  pub tells : TellsLeft (length graph) (vertices_walked start walked) left
 
 -- before the first arc
 pub IsNoted-start : (graph : List (List WaitArc)) (left : List (Option ℕ)) (start : ℕ) → IsLeastRemaining graph start → left ≡ replicate (length graph) None → IsNoted graph [] left start
@@ -138,30 +138,30 @@ module _ (graph : List (List WaitArc)) (walked : List WaitArc) (left : List (Opt
   pub IsNoted-remains : Remains graph at
   IsNoted-remains = IsUnderWay-remains graph noted.start walked at noted.so_far
 
-  pub IsNoted-new : get_or left at None ≡ None → IsNew (vertices_left noted.start walked) at
+  pub IsNoted-new : get_or left at None ≡ None → IsNew (vertices_walked noted.start walked) at
   IsNoted-new none = rw none at (noted.tells.told at IsNoted-remains.0)
 
   -- one arc more, from a vertex that was not left yet
   pub IsNoted-more : (a : WaitArc) → get_or left at None ≡ None → IsWayOn graph at a → IsNoted graph (walked ++ a ∷ []) (set left at (Some (length walked))) a.head
   IsNoted-more a none way =
-      let vs = vertices_left noted.start walked in
+      let vs = vertices_walked noted.start walked in
       let set_at = TellsLeft-set (length graph) vs left at IsNoted-remains.0 noted.tells in
       record {
         start = noted.start;
         so_far = IsUnderWay-more graph noted.start walked at noted.so_far a (IsNoted-new none) way;
-        tells = subst (λ (l : List ℕ). TellsLeft (length graph) l (set left at (Some (length walked)))) (sym (vertices_left-push graph noted.start walked at noted.so_far a))
-            (subst (λ (n : ℕ). TellsLeft (length graph) (vs ++ at ∷ []) (set left at (Some n))) (length-vertices_left noted.start walked) set_at);
+        tells = subst (λ (l : List ℕ). TellsLeft (length graph) l (set left at (Some (length walked)))) (sym (vertices_walked-push graph noted.start walked at noted.so_far a))
+            (subst (λ (n : ℕ). TellsLeft (length graph) (vs ++ at ∷ []) (set left at (Some n))) (length-vertices_walked noted.start walked) set_at);
       }
 
   pub IsNoted-room : get_or left at None ≡ None → length walked < length graph
   IsNoted-room none = IsUnderWay-room graph noted.start walked at noted.so_far (IsNoted-new none)
 
   -- the vertex was left by the arc at k
-  noted_at : (k : ℕ) → get_or left at None ≡ Some k → (k < length (vertices_left noted.start walked)) × (get_or (vertices_left noted.start walked) k 0 ≡ at)
+  noted_at : (k : ℕ) → get_or left at None ≡ Some k → (k < length (vertices_walked noted.start walked)) × (get_or (vertices_walked noted.start walked) k 0 ≡ at)
   noted_at k some = rw some at (noted.tells.told at IsNoted-remains.0)
 
   pub IsNoted-fits : (k : ℕ) → get_or left at None ≡ Some k → k < length walked
-  IsNoted-fits k some = omega (arith, (noted_at k some).0, length-vertices_left noted.start walked)
+  IsNoted-fits k some = omega (arith, (noted_at k some).0, length-vertices_walked noted.start walked)
 
   pub IsNoted-circle : (k : ℕ) → get_or left at None ≡ Some k → IsWalkedCircle graph (drop k walked)
   IsNoted-circle k some = IsWalkedCircle-drop graph noted.start walked at noted.so_far k (IsNoted-fits k some) (noted_at k some).1

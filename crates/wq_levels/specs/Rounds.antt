@@ -1,4 +1,5 @@
--- The ranks between two rounds, by any relation: R v w says that v waits for w.
+-- The ranks between two rounds, by any relation: R v w says that v waits for w. Each round raises by one what waits for
+-- something as high as itself; after n rounds the ranks below n are right.
 use Rattle.std.specs.Prelude.{ℕ, ◌+◌, ◌<◌, ◌≤◌, List, slice_index, EachIndex}
 use Rattle.wq_items.specs.Chain.{BeginsChain}
 

@@ -5,8 +5,8 @@ use Rattle.wq_items.specs.Chain.{BeginsChain}
 use Rattle.wq_graph.specs.declared.arc.WaitArc.{WaitArc}
 use Rattle.wq_graph.specs.Graph.{HasArc, arcs_at}
 
--- a walk of as many arcs as there are vertices begins at v: taking off, again and again, each vertex that has no arc
--- into what remains would leave v
+-- a chain of one vertex more than the graph has begins at v: so v stays however often each vertex is taken off that has no
+-- arc into what is left
 abbrev pub Remains : List (List WaitArc) → ℕ → Type 0
 Remains graph v = (v < length graph) × BeginsChain (HasArc graph) v (length graph + 1)
 
@@ -32,22 +32,23 @@ abbrev pub IsWalk : List (List WaitArc) → ℕ → List WaitArc → ℕ → Typ
 IsWalk graph v [] w = v ≡ w
 IsWalk graph v (a ∷ arcs) w = IsWayOn graph v a × IsWalk graph a.head arcs w
 
--- the vertices that arcs leave, where the first leaves v
-abbrev pub vertices_left : ℕ → List WaitArc → List ℕ
-vertices_left v [] = []
-vertices_left v (a ∷ arcs) = v ∷ vertices_left a.head arcs
+-- the vertices that a walk leaves, one for each arc, where the first leaves v
+abbrev pub vertices_walked : ℕ → List WaitArc → List ℕ
+vertices_walked v [] = []
+vertices_walked v (a ∷ arcs) = v ∷ vertices_walked a.head arcs
 
--- the circle of the walk from the least remaining vertex: what is walked from the first visit of the first vertex that
--- repeats to the second; what leads in to it is left out
+-- the circle of the walk from the least remaining vertex. The walk leads in to the entry of the circle, and then round it
+-- and back to the entry; until then no vertex is left twice, so the entry is the first vertex that repeats. What leads in is
+-- no part of the circle
 pub record IsWalkedCircle (graph : List (List WaitArc)) (circle : List WaitArc) : Type 0 where
   pub start : ℕ
   pub least : IsLeastRemaining graph start
   pub lead_in : List WaitArc
-  pub turn : ℕ
-  pub leads_in : IsWalk graph start lead_in turn
-  pub comes_back : IsWalk graph turn circle turn
+  pub entry : ℕ
+  pub leads_in : IsWalk graph start lead_in entry
+  pub comes_back : IsWalk graph entry circle entry
   pub some : circle ≢ []
-  pub once : AllPairs (λ (v w : ℕ). v ≢ w) (vertices_left start (lead_in ++ circle))
+  pub once : AllPairs (λ (v w : ℕ). v ≢ w) (vertices_walked start (lead_in ++ circle))
 
 -- arcs of the graph, one at least, that lead round: `left` has of each the vertex that it leaves; it leads to the
 -- vertex that the next one leaves, and the last leads to the vertex that the first leaves; no vertex is left twice

@@ -14,6 +14,8 @@ use std::alloc::{AllocError, Allocator};
 use wq_graph::WaitGraph;
 
 /// The ranks of a wait graph where it has no circle, and else the circle of its walk.
+///
+/// The only error is want of memory (20).
 pub fn rank<A: Allocator + Copy>(alloc: A, graph: &WaitGraph<A>) -> Result<Ranked<A>, AllocError>
     ensures { IfOk result (IsRanking graph.now) }
 {

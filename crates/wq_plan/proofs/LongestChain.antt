@@ -1,25 +1,22 @@
 -- Laws of the printed chain.
-use Rattle.std.proofs.Common.{◌≡◌, ℕ, zero, suc, ◌+◌, ◌-◌, ◌<◌, ◌≤◌, ◌==◌, true, inl, inr, List, [], ◌∷◌, length, map, get_or, slice_index, slice_get, IfSome, Option, Some, position, refl, sym, ap, subst, ◌∙◌, eq-eqb, eqb-true, arith}
+use Rattle.std.proofs.Common.{◌≡◌, ℕ, zero, suc, ◌+◌, ◌-◌, ◌<◌, ◌≤◌, ◌==◌, true, inl, inr, List, [], ◌∷◌, length, get_or, slice_index, Option, Some, refl, sym, ap, ◌∙◌, eq-eqb, eqb-true, arith}
 use Rattle.std.specs.Prelude.{Contains}
-use Rattle.std.specs.List.{All, AllByRecursion, AllAdjacentBelow, prefix_len}
+use Rattle.std.specs.List.{All, AllByRecursion}
 use Rattle.std.specs.Option.{option_map_or}
-use Rattle.std.proofs.lemmas.Bool.{eqb-false, cases_lt, cases_eq}
-use Rattle.std.proofs.lemmas.List.{get_or-map, length-map}
+use Rattle.std.proofs.lemmas.Bool.{eqb-false, cases_lt}
 use Rattle.std.proofs.lemmas.List.Elements.{All-from_recursion, All-contains}
-use Rattle.std.proofs.lemmas.List.Kept.{AllPairs-from_increasing}
 use Rattle.std.proofs.lemmas.List.Quantifiers.{position-Some}
-use Rattle.wq_items.proofs.Chains.{BeginsChain-at, BeginsChain-next, IsRank-most, IsRank-falls}
 use Rattle.wq_groups.specs.Declaration.{Declaration, IsDeclaration}
 use Rattle.wq_groups.specs.Assignment.{Assignment, lane_of, lane_of_item}
 use Rattle.wq_graph.specs.declared.arc.WaitArc.{WaitArc}
-use Rattle.wq_graph.specs.Graph.{IsGraph, HasArc, IsArc, arcs_at, group_graph}
+use Rattle.wq_graph.specs.Graph.{IsGraph, arcs_at, group_graph}
 use Rattle.wq_levels.specs.Ranks.{AreRanks}
 use Rattle.wq_plan.specs.Plan.{IsPlan, lanes_of, chain_from, chain_of}
 use Rattle.wq_plan.specs.LongestChain.{IsStepDown, IsFirstOnLast, IsLongestChain}
-use Rattle.wq_plan.specs.CircleOfGroups.{tail_of}
 use Rattle.wq_plan.proofs.Arcs.{next_arc, next_arc-below, chain_from-some}
+use Rattle.wq_levels.proofs.Ranks.{AreRanks-next}
 use Rattle.wq_levels.proofs.First.{IsFirst, IsFirst-find, position-is}
-use Rattle.wq_levels.proofs.Graphs.{arcs_at-rise, HasArc-below}
+use Rattle.wq_levels.proofs.Graphs.{arcs_at-rise}
 use Rattle.wq_plan.proofs.Lanes.{lanes_of-above, lanes_of-some}
 use Rattle.wq_plan.proofs.Paths.{IsPath, Follows-joined, Follows-begins, Follows-path, leaving-declared}
 use Rattle.wq_plan.proofs.Places.{earlier_place}
@@ -42,26 +39,16 @@ IsPath-from_steps graph lane v [] steps = tt
 IsPath-from_steps graph lane v (a ∷ arcs) steps = (steps.0.leaves, IsPath-from_steps graph lane a.head arcs steps.1)
 
 module _ (graph : List (List WaitArc)) (lane : List ℕ) (sound : IsGraph graph) (are : AreRanks graph lane) where
-  -- a vertex above lane 0 waits for one on the next lane
-  waited_on_next : (v below : ℕ) → v < length graph → slice_index lane v ≡ suc below → (w : ℕ) × HasArc graph v w × (slice_index lane w ≡ below)
-  waited_on_next v below vertex same =
-      let begins = BeginsChain-at (HasArc graph) v (slice_index lane v + 1) (below + 2) (omega arith) (are.longest v vertex).0 in
-      let on = BeginsChain-next (HasArc graph) v below begins in
-      let w = on.0 in
-      let w_fits : w < length graph = HasArc-below graph sound v w on.1 in
-      let high : below ≤ slice_index lane w = IsRank-most (HasArc graph) w (slice_index lane w) below (are.longest w w_fits) on.2 in
-      let low : slice_index lane w < slice_index lane v = IsRank-falls (HasArc graph) v w (slice_index lane v) (slice_index lane w) on.1 (are.longest v vertex) (are.longest w w_fits) in
-      (w, on.1, omega arith)
-
-  -- the first arc to that lane
+  -- an arc to the lane `below`
   abbrev OnLane : ℕ → WaitArc → Type 0
   OnLane below arc = slice_index lane arc.head ≡ below
 
-  arc_on_next : (v below w : ℕ) → HasArc graph v w → slice_index lane w ≡ below → (arc : WaitArc) × (next_arc graph lane below v ≡ Some arc) × IsFirst (OnLane below) (arcs_at graph v) arc
-  arc_on_next v below w has same =
+  -- a vertex above lane 0 has an arc to the next lane, so a first one
+  arc_on_next : (v below : ℕ) → v < length graph → slice_index lane v ≡ suc below → (arc : WaitArc) × (next_arc graph lane below v ≡ Some arc) × IsFirst (OnLane below) (arcs_at graph v) arc
+  arc_on_next v below vertex same =
       IsFirst-find (OnLane below) (λ (a : WaitArc). slice_index lane a.head == below)
       (record { passes = λ a. eqb-true (slice_index lane a.head) below; fails = λ a. eqb-false (slice_index lane a.head) below }) (arcs_at graph v)
-      (has.0, has.1, has.2, has.3, ap (λ u. slice_index lane u) has.4 ∙ same)
+      (AreRanks-next graph lane sound are v below vertex (omega arith))
 
   step_from_first : (v below : ℕ) (arc : WaitArc) → slice_index lane v ≡ suc below → IsFirst (OnLane below) (arcs_at graph v) arc → IsStep graph lane v arc
   step_from_first v below arc same first =
@@ -83,8 +70,7 @@ module _ (graph : List (List WaitArc)) (lane : List ℕ) (sound : IsGraph graph)
   pub chain_from-steps : (below v : ℕ) → v < length graph → slice_index lane v ≡ below → (length (chain_from graph lane below v) ≡ below) × AreSteps graph lane v (chain_from graph lane below v)
   chain_from-steps zero v vertex same = (refl, tt)
   chain_from-steps (suc below) v vertex same =
-      let next = waited_on_next v below vertex same in
-      let found = arc_on_next v below next.0 next.1 next.2 in
+      let found = arc_on_next v below vertex same in
       let arc = found.0 in
       let rest = chain_from-steps below arc.head (next_arc-below graph lane below v arc sound found.1) found.2.holds in
       rw (chain_from-some graph lane below v (suc below) arc refl found.1) (omega (arith, rest.0), (step_from_first v below arc same found.2, rest.1))

@@ -1,5 +1,5 @@
 -- Paths: arcs of a wait graph, each leaving the vertex where the one before it led.
-use Rattle.std.proofs.Common.{◌≡◌, ℕ, zero, suc, ◌+◌, ◌<◌, List, [], ◌∷◌, length, slice_index, slice_get, IfSome, sym, subst, arith}
+use Rattle.std.proofs.Common.{◌≡◌, ℕ, zero, suc, ◌+◌, List, [], ◌∷◌, length, slice_index, slice_get, IfSome, sym, subst, arith}
 use Rattle.std.specs.Prelude.{Contains}
 use Rattle.std.specs.List.{AllAdjacentBelow}
 use Rattle.std.proofs.lemmas.List.Elements.{All-contains}
@@ -32,8 +32,8 @@ module _ (d : Declaration) where
   Follows-from_joined g (x ∷ y ∷ arcs) begins joined = (
     begins,
     Follows-from_joined (slice_index d.group_of x.dst) (y ∷ arcs) (sym (joined 0 x (omega arith))) (λ k e fits.
-    let at : suc k + 1 ≡ suc (k + 1) = omega arith in
-    rw at at (joined (suc k) e (omega arith))),
+        let at : suc k + 1 ≡ suc (k + 1) = omega arith in
+        rw at at (joined (suc k) e (omega arith))),
   )
 
   pub Follows-begins : (P : ℕ → Type 0) (g : ℕ) (arcs : List WaitArc) → Follows d g arcs → P g → IfSome (slice_get arcs 0) (λ (arc : WaitArc). P (tail_of d arc))

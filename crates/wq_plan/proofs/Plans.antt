@@ -1,44 +1,33 @@
 -- Laws of plans.
-use Rattle.std.proofs.Common.{◌≡◌, ℕ, ◌+◌, ◌<◌, ◌≤◌, ◌^◌, List, length, slice_index, refl, sym, ap, ◌∙◌, subst, ext_get_or, arith}
+use Rattle.std.proofs.Common.{◌≡◌, ℕ, ◌+◌, ◌<◌, ◌≤◌, ◌^◌, List, length, refl, sym, ap, ◌∙◌, subst, ext_get_or, arith}
 use Rattle.std.specs.List.{All}
-use Rattle.std.proofs.lemmas.List.Elements.{All-get_or}
 use Rattle.std.proofs.lemmas.List.FromFn.{length-map-range_with_len}
-use Rattle.std.proofs.lemmas.Option.{slice_get_within, get_or_from_slice_get}
 use Rattle.wq_items.specs.Chain.{IsChain, HasCircle}
 use Rattle.wq_items.proofs.Chains.{IsRank-unique}
-use Rattle.wq_items.proofs.Circles.{no_circle_from_ranks, circle_from_BeginsChain}
+use Rattle.wq_items.proofs.Circles.{no_circle_from_ranks}
 use Rattle.wq_groups.specs.Declaration.{Declaration, GroupWaits, IsDeclaration}
 use Rattle.wq_groups.specs.Assignment.{Assignment, lane_of}
 use Rattle.wq_graph.specs.declared.arc.WaitArc.{WaitArc}
-use Rattle.wq_graph.specs.Graph.{IsGraph, HasArc, arcs_from, group_graph}
+use Rattle.wq_graph.specs.Graph.{HasArc, arcs_from, group_graph}
 use Rattle.wq_levels.specs.Ranks.{AreRanks}
 use Rattle.wq_levels.specs.Walks.{IsWalkedCircle}
 use Rattle.wq_plan.specs.Plan.{IsPlan, lanes_of, chain_of}
 use Rattle.wq_plan.specs.Solve.{IsPlanned, IsCircled}
-use Rattle.wq_levels.proofs.Graphs.{HasArc-below}
+use Rattle.wq_levels.proofs.OneCircle.{HasCircle-walked}
+use Rattle.wq_levels.proofs.Ranks.{AreRanks-few}
 use Rattle.wq_plan.proofs.Relations.{HasCircle-implied, IsRank-same}
-use Rattle.wq_plan.proofs.Ranked.{ranks-fall, ranks-most, ranks-below, ranks-lanes}
-use Rattle.wq_plan.proofs.Lanes.{lanes_of-above}
+use Rattle.wq_plan.proofs.Ranked.{ranks-fall, ranks-most}
+use Rattle.wq_plan.proofs.Lanes.{lanes_of-above, lanes_of-most}
 use Rattle.wq_graph.proofs.Graphs.{IsGraph-group_graph, GroupWaits-HasArc}
 
 -- the wait graph has the groups for vertices
 pub length-group_graph : (d : Declaration) → length (group_graph d) ≡ d.groups
 length-group_graph d = length-map-range_with_len (arcs_from d.waits d.group_of) 0 d.groups
 
--- what a group waits for is one of the groups
-pub GroupWaits-below : (d : Declaration) → IsDeclaration d → (g h : ℕ) → GroupWaits d g h → h < d.groups
-GroupWaits-below d is g h waits =
-    subst (λ x. x < d.groups) (get_or_from_slice_get d.group_of waits.target h 0 waits.of_target)
-    (All-get_or (λ x. x < d.groups) d.group_of waits.target 0 (slice_get_within d.group_of waits.target h waits.of_target) is.partition.within)
-
 module _ (d : Declaration) (a : Assignment) (plan : IsPlan d a) where
   -- no circle has a plan
   pub IsPlan-no_circle : ¬ HasCircle (GroupWaits d) d.groups
   IsPlan-no_circle = no_circle_from_ranks (GroupWaits d) d.groups (λ g group. (lane_of a g, plan.ranks g group))
-
-  -- there are no more lanes than groups
-  pub IsPlan-lanes : IsDeclaration d → a.lanes ≤ d.groups
-  IsPlan-lanes is = rw plan.count (ranks-lanes (GroupWaits d) d.groups a.lane_of_group plan.one_each plan.ranks (GroupWaits-below d is))
 
   -- a group's lane is above that of each group that it waits for
   pub IsPlan-falls : (g h : ℕ) → g < d.groups → GroupWaits d g h → lane_of a h < lane_of a g
@@ -52,9 +41,9 @@ module _ (d : Declaration) (a : Assignment) (plan : IsPlan d a) where
 pub IsPlan-unique : (d : Declaration) (a b : Assignment) → IsPlan d a → IsPlan d b → a ≡ b
 IsPlan-unique d a b one other =
     let same : a.lane_of_group ≡ b.lane_of_group =
-        ext_get_or 0 a.lane_of_group b.lane_of_group (one.one_each ∙ sym other.one_each) (λ g fits.
-        let group : g < d.groups = omega (arith, one.one_each) in
-        IsRank-unique (GroupWaits d) g (lane_of a g) (lane_of b g) (one.ranks g group) (other.ranks g group)) in
+    ext_get_or 0 a.lane_of_group b.lane_of_group (one.one_each ∙ sym other.one_each) (λ g fits.
+    let group : g < d.groups = omega (arith, one.one_each) in
+    IsRank-unique (GroupWaits d) g (lane_of a g) (lane_of b g) (one.ranks g group) (other.ranks g group)) in
     let count : a.lanes ≡ b.lanes = one.count ∙ ap lanes_of same ∙ sym other.count in
     rw (count, same) refl
 
@@ -74,6 +63,12 @@ module _ (d : Declaration) (is : IsDeclaration d) where
     count = count;
   }
 
+  -- there are no more lanes than groups
+  pub IsPlan-lanes : (a : Assignment) → IsPlan d a → a.lanes ≤ d.groups
+  IsPlan-lanes a plan =
+      let most = lanes_of-most (length (group_graph d)) a.lane_of_group (AreRanks-few (group_graph d) a.lane_of_group (IsGraph-group_graph d is) (AreRanks-from_plan a plan)) in
+      omega (arith, plan.count, most, length-group_graph d)
+
   -- a circle of the wait graph is one of groups
   pub HasCircle-from_graph : HasCircle (HasArc (group_graph d)) (length (group_graph d)) → HasCircle (GroupWaits d) d.groups
   HasCircle-from_graph circle =
@@ -81,20 +76,16 @@ module _ (d : Declaration) (is : IsDeclaration d) where
       (HasCircle-implied (HasArc (group_graph d)) (GroupWaits d) (λ v w. (GroupWaits-HasArc d is v w).1) (length (group_graph d)) circle)
 
   module _ (ranks : List ℕ) (are : AreRanks (group_graph d) ranks) where
-    below_length : All (λ l. l < length (group_graph d)) ranks
-    below_length =
-        ranks-below (HasArc (group_graph d)) (length (group_graph d)) ranks are.one_each are.longest (λ v w. HasArc-below (group_graph d) (IsGraph-group_graph d is) v w)
-
     -- ranks are small
     pub AreRanks-fit : All (λ l. l + 1 < 2 ^ 16) ranks
-    AreRanks-fit = λ k e fits. omega (arith, below_length k e fits, (IsGraph-group_graph d is).few)
+    AreRanks-fit = λ k e fits. omega (arith, AreRanks-few (group_graph d) ranks (IsGraph-group_graph d is) are k e fits, (IsGraph-group_graph d is).few)
 
     -- and so is the number of lanes, each of which is one of these
     pub AreRanks-lanes : (lanes_of ranks ≤ 4096) × All (λ l. l < lanes_of ranks) ranks
     AreRanks-lanes = (
       omega (
         arith,
-        ranks-lanes (HasArc (group_graph d)) (length (group_graph d)) ranks are.one_each are.longest (λ v w. HasArc-below (group_graph d) (IsGraph-group_graph d is) v w),
+        lanes_of-most (length (group_graph d)) ranks (AreRanks-few (group_graph d) ranks (IsGraph-group_graph d is) are),
         (IsGraph-group_graph d is).few,
       ),
       lanes_of-above ranks,
@@ -108,10 +99,4 @@ module _ (d : Declaration) (is : IsDeclaration d) where
 
   -- a circle of the walk is one of groups
   pub IsCircled-from_walk : (circle : List WaitArc) → IsWalkedCircle (group_graph d) circle → IsCircled d circle
-  IsCircled-from_walk circle walked =
-      let start = walked.start in
-      let remains = walked.least.remains in
-      record {
-        has_circle = HasCircle-from_graph (circle_from_BeginsChain (HasArc (group_graph d)) (length (group_graph d)) start (λ v w. HasArc-below (group_graph d) (IsGraph-group_graph d is) v w) remains.0 remains.1);
-        walked = walked;
-      }
+  IsCircled-from_walk circle walked = record { has_circle = HasCircle-from_graph (HasCircle-walked (group_graph d) (IsGraph-group_graph d is) circle walked); walked = walked }

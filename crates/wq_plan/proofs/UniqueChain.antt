@@ -1,12 +1,12 @@
 -- There is one longest chain that begins at the lowest-numbered group on the last lane and goes by arcs of least place.
-use Rattle.std.proofs.Common.{◌≡◌, ℕ, zero, suc, ◌+◌, ◌<◌, ◌≤◌, inl, inr, List, [], ◌∷◌, length, map, get_or, slice_index, slice_get, IfSome, refl, sym, ap, subst, ◌∙◌, arith}
-use Rattle.std.specs.List.{All, AllByRecursion, AllAdjacentBelow}
+use Rattle.std.proofs.Common.{◌≡◌, ℕ, ◌≤◌, inl, inr, List, [], ◌∷◌, length, slice_index, refl, sym, ap, subst, ◌∙◌, arith}
+use Rattle.std.specs.List.{AllByRecursion}
 use Rattle.std.proofs.lemmas.Bool.{cases_order}
 use Rattle.std.proofs.lemmas.List.Elements.{recursion_from_All}
 use Rattle.wq_groups.specs.Declaration.{Declaration, IsDeclaration}
 use Rattle.wq_groups.specs.Assignment.{Assignment, lane_of, lane_of_item}
 use Rattle.wq_graph.specs.declared.arc.WaitArc.{WaitArc}
-use Rattle.wq_graph.specs.Graph.{IsArc, arcs_at, group_graph}
+use Rattle.wq_graph.specs.Graph.{arcs_at, group_graph}
 use Rattle.wq_plan.specs.LongestChain.{IsStepDown, IsFirstOnLast, IsLongestChain}
 use Rattle.wq_plan.specs.CircleOfGroups.{tail_of}
 use Rattle.wq_levels.proofs.Graphs.{arcs_at-rise}
@@ -41,7 +41,7 @@ module _ (d : Declaration) (a : Assignment) where
     chains-same g (x ∷ xs) (y ∷ ys) size one other steps others =
         let first : x ≡ y = IsStepDown-unique x y steps.0 others.0 (one.0 ∙ sym other.0) in
         let rest : xs ≡ ys =
-            chains-same (slice_index d.group_of y.dst) xs ys (omega arith) (subst (λ (z : WaitArc). Follows d (slice_index d.group_of z.dst) xs) first one.1) other.1 steps.1 others.1 in
+        chains-same (slice_index d.group_of y.dst) xs ys (omega arith) (subst (λ (z : WaitArc). Follows d (slice_index d.group_of z.dst) xs) first one.1) other.1 steps.1 others.1 in
         ap (λ (z : WaitArc). z ∷ xs) first ∙ ap (λ (zs : List WaitArc). y ∷ zs) rest
 
     pub IsLongestChain-unique : (one other : List WaitArc) → IsLongestChain d a one → IsLongestChain d a other → one ≡ other

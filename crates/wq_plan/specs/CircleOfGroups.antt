@@ -1,4 +1,4 @@
--- The printed circle, as the groups go round it.
+-- What holds of the printed circle, as the groups go round it.
 use Rattle.std.specs.Prelude.{◌≡◌, ◌≢◌, ℕ, ◌-◌, List, length, map, slice_index, slice_get, Some, AllPairs}
 use Rattle.std.specs.List.{All, AllAdjacentBelow}
 use Rattle.wq_groups.specs.Declaration.{Declaration}

@@ -6,7 +6,7 @@ use Rattle.wq_groups.specs.Assignment.{Assignment, lane_of, lane_of_item}
 use Rattle.wq_graph.specs.declared.arc.WaitArc.{WaitArc}
 use Rattle.wq_graph.specs.Graph.{IsArc}
 
--- a declared flush of an item by an item of a group on the next lane, at the least place of all such flushes of that group
+-- a declared flush of an item one lane below, and of all flushes from the same group to that lane the one of least place
 pub record IsStepDown (d : Declaration) (a : Assignment) (arc : WaitArc) : Type 0 where
   pub declared : IsArc d.waits d.group_of arc
   pub falls : lane_of_item a d.group_of arc.dst + 1 ≡ lane_of_item a d.group_of arc.src

@@ -1,4 +1,4 @@
--- A plan gives each group a workqueue, its lane: the groups of the longest chain that begins at it, less one.
+-- A plan gives each group a workqueue, its lane: the number of groups on the longest chain that begins at it, less one.
 use Rattle.std.specs.Prelude.{◌≡◌, ℕ, zero, suc, ◌+◌, ◌-◌, ◌<◌, ◌==◌, List, [], ◌∷◌, length, max, slice_index}
 use Rattle.std.specs.List.{fold, find, position}
 use Rattle.std.specs.Option.{option_map_or}
@@ -12,15 +12,15 @@ use Rattle.wq_graph.specs.Graph.{arcs_at}
 abbrev pub lanes_of : List ℕ → ℕ
 lanes_of lane = fold (λ most l. max most (l + 1)) 0 lane
 
--- one lane for each group, and it is the number of groups on a longest chain that begins there, less one; no lane is
--- above the greatest of these
+-- one lane for each group, which is the number of groups on a longest chain that begins there, less one; and as many lanes
+-- as the greatest of these plus one, none where there is no group
 pub record IsPlan (d : Declaration) (a : Assignment) : Type 0 where
   pub one_each : length a.lane_of_group ≡ d.groups
   pub ranks : (g : ℕ) → g < d.groups → IsRank (GroupWaits d) g (lane_of a g)
   pub count : a.lanes ≡ lanes_of a.lane_of_group
 
 -- the arcs from a vertex down to lane 0, where `below` lanes are below the vertex's: each is the first, in order of place,
--- that leads to the next lane; it ends early where no arc does, which is so in no plan
+-- that leads one lane down; it ends early where no arc does, which is so in no plan
 abbrev pub chain_from : List (List WaitArc) → List ℕ → ℕ → ℕ → List WaitArc
 chain_from graph lane zero v = []
 chain_from graph lane (suc below) v =

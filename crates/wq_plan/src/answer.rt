@@ -15,5 +15,7 @@ pub enum Answer<A: Allocator> {
         chain: Vec<WaitArc, A>,
     },
     /// The groups wait in a circle, of which these are the arcs, so no assignment is safe.
-    Circle { arcs: Vec<WaitArc, A> },
+    Circle {
+        arcs: Vec<WaitArc, A>,
+    },
 }

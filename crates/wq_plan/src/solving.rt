@@ -17,7 +17,7 @@ use wq_groups::{Assignment, Groups, LaneId};
 use wq_items::ItemTable;
 use wq_levels::{Ranked, rank};
 
-/// The assignment with so many lanes in which the groups have these, in their order.
+/// The assignment with so many lanes in which group g is on lane `ranks[g]`.
 fn assign<A: Allocator + Copy>(
     alloc: A,
     lane: &[u16],
@@ -33,6 +33,8 @@ fn assign<A: Allocator + Copy>(
 }
 
 /// The plan of the groups of a table's items, or the circle in which they wait. The groups are those of this table.
+///
+/// The only error is want of memory (20).
 pub fn solve<A: Allocator + Copy>(
     alloc: A,
     table: &ItemTable<'_, A>,

@@ -1,13 +1,12 @@
-use Rattle.std.proofs.Common.{◌≡◌, ◌++◌, ◌∷◌, [], Bool, true, false, length, take, drop, ℕ, List, Some, refl, sym, ap, subst, subst₂, ◌∙◌, arith, rules}
+use Rattle.std.proofs.Common.{◌≡◌, ◌++◌, ◌∷◌, [], Bool, true, false, length, take, drop, ℕ, List, sym, ap, subst, subst₂, ◌∙◌, arith, rules}
 use Rattle.std.specs.Prelude.{replicate}
 use Rattle.std.specs.List.{range_with_len}
 use Rattle.std.proofs.lemmas.Bool.{both_ways}
 use Rattle.std.proofs.lemmas.List.{replicate_more}
 use Rattle.wq_decl.specs.declared.directive.Directive.{Directive}
 use Rattle.wq_decl.specs.declared.directive.Directive.TheVariants.{Ordered}
-use Rattle.wq_groups.specs.Grouping.{names_ordered, all_ordered}
+use Rattle.wq_groups.specs.Grouping.{names_ordered}
 use Rattle.wq_groups.specs.Reading.{IsNoted}
-use Rattle.wq_groups.proofs.Among.{Differ}
 use Rattle.wq_groups.proofs.Heads.{range_with_len-push}
 use Rattle.wq_groups.proofs.Regrouped.{first_regrouped-none}
 use Rattle.wq_groups.proofs.NoteLemmas.{NotedSoFar, NotedSoFar-none, NotedSoFar-known, NotedSoFar-more, NotedSoFar-twice, NotedSoFar-all, IsNoted-other, names_ordered-other, written_back}
@@ -30,25 +29,25 @@ loop-line-init g c =
 pub put_together-requires-clause-known : goal.put_together-requires-clause-known
 put_together-requires-clause-known g c =
     let so_far = subst (λ (ds : List (ℕ × Directive)). NotedSoFar c.args.view.now ds c.args.table.now.names c.loop-line.first.items c.loop-line.ordered.items)
-      (c.in-Some.ensures.steps ∙ ap (λ (d : Directive). (c.in-Some.line, d) ∷ c.next.new.self) c.in-Ordered.is) c.loop-line.invariant in
+    (c.in-Some.ensures.steps ∙ ap (λ (d : Directive). (c.in-Some.line, d) ∷ c.next.new.self) c.in-Ordered.is) c.loop-line.invariant in
     NotedSoFar-known c.args.view.now c.args.table.now c.in-Some.line c.in-Ordered.names c.next.new.self c.loop-line.first.items c.loop-line.ordered.items c.requires so_far
 
 pub returns-then-not-put_together-clause-fault : goal.returns-then-not-put_together-clause-fault
 returns-then-not-put_together-clause-fault g c =
     let names = c.args.table.now.names in
     let so_far = subst (λ (ds : List (ℕ × Directive)). NotedSoFar c.args.view.now ds names c.loop-line.first.items c.loop-line.ordered.items)
-      (c.in-Some.ensures.steps ∙ ap (λ (d : Directive). (c.in-Some.line, d) ∷ c.next.new.self) c.in-Ordered.is) c.loop-line.invariant in
+    (c.in-Some.ensures.steps ∙ ap (λ (d : Directive). (c.in-Some.line, d) ∷ c.next.new.self) c.in-Ordered.is) c.loop-line.invariant in
     NotedSoFar-twice c.args.view.now names (c.in-Some.line, Ordered c.in-Ordered.names) c.next.new.self c.loop-line.first.items c.loop-line.ordered.items
     (λ before noted differ.
-        let ok : c.put_together.result ≡ true = (c.put_together.ensures.apart before (subst₂ (λ (f : List ℕ) (m : List Bool). IsNoted before names f m) (sym c.as_mut_slice.ensures.value) (sym c.as_mut_slice-in-Ordered.ensures.value) noted)).1 differ in
-        both_ways c.put_together.result c.if-not-put_together.true ok)
+    let ok : c.put_together.result ≡ true = (c.put_together.ensures.apart before (subst₂ (λ (f : List ℕ) (m : List Bool). IsNoted before names f m) (sym c.as_mut_slice.ensures.value) (sym c.as_mut_slice-in-Ordered.ensures.value) noted)).1 differ in
+    both_ways c.put_together.result c.if-not-put_together.true ok)
     so_far
 
 pub loop-line-preserved-else-not-put_together : goal.loop-line-preserved-else-not-put_together
 loop-line-preserved-else-not-put_together g c =
     let names = c.args.table.now.names in
     let so_far = subst (λ (ds : List (ℕ × Directive)). NotedSoFar c.args.view.now ds names c.loop-line.first.items c.loop-line.ordered.items)
-      (c.in-Some.ensures.steps ∙ ap (λ (d : Directive). (c.in-Some.line, d) ∷ c.next.new.self) c.in-Ordered.is) c.loop-line.invariant in
+    (c.in-Some.ensures.steps ∙ ap (λ (d : Directive). (c.in-Some.line, d) ∷ c.next.new.self) c.in-Ordered.is) c.loop-line.invariant in
     let first : take c.loop-line.first.len (c.put_together.new.first ++ drop (length c.put_together.new.first) c.loop-line.first.items) ≡ c.put_together.new.first = written_back c.put_together.new.first c.loop-line.first.items c.loop-line.first.len (omega (arith, c.put_together.auto.first, ap length c.as_mut_slice.ensures.value)) (omega (arith, c.as_mut_slice.ensures.len, ap length c.as_mut_slice.ensures.value)) in
     let ordered : take c.loop-line.ordered.len (c.put_together.new.ordered ++ drop (length c.put_together.new.ordered) c.loop-line.ordered.items) ≡ c.put_together.new.ordered = written_back c.put_together.new.ordered c.loop-line.ordered.items c.loop-line.ordered.len (omega (arith, c.put_together.auto.ordered, ap length c.as_mut_slice-in-Ordered.ensures.value)) (omega (arith, c.as_mut_slice-in-Ordered.ensures.len, ap length c.as_mut_slice-in-Ordered.ensures.value)) in
     subst₂ (λ (f : List ℕ) (m : List Bool). NotedSoFar c.args.view.now c.next.new.self names f m) (sym first) (sym ordered)
@@ -68,5 +67,5 @@ pub returns-clause-once : goal.returns-clause-once
 returns-clause-once g c =
     let rest : c.loop-line.line-iterator ≡ [] = search rules in
     let noted = NotedSoFar-all c.args.view.now c.args.table.now.names c.loop-line.first.items c.loop-line.ordered.items
-      (subst (λ (ds : List (ℕ × Directive)). NotedSoFar c.args.view.now ds c.args.table.now.names c.loop-line.first.items c.loop-line.ordered.items) rest c.loop-line.invariant) in
+    (subst (λ (ds : List (ℕ × Directive)). NotedSoFar c.args.view.now ds c.args.table.now.names c.loop-line.first.items c.loop-line.ordered.items) rest c.loop-line.invariant) in
     first_regrouped-none c.args.view.now noted.apart

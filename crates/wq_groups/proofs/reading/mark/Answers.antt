@@ -1,4 +1,4 @@
-use Rattle.std.proofs.Common.{◌≡◌, ◌≤◌, inl, inr, Bool, true, false, get_or, ℕ, List, Some, refl, sym, ap, subst, ◌∙◌, arith}
+use Rattle.std.proofs.Common.{◌≡◌, inl, inr, true, false, get_or, List, Some, refl, sym, subst, arith}
 use Rattle.wq_text.specs.Words.{WordView}
 use Rattle.wq_items.specs.Table.{item_named}
 use Rattle.wq_groups.proofs.MarkLemmas.{Marked, Marked-none, Marked-more, Marked-twice, found_item}

@@ -1,6 +1,6 @@
+use Rattle.wq_graph.specs.Graph.{group_graph}
 use Rattle.wq_graph.proofs.Graphs.{IsGraph-group_graph}
 use Rattle.wq_levels.proofs.OneCircle.{IsWalkedCircle-unique}
-use Rattle.wq_graph.specs.Graph.{group_graph}
 use Rattle.wq_plan.proofs.laws.printed_circle_is_unique.Goals as goal
 
 pub returns : goal.returns

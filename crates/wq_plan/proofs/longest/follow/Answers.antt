@@ -1,4 +1,4 @@
-use Rattle.std.proofs.Common.{◌≡◌, ◌-◌, length, ◌==◌, slice_index, find, Some, None, sym, arith}
+use Rattle.std.proofs.Common.{◌≡◌, ◌-◌, ◌==◌, slice_index, find, Some, None, sym, arith}
 use Rattle.wq_graph.specs.declared.arc.WaitArc.{WaitArc}
 use Rattle.wq_plan.specs.Plan.{chain_from}
 use Rattle.wq_levels.proofs.Graphs.{arcs_at-below}

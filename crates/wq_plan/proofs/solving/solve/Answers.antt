@@ -1,4 +1,4 @@
-use Rattle.std.proofs.Common.{length, ap, ◌∙◌}
+use Rattle.std.proofs.Common.{ap, ◌∙◌}
 use Rattle.wq_groups.specs.Declaration.{declaration_of}
 use Rattle.wq_groups.proofs.Declarations.{IsDeclaration-of}
 use Rattle.wq_plan.specs.Plan.{lanes_of}

@@ -1,4 +1,4 @@
-use Rattle.std.proofs.Common.{◌≡◌, ◌<◌, ℕ, List, length, slice_index_or, ap, subst, ◌∙◌, arith, Vec}
+use Rattle.std.proofs.Common.{◌≡◌, ◌<◌, ℕ, length, slice_index_or, ap, subst, ◌∙◌, arith, Vec}
 use Rattle.wq_groups.specs.Partition.{Partition, members_of}
 use Rattle.wq_groups.proofs.MemberLemmas.{list_at}
 use Rattle.wq_groups.proofs.groups.Groups.members.Goals as goal

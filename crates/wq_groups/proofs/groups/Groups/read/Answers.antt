@@ -1,8 +1,5 @@
-use Rattle.std.proofs.Common.{◌≡◌, ◌≤◌, ℕ, List, Ok, length, map, sym, ap, subst, ◌∙◌, arith}
-use Rattle.std.specs.Prelude.{slice_index}
+use Rattle.std.proofs.Common.{Ok, sym, ap, subst, ◌∙◌}
 use Rattle.wq_groups.specs.Partition.{Partition, IsPartition}
-use Rattle.wq_groups.specs.Grouping.{first_member, partition_of}
-use Rattle.wq_groups.specs.Numbering.{AreHeads, headed}
 use Rattle.wq_groups.proofs.Partitions.{IsPartition-partition_of, groups_of-none}
 use Rattle.wq_groups.proofs.FirstLists.{few-firsts, AreHeads-firsts, headed-firsts}
 use Rattle.wq_groups.proofs.groups.Groups.read.Goals as goal
