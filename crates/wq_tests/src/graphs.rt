@@ -56,8 +56,9 @@ fn graphs_have_their_arcs(rt: HostRuntime) -> Result<(), Fail> {
         let (table, groups) = declared(rt.alloc(), &text)?;
         let graph = WaitGraph::of_groups(rt.alloc(), &table, &groups)?;
         assert_eq!(rt; usize::from(graph.vertices()), want.len(), "{row}");
-        for (vertex, arcs) in (0..graph.vertices()).zip(want.iter()) {
+        for vertex in 0..graph.vertices() {
             let numbers = numbers_of(rt.alloc(), graph.arcs(vertex))?;
+            let arcs = want.get(usize::from(vertex)).ok_or("a group too many")?;
             assert_eq!(rt; numbers.as_slice(), *arcs, "{row}: group {vertex}");
         }
     }

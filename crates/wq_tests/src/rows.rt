@@ -189,8 +189,8 @@ const CIRCLES: &[(&str, &str)] = &[
     ("item a / item b / flush b b", "circle 1 / arc b b"),
     // The item of a line needn't be the target of the line above it.
     (
-        "item a / item b / item c / item d / item e / item f / ordered a f / ordered b e / ordered c d / flush a b / flush e c / flush d f",
-        "circle 3 / arc a b / arc e c / arc d f",
+        "item a / item b / item c / item d / item e / ordered a e / ordered b d / flush a b / flush d c / flush c e",
+        "circle 3 / arc a b / arc d c / arc c e",
     ),
 ];
 
