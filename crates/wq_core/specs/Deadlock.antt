@@ -1,0 +1,34 @@
+-- Deadlocks: runs that end stuck, and assignments that have none.
+use Rattle.std.specs.Prelude.{ℕ, ◌<◌, List}
+use Rattle.wq_groups.specs.Declaration.{Declaration}
+use Rattle.wq_groups.specs.Assignment.{Assignment, IsAssignment}
+use Rattle.wq_core.specs.declared.step.Step.{Step}
+use Rattle.wq_core.specs.Wiring.{Wiring, wiring}
+use Rattle.wq_core.specs.State.{State, HasUnfinished, empty_state}
+use Rattle.wq_core.specs.Rules.{Lawful}
+use Rattle.wq_core.specs.Runs.{IsRun, end_of, IsRescuerStep, AsDeclaredFrom, IsOnce}
+
+-- an entry is unfinished, and no rescuer can make a step
+pub record IsStuck (w : Wiring) (s : State) : Type 0 where
+  pub left : HasUnfinished s
+  pub no_step : (step : Step) → IsRescuerStep step → ¬ Lawful w s step
+
+-- no run ends stuck
+abbrev pub IsSafe : Wiring → Type 0
+IsSafe w = (steps : List Step) → IsRun w steps → ¬ IsStuck w (end_of w steps)
+
+-- the steps are a run that ends stuck, with each item queued once and flushing as declared
+pub record DeadlocksBy (w : Wiring) (steps : List Step) : Type 0 where
+  pub run : IsRun w steps
+  pub once : IsOnce w steps
+  pub as_declared : AsDeclaredFrom w (empty_state w) steps
+  pub stuck : IsStuck w (end_of w steps)
+
+-- some run does
+abbrev pub Deadlocks : Wiring → Type 0
+Deadlocks w = (steps : List Step) × DeadlocksBy w steps
+
+-- the assignment is safe, and every assignment to fewer lanes deadlocks
+pub record IsLeast (d : Declaration) (a : Assignment) : Type 0 where
+  pub safe : IsSafe (wiring d a)
+  pub fewer : (b : Assignment) → IsAssignment d.groups b → b.lanes < a.lanes → Deadlocks (wiring d b)

@@ -1,0 +1,10 @@
+pub use Rattle.wq_items.specs.Table
+pub use Rattle.wq_groups.specs.Declaration
+pub use Rattle.wq_groups.specs.Assignment
+pub mod Wiring
+pub mod State
+pub mod Rules
+pub mod Runs
+pub mod Deadlock
+pub mod Played
+pub mod Work

@@ -1,0 +1,38 @@
+-- The run that is played: the lowest lane that can move flushes as declared.
+use Rattle.std.specs.Prelude.{◌≡◌, ℕ, ◌<◌, not, ◌==◌, List, [], ◌∷◌, ◌++◌, filter, map, length}
+use Rattle.std.specs.List.{list_any, range_with_len}
+use Rattle.wq_core.specs.declared.step.Step.{Step}
+use Rattle.wq_core.specs.declared.step.Step.TheVariants.{Queue, Cancel, Start, Wait, Over, Finish}
+use Rattle.wq_core.specs.Wiring.{Wiring, items}
+use Rattle.wq_core.specs.State.{State}
+use Rattle.wq_core.specs.Rules.{Lawful, effect}
+use Rattle.wq_core.specs.Runs.{KeepsOrder}
+
+-- the step is one of lane q's rescuer
+abbrev pub IsStepOf : ℕ → Step → Type 0
+IsStepOf q (Queue i) = ⊥
+IsStepOf q (Cancel i) = ⊥
+IsStepOf q (Start p i) = p ≡ q
+IsStepOf q (Wait p b) = p ≡ q
+IsStepOf q (Over p b) = p ≡ q
+IsStepOf q (Finish p i) = p ≡ q
+
+-- the step that lane q can make when its executions flush as declared
+pub record IsDeclaredStep (w : Wiring) (s : State) (q : ℕ) (step : Step) : Type 0 where
+  pub of_lane : IsStepOf q step
+  pub lawful : Lawful w s step
+  pub in_order : KeepsOrder w s step
+
+-- lane q can make none
+abbrev pub CannotMove : Wiring → State → ℕ → Type 0
+CannotMove w s q = (step : Step) → ¬ IsDeclaredStep w s q step
+
+-- each step is that of the lowest lane that can make one, and at the end no lane can
+abbrev pub IsPlayedFrom : Wiring → State → List Step → Type 0
+IsPlayedFrom w s [] = (q : ℕ) → CannotMove w s q
+IsPlayedFrom w s (step ∷ steps) =
+    ((q : ℕ) × IsDeclaredStep w s q step × ((p : ℕ) → p < q → CannotMove w s p)) × IsPlayedFrom w (effect w s step) steps
+
+-- queueings of these items first, in their order, and then of all others, in declaration order
+abbrev pub queue_order : Wiring → List ℕ → List Step
+queue_order w first = map Queue (first ++ filter (λ i. not (list_any (λ j. i == j) first)) (range_with_len 0 (items w)))

@@ -1,0 +1,44 @@
+-- Wiring: all that the machine sees of a declaration and an assignment.
+use Rattle.std.specs.Prelude.{◌≡◌, ℕ, ◌<◌, ◌≤◌, List, length, map, slice_get, slice_index, Some}
+use Rattle.std.specs.List.{All}
+use Rattle.wq_items.specs.declared.target.Target.{Target}
+use Rattle.wq_items.specs.Table.{ItemWaits, TargetsBelow, flush_count, targets_of}
+use Rattle.wq_groups.specs.Declaration.{Declaration}
+use Rattle.wq_groups.specs.Assignment.{Assignment, lane_of as lane_of_group}
+
+-- of each item in turn the targets of its flushes and its lane, and how many lanes there are. A lane is a workqueue with
+-- one execution context, its rescuer
+pub record Wiring : Type 0 where
+  pub waits : List (List Target)
+  pub lane_of_item : List ℕ
+  pub lanes : ℕ
+
+-- each item on the lane of its group
+abbrev pub wiring : Declaration → Assignment → Wiring
+wiring d a = record { waits = d.waits; lane_of_item = map (lane_of_group a) d.group_of; lanes = a.lanes }
+
+-- how many items there are
+abbrev pub items : Wiring → ℕ
+items w = length w.waits
+
+-- the lane of item i
+abbrev pub lane_of : Wiring → ℕ → ℕ
+lane_of w i = slice_index w.lane_of_item i
+
+-- the targets that item i declares, in order
+abbrev pub declared_by : Wiring → ℕ → List Target
+declared_by w i = targets_of w.waits i
+
+-- a lane waits for a lane, which may be the same: an item of the one declares a flush of an item of the other
+pub record LaneWaits (w : Wiring) (p q : ℕ) : Type 0 where
+  pub item : ℕ
+  pub target : ℕ
+  pub declares : ItemWaits w.waits item target
+  pub of_item : slice_get w.lane_of_item item ≡ Some p
+  pub of_target : slice_get w.lane_of_item target ≡ Some q
+
+-- what holds of every wiring: a lane for each item, and it is one of the lanes; each target is an item
+pub record IsWiring (w : Wiring) : Type 0 where
+  pub one_lane_each : length w.lane_of_item ≡ items w
+  pub within : All (λ l. l < w.lanes) w.lane_of_item
+  pub targets_are_items : All (TargetsBelow (items w)) w.waits

@@ -1,0 +1,29 @@
+-- Work left: how many rescuer steps what is queued and what runs can still make.
+use Rattle.std.specs.Prelude.{ℕ, ◌+◌, ◌-◌, ◌*◌, List, length, sum_by, Option, Some, None}
+use Rattle.wq_core.specs.declared.entry.Entry.{Entry}
+use Rattle.wq_core.specs.declared.entry.Flush.{Flush}
+use Rattle.wq_core.specs.declared.entry.Running.{Running}
+use Rattle.wq_core.specs.Wiring.{Wiring, declared_by}
+use Rattle.wq_core.specs.State.{Lane, State}
+
+-- an execution of item i: a start, a finish, and for each declared flush a wait and its end
+abbrev pub whole_work : Wiring → ℕ → ℕ
+whole_work w i = 2 + 2 * length (declared_by w i)
+
+-- how many of its waits are over, where it has made so many
+abbrev pub waits_over : ℕ → Option Flush → ℕ
+waits_over made None = made
+waits_over made (Some flush) = made - 1
+
+-- what is left of a running entry: all of it but its start, the waits that it has made and those that are over
+abbrev pub running_work : Wiring → Option Running → ℕ
+running_work w None = 0
+running_work w (Some r) = whole_work w r.entry.item - (1 + r.made + waits_over r.made r.waiting)
+
+-- what is left on a lane
+abbrev pub lane_work : Wiring → Lane → ℕ
+lane_work w lane = sum_by (λ (e : Entry). whole_work w e.item) lane.pending + running_work w lane.running
+
+-- what is left in all lanes
+abbrev pub work_left : Wiring → State → ℕ
+work_left w s = sum_by (lane_work w) s.lanes

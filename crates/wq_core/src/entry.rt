@@ -1,0 +1,34 @@
+//! What stands on a lane: queued entries, and the one that runs.
+//!
+//! Nothing is computed here.
+
+use wq_items::ItemId;
+
+/// An accepted queueing of an item, by its number.
+#[derive(Clone, Copy, Debug, PartialEq, Eq)]
+pub struct Entry {
+    /// How many queueings were accepted before it, over all lanes.
+    pub number: u32,
+    /// The item that was queued.
+    pub item: ItemId,
+}
+
+/// What a running entry waits for.
+#[derive(Clone, Copy, Debug, PartialEq, Eq)]
+pub struct Flush {
+    /// The item.
+    pub target: ItemId,
+    /// The number that the next queueing would have got when the wait began: entries below it are waited for.
+    pub mark: u32,
+}
+
+/// An entry that runs.
+#[derive(Clone, Copy, Debug, PartialEq, Eq)]
+pub struct Running {
+    /// The entry.
+    pub entry: Entry,
+    /// How many waits it has made.
+    pub made: u32,
+    /// What it waits for, while it does.
+    pub waiting: Option<Flush>,
+}

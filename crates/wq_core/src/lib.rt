@@ -1,0 +1,12 @@
+//! The core machine: what may happen while memory is short, and what it does.
+//!
+//! What the layer above relies on: a step is done exactly where it is lawful, with its effect. Each lane is a workqueue
+//! with WQ_MEM_RECLAIM and one execution context, its rescuer (Documentation/core-api/workqueue.rst, "WQ_MEM_RECLAIM").
+//! The machine knows lists of steps only: no graph, no rank and no chain.
+#![tactic(auto)]
+
+mod entry;
+mod step;
+
+pub use entry::{Entry, Flush, Running};
+pub use step::{Step, StepError};

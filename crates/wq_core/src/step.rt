@@ -1,0 +1,39 @@
+//! Steps of the machine, and why one isn't made.
+//!
+//! Queue and Cancel are `queue_work` and `cancel_work`; Start, Wait, Over and Finish are what the rescuer of a workqueue
+//! does: it takes the next work, whose function may call `flush_work`, which returns once it is over, and then ends
+//! (kernel/workqueue.c). Nothing is computed here.
+
+ghost use Rattle.std.specs.Prelude.{◌≡◌};
+
+use thiserror::Error;
+use wq_groups::LaneId;
+use wq_items::ItemId;
+
+/// One step.
+#[derive(Clone, Copy, Debug, PartialEq, Eq)]
+pub enum Step {
+    /// The item is queued on its lane.
+    Queue(ItemId),
+    /// The pending entry of the item is taken off its lane.
+    Cancel(ItemId),
+    /// The lane starts its first pending entry, which is of this item.
+    Start(LaneId, ItemId),
+    /// What the lane runs begins to wait for this item.
+    Wait(LaneId, ItemId),
+    /// What the lane runs has waited for this item.
+    Over(LaneId, ItemId),
+    /// The lane finishes what it runs, an entry of this item.
+    Finish(LaneId, ItemId),
+}
+
+/// Why a step isn't made.
+#[derive(Clone, Copy, Debug, PartialEq, Eq, Error)]
+pub enum StepError {
+    /// The step isn't lawful (30).
+    #[error("the step isn't lawful")]
+    NotLawful,
+    /// A lawful queueing would be given a number that nothing is given (31).
+    #[error("the numbers are used up")]
+    NumbersUsedUp,
+}
