@@ -8,3 +8,4 @@ pub mod Runs
 pub mod Deadlock
 pub mod Played
 pub mod Work
+pub mod Held

@@ -1,0 +1,42 @@
+-- Lanes and machines as the code holds them.
+use Rattle.std.specs.Prelude.{◌≡◌, ◌≢◌, ℕ, ◌<◌, ◌≤◌, ◌^◌, List, length, AllPairs, Some, map}
+use Rattle.wq_items.specs.Table.{ItemWaits, flush_count}
+use Rattle.wq_core.specs.declared.entry.Entry.{Entry}
+use Rattle.wq_core.specs.declared.entry.Flush.{Flush}
+use Rattle.wq_core.specs.declared.entry.Running.{Running}
+use Rattle.wq_core.specs.Wiring.{Wiring, IsWiring, items, lane_of, declared_by}
+use Rattle.wq_core.specs.State.{Lane, State, lane_at, Runs, IsUnfinishedOn}
+
+-- a lane, and how many pending entries there is room for
+pub record HeldLane : Type 0 where
+  pub lane : Lane
+  pub room : ℕ
+
+-- a machine: its wiring, and its state
+pub record Machine : Type 0 where
+  pub wiring : Wiring
+  pub state : State
+
+-- what holds of what lane q runs: it has made at most as many waits as its item declares, and while it waits it has made
+-- one, for an item whose flush is declared
+pub record IsSoundRunning (w : Wiring) (r : Running) : Type 0 where
+  pub made : r.made ≤ length (declared_by w r.entry.item)
+  pub waits : (f : Flush) → r.waiting ≡ Some f → (0 < r.made) × ItemWaits w.waits r.entry.item f.target
+
+-- what holds of every state that a run leaves: each entry stands on its item's lane, with a number that was given; a lane
+-- has at most one pending entry of an item; and what runs is sound
+pub record IsSoundState (w : Wiring) (s : State) : Type 0 where
+  pub one_each : length s.lanes ≡ w.lanes
+  pub own_lane : (q : ℕ) (e : Entry) → IsUnfinishedOn (lane_at s q) e → (e.item < items w) × (lane_of w e.item ≡ q)
+  pub given : (q : ℕ) (e : Entry) → IsUnfinishedOn (lane_at s q) e → e.number < s.next
+  pub once : (q : ℕ) → AllPairs (λ (e f : Entry). e.item ≢ f.item) (lane_at s q).pending
+  pub running : (q : ℕ) (r : Running) → Runs (lane_at s q) r → IsSoundRunning w r
+
+-- what holds of every machine: its wiring and its state are sound and within the limits of a declaration
+pub record IsMachine (m : Machine) : Type 0 where
+  pub wiring : IsWiring m.wiring
+  pub state : IsSoundState m.wiring m.state
+  pub few_items : items m.wiring ≤ 4096
+  pub few_flushes : flush_count m.wiring.waits ≤ 16384
+  pub few_lanes : m.wiring.lanes ≤ 4096
+  pub numbers : m.state.next < 2 ^ 32
