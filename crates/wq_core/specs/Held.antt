@@ -1,5 +1,5 @@
 -- Lanes and machines as the code holds them.
-use Rattle.std.specs.Prelude.{◌≡◌, ◌≢◌, ℕ, ◌<◌, ◌≤◌, ◌^◌, List, length, AllPairs, Some, map}
+use Rattle.std.specs.Prelude.{◌≡◌, ◌≢◌, ℕ, ◌<◌, ◌≤◌, ◌^◌, List, length, AllPairs, Some, None, Option, map, Bool, false, ◌==◌, ◌&&◌, nat_lt}
 use Rattle.wq_items.specs.Table.{ItemWaits, flush_count}
 use Rattle.wq_core.specs.declared.entry.Entry.{Entry}
 use Rattle.wq_core.specs.declared.entry.Flush.{Flush}
@@ -11,6 +11,22 @@ use Rattle.wq_core.specs.State.{Lane, State, lane_at, Runs, IsUnfinishedOn}
 pub record HeldLane : Type 0 where
   pub lane : Lane
   pub room : ℕ
+
+-- the entry is of the item, with a number below the mark
+abbrev pub is_below : ℕ → ℕ → Entry → Bool
+is_below item mark e = (e.item == item) && nat_lt e.number mark
+
+-- what runs is such an entry
+abbrev pub runs_below : ℕ → ℕ → Option Running → Bool
+runs_below item mark None = false
+runs_below item mark (Some r) = is_below item mark r.entry
+
+-- an unfinished entry of the item on the lane has a number below the mark
+pub record LaneHasUnfinishedBelow (lane : Lane) (item mark : ℕ) : Type 0 where
+  pub entry : Entry
+  pub unfinished : IsUnfinishedOn lane entry
+  pub of_item : entry.item ≡ item
+  pub below : entry.number < mark
 
 -- a machine: its wiring, and its state
 pub record Machine : Type 0 where

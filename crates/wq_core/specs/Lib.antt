@@ -9,3 +9,4 @@ pub mod Deadlock
 pub mod Played
 pub mod Work
 pub mod Held
+pub mod Lending

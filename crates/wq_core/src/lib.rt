@@ -6,7 +6,11 @@
 #![tactic(auto)]
 
 mod entry;
+mod lane;
+mod lanes;
 mod step;
 
 pub use entry::{Entry, Flush, Running};
+pub use lane::Lane;
+pub use lanes::Lanes;
 pub use step::{Step, StepError};

@@ -1,0 +1,157 @@
+//! A lane: what is queued on it, and what its context runs.
+//!
+//! It changes as "Rules" in the specs of this crate says, in words of one lane alone. `cancel`, `pending_of` and
+//! `has_unfinished_below` take time in the number of pending entries, each other call takes constant time. Only `new`
+//! takes memory.
+
+ghost use Rattle.std.specs.Prelude.{◌≡◌, ◌<◌, ◌+◌, ◌^◌, ◌==◌, ◌↔◌, length, IfOk, IfSome, IsTrue, slice_get};
+ghost use Rattle.std.specs.List.{find, list_any};
+ghost use Rattle.wq_core.specs.declared.entry.Entry.{Entry};
+ghost use Rattle.wq_core.specs.State.{idle_lane};
+ghost use Rattle.wq_core.specs.Held.{LaneHasUnfinishedBelow, is_below, runs_below};
+ghost use Rattle.wq_core.specs.Rules.{with_queued, with_cancelled, with_started, with_wait, with_wait_over, with_finished};
+
+use crate::entry::{Entry, Flush, Running};
+use std::alloc::{AllocError, Allocator};
+use std::collections::VecDeque;
+use std::marker::Model;
+use wq_items::ItemId;
+
+/// What is queued on a lane, the next one first, and what runs. Contracts see these, and how many entries there is room for.
+#[derive(Drop)]
+pub struct Lane<A: Allocator> {
+    pending: VecDeque<Entry, A>,
+    running: Option<Running>,
+}
+
+impl<A: Allocator> Model for Lane<A> {
+    ghost use Rattle.wq_core.specs.Held.{HeldLane};
+    ghost use Rattle.std.specs.VecDeque.{deque_capacity};
+
+    ghost Value = { HeldLane };
+
+    ghost view = { λ l. record { lane = record { pending = l.pending.items; running = l.running }; room = deque_capacity l.pending } };
+}
+
+impl<A: Allocator> Lane<A> {
+    /// An idle lane with room for so many entries. The only error is want of memory (20).
+    pub fn new(alloc: A, room: usize) -> Result<Self, AllocError>
+        ensures idle { IfOk result (λ l. l.lane ≡ idle_lane) }
+        ensures room { IfOk result (λ l. l.room ≡ room) }
+    {
+        let pending = VecDeque::with_capacity(alloc, room)?;
+        Ok(Lane {
+            pending,
+            running: None,
+        })
+    }
+
+    /// What runs.
+    pub fn running(&self) -> Option<Running>
+        ensures { result ≡ self.now.lane.running }
+    {
+        self.running
+    }
+
+    /// The entry that is started next.
+    pub fn first(&self) -> Option<Entry>
+        ensures { result ≡ slice_get self.now.lane.pending 0 }
+    {
+        self.pending.front().copied()
+    }
+
+    /// The first pending entry of an item.
+    pub fn pending_of(&self, item: ItemId) -> Option<Entry>
+        ensures { result ≡ find (λ (e : Entry). e.item == item) self.now.lane.pending }
+    {
+        self.pending.iter().find(|e| e.item == item).copied()
+    }
+
+    /// Whether a pending entry of an item has a number below the mark.
+    fn has_pending_below(&self, item: ItemId, mark: u32) -> bool
+        ensures { result ≡ list_any (is_below item mark) self.now.lane.pending }
+    {
+        self.pending
+            .iter()
+            .any(|e| e.item == item && e.number < mark)
+    }
+
+    /// Whether the entry that runs is of an item and has a number below the mark.
+    fn runs_below(&self, item: ItemId, mark: u32) -> bool
+        ensures { result ≡ runs_below item mark self.now.lane.running }
+    {
+        match self.running {
+            Some(r) => r.entry.item == item && r.entry.number < mark,
+            None => false,
+        }
+    }
+
+    /// Whether an unfinished entry of an item, pending or running, has a number below the mark.
+    pub fn has_unfinished_below(&self, item: ItemId, mark: u32) -> bool
+        ensures { IsTrue result ↔ LaneHasUnfinishedBelow self.now.lane item mark }
+    {
+        self.has_pending_below(item, mark) || self.runs_below(item, mark)
+    }
+
+    /// An entry is queued, last.
+    pub fn queue(&mut self, entry: Entry)
+        requires { length self.old.lane.pending < self.old.room }
+        ensures lane { self.new.lane ≡ with_queued entry self.old.lane }
+        ensures room { self.new.room ≡ self.old.room }
+    {
+        self.pending.push_back_reserved(entry);
+    }
+
+    /// The pending entry of an item is taken out.
+    pub fn cancel(&mut self, item: ItemId)
+        ensures lane { self.new.lane ≡ with_cancelled item self.old.lane }
+        ensures room { self.new.room ≡ self.old.room }
+    {
+        self.pending.retain(|e| e.item != item);
+    }
+
+    /// The first pending entry runs.
+    pub fn start(&mut self)
+        ensures lane { self.new.lane ≡ with_started self.old.lane }
+        ensures room { self.new.room ≡ self.old.room }
+    {
+        self.running = self.pending.pop_front().map(|entry| Running {
+            entry,
+            made: 0,
+            waiting: None,
+        });
+    }
+
+    /// What runs begins to wait for an item.
+    pub fn wait(&mut self, target: ItemId, mark: u32)
+        requires { IfSome self.old.lane.running (λ r. r.made + 1 < 2 ^ 32) }
+        ensures lane { self.new.lane ≡ with_wait target mark self.old.lane }
+        ensures room { self.new.room ≡ self.old.room }
+    {
+        self.running = self.running.map(|r| Running {
+            entry: r.entry,
+            made: r.made + 1,
+            waiting: Some(Flush { target, mark }),
+        });
+    }
+
+    /// What runs no longer waits.
+    pub fn go_on(&mut self)
+        ensures lane { self.new.lane ≡ with_wait_over self.old.lane }
+        ensures room { self.new.room ≡ self.old.room }
+    {
+        self.running = self.running.map(|r| Running {
+            entry: r.entry,
+            made: r.made,
+            waiting: None,
+        });
+    }
+
+    /// Nothing runs any more.
+    pub fn finish(&mut self)
+        ensures lane { self.new.lane ≡ with_finished self.old.lane }
+        ensures room { self.new.room ≡ self.old.room }
+    {
+        self.running = None;
+    }
+}

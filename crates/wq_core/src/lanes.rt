@@ -1,0 +1,54 @@
+//! All lanes, which are changed one at a time.
+//!
+//! The machine holds its lanes here and nowhere else, so that a change of one lane is seen to leave the others as they
+//! are. Each call takes constant time but `new`, which alone takes memory.
+
+ghost use Rattle.std.specs.Prelude.{◌≡◌, ◌<◌, length, slice_get, Some};
+ghost use Rattle.std.specs.Borrow.{sem};
+ghost use Rattle.wq_core.specs.Lending.{LendsLane};
+
+use crate::lane::Lane;
+use std::alloc::Allocator;
+use std::marker::Model;
+use wq_groups::LaneId;
+
+/// The lanes in turn. Contracts see the list of them.
+#[derive(Drop)]
+pub struct Lanes<A: Allocator> {
+    lanes: Vec<Lane<A>, A>,
+}
+
+impl<A: Allocator> Model for Lanes<A> {
+    ghost use Rattle.std.specs.Prelude.{List};
+    ghost use Rattle.wq_core.specs.Held.{HeldLane};
+
+    ghost Value = { List HeldLane };
+
+    ghost view = { λ l. l.lanes.items };
+}
+
+impl<A: Allocator> Lanes<A> {
+    /// How many lanes there are.
+    pub fn len(&self) -> usize
+        ensures { result ≡ length self.now }
+    {
+        self.lanes.len()
+    }
+
+    /// A lane below `len()`.
+    pub fn lane(&self, q: LaneId) -> &Lane<A>
+        requires { q < length self.now }
+        ensures { slice_get self.now q ≡ Some result.now }
+    {
+        &self.lanes[usize::from(q.get())]
+    }
+
+    /// A lane below `len()`, for writing: what is written changes this lane and no other.
+    pub fn lane_mut(&mut self, q: LaneId) -> &mut Lane<A>
+        requires { q < length self.old }
+        ensures* writes_back { sem 𝓛 (LendsLane A.row A.Allocator self.entry q result) }
+        ensures value { slice_get self.old q ≡ Some result.now }
+    {
+        &mut self.lanes[usize::from(q.get())]
+    }
+}
