@@ -1,4 +1,4 @@
--- Work left: how many rescuer steps what is queued and what runs can still make.
+-- Work left: how many rescuer steps what is queued and what runs can still make at most.
 use Rattle.std.specs.Prelude.{ℕ, ◌+◌, ◌-◌, ◌*◌, List, length, sum_by, Option, Some, None}
 use Rattle.wq_core.specs.declared.entry.Entry.{Entry}
 use Rattle.wq_core.specs.declared.entry.Flush.{Flush}
