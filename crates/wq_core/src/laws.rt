@@ -14,11 +14,14 @@ ghost use Rattle.wq_core.specs.Work.{is_rescuer_step, work_left};
 /// Where nothing more is queued, the rescuers make at most as many steps as there is work left, whatever the order and
 /// whatever is cancelled between.
 pub fn rescuer_steps_are_bounded()
-    ensures { (w : Wiring) (steps more : List Step) → IsWiring w → IsRun w steps → All (λ (step : Step). IsRescuerStep step ⊎ IsCancel step) more → IsRunFrom w (end_of w steps) more → count_by is_rescuer_step more ≤ work_left w (end_of w steps) }
+    ensures { (w : Wiring) (steps more : List Step) → IsWiring w → IsRun w steps →
+        All (λ (step : Step). IsRescuerStep step ⊎ IsCancel step) more → IsRunFrom w (end_of w steps) more →
+        count_by is_rescuer_step more ≤ work_left w (end_of w steps) }
 {}
 
-/// Where the lanes have numbers that fall along every declared flush, from the lane of the item that waits to that of its
-/// target, no run ends stuck.
+/// Where the lanes have numbers that fall along every declared flush, from the lane of the item that waits to that of
+/// its target, no run ends stuck.
 pub fn falling_numbers_are_safe()
-    ensures { (w : Wiring) (number : ℕ → ℕ) → IsWiring w → ((i j : ℕ) → ItemWaits w.waits i j → number (lane_of w j) < number (lane_of w i)) → IsSafe w }
+    ensures { (w : Wiring) (number : ℕ → ℕ) → IsWiring w →
+        ((i j : ℕ) → ItemWaits w.waits i j → number (lane_of w j) < number (lane_of w i)) → IsSafe w }
 {}
