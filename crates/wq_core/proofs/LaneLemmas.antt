@@ -21,7 +21,8 @@ lane_at-with_lane_other s q lane p other = get_or-set_other s.lanes q p lane idl
 
 -- each lane is as it was, or the one that was put there
 cases_set : (lanes : List Lane) (q : ℕ) (lane : Lane) (p : ℕ)
-    → (get_or (set lanes q lane) p idle_lane ≡ get_or lanes p idle_lane) ⊎ ((p ≡ q) × (get_or (set lanes q lane) p idle_lane ≡ lane))
+    → (get_or (set lanes q lane) p idle_lane ≡ get_or lanes p idle_lane)
+    ⊎ ((p ≡ q) × (get_or (set lanes q lane) p idle_lane ≡ lane))
 cases_set [] q lane p = inl refl
 cases_set (l ∷ ls) zero lane zero = inr (refl, refl)
 cases_set (l ∷ ls) zero lane (suc p) = inl refl
@@ -91,4 +92,6 @@ pub AllPairs-filter : {X : Type 0} (R : X → X → Type 0) (p : X → Bool) (xs
 AllPairs-filter R p [] h = AllPairs-nil R
 AllPairs-filter {X} R p (x ∷ xs) h =
     let rest : AllPairs R (filter p xs) = AllPairs-filter R p xs (AllPairs-tail R x xs h) in
-    cond_both (p x) (x ∷ filter p xs) (filter p xs) (λ (ys : List X). AllPairs R ys) (λ _. AllPairs-cons R x (filter p xs) (All-filter p (R x) xs (AllPairs-head R x xs h)) rest) (λ _. rest)
+    let first : All (R x) (filter p xs) = All-filter p (R x) xs (AllPairs-head R x xs h) in
+    let both : AllPairs R (x ∷ filter p xs) = AllPairs-cons R x (filter p xs) first rest in
+    cond_both (p x) (x ∷ filter p xs) (filter p xs) (λ (ys : List X). AllPairs R ys) (λ _. both) (λ _. rest)

@@ -57,7 +57,8 @@ none_on w s number q falls sound no_step none e unfinished = by_running (lane_at
     by_waiting : (r : Running) → Runs (lane_at s q) r → (o : Option Flush) → r.waiting ≡ o → ⊥
     by_waiting r runs None waits = no_step (Finish q r.entry.item) tt (r, runs, record { entry = refl; awake = waits })
     by_waiting r runs (Some flush) waits =
-        no_step (Over q flush.target) tt (r, runs, record { flush = flush; waits = waits; target = refl; done = wait_is_over w s number q r flush falls sound none runs waits })
+        let done = wait_is_over w s number q r flush falls sound none runs waits in
+        no_step (Over q flush.target) tt (r, runs, record { flush = flush; waits = waits; target = refl; done = done })
 
     by_running : (o : Option Running) → (lane_at s q).running ≡ o → ⊥
     by_running None idle = elim unfinished [
@@ -77,4 +78,6 @@ pub IsSafe-falls : (w : Wiring) (number : ℕ → ℕ) → IsWiring w
 IsSafe-falls w number wiring falls steps run stuck =
     let s : State = end_of w steps in
     let left = stuck.left in
-    none_below w s number (number left.lane + 1) falls (IsSoundState-end_of w steps wiring run) stuck.no_step left.lane (omega arith) left.entry left.unfinished
+    let sound : IsSoundState w s = IsSoundState-end_of w steps wiring run in
+    let none = none_below w s number (number left.lane + 1) falls sound stuck.no_step in
+    none left.lane (omega arith) left.entry left.unfinished

@@ -11,7 +11,7 @@ use Rattle.wq_core.specs.declared.entry.Running.{Running}
 use Rattle.wq_core.specs.declared.step.Step.{Step}
 use Rattle.wq_core.specs.declared.step.Step.TheVariants.{Queue, Cancel, Start, Wait, Over, Finish}
 use Rattle.wq_core.specs.Wiring.{Wiring, IsWiring, items, lane_of, declared_by}
-use Rattle.wq_core.specs.State.{Lane, State, idle_lane, lane_at, with_lane, empty_state, Runs, IsUnfinishedOn, HasPending}
+use Rattle.wq_core.specs.State.{Lane, State, idle_lane, lane_at, with_lane, empty_state, Runs, IsUnfinishedOn, HasPending, IsPendingOn}
 use Rattle.wq_core.specs.Rules.{MayWait, MayStart, Lawful, with_queued, with_cancelled, with_started, with_wait, with_wait_over, with_finished, effect}
 use Rattle.wq_core.specs.Runs.{after, IsRunFrom, IsRun, end_of}
 use Rattle.wq_core.specs.Held.{IsSoundRunning, IsSoundState}
@@ -56,10 +56,24 @@ IsSoundLane-later w next later q lane le sound = record {
 IsSoundState-with_lane : (w : Wiring) (s : State) (q : ℕ) (lane : Lane) (next : ℕ) → s.next ≤ next → IsSoundState w s
     → IsSoundLane w next q lane → IsSoundState w (record (with_lane s q lane) { next = next })
 IsSoundState-with_lane w s q lane next le sound new =
-    IsSoundState-lanes w (record (with_lane s q lane) { next = next }) (length-set s.lanes q lane ∙ sound.one_each) (λ p. elim (cases_with_lane s q lane p) [
-      | inl same ↦ subst (IsSoundLane w next p) (sym same) (IsSoundLane-later w s.next next p (lane_at s p) le (IsSoundLane-lane_at w s p sound))
-      | inr there ↦ subst (IsSoundLane w next p) (sym there.1) (subst (λ (k : ℕ). IsSoundLane w next k lane) (sym there.0) new)
-    ])
+    IsSoundState-lanes w (record (with_lane s q lane) { next = next }) (length-set s.lanes q lane ∙ sound.one_each) each
+  where
+    each : (p : ℕ) → IsSoundLane w next p (lane_at (with_lane s q lane) p)
+    each p =
+        let before : IsSoundLane w s.next p (lane_at s p) = IsSoundLane-lane_at w s p sound in
+        elim (cases_with_lane s q lane p) [
+          | inl same ↦ subst (IsSoundLane w next p) (sym same) (IsSoundLane-later w s.next next p (lane_at s p) le before)
+          | inr there ↦ (
+              let here : IsSoundLane w next p lane = subst (λ (k : ℕ). IsSoundLane w next k lane) (sym there.0) new in
+              subst (IsSoundLane w next p) (sym there.1) here
+              )
+        ]
+
+-- the same where no number is given
+IsSoundState-with_lane_now : (w : Wiring) (s : State) (q : ℕ) (lane : Lane) → IsSoundState w s
+    → (IsSoundLane w s.next q (lane_at s q) → IsSoundLane w s.next q lane) → IsSoundState w (with_lane s q lane)
+IsSoundState-with_lane_now w s q lane sound keeps =
+    IsSoundState-with_lane w s q lane s.next (omega arith) sound (keeps (IsSoundLane-lane_at w s q sound))
 
 -- ---- where nothing is queued
 
@@ -73,7 +87,9 @@ IsSoundLane-idle w next q = record {
 
 pub IsSoundState-empty : (w : Wiring) → IsSoundState w (empty_state w)
 IsSoundState-empty w =
-    IsSoundState-lanes w (empty_state w) (length-replicate w.lanes idle_lane) (λ q. subst (IsSoundLane w 0 q) (sym (lane_at-empty_state w q)) (IsSoundLane-idle w 0 q))
+    IsSoundState-lanes w (empty_state w) (length-replicate w.lanes idle_lane) (λ q.
+    subst (IsSoundLane w 0 q) (sym (lane_at-empty_state w q)) (IsSoundLane-idle w 0 q)
+    )
 
 -- ---- lanes after a step
 
@@ -100,7 +116,10 @@ IsSoundLane-queued : (w : Wiring) (next i : ℕ) (lane : Lane) → i < items w
 IsSoundLane-queued w next i lane below none sound =
     let e : Entry = record { number = next; item = i } in
     record {
-      own_lane = λ f h. elim (queued_cases lane e f h) [ inl before ↦ sound.own_lane f before | inr same ↦ subst (λ (g : Entry). (g.item < items w) × (lane_of w g.item ≡ lane_of w i)) same (below, refl) ];
+      own_lane = λ f h. elim (queued_cases lane e f h) [
+        | inl before ↦ sound.own_lane f before
+        | inr same ↦ subst (λ (g : Entry). (g.item < items w) × (lane_of w g.item ≡ lane_of w i)) same (below, refl)
+      ];
       given = λ f h. elim (queued_cases lane e f h) [
         | inl before ↦ let lt : f.number < next = sound.given f before in omega arith
         | inr same ↦ subst (λ (g : Entry). g.number < next + 1) same (omega arith)
@@ -133,7 +152,10 @@ IsSoundLane-started w next q i lane may sound = started lane.pending lane.runnin
         IsSoundLane-less w next q lane new sound (λ e h. elim h [
           | inl pending ↦ inl (Contains-tail p ps e pending)
           | inr (x, runs, same) ↦ inl (0, omega arith, (let is : r ≡ x = cc in ap (λ (y : Running). y.entry) is ∙ same))
-        ]) (AllPairs-tail Differ p ps sound.once) (λ x runs. let is : r ≡ x = cc in subst (IsSoundRunning w) is (record { made = omega arith; waits = λ f e. absurd cc }))
+        ]) (AllPairs-tail Differ p ps sound.once) (λ x runs.
+        let is : r ≡ x = cc in
+        subst (IsSoundRunning w) is (record { made = omega arith; waits = λ f e. absurd cc })
+        )
 
 -- what runs goes on with its entry
 IsSoundLane-going_on : (w : Wiring) (next q : ℕ) (lane : Lane) (f : Running → Running)
@@ -166,7 +188,10 @@ IsSoundRunning-wait : (w : Wiring) (b mark : ℕ) (r : Running) → MayWait w b 
     → IsSoundRunning w (record r { made = r.made + 1; waiting = Some (record { target = b; mark = mark }) })
 IsSoundRunning-wait w b mark r may = record {
   made = let fewer : r.made < length (declared_by w r.entry.item) = may.fewer in omega arith;
-  waits = λ f is. let flush : Flush = record { target = b; mark = mark } in let at : flush ≡ f = cc in (omega arith, subst (λ (g : Flush). ItemWaits w.waits r.entry.item g.target) at may.declared);
+  waits = λ f is.
+      let flush : Flush = record { target = b; mark = mark } in
+      let at : flush ≡ f = cc in
+      (omega arith, subst (λ (g : Flush). ItemWaits w.waits r.entry.item g.target) at may.declared);
 }
 
 IsSoundRunning-over : (w : Wiring) (r : Running) → IsSoundRunning w r → IsSoundRunning w (record r { waiting = None })
@@ -175,42 +200,53 @@ IsSoundRunning-over w r sound = record { made = sound.made; waits = λ f is. abs
 IsSoundLane-waiting : (w : Wiring) (next q b mark : ℕ) (lane : Lane) (r : Running) → Runs lane r → MayWait w b r
     → IsSoundLane w next q lane → IsSoundLane w next q (with_wait b mark lane)
 IsSoundLane-waiting w next q b mark lane r runs may sound =
-    IsSoundLane-going_on w next q lane (λ (x : Running). record x { made = x.made + 1; waiting = Some (record { target = b; mark = mark }) }) (λ x. refl) (λ x other. IsSoundRunning-wait w b mark x (subst (MayWait w b) (same_running lane r x runs other) may)) sound
+    let flush : Flush = record { target = b; mark = mark } in
+    let begins : Running → Running = λ (x : Running). record x { made = x.made + 1; waiting = Some flush } in
+    IsSoundLane-going_on w next q lane begins (λ x. refl) (λ x other.
+    IsSoundRunning-wait w b mark x (subst (MayWait w b) (same_running lane r x runs other) may)
+    ) sound
 
 IsSoundLane-wait_over : (w : Wiring) (next q : ℕ) (lane : Lane) → IsSoundLane w next q lane
     → IsSoundLane w next q (with_wait_over lane)
 IsSoundLane-wait_over w next q lane sound =
-    IsSoundLane-going_on w next q lane (λ (x : Running). record x { waiting = None }) (λ x. refl) (λ x runs. IsSoundRunning-over w x (sound.running x runs)) sound
+    let goes_on : Running → Running = λ (x : Running). record x { waiting = None } in
+    IsSoundLane-going_on w next q lane goes_on (λ x. refl) (λ x runs.
+    IsSoundRunning-over w x (sound.running x runs)
+    ) sound
 
 -- ---- states after a step
 
 not_pending : (s : State) (q i : ℕ) → ¬ HasPending s i → (k : ℕ) (d : Entry) → k < length (lane_at s q).pending
     → (get_or (lane_at s q).pending k d).item ≢ i
 not_pending s q i none k d within same =
-    none (record { lane = q; entry = get_or (lane_at s q).pending k d; pending = Contains-get_or (lane_at s q).pending k d within; of_item = same })
+    let there : IsPendingOn (lane_at s q) (get_or (lane_at s q).pending k d) = Contains-get_or (lane_at s q).pending k d within in
+    none (record { lane = q; entry = get_or (lane_at s q).pending k d; pending = there; of_item = same })
 
 pub IsSoundState-effect : (w : Wiring) (s : State) (step : Step) → IsWiring w → IsSoundState w s → Lawful w s step
     → IsSoundState w (effect w s step)
 IsSoundState-effect w s (Queue i) wiring sound (below, none) =
     let q : ℕ = lane_of w i in
-    let lane : Lane = lane_at s q in
-    IsSoundState-with_lane w s q (with_queued (record { number = s.next; item = i }) lane) (s.next + 1) (omega arith) sound (IsSoundLane-queued w s.next i lane below (not_pending s q i none) (IsSoundLane-lane_at w s q sound))
+    let before : IsSoundLane w s.next q (lane_at s q) = IsSoundLane-lane_at w s q sound in
+    let new : Lane = with_queued (record { number = s.next; item = i }) (lane_at s q) in
+    let queued : IsSoundLane w (s.next + 1) q new = IsSoundLane-queued w s.next i (lane_at s q) below (not_pending s q i none) before in
+    IsSoundState-with_lane w s q new (s.next + 1) (omega arith) sound queued
 IsSoundState-effect w s (Cancel i) wiring sound lawful =
     let q : ℕ = lane_of w i in
     let lane : Lane = lane_at s q in
-    IsSoundState-with_lane w s q (with_cancelled i lane) s.next (omega arith) sound (IsSoundLane-cancelled w s.next q i lane (IsSoundLane-lane_at w s q sound))
+    IsSoundState-with_lane_now w s q (with_cancelled i lane) sound (IsSoundLane-cancelled w s.next q i lane)
 IsSoundState-effect w s (Start q i) wiring sound lawful =
     let lane : Lane = lane_at s q in
-    IsSoundState-with_lane w s q (with_started lane) s.next (omega arith) sound (IsSoundLane-started w s.next q i lane lawful (IsSoundLane-lane_at w s q sound))
+    IsSoundState-with_lane_now w s q (with_started lane) sound (IsSoundLane-started w s.next q i lane lawful)
 IsSoundState-effect w s (Wait q b) wiring sound (r, runs, may) =
     let lane : Lane = lane_at s q in
-    IsSoundState-with_lane w s q (with_wait b s.next lane) s.next (omega arith) sound (IsSoundLane-waiting w s.next q b s.next lane r runs may (IsSoundLane-lane_at w s q sound))
+    let keeps = IsSoundLane-waiting w s.next q b s.next lane r runs may in
+    IsSoundState-with_lane_now w s q (with_wait b s.next lane) sound keeps
 IsSoundState-effect w s (Over q b) wiring sound lawful =
     let lane : Lane = lane_at s q in
-    IsSoundState-with_lane w s q (with_wait_over lane) s.next (omega arith) sound (IsSoundLane-wait_over w s.next q lane (IsSoundLane-lane_at w s q sound))
+    IsSoundState-with_lane_now w s q (with_wait_over lane) sound (IsSoundLane-wait_over w s.next q lane)
 IsSoundState-effect w s (Finish q i) wiring sound lawful =
     let lane : Lane = lane_at s q in
-    IsSoundState-with_lane w s q (with_finished lane) s.next (omega arith) sound (IsSoundLane-finished w s.next q lane (IsSoundLane-lane_at w s q sound))
+    IsSoundState-with_lane_now w s q (with_finished lane) sound (IsSoundLane-finished w s.next q lane)
 
 -- ---- states after runs
 

@@ -31,9 +31,7 @@ lane_work-cancelled : (w : Wiring) (i : ℕ) (lane : Lane) → lane_work w (with
 lane_work-cancelled w i lane =
     let others : Entry → Bool = λ (e : Entry). not (eqb e.item i) in
     let work : Entry → ℕ = λ (e : Entry). whole_work w e.item in
-    let both : sum_by work (filter others lane.pending) + sum_by work (filter (λ (e : Entry). not (others e)) lane.pending) ≡ sum_by work lane.pending =
-    sum_by-filter_both others (λ (e : Entry). not (others e)) (λ e. refl) work lane.pending in
-    omega (arith, both)
+    omega (arith, sum_by-filter_both others (λ (e : Entry). not (others e)) (λ e. refl) work lane.pending)
 
 lane_work-started : (w : Wiring) (i : ℕ) (lane : Lane) → MayStart lane i
     → lane_work w (with_started lane) < lane_work w lane
@@ -52,7 +50,6 @@ lane_work-waiting : (w : Wiring) (b mark : ℕ) (lane : Lane) (r : Running) → 
 lane_work-waiting w b mark lane r runs may =
     let begins : Running → Running =
     λ (x : Running). record x { made = x.made + 1; waiting = Some (record { target = b; mark = mark }) } in
-    let n : ℕ = length (declared_by w r.entry.item) in
     let before : running_work w lane.running ≡ whole_work w r.entry.item - (1 + r.made + r.made) =
     ap (running_work w) runs ∙ ap (λ (o : Option Flush). whole_work w r.entry.item - (1 + r.made + waits_over r.made o)) may.awake in
     let new : running_work w (option_map begins lane.running) ≡ whole_work w r.entry.item - (1 + (r.made + 1) + ((r.made + 1) - 1)) =
@@ -94,7 +91,10 @@ work_left-not_more : (w : Wiring) (s : State) (q : ℕ) (lane : Lane) → lane_w
     → work_left w (with_lane s q lane) ≤ work_left w s
 work_left-not_more w s q lane less = elim (cases_lt q (length s.lanes)) [
   | inl within ↦ omega (arith, work_left-with_lane w s q lane within, less)
-  | inr past ↦ (let same : sum_by (lane_work w) (set s.lanes q lane) ≡ sum_by (lane_work w) s.lanes = ap (λ (ls : List Lane). sum_by (lane_work w) ls) (set_past s.lanes q lane past) in omega (arith, same))
+  | inr past ↦ (
+      let same : set s.lanes q lane ≡ s.lanes = set_past s.lanes q lane past in
+      omega (arith, ap (λ (ls : List Lane). sum_by (lane_work w) ls) same)
+      )
 ]
 
 runs_within : (s : State) (q : ℕ) (r : Running) → Runs (lane_at s q) r → q < length s.lanes
@@ -120,10 +120,12 @@ work_left-rescuer w s (Wait q b) sound (r, runs, may) is =
     work_left-less w s q (with_wait b s.next lane) (runs_within s q r runs) (lane_work-waiting w b s.next lane r runs may)
 work_left-rescuer w s (Over q b) sound (r, runs, may) is =
     let lane : Lane = lane_at s q in
-    work_left-less w s q (with_wait_over lane) (runs_within s q r runs) (lane_work-wait_over w lane r may.flush runs may.waits (sound.running q r runs))
+    let less = lane_work-wait_over w lane r may.flush runs may.waits (sound.running q r runs) in
+    work_left-less w s q (with_wait_over lane) (runs_within s q r runs) less
 work_left-rescuer w s (Finish q i) sound (r, runs, may) is =
     let lane : Lane = lane_at s q in
-    work_left-less w s q (with_finished lane) (runs_within s q r runs) (lane_work-finished w lane r runs may.awake (sound.running q r runs))
+    let less = lane_work-finished w lane r runs may.awake (sound.running q r runs) in
+    work_left-less w s q (with_finished lane) (runs_within s q r runs) less
 
 -- a cancellation leaves no more
 pub work_left-cancel : (w : Wiring) (s : State) (step : Step) → IsCancel step
@@ -182,8 +184,9 @@ count_by-rescuer_steps w s (step ∷ more) wiring sound each run =
     sum_by-cons counted step more in
     let first : counted step + work_left w (effect w s step) ≤ work_left w s =
     step_bound w s step sound run.0 (All-head Kind step more each) in
+    let next : IsSoundState w (effect w s step) = IsSoundState-effect w s step wiring sound run.0 in
     let rest : count_by is_rescuer_step more ≤ work_left w (effect w s step) =
-    count_by-rescuer_steps w (effect w s step) more wiring (IsSoundState-effect w s step wiring sound run.0) (All-tail Kind step more each) run.1 in
+    count_by-rescuer_steps w (effect w s step) more wiring next (All-tail Kind step more each) run.1 in
     omega (arith, all, first, rest)
 
 pub count_by-rescuer_steps_after : (w : Wiring) (steps more : List Step) → IsWiring w → IsRun w steps
