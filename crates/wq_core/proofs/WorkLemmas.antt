@@ -1,7 +1,7 @@
 -- Each rescuer step lowers the work that is left, and a cancellation doesn't raise it.
 use Rattle.std.proofs.Common.{◌≡◌, ℕ, ◌+◌, ◌-◌, ◌<◌, ◌≤◌, ◌⊎◌, inl, inr, Bool, cond, not, eqb, List, [], ◌∷◌, length, set, Option, Some, None, refl, ap, ◌∙◌, arith}
 use Rattle.std.specs.Prelude.{Contains, slice_get, option_map, sum_by}
-use Rattle.std.specs.List.{All, filter, count_by}
+use Rattle.std.specs.List.{All, count_by}
 use Rattle.std.proofs.lemmas.Bool.{cases_lt}
 use Rattle.std.proofs.lemmas.List.{set_past}
 use Rattle.std.proofs.lemmas.List.Elements.{All-head, All-tail}
