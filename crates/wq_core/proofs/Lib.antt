@@ -1,0 +1,4 @@
+pub mod LaneLemmas
+pub mod Sound
+pub mod WorkLemmas
+pub mod Safety

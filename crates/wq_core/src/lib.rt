@@ -6,6 +6,7 @@
 #![tactic(auto)]
 
 mod entry;
+pub mod laws;
 mod step;
 
 pub use entry::{Entry, Flush, Running};
