@@ -1,26 +1,28 @@
 -- Lanes of a state, after one of them has changed; entries of a lane, after its pending list has.
-use Rattle.std.proofs.Common.{◌≡◌, ◌≢◌, ℕ, zero, suc, ◌+◌, ◌<◌, ◌≤◌, ◌⊎◌, inl, inr, Bool, cond, List, [], ◌∷◌, ◌++◌, length, get_or, set, drop, replicate, Option, Some, None, refl, sym, ap, subst, ◌∙◌, arith}
-use Rattle.std.specs.Prelude.{AllPairs, Contains, slice_get}
+use Rattle.std.proofs.Common.{◌≡◌, ◌≢◌, ℕ, zero, suc, ◌<◌, ◌≤◌, ◌⊎◌, inl, inr, Bool, List, [], ◌∷◌, length, get_or, set, replicate, refl, ap, subst, arith}
+use Rattle.std.specs.Prelude.{AllPairs, Contains}
 use Rattle.std.specs.List.{All, filter}
 use Rattle.std.proofs.lemmas.Bool.{cases_lt, cond_both}
 use Rattle.std.proofs.lemmas.List.{get_or-set_same, get_or-set_other, get_or_past, get_or-replicate, length-replicate}
 use Rattle.std.proofs.lemmas.List.Elements.{All-contains, All-contains_itself, All-filter}
 use Rattle.wq_core.specs.declared.entry.Entry.{Entry}
-use Rattle.wq_core.specs.declared.entry.Running.{Running}
 use Rattle.wq_core.specs.Wiring.{Wiring}
-use Rattle.wq_core.specs.State.{Lane, State, idle_lane, lane_at, with_lane, empty_state, Runs, IsUnfinishedOn}
+use Rattle.wq_core.specs.State.{Lane, State, idle_lane, lane_at, with_lane, empty_state, IsUnfinishedOn}
 
 -- ---- lanes of a state
 
-pub lane_at-with_lane_same : (s : State) (q : ℕ) (lane : Lane) → q < length s.lanes → lane_at (with_lane s q lane) q ≡ lane
+pub lane_at-with_lane_same : (s : State) (q : ℕ) (lane : Lane) → q < length s.lanes
+    → lane_at (with_lane s q lane) q ≡ lane
 lane_at-with_lane_same s q lane within = get_or-set_same s.lanes q lane idle_lane within
 
-pub lane_at-with_lane_other : (s : State) (q : ℕ) (lane : Lane) (p : ℕ) → p ≢ q → lane_at (with_lane s q lane) p ≡ lane_at s p
+pub lane_at-with_lane_other : (s : State) (q : ℕ) (lane : Lane) (p : ℕ) → p ≢ q
+    → lane_at (with_lane s q lane) p ≡ lane_at s p
 lane_at-with_lane_other s q lane p other = get_or-set_other s.lanes q p lane idle_lane other
 
 -- each lane is as it was, or the one that was put there
 cases_set : (lanes : List Lane) (q : ℕ) (lane : Lane) (p : ℕ)
-    → (get_or (set lanes q lane) p idle_lane ≡ get_or lanes p idle_lane) ⊎ ((p ≡ q) × (get_or (set lanes q lane) p idle_lane ≡ lane))
+    → (get_or (set lanes q lane) p idle_lane ≡ get_or lanes p idle_lane)
+    ⊎ ((p ≡ q) × (get_or (set lanes q lane) p idle_lane ≡ lane))
 cases_set [] q lane p = inl refl
 cases_set (l ∷ ls) zero lane zero = inr (refl, refl)
 cases_set (l ∷ ls) zero lane (suc p) = inl refl
@@ -64,12 +66,14 @@ lane_within s q e h = elim (cases_lt q (length s.lanes)) [
 -- ---- pending entries
 
 pub Contains-filter : {X : Type 0} (p : X → Bool) (xs : List X) (x : X) → Contains (filter p xs) x → Contains xs x
-Contains-filter {X} p xs x h = All-contains (Contains xs) (filter p xs) x (All-filter p (Contains xs) xs (All-contains_itself xs)) h
+Contains-filter {X} p xs x h =
+    All-contains (Contains xs) (filter p xs) x (All-filter p (Contains xs) xs (All-contains_itself xs)) h
 
 pub Contains-tail : {X : Type 0} (y : X) (xs : List X) (x : X) → Contains xs x → Contains (y ∷ xs) x
 Contains-tail y xs x (k, lt, at) = (suc k, omega arith, at)
 
-pub AllPairs-cons : {X : Type 0} (R : X → X → Type 0) (x : X) (xs : List X) → All (R x) xs → AllPairs R xs → AllPairs R (x ∷ xs)
+pub AllPairs-cons : {X : Type 0} (R : X → X → Type 0) (x : X) (xs : List X) → All (R x) xs → AllPairs R xs
+    → AllPairs R (x ∷ xs)
 AllPairs-cons R x xs first rest i zero d lt within = absurd (omega arith)
 AllPairs-cons R x xs first rest zero (suc j) d lt within = first j d (omega arith)
 AllPairs-cons R x xs first rest (suc i) (suc j) d lt within = rest i j d (omega arith) (omega arith)
@@ -83,8 +87,11 @@ AllPairs-tail R x xs h i j d lt within = h (suc i) (suc j) d (omega arith) (omeg
 pub AllPairs-nil : {X : Type 0} (R : X → X → Type 0) → AllPairs R []
 AllPairs-nil R i j d lt within = absurd (omega arith)
 
-pub AllPairs-filter : {X : Type 0} (R : X → X → Type 0) (p : X → Bool) (xs : List X) → AllPairs R xs → AllPairs R (filter p xs)
+pub AllPairs-filter : {X : Type 0} (R : X → X → Type 0) (p : X → Bool) (xs : List X) → AllPairs R xs
+    → AllPairs R (filter p xs)
 AllPairs-filter R p [] h = AllPairs-nil R
 AllPairs-filter {X} R p (x ∷ xs) h =
     let rest : AllPairs R (filter p xs) = AllPairs-filter R p xs (AllPairs-tail R x xs h) in
-    cond_both (p x) (x ∷ filter p xs) (filter p xs) (λ (ys : List X). AllPairs R ys) (λ _. AllPairs-cons R x (filter p xs) (All-filter p (R x) xs (AllPairs-head R x xs h)) rest) (λ _. rest)
+    let first : All (R x) (filter p xs) = All-filter p (R x) xs (AllPairs-head R x xs h) in
+    let both : AllPairs R (x ∷ filter p xs) = AllPairs-cons R x (filter p xs) first rest in
+    cond_both (p x) (x ∷ filter p xs) (filter p xs) (λ (ys : List X). AllPairs R ys) (λ _. both) (λ _. rest)

@@ -13,7 +13,7 @@ pub record IsStuck (w : Wiring) (s : State) : Type 0 where
   pub left : HasUnfinished s
   pub no_step : (step : Step) → IsRescuerStep step → ¬ Lawful w s step
 
--- no run ends stuck
+-- no run ends stuck. It says something of an assignment only where each item's lane is one of the lanes (`IsWiring`)
 abbrev pub IsSafe : Wiring → Type 0
 IsSafe w = (steps : List Step) → IsRun w steps → ¬ IsStuck w (end_of w steps)
 
@@ -24,11 +24,12 @@ pub record DeadlocksBy (w : Wiring) (steps : List Step) : Type 0 where
   pub as_declared : AsDeclaredFrom w (empty_state w) steps
   pub stuck : IsStuck w (end_of w steps)
 
--- some run does
+-- some run deadlocks so
 abbrev pub Deadlocks : Wiring → Type 0
 Deadlocks w = (steps : List Step) × DeadlocksBy w steps
 
--- the assignment is safe, and every assignment to fewer lanes deadlocks
+-- an assignment of the declaration's groups is safe, and every assignment to fewer lanes deadlocks
 pub record IsLeast (d : Declaration) (a : Assignment) : Type 0 where
+  pub assignment : IsAssignment d.groups a
   pub safe : IsSafe (wiring d a)
   pub fewer : (b : Assignment) → IsAssignment d.groups b → b.lanes < a.lanes → Deadlocks (wiring d b)

@@ -33,14 +33,14 @@ pub record Machine : Type 0 where
   pub wiring : Wiring
   pub state : State
 
--- what holds of what lane q runs: it has made at most as many waits as its item declares, and while it waits it has made
--- one, for an item whose flush is declared
+-- what holds of what a lane runs: it has made at most as many waits as its item declares; while it waits it has made one at
+-- least, and its item declares a flush of what it waits for
 pub record IsSoundRunning (w : Wiring) (r : Running) : Type 0 where
   pub made : r.made ≤ length (declared_by w r.entry.item)
   pub waits : (f : Flush) → r.waiting ≡ Some f → (0 < r.made) × ItemWaits w.waits r.entry.item f.target
 
--- what holds of every state that a run leaves: each entry stands on its item's lane, with a number that was given; a lane
--- has at most one pending entry of an item; and what runs is sound
+-- what holds of every state that a run leaves: there are the wiring's lanes; each entry is of an item that exists, stands on
+-- that item's lane, and has a number that was given; a lane has at most one pending entry of an item; and what runs is sound
 pub record IsSoundState (w : Wiring) (s : State) : Type 0 where
   pub one_each : length s.lanes ≡ w.lanes
   pub own_lane : (q : ℕ) (e : Entry) → IsUnfinishedOn (lane_at s q) e → (e.item < items w) × (lane_of w e.item ≡ q)
@@ -48,7 +48,8 @@ pub record IsSoundState (w : Wiring) (s : State) : Type 0 where
   pub once : (q : ℕ) → AllPairs (λ (e f : Entry). e.item ≢ f.item) (lane_at s q).pending
   pub running : (q : ℕ) (r : Running) → Runs (lane_at s q) r → IsSoundRunning w r
 
--- what holds of every machine: its wiring and its state are sound and within the limits of a declaration
+-- what holds of every machine: its wiring and its state are sound, and within the limits of a declaration, of an assignment
+-- and of the numbers that are given
 pub record IsMachine (m : Machine) : Type 0 where
   pub wiring : IsWiring m.wiring
   pub state : IsSoundState m.wiring m.state

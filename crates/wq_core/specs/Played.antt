@@ -17,13 +17,17 @@ IsStepOf q (Wait p b) = p ≡ q
 IsStepOf q (Over p b) = p ≡ q
 IsStepOf q (Finish p i) = p ≡ q
 
+-- lane q can make a step
+abbrev pub CanMove : Wiring → State → ℕ → Type 0
+CanMove w s q = (step : Step) × IsStepOf q step × Lawful w s step
+
 -- the step that lane q can make when its executions flush as declared
 pub record IsDeclaredStep (w : Wiring) (s : State) (q : ℕ) (step : Step) : Type 0 where
   pub of_lane : IsStepOf q step
   pub lawful : Lawful w s step
   pub in_order : KeepsOrder w s step
 
--- lane q can make none
+-- lane q can make none of these
 abbrev pub CannotMove : Wiring → State → ℕ → Type 0
 CannotMove w s q = (step : Step) → ¬ IsDeclaredStep w s q step
 

@@ -40,8 +40,8 @@ pub record MayStart (lane : Lane) (i : ℕ) : Type 0 where
   pub of_item : entry.item ≡ i
 
 -- a step is lawful: an item is queued only while no entry of it is pending, and cancelled only while one is; an idle lane
--- starts its first pending entry; and what runs waits, goes on and finishes as above. A lane or an item that doesn't exist
--- makes a step unlawful
+-- starts its first pending entry; and what runs waits, goes on and finishes as above. Nothing is lawful on a lane that
+-- doesn't exist, and no state that a run leaves has an entry of an item that doesn't
 abbrev pub Lawful : Wiring → State → Step → Type 0
 Lawful w s (Queue i) = (i < items w) × (¬ HasPending s i)
 Lawful w s (Cancel i) = HasPending s i
@@ -56,7 +56,7 @@ Lawful w s (Finish q i) = (r : Running) × Runs (lane_at s q) r × MayFinish i r
 abbrev pub with_queued : Entry → Lane → Lane
 with_queued e lane = record lane { pending = lane.pending ++ (e ∷ []) }
 
--- the pending entry of item i is taken out, and the others keep their order
+-- each pending entry of item i is taken out, of which a run leaves one at most, and the others keep their order
 abbrev pub with_cancelled : ℕ → Lane → Lane
 with_cancelled i lane = record lane { pending = filter (λ (e : Entry). not (e.item == i)) lane.pending }
 
@@ -102,3 +102,14 @@ Gives s (Start q i) n = (e : Entry) × (slice_get (lane_at s q).pending 0 ≡ So
 Gives s (Wait q b) n = n ≡ s.next
 Gives s (Over q b) n = (r : Running) × Runs (lane_at s q) r × ((f : Flush) × (r.waiting ≡ Some f) × (f.mark ≡ n))
 Gives s (Finish q i) n = (r : Running) × Runs (lane_at s q) r × (r.entry.number ≡ n)
+
+-- ---- numbers that are used up
+
+-- the step would be given 4,294,967,295, which is never given
+abbrev pub NumbersAreUsedUp : State → Step → Type 0
+NumbersAreUsedUp s (Queue i) = s.next ≡ 4294967295
+NumbersAreUsedUp s (Cancel i) = ⊥
+NumbersAreUsedUp s (Start q i) = ⊥
+NumbersAreUsedUp s (Wait q b) = ⊥
+NumbersAreUsedUp s (Over q b) = ⊥
+NumbersAreUsedUp s (Finish q i) = ⊥

@@ -1,5 +1,5 @@
 -- Runs: lists of steps of any length, each lawful where it is made.
-use Rattle.std.specs.Prelude.{◌≡◌, ℕ, ◌<◌, List, [], ◌∷◌, length, slice_get, ⊤, IfSome, Some, Bool, true, false, ◌==◌, Option}
+use Rattle.std.specs.Prelude.{◌≡◌, ℕ, ◌<◌, List, [], ◌∷◌, length, slice_get, ⊤, Some, Bool, true, false, ◌==◌, Option}
 use Rattle.std.specs.List.{All, count_by}
 use Rattle.wq_items.specs.declared.target.Target.{Target}
 use Rattle.wq_core.specs.declared.entry.Running.{Running}
@@ -44,7 +44,7 @@ abbrev pub KeepsOrder : Wiring → State → Step → Type 0
 KeepsOrder w s (Queue i) = ⊤
 KeepsOrder w s (Cancel i) = ⊤
 KeepsOrder w s (Start q i) = ⊤
-KeepsOrder w s (Wait q b) = (r : Running) × Runs (lane_at s q) r × IfSome (slice_get (declared_by w r.entry.item) r.made) (λ (t : Target). t.item ≡ b)
+KeepsOrder w s (Wait q b) = (r : Running) × Runs (lane_at s q) r × ((t : Target) × (slice_get (declared_by w r.entry.item) r.made ≡ Some t) × (t.item ≡ b))
 KeepsOrder w s (Over q b) = ⊤
 KeepsOrder w s (Finish q i) = (r : Running) × Runs (lane_at s q) r × (r.made ≡ length (declared_by w r.entry.item))
 
@@ -75,5 +75,5 @@ IsCancel (Finish q i) = ⊥
 
 -- each item is queued exactly once, and none is cancelled
 pub record IsOnce (w : Wiring) (steps : List Step) : Type 0 where
-  pub queued : (i : ℕ) → i < items w → count_by (queues i) steps ≡ 1
+  pub queued : (i : ℕ) → i < items w → count_by (λ (step : Step). queues i step) steps ≡ 1
   pub uncancelled : All (λ (step : Step). ¬ IsCancel step) steps

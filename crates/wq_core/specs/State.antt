@@ -22,7 +22,7 @@ idle_lane = record { pending = []; running = None }
 abbrev pub lane_at : State → ℕ → Lane
 lane_at s q = slice_index_or s.lanes q idle_lane
 
--- the state with another lane q
+-- the state with this lane in the place of lane q, if there is one
 abbrev pub with_lane : State → ℕ → Lane → State
 with_lane s q lane = record s { lanes = slice_set s.lanes q lane }
 

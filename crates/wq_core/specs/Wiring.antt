@@ -21,7 +21,7 @@ wiring d a = record { waits = d.waits; lane_of_item = map (lane_of_group a) d.gr
 abbrev pub items : Wiring → ℕ
 items w = length w.waits
 
--- the lane of item i
+-- the lane of item i, which exists
 abbrev pub lane_of : Wiring → ℕ → ℕ
 lane_of w i = slice_index w.lane_of_item i
 

@@ -8,6 +8,7 @@
 mod entry;
 mod lane;
 mod lanes;
+pub mod laws;
 mod step;
 
 pub use entry::{Entry, Flush, Running};

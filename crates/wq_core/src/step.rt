@@ -33,7 +33,7 @@ pub enum StepError {
     /// The step isn't lawful (30).
     #[error("the step isn't lawful")]
     NotLawful,
-    /// A lawful queueing would be given a number that nothing is given (31).
+    /// The queueing is lawful, but the next number is 4,294,967,295, which is never given (31).
     #[error("the numbers are used up")]
     NumbersUsedUp,
 }

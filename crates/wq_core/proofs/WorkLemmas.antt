@@ -1,0 +1,196 @@
+-- Each rescuer step lowers the work that is left, and a cancellation doesn't raise it.
+use Rattle.std.proofs.Common.{◌≡◌, ℕ, ◌+◌, ◌-◌, ◌<◌, ◌≤◌, ◌⊎◌, inl, inr, Bool, cond, not, eqb, List, [], ◌∷◌, length, set, Option, Some, None, refl, ap, ◌∙◌, arith}
+use Rattle.std.specs.Prelude.{Contains, slice_get, option_map, sum_by}
+use Rattle.std.specs.List.{All, count_by}
+use Rattle.std.proofs.lemmas.Bool.{cases_lt}
+use Rattle.std.proofs.lemmas.List.{set_past}
+use Rattle.std.proofs.lemmas.List.Elements.{All-head, All-tail}
+use Rattle.std.proofs.lemmas.List.Filters.{sum_by-filter_both}
+use Rattle.std.proofs.lemmas.List.Sums.{sum_by-cons, sum_by-set}
+use Rattle.wq_core.specs.declared.entry.Entry.{Entry}
+use Rattle.wq_core.specs.declared.entry.Flush.{Flush}
+use Rattle.wq_core.specs.declared.entry.Running.{Running}
+use Rattle.wq_core.specs.declared.step.Step.{Step}
+use Rattle.wq_core.specs.declared.step.Step.TheVariants.{Queue, Cancel, Start, Wait, Over, Finish}
+use Rattle.wq_core.specs.Wiring.{Wiring, IsWiring, lane_of, declared_by}
+use Rattle.wq_core.specs.State.{Lane, State, idle_lane, lane_at, with_lane, Runs}
+use Rattle.wq_core.specs.Rules.{MayWait, MayStart, Lawful, with_cancelled, with_started, with_wait, with_wait_over, with_finished, effect}
+use Rattle.wq_core.specs.Runs.{IsRunFrom, IsRun, end_of, IsRescuerStep, IsCancel}
+use Rattle.wq_core.specs.Work.{whole_work, waits_over, running_work, lane_work, work_left, is_rescuer_step}
+use Rattle.wq_core.specs.Held.{IsSoundRunning, IsSoundState}
+use Rattle.wq_core.proofs.LaneLemmas.{lane_within}
+use Rattle.wq_core.proofs.Sound.{IsSoundState-effect, IsSoundState-end_of}
+
+-- ---- lanes
+
+-- what is left of the pending entries
+abbrev pending_work : Wiring → List Entry → ℕ
+pending_work w es = sum_by (λ (e : Entry). whole_work w e.item) es
+
+lane_work-cancelled : (w : Wiring) (i : ℕ) (lane : Lane) → lane_work w (with_cancelled i lane) ≤ lane_work w lane
+lane_work-cancelled w i lane =
+    let others : Entry → Bool = λ (e : Entry). not (eqb e.item i) in
+    let work : Entry → ℕ = λ (e : Entry). whole_work w e.item in
+    omega (arith, sum_by-filter_both others (λ (e : Entry). not (others e)) (λ e. refl) work lane.pending)
+
+lane_work-started : (w : Wiring) (i : ℕ) (lane : Lane) → MayStart lane i
+    → lane_work w (with_started lane) < lane_work w lane
+lane_work-started w i lane may = started lane.pending lane.running may.idle may.entry may.first
+  where
+    started : (ps : List Entry) (o : Option Running) → o ≡ None → (first : Entry) → slice_get ps 0 ≡ Some first
+        → lane_work w (with_started (record { pending = ps; running = o })) < lane_work w (record { pending = ps; running = o })
+    started [] o idle first is = absurd cc
+    started (p ∷ ps) o idle first is =
+        let all : pending_work w (p ∷ ps) ≡ whole_work w p.item + pending_work w ps =
+        sum_by-cons (λ (e : Entry). whole_work w e.item) p ps in
+        omega (arith, all)
+
+lane_work-waiting : (w : Wiring) (b mark : ℕ) (lane : Lane) (r : Running) → Runs lane r → MayWait w b r
+    → lane_work w (with_wait b mark lane) < lane_work w lane
+lane_work-waiting w b mark lane r runs may =
+    let begins : Running → Running =
+    λ (x : Running). record x { made = x.made + 1; waiting = Some (record { target = b; mark = mark }) } in
+    let before : running_work w lane.running ≡ whole_work w r.entry.item - (1 + r.made + r.made) =
+    ap (running_work w) runs ∙ ap (λ (o : Option Flush). whole_work w r.entry.item - (1 + r.made + waits_over r.made o)) may.awake in
+    let new : running_work w (option_map begins lane.running) ≡ whole_work w r.entry.item - (1 + (r.made + 1) + ((r.made + 1) - 1)) =
+    ap (λ (o : Option Running). running_work w (option_map begins o)) runs in
+    let fewer : r.made < length (declared_by w r.entry.item) = may.fewer in
+    omega (arith, before, new, fewer)
+
+lane_work-wait_over : (w : Wiring) (lane : Lane) (r : Running) (flush : Flush) → Runs lane r → r.waiting ≡ Some flush
+    → IsSoundRunning w r → lane_work w (with_wait_over lane) < lane_work w lane
+lane_work-wait_over w lane r flush runs waits sound =
+    let goes_on : Running → Running = λ (x : Running). record x { waiting = None } in
+    let before : running_work w lane.running ≡ whole_work w r.entry.item - (1 + r.made + (r.made - 1)) =
+    ap (running_work w) runs ∙ ap (λ (o : Option Flush). whole_work w r.entry.item - (1 + r.made + waits_over r.made o)) waits in
+    let new : running_work w (option_map goes_on lane.running) ≡ whole_work w r.entry.item - (1 + r.made + r.made) =
+    ap (λ (o : Option Running). running_work w (option_map goes_on o)) runs in
+    let made : r.made ≤ length (declared_by w r.entry.item) = sound.made in
+    let some : 0 < r.made = (sound.waits flush waits).0 in
+    omega (arith, before, new, made, some)
+
+lane_work-finished : (w : Wiring) (lane : Lane) (r : Running) → Runs lane r → r.waiting ≡ None → IsSoundRunning w r
+    → lane_work w (with_finished lane) < lane_work w lane
+lane_work-finished w lane r runs awake sound =
+    let before : running_work w lane.running ≡ whole_work w r.entry.item - (1 + r.made + r.made) =
+    ap (running_work w) runs ∙ ap (λ (o : Option Flush). whole_work w r.entry.item - (1 + r.made + waits_over r.made o)) awake in
+    let made : r.made ≤ length (declared_by w r.entry.item) = sound.made in
+    omega (arith, before, made)
+
+-- ---- states
+
+work_left-with_lane : (w : Wiring) (s : State) (q : ℕ) (lane : Lane) → q < length s.lanes
+    → work_left w (with_lane s q lane) + lane_work w (lane_at s q) ≡ work_left w s + lane_work w lane
+work_left-with_lane w s q lane within = sum_by-set (lane_work w) s.lanes q lane idle_lane within
+
+work_left-less : (w : Wiring) (s : State) (q : ℕ) (lane : Lane) → q < length s.lanes
+    → lane_work w lane < lane_work w (lane_at s q) → work_left w (with_lane s q lane) < work_left w s
+work_left-less w s q lane within less = omega (arith, work_left-with_lane w s q lane within, less)
+
+work_left-not_more : (w : Wiring) (s : State) (q : ℕ) (lane : Lane) → lane_work w lane ≤ lane_work w (lane_at s q)
+    → work_left w (with_lane s q lane) ≤ work_left w s
+work_left-not_more w s q lane less = elim (cases_lt q (length s.lanes)) [
+  | inl within ↦ omega (arith, work_left-with_lane w s q lane within, less)
+  | inr past ↦ (
+      let same : set s.lanes q lane ≡ s.lanes = set_past s.lanes q lane past in
+      omega (arith, ap (λ (ls : List Lane). sum_by (lane_work w) ls) same)
+      )
+]
+
+runs_within : (s : State) (q : ℕ) (r : Running) → Runs (lane_at s q) r → q < length s.lanes
+runs_within s q r runs = lane_within s q r.entry (inr (r, runs, refl))
+
+starts_within : (s : State) (q i : ℕ) → MayStart (lane_at s q) i → q < length s.lanes
+starts_within s q i may = lane_within s q may.entry (inl (first_is (lane_at s q).pending may.entry may.first))
+  where
+    first_is : (ps : List Entry) (e : Entry) → slice_get ps 0 ≡ Some e → Contains ps e
+    first_is [] e is = absurd cc
+    first_is (p ∷ ps) e is = (0, omega arith, cc)
+
+-- a rescuer step leaves less
+pub work_left-rescuer : (w : Wiring) (s : State) (step : Step) → IsSoundState w s → Lawful w s step
+    → IsRescuerStep step → work_left w (effect w s step) < work_left w s
+work_left-rescuer w s (Queue i) sound lawful is = absurd is
+work_left-rescuer w s (Cancel i) sound lawful is = absurd is
+work_left-rescuer w s (Start q i) sound lawful is =
+    let lane : Lane = lane_at s q in
+    work_left-less w s q (with_started lane) (starts_within s q i lawful) (lane_work-started w i lane lawful)
+work_left-rescuer w s (Wait q b) sound (r, runs, may) is =
+    let lane : Lane = lane_at s q in
+    work_left-less w s q (with_wait b s.next lane) (runs_within s q r runs) (lane_work-waiting w b s.next lane r runs may)
+work_left-rescuer w s (Over q b) sound (r, runs, may) is =
+    let lane : Lane = lane_at s q in
+    let less = lane_work-wait_over w lane r may.flush runs may.waits (sound.running q r runs) in
+    work_left-less w s q (with_wait_over lane) (runs_within s q r runs) less
+work_left-rescuer w s (Finish q i) sound (r, runs, may) is =
+    let lane : Lane = lane_at s q in
+    let less = lane_work-finished w lane r runs may.awake (sound.running q r runs) in
+    work_left-less w s q (with_finished lane) (runs_within s q r runs) less
+
+-- a cancellation leaves no more
+pub work_left-cancel : (w : Wiring) (s : State) (step : Step) → IsCancel step
+    → work_left w (effect w s step) ≤ work_left w s
+work_left-cancel w s (Queue i) is = absurd is
+work_left-cancel w s (Cancel i) is =
+    let q : ℕ = lane_of w i in
+    let lane : Lane = lane_at s q in
+    work_left-not_more w s q (with_cancelled i lane) (lane_work-cancelled w i lane)
+work_left-cancel w s (Start q i) is = absurd is
+work_left-cancel w s (Wait q b) is = absurd is
+work_left-cancel w s (Over q b) is = absurd is
+work_left-cancel w s (Finish q i) is = absurd is
+
+-- ---- runs
+
+-- what the step counts
+abbrev counted : Step → ℕ
+counted step = cond (is_rescuer_step step) 1 0
+
+counted-rescuer : (step : Step) → IsRescuerStep step → counted step ≡ 1
+counted-rescuer (Queue i) is = absurd is
+counted-rescuer (Cancel i) is = absurd is
+counted-rescuer (Start q i) is = refl
+counted-rescuer (Wait q b) is = refl
+counted-rescuer (Over q b) is = refl
+counted-rescuer (Finish q i) is = refl
+
+counted-cancel : (step : Step) → IsCancel step → counted step ≡ 0
+counted-cancel (Queue i) is = absurd is
+counted-cancel (Cancel i) is = refl
+counted-cancel (Start q i) is = absurd is
+counted-cancel (Wait q b) is = absurd is
+counted-cancel (Over q b) is = absurd is
+counted-cancel (Finish q i) is = absurd is
+
+-- a step and the work that it leaves
+step_bound : (w : Wiring) (s : State) (step : Step) → IsSoundState w s → Lawful w s step
+    → IsRescuerStep step ⊎ IsCancel step → counted step + work_left w (effect w s step) ≤ work_left w s
+step_bound w s step sound lawful (inl rescuer) =
+    let one : counted step ≡ 1 = counted-rescuer step rescuer in
+    let less : work_left w (effect w s step) < work_left w s = work_left-rescuer w s step sound lawful rescuer in
+    omega (arith, one, less)
+step_bound w s step sound lawful (inr cancel) =
+    let none : counted step ≡ 0 = counted-cancel step cancel in
+    let less : work_left w (effect w s step) ≤ work_left w s = work_left-cancel w s step cancel in
+    omega (arith, none, less)
+
+pub count_by-rescuer_steps : (w : Wiring) (s : State) (more : List Step) → IsWiring w → IsSoundState w s
+    → All (λ (step : Step). IsRescuerStep step ⊎ IsCancel step) more → IsRunFrom w s more
+    → count_by is_rescuer_step more ≤ work_left w s
+count_by-rescuer_steps w s [] wiring sound each run = omega arith
+count_by-rescuer_steps w s (step ∷ more) wiring sound each run =
+    let Kind : Step → Type 0 = λ (x : Step). IsRescuerStep x ⊎ IsCancel x in
+    let all : count_by is_rescuer_step (step ∷ more) ≡ counted step + count_by is_rescuer_step more =
+    sum_by-cons counted step more in
+    let first : counted step + work_left w (effect w s step) ≤ work_left w s =
+    step_bound w s step sound run.0 (All-head Kind step more each) in
+    let next : IsSoundState w (effect w s step) = IsSoundState-effect w s step wiring sound run.0 in
+    let rest : count_by is_rescuer_step more ≤ work_left w (effect w s step) =
+    count_by-rescuer_steps w (effect w s step) more wiring next (All-tail Kind step more each) run.1 in
+    omega (arith, all, first, rest)
+
+pub count_by-rescuer_steps_after : (w : Wiring) (steps more : List Step) → IsWiring w → IsRun w steps
+    → All (λ (step : Step). IsRescuerStep step ⊎ IsCancel step) more → IsRunFrom w (end_of w steps) more
+    → count_by is_rescuer_step more ≤ work_left w (end_of w steps)
+count_by-rescuer_steps_after w steps more wiring run each on =
+    count_by-rescuer_steps w (end_of w steps) more wiring (IsSoundState-end_of w steps wiring run) each on
