@@ -7,7 +7,8 @@
 ghost use Rattle.std.specs.Prelude.{◌≡◌, ◌<◌, ◌≤◌, ◌↔◌, length, slice_get, Some, IsSome, IsTrue, IfSome};
 ghost use Rattle.std.specs.List.{All};
 
-use crate::ids::{GroupId, LaneId};
+use crate::group_id::GroupId;
+use crate::lane_id::LaneId;
 use std::alloc::Allocator;
 use std::marker::Model;
 

@@ -1,6 +1,6 @@
 //! The groups of the items: those that share one ordered workqueue.
 //!
-//! The rules are those of "Groups" in docs/FORMAT.md. An ordered workqueue executes at most one work item at any time, in
+//! The rules are those of "Items and groups" in docs/FORMAT.md. An ordered workqueue executes at most one work item at any time, in
 //! queued order (Documentation/core-api/workqueue.rst), so the items of a group stand on one workqueue whatever the plan.
 //! Reading takes time in the number of the words of the declaration, and memory in the number of items. Afterwards each
 //! question is answered in constant time.
@@ -12,7 +12,7 @@ ghost use Rattle.wq_groups.specs.declared.fault.GroupError.TheVariants.{OutOfMem
 ghost use Rattle.wq_groups.specs.Grouping.{groups_of, IsGroupFaultOf};
 
 use crate::fault::GroupError;
-use crate::ids::GroupId;
+use crate::group_id::GroupId;
 use crate::numbering::number;
 use crate::reading::first_members;
 use std::alloc::Allocator;

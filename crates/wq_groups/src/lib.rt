@@ -3,19 +3,21 @@
 //!
 //! What the layer above relies on: the groups are the partition of the items that the directives name, numbered by
 //! first-declared members, or else the answer is the first fault; an assignment gives each group one of its workqueues.
-//! The rules are those of "Groups" in docs/FORMAT.md. A group stands for the work items of one ordered workqueue
+//! The rules are those of "Items and groups" in docs/FORMAT.md. A group stands for the work items of one ordered workqueue
 //! (`alloc_ordered_workqueue` in include/linux/workqueue.h).
 #![tactic(auto)]
 
 mod assignment;
 mod fault;
+mod group_id;
 mod groups;
-mod ids;
+mod lane_id;
 pub mod laws;
 mod numbering;
 mod reading;
 
 pub use assignment::Assignment;
 pub use fault::GroupError;
+pub use group_id::GroupId;
 pub use groups::Groups;
-pub use ids::{GroupId, LaneId};
+pub use lane_id::LaneId;

@@ -1,13 +1,13 @@
 //! Numbering the groups in the order of their first-declared members.
 //!
-//! The order is that of "Groups" in docs/FORMAT.md. This takes time and memory in the number of the items.
+//! The order is that of "Items and groups" in docs/FORMAT.md. This takes time and memory in the number of the items.
 
 ghost use Rattle.std.specs.Prelude.{◌≡◌, ◌<◌, ◌≤◌, length, map, slice_index, IfOk, IfErr};
 ghost use Rattle.std.specs.List.{range_with_len};
 ghost use Rattle.wq_groups.specs.Partition.{members_of};
 ghost use Rattle.wq_groups.specs.Numbering.{AreHeads, headed};
 
-use crate::ids::GroupId;
+use crate::group_id::GroupId;
 use std::alloc::{AllocError, Allocator};
 use wq_items::ItemId;
 

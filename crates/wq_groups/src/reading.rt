@@ -1,6 +1,6 @@
 //! Going over the `ordered` lines: of each item the first-declared one of its group.
 //!
-//! The rules are those of "Groups" in docs/FORMAT.md. The words of each line are gone over twice, so this takes time in the
+//! The rules are those of "Items and groups" in docs/FORMAT.md. The words of each line are gone over twice, so this takes time in the
 //! number of the words, and memory in the number of items.
 
 ghost use Rattle.std.specs.Prelude.{◌≡◌, ◌≢◌, ◌↔◌, ◌++◌, ◌∷◌, ◌<◌, [], ℕ, List, length, map, Ok, IfOk, IfErr, IfSome, IsSome, OnSome, IsTrue, AllPairs, None, if◌then◌else◌, bytes_eq};

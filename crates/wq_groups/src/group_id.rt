@@ -1,6 +1,6 @@
-//! The numbers of groups and of workqueues.
+//! The number of a group.
 //!
-//! A lane is a workqueue by its number. Every call takes constant time.
+//! Every call takes constant time.
 ghost use Rattle.std.specs.Prelude.{◌≡◌, ℕ};
 
 use std::marker::Model;
@@ -23,34 +23,6 @@ impl GroupId {
         ensures { result ≡ number }
     {
         GroupId(number)
-    }
-
-    /// Its number.
-    pub fn get(self) -> u16
-        ensures { result ≡ self }
-    {
-        self.0
-    }
-}
-
-/// The number of a lane, from 0.
-#[derive(Clone, Copy, Debug, PartialEq, Eq)]
-pub struct LaneId(u16);
-
-impl Model for LaneId {
-    ghost Value = { ℕ };
-
-    ghost view = { λ q. q.0 };
-
-    ghost inverse = { λ n. record { 0 = n } };
-}
-
-impl LaneId {
-    /// The lane of this number.
-    pub fn new(number: u16) -> Self
-        ensures { result ≡ number }
-    {
-        LaneId(number)
     }
 
     /// Its number.
