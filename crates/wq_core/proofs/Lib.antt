@@ -1,3 +1,4 @@
 pub mod LaneLemmas
+pub mod Machines
 pub mod Sound
 pub mod Unfinished
