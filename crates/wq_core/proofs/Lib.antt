@@ -1,3 +1,4 @@
+pub mod Changes
 pub mod LaneLemmas
 pub mod Machines
 pub mod Sound
