@@ -1,5 +1,6 @@
 pub mod Changes
 pub mod LaneLemmas
 pub mod Machines
+pub mod Room
 pub mod Sound
 pub mod Unfinished

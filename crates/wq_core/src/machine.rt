@@ -153,7 +153,8 @@ impl<A: Allocator> Core<A> {
 
     /// The number that a cancellation of an item gives, where it is lawful.
     fn may_cancel(&self, item: ItemId) -> Option<u32>
-        ensures { IsNumberOf self.now (Cancel item) result }
+        ensures number { IsNumberOf self.now (Cancel item) result }
+        ensures item { OnSome result (item < items self.now.wiring) }
     {
         let entry = self.pending_entry(item)?;
         Some(entry.number)
