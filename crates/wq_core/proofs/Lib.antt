@@ -1,4 +1,7 @@
+pub mod Changes
 pub mod LaneLemmas
+pub mod Machines
+pub mod Room
 pub mod Sound
 pub mod Unfinished
 pub mod WorkLemmas

@@ -9,9 +9,11 @@ mod entry;
 mod lane;
 mod lanes;
 pub mod laws;
+mod machine;
 mod step;
 
 pub use entry::{Entry, Flush, Running};
 pub use lane::Lane;
 pub use lanes::Lanes;
+pub use machine::Core;
 pub use step::{Step, StepError};
