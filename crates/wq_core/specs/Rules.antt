@@ -102,14 +102,3 @@ Gives s (Start q i) n = (e : Entry) × (slice_get (lane_at s q).pending 0 ≡ So
 Gives s (Wait q b) n = n ≡ s.next
 Gives s (Over q b) n = (r : Running) × Runs (lane_at s q) r × ((f : Flush) × (r.waiting ≡ Some f) × (f.mark ≡ n))
 Gives s (Finish q i) n = (r : Running) × Runs (lane_at s q) r × (r.entry.number ≡ n)
-
--- ---- numbers that are used up
-
--- the step would be given 4,294,967,295, which is never given
-abbrev pub NumbersAreUsedUp : State → Step → Type 0
-NumbersAreUsedUp s (Queue i) = s.next ≡ 4294967295
-NumbersAreUsedUp s (Cancel i) = ⊥
-NumbersAreUsedUp s (Start q i) = ⊥
-NumbersAreUsedUp s (Wait q b) = ⊥
-NumbersAreUsedUp s (Over q b) = ⊥
-NumbersAreUsedUp s (Finish q i) = ⊥
