@@ -1,4 +1,5 @@
 pub mod LaneLemmas
+pub mod Parts
 pub mod Sound
 pub mod Unfinished
 pub mod WorkLemmas

@@ -1,11 +1,18 @@
 -- Lanes and machines as the code holds them.
-use Rattle.std.specs.Prelude.{◌≡◌, ◌≢◌, ℕ, ◌<◌, ◌≤◌, ◌^◌, List, length, AllPairs, Some, None, Option, map, Bool, false, ◌==◌, ◌&&◌, nat_lt}
+use Rattle.std.specs.Prelude.{◌≡◌, ◌≢◌, ℕ, ◌<◌, ◌≤◌, ◌^◌, List, length, AllPairs, Some, None, Option, map, Bool, false, ◌==◌, ◌&&◌, nat_lt, slice_get, MatchOption}
+use Rattle.std.specs.List.{count_by}
+use Rattle.wq_items.specs.declared.target.Target.{Target}
 use Rattle.wq_items.specs.Table.{ItemWaits, flush_count}
 use Rattle.wq_core.specs.declared.entry.Entry.{Entry}
 use Rattle.wq_core.specs.declared.entry.Flush.{Flush}
 use Rattle.wq_core.specs.declared.entry.Running.{Running}
+use Rattle.wq_core.specs.declared.step.Step.{Step}
+use Rattle.wq_core.specs.declared.step.Step.TheVariants.{Queue, Cancel, Start, Wait, Over, Finish}
+use Rattle.wq_core.specs.declared.step.StepError.{StepError}
+use Rattle.wq_core.specs.declared.step.StepError.TheVariants.{NotLawful, NumbersUsedUp}
 use Rattle.wq_core.specs.Wiring.{Wiring, IsWiring, items, lane_of, declared_by}
 use Rattle.wq_core.specs.State.{Lane, State, lane_at, Runs, IsUnfinishedOn}
+use Rattle.wq_core.specs.Rules.{Lawful, Gives, effect}
 
 -- a lane, and how many pending entries there is room for
 pub record HeldLane : Type 0 where
@@ -57,3 +64,50 @@ pub record IsMachine (m : Machine) : Type 0 where
   pub few_flushes : flush_count m.wiring.waits ≤ 16384
   pub few_lanes : m.wiring.lanes ≤ 4096
   pub numbers : m.state.next < 2 ^ 32
+
+-- the machine that is held as these fields
+abbrev pub machine_of : List (List Target) → List ℕ → List HeldLane → ℕ → Machine
+machine_of waits lane_of_item lanes next = record {
+  wiring = record { waits = waits; lane_of_item = lane_of_item; lanes = length lanes };
+  state = record { next = next; lanes = map (λ (h : HeldLane). h.lane) lanes };
+}
+
+-- lane q has room for all its items
+abbrev pub HasRoom : List ℕ → ℕ → HeldLane → Type 0
+HasRoom lane_of_item q h = count_by (λ l. l == q) lane_of_item ≤ h.room
+
+-- what holds of these fields: the machine is sound, and each lane has room for all its items
+pub record IsHeld (waits : List (List Target)) (lane_of_item : List ℕ) (lanes : List HeldLane) (next : ℕ) : Type 0 where
+  pub machine : IsMachine (machine_of waits lane_of_item lanes next)
+  pub room : (q : ℕ) (h : HeldLane) → slice_get lanes q ≡ Some h → HasRoom lane_of_item q h
+
+-- ---- steps of a machine
+
+-- the number that a step gives, where it is lawful
+abbrev pub IsNumberOf : Machine → Step → Option ℕ → Type 0
+IsNumberOf m step answer = MatchOption answer (¬ Lawful m.wiring m.state step) (λ n. Lawful m.wiring m.state step × Gives m.state step n)
+
+-- a queueing would be given 4,294,967,295, which nothing is given
+abbrev pub UsesUp : State → Step → Type 0
+UsesUp s (Queue i) = s.next ≡ 4294967295
+UsesUp s (Cancel i) = ⊥
+UsesUp s (Start q i) = ⊥
+UsesUp s (Wait q b) = ⊥
+UsesUp s (Over q b) = ⊥
+UsesUp s (Finish q i) = ⊥
+
+-- the machine after a step
+abbrev pub machine_after : Machine → Step → Machine
+machine_after m step = record { wiring = m.wiring; state = effect m.wiring m.state step }
+
+-- a step is done, and gives n
+pub record IsDone (old : Machine) (step : Step) (n : ℕ) (new : Machine) : Type 0 where
+  pub lawful : Lawful old.wiring old.state step
+  pub number_left : ¬ UsesUp old.state step
+  pub gives : Gives old.state step n
+  pub after : new ≡ machine_after old step
+
+-- why a step isn't done
+abbrev pub IsRefusal : Machine → Step → StepError → Type 0
+IsRefusal m step NotLawful = ¬ Lawful m.wiring m.state step
+IsRefusal m step NumbersUsedUp = Lawful m.wiring m.state step × UsesUp m.state step

@@ -5,13 +5,16 @@
 //! The machine knows lists of steps only: no graph, no rank and no chain.
 #![tactic(auto)]
 
+mod building;
 mod entry;
 mod lane;
 mod lanes;
 pub mod laws;
+mod machine;
 mod step;
 
 pub use entry::{Entry, Flush, Running};
 pub use lane::Lane;
 pub use lanes::Lanes;
+pub use machine::Core;
 pub use step::{Step, StepError};
