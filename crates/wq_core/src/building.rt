@@ -2,7 +2,7 @@
 //!
 //! Each part takes time and memory in the number of what it lists: the items and their flushes, or the lanes.
 
-ghost use Rattle.std.specs.Prelude.{◌≡◌, ◌<◌, ℕ, length, map, slice_index, IfOk};
+ghost use Rattle.std.specs.Prelude.{◌≡◌, ◌<◌, ◌≤◌, ℕ, length, map, slice_index, IfOk};
 ghost use Rattle.std.specs.List.{All};
 ghost use Rattle.wq_items.specs.Table.{IsTable};
 ghost use Rattle.wq_groups.specs.Partition.{IsPartition};
@@ -55,7 +55,8 @@ pub(crate) fn count_items<A: Allocator + Copy>(
     lanes: u16,
     lane_of_item: &[LaneId],
 ) -> Result<Vec<usize, A>, AllocError>
-    requires { All (λ l. l < lanes) lane_of_item.now }
+    requires few { length lane_of_item.now ≤ 4096 }
+    requires within { All (λ l. l < lanes) lane_of_item.now }
     ensures len { IfOk result (λ counts. length counts.items ≡ lanes) }
     ensures counts { IfOk result (λ counts. (q : ℕ) → q < lanes → slice_index counts.items q ≡ items_on lane_of_item.now q) }
 {
