@@ -1,19 +1,23 @@
-use Rattle.std.proofs.Common.{◌≡◌, ◌<◌, length, sym, ap, ◌∙◌, arith}
-use Rattle.std.proofs.lemmas.List.{get_or_default}
-use Rattle.wq_core.proofs.Parts.{Counted-few, Counted-more}
+use Rattle.std.proofs.Common.{◌∙◌, arith}
+use Rattle.wq_core.proofs.Parts.{CountsNext-read, Counted-few, Counted-more}
 use Rattle.wq_core.proofs.building.count_items.Goals as goal
 
 pub overflow_add-index_mut : goal.overflow_add-index_mut
 overflow_add-index_mut g c =
-    let lane : c.from-in-loop-lane.result ≡ c.lane-item.result = c.from-in-loop-lane.ensures ∙ c.get.ensures in
-    let at = lane ∙ c.lane-item.is ∙ get_or_default c.args.lane_of_item.now c.loop-lane.lane-index c.lane-item.result c.from-in-loop-lane.result c.loop-lane-test.true in
-    let inside = c.requires.within c.loop-lane.lane-index c.from-in-loop-lane.result c.loop-lane-test.true in
-    let few = Counted-few c.args.lane_of_item.now c.args.lanes c.loop-lane.lane-index c.loop-lane.counts.items c.from-in-loop-lane.result c.index_mut.result.now c.loop-lane-test.true (omega (arith, at, inside)) c.index_mut.ensures.value c.loop-lane.invariant in
-    omega (arith, few, c.requires.few)
+    let of = c.args.lane_of_item.now in
+    let k = c.loop-lane.lane-index in
+    let counts = c.loop-lane.counts.items in
+    let q = c.from-in-loop-lane.result in
+    let count = c.index_mut.result.now in
+    let next = CountsNext-read of c.args.lanes k counts q c.lane-item.result count c.loop-lane-test.true c.requires.within (c.from-in-loop-lane.ensures ∙ c.get.ensures) c.lane-item.is c.index_mut.ensures.value in
+    omega (arith, Counted-few of c.args.lanes k counts q count next c.loop-lane.invariant, c.requires.few)
 
 pub loop-lane-preserved : goal.loop-lane-preserved
 loop-lane-preserved g c =
-    let lane : c.from-in-loop-lane.result ≡ c.lane-item.result = c.from-in-loop-lane.ensures ∙ c.get.ensures in
-    let at = lane ∙ c.lane-item.is ∙ get_or_default c.args.lane_of_item.now c.loop-lane.lane-index c.lane-item.result c.from-in-loop-lane.result c.loop-lane-test.true in
-    let inside = c.requires.within c.loop-lane.lane-index c.from-in-loop-lane.result c.loop-lane-test.true in
-    Counted-more c.args.lane_of_item.now c.args.lanes c.loop-lane.lane-index c.loop-lane.counts.items c.from-in-loop-lane.result c.index_mut.result.now c.loop-lane-test.true at (omega (arith, at, inside)) c.index_mut.ensures.value c.loop-lane.invariant
+    let of = c.args.lane_of_item.now in
+    let k = c.loop-lane.lane-index in
+    let counts = c.loop-lane.counts.items in
+    let q = c.from-in-loop-lane.result in
+    let count = c.index_mut.result.now in
+    let next = CountsNext-read of c.args.lanes k counts q c.lane-item.result count c.loop-lane-test.true c.requires.within (c.from-in-loop-lane.ensures ∙ c.get.ensures) c.lane-item.is c.index_mut.ensures.value in
+    Counted-more of c.args.lanes k counts q count next c.loop-lane.invariant
