@@ -10,11 +10,12 @@ use Rattle.wq_groups.specs.Assignment.{Assignment, lane_of}
 use Rattle.wq_core.specs.Building.{items_on}
 
 -- the lane of one item more
-pub lanes_more : (a : Assignment) (group_of lanes : List ℕ) (i g l : ℕ) → i < length group_of → slice_get group_of i ≡ Some g → slice_get a.lane_of_group g ≡ Some l
-    → lanes ≡ map (lane_of a) (take i group_of) → lanes ++ (l ∷ []) ≡ map (lane_of a) (take (i + 1) group_of)
-lanes_more a group_of lanes i g l within group lane so_far =
+pub lanes_more : (a : Assignment) (group_of lanes new : List ℕ) (i g l : ℕ) → i < length group_of → slice_get group_of i ≡ Some g → slice_get a.lane_of_group g ≡ Some l
+    → lanes ≡ map (lane_of a) (take i group_of) → new ≡ lanes ++ (l ∷ []) → new ≡ map (lane_of a) (take (i + 1) group_of)
+lanes_more a group_of lanes new i g l within group lane so_far pushed =
     let at : lane_of a (get_or group_of i 0) ≡ l = ap (lane_of a) (get_or_from_slice_get group_of i g 0 group) ∙ get_or_from_slice_get a.lane_of_group g l 0 lane in
-    ap (λ (ls : List ℕ). ls ++ (l ∷ [])) so_far
+    pushed
+    ∙ ap (λ (ls : List ℕ). ls ++ (l ∷ [])) so_far
     ∙ ap (λ (n : ℕ). map (lane_of a) (take i group_of) ++ (n ∷ [])) (sym at)
     ∙ sym (map_more (lane_of a) group_of i 0 within)
 
