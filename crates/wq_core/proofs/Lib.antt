@@ -1,6 +1,10 @@
+pub mod Changes
 pub mod FirstMachines
 pub mod LaneLemmas
+pub mod Machines
 pub mod Parts
+pub mod Room
+pub mod RunLemmas
 pub mod Sound
 pub mod Unfinished
 pub mod WorkLemmas

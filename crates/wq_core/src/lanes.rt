@@ -1,10 +1,14 @@
 //! All lanes, which are changed one at a time.
 //!
 //! The machine holds its lanes here and nowhere else, so that a change of one lane is seen to leave the others as they
-//! are. Each call takes constant time but `new`, which alone takes memory.
+//! are. `new` and `are_idle` take time in the number of lanes, each other call takes constant time. Only `new` takes
+//! memory.
 
-ghost use Rattle.std.specs.Prelude.{◌≡◌, ◌<◌, length, map, slice_get, Some, IfOk};
+ghost use Rattle.std.specs.Prelude.{◌≡◌, ◌<◌, ◌↔◌, length, map, slice_get, Some, IfOk, IsTrue};
+ghost use Rattle.std.specs.List.{All};
 ghost use Rattle.std.specs.Borrow.{sem};
+ghost use Rattle.wq_core.specs.State.{idle_lane};
+ghost use Rattle.wq_core.specs.Held.{HeldLane};
 ghost use Rattle.wq_core.specs.Building.{idle_with_room};
 ghost use Rattle.wq_core.specs.Lending.{LendsLane};
 
@@ -47,6 +51,13 @@ impl<A: Allocator> Lanes<A> {
         ensures { result ≡ length self.now }
     {
         self.lanes.len()
+    }
+
+    /// Whether each lane is idle.
+    pub fn are_idle(&self) -> bool
+        ensures { IsTrue result ↔ All (λ (h : HeldLane). h.lane ≡ idle_lane) self.now }
+    {
+        self.lanes.iter().all(|lane| lane.is_idle())
     }
 
     /// A lane below `len()`.

@@ -17,4 +17,4 @@ pub use entry::{Entry, Flush, Running};
 pub use lane::Lane;
 pub use lanes::Lanes;
 pub use machine::Core;
-pub use step::{Step, StepError};
+pub use step::{RunError, Step, StepError};

@@ -1,15 +1,29 @@
 //! The machine: its wiring, its state, and the steps that change it.
+//!
+//! The rules are those of "Rules" in the specs of this crate. A question about an item looks at the item's own lane
+//! alone, since its entries stand there. Each step takes time in the number of entries that are pending on one lane, a
+//! wait in the number of the targets of an item. Only `new` takes memory; it takes time and memory in the number of
+//! items, flushes and lanes.
 
-ghost use Rattle.std.specs.Prelude.{◌≡◌, length, IfOk};
+ghost use Rattle.std.specs.Prelude.{◌≡◌, ◌<◌, ◌≤◌, length, slice_get, Some, IfSome, IfNone, OnSome, IfOk, IfErr, IsTrue, ◌↔◌, take};
+ghost use Rattle.std.specs.List.{Any};
+ghost use Rattle.wq_items.specs.declared.target.Target.{Target};
 ghost use Rattle.wq_groups.specs.Declaration.{declaration_of};
+ghost use Rattle.wq_core.specs.declared.step.Step.TheVariants.{Queue, Cancel, Start, Wait, Over, Finish};
+ghost use Rattle.wq_core.specs.Wiring.{items, lane_of, declared_by};
+ghost use Rattle.wq_core.specs.State.{lane_at, IsPendingOn, HasPending, HasUnfinishedBelow, HasUnfinished};
+ghost use Rattle.wq_core.specs.Held.{IsMachine, IsNumberOf, IsDone, IsRefusal, AreDone};
 ghost use Rattle.wq_core.specs.Building.{first_machine};
 
 use crate::building::{copy_waits, count_items, lanes_of_items};
+use crate::entry::{Entry, Running};
+use crate::lane::Lane;
 use crate::lanes::Lanes;
+use crate::step::{RunError, Step, StepError};
 use std::alloc::{AllocError, Allocator};
 use std::marker::Model;
 use wq_groups::{Assignment, Groups, LaneId};
-use wq_items::{ItemTable, Target};
+use wq_items::{ItemId, ItemTable, Target};
 
 /// The machine. Contracts see its wiring and its state.
 #[derive(Drop)]
@@ -29,6 +43,13 @@ impl<A: Allocator> Model for Core<A> {
     ghost view = { λ m. machine_of (map (λ l. l.items) m.waits.items) m.lane_of_item.items m.lanes m.next };
 
     ghost invariant = { λ m. IsHeld (map (λ l. l.items) m.waits.items) m.lane_of_item.items m.lanes m.next };
+}
+
+/// Whether some target is of this item.
+fn have_target(targets: &[Target], item: ItemId) -> bool
+    ensures { IsTrue result ↔ Any (λ (t : Target). t.item ≡ item) targets.now }
+{
+    targets.iter().any(|t| t.item == item)
 }
 
 impl<A: Allocator + Copy> Core<A> {
@@ -56,5 +77,303 @@ impl<A: Allocator + Copy> Core<A> {
             lanes,
             next: 0,
         })
+    }
+}
+
+impl<A: Allocator> Core<A> {
+    /// How many items there are, at most 4,096.
+    pub fn items(&self) -> usize
+        ensures items { result ≡ items self.now.wiring }
+        ensures machine { IsMachine self.now }
+    {
+        self.waits.len()
+    }
+
+    /// How many lanes there are.
+    pub fn lanes(&self) -> usize
+        ensures lanes { result ≡ self.now.wiring.lanes }
+        ensures machine { IsMachine self.now }
+    {
+        self.lanes.len()
+    }
+
+    /// A lane, if there is such a lane.
+    fn lane(&self, q: LaneId) -> &Lane<A>
+        requires { q < self.now.wiring.lanes }
+        ensures { result.now.lane ≡ lane_at self.now.state q }
+    {
+        self.lanes.lane(q)
+    }
+
+    /// What a lane runs; nothing, where there is no such lane.
+    fn running_on(&self, q: LaneId) -> Option<Running>
+        ensures running { result ≡ (lane_at self.now.state q).running }
+        ensures machine { IsMachine self.now }
+    {
+        if usize::from(q.get()) < self.lanes() {
+            self.lane(q).running()
+        } else {
+            None
+        }
+    }
+
+    /// The entry that a lane starts next, if there is such a lane.
+    fn first_on(&self, q: LaneId) -> Option<Entry>
+        ensures first { result ≡ slice_get (lane_at self.now.state q).pending 0 }
+        ensures machine { IsMachine self.now }
+    {
+        if usize::from(q.get()) < self.lanes() {
+            self.lane(q).first()
+        } else {
+            None
+        }
+    }
+
+    /// The lane of an item.
+    fn lane_of(&self, item: ItemId) -> LaneId
+        requires { item < items self.now.wiring }
+        ensures lane { result ≡ lane_of self.now.wiring item }
+        ensures within { result < self.now.wiring.lanes }
+    {
+        self.lane_of_item[usize::from(item.get())]
+    }
+
+    /// The pending entry of an item, if there is such an item.
+    fn pending_entry(&self, item: ItemId) -> Option<Entry>
+        ensures some { IfSome result (λ e. IsPendingOn (lane_at self.now.state (lane_of self.now.wiring item)) e × (e.item ≡ item)) }
+        ensures item { OnSome result (item < items self.now.wiring) }
+        ensures none { IfNone result (¬ HasPending self.now.state item) }
+        ensures machine { IsMachine self.now }
+    {
+        if usize::from(item.get()) < self.items() {
+            self.lane(self.lane_of(item)).pending_of(item)
+        } else {
+            None
+        }
+    }
+
+    /// Whether an unfinished entry of an item has a number below the mark.
+    fn has_unfinished_below(&self, item: ItemId, mark: u32) -> bool
+        ensures { IsTrue result ↔ HasUnfinishedBelow self.now.state item mark }
+    {
+        if usize::from(item.get()) < self.items() {
+            self.lane(self.lane_of(item))
+                .has_unfinished_below(item, mark)
+        } else {
+            false
+        }
+    }
+
+    /// The targets that an item declares.
+    fn targets(&self, item: ItemId) -> &[Target]
+        requires { item < items self.now.wiring }
+        ensures { result.now ≡ declared_by self.now.wiring item }
+    {
+        self.waits[usize::from(item.get())].as_slice()
+    }
+
+    /// The number that a queueing of an item gives, where it is lawful.
+    fn may_queue(&self, item: ItemId) -> Option<u32>
+        ensures { IsNumberOf self.now (Queue item) result }
+    {
+        if usize::from(item.get()) < self.items() && self.pending_entry(item).is_none() {
+            Some(self.next)
+        } else {
+            None
+        }
+    }
+
+    /// The number that a cancellation of an item gives, where it is lawful.
+    fn may_cancel(&self, item: ItemId) -> Option<u32>
+        ensures number { IsNumberOf self.now (Cancel item) result }
+        ensures item { OnSome result (item < items self.now.wiring) }
+    {
+        let entry = self.pending_entry(item)?;
+        Some(entry.number)
+    }
+
+    /// The number that a start on a lane gives, where it is lawful.
+    fn may_start(&self, q: LaneId, item: ItemId) -> Option<u32>
+        ensures { IsNumberOf self.now (Start q item) result }
+    {
+        let first = self.first_on(q)?;
+        if first.item == item && self.running_on(q).is_none() {
+            Some(first.number)
+        } else {
+            None
+        }
+    }
+
+    /// The number that a wait on a lane gives, where it is lawful.
+    fn may_wait(&self, q: LaneId, target: ItemId) -> Option<u32>
+        ensures { IsNumberOf self.now (Wait q target) result }
+    {
+        let running = self.running_on(q)?;
+        let targets = self.targets(running.entry.item);
+        if running.waiting.is_none()
+            && (running.made as usize) < targets.len()
+            && have_target(targets, target)
+        {
+            Some(self.next)
+        } else {
+            None
+        }
+    }
+
+    /// The number that the end of a wait on a lane gives, where it is lawful.
+    fn may_go_on(&self, q: LaneId, target: ItemId) -> Option<u32>
+        ensures { IsNumberOf self.now (Over q target) result }
+    {
+        let running = self.running_on(q)?;
+        let flush = running.waiting?;
+        if flush.target == target && !self.has_unfinished_below(target, flush.mark) {
+            Some(flush.mark)
+        } else {
+            None
+        }
+    }
+
+    /// The number that a finish on a lane gives, where it is lawful.
+    fn may_finish(&self, q: LaneId, item: ItemId) -> Option<u32>
+        ensures { IsNumberOf self.now (Finish q item) result }
+    {
+        let running = self.running_on(q)?;
+        if running.entry.item == item && running.waiting.is_none() {
+            Some(running.entry.number)
+        } else {
+            None
+        }
+    }
+
+    /// An item is queued; gives the number of its entry.
+    fn queue(&mut self, item: ItemId) -> Result<u32, StepError>
+        ensures done { IfOk result (λ n. IsDone self.old (Queue item) n self.new) }
+        ensures refused { IfErr result (λ e. IsRefusal self.old (Queue item) e × (self.new ≡ self.old)) }
+    {
+        let Some(number) = self.may_queue(item) else {
+            return Err(StepError::NotLawful);
+        };
+        if number == u32::MAX {
+            return Err(StepError::NumbersUsedUp);
+        }
+        let q = self.lane_of(item);
+        self.lanes.lane_mut(q).queue(Entry { number, item });
+        self.next += 1;
+        Ok(number)
+    }
+
+    /// The pending entry of an item is taken out; gives its number.
+    fn cancel(&mut self, item: ItemId) -> Result<u32, StepError>
+        ensures done { IfOk result (λ n. IsDone self.old (Cancel item) n self.new) }
+        ensures refused { IfErr result (λ e. IsRefusal self.old (Cancel item) e × (self.new ≡ self.old)) }
+    {
+        let Some(number) = self.may_cancel(item) else {
+            return Err(StepError::NotLawful);
+        };
+        let q = self.lane_of(item);
+        self.lanes.lane_mut(q).cancel(item);
+        Ok(number)
+    }
+
+    /// A lane starts its first pending entry; gives its number.
+    fn start(&mut self, q: LaneId, item: ItemId) -> Result<u32, StepError>
+        ensures done { IfOk result (λ n. IsDone self.old (Start q item) n self.new) }
+        ensures refused { IfErr result (λ e. IsRefusal self.old (Start q item) e × (self.new ≡ self.old)) }
+    {
+        let Some(number) = self.may_start(q, item) else {
+            return Err(StepError::NotLawful);
+        };
+        self.lanes.lane_mut(q).start();
+        Ok(number)
+    }
+
+    /// What a lane runs begins to wait; gives the mark.
+    fn wait(&mut self, q: LaneId, target: ItemId) -> Result<u32, StepError>
+        ensures done { IfOk result (λ n. IsDone self.old (Wait q target) n self.new) }
+        ensures refused { IfErr result (λ e. IsRefusal self.old (Wait q target) e × (self.new ≡ self.old)) }
+    {
+        let Some(number) = self.may_wait(q, target) else {
+            return Err(StepError::NotLawful);
+        };
+        self.lanes.lane_mut(q).wait(target, number);
+        Ok(number)
+    }
+
+    /// What a lane runs has waited; gives the mark.
+    fn go_on(&mut self, q: LaneId, target: ItemId) -> Result<u32, StepError>
+        ensures done { IfOk result (λ n. IsDone self.old (Over q target) n self.new) }
+        ensures refused { IfErr result (λ e. IsRefusal self.old (Over q target) e × (self.new ≡ self.old)) }
+    {
+        let Some(number) = self.may_go_on(q, target) else {
+            return Err(StepError::NotLawful);
+        };
+        self.lanes.lane_mut(q).go_on();
+        Ok(number)
+    }
+
+    /// A lane finishes what it runs; gives the number of its entry.
+    fn finish(&mut self, q: LaneId, item: ItemId) -> Result<u32, StepError>
+        ensures done { IfOk result (λ n. IsDone self.old (Finish q item) n self.new) }
+        ensures refused { IfErr result (λ e. IsRefusal self.old (Finish q item) e × (self.new ≡ self.old)) }
+    {
+        let Some(number) = self.may_finish(q, item) else {
+            return Err(StepError::NotLawful);
+        };
+        self.lanes.lane_mut(q).finish();
+        Ok(number)
+    }
+
+    /// A step is made, and gives the number of the entry that is queued, taken out, started or finished, or the mark of the
+    /// wait that begins or is over.
+    ///
+    /// The error is `NotLawful` (30) exactly where the step isn't lawful, or `NumbersUsedUp` (31) exactly for a lawful
+    /// queueing that would be given the number 4,294,967,295. Then nothing is changed.
+    pub fn step(&mut self, step: Step) -> Result<u32, StepError>
+        ensures done { IfOk result (λ n. IsDone self.old step n self.new) }
+        ensures refused { IfErr result (λ e. IsRefusal self.old step e × (self.new ≡ self.old)) }
+    {
+        match step {
+            Step::Queue(item) => self.queue(item),
+            Step::Cancel(item) => self.cancel(item),
+            Step::Start(q, item) => self.start(q, item),
+            Step::Wait(q, target) => self.wait(q, target),
+            Step::Over(q, target) => self.go_on(q, target),
+            Step::Finish(q, item) => self.finish(q, item),
+        }
+    }
+
+    /// All steps of a list are made in order, up to one that isn't made.
+    ///
+    /// The error has the place of that step, from 0, and why it isn't made; those before it are made, and those after it
+    /// are not.
+    pub fn run(&mut self, steps: &[Step]) -> Result<(), RunError>
+        requires { length steps.now < 4294967295 }
+        ensures done { IfOk result (λ _. AreDone self.old steps.now self.new) }
+        ensures refused { IfErr result (λ e. AreDone self.old (take e.at steps.now) self.new
+            × IfSome (slice_get steps.now e.at) (λ step. IsRefusal self.new step e.why) × (e.at < length steps.now)) }
+    {
+        let mut at = 0;
+        for step in steps {
+            if let Err(why) = self.step(*step) {
+                return Err(RunError { at, why });
+            }
+            at += 1;
+        }
+        Ok(())
+    }
+
+    /// Whether nothing is unfinished.
+    pub fn is_idle(&self) -> bool
+        ensures { IsTrue result ↔ (¬ HasUnfinished self.now.state) }
+    {
+        self.lanes.are_idle()
+    }
+
+    /// Whether an entry of an item below `items()` is pending.
+    pub fn is_pending(&self, item: ItemId) -> bool
+        requires { item < items self.now.wiring }
+        ensures { IsTrue result ↔ HasPending self.now.state item }
+    {
+        self.pending_entry(item).is_some()
     }
 }

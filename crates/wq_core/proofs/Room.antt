@@ -1,0 +1,147 @@
+-- A lane that has room for all its items has room for one entry more, where a queueing is lawful.
+use Rattle.std.proofs.Common.{◌≡◌, ◌≢◌, ℕ, zero, suc, ◌+◌, ◌-◌, ◌<◌, ◌≤◌, ◌⊎◌, ◌==◌, eqb, Bool, true, false, List, [], ◌∷◌, ◌++◌, length, map, take, get_or, refl, sym, subst, ◌∙◌, ap, arith, inl, inr}
+use Rattle.std.specs.Prelude.{AllPairs, Option, Some, slice_get, IfSome, sum_by}
+use Rattle.std.specs.List.{All, count_by}
+use Rattle.std.proofs.lemmas.Bool.{cases_lt}
+use Rattle.std.proofs.lemmas.List.{get_or-map, length-map, take_all, length-append}
+use Rattle.std.proofs.lemmas.List.Elements.{Contains-get_or}
+use Rattle.std.proofs.lemmas.List.Sums.{count_by_more_yes, count_by_more_no, get_or-le-sum_by}
+use Rattle.wq_items.specs.declared.target.Target.{Target}
+use Rattle.wq_items.proofs.Pigeonhole.{repeats_from_length}
+use Rattle.wq_core.specs.declared.entry.Entry.{Entry}
+use Rattle.wq_core.specs.declared.entry.Running.{Running}
+use Rattle.wq_core.specs.declared.step.Step.{Step}
+use Rattle.wq_core.specs.declared.step.Step.TheVariants.{Queue, Wait}
+use Rattle.wq_core.specs.Wiring.{Wiring, IsWiring, items, lane_of, declared_by}
+use Rattle.wq_core.specs.State.{Lane, State, lane_at, Runs}
+use Rattle.wq_core.specs.Rules.{MayWait, Lawful, effect, with_queued}
+use Rattle.wq_core.specs.Held.{IsSoundState, HeldLane, Machine, machine_of, IsHeld, IsMachine, IsNumberOf}
+use Rattle.wq_core.proofs.LaneLemmas.{lane_at-with_lane_same}
+use Rattle.wq_core.proofs.Sound.{IsSoundState-effect}
+use Rattle.wq_core.proofs.Machines.{running-item}
+use Rattle.wq_core.proofs.Changes.{held_lane}
+
+-- ---- places of a list at which a test passes
+
+module _ (p : ℕ → Bool) (l : List ℕ) where
+  -- how many such places there are before place i
+  abbrev rank : ℕ → ℕ
+  rank i = count_by p (take i l)
+
+  rank_step : (i : ℕ) → i < length l → (b : Bool) → p (get_or l i 0) ≡ b → rank i ≤ rank (i + 1)
+  rank_step i lt true is = omega (arith, count_by_more_yes p l i 0 lt is)
+  rank_step i lt false is = omega (arith, count_by_more_no p l i 0 lt is)
+
+  rank_up : (k i : ℕ) → i + k ≤ length l → rank i ≤ rank (i + k)
+  rank_up zero i le = let e : i + 0 ≡ i = omega arith in rw e (omega arith)
+  rank_up (suc k) i le =
+      let e : i + suc k ≡ i + 1 + k = omega arith in
+      let one : rank i ≤ rank (i + 1) = rank_step i (omega arith) (p (get_or l i 0)) refl in
+      let rest : rank (i + 1) ≤ rank (i + 1 + k) = rank_up k (i + 1) (omega arith) in
+      rw e (omega (arith, one, rest))
+
+  rank_lt : (i j : ℕ) → i < j → j ≤ length l → p (get_or l i 0) ≡ true → rank i < rank j
+  rank_lt i j lt le is =
+      let (k, e) : (k : ℕ) × (i + 1 + k ≡ j) = (j - (i + 1), omega arith) in
+      let one : rank (i + 1) ≡ rank i + 1 = count_by_more_yes p l i 0 (omega arith) is in
+      let rest : rank (i + 1) ≤ rank (i + 1 + k) = rank_up k (i + 1) (omega arith) in
+      subst (λ n. rank i < rank n) e (omega (arith, one, rest))
+
+  rank_within : (i : ℕ) → i < length l → p (get_or l i 0) ≡ true → rank i < count_by p l
+  rank_within i lt is = subst (λ (ys : List ℕ). rank i < count_by p ys) (take_all (length l) l (omega arith)) (rank_lt i (length l) lt (omega arith) is)
+
+  rank_same : (i j : ℕ) → i < length l → j < length l → p (get_or l i 0) ≡ true → p (get_or l j 0) ≡ true → rank i ≡ rank j → i ≡ j
+  rank_same i j lt mt is js same = elim (cases_lt i j) [
+    | inl less ↦ absurd (omega (arith, rank_lt i j less (omega arith) is, same))
+    | inr no_less ↦ elim (cases_lt j i) [
+      | inl more ↦ absurd (omega (arith, rank_lt j i more (omega arith) js, same))
+      | inr no_more ↦ omega arith
+    ]
+  ]
+
+  -- places that differ are no more than there are
+  pub distinct_places : (xs : List ℕ) → ((k d : ℕ) → k < length xs → (get_or xs k d < length l) × (p (get_or l (get_or xs k d) 0) ≡ true)) → ((i j d : ℕ) → i < j → j < length xs → get_or xs i d ≢ get_or xs j d)
+      → length xs ≤ count_by p l
+  distinct_places xs each distinct = elim (cases_lt (count_by p l) (length xs)) [
+    | inl few ↦ absurd (repeated few)
+    | inr enough ↦ enough
+  ]
+    where
+      ranked : (k d : ℕ) → k < length xs → get_or (map rank xs) k d ≡ rank (get_or xs k 0)
+      ranked k d lt = get_or-map rank xs k 0 d lt
+
+      below : All (λ n. n < count_by p l) (map rank xs)
+      below k d lt =
+          let within : k < length xs = omega (arith, lt, length-map xs rank) in
+          rw (ranked k d within) (rank_within (get_or xs k 0) (each k 0 within).0 (each k 0 within).1)
+
+      repeated : count_by p l < length xs → ⊥
+      repeated few =
+          let (i, j, less, within, same) = repeats_from_length (count_by p l) (map rank xs) below (omega (arith, few, length-map xs rank)) in
+          let j_in : j < length xs = omega (arith, within, length-map xs rank) in
+          let i_in : i < length xs = omega (arith, less, j_in) in
+          distinct i j 0 less j_in (rank_same (get_or xs i 0) (get_or xs j 0) (each i 0 i_in).0 (each j 0 j_in).0 (each i 0 i_in).1 (each j 0 j_in).1 (sym (ranked i 0 i_in) ∙ same ∙ ranked j 0 j_in))
+
+-- ---- pending entries
+
+same_passes : (a b : ℕ) → a ≡ b → eqb a b ≡ true
+same_passes a b same = grind (arith, same)
+
+-- a lane has no more pending entries than items
+pub pending_count : (w : Wiring) (s : State) (q : ℕ) → IsWiring w → IsSoundState w s → length (lane_at s q).pending ≤ count_by (λ l. l == q) w.lane_of_item
+pending_count w s q wiring sound = subst (λ n. n ≤ count_by (λ l. l == q) w.lane_of_item) (length-map ps item) (distinct_places (λ l. l == q) w.lane_of_item (map item ps) each distinct)
+  where
+    ps : List Entry
+    ps = (lane_at s q).pending
+
+    item : Entry → ℕ
+    item e = e.item
+
+    none : Entry
+    none = record { number = 0; item = 0 }
+
+    item_at : (k d : ℕ) → k < length ps → get_or (map item ps) k d ≡ (get_or ps k none).item
+    item_at k d lt = get_or-map item ps k none d lt
+
+    inside : (k : ℕ) → k < length (map item ps) → k < length ps
+    inside k lt = omega (arith, lt, length-map ps item)
+
+    each : (k d : ℕ) → k < length (map item ps) → (get_or (map item ps) k d < length w.lane_of_item) × (((get_or w.lane_of_item (get_or (map item ps) k d) 0) == q) ≡ true)
+    each k d lt =
+        let own = sound.own_lane q (get_or ps k none) (inl (Contains-get_or ps k none (inside k lt))) in
+        rw (item_at k d (inside k lt)) (omega (arith, own.0, wiring.one_lane_each), same_passes _ q own.1)
+
+    distinct : (i j d : ℕ) → i < j → j < length (map item ps) → get_or (map item ps) i d ≢ get_or (map item ps) j d
+    distinct i j d less lt same =
+        let j_in : j < length ps = inside j lt in
+        let i_in : i < length ps = omega (arith, less, j_in) in
+        sound.once q i j none less j_in (sym (item_at i d i_in) ∙ same ∙ item_at j d j_in)
+
+module _ (waits : List (List Target)) (lane_of_item : List ℕ) (lanes : List HeldLane) (next : ℕ) (m : Machine) (n q : ℕ) (old : HeldLane)
+    (held : IsHeld waits lane_of_item lanes next) (view : machine_of waits lane_of_item lanes next ≡ m) (was : slice_get lanes q ≡ Some old) where
+  abbrev before : Machine
+  before = machine_of waits lane_of_item lanes next
+
+  pub room_left : (i : ℕ) → q ≡ lane_of m.wiring i → q < m.wiring.lanes → IsNumberOf m (Queue i) (Some n) → length old.lane.pending < old.room
+  room_left i own within number =
+      let lawful : Lawful before.wiring before.state (Queue i) = subst (λ (k : Machine). Lawful k.wiring k.state (Queue i)) (sym view) number.0 in
+      let at : lane_of before.wiring i ≡ q = ap (λ (k : Machine). lane_of k.wiring i) view ∙ sym own in
+      let e : Entry = record { number = next; item = i } in
+      let after : State = effect before.wiring before.state (Queue i) in
+      let count : length (lane_at after q).pending ≤ count_by (λ l. l == q) lane_of_item =
+          pending_count before.wiring after q held.machine.wiring (IsSoundState-effect before.wiring before.state (Queue i) held.machine.wiring held.machine.state lawful) in
+      let there : q < length before.state.lanes = omega (arith, within, held.machine.state.one_each, ap (λ (k : Machine). k.wiring.lanes) view) in
+      let lane : lane_at after q ≡ with_queued e old.lane =
+          subst (λ r. lane_at (effect before.wiring before.state (Queue i)) r ≡ with_queued e (lane_at before.state r)) at (lane_at-with_lane_same before.state (lane_of before.wiring i) (with_queued e (lane_at before.state (lane_of before.wiring i))) (rw at there))
+          ∙ ap (λ (l : Lane). with_queued e l) (held_lane waits lane_of_item lanes next q old was) in
+      let longer : length (lane_at after q).pending ≡ length old.lane.pending + 1 = ap (λ (l : Lane). length l.pending) lane ∙ length-append old.lane.pending (e ∷ []) in
+      omega (arith, count, longer, held.room q old was)
+
+  pub wait_fits : (b : ℕ) → IsNumberOf m (Wait q b) (Some n) → IfSome old.lane.running (λ (r : Running). r.made + 1 < 4294967296)
+  wait_fits b number =
+      let (r, runs, may) = number.0 in
+      let sound : IsMachine m = subst IsMachine view held.machine in
+      let there : r.entry.item < items m.wiring = running-item m.wiring m.state q r sound.state runs in
+      let few = get_or-le-sum_by length m.wiring.waits r.entry.item [] there in
+      let is : old.lane.running ≡ Some r = ap (λ (l : Lane). l.running) (sym (held_lane waits lane_of_item lanes next q old was) ∙ ap (λ (k : Machine). lane_at k.state q) view) ∙ runs in
+      subst (λ (o : Option Running). IfSome o (λ (x : Running). x.made + 1 < 4294967296)) (sym is) (omega (arith, may.fewer, few, sound.few_flushes))
