@@ -1,5 +1,5 @@
 -- The wiring of a declaration and an assignment.
-use Rattle.std.proofs.Common.{ℕ, ◌<◌, List, map, get_or, sym, subst, ◌∙◌, arith}
+use Rattle.std.proofs.Common.{◌≡◌, ℕ, ◌<◌, List, map, get_or, sym, subst, ◌∙◌, arith}
 use Rattle.std.specs.List.{All}
 use Rattle.std.proofs.lemmas.List.{length-map}
 use Rattle.std.proofs.lemmas.List.Elements.{All-map}
@@ -12,6 +12,10 @@ use Rattle.wq_core.specs.Wiring.{IsWiring, wiring}
 pub lanes_within : (group_of : List ℕ) (groups : ℕ) (a : Assignment) → All (λ g. g < groups) group_of → IsAssignment groups a → All (λ l. l < a.lanes) (map (lane_of a) group_of)
 lanes_within group_of groups a within assignment =
     All-map (λ l. l < a.lanes) (lane_of a) group_of (λ k d below. let inside : get_or group_of k d < groups = within k d below in assignment.within (get_or group_of k d) 0 (omega (arith, assignment.one_each, inside)))
+
+-- the same of equal numbers and lists
+pub All-below : (m n : ℕ) (xs ys zs : List ℕ) → n ≡ m → zs ≡ ys → ys ≡ xs → All (λ x. x < m) xs → All (λ x. x < n) zs
+All-below m n xs ys zs bound read same h = subst (λ (k : ℕ). All (λ x. x < k) zs) (sym bound) (subst (All (λ x. x < m)) (sym (read ∙ same)) h)
 
 pub IsWiring-wiring : (d : Declaration) (a : Assignment) → IsDeclaration d → IsAssignment d.groups a → IsWiring (wiring d a)
 IsWiring-wiring d a declaration assignment = record {

@@ -1,10 +1,10 @@
 use Rattle.std.proofs.Common.{◌<◌, ℕ, List, map, sym, ap, subst, ◌∙◌, arith}
 use Rattle.std.specs.List.{All}
-use Rattle.wq_groups.specs.Assignment.{IsAssignment}
+use Rattle.wq_groups.specs.Assignment.{IsAssignment, lane_of}
 use Rattle.wq_groups.specs.Declaration.{Declaration, IsDeclaration, declaration_of}
 use Rattle.wq_groups.proofs.Declarations.{IsDeclaration-of}
 use Rattle.wq_core.specs.Building.{idle_with_room, items_on}
-use Rattle.wq_core.proofs.Wirings.{lanes_within}
+use Rattle.wq_core.proofs.Wirings.{lanes_within, All-below}
 use Rattle.wq_core.proofs.FirstMachines.{machine_of-first, IsHeld-first}
 use Rattle.wq_core.proofs.machine.Core.new.Goals as goal
 
@@ -14,9 +14,7 @@ count_items-requires-clause-within g c =
     let a = c.args.assignment.now in
     let assignment : IsAssignment groups.groups a = record { one_each = c.requires.assigned; within = c.lanes.ensures.within } in
     let within = lanes_within groups.group_of groups.groups a c.in_ok-lane_of_item.ensures.partition.within assignment in
-    subst (λ (n : ℕ). All (λ l. l < n) c.as_slice.result.now) (sym c.lanes.ensures.lanes) (
-    subst (All (λ l. l < a.lanes)) (sym (c.as_slice.ensures.value ∙ c.in_ok-lane_of_item.ensures.lanes)) within
-    )
+    All-below a.lanes c.lanes.result (map (lane_of a) groups.group_of) c.in_ok-lane_of_item.lane_of_item.items c.as_slice.result.now c.lanes.ensures.lanes c.as_slice.ensures.value c.in_ok-lane_of_item.ensures.lanes within
 
 pub invariant_of-result : goal.invariant_of-result
 invariant_of-result g c =
