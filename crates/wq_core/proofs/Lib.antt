@@ -1,8 +1,12 @@
 pub mod Changes
+pub mod FirstMachines
 pub mod LaneLemmas
 pub mod Machines
+pub mod Parts
 pub mod Room
+pub mod RunLemmas
 pub mod Sound
 pub mod Unfinished
 pub mod WorkLemmas
 pub mod Safety
+pub mod Wirings

@@ -13,6 +13,7 @@ use Rattle.wq_core.specs.declared.step.StepError.TheVariants.{NotLawful, Numbers
 use Rattle.wq_core.specs.Wiring.{Wiring, IsWiring, items, lane_of, declared_by}
 use Rattle.wq_core.specs.State.{Lane, State, lane_at, Runs, IsUnfinishedOn}
 use Rattle.wq_core.specs.Rules.{Lawful, Gives, effect}
+use Rattle.wq_core.specs.Runs.{after, IsRunFrom}
 
 -- a lane, and how many pending entries there is room for
 pub record HeldLane : Type 0 where
@@ -111,3 +112,9 @@ pub record IsDone (old : Machine) (step : Step) (n : ℕ) (new : Machine) : Type
 abbrev pub IsRefusal : Machine → Step → StepError → Type 0
 IsRefusal m step NotLawful = ¬ Lawful m.wiring m.state step
 IsRefusal m step NumbersUsedUp = Lawful m.wiring m.state step × UsesUp m.state step
+
+-- steps are done, each lawful in its turn
+pub record AreDone (old : Machine) (steps : List Step) (new : Machine) : Type 0 where
+  pub lawful : IsRunFrom old.wiring old.state steps
+  pub wiring : new.wiring ≡ old.wiring
+  pub state : new.state ≡ after old.wiring old.state steps

@@ -9,4 +9,5 @@ pub mod Deadlock
 pub mod Played
 pub mod Work
 pub mod Held
+pub mod Building
 pub mod Lending

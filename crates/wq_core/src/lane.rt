@@ -46,6 +46,13 @@ impl<A: Allocator> Lane<A> {
         })
     }
 
+    /// Whether nothing is queued and nothing runs.
+    pub fn is_idle(&self) -> bool
+        ensures { IsTrue result ↔ (self.now.lane ≡ idle_lane) }
+    {
+        self.pending.is_empty() && self.running.is_none()
+    }
+
     /// What runs.
     pub fn running(&self) -> Option<Running>
         ensures { result ≡ self.now.lane.running }

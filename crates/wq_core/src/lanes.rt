@@ -1,14 +1,19 @@
 //! All lanes, which are changed one at a time.
 //!
 //! The machine holds its lanes here and nowhere else, so that a change of one lane is seen to leave the others as they
-//! are. Each call takes constant time but `new`, which alone takes memory.
+//! are. `new` and `are_idle` take time in the number of lanes, each other call takes constant time. Only `new` takes
+//! memory.
 
-ghost use Rattle.std.specs.Prelude.{◌≡◌, ◌<◌, length, slice_get, Some};
+ghost use Rattle.std.specs.Prelude.{◌≡◌, ◌<◌, ◌↔◌, length, map, slice_get, Some, IfOk, IsTrue};
+ghost use Rattle.std.specs.List.{All};
 ghost use Rattle.std.specs.Borrow.{sem};
+ghost use Rattle.wq_core.specs.State.{idle_lane};
+ghost use Rattle.wq_core.specs.Held.{HeldLane};
+ghost use Rattle.wq_core.specs.Building.{idle_with_room};
 ghost use Rattle.wq_core.specs.Lending.{LendsLane};
 
 use crate::lane::Lane;
-use std::alloc::Allocator;
+use std::alloc::{AllocError, Allocator};
 use std::marker::Model;
 use wq_groups::LaneId;
 
@@ -27,12 +32,32 @@ impl<A: Allocator> Model for Lanes<A> {
     ghost view = { λ l. l.lanes.items };
 }
 
+impl<A: Allocator + Copy> Lanes<A> {
+    /// Idle lanes, each with room for so many entries. The only error is want of memory (20).
+    pub fn new(alloc: A, rooms: &[usize]) -> Result<Self, AllocError>
+        ensures { IfOk result (λ lanes. lanes ≡ map idle_with_room rooms.now) }
+    {
+        let mut lanes = Vec::with_capacity(alloc, rooms.len())?;
+        for room in rooms {
+            lanes.push(Lane::new(alloc, *room)?)?;
+        }
+        Ok(Lanes { lanes })
+    }
+}
+
 impl<A: Allocator> Lanes<A> {
     /// How many lanes there are.
     pub fn len(&self) -> usize
         ensures { result ≡ length self.now }
     {
         self.lanes.len()
+    }
+
+    /// Whether each lane is idle.
+    pub fn are_idle(&self) -> bool
+        ensures { IsTrue result ↔ All (λ (h : HeldLane). h.lane ≡ idle_lane) self.now }
+    {
+        self.lanes.iter().all(|lane| lane.is_idle())
     }
 
     /// A lane below `len()`.

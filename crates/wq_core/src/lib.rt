@@ -5,6 +5,7 @@
 //! The machine knows lists of steps only: no graph, no rank and no chain.
 #![tactic(auto)]
 
+mod building;
 mod entry;
 mod lane;
 mod lanes;
@@ -16,4 +17,4 @@ pub use entry::{Entry, Flush, Running};
 pub use lane::Lane;
 pub use lanes::Lanes;
 pub use machine::Core;
-pub use step::{Step, StepError};
+pub use step::{RunError, Step, StepError};

@@ -2,24 +2,28 @@
 //!
 //! The rules are those of "Rules" in the specs of this crate. A question about an item looks at the item's own lane
 //! alone, since its entries stand there. Each step takes time in the number of entries that are pending on one lane, a
-//! wait in the number of the targets of an item. Only `new` takes memory.
+//! wait in the number of the targets of an item. Only `new` takes memory; it takes time and memory in the number of
+//! items, flushes and lanes.
 
-ghost use Rattle.std.specs.Prelude.{◌≡◌, ◌<◌, ◌≤◌, length, slice_get, Some, IfSome, IfNone, OnSome, IfOk, IfErr, IsTrue, ◌↔◌};
+ghost use Rattle.std.specs.Prelude.{◌≡◌, ◌<◌, ◌≤◌, length, slice_get, Some, IfSome, IfNone, OnSome, IfOk, IfErr, IsTrue, ◌↔◌, take};
 ghost use Rattle.std.specs.List.{Any};
 ghost use Rattle.wq_items.specs.declared.target.Target.{Target};
+ghost use Rattle.wq_groups.specs.Declaration.{declaration_of};
 ghost use Rattle.wq_core.specs.declared.step.Step.TheVariants.{Queue, Cancel, Start, Wait, Over, Finish};
 ghost use Rattle.wq_core.specs.Wiring.{items, lane_of, declared_by};
-ghost use Rattle.wq_core.specs.State.{lane_at, IsPendingOn, HasPending, HasUnfinishedBelow};
-ghost use Rattle.wq_core.specs.Held.{IsMachine, IsNumberOf, IsDone, IsRefusal};
+ghost use Rattle.wq_core.specs.State.{lane_at, IsPendingOn, HasPending, HasUnfinishedBelow, HasUnfinished};
+ghost use Rattle.wq_core.specs.Held.{IsMachine, IsNumberOf, IsDone, IsRefusal, AreDone};
+ghost use Rattle.wq_core.specs.Building.{first_machine};
 
+use crate::building::{copy_waits, count_items, lanes_of_items};
 use crate::entry::{Entry, Running};
 use crate::lane::Lane;
 use crate::lanes::Lanes;
-use crate::step::{Step, StepError};
-use std::alloc::Allocator;
+use crate::step::{RunError, Step, StepError};
+use std::alloc::{AllocError, Allocator};
 use std::marker::Model;
-use wq_groups::LaneId;
-use wq_items::{ItemId, Target};
+use wq_groups::{Assignment, Groups, LaneId};
+use wq_items::{ItemId, ItemTable, Target};
 
 /// The machine. Contracts see its wiring and its state.
 #[derive(Drop)]
@@ -46,6 +50,34 @@ fn have_target(targets: &[Target], item: ItemId) -> bool
     ensures { IsTrue result ↔ Any (λ (t : Target). t.item ≡ item) targets.now }
 {
     targets.iter().any(|t| t.item == item)
+}
+
+impl<A: Allocator + Copy> Core<A> {
+    /// The machine of a declaration and an assignment, before anything is queued: of a table, the groups of its items,
+    /// and the lane of each group.
+    ///
+    /// The only error is want of memory (20).
+    pub fn new(
+        alloc: A,
+        table: &ItemTable<'_, A>,
+        groups: &Groups<A>,
+        assignment: &Assignment<A>,
+    ) -> Result<Self, AllocError>
+        requires grouped { length groups.now.group_of ≡ length table.now.names }
+        requires assigned { length assignment.now.lane_of_group ≡ groups.now.groups }
+        ensures { IfOk result (λ m. m ≡ first_machine (declaration_of table.now groups.now) assignment.now) }
+    {
+        let waits = copy_waits(alloc, table)?;
+        let lane_of_item = lanes_of_items(alloc, table.len(), groups, assignment)?;
+        let rooms = count_items(alloc, assignment.lanes(), lane_of_item.as_slice())?;
+        let lanes = Lanes::new(alloc, rooms.as_slice())?;
+        Ok(Core {
+            waits,
+            lane_of_item,
+            lanes,
+            next: 0,
+        })
+    }
 }
 
 impl<A: Allocator> Core<A> {
@@ -308,5 +340,40 @@ impl<A: Allocator> Core<A> {
             Step::Over(q, target) => self.go_on(q, target),
             Step::Finish(q, item) => self.finish(q, item),
         }
+    }
+
+    /// All steps of a list are made in order, up to one that isn't made.
+    ///
+    /// The error has the place of that step, from 0, and why it isn't made; those before it are made, and those after it
+    /// are not.
+    pub fn run(&mut self, steps: &[Step]) -> Result<(), RunError>
+        requires { length steps.now < 4294967295 }
+        ensures done { IfOk result (λ _. AreDone self.old steps.now self.new) }
+        ensures refused { IfErr result (λ e. AreDone self.old (take e.at steps.now) self.new
+            × IfSome (slice_get steps.now e.at) (λ step. IsRefusal self.new step e.why) × (e.at < length steps.now)) }
+    {
+        let mut at = 0;
+        for step in steps {
+            if let Err(why) = self.step(*step) {
+                return Err(RunError { at, why });
+            }
+            at += 1;
+        }
+        Ok(())
+    }
+
+    /// Whether nothing is unfinished.
+    pub fn is_idle(&self) -> bool
+        ensures { IsTrue result ↔ (¬ HasUnfinished self.now.state) }
+    {
+        self.lanes.are_idle()
+    }
+
+    /// Whether an entry of an item below `items()` is pending.
+    pub fn is_pending(&self, item: ItemId) -> bool
+        requires { item < items self.now.wiring }
+        ensures { IsTrue result ↔ HasPending self.now.state item }
+    {
+        self.pending_entry(item).is_some()
     }
 }

@@ -37,3 +37,13 @@ pub enum StepError {
     #[error("the numbers are used up")]
     NumbersUsedUp,
 }
+
+/// Which step of a list isn't made, and why.
+#[derive(Clone, Copy, Debug, PartialEq, Eq, Error)]
+#[error("step {at}: {why}")]
+pub struct RunError {
+    /// How many steps were made before it.
+    pub at: u32,
+    /// Why it isn't made.
+    pub why: StepError,
+}

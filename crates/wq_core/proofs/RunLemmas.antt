@@ -1,0 +1,66 @@
+-- Steps in a row, and machines on which nothing is unfinished.
+use Rattle.std.proofs.Common.{◌≡◌, ℕ, zero, suc, ◌<◌, ◌↔◌, List, [], ◌∷◌, ◌++◌, length, map, get_or, refl, sym, subst, ◌∙◌, ap, arith, inl, inr}
+use Rattle.std.specs.Prelude.{Option, Some, None}
+use Rattle.std.specs.List.{All}
+use Rattle.std.proofs.lemmas.List.{get_or-map, length-map}
+use Rattle.wq_items.specs.declared.target.Target.{Target}
+use Rattle.wq_core.specs.declared.entry.Entry.{Entry}
+use Rattle.wq_core.specs.declared.entry.Running.{Running}
+use Rattle.wq_core.specs.declared.step.Step.{Step}
+use Rattle.wq_core.specs.Wiring.{Wiring}
+use Rattle.wq_core.specs.State.{Lane, State, idle_lane, lane_at, IsUnfinishedOn, HasUnfinished}
+use Rattle.wq_core.specs.Rules.{Lawful, effect}
+use Rattle.wq_core.specs.Runs.{after, IsRunFrom}
+use Rattle.wq_core.specs.Held.{HeldLane, Machine, machine_of, IsDone, AreDone}
+use Rattle.wq_core.proofs.LaneLemmas.{lane_within, idle_lane-unfinished}
+
+-- ---- one step more
+
+after-more : (w : Wiring) (s : State) (steps : List Step) (step : Step) → after w s (steps ++ (step ∷ [])) ≡ effect w (after w s steps) step
+after-more w s [] step = refl
+after-more w s (first ∷ steps) step = after-more w (effect w s first) steps step
+
+IsRunFrom-more : (w : Wiring) (s : State) (steps : List Step) (step : Step) → IsRunFrom w s steps → Lawful w (after w s steps) step → IsRunFrom w s (steps ++ (step ∷ []))
+IsRunFrom-more w s [] step run lawful = (lawful, tt)
+IsRunFrom-more w s (first ∷ steps) step run lawful = (run.0, IsRunFrom-more w (effect w s first) steps step run.1 lawful)
+
+pub AreDone-more : (old middle new : Machine) (steps : List Step) (step : Step) (n : ℕ) → AreDone old steps middle → IsDone middle step n new → AreDone old (steps ++ (step ∷ [])) new
+AreDone-more old middle new steps step n done next =
+    let wired : (s : State) → Lawful middle.wiring s step → Lawful old.wiring s step = λ s h. subst (λ (w : Wiring). Lawful w s step) done.wiring h in
+    record {
+      lawful = IsRunFrom-more old.wiring old.state steps step done.lawful (subst (λ (s : State). Lawful old.wiring s step) done.state (wired middle.state next.lawful));
+      wiring = ap (λ (m : Machine). m.wiring) next.after ∙ done.wiring;
+      state =
+        ap (λ (m : Machine). m.state) next.after ∙ ap (λ (w : Wiring). effect w middle.state step) done.wiring ∙ ap (λ (s : State). effect old.wiring s step) done.state
+        ∙ sym (after-more old.wiring old.state steps step);
+    }
+
+-- ---- nothing unfinished
+
+idle_fields : (ps : List Entry) (o : Option Running) → ((e : Entry) → ¬ IsUnfinishedOn (record { pending = ps; running = o }) e) → record { pending = ps; running = o } ≡ idle_lane
+idle_fields [] None none = refl
+idle_fields [] (Some r) none = absurd (none r.entry (inr (r, refl, refl)))
+idle_fields (p ∷ ps) o none = absurd (none p (inl (0, omega arith, refl)))
+
+idle_where_none : (lane : Lane) → ((e : Entry) → ¬ IsUnfinishedOn lane e) → lane ≡ idle_lane
+idle_where_none lane none = idle_fields lane.pending lane.running none
+
+pub idle_exactly : (waits : List (List Target)) (lane_of_item : List ℕ) (lanes : List HeldLane) (next : ℕ)
+    → All (λ (h : HeldLane). h.lane ≡ idle_lane) lanes ↔ (¬ HasUnfinished (machine_of waits lane_of_item lanes next).state)
+idle_exactly waits lane_of_item lanes next = (to, from) where
+  s : State
+  s = (machine_of waits lane_of_item lanes next).state
+
+  none : HeldLane
+  none = record { lane = idle_lane; room = 0 }
+
+  at : (q : ℕ) (d : HeldLane) → q < length lanes → lane_at s q ≡ (get_or lanes q d).lane
+  at q d lt = get_or-map (λ (h : HeldLane). h.lane) lanes q d idle_lane lt
+
+  to : All (λ (h : HeldLane). h.lane ≡ idle_lane) lanes → ¬ HasUnfinished s
+  to all h =
+      let within : h.lane < length lanes = omega (arith, lane_within s h.lane h.entry h.unfinished, length-map lanes (λ (g : HeldLane). g.lane)) in
+      idle_lane-unfinished h.entry (subst (λ (l : Lane). IsUnfinishedOn l h.entry) (at h.lane none within ∙ all h.lane none within) h.unfinished)
+
+  from : (¬ HasUnfinished s) → All (λ (h : HeldLane). h.lane ≡ idle_lane) lanes
+  from nothing q d lt = idle_where_none (get_or lanes q d).lane (λ e h. nothing (record { lane = q; entry = e; unfinished = subst (λ (l : Lane). IsUnfinishedOn l e) (sym (at q d lt)) h }))

@@ -1,0 +1,68 @@
+//! The parts of a machine, made of a declaration and an assignment.
+//!
+//! Each part takes time and memory in the number of what it lists: the items and their flushes, or the lanes.
+
+ghost use Rattle.std.specs.Prelude.{◌≡◌, ◌<◌, ◌≤◌, ℕ, length, map, slice_index, IfOk};
+ghost use Rattle.std.specs.List.{All};
+ghost use Rattle.wq_items.specs.Table.{IsTable};
+ghost use Rattle.wq_groups.specs.Partition.{IsPartition};
+ghost use Rattle.wq_groups.specs.Assignment.{lane_of};
+ghost use Rattle.wq_core.specs.Building.{items_on};
+
+use std::alloc::{AllocError, Allocator};
+use wq_groups::{Assignment, Groups, LaneId};
+use wq_items::{ItemId, ItemTable, Target};
+
+/// The targets of each item.
+pub(crate) fn copy_waits<A: Allocator + Copy>(
+    alloc: A,
+    table: &ItemTable<'_, A>,
+) -> Result<Vec<Vec<Target, A>, A>, AllocError>
+    ensures waits { IfOk result (λ waits. map (λ l. l.items) waits.items ≡ table.now.waits) }
+    ensures table { IsTable table.now }
+{
+    let items = table.len();
+    let mut waits = Vec::with_capacity(alloc, usize::from(items))?;
+    for i in 0..items {
+        waits.push(Vec::from_slice(alloc, table.waits(ItemId::new(i)))?)?;
+    }
+    Ok(waits)
+}
+
+/// The lane of each of so many items.
+pub(crate) fn lanes_of_items<A: Allocator + Copy>(
+    alloc: A,
+    items: u16,
+    groups: &Groups<A>,
+    assignment: &Assignment<A>,
+) -> Result<Vec<LaneId, A>, AllocError>
+    requires items { length groups.now.group_of ≡ items }
+    requires assigned { length assignment.now.lane_of_group ≡ groups.now.groups }
+    ensures lanes { IfOk result (λ lanes. lanes.items ≡ map (lane_of assignment.now) groups.now.group_of) }
+    ensures partition { IsPartition groups.now }
+{
+    let _groups = groups.len();
+    let mut lanes = Vec::with_capacity(alloc, usize::from(items))?;
+    for i in 0..items {
+        lanes.push(assignment.lane(groups.of(ItemId::new(i))))?;
+    }
+    Ok(lanes)
+}
+
+/// Of each lane in turn how many items stand on it.
+pub(crate) fn count_items<A: Allocator + Copy>(
+    alloc: A,
+    lanes: u16,
+    lane_of_item: &[LaneId],
+) -> Result<Vec<usize, A>, AllocError>
+    requires few { length lane_of_item.now ≤ 4096 }
+    requires within { All (λ l. l < lanes) lane_of_item.now }
+    ensures len { IfOk result (λ counts. length counts.items ≡ lanes) }
+    ensures counts { IfOk result (λ counts. (q : ℕ) → q < lanes → slice_index counts.items q ≡ items_on lane_of_item.now q) }
+{
+    let mut counts = vec![in alloc; 0; usize::from(lanes)]?;
+    for lane in lane_of_item {
+        counts[usize::from(lane.get())] += 1;
+    }
+    Ok(counts)
+}
