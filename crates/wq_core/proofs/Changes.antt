@@ -66,9 +66,10 @@ module _ (waits : List (List Target)) (lane_of_item : List ℕ) (lanes : List He
         few_flushes = before.few_flushes;
         few_lanes = before.few_lanes;
         numbers = subst (λ (s : State). s.next < 2 ^ 32) made small;
-      } in
-      (record { machine = subst IsMachine (sym is) after; room = room_kept q old new was room held.room },
-      record { lawful = number.0; number_left = left; gives = number.1; after = is ∙ ap (λ (k : Machine). machine_after k step) view })
+      } in (
+        record { machine = subst IsMachine (sym is) after; room = room_kept q old new was room held.room },
+        record { lawful = number.0; number_left = left; gives = number.1; after = is ∙ ap (λ (k : Machine). machine_after k step) view },
+      )
 
   module _ (m : Machine) (n : ℕ) (old new : HeldLane) (held : IsHeld waits lane_of_item lanes next) (view : held_machine ≡ m) (room : new.room ≡ old.room) where
     -- the state with lane q as f makes it

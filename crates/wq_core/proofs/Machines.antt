@@ -62,7 +62,8 @@ pub unfinished_on_own_lane : (w : Wiring) (s : State) (q i mark : ℕ) (lane : L
 unfinished_on_own_lane w s q i mark lane sound own is = (
   (λ h. record { lane = q; entry = h.entry; unfinished = subst (λ (l : Lane). IsUnfinishedOn l h.entry) is h.unfinished; of_item = h.of_item; below = h.below }),
   (λ h. let at : h.lane ≡ q = (unfinished-own_lane w s i mark sound h).1 ∙ sym own in
-    record { entry = h.entry; unfinished = subst (λ (l : Lane). IsUnfinishedOn l h.entry) (ap (λ r. lane_at s r) at ∙ sym is) h.unfinished; of_item = h.of_item; below = h.below }))
+      record { entry = h.entry; unfinished = subst (λ (l : Lane). IsUnfinishedOn l h.entry) (ap (λ r. lane_at s r) at ∙ sym is) h.unfinished; of_item = h.of_item; below = h.below }),
+)
 
 -- ---- what runs is of an item
 

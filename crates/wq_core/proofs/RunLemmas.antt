@@ -31,8 +31,8 @@ AreDone-more old middle new steps step n done next =
       lawful = IsRunFrom-more old.wiring old.state steps step done.lawful (subst (λ (s : State). Lawful old.wiring s step) done.state (wired middle.state next.lawful));
       wiring = ap (λ (m : Machine). m.wiring) next.after ∙ done.wiring;
       state =
-        ap (λ (m : Machine). m.state) next.after ∙ ap (λ (w : Wiring). effect w middle.state step) done.wiring ∙ ap (λ (s : State). effect old.wiring s step) done.state
-        ∙ sym (after-more old.wiring old.state steps step);
+          ap (λ (m : Machine). m.state) next.after ∙ ap (λ (w : Wiring). effect w middle.state step) done.wiring ∙ ap (λ (s : State). effect old.wiring s step) done.state
+          ∙ sym (after-more old.wiring old.state steps step);
     }
 
 -- ---- nothing unfinished

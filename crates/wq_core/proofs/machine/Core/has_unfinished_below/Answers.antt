@@ -11,6 +11,7 @@ returns-then-from-items g c =
 
 pub returns-else-from-items : goal.returns-else-from-items
 returns-else-from-items g c =
-    let m = c.args.self.now in
-    ((λ h. absurd cc),
-    (λ h. absurd (omega (arith, (unfinished-own_lane m.wiring m.state c.args.item c.args.mark c.items.ensures.machine.state h).0, c.if-from-items.false, c.items.ensures.items, c.from.ensures, c.get.ensures))))
+    let m = c.args.self.now in (
+      (λ h. absurd cc),
+      (λ h. absurd (omega (arith, (unfinished-own_lane m.wiring m.state c.args.item c.args.mark c.items.ensures.machine.state h).0, c.if-from-items.false, c.items.ensures.items, c.from.ensures, c.get.ensures))),
+    )
