@@ -2,13 +2,15 @@
 //!
 //! They are said of wirings, runs and states alone, whatever code makes the steps.
 
-ghost use Rattle.std.specs.Prelude.{ℕ, ◌<◌, ◌≤◌, ◌⊎◌, List};
+ghost use Rattle.std.specs.Prelude.{◌≡◌, ℕ, ◌<◌, ◌≤◌, ◌⊎◌, List};
 ghost use Rattle.std.specs.List.{All, count_by};
 ghost use Rattle.wq_items.specs.Table.{ItemWaits};
 ghost use Rattle.wq_core.specs.declared.step.Step.{Step};
 ghost use Rattle.wq_core.specs.Wiring.{Wiring, IsWiring, lane_of};
+ghost use Rattle.wq_core.specs.State.{State};
 ghost use Rattle.wq_core.specs.Runs.{IsRun, IsRunFrom, end_of, IsRescuerStep, IsCancel};
 ghost use Rattle.wq_core.specs.Deadlock.{IsSafe};
+ghost use Rattle.wq_core.specs.Played.{CanMove, IsDeclaredStep};
 ghost use Rattle.wq_core.specs.Work.{is_rescuer_step, work_left};
 
 /// Where nothing more is queued, the rescuers make at most as many steps as there is work left, whatever the order and
@@ -24,4 +26,15 @@ pub fn rescuer_steps_are_bounded()
 pub fn falling_numbers_are_safe()
     ensures { (w : Wiring) (number : ℕ → ℕ) → IsWiring w →
         ((i j : ℕ) → ItemWaits w.waits i j → number (lane_of w j) < number (lane_of w i)) → IsSafe w }
+{}
+
+/// A lane has one step at most that flushes as declared.
+pub fn a_lane_has_one_declared_step()
+    ensures { (w : Wiring) (s : State) (q : ℕ) (a b : Step) → IsDeclaredStep w s q a → IsDeclaredStep w s q b → a ≡ b }
+{}
+
+/// After a run each lane that can move has such a step, whatever was flushed before.
+pub fn a_lane_that_can_move_has_a_declared_step()
+    ensures { (w : Wiring) (steps : List Step) (q : ℕ) → IsWiring w → IsRun w steps → CanMove w (end_of w steps) q →
+        (step : Step) × IsDeclaredStep w (end_of w steps) q step }
 {}
