@@ -17,6 +17,8 @@ use Rattle.wq_core.specs.Held.{IsSoundRunning, IsSoundState}
 use Rattle.wq_core.specs.Played.{IsStepOf, CanMove, IsDeclaredStep}
 use Rattle.wq_core.proofs.LaneLemmas.{lane_within}
 
+-- ---- steps of a lane
+
 -- what holds of each kind of step of lane q holds of its steps
 by_kind : (q : ℕ) (P : Step → Type 0) → ((i : ℕ) → P (Start q i)) → ((b : ℕ) → P (Wait q b)) → ((b : ℕ) → P (Over q b))
     → ((i : ℕ) → P (Finish q i)) → (step : Step) → IsStepOf q step → P step
@@ -27,7 +29,9 @@ by_kind q P starts waits goes_on finishes (Wait p b) is = subst (λ (n : ℕ). P
 by_kind q P starts waits goes_on finishes (Over p b) is = subst (λ (n : ℕ). P (Over n b)) (sym is) (goes_on b)
 by_kind q P starts waits goes_on finishes (Finish p i) is = subst (λ (n : ℕ). P (Finish n i)) (sym is) (finishes i)
 
--- what runs, and what it waits for, are one alone
+-- ---- what a lane runs
+
+-- it runs one entry at most
 same_running : (lane : Lane) (r t : Running) → Runs lane r → Runs lane t → t ≡ r
 same_running lane r t runs there = let e : Some r ≡ Some t = sym runs ∙ there in cc
 
