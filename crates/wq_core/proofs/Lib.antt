@@ -1,6 +1,7 @@
 pub mod Changes
 pub mod DeclaredSteps
 pub mod FirstMachines
+pub mod LaneCircles
 pub mod LaneLemmas
 pub mod Machines
 pub mod Parts
