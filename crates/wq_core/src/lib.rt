@@ -12,6 +12,7 @@ mod lanes;
 pub mod laws;
 mod machine;
 mod step;
+mod work;
 
 pub use entry::{Entry, Flush, Running};
 pub use lane::Lane;

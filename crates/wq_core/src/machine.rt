@@ -98,7 +98,7 @@ impl<A: Allocator> Core<A> {
     }
 
     /// A lane, if there is such a lane.
-    fn lane(&self, q: LaneId) -> &Lane<A>
+    pub(crate) fn lane(&self, q: LaneId) -> &Lane<A>
         requires { q < self.now.wiring.lanes }
         ensures { result.now.lane ≡ lane_at self.now.state q }
     {
@@ -106,7 +106,7 @@ impl<A: Allocator> Core<A> {
     }
 
     /// What a lane runs; nothing, where there is no such lane.
-    fn running_on(&self, q: LaneId) -> Option<Running>
+    pub(crate) fn running_on(&self, q: LaneId) -> Option<Running>
         ensures running { result ≡ (lane_at self.now.state q).running }
         ensures machine { IsMachine self.now }
     {
@@ -165,7 +165,7 @@ impl<A: Allocator> Core<A> {
     }
 
     /// The targets that an item declares.
-    fn targets(&self, item: ItemId) -> &[Target]
+    pub(crate) fn targets(&self, item: ItemId) -> &[Target]
         requires { item < items self.now.wiring }
         ensures { result.now ≡ declared_by self.now.wiring item }
     {
@@ -369,9 +369,8 @@ impl<A: Allocator> Core<A> {
         self.lanes.are_idle()
     }
 
-    /// Whether an entry of an item below `items()` is pending.
+    /// Whether an entry of an item is pending; none is of an item that doesn't exist.
     pub fn is_pending(&self, item: ItemId) -> bool
-        requires { item < items self.now.wiring }
         ensures { IsTrue result ↔ HasPending self.now.state item }
     {
         self.pending_entry(item).is_some()
