@@ -9,6 +9,7 @@ pub mod Room
 pub mod RunLemmas
 pub mod Sound
 pub mod Unfinished
+pub mod WorkBounds
 pub mod WorkLemmas
 pub mod Safety
 pub mod Wirings

@@ -113,6 +113,11 @@ abbrev pub IsRefusal : Machine → Step → StepError → Type 0
 IsRefusal m step NotLawful = ¬ Lawful m.wiring m.state step
 IsRefusal m step NumbersUsedUp = Lawful m.wiring m.state step × UsesUp m.state step
 
+-- the number of that refusal
+abbrev pub step_code : StepError → ℕ
+step_code NotLawful = 30
+step_code NumbersUsedUp = 31
+
 -- steps are done, each lawful in its turn
 pub record AreDone (old : Machine) (steps : List Step) (new : Machine) : Type 0 where
   pub lawful : IsRunFrom old.wiring old.state steps

@@ -6,6 +6,7 @@
 
 ghost use Rattle.std.specs.Prelude.{◌≡◌, ◌<◌, ◌+◌, ◌^◌, ◌==◌, ◌↔◌, length, IfOk, IfSome, IsTrue, slice_get};
 ghost use Rattle.std.specs.List.{find, list_any};
+ghost use Rattle.std.specs.VecDeque.Iter.{deque_iter_rest};
 ghost use Rattle.wq_core.specs.declared.entry.Entry.{Entry};
 ghost use Rattle.wq_core.specs.State.{idle_lane};
 ghost use Rattle.wq_core.specs.Held.{LaneHasUnfinishedBelow, is_below, runs_below};
@@ -14,6 +15,7 @@ ghost use Rattle.wq_core.specs.Rules.{with_queued, with_cancelled, with_started,
 use crate::entry::{Entry, Flush, Running};
 use std::alloc::{AllocError, Allocator};
 use std::collections::VecDeque;
+use std::collections::vec_deque::Iter;
 use std::marker::Model;
 use wq_items::ItemId;
 
@@ -65,6 +67,13 @@ impl<A: Allocator> Lane<A> {
         ensures { result ≡ slice_get self.now.lane.pending 0 }
     {
         self.pending.front().copied()
+    }
+
+    /// The pending entries, the next one first.
+    pub fn pending(&self) -> Iter<'_, Entry>
+        ensures { deque_iter_rest result ≡ self.now.lane.pending }
+    {
+        self.pending.iter()
     }
 
     /// The first pending entry of an item.

@@ -13,6 +13,7 @@ pub mod laws;
 mod machine;
 mod questions;
 mod step;
+mod work;
 
 pub use entry::{Entry, Flush, Running};
 pub use lane::Lane;

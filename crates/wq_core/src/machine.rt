@@ -98,7 +98,7 @@ impl<A: Allocator> Core<A> {
     }
 
     /// A lane, if there is such a lane.
-    fn lane(&self, q: LaneId) -> &Lane<A>
+    pub(crate) fn lane(&self, q: LaneId) -> &Lane<A>
         requires { q < self.now.wiring.lanes }
         ensures { result.now.lane ≡ lane_at self.now.state q }
     {
@@ -369,9 +369,8 @@ impl<A: Allocator> Core<A> {
         self.lanes.are_idle()
     }
 
-    /// Whether an entry of an item below `items()` is pending.
+    /// Whether an entry of an item is pending; none is of an item that doesn't exist.
     pub fn is_pending(&self, item: ItemId) -> bool
-        requires { item < items self.now.wiring }
         ensures { IsTrue result ↔ HasPending self.now.state item }
     {
         self.pending_entry(item).is_some()

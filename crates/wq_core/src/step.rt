@@ -5,6 +5,7 @@
 //! (kernel/workqueue.c). Nothing is computed here.
 
 ghost use Rattle.std.specs.Prelude.{◌≡◌};
+ghost use Rattle.wq_core.specs.Held.{step_code};
 
 use thiserror::Error;
 use wq_groups::LaneId;
@@ -36,6 +37,18 @@ pub enum StepError {
     /// The queueing is lawful, but the next number is 4,294,967,295, which is never given (31).
     #[error("the numbers are used up")]
     NumbersUsedUp,
+}
+
+impl StepError {
+    /// The number of the refusal: 30 or 31.
+    pub fn code(self) -> u32
+        ensures { result ≡ step_code self }
+    {
+        match self {
+            StepError::NotLawful => 30,
+            StepError::NumbersUsedUp => 31,
+        }
+    }
 }
 
 /// Which step of a list isn't made, and why.

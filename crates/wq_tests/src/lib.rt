@@ -21,6 +21,8 @@ mod groups;
 #[cfg(test)]
 mod limits;
 #[cfg(test)]
+mod machine;
+#[cfg(test)]
 mod rows;
 #[cfg(test)]
 mod small_heaps;

@@ -1,0 +1,86 @@
+//! Work left: how many rescuer steps can still come at most, where nothing more is queued.
+//!
+//! It is that of "Work" in the specs of this crate: of each unfinished entry a start, a finish, and a wait and its end for
+//! each declared flush, less the steps that were made of it. It takes time in the number of lanes and of pending entries,
+//! and no memory.
+
+ghost use Rattle.std.specs.Prelude.{◌≡◌, ◌<◌, ◌≤◌, ◌*◌, sum_by};
+ghost use Rattle.wq_core.specs.declared.entry.Entry.{Entry};
+ghost use Rattle.wq_core.specs.Wiring.{items};
+ghost use Rattle.wq_core.specs.State.{lane_at};
+ghost use Rattle.wq_core.specs.Work.{whole_work, waits_over, running_work, lane_work, work_left};
+
+use crate::entry::Flush;
+use crate::machine::Core;
+use std::alloc::Allocator;
+use wq_groups::LaneId;
+use wq_items::ItemId;
+
+/// How many waits are over of an entry that has made so many, and waits for this if it does.
+fn waits_over(made: u32, waiting: Option<Flush>) -> u32
+    ensures { result ≡ waits_over made waiting }
+{
+    match waiting {
+        None => made,
+        Some(_) => made.saturating_sub(1),
+    }
+}
+
+impl<A: Allocator> Core<A> {
+    /// How many steps an execution of an item takes at most.
+    fn whole_work(&self, item: ItemId) -> u64
+        requires { item < items self.now.wiring }
+        ensures work { result ≡ whole_work self.now.wiring item }
+        ensures few { result ≤ 32770 }
+    {
+        let _items = self.items();
+        2 + 2 * self.targets(item).len() as u64
+    }
+
+    /// What is left of the pending entries of a lane.
+    fn pending_work(&self, q: LaneId) -> u64
+        requires { q < self.now.wiring.lanes }
+        ensures work { result ≡ sum_by (λ (e : Entry). whole_work self.now.wiring e.item) (lane_at self.now.state q).pending }
+        ensures few { result ≤ 4096 * 32770 }
+    {
+        let _items = self.items();
+        let mut work = 0;
+        for entry in self.lane(q).pending() {
+            work += self.whole_work(entry.item);
+        }
+        work
+    }
+
+    /// What is left of what a lane runs.
+    fn running_work(&self, q: LaneId) -> u64
+        ensures work { result ≡ running_work self.now.wiring (lane_at self.now.state q).running }
+        ensures few { result ≤ 32770 }
+    {
+        let Some(running) = self.running_on(q) else {
+            return 0;
+        };
+        let made = u64::from(running.made);
+        let over = u64::from(waits_over(running.made, running.waiting));
+        self.whole_work(running.entry.item) - (1 + made + over)
+    }
+
+    /// What is left on a lane.
+    fn lane_work(&self, q: LaneId) -> u64
+        requires { q < self.now.wiring.lanes }
+        ensures work { result ≡ lane_work self.now.wiring (lane_at self.now.state q) }
+        ensures few { result ≤ 4097 * 32770 }
+    {
+        self.pending_work(q) + self.running_work(q)
+    }
+
+    /// How many starts, waits, ends of waits and finishes can still be made at most, where nothing more is queued.
+    pub fn work_left(&self) -> u64
+        ensures { result ≡ work_left self.now.wiring self.now.state }
+    {
+        let mut work = 0;
+        for q in 0..self.lanes() {
+            work += self.lane_work(LaneId::new(q as u16));
+        }
+        work
+    }
+}

@@ -1,0 +1,526 @@
+//! The core machine: steps one by one and in lists, with what each gives and how much work it leaves.
+//!
+//! The rules are those of "The machine" in docs/DEFINITIONS.md, from which each number and each refusal was worked out by
+//! hand.
+
+ghost use Rattle.std.specs.Prelude.{◌≡◌, length, IfOk};
+
+use crate::answers::lines_of;
+use linked_list_allocator::LocalHeap;
+use std::alloc::{AllocError, Allocator, Global};
+use std::process::Abort;
+use std::test::Fail;
+use wq_core::{Core, RunError, Step, StepError};
+use wq_decl::DeclView;
+use wq_groups::{Assignment, Groups, LaneId};
+use wq_items::{ItemId, ItemTable};
+use wq_text::Text;
+
+/// A step in the numbers of its lane and item.
+#[derive(Clone, Copy, Debug)]
+enum Made {
+    Queue(u16),
+    Cancel(u16),
+    Start(u16, u16),
+    Wait(u16, u16),
+    Over(u16, u16),
+    Finish(u16, u16),
+}
+
+use Made::{Cancel, Finish, Over, Queue, Start, Wait};
+
+/// A declaration whose lines all end, its number of lanes and the lane of each group; steps in turn, each with the number
+/// that it gives or that of its refusal, and the work that is left then; and the items that are pending at the end.
+struct Case {
+    row: &'static str,
+    lanes: u16,
+    lane_of_group: &'static [u16],
+    steps: &'static [(Made, Result<u32, u32>, u64)],
+    pending: &'static [u16],
+}
+
+const CASES: &[Case] = &[
+    // An item that runs is queued again, and only what is pending is cancelled.
+    Case {
+        row: "item a",
+        lanes: 1,
+        lane_of_group: &[0],
+        steps: &[
+            (Cancel(0), Err(30), 0),
+            (Start(0, 0), Err(30), 0),
+            (Finish(0, 0), Err(30), 0),
+            (Queue(0), Ok(0), 2),
+            (Queue(0), Err(30), 2),
+            (Cancel(0), Ok(0), 0),
+            (Queue(0), Ok(1), 2),
+            (Start(0, 0), Ok(1), 1),
+            (Cancel(0), Err(30), 1),
+            (Queue(0), Ok(2), 3),
+            (Start(0, 0), Err(30), 3),
+            (Cancel(0), Ok(2), 1),
+            (Queue(0), Ok(3), 3),
+            (Finish(0, 0), Ok(1), 2),
+            (Finish(0, 0), Err(30), 2),
+            (Start(0, 0), Ok(3), 1),
+            (Queue(0), Ok(4), 3),
+            (Finish(0, 0), Ok(3), 2),
+        ],
+        pending: &[0],
+    },
+    // An item that waits for itself waits for the entry that runs, whatever is queued and cancelled after it.
+    Case {
+        row: "item a / flush a a",
+        lanes: 1,
+        lane_of_group: &[0],
+        steps: &[
+            (Queue(0), Ok(0), 4),
+            (Start(0, 0), Ok(0), 3),
+            (Wait(0, 0), Ok(1), 2),
+            (Over(0, 0), Err(30), 2),
+            (Finish(0, 0), Err(30), 2),
+            (Wait(0, 0), Err(30), 2),
+            (Queue(0), Ok(1), 6),
+            (Over(0, 0), Err(30), 6),
+            (Cancel(0), Ok(1), 2),
+            (Over(0, 0), Err(30), 2),
+            (Start(0, 0), Err(30), 2),
+        ],
+        pending: &[],
+    },
+    // A wait is over when no entry below its mark is pending or runs. Later ones don't prolong it.
+    Case {
+        row: "item a / item b / flush a b",
+        lanes: 2,
+        lane_of_group: &[1, 0],
+        steps: &[
+            (Queue(1), Ok(0), 2),
+            (Queue(0), Ok(1), 6),
+            (Start(1, 0), Ok(1), 5),
+            (Wait(1, 1), Ok(2), 4),
+            (Over(1, 1), Err(30), 4),
+            (Over(1, 0), Err(30), 4),
+            (Over(0, 1), Err(30), 4),
+            (Start(0, 1), Ok(0), 3),
+            (Over(1, 1), Err(30), 3),
+            (Queue(1), Ok(2), 5),
+            (Over(1, 1), Err(30), 5),
+            (Finish(0, 1), Ok(0), 4),
+            (Over(1, 1), Ok(2), 3),
+            (Over(1, 1), Err(30), 3),
+            (Wait(1, 1), Err(30), 3),
+            (Finish(1, 0), Ok(1), 2),
+        ],
+        pending: &[1],
+    },
+    // A cancellation ends a wait, also one on the lane of what waits.
+    Case {
+        row: "item a / item b / flush a b",
+        lanes: 1,
+        lane_of_group: &[0, 0],
+        steps: &[
+            (Queue(0), Ok(0), 4),
+            (Queue(1), Ok(1), 6),
+            (Start(0, 0), Ok(0), 5),
+            (Wait(0, 1), Ok(2), 4),
+            (Over(0, 1), Err(30), 4),
+            (Start(0, 1), Err(30), 4),
+            (Finish(0, 0), Err(30), 4),
+            (Cancel(1), Ok(1), 2),
+            (Over(0, 1), Ok(2), 1),
+            (Finish(0, 0), Ok(0), 0),
+        ],
+        pending: &[],
+    },
+    // Two waits of one entry, in another order than declared, and the second one of an item that is idle.
+    Case {
+        row: "item a / item b / item c / flush a b c",
+        lanes: 3,
+        lane_of_group: &[2, 1, 0],
+        steps: &[
+            (Queue(2), Ok(0), 2),
+            (Queue(0), Ok(1), 8),
+            (Start(2, 0), Ok(1), 7),
+            (Wait(2, 2), Ok(2), 6),
+            (Wait(2, 1), Err(30), 6),
+            (Over(2, 2), Err(30), 6),
+            (Start(0, 2), Ok(0), 5),
+            (Finish(0, 2), Ok(0), 4),
+            (Over(2, 1), Err(30), 4),
+            (Over(2, 2), Ok(2), 3),
+            (Queue(2), Ok(2), 5),
+            (Wait(2, 1), Ok(3), 4),
+            (Over(2, 1), Ok(3), 3),
+            (Wait(2, 2), Err(30), 3),
+            (Finish(2, 0), Ok(1), 2),
+            (Cancel(2), Ok(2), 0),
+        ],
+        pending: &[],
+    },
+    // One item may be waited for twice, where two flushes are declared. The second wait has a mark of its own.
+    Case {
+        row: "item a / item b / item c / flush a b c",
+        lanes: 3,
+        lane_of_group: &[2, 1, 0],
+        steps: &[
+            (Queue(0), Ok(0), 6),
+            (Start(2, 0), Ok(0), 5),
+            (Wait(2, 1), Ok(1), 4),
+            (Queue(1), Ok(1), 6),
+            (Over(2, 1), Ok(1), 5),
+            (Wait(2, 1), Ok(2), 4),
+            (Over(2, 1), Err(30), 4),
+            (Start(1, 1), Ok(1), 3),
+            (Over(2, 1), Err(30), 3),
+            (Finish(1, 1), Ok(1), 2),
+            (Over(2, 1), Ok(2), 1),
+            (Wait(2, 1), Err(30), 1),
+            (Finish(2, 0), Ok(0), 0),
+        ],
+        pending: &[],
+    },
+    // An execution may finish early, and waits for nothing that its own item doesn't declare.
+    Case {
+        row: "item a / item b / item c / flush a b b / flush c a",
+        lanes: 3,
+        lane_of_group: &[1, 0, 2],
+        steps: &[
+            (Queue(0), Ok(0), 6),
+            (Start(1, 0), Ok(0), 5),
+            (Wait(1, 2), Err(30), 5),
+            (Wait(1, 0), Err(30), 5),
+            (Wait(1, 1), Ok(1), 4),
+            (Over(1, 1), Ok(1), 3),
+            (Finish(1, 0), Ok(0), 0),
+            (Queue(2), Ok(1), 4),
+            (Start(2, 2), Ok(1), 3),
+            (Wait(2, 1), Err(30), 3),
+            (Finish(2, 2), Ok(1), 0),
+        ],
+        pending: &[],
+    },
+    // Lanes and items that aren't there, and others than those that run, wait or are waited for.
+    Case {
+        row: "item a / item b / flush a b",
+        lanes: 2,
+        lane_of_group: &[0, 1],
+        steps: &[
+            (Queue(2), Err(30), 0),
+            (Queue(65535), Err(30), 0),
+            (Cancel(2), Err(30), 0),
+            (Start(2, 0), Err(30), 0),
+            (Queue(0), Ok(0), 4),
+            (Start(2, 0), Err(30), 4),
+            (Start(65535, 0), Err(30), 4),
+            (Start(1, 0), Err(30), 4),
+            (Start(0, 1), Err(30), 4),
+            (Start(0, 2), Err(30), 4),
+            (Wait(0, 1), Err(30), 4),
+            (Start(0, 0), Ok(0), 3),
+            (Wait(2, 1), Err(30), 3),
+            (Wait(1, 1), Err(30), 3),
+            (Wait(0, 2), Err(30), 3),
+            (Over(0, 1), Err(30), 3),
+            (Wait(0, 1), Ok(1), 2),
+            (Over(2, 1), Err(30), 2),
+            (Over(0, 2), Err(30), 2),
+            (Over(0, 1), Ok(1), 1),
+            (Finish(2, 0), Err(30), 1),
+            (Finish(1, 0), Err(30), 1),
+            (Finish(0, 1), Err(30), 1),
+            (Finish(0, 2), Err(30), 1),
+            (Cancel(65535), Err(30), 1),
+            (Finish(0, 0), Ok(0), 0),
+        ],
+        pending: &[],
+    },
+    // A lane starts what was queued first, and a cancellation keeps the order of the others.
+    Case {
+        row: "item a / item b / item c / item d",
+        lanes: 1,
+        lane_of_group: &[0, 0, 0, 0],
+        steps: &[
+            (Queue(1), Ok(0), 2),
+            (Queue(0), Ok(1), 4),
+            (Queue(2), Ok(2), 6),
+            (Queue(3), Ok(3), 8),
+            (Start(0, 0), Err(30), 8),
+            (Cancel(0), Ok(1), 6),
+            (Queue(0), Ok(4), 8),
+            (Start(0, 2), Err(30), 8),
+            (Start(0, 1), Ok(0), 7),
+            (Start(0, 2), Err(30), 7),
+            (Finish(0, 2), Err(30), 7),
+            (Finish(0, 1), Ok(0), 6),
+            (Start(0, 0), Err(30), 6),
+            (Start(0, 3), Err(30), 6),
+            (Start(0, 2), Ok(2), 5),
+            (Finish(0, 2), Ok(2), 4),
+            (Start(0, 3), Ok(3), 3),
+        ],
+        pending: &[0],
+    },
+    // Items of one group are on its lane, and a lane may be empty.
+    Case {
+        row: "item a / item b / item c / ordered c a / flush b c",
+        lanes: 4,
+        lane_of_group: &[3, 1],
+        steps: &[
+            (Queue(2), Ok(0), 2),
+            (Start(0, 2), Err(30), 2),
+            (Start(2, 2), Err(30), 2),
+            (Start(3, 2), Ok(0), 1),
+            (Queue(1), Ok(1), 5),
+            (Queue(0), Ok(2), 7),
+            (Start(1, 1), Ok(1), 6),
+            (Wait(1, 2), Ok(3), 5),
+            (Start(3, 0), Err(30), 5),
+            (Over(1, 2), Err(30), 5),
+            (Finish(3, 2), Ok(0), 4),
+            (Over(1, 2), Ok(3), 3),
+            (Finish(1, 1), Ok(1), 2),
+        ],
+        pending: &[0],
+    },
+    // Two lanes wait for each other. Either wait began at the same mark, and neither is over.
+    Case {
+        row: CROSSED,
+        lanes: 2,
+        lane_of_group: CROSSED_LANES,
+        steps: &[
+            (Queue(0), Ok(0), 4),
+            (Queue(2), Ok(1), 8),
+            (Queue(1), Ok(2), 10),
+            (Queue(3), Ok(3), 12),
+            (Start(0, 0), Ok(0), 11),
+            (Wait(0, 1), Ok(4), 10),
+            (Start(1, 2), Ok(1), 9),
+            (Wait(1, 3), Ok(4), 8),
+            (Over(0, 1), Err(30), 8),
+            (Over(1, 3), Err(30), 8),
+        ],
+        pending: &[1, 3],
+    },
+    // Nothing is declared.
+    Case {
+        row: "",
+        lanes: 0,
+        lane_of_group: &[],
+        steps: &[
+            (Queue(0), Err(30), 0),
+            (Start(0, 0), Err(30), 0),
+            (Finish(0, 0), Err(30), 0),
+        ],
+        pending: &[],
+    },
+];
+
+/// The step of these numbers.
+fn step_of(made: Made) -> Step {
+    match made {
+        Queue(i) => Step::Queue(ItemId::new(i)),
+        Cancel(i) => Step::Cancel(ItemId::new(i)),
+        Start(q, i) => Step::Start(LaneId::new(q), ItemId::new(i)),
+        Wait(q, i) => Step::Wait(LaneId::new(q), ItemId::new(i)),
+        Over(q, i) => Step::Over(LaneId::new(q), ItemId::new(i)),
+        Finish(q, i) => Step::Finish(LaneId::new(q), ItemId::new(i)),
+    }
+}
+
+/// The items that a text declares, and their groups.
+fn declared<'a, A: Allocator + Copy>(
+    alloc: A,
+    text: &'a [u8],
+) -> Result<(ItemTable<'a, A>, Groups<A>), Fail>
+    ensures { IfOk result (λ (table, groups). length groups.group_of ≡ length table.names) }
+{
+    let text = Text::new(text, 4096, 4096)?;
+    let view = DeclView::new(text)?;
+    let table = ItemTable::read(alloc, &view)?;
+    let groups = Groups::read(alloc, &view, &table)?;
+    Ok((table, groups))
+}
+
+/// The assignment of these lanes to as many groups.
+fn assigned<A: Allocator + Copy>(
+    alloc: A,
+    groups: u16,
+    lanes: u16,
+    lane_of_group: &[u16],
+) -> Result<Assignment<A>, Fail>
+    ensures { IfOk result (λ a. length a.lane_of_group ≡ groups) }
+{
+    let mut of_group = Vec::new(alloc);
+    for lane in lane_of_group {
+        of_group.push(LaneId::new(*lane))?;
+    }
+    let assignment = Assignment::new(lanes, of_group).ok_or("a lane too many")?;
+    if assignment.groups() != usize::from(groups) {
+        return Err(Fail::from("another number of groups"));
+    }
+    Ok(assignment)
+}
+
+/// The machine on a heap, of a declaration and of the lane of each group, which are on another.
+fn core_in<A: Allocator + Copy>(
+    parts: A,
+    heap: A,
+    text: &[u8],
+    lanes: u16,
+    lane_of_group: &[u16],
+) -> Result<Result<Core<A>, AllocError>, Fail> {
+    let (table, groups) = declared(parts, text)?;
+    let assignment = assigned(parts, groups.len(), lanes, lane_of_group)?;
+    Ok(Core::new(heap, &table, &groups, &assignment))
+}
+
+/// The machine of a declaration whose lines all end and of the lane of each group.
+fn core_of(
+    alloc: Global,
+    row: &str,
+    lanes: u16,
+    lane_of_group: &[u16],
+) -> Result<Core<Global>, Fail> {
+    let text = lines_of(alloc, row)?;
+    let core = core_in(alloc, alloc, &text, lanes, lane_of_group)?;
+    Ok(core?)
+}
+
+/// The outcome of a list of steps.
+fn run_of<A: Allocator>(
+    alloc: Global,
+    core: &mut Core<A>,
+    list: &[Made],
+) -> Result<Result<(), RunError>, Fail> {
+    let mut steps = Vec::new(alloc);
+    for made in list {
+        steps.push(step_of(*made))?;
+    }
+    if steps.len() > 99 {
+        return Err(Fail::from("a long list"));
+    }
+    Ok(core.run(&steps))
+}
+
+/// Asserts what a case gives step by step, and what is pending at its end.
+fn assert_case(rt: &impl Abort, mut core: Core<Global>, case: &Case) {
+    let row = case.row;
+    assert_eq!(rt; core.lanes(), usize::from(case.lanes), "{row}");
+    for (made, want, left) in case.steps {
+        let gives = core.step(step_of(*made)).map_err(|why| why.code());
+        assert_eq!(rt; gives, *want, "{row}: {made:?}");
+        assert_eq!(rt; core.work_left(), *left, "{row}: {made:?}");
+        assert_eq!(rt; core.is_idle(), *left == 0, "{row}: {made:?}");
+    }
+    for item in 0..6u16 {
+        let pending = core.is_pending(ItemId::new(item));
+        assert_eq!(rt; pending, case.pending.contains(&item), "{row}: {item}");
+    }
+}
+
+#[test]
+fn steps_give_their_numbers(rt: HostRuntime) -> Result<(), Fail> {
+    for case in CASES {
+        let core = core_of(rt.alloc(), case.row, case.lanes, case.lane_of_group)?;
+        assert_case(&rt, core, case);
+    }
+    Ok(())
+}
+
+/// Two items that flush two others, each on the lane of the other's target.
+const CROSSED: &str = "item a / item b / item c / item d / flush a b / flush c d";
+
+const CROSSED_LANES: &[u16] = &[0, 1, 1, 0];
+
+/// A run of them that ends stuck.
+const STUCK: &[Made] = &[
+    Queue(0),
+    Queue(2),
+    Queue(1),
+    Queue(3),
+    Start(0, 0),
+    Wait(0, 1),
+    Start(1, 2),
+    Wait(1, 3),
+];
+
+/// Asserts that this run can be made, and how it ends.
+fn assert_stuck<A: Allocator>(
+    rt: &impl Abort,
+    alloc: Global,
+    core: &mut Core<A>,
+) -> Result<(), Fail> {
+    assert_eq!(rt; run_of(alloc, core, STUCK)?, Ok(()));
+    assert_eq!(rt; core.work_left(), 8);
+    assert!(rt; !core.is_idle());
+    assert_eq!(rt; core.step(step_of(Over(0, 1))), Err(StepError::NotLawful));
+    assert_eq!(rt; core.work_left(), 8);
+    Ok(())
+}
+
+#[test]
+fn two_lanes_that_wait_for_each_other_are_stuck(rt: HostRuntime) -> Result<(), Fail> {
+    let mut core = core_of(rt.alloc(), CROSSED, 2, CROSSED_LANES)?;
+    assert_eq!(rt; core.items(), 4);
+    assert_stuck(&rt, rt.alloc(), &mut core)
+}
+
+/// Steps over the same declaration, how many of them are made, and the work that is left then.
+const REFUSED: &[(&[Made], u32, u64)] = &[
+    (&[Start(0, 0)], 0, 0),
+    (&[Queue(0), Queue(0), Queue(1)], 1, 4),
+    (&[Queue(0), Queue(1), Start(0, 0), Wait(0, 3)], 3, 5),
+    (&[Queue(1), Cancel(1), Cancel(1)], 2, 0),
+];
+
+#[test]
+fn runs_stop_at_the_first_refusal(rt: HostRuntime) -> Result<(), Fail> {
+    let why = StepError::NotLawful;
+    for (list, at, left) in REFUSED {
+        let mut core = core_of(rt.alloc(), CROSSED, 2, CROSSED_LANES)?;
+        let outcome = run_of(rt.alloc(), &mut core, list)?;
+        assert_eq!(rt; outcome, Err(RunError { at: *at, why }), "{list:?}");
+        assert_eq!(rt; core.work_left(), *left, "{list:?}");
+    }
+    Ok(())
+}
+
+#[test]
+fn refusals_have_their_numbers_and_words(rt: HostRuntime) -> Result<(), Fail> {
+    for (why, code, words) in [
+        (StepError::NotLawful, 30, "step 7: the step isn't lawful"),
+        (
+            StepError::NumbersUsedUp,
+            31,
+            "step 7: the numbers are used up",
+        ),
+    ] {
+        assert_eq!(rt; why.code(), code);
+        let error = RunError { at: 7, why };
+        assert_eq!(rt; format!(in rt.alloc(); "{error}")?.as_str(), words);
+    }
+    Ok(())
+}
+
+#[test]
+fn machines_take_memory_only_when_they_are_made(rt: HostRuntime) -> Result<(), Fail> {
+    let alloc = rt.alloc();
+    let text = lines_of(alloc, CROSSED)?;
+    let large = LocalHeap::new(alloc, 65536)?;
+    let mut refused = false;
+    let mut made = false;
+    for size in (0..2048usize).step_by(16) {
+        let heap = LocalHeap::new(alloc, size)?;
+        if let Ok(mut core) = core_in(&large, &heap, &text, 2, CROSSED_LANES)? {
+            let used = heap.used();
+            assert_stuck(&rt, alloc, &mut core)?;
+            assert_eq!(rt; heap.used(), used, "a heap of {size} bytes");
+            made = true;
+        } else {
+            assert!(rt; !made, "a heap of {size} bytes");
+            refused = true;
+        }
+        assert_eq!(rt; heap.used(), 0, "a heap of {size} bytes");
+    }
+    assert!(rt; refused && made, "refused {refused}, made {made}");
+    Ok(())
+}
