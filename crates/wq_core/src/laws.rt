@@ -9,7 +9,7 @@ ghost use Rattle.wq_items.specs.Table.{ItemWaits};
 ghost use Rattle.wq_groups.specs.Declaration.{Declaration, GroupWaits};
 ghost use Rattle.wq_groups.specs.Assignment.{Assignment, IsAssignment};
 ghost use Rattle.wq_core.specs.declared.step.Step.{Step};
-ghost use Rattle.wq_core.specs.Wiring.{Wiring, IsWiring, LaneWaits, wiring, lane_of};
+ghost use Rattle.wq_core.specs.Wiring.{Wiring, LaneWaits, wiring, lane_of};
 ghost use Rattle.wq_core.specs.State.{State, HasUnfinished};
 ghost use Rattle.wq_core.specs.Rules.{Lawful};
 ghost use Rattle.wq_core.specs.Runs.{IsRun, IsRunFrom, end_of, IsRescuerStep, IsCancel};
@@ -39,7 +39,7 @@ pub fn a_lane_has_one_declared_step()
 
 /// After a run each lane that can move has such a step, whatever was flushed before.
 pub fn a_lane_that_can_move_has_a_declared_step()
-    ensures { (w : Wiring) (steps : List Step) (q : ℕ) → IsWiring w → IsRun w steps → CanMove w (end_of w steps) q →
+    ensures { (w : Wiring) (steps : List Step) (q : ℕ) → IsRun w steps → CanMove w (end_of w steps) q →
         (step : Step) × IsDeclaredStep w (end_of w steps) q step }
 {}
 
