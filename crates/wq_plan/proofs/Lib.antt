@@ -2,6 +2,7 @@ pub mod Lanes
 pub mod Arcs
 pub mod Relations
 pub mod Ranked
+pub mod SafePlans
 pub mod Plans
 pub mod Places
 pub mod Paths

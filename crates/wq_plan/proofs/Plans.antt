@@ -18,6 +18,9 @@ use Rattle.wq_levels.proofs.Ranks.{AreRanks-few}
 use Rattle.wq_plan.proofs.Relations.{HasCircle-implied, IsRank-same}
 use Rattle.wq_plan.proofs.Ranked.{ranks-fall, ranks-most}
 use Rattle.wq_plan.proofs.Lanes.{lanes_of-above, lanes_of-most}
+use Rattle.wq_core.specs.Wiring.{wiring}
+use Rattle.wq_core.specs.Deadlock.{IsSafe}
+use Rattle.wq_plan.proofs.SafePlans.{IsSafe-lanes_fall}
 use Rattle.wq_graph.proofs.Graphs.{IsGraph-group_graph, GroupWaits-HasArc}
 
 -- the wait graph has the groups for vertices
@@ -36,6 +39,10 @@ module _ (d : Declaration) (a : Assignment) (plan : IsPlan d a) where
   -- no chain has more groups than there are lanes
   pub IsPlan-most : (vs : List ℕ) → IsChain (GroupWaits d) vs → All (λ v. v < d.groups) vs → length vs ≤ a.lanes
   IsPlan-most vs chain below = rw plan.count (ranks-most (GroupWaits d) d.groups a.lane_of_group plan.one_each plan.ranks vs chain below)
+
+-- no run of a plan ends stuck
+pub IsSafe-plan : (d : Declaration) (a : Assignment) → IsDeclaration d → IsPlan d a → IsSafe (wiring d a)
+IsSafe-plan d a is plan = IsSafe-lanes_fall d is a (IsPlan-falls d a plan)
 
 -- a declaration has one plan
 pub IsPlan-unique : (d : Declaration) (a b : Assignment) → IsPlan d a → IsPlan d b → a ≡ b
@@ -95,7 +102,12 @@ module _ (d : Declaration) (is : IsDeclaration d) where
     pub IsPlanned-from_ranks : (a : Assignment) (chain : List WaitArc) → a.lane_of_group ≡ ranks → a.lanes ≡ lanes_of ranks → chain ≡ chain_of (group_graph d) ranks → IsPlanned d a chain
     IsPlanned-from_ranks a chain same count longest =
         let plan : IsPlan d a = IsPlan-from_ranks a (rw same are) (rw same count) in
-        record { plan = plan; no_circle = IsPlan-no_circle d a plan; longest = rw same longest }
+        record {
+          plan = plan;
+          no_circle = IsPlan-no_circle d a plan;
+          safe = IsSafe-lanes_fall d is a (IsPlan-falls d a plan);
+          longest = rw same longest;
+        }
 
   -- a circle of the walk is one of groups
   pub IsCircled-from_walk : (circle : List WaitArc) → IsWalkedCircle (group_graph d) circle → IsCircled d circle

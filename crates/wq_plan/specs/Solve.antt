@@ -3,6 +3,8 @@ use Rattle.std.specs.Prelude.{◌≡◌, List}
 use Rattle.wq_items.specs.Chain.{HasCircle}
 use Rattle.wq_groups.specs.Declaration.{Declaration, GroupWaits}
 use Rattle.wq_groups.specs.Assignment.{Assignment}
+use Rattle.wq_core.specs.Wiring.{wiring}
+use Rattle.wq_core.specs.Deadlock.{IsSafe}
 use Rattle.wq_graph.specs.declared.arc.WaitArc.{WaitArc}
 use Rattle.wq_graph.specs.Graph.{group_graph}
 use Rattle.wq_levels.specs.Walks.{IsWalkedCircle}
@@ -10,10 +12,11 @@ use Rattle.wq_plan.specs.declared.answer.Answer.{Answer}
 use Rattle.wq_plan.specs.declared.answer.Answer.TheVariants as answer
 use Rattle.wq_plan.specs.Plan.{IsPlan, chain_of}
 
--- the assignment is the plan, so the groups wait in no circle; and the chain is the plan's
+-- the assignment is the plan, so the groups wait in no circle and no run ends stuck; and the chain is the plan's
 pub record IsPlanned (d : Declaration) (a : Assignment) (chain : List WaitArc) : Type 0 where
   pub plan : IsPlan d a
   pub no_circle : ¬ HasCircle (GroupWaits d) d.groups
+  pub safe : IsSafe (wiring d a)
   pub longest : chain ≡ chain_of (group_graph d) a.lane_of_group
 
 -- the groups wait in a circle, and it is that of the walk

@@ -9,6 +9,8 @@ ghost use Rattle.wq_groups.specs.Declaration.{Declaration, GroupWaits, IsDeclara
 ghost use Rattle.wq_groups.specs.Assignment.{Assignment, lane_of};
 ghost use Rattle.wq_graph.specs.declared.arc.WaitArc.{WaitArc};
 ghost use Rattle.wq_graph.specs.Graph.{group_graph};
+ghost use Rattle.wq_core.specs.Wiring.{wiring};
+ghost use Rattle.wq_core.specs.Deadlock.{IsSafe};
 ghost use Rattle.wq_levels.specs.Walks.{IsWalkedCircle};
 ghost use Rattle.wq_plan.specs.Plan.{IsPlan, lanes_of, chain_of};
 ghost use Rattle.wq_plan.specs.LongestChain.{IsLongestChain};
@@ -30,6 +32,11 @@ pub fn lanes_are_few()
 pub fn lanes_fall()
     ensures { (d : Declaration) (a : Assignment) (g h : ℕ) →
         IsPlan d a → g < d.groups → GroupWaits d g h → lane_of a h < lane_of a g }
+{}
+
+/// No run of a plan ends stuck, whatever is queued and cancelled, and whatever the executions flush.
+pub fn a_plan_is_safe()
+    ensures { (d : Declaration) (a : Assignment) → IsDeclaration d → IsPlan d a → IsSafe (wiring d a) }
 {}
 
 /// The groups of a declaration have a plan, or they wait in a circle.

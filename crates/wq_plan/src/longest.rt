@@ -14,7 +14,7 @@ use std::alloc::{AllocError, Allocator};
 use wq_graph::{WaitArc, WaitGraph};
 
 /// How many lanes there are.
-pub fn lanes_used(lane: &[u16]) -> u16
+pub(crate) fn lanes_used(lane: &[u16]) -> u16
     requires { All (λ l. l + 1 < 2 ^ 16) lane.now }
     ensures { result ≡ lanes_of lane.now }
 {
@@ -68,7 +68,7 @@ fn follow<A: Allocator + Copy>(
 }
 
 /// The arcs of a longest waiting chain.
-pub fn longest_chain<A: Allocator + Copy>(
+pub(crate) fn longest_chain<A: Allocator + Copy>(
     alloc: A,
     graph: &WaitGraph<A>,
     lane: &[u16],

@@ -17,7 +17,7 @@ use wq_groups::{Assignment, Groups, LaneId};
 use wq_items::ItemTable;
 use wq_levels::{Ranked, rank};
 
-/// The assignment with so many lanes in which group g is on lane `ranks[g]`.
+/// The assignment with so many lanes in which group g is on lane `lane[g]`.
 fn assign<A: Allocator + Copy>(
     alloc: A,
     lane: &[u16],
