@@ -1,7 +1,7 @@
 //! The core machine: steps one by one and in lists, with what each gives and how much work it leaves.
 //!
 //! The rules are those of "The machine" in docs/DEFINITIONS.md, from which each number and each refusal was worked out by
-//! hand.
+//! hand. They take time in the number of steps, beside that of making a machine for each case.
 
 ghost use Rattle.std.specs.Prelude.{◌≡◌, length, IfOk};
 

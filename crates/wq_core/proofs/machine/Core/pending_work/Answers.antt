@@ -1,5 +1,6 @@
 use Rattle.std.proofs.Common.{◌≡◌, ◌<◌, ◌+◌, List, [], ◌∷◌, length, sum_by, refl, sym, ap, subst, ◌∙◌, arith}
 use Rattle.std.specs.List.{All}
+use Rattle.std.specs.declared.collections.vec_deque.Iter.{Iter}
 use Rattle.std.specs.VecDeque.Iter.{deque_iter_rest}
 use Rattle.std.proofs.lemmas.List.Elements.{All-head, All-tail}
 use Rattle.std.proofs.lemmas.List.Sums.{sum_by-cons}
@@ -9,6 +10,10 @@ use Rattle.wq_core.specs.State.{Lane, lane_at}
 use Rattle.wq_core.specs.Work.{whole_work}
 use Rattle.wq_core.proofs.WorkBounds.{pending_items, pending_work-few}
 use Rattle.wq_core.proofs.machine.Core.pending_work.Goals as goal
+
+-- the iterator begins with all that is pending on the lane
+all_left : (left first : Iter Entry) (lane own : Lane) → left ≡ first → deque_iter_rest first ≡ lane.pending → lane ≡ own → deque_iter_rest left ≡ own.pending
+all_left left first lane own same rest is = ap deque_iter_rest same ∙ rest ∙ ap (λ (l : Lane). l.pending) is
 
 -- the work of the next entry and of the rest
 next_work : (w : Wiring) (e : Entry) (left rest : List Entry) → left ≡ e ∷ rest
@@ -23,7 +28,7 @@ pub loop-entry-init : goal.loop-entry-init
 loop-entry-init g c =
     let m = c.args.self.now in
     let all : deque_iter_rest c.into_iter-entry-iterator.result ≡ (lane_at m.state c.args.q).pending =
-    ap deque_iter_rest c.into_iter-entry-iterator.ensures.into_iter_gives ∙ c.pending-entry-items.ensures ∙ ap (λ (l : Lane). l.pending) c.lane.ensures in
+    all_left c.into_iter-entry-iterator.result c.pending-entry-items.result c.lane.result.now.lane (lane_at m.state c.args.q) c.into_iter-entry-iterator.ensures.into_iter_gives c.pending-entry-items.ensures c.lane.ensures in
     record {
       so_far = omega (arith, ap (sum_by (λ (e : Entry). whole_work m.wiring e.item)) all);
       rest = subst (All (λ (e : Entry). e.item < items m.wiring)) (sym all) (pending_items m c.args.q c.items-items.ensures.machine);
