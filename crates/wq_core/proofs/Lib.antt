@@ -1,5 +1,6 @@
 pub mod Changes
 pub mod FirstMachines
+pub mod Knots
 pub mod LaneCircles
 pub mod LaneLemmas
 pub mod Machines
