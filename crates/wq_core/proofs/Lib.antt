@@ -5,6 +5,7 @@ pub mod LaneCircles
 pub mod LaneLemmas
 pub mod Machines
 pub mod Parts
+pub mod Queued
 pub mod Room
 pub mod RunLemmas
 pub mod Sound
