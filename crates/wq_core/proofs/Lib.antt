@@ -6,6 +6,7 @@ pub mod LaneLemmas
 pub mod Machines
 pub mod Parts
 pub mod Queued
+pub mod QueueOrder
 pub mod Room
 pub mod RunLemmas
 pub mod Sound
