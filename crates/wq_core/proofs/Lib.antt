@@ -7,6 +7,8 @@ pub mod Machines
 pub mod Parts
 pub mod Queued
 pub mod QueueOrder
+pub mod Plays
+pub mod Playing
 pub mod Room
 pub mod RunLemmas
 pub mod Sound
