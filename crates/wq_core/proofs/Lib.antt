@@ -1,6 +1,8 @@
 pub mod Changes
+pub mod CircleKnots
 pub mod FirstMachines
 pub mod Knots
+pub mod KnotRuns
 pub mod LaneCircles
 pub mod LaneLemmas
 pub mod Machines
