@@ -24,8 +24,8 @@ use Rattle.wq_core.proofs.Knots.{IsHeldUp, AreHeldUp, AreHeldUp-effect}
 use Rattle.wq_core.proofs.LaneLemmas.{lane_at-empty_state, idle_lane-unfinished}
 use Rattle.wq_core.proofs.Plays.{after-append, IsRunFrom-append, AsDeclaredFrom-append, AsDeclaredFrom-queued, no_cancel-queued, IsRunFrom-played, AsDeclaredFrom-played, no_cancel-played, count_by-queues_played, no_step-played}
 use Rattle.wq_core.proofs.Playing.{IsPlayedFrom-exists}
-use Rattle.wq_core.proofs.Queued.{pending_items, on_lane, pending_items-all_queued, running-all_queued, IsRunFrom-queued, count_by-queues_one}
-use Rattle.wq_core.proofs.QueueOrder.{Contains-filtered, in_order, All-in_order, AllPairs-in_order, Contains-in_order, first_on_lane}
+use Rattle.wq_core.proofs.Queued.{one_if, pending_items, on_lane, pending_items-all_queued, running-all_queued, IsRunFrom-queued, count_by-queues_one}
+use Rattle.wq_core.proofs.QueueOrder.{Contains-filtered, others_in_order, in_order, All-in_order, AllPairs-in_order, Contains-in_order, first_on_lane}
 use Rattle.wq_core.proofs.Sound.{IsSoundState-end_of, IsSoundState-after}
 
 -- ---- entries by their items
@@ -52,14 +52,6 @@ item_from_waits w is i waits = elim (cases_lt i (items w)) [
       absurd (omega arith)
       )
 ]
-
--- what a test for queueings of item i counts
-abbrev counted : ℕ → Step → ℕ
-counted i step = cond (queues i step) 1 0
-
--- the items below n that aren't among the first ones
-abbrev others_in_order : List ℕ → ℕ → List ℕ
-others_in_order first n = filter (λ i. not (list_any (λ j. eqb i j) first)) (range_with_len 0 n)
 
 module _ (w : Wiring) (knot : List ℕ) (wiring : IsWiring w) (is : IsKnot w knot) where
   -- ---- the items of the knot, and its order
@@ -159,7 +151,7 @@ module _ (w : Wiring) (knot : List ℕ) (wiring : IsWiring w) (is : IsKnot w kno
     once : IsOnce w (queue_order w knot ++ more)
     once = record {
       queued = λ i lt.
-          let test : Step → ℕ = λ (step : Step). counted i step in
+          let test : Step → ℕ = λ (step : Step). one_if (queues i step) in
           let both = sum_by-append test (queue_order w knot) more in
           let one = count_by-queues_one i (in_order knot (items w)) differ (Contains-in_order knot (items w) i lt) in
           let none = count_by-queues_played w start more i played in

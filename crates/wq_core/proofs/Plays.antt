@@ -17,6 +17,7 @@ use Rattle.wq_core.specs.Rules.{Lawful, effect}
 use Rattle.wq_core.specs.Runs.{after, IsRunFrom, IsRescuerStep, AsDeclaredFrom, IsCancel, queues}
 use Rattle.wq_core.specs.Held.{IsSoundState}
 use Rattle.wq_core.specs.Played.{IsStepOf, IsDeclaredStep, CannotMove, IsPlayedFrom}
+use Rattle.wq_core.proofs.Queued.{one_if}
 
 -- ---- one run after another
 
@@ -60,17 +61,13 @@ no_cancel-of_lane q (Wait p b) is cancel = cancel
 no_cancel-of_lane q (Over p b) is cancel = cancel
 no_cancel-of_lane q (Finish p i) is cancel = cancel
 
--- what the test for queueings of item i counts
-abbrev counted : ℕ → Step → ℕ
-counted i step = cond (queues i step) 1 0
-
-counted-of_lane : (i q : ℕ) (step : Step) → IsStepOf q step → counted i step ≡ 0
-counted-of_lane i q (Queue j) is = absurd is
-counted-of_lane i q (Cancel j) is = absurd is
-counted-of_lane i q (Start p j) is = refl
-counted-of_lane i q (Wait p b) is = refl
-counted-of_lane i q (Over p b) is = refl
-counted-of_lane i q (Finish p j) is = refl
+queues-of_lane : (i q : ℕ) (step : Step) → IsStepOf q step → one_if (queues i step) ≡ 0
+queues-of_lane i q (Queue j) is = absurd is
+queues-of_lane i q (Cancel j) is = absurd is
+queues-of_lane i q (Start p j) is = refl
+queues-of_lane i q (Wait p b) is = refl
+queues-of_lane i q (Over p b) is = refl
+queues-of_lane i q (Finish p j) is = refl
 
 -- ---- played runs
 
@@ -90,8 +87,8 @@ no_cancel-played w s (step ∷ steps) played =
 pub count_by-queues_played : (w : Wiring) (s : State) (steps : List Step) (i : ℕ) → IsPlayedFrom w s steps → count_by (λ (step : Step). queues i step) steps ≡ 0
 count_by-queues_played w s [] i played = refl
 count_by-queues_played w s (step ∷ steps) i played =
-    let all = sum_by-cons (λ (x : Step). counted i x) step steps in
-    let first : counted i step ≡ 0 = counted-of_lane i played.0.0 step played.0.1.of_lane in
+    let all = sum_by-cons (λ (x : Step). one_if (queues i x)) step steps in
+    let first : one_if (queues i step) ≡ 0 = queues-of_lane i played.0.0 step played.0.1.of_lane in
     let rest : count_by (λ (x : Step). queues i x) steps ≡ 0 = count_by-queues_played w (effect w s step) steps i played.1 in
     omega (arith, all, first, rest)
 

@@ -49,25 +49,29 @@ All-range_with_len n k d within =
 
 -- ---- the order
 
--- the items below n that aren't among the first ones
-abbrev is_other : List ℕ → ℕ → Bool
+-- the item isn't among the first ones
+abbrev pub is_other : List ℕ → ℕ → Bool
 is_other first i = not (list_any (λ j. eqb i j) first)
 
--- all items below n: these first, and then the others as they are numbered
+-- the items below n that aren't among the first ones, as they are numbered
+abbrev pub others_in_order : List ℕ → ℕ → List ℕ
+others_in_order first n = filter (λ i. is_other first i) (range_with_len 0 n)
+
+-- all items below n: these first, and then the others
 abbrev pub in_order : List ℕ → ℕ → List ℕ
-in_order first n = first ++ filter (λ i. not (list_any (λ j. eqb i j) first)) (range_with_len 0 n)
+in_order first n = first ++ others_in_order first n
 
 pub All-in_order : (first : List ℕ) (n : ℕ) → All (λ i. i < n) first → All (λ i. i < n) (in_order first n)
-All-in_order first n below = All-append (λ i. i < n) first (filter (λ i. is_other first i) (range_with_len 0 n)) below (All-filter (λ i. is_other first i) (λ i. i < n) (range_with_len 0 n) (All-range_with_len n))
+All-in_order first n below = All-append (λ i. i < n) first (others_in_order first n) below (All-filter (λ i. is_other first i) (λ i. i < n) (range_with_len 0 n) (All-range_with_len n))
 
 pub AllPairs-in_order : (first : List ℕ) (n : ℕ) → AllPairs (λ i j. i ≢ j) first → AllPairs (λ i j. i ≢ j) (in_order first n)
 AllPairs-in_order first n differ =
-    AllPairs-append (λ i j. i ≢ j) first (filter (λ i. is_other first i) (range_with_len 0 n)) differ
+    AllPairs-append (λ i j. i ≢ j) first (others_in_order first n) differ
     (AllPairs-filter (λ i j. i ≢ j) (λ i. is_other first i) (range_with_len 0 n) (AllPairs-range_with_len n)) across
   where
-    across : (i j : ℕ) → Contains first i → Contains (filter (λ k. is_other first k) (range_with_len 0 n)) j → i ≢ j
+    across : (i j : ℕ) → Contains first i → Contains (others_in_order first n) j → i ≢ j
     across i j (k, lt, at) other same =
-        let passes : is_other first j ≡ true = All-contains (λ m. is_other first m ≡ true) (filter (λ m. is_other first m) (range_with_len 0 n)) j (filter_passes (λ m. is_other first m) (range_with_len 0 n)) other in
+        let passes : is_other first j ≡ true = All-contains (λ m. is_other first m ≡ true) (others_in_order first n) j (filter_passes (λ m. is_other first m) (range_with_len 0 n)) other in
         let none : list_any (λ m. eqb j m) first ≡ false = not-true (list_any (λ m. eqb j m) first) passes in
         let some : list_any (λ m. eqb j m) first ≡ true = list_any-from_Any (λ m. eqb j m) first (k, i, lt, at, eq-eqb j i (sym same)) in
         false≢true (sym none ∙ some)
@@ -77,10 +81,10 @@ Contains-in_order first n i lt = elim (cases_Bool (list_any (λ j. eqb i j) firs
   | inl some ↦ (
       let found = Any-from_list_any (λ j. eqb i j) first some in
       let same : i ≡ found.1 = eqb-true i found.1 found.4 in
-      Contains-append_left first (filter (λ k. is_other first k) (range_with_len 0 n)) i (subst (λ (x : ℕ). Contains first x) (sym same) (found.0, found.2, found.3))
+      Contains-append_left first (others_in_order first n) i (subst (λ (x : ℕ). Contains first x) (sym same) (found.0, found.2, found.3))
       )
   | inr none ↦ (
-      Contains-append_right first (filter (λ k. is_other first k) (range_with_len 0 n)) i
+      Contains-append_right first (others_in_order first n) i
       (Contains-filtered (λ k. is_other first k) (range_with_len 0 n) i (not_from_false (list_any (λ j. eqb i j) first) none) (Contains-range_with_len n i lt))
       )
 ]

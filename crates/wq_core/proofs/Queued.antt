@@ -110,7 +110,7 @@ IsRunFrom-queued w (i ∷ is) s below differ none =
 -- ---- how often an item is queued
 
 -- what a test counts
-abbrev one_if : Bool → ℕ
+abbrev pub one_if : Bool → ℕ
 one_if b = cond b 1 0
 
 count_by-queues_none : (i : ℕ) (is : List ℕ) → All (λ j. j ≢ i) is → count_by (λ (step : Step). queues i step) (map Queue is) ≡ 0
