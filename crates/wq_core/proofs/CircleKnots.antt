@@ -1,5 +1,5 @@
 -- Where lanes wait in a circle, items hold one another up.
-use Rattle.std.proofs.Common.{◌≡◌, ◌≢◌, ℕ, zero, suc, ◌<◌, ◌⊎◌, inl, inr, true, eqb, List, [], ◌∷◌, length, get_or, refl, sym, ap, subst, ◌∙◌, arith}
+use Rattle.std.proofs.Common.{◌≡◌, ◌≢◌, ℕ, zero, suc, ◌⊎◌, inl, inr, true, eqb, List, [], ◌∷◌, get_or, refl, sym, ap, subst, ◌∙◌, arith}
 use Rattle.std.specs.Prelude.{AllPairs, Contains}
 use Rattle.std.specs.List.{Any, list_any}
 use Rattle.std.proofs.lemmas.Bool.{cases_Bool, eqb-true, eq-eqb, false≢true}
@@ -31,9 +31,9 @@ module _ (w : Wiring) where
   cases_HasLane is q = elim (cases_Bool (list_any (λ i. eqb (lane_of w i) q) is)) [
     | inl some ↦ (let found = Any-from_list_any (λ i. eqb (lane_of w i) q) is some in inl (found.0, found.1, found.2, found.3, eqb-true (lane_of w found.1) q found.4))
     | inr none ↦ inr (λ has.
-      let some : list_any (λ i. eqb (lane_of w i) q) is ≡ true = list_any-from_Any (λ i. eqb (lane_of w i) q) is (has.0, has.1, has.2, has.3, eq-eqb (lane_of w has.1) q has.4) in
-      false≢true (sym none ∙ some)
-      )
+        let some : list_any (λ i. eqb (lane_of w i) q) is ≡ true = list_any-from_Any (λ i. eqb (lane_of w i) q) is (has.0, has.1, has.2, has.3, eq-eqb (lane_of w has.1) q has.4) in
+        false≢true (sym none ∙ some)
+        )
   ]
 
   -- ---- one item for each lane
@@ -50,22 +50,28 @@ module _ (w : Wiring) where
       let rest = one_each is in
       let ones : List ℕ = rest.0 in
       elim (cases_HasLane ones (lane_of w i)) [
-        | inl has ↦ (ones, record {
-          apart = rest.1.apart;
-          among = λ j there. Contains-tail i is j (rest.1.among j there);
-          lanes = λ q some. elim (HasLane-cases i is q some) [
-            | inl same ↦ subst (λ (p : ℕ). HasLane w ones p) same has
-            | inr later ↦ rest.1.lanes q later
-          ];
-        })
-        | inr new ↦ (i ∷ ones, record {
-          apart = AllPairs-cons (λ a b. lane_of w a ≢ lane_of w b) i ones (λ k d lt same. let there = Contains-get_or ones k d lt in new (there.0, get_or ones k d, there.1, there.2, sym same)) rest.1.apart;
-          among = λ j there. among i is ones rest.1.among j there;
-          lanes = λ q some. elim (HasLane-cases i is q some) [
-            | inl same ↦ HasLane-here i ones q same
-            | inr later ↦ HasLane-later i ones q (rest.1.lanes q later)
-          ];
-        })
+        | inl has ↦ (
+          ones,
+          record {
+            apart = rest.1.apart;
+            among = λ j there. Contains-tail i is j (rest.1.among j there);
+            lanes = λ q some. elim (HasLane-cases i is q some) [
+              | inl same ↦ subst (λ (p : ℕ). HasLane w ones p) same has
+              | inr later ↦ rest.1.lanes q later
+            ];
+          },
+        )
+        | inr new ↦ (
+          i ∷ ones,
+          record {
+            apart = AllPairs-cons (λ a b. lane_of w a ≢ lane_of w b) i ones (λ k d lt same. let there = Contains-get_or ones k d lt in new (there.0, get_or ones k d, there.1, there.2, sym same)) rest.1.apart;
+            among = λ j there. among i is ones rest.1.among j there;
+            lanes = λ q some. elim (HasLane-cases i is q some) [
+              | inl same ↦ HasLane-here i ones q same
+              | inr later ↦ HasLane-later i ones q (rest.1.lanes q later)
+            ];
+          },
+        )
       ]
     where
       among : (i : ℕ) (is ones : List ℕ) → ((j : ℕ) → Contains ones j → Contains is j) → (j : ℕ) → Contains (i ∷ ones) j → Contains (i ∷ is) j
@@ -90,22 +96,26 @@ module _ (w : Wiring) where
 
   items_along : (x v : ℕ) (vs : List ℕ) → IsChain (LaneWaits w) (v ∷ vs) → LaneWaits w (last_of v vs) x → (is : List ℕ) × GoAlong x v is
   items_along x v [] chain closes =
-      let wait = one_wait v x closes in
-      (wait.0 ∷ [], record {
-        begins = HasLane-here wait.0 [] v wait.1;
-        goes = λ i there. subst (λ (j : ℕ). WaitsOrEnds x (wait.0 ∷ []) j) (the_one wait.0 i there) (wait.2.0, wait.2.1, wait.2.2, wait.2.3, inl wait.2.4);
-      })
+      let wait = one_wait v x closes in (
+        wait.0 ∷ [],
+        record {
+          begins = HasLane-here wait.0 [] v wait.1;
+          goes = λ i there. subst (λ (j : ℕ). WaitsOrEnds x (wait.0 ∷ []) j) (the_one wait.0 i there) (wait.2.0, wait.2.1, wait.2.2, wait.2.3, inl wait.2.4);
+        },
+      )
     where
       the_one : (j i : ℕ) → Contains (j ∷ []) i → j ≡ i
       the_one j i (zero, lt, at) = at
       the_one j i (suc k, lt, at) = absurd (omega arith)
   items_along x v (u ∷ us) chain closes =
       let wait = one_wait v u chain.0 in
-      let rest = items_along x u us chain.1 closes in
-      (wait.0 ∷ rest.0, record {
-        begins = HasLane-here wait.0 rest.0 v wait.1;
-        goes = goes wait.0 rest.0 (wait.2.0, wait.2.1, wait.2.2, wait.2.3, inr (HasLane-later wait.0 rest.0 (lane_of w wait.2.1.item) (subst (λ (q : ℕ). HasLane w rest.0 q) (sym wait.2.4) rest.1.begins))) rest.1.goes;
-      })
+      let rest = items_along x u us chain.1 closes in (
+        wait.0 ∷ rest.0,
+        record {
+          begins = HasLane-here wait.0 rest.0 v wait.1;
+          goes = goes wait.0 rest.0 (wait.2.0, wait.2.1, wait.2.2, wait.2.3, inr (HasLane-later wait.0 rest.0 (lane_of w wait.2.1.item) (subst (λ (q : ℕ). HasLane w rest.0 q) (sym wait.2.4) rest.1.begins))) rest.1.goes;
+        },
+      )
     where
       goes : (j : ℕ) (is : List ℕ) → WaitsOrEnds x (j ∷ is) j → ((i : ℕ) → Contains is i → WaitsOrEnds x is i) → (i : ℕ) → Contains (j ∷ is) i → WaitsOrEnds x (j ∷ is) i
       goes j is first rest i (zero, lt, at) = subst (λ (h : ℕ). WaitsOrEnds x (j ∷ is) h) at first
@@ -117,20 +127,27 @@ module _ (w : Wiring) where
   IsKnot-circle c =
       let along = items_along c.first c.first c.others c.chain c.closes in
       let ones = one_each along.0 in
-      let some = ones.1.lanes c.first along.1.begins in
-      (ones.0, record {
-        some = omega (arith, some.2);
-        apart = ones.1.apart;
-        held = λ k d lt. among_ones along.0 ones.0 ones.1 along.1 (get_or ones.0 k d) (Contains-get_or ones.0 k d lt);
-      })
+      let some = ones.1.lanes c.first along.1.begins in (
+        ones.0,
+        record {
+          some = omega (arith, some.2);
+          apart = ones.1.apart;
+          held = λ k d lt. among_ones along.0 ones.0 ones.1 along.1 (get_or ones.0 k d) (Contains-get_or ones.0 k d lt);
+        },
+      )
     where
       among_ones : (is ones : List ℕ) → IsOneEach is ones → GoAlong c.first c.first is → (i : ℕ) → Contains ones i → WaitsAmong w ones i
       among_ones is ones each along i there =
-          let goes = along.goes i (each.among i there) in
-          (goes.0, goes.1, goes.2, goes.3, elim goes.4 [
-            | inl ends ↦ each.lanes (lane_of w goes.1.item) (subst (λ (q : ℕ). HasLane w is q) (sym ends) along.begins)
-            | inr has ↦ each.lanes (lane_of w goes.1.item) has
-          ])
+          let goes = along.goes i (each.among i there) in (
+            goes.0,
+            goes.1,
+            goes.2,
+            goes.3,
+            elim goes.4 [
+              | inl ends ↦ each.lanes (lane_of w goes.1.item) (subst (λ (q : ℕ). HasLane w is q) (sym ends) along.begins)
+              | inr has ↦ each.lanes (lane_of w goes.1.item) has
+            ],
+          )
 
 pub Deadlocks-circle : (w : Wiring) → IsWiring w → Circle (LaneWaits w) → Deadlocks w
 Deadlocks-circle w wiring circle = let knot = IsKnot-circle w circle in Deadlocks-knot w knot.0 wiring knot.1

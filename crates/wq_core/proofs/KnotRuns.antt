@@ -1,8 +1,8 @@
 -- A played run that queues the items of a knot first ends stuck.
-use Rattle.std.proofs.Common.{◌≡◌, ◌≢◌, ℕ, zero, suc, ◌+◌, ◌<◌, inl, inr, cond, not, eqb, List, [], ◌∷◌, ◌++◌, length, map, get_or, Option, Some, None, refl, sym, ap, subst, ◌∙◌, arith}
-use Rattle.std.specs.Prelude.{AllPairs, Contains, slice_get, option_map}
-use Rattle.std.specs.List.{All, filter, list_any, range_with_len}
-use Rattle.std.proofs.lemmas.Bool.{cases_lt, cond-true, eq-eqb}
+use Rattle.std.proofs.Common.{◌≡◌, ◌≢◌, ℕ, zero, suc, ◌<◌, inl, inr, eqb, List, [], ◌∷◌, ◌++◌, length, map, get_or, Some, None, refl, sym, ap, subst, ◌∙◌, arith}
+use Rattle.std.specs.Prelude.{AllPairs, Contains, slice_get}
+use Rattle.std.specs.List.{All}
+use Rattle.std.proofs.lemmas.Bool.{cases_lt, eq-eqb}
 use Rattle.std.proofs.lemmas.List.{get_or_past, length-replicate}
 use Rattle.std.proofs.lemmas.List.Elements.{All-append, All-contains, All-weaker, Contains-get_or}
 use Rattle.std.proofs.lemmas.List.Sums.{sum_by-append}
@@ -11,16 +11,15 @@ use Rattle.wq_items.specs.declared.target.Target.{Target}
 use Rattle.wq_items.proofs.Tables.{targets_of-below}
 use Rattle.wq_core.specs.declared.entry.Entry.{Entry}
 use Rattle.wq_core.specs.declared.step.Step.{Step}
-use Rattle.wq_core.specs.declared.step.Step.TheVariants.{Queue}
 use Rattle.wq_core.specs.Wiring.{Wiring, IsWiring, items, lane_of, declared_by}
-use Rattle.wq_core.specs.State.{Lane, State, idle_lane, lane_at, empty_state, HasPending, IsPendingOn, IsUnfinishedOn}
+use Rattle.wq_core.specs.State.{Lane, State, idle_lane, lane_at, empty_state, HasPending, IsUnfinishedOn}
 use Rattle.wq_core.specs.Rules.{MayStart, effect}
-use Rattle.wq_core.specs.Runs.{after, end_of, IsRun, IsRunFrom, IsCancel, IsOnce, AsDeclaredFrom, queues}
+use Rattle.wq_core.specs.Runs.{after, end_of, IsRun, IsCancel, IsOnce, queues}
 use Rattle.wq_core.specs.Held.{IsSoundState}
 use Rattle.wq_core.specs.Deadlock.{IsStuck, DeadlocksBy, Deadlocks}
 use Rattle.wq_core.specs.Played.{IsPlayedFrom, queue_order}
 use Rattle.wq_core.specs.Knot.{HasLane, WaitsAmong, IsKnot}
-use Rattle.wq_core.proofs.Knots.{IsHeldUp, AreHeldUp, AreHeldUp-effect}
+use Rattle.wq_core.proofs.Knots.{AreHeldUp, AreHeldUp-effect}
 use Rattle.wq_core.proofs.LaneLemmas.{lane_at-empty_state, idle_lane-unfinished}
 use Rattle.wq_core.proofs.Plays.{after-append, IsRunFrom-append, AsDeclaredFrom-append, AsDeclaredFrom-queued, no_cancel-queued, IsRunFrom-played, AsDeclaredFrom-played, no_cancel-played, count_by-queues_played, no_step-played}
 use Rattle.wq_core.proofs.Playing.{IsPlayedFrom-exists}

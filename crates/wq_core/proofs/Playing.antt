@@ -1,6 +1,6 @@
 -- From every state that a run leaves, a run can be played to its end.
-use Rattle.std.proofs.Common.{◌≡◌, ℕ, zero, suc, ◌<◌, ◌≤◌, ◌⊎◌, inl, inr, ◌↔◌, Bool, true, false, List, [], ◌∷◌, length, Option, Some, None, refl, sym, ap, subst, ◌∙◌, arith}
-use Rattle.std.specs.Prelude.{IsTrue, ◌||◌, Contains, slice_get}
+use Rattle.std.proofs.Common.{◌≡◌, ℕ, zero, suc, ◌<◌, ◌⊎◌, inl, inr, ◌↔◌, Bool, true, false, List, [], ◌∷◌, length, Option, Some, None, refl, sym, ap, subst, ◌∙◌, arith}
+use Rattle.std.specs.Prelude.{IsTrue, ◌||◌, slice_get}
 use Rattle.std.specs.List.{list_any}
 use Rattle.std.proofs.lemmas.Bool.{cases_lt, false≢true}
 use Rattle.wq_core.specs.declared.entry.Entry.{Entry}
@@ -99,21 +99,27 @@ cases_move w s q sound = by_running (lane_at s q).running refl
     by_pending : (lane_at s q).running ≡ None → (es : List Entry) → (lane_at s q).pending ≡ es → ((step : Step) × IsDeclaredStep w s q step) ⊎ CannotMove w s q
     by_pending idle [] is = inr (CannotMove-idle w s q idle is)
     by_pending idle (e ∷ es) is =
-        inl (Start q e.item, record {
-          of_lane = refl;
-          lawful = record { idle = idle; entry = e; first = ap (λ (xs : List Entry). slice_get xs 0) is; of_item = refl };
-          in_order = tt;
-        })
+        inl (
+          Start q e.item,
+          record {
+            of_lane = refl;
+            lawful = record { idle = idle; entry = e; first = ap (λ (xs : List Entry). slice_get xs 0) is; of_item = refl };
+            in_order = tt;
+          },
+        )
 
     by_waiting : (r : Running) → Runs (lane_at s q) r → (o : Option Flush) → r.waiting ≡ o → ((step : Step) × IsDeclaredStep w s q step) ⊎ CannotMove w s q
     by_waiting r runs None waits = inl (awake_moves w s q r sound runs waits)
     by_waiting r runs (Some f) waits = elim (cases_below s f.target f.mark) [
       | inl left ↦ inr (CannotMove-waiting w s q r f runs waits left)
-      | inr done ↦ inl (Over q f.target, record {
-        of_lane = refl;
-        lawful = (r, runs, record { flush = f; waits = waits; target = refl; done = done });
-        in_order = tt;
-      })
+      | inr done ↦ inl (
+        Over q f.target,
+        record {
+          of_lane = refl;
+          lawful = (r, runs, record { flush = f; waits = waits; target = refl; done = done });
+          in_order = tt;
+        },
+      )
     ]
 
     by_running : (o : Option Running) → (lane_at s q).running ≡ o → ((step : Step) × IsDeclaredStep w s q step) ⊎ CannotMove w s q

@@ -1,12 +1,10 @@
 -- Played runs: they are runs, they flush as declared, and no rescuer can move at their end.
-use Rattle.std.proofs.Common.{◌≡◌, ℕ, zero, suc, ◌+◌, ◌<◌, ◌≤◌, inl, inr, cond, List, [], ◌∷◌, ◌++◌, length, map, Some, None, refl, ap, ◌∙◌, arith}
+use Rattle.std.proofs.Common.{◌≡◌, ℕ, zero, suc, ◌<◌, ◌≤◌, inl, inr, List, [], ◌∷◌, ◌++◌, length, map, Some, None, refl, arith}
 use Rattle.std.specs.Prelude.{slice_get}
 use Rattle.std.specs.List.{All, Any, count_by}
 use Rattle.std.proofs.lemmas.Bool.{cases_lt}
 use Rattle.std.proofs.lemmas.List.Elements.{All-nil, All-cons}
 use Rattle.std.proofs.lemmas.List.Sums.{sum_by-cons}
-use Rattle.std.proofs.lemmas.Option.{slice_get_within}
-use Rattle.wq_items.specs.Table.{ItemWaits}
 use Rattle.wq_items.specs.declared.target.Target.{Target}
 use Rattle.wq_core.specs.declared.entry.Running.{Running}
 use Rattle.wq_core.specs.declared.step.Step.{Step}
@@ -107,12 +105,14 @@ next_target (t ∷ ts) (suc k) lt = let next = next_target ts k (omega arith) in
 pub awake_moves : (w : Wiring) (s : State) (q : ℕ) (r : Running) → IsSoundState w s → Runs (lane_at s q) r → r.waiting ≡ None → (step : Step) × IsDeclaredStep w s q step
 awake_moves w s q r sound runs awake = elim (cases_lt r.made (length (declared_by w r.entry.item))) [
   | inl before ↦ (
-      let next = next_target (declared_by w r.entry.item) r.made before in
-      (Wait q next.0.item, record {
-        of_lane = refl;
-        lawful = (r, runs, record { awake = awake; declared = next.2; fewer = before });
-        in_order = (r, runs, (next.0, next.1, refl));
-      })
+      let next = next_target (declared_by w r.entry.item) r.made before in (
+        Wait q next.0.item,
+        record {
+          of_lane = refl;
+          lawful = (r, runs, record { awake = awake; declared = next.2; fewer = before });
+          in_order = (r, runs, (next.0, next.1, refl));
+        },
+      )
       )
   | inr past ↦ (
       let most : r.made ≤ length (declared_by w r.entry.item) = (sound.running q r runs).made in
