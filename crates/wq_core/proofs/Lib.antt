@@ -5,6 +5,7 @@ pub mod Knots
 pub mod KnotRuns
 pub mod LaneCircles
 pub mod LaneLemmas
+pub mod Least
 pub mod Machines
 pub mod Parts
 pub mod Queued
