@@ -19,7 +19,7 @@ use Rattle.wq_core.specs.Held.{IsSoundState}
 use Rattle.wq_core.specs.Deadlock.{IsStuck, DeadlocksBy, Deadlocks}
 use Rattle.wq_core.specs.Played.{IsPlayedFrom, queue_order}
 use Rattle.wq_core.specs.Knot.{HasLane, WaitsAmong, IsKnot}
-use Rattle.wq_core.proofs.Knots.{AreHeldUp, AreHeldUp-effect}
+use Rattle.wq_core.proofs.Knots.{AreMembers, AreHeldUp, AreHeldUp-effect}
 use Rattle.wq_core.proofs.LaneLemmas.{lane_at-empty_state, idle_lane-unfinished}
 use Rattle.wq_core.proofs.Plays.{after-append, IsRunFrom-append, AsDeclaredFrom-append, AsDeclaredFrom-queued, no_cancel-queued, IsRunFrom-played, AsDeclaredFrom-played, no_cancel-played, count_by-queues_played, no_step-played}
 use Rattle.wq_core.proofs.Playing.{IsPlayedFrom-exists}
@@ -76,20 +76,18 @@ module _ (w : Wiring) (knot : List ℕ) (wiring : IsWiring w) (is : IsKnot w kno
       let waits = waits_among m there in
       (waits.0, waits.1, (there, slice_get_read (declared_by w m) (length (declared_by w m)) waits.0 waits.1 refl waits.2 (sym waits.3), waits.4))
 
-  declares : (m place : ℕ) (t : Target) → Member m place t → slice_get (declared_by w m) place ≡ Some t
-  declares m place t member = member.1
-
-  among : (m place : ℕ) (t : Target) → Member m place t → (k p : ℕ) × (u : Target) × Member k p u × (lane_of w t.item ≡ lane_of w k)
-  among m place t member =
-      let has = member.2 in
-      let other = Member-from has.1 (has.0, has.2, has.3) in
-      (has.1, other.0, other.1, other.2, sym has.4)
-
-  below : (m place : ℕ) (t : Target) → Member m place t → t.item < items w
-  below m place t member =
-      let targets : List Target = declared_by w m in
-      let each = targets_of-below (items w) w.waits m wiring.targets_are_items place t (slice_get_within targets place t member.1) in
-      subst (λ (u : Target). u.item < items w) (get_or_from_slice_get targets place t t member.1) each
+  members : AreMembers w Member
+  members = record {
+    declares = λ m place t member. member.1;
+    among = λ m place t member.
+        let has = member.2 in
+        let other = Member-from has.1 (has.0, has.2, has.3) in
+        (has.1, other.0, other.1, other.2, sym has.4);
+    below = λ m place t member.
+        let targets : List Target = declared_by w m in
+        let each = targets_of-below (items w) w.waits m wiring.targets_are_items place t (slice_get_within targets place t member.1) in
+        subst (λ (u : Target). u.item < items w) (get_or_from_slice_get targets place t t member.1) each;
+  }
 
   -- ---- after the queueings
 
@@ -131,7 +129,7 @@ module _ (w : Wiring) (knot : List ℕ) (wiring : IsWiring w) (is : IsKnot w kno
       let found = first_entry (lane_at start (lane_of w m)).pending m (ap (λ (js : List ℕ). slice_get js 0) (pending_at_start (lane_of w m)) ∙ first) in
       record { idle = none_runs (lane_of w m); entry = found.0; first = found.1; of_item = found.2 }
 
-  held_at_start : AreHeldUp w Member declares among below start
+  held_at_start : AreHeldUp w Member start
   held_at_start m place t member = record {
     unfinished = λ j lt same. unfinished_at_start j (lane_of w m) lt same;
     turn = inl (starts_next m member.0);
@@ -139,10 +137,10 @@ module _ (w : Wiring) (knot : List ℕ) (wiring : IsWiring w) (is : IsKnot w kno
 
   -- ---- while it is played
 
-  held_on : (s : State) (more : List Step) → AreHeldUp w Member declares among below s → IsPlayedFrom w s more → AreHeldUp w Member declares among below (after w s more)
+  held_on : (s : State) (more : List Step) → AreHeldUp w Member s → IsPlayedFrom w s more → AreHeldUp w Member (after w s more)
   held_on s [] held played = held
   held_on s (step ∷ more) held played =
-      held_on (effect w s step) more (AreHeldUp-effect w Member declares among below s played.0.0 step held played.0.1) played.1
+      held_on (effect w s step) more (AreHeldUp-effect w Member members s played.0.0 step held played.0.1) played.1
 
   -- ---- the run
 

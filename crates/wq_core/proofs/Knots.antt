@@ -122,65 +122,66 @@ module _ (w : Wiring) (n m place : ℕ) (t : Target) (lane : Lane) (held : IsHel
 
 -- ---- states
 
--- members m with a place each, at which m declares a flush of t, which stands on the lane of a member
-module _ (w : Wiring) (Member : ℕ → ℕ → Target → Type 0)
-    (declares : (m place : ℕ) (t : Target) → Member m place t → slice_get (declared_by w m) place ≡ Some t)
-    (among : (m place : ℕ) (t : Target) → Member m place t → (k p : ℕ) × (u : Target) × Member k p u × (lane_of w t.item ≡ lane_of w k))
-    (below : (m place : ℕ) (t : Target) → Member m place t → t.item < items w)
-  where
-    -- the lanes of all members are held up
-    abbrev pub AreHeldUp : State → Type 0
-    AreHeldUp s = (m place : ℕ) (t : Target) → Member m place t → IsHeldUp w s.next m place t (lane_at s (lane_of w m))
+-- members m, each with a place at which it declares a flush of t, which is an item on the lane of a member
+pub record AreMembers (w : Wiring) (Member : ℕ → ℕ → Target → Type 0) : Type 0 where
+  pub declares : (m place : ℕ) (t : Target) → Member m place t → slice_get (declared_by w m) place ≡ Some t
+  pub among : (m place : ℕ) (t : Target) → Member m place t → (k p : ℕ) × (u : Target) × Member k p u × (lane_of w t.item ≡ lane_of w k)
+  pub below : (m place : ℕ) (t : Target) → Member m place t → t.item < items w
 
-    AreHeldUp-with_lane : (s : State) (q : ℕ) (lane : Lane) → AreHeldUp s
-        → ((m place : ℕ) (t : Target) → Member m place t → IsHeldUp w s.next m place t (lane_at s q) → IsHeldUp w s.next m place t lane) → AreHeldUp (with_lane s q lane)
-    AreHeldUp-with_lane s q lane held keeps m place t member = elim (cases_with_lane s q lane (lane_of w m)) [
-      | inl same ↦ subst (IsHeldUp w s.next m place t) (sym same) (held m place t member)
-      | inr there ↦ (
-          let before : IsHeldUp w s.next m place t (lane_at s q) = subst (λ (p : ℕ). IsHeldUp w s.next m place t (lane_at s p)) there.0 (held m place t member) in
-          subst (IsHeldUp w s.next m place t) (sym there.1) (keeps m place t member before)
-          )
-    ]
+-- the lanes of all members are held up
+abbrev pub AreHeldUp : Wiring → (ℕ → ℕ → Target → Type 0) → State → Type 0
+AreHeldUp w Member s = (m place : ℕ) (t : Target) → Member m place t → IsHeldUp w s.next m place t (lane_at s (lane_of w m))
 
-    -- the target of a member's wait is unfinished
-    target_left : (s : State) → AreHeldUp s → (m place : ℕ) (t : Target) → Member m place t → (r : Running) → IsInWait place t s.next r
-        → (b : ℕ) → MayGoOn s b r → ⊥
-    target_left s held m place t member r wait b may =
-        let other = among m place t member in
-        let left = (held other.0 other.1 other.2 other.3).unfinished t.item (below m place t member) other.4 in
-        let both : Some wait.flush ≡ Some may.flush = sym wait.waits ∙ may.waits in
-        let same : wait.flush ≡ may.flush = cc in
-        let item : left.0.item ≡ b = left.2 ∙ sym wait.target ∙ ap (λ (f : Flush). f.target) same ∙ may.target in
-        let mark : wait.flush.mark ≡ may.flush.mark = ap (λ (f : Flush). f.mark) same in
-        let least : s.next ≤ wait.flush.mark = wait.mark in
-        let given : left.0.number < s.next = left.3 in
-        may.done (record { lane = lane_of w other.0; entry = left.0; unfinished = left.1; of_item = item; below = omega arith })
-
-    pub AreHeldUp-effect : (s : State) (q : ℕ) (step : Step) → AreHeldUp s → IsDeclaredStep w s q step → AreHeldUp (effect w s step)
-    AreHeldUp-effect s q (Queue i) held is = absurd is.of_lane
-    AreHeldUp-effect s q (Cancel i) held is = absurd is.of_lane
-    AreHeldUp-effect s q (Start p i) held is =
-        AreHeldUp-with_lane s p (with_started (lane_at s p)) held (λ m place t member here. IsHeldUp-started w s.next m place t (lane_at s p) here i is.lawful)
-    AreHeldUp-effect s q (Wait p b) held is = waiting is.lawful.0 is.lawful.1 is.lawful.2 is.in_order.0 is.in_order.1 is.in_order.2
-      where
-        waiting : (r : Running) → Runs (lane_at s p) r → MayWait w b r → (x : Running) → Runs (lane_at s p) x → ((u : Target) × (slice_get (declared_by w x.entry.item) x.made ≡ Some u) × (u.item ≡ b))
-            → AreHeldUp (effect w s (Wait p b))
-        waiting r runs may x other next =
-            let in_turn : (u : Target) × (slice_get (declared_by w r.entry.item) r.made ≡ Some u) × (u.item ≡ b) =
-            subst (λ (y : Running). (u : Target) × (slice_get (declared_by w y.entry.item) y.made ≡ Some u) × (u.item ≡ b)) (same_running (lane_at s p) x r other runs) next in
-            AreHeldUp-with_lane s p (with_wait b s.next (lane_at s p)) held (λ m place t member here.
-            IsHeldUp-waiting w s.next m place t (lane_at s p) here b r runs may in_turn.0 in_turn.1 in_turn.2 (declares m place t member)
-            )
-    AreHeldUp-effect s q (Over p b) held is =
-        AreHeldUp-with_lane s p (with_wait_over (lane_at s p)) held (λ m place t member here.
-        IsHeldUp-wait_over w s.next m place t (lane_at s p) here is.lawful.0 is.lawful.1 (λ wait. target_left s held m place t member is.lawful.0 wait b is.lawful.2)
+module _ (w : Wiring) (Member : ℕ → ℕ → Target → Type 0) (members : AreMembers w Member) where
+  AreHeldUp-with_lane : (s : State) (q : ℕ) (lane : Lane) → AreHeldUp w Member s
+      → ((m place : ℕ) (t : Target) → Member m place t → IsHeldUp w s.next m place t (lane_at s q) → IsHeldUp w s.next m place t lane) → AreHeldUp w Member (with_lane s q lane)
+  AreHeldUp-with_lane s q lane held keeps m place t member = elim (cases_with_lane s q lane (lane_of w m)) [
+    | inl same ↦ subst (IsHeldUp w s.next m place t) (sym same) (held m place t member)
+    | inr there ↦ (
+        let before : IsHeldUp w s.next m place t (lane_at s q) = subst (λ (p : ℕ). IsHeldUp w s.next m place t (lane_at s p)) there.0 (held m place t member) in
+        subst (IsHeldUp w s.next m place t) (sym there.1) (keeps m place t member before)
         )
-    AreHeldUp-effect s q (Finish p i) held is = finishing is.lawful.0 is.lawful.1 is.lawful.2 is.in_order.0 is.in_order.1 is.in_order.2
-      where
-        finishing : (r : Running) → Runs (lane_at s p) r → MayFinish i r → (x : Running) → Runs (lane_at s p) x → x.made ≡ length (declared_by w x.entry.item)
-            → AreHeldUp (effect w s (Finish p i))
-        finishing r runs may x other all =
-            let made : r.made ≡ length (declared_by w r.entry.item) = subst (λ (y : Running). y.made ≡ length (declared_by w y.entry.item)) (same_running (lane_at s p) x r other runs) all in
-            AreHeldUp-with_lane s p (with_finished (lane_at s p)) held (λ m place t member here.
-            absurd (IsHeldUp-finished w s.next m place t (lane_at s p) here r runs may.awake made (declares m place t member))
-            )
+  ]
+
+  -- the target of a member's wait is unfinished
+  target_left : (s : State) → AreHeldUp w Member s → (m place : ℕ) (t : Target) → Member m place t → (r : Running) → IsInWait place t s.next r
+      → (b : ℕ) → MayGoOn s b r → ⊥
+  target_left s held m place t member r wait b may =
+      let other = members.among m place t member in
+      let left = (held other.0 other.1 other.2 other.3).unfinished t.item (members.below m place t member) other.4 in
+      let both : Some wait.flush ≡ Some may.flush = sym wait.waits ∙ may.waits in
+      let same : wait.flush ≡ may.flush = cc in
+      let item : left.0.item ≡ b = left.2 ∙ sym wait.target ∙ ap (λ (f : Flush). f.target) same ∙ may.target in
+      let mark : wait.flush.mark ≡ may.flush.mark = ap (λ (f : Flush). f.mark) same in
+      let least : s.next ≤ wait.flush.mark = wait.mark in
+      let given : left.0.number < s.next = left.3 in
+      may.done (record { lane = lane_of w other.0; entry = left.0; unfinished = left.1; of_item = item; below = omega arith })
+
+  pub AreHeldUp-effect : (s : State) (q : ℕ) (step : Step) → AreHeldUp w Member s → IsDeclaredStep w s q step → AreHeldUp w Member (effect w s step)
+  AreHeldUp-effect s q (Queue i) held is = absurd is.of_lane
+  AreHeldUp-effect s q (Cancel i) held is = absurd is.of_lane
+  AreHeldUp-effect s q (Start p i) held is =
+      AreHeldUp-with_lane s p (with_started (lane_at s p)) held (λ m place t member here. IsHeldUp-started w s.next m place t (lane_at s p) here i is.lawful)
+  AreHeldUp-effect s q (Wait p b) held is = waiting is.lawful.0 is.lawful.1 is.lawful.2 is.in_order.0 is.in_order.1 is.in_order.2
+    where
+      waiting : (r : Running) → Runs (lane_at s p) r → MayWait w b r → (x : Running) → Runs (lane_at s p) x → ((u : Target) × (slice_get (declared_by w x.entry.item) x.made ≡ Some u) × (u.item ≡ b))
+          → AreHeldUp w Member (effect w s (Wait p b))
+      waiting r runs may x other next =
+          let in_turn : (u : Target) × (slice_get (declared_by w r.entry.item) r.made ≡ Some u) × (u.item ≡ b) =
+          subst (λ (y : Running). (u : Target) × (slice_get (declared_by w y.entry.item) y.made ≡ Some u) × (u.item ≡ b)) (same_running (lane_at s p) x r other runs) next in
+          AreHeldUp-with_lane s p (with_wait b s.next (lane_at s p)) held (λ m place t member here.
+          IsHeldUp-waiting w s.next m place t (lane_at s p) here b r runs may in_turn.0 in_turn.1 in_turn.2 (members.declares m place t member)
+          )
+  AreHeldUp-effect s q (Over p b) held is =
+      AreHeldUp-with_lane s p (with_wait_over (lane_at s p)) held (λ m place t member here.
+      IsHeldUp-wait_over w s.next m place t (lane_at s p) here is.lawful.0 is.lawful.1 (λ wait. target_left s held m place t member is.lawful.0 wait b is.lawful.2)
+      )
+  AreHeldUp-effect s q (Finish p i) held is = finishing is.lawful.0 is.lawful.1 is.lawful.2 is.in_order.0 is.in_order.1 is.in_order.2
+    where
+      finishing : (r : Running) → Runs (lane_at s p) r → MayFinish i r → (x : Running) → Runs (lane_at s p) x → x.made ≡ length (declared_by w x.entry.item)
+          → AreHeldUp w Member (effect w s (Finish p i))
+      finishing r runs may x other all =
+          let made : r.made ≡ length (declared_by w r.entry.item) = subst (λ (y : Running). y.made ≡ length (declared_by w y.entry.item)) (same_running (lane_at s p) x r other runs) all in
+          AreHeldUp-with_lane s p (with_finished (lane_at s p)) held (λ m place t member here.
+          absurd (IsHeldUp-finished w s.next m place t (lane_at s p) here r runs may.awake made (members.declares m place t member))
+          )
