@@ -181,7 +181,7 @@ IsSoundLane-finished w next q lane sound = IsSoundLane-less w next q lane (with_
   | inr (x, runs, same) ↦ absurd cc
 ]) sound.once (λ x runs. absurd cc)
 
-same_running : (lane : Lane) (r x : Running) → Runs lane r → Runs lane x → r ≡ x
+pub same_running : (lane : Lane) (r x : Running) → Runs lane r → Runs lane x → r ≡ x
 same_running lane r x one other = let both : Some r ≡ Some x = sym one ∙ other in cc
 
 IsSoundRunning-wait : (w : Wiring) (b mark : ℕ) (r : Running) → MayWait w b r

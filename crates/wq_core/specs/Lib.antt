@@ -10,4 +10,5 @@ pub mod Played
 pub mod Work
 pub mod Held
 pub mod Building
+pub mod Knot
 pub mod Lending

@@ -2,19 +2,20 @@
 //!
 //! They are said of wirings, runs and states alone, whatever code makes the steps.
 
-ghost use Rattle.std.specs.Prelude.{◌≡◌, ℕ, ◌<◌, ◌≤◌, ◌⊎◌, List, length};
+ghost use Rattle.std.specs.Prelude.{◌≡◌, ℕ, ◌<◌, ◌≤◌, ◌⊎◌, List, ◌++◌, length};
 ghost use Rattle.std.specs.List.{All, count_by};
 ghost use Rattle.wq_items.specs.Chain.{IsChain, Circle};
 ghost use Rattle.wq_items.specs.Table.{ItemWaits};
-ghost use Rattle.wq_groups.specs.Declaration.{Declaration, GroupWaits};
-ghost use Rattle.wq_groups.specs.Assignment.{Assignment, IsAssignment};
+ghost use Rattle.wq_groups.specs.Declaration.{Declaration, IsDeclaration, GroupWaits};
+ghost use Rattle.wq_groups.specs.Assignment.{Assignment, IsAssignment, lane_of as lane_of_group};
 ghost use Rattle.wq_core.specs.declared.step.Step.{Step};
-ghost use Rattle.wq_core.specs.Wiring.{Wiring, LaneWaits, wiring, lane_of};
+ghost use Rattle.wq_core.specs.Wiring.{Wiring, IsWiring, LaneWaits, wiring, lane_of};
 ghost use Rattle.wq_core.specs.State.{State, HasUnfinished};
 ghost use Rattle.wq_core.specs.Rules.{Lawful};
 ghost use Rattle.wq_core.specs.Runs.{IsRun, IsRunFrom, end_of, IsRescuerStep, IsCancel};
-ghost use Rattle.wq_core.specs.Deadlock.{IsSafe};
-ghost use Rattle.wq_core.specs.Played.{CanMove, IsDeclaredStep};
+ghost use Rattle.wq_core.specs.Deadlock.{IsSafe, DeadlocksBy, Deadlocks, IsLeast};
+ghost use Rattle.wq_core.specs.Played.{CanMove, IsDeclaredStep, IsPlayedFrom, queue_order};
+ghost use Rattle.wq_core.specs.Knot.{IsKnot};
 ghost use Rattle.wq_core.specs.Work.{is_rescuer_step, work_left};
 
 /// Where nothing more is queued, the rescuers make at most as many steps as there is work left, whatever the order and
@@ -56,4 +57,29 @@ pub fn lanes_come_to_wait_in_a_circle()
         IsChain (GroupWaits d) groups → All (λ g. g < d.groups) groups → a.lanes < length groups →
         Circle (LaneWaits (wiring d a)) }
     ensures of_a_circle { (d : Declaration) (a : Assignment) → Circle (GroupWaits d) → Circle (LaneWaits (wiring d a)) }
+{}
+
+/// Where items hold one another up, the run that queues them before all others, and is then played to its end, deadlocks.
+pub fn a_knot_deadlocks()
+    ensures { (w : Wiring) (knot : List ℕ) (steps : List Step) → IsWiring w → IsKnot w knot →
+        IsPlayedFrom w (end_of w (queue_order w knot)) steps → DeadlocksBy w (queue_order w knot ++ steps) }
+{}
+
+/// Lanes that wait in a circle deadlock.
+pub fn lanes_that_wait_in_a_circle_deadlock()
+    ensures { (w : Wiring) → IsWiring w → Circle (LaneWaits w) → Deadlocks w }
+{}
+
+/// Where groups wait for one another in a chain of as many as there are lanes, an assignment whose lanes fall along all
+/// that groups wait for is least.
+pub fn a_chain_as_long_shows_the_least()
+    ensures { (d : Declaration) (a : Assignment) (groups : List ℕ) → IsDeclaration d → IsAssignment d.groups a →
+        ((g h : ℕ) → GroupWaits d g h → lane_of_group a h < lane_of_group a g) →
+        IsChain (GroupWaits d) groups → All (λ g. g < d.groups) groups → length groups ≡ a.lanes → IsLeast d a }
+{}
+
+/// Where groups wait in a circle, every assignment deadlocks.
+pub fn groups_that_wait_in_a_circle_deadlock()
+    ensures { (d : Declaration) (a : Assignment) → IsDeclaration d → IsAssignment d.groups a →
+        Circle (GroupWaits d) → Deadlocks (wiring d a) }
 {}

@@ -1,0 +1,187 @@
+-- Of items that hold one another up nothing is ever finished, while their lanes flush as declared.
+use Rattle.std.proofs.Common.{◌≡◌, ℕ, zero, suc, ◌+◌, ◌<◌, ◌≤◌, ◌⊎◌, inl, inr, List, [], ◌∷◌, length, Option, Some, None, refl, sym, ap, subst, ◌∙◌, arith}
+use Rattle.std.specs.Prelude.{Contains, slice_get, option_map}
+use Rattle.std.proofs.lemmas.Bool.{cases_lt}
+use Rattle.std.proofs.lemmas.Option.{slice_get_within}
+use Rattle.wq_items.specs.declared.target.Target.{Target}
+use Rattle.wq_core.specs.declared.entry.Entry.{Entry}
+use Rattle.wq_core.specs.declared.entry.Flush.{Flush}
+use Rattle.wq_core.specs.declared.entry.Running.{Running}
+use Rattle.wq_core.specs.declared.step.Step.{Step}
+use Rattle.wq_core.specs.declared.step.Step.TheVariants.{Queue, Cancel, Start, Wait, Over, Finish}
+use Rattle.wq_core.specs.Wiring.{Wiring, items, lane_of, declared_by}
+use Rattle.wq_core.specs.State.{Lane, State, lane_at, with_lane, Runs, IsUnfinishedOn}
+use Rattle.wq_core.specs.Rules.{MayWait, MayGoOn, MayStart, MayFinish, with_started, with_wait, with_wait_over, with_finished, effect}
+use Rattle.wq_core.specs.Played.{IsDeclaredStep}
+use Rattle.wq_core.proofs.LaneLemmas.{cases_with_lane}
+use Rattle.wq_core.proofs.Sound.{same_running}
+
+-- ---- what stays unfinished on a lane
+
+unfinished-started : (lane : Lane) (i : ℕ) (e : Entry) → MayStart lane i → IsUnfinishedOn lane e → IsUnfinishedOn (with_started lane) e
+unfinished-started lane i e may (inl pending) = started lane.pending may.entry may.first pending
+  where
+    started : (ps : List Entry) (first : Entry) → slice_get ps 0 ≡ Some first → Contains ps e → IsUnfinishedOn (with_started (record { pending = ps; running = lane.running })) e
+    started [] first is (k, lt, at) = absurd (omega arith)
+    started (p ∷ ps) first is (zero, lt, at) = inr (record { entry = p; made = 0; waiting = None }, refl, at)
+    started (p ∷ ps) first is (suc k, lt, at) = inl (k, omega arith, at)
+unfinished-started lane i e may (inr (r, runs, same)) = absurd (let never : None ≡ Some r = sym may.idle ∙ runs in cc)
+
+unfinished-going_on : (lane : Lane) (f : Running → Running) (e : Entry) → ((r : Running) → (f r).entry ≡ r.entry) → IsUnfinishedOn lane e
+    → IsUnfinishedOn (record lane { running = option_map f lane.running }) e
+unfinished-going_on lane f e keeps (inl pending) = inl pending
+unfinished-going_on lane f e keeps (inr (r, runs, same)) = inr (f r, ap (λ (o : Option Running). option_map f o) runs, keeps r ∙ same)
+
+-- ---- one lane
+
+-- the running entry is in its wait for t, which it began as the one after `place` others, with n or more for a mark
+pub record IsInWait (place : ℕ) (t : Target) (n : ℕ) (r : Running) : Type 0 where
+  pub made : r.made ≡ place + 1
+  pub flush : Flush
+  pub waits : r.waiting ≡ Some flush
+  pub target : flush.target ≡ t.item
+  pub mark : n ≤ flush.mark
+
+-- of the lane of item m: each of its items has an unfinished entry with a number below n, and m is the next one to start,
+-- or runs and isn't past the wait at `place`, which is for t
+pub record IsHeldUp (w : Wiring) (n m place : ℕ) (t : Target) (lane : Lane) : Type 0 where
+  pub unfinished : (j : ℕ) → j < items w → lane_of w j ≡ lane_of w m → (e : Entry) × IsUnfinishedOn lane e × (e.item ≡ j) × (e.number < n)
+  pub turn : MayStart lane m ⊎ ((r : Running) × Runs lane r × (r.entry.item ≡ m) × ((r.made ≤ place) ⊎ IsInWait place t n r))
+
+module _ (w : Wiring) (n m place : ℕ) (t : Target) (lane : Lane) (held : IsHeldUp w n m place t lane) where
+  IsHeldUp-later : (new : Lane) → ((e : Entry) → IsUnfinishedOn lane e → IsUnfinishedOn new e)
+      → MayStart new m ⊎ ((r : Running) × Runs new r × (r.entry.item ≡ m) × ((r.made ≤ place) ⊎ IsInWait place t n r)) → IsHeldUp w n m place t new
+  IsHeldUp-later new stays turn = record {
+    unfinished = λ j below same. let u = held.unfinished j below same in (u.0, stays u.0 u.1, u.2, u.3);
+    turn = turn;
+  }
+
+  -- what runs is an entry of m
+  m_runs : (r : Running) → Runs lane r → (r.entry.item ≡ m) × ((r.made ≤ place) ⊎ IsInWait place t n r)
+  m_runs r runs = elim held.turn [
+    | inl may ↦ absurd (let never : None ≡ Some r = sym may.idle ∙ runs in cc)
+    | inr (x, other, item, past) ↦ subst (λ (y : Running). (y.entry.item ≡ m) × ((y.made ≤ place) ⊎ IsInWait place t n y)) (same_running lane x r other runs) (item, past)
+  ]
+
+  IsHeldUp-started : (i : ℕ) → MayStart lane i → IsHeldUp w n m place t (with_started lane)
+  IsHeldUp-started i may = elim held.turn [
+    | inl first ↦ IsHeldUp-later (with_started lane) (λ e h. unfinished-started lane i e may h) (inr (started lane.pending first.entry first.first first.of_item))
+    | inr (r, runs, item, past) ↦ absurd (let never : None ≡ Some r = sym may.idle ∙ runs in cc)
+  ]
+    where
+      started : (ps : List Entry) (e : Entry) → slice_get ps 0 ≡ Some e → e.item ≡ m
+          → (r : Running) × Runs (with_started (record { pending = ps; running = lane.running })) r × (r.entry.item ≡ m) × ((r.made ≤ place) ⊎ IsInWait place t n r)
+      started [] e is item = absurd cc
+      started (p ∷ ps) e is item = (record { entry = p; made = 0; waiting = None }, refl, (let same : p ≡ e = cc in ap (λ (x : Entry). x.item) same ∙ item), inl (omega arith))
+
+  IsHeldUp-waiting : (b : ℕ) (r : Running) → Runs lane r → MayWait w b r → (u : Target) → slice_get (declared_by w r.entry.item) r.made ≡ Some u → u.item ≡ b
+      → slice_get (declared_by w m) place ≡ Some t → IsHeldUp w n m place t (with_wait b n lane)
+  IsHeldUp-waiting b r runs may u next is declares =
+      let own = m_runs r runs in
+      let begins : Running → Running = λ (x : Running). record x { made = x.made + 1; waiting = Some (record { target = b; mark = n }) } in
+      IsHeldUp-later (with_wait b n lane) (λ e h. unfinished-going_on lane begins e (λ x. refl) h)
+      (inr (begins r, ap (λ (o : Option Running). option_map begins o) runs, own.0, going_on own.0 own.1))
+    where
+      here : r.entry.item ≡ m → r.made ≡ place → t.item ≡ b
+      here item at =
+          let there : slice_get (declared_by w m) place ≡ Some u = subst (λ (k : ℕ). slice_get (declared_by w m) k ≡ Some u) at (subst (λ (i : ℕ). slice_get (declared_by w i) r.made ≡ Some u) item next) in
+          let both : Some t ≡ Some u = sym declares ∙ there in
+          let same : t ≡ u = cc in
+          ap (λ (x : Target). x.item) same ∙ is
+
+      going_on : r.entry.item ≡ m → (r.made ≤ place) ⊎ IsInWait place t n r
+          → (r.made + 1 ≤ place) ⊎ IsInWait place t n (record r { made = r.made + 1; waiting = Some (record { target = b; mark = n }) })
+      going_on item (inl le) = elim (cases_lt r.made place) [
+        | inl before ↦ inl (omega arith)
+        | inr past ↦ (
+            let at : r.made ≡ place = omega arith in
+            inr (record { made = omega arith; flush = record { target = b; mark = n }; waits = refl; target = sym (here item at); mark = omega arith })
+            )
+      ]
+      going_on item (inr wait) = absurd (let never : None ≡ Some wait.flush = sym may.awake ∙ wait.waits in cc)
+
+  IsHeldUp-wait_over : (r : Running) → Runs lane r → (¬ IsInWait place t n r) → IsHeldUp w n m place t (with_wait_over lane)
+  IsHeldUp-wait_over r runs not_it =
+      let own = m_runs r runs in
+      let goes_on : Running → Running = λ (x : Running). record x { waiting = None } in
+      IsHeldUp-later (with_wait_over lane) (λ e h. unfinished-going_on lane goes_on e (λ x. refl) h)
+      (inr (goes_on r, ap (λ (o : Option Running). option_map goes_on o) runs, own.0, elim own.1 [ inl le ↦ inl le | inr wait ↦ absurd (not_it wait) ]))
+
+  -- it isn't past its wait, so it doesn't finish
+  IsHeldUp-finished : (r : Running) → Runs lane r → r.waiting ≡ None → r.made ≡ length (declared_by w r.entry.item) → slice_get (declared_by w m) place ≡ Some t → ⊥
+  IsHeldUp-finished r runs awake all declares =
+      let own = m_runs r runs in
+      elim own.1 [
+        | inl le ↦ (
+            let within : place < length (declared_by w m) = slice_get_within (declared_by w m) place t declares in
+            let size : length (declared_by w r.entry.item) ≡ length (declared_by w m) = ap (λ (i : ℕ). length (declared_by w i)) own.0 in
+            omega arith
+            )
+        | inr wait ↦ (let never : None ≡ Some wait.flush = sym awake ∙ wait.waits in cc)
+      ]
+
+-- ---- states
+
+-- members m, each with a place at which it declares a flush of t, which is an item on the lane of a member
+pub record AreMembers (w : Wiring) (Member : ℕ → ℕ → Target → Type 0) : Type 0 where
+  pub declares : (m place : ℕ) (t : Target) → Member m place t → slice_get (declared_by w m) place ≡ Some t
+  pub among : (m place : ℕ) (t : Target) → Member m place t → (k p : ℕ) × (u : Target) × Member k p u × (lane_of w t.item ≡ lane_of w k)
+  pub below : (m place : ℕ) (t : Target) → Member m place t → t.item < items w
+
+-- the lanes of all members are held up
+abbrev pub AreHeldUp : Wiring → (ℕ → ℕ → Target → Type 0) → State → Type 0
+AreHeldUp w Member s = (m place : ℕ) (t : Target) → Member m place t → IsHeldUp w s.next m place t (lane_at s (lane_of w m))
+
+module _ (w : Wiring) (Member : ℕ → ℕ → Target → Type 0) (members : AreMembers w Member) where
+  AreHeldUp-with_lane : (s : State) (q : ℕ) (lane : Lane) → AreHeldUp w Member s
+      → ((m place : ℕ) (t : Target) → Member m place t → IsHeldUp w s.next m place t (lane_at s q) → IsHeldUp w s.next m place t lane) → AreHeldUp w Member (with_lane s q lane)
+  AreHeldUp-with_lane s q lane held keeps m place t member = elim (cases_with_lane s q lane (lane_of w m)) [
+    | inl same ↦ subst (IsHeldUp w s.next m place t) (sym same) (held m place t member)
+    | inr there ↦ (
+        let before : IsHeldUp w s.next m place t (lane_at s q) = subst (λ (p : ℕ). IsHeldUp w s.next m place t (lane_at s p)) there.0 (held m place t member) in
+        subst (IsHeldUp w s.next m place t) (sym there.1) (keeps m place t member before)
+        )
+  ]
+
+  -- the target of a member's wait is unfinished
+  target_left : (s : State) → AreHeldUp w Member s → (m place : ℕ) (t : Target) → Member m place t → (r : Running) → IsInWait place t s.next r
+      → (b : ℕ) → MayGoOn s b r → ⊥
+  target_left s held m place t member r wait b may =
+      let other = members.among m place t member in
+      let left = (held other.0 other.1 other.2 other.3).unfinished t.item (members.below m place t member) other.4 in
+      let both : Some wait.flush ≡ Some may.flush = sym wait.waits ∙ may.waits in
+      let same : wait.flush ≡ may.flush = cc in
+      let item : left.0.item ≡ b = left.2 ∙ sym wait.target ∙ ap (λ (f : Flush). f.target) same ∙ may.target in
+      let mark : wait.flush.mark ≡ may.flush.mark = ap (λ (f : Flush). f.mark) same in
+      let least : s.next ≤ wait.flush.mark = wait.mark in
+      let given : left.0.number < s.next = left.3 in
+      may.done (record { lane = lane_of w other.0; entry = left.0; unfinished = left.1; of_item = item; below = omega arith })
+
+  pub AreHeldUp-effect : (s : State) (q : ℕ) (step : Step) → AreHeldUp w Member s → IsDeclaredStep w s q step → AreHeldUp w Member (effect w s step)
+  AreHeldUp-effect s q (Queue i) held is = absurd is.of_lane
+  AreHeldUp-effect s q (Cancel i) held is = absurd is.of_lane
+  AreHeldUp-effect s q (Start p i) held is =
+      AreHeldUp-with_lane s p (with_started (lane_at s p)) held (λ m place t member here. IsHeldUp-started w s.next m place t (lane_at s p) here i is.lawful)
+  AreHeldUp-effect s q (Wait p b) held is = waiting is.lawful.0 is.lawful.1 is.lawful.2 is.in_order.0 is.in_order.1 is.in_order.2
+    where
+      waiting : (r : Running) → Runs (lane_at s p) r → MayWait w b r → (x : Running) → Runs (lane_at s p) x → ((u : Target) × (slice_get (declared_by w x.entry.item) x.made ≡ Some u) × (u.item ≡ b))
+          → AreHeldUp w Member (effect w s (Wait p b))
+      waiting r runs may x other next =
+          let in_turn : (u : Target) × (slice_get (declared_by w r.entry.item) r.made ≡ Some u) × (u.item ≡ b) =
+          subst (λ (y : Running). (u : Target) × (slice_get (declared_by w y.entry.item) y.made ≡ Some u) × (u.item ≡ b)) (same_running (lane_at s p) x r other runs) next in
+          AreHeldUp-with_lane s p (with_wait b s.next (lane_at s p)) held (λ m place t member here.
+          IsHeldUp-waiting w s.next m place t (lane_at s p) here b r runs may in_turn.0 in_turn.1 in_turn.2 (members.declares m place t member)
+          )
+  AreHeldUp-effect s q (Over p b) held is =
+      AreHeldUp-with_lane s p (with_wait_over (lane_at s p)) held (λ m place t member here.
+      IsHeldUp-wait_over w s.next m place t (lane_at s p) here is.lawful.0 is.lawful.1 (λ wait. target_left s held m place t member is.lawful.0 wait b is.lawful.2)
+      )
+  AreHeldUp-effect s q (Finish p i) held is = finishing is.lawful.0 is.lawful.1 is.lawful.2 is.in_order.0 is.in_order.1 is.in_order.2
+    where
+      finishing : (r : Running) → Runs (lane_at s p) r → MayFinish i r → (x : Running) → Runs (lane_at s p) x → x.made ≡ length (declared_by w x.entry.item)
+          → AreHeldUp w Member (effect w s (Finish p i))
+      finishing r runs may x other all =
+          let made : r.made ≡ length (declared_by w r.entry.item) = subst (λ (y : Running). y.made ≡ length (declared_by w y.entry.item)) (same_running (lane_at s p) x r other runs) all in
+          AreHeldUp-with_lane s p (with_finished (lane_at s p)) held (λ m place t member here.
+          absurd (IsHeldUp-finished w s.next m place t (lane_at s p) here r runs may.awake made (members.declares m place t member))
+          )
