@@ -41,7 +41,7 @@ use Rattle.wq_commands.specs.declared.end.End.{End}
 use Rattle.wq_commands.specs.declared.end.End.TheVariants.{Refused}
 use Rattle.wq_commands.specs.PlanText.{ends_of}
 use Rattle.wq_commands.specs.Answer.{Answers, AnswersDeclared, refusal_text, declared_waits}
-use Rattle.wq_commands.specs.Meter.{Meter, count_after}
+use Rattle.wq_meter.specs.Meter.{Meter, count_after}
 use Rattle.wq_commands.specs.Run.{IsInput, AnswersInput}
 use Rattle.wq_commands.specs.Declaration.{Declared, max_text, max_line, by_limits, by_directives, by_table, by_groups, declaration}
 
