@@ -18,47 +18,49 @@ fn counts<D>(metered: &Metered<D>) -> (u64, u64, u64) {
 }
 
 /// Asserts that a run answers that reads and writes so many bytes a call.
-fn assert_pieces(rt: &impl Abort, alloc: Global, reads: usize, writes: usize) -> Result<(), Fault> {
+fn assert_pieces(rt: &impl Abort, alloc: Global, reads: usize, writes: usize) {
     let mut reader = Metered::new(Fake::in_pieces(TEXT, reads));
     let mut writer = Metered::new(Fake::in_pieces(Vec::new(alloc), writes));
-    let end = plan_cmd(alloc, &mut reader, &mut writer)?;
+    let outcome = plan_cmd(alloc, &mut reader, &mut writer);
     let written = writer.into_inner().device;
-    assert_eq!(rt; end, End::Good, "{reads} and {writes} bytes a call");
+    assert_eq!(rt; outcome, Ok(End::Good), "{reads} and {writes} bytes a call");
     assert_eq!(rt;
         written.as_slice(),
         ANSWER,
         "{reads} and {writes} bytes a call"
     );
-    Ok(())
 }
 
 #[test]
-fn pieces_change_no_answer(rt: HostRuntime) -> Result<(), Fail> {
+fn pieces_change_no_answer(rt: HostRuntime) {
     for (reads, writes) in [(1, 1), (1, 5), (5, 1), (7, 9), (24, 38)] {
-        assert_pieces(&rt, rt.alloc(), reads, writes)?;
+        assert_pieces(&rt, rt.alloc(), reads, writes);
     }
-    Ok(())
+}
+
+/// Asserts how a run ends whose reader fails after it gave so many bytes one by one.
+fn assert_failed_read(rt: &impl Abort, alloc: Global, successes: u32, kind: ErrorKind) {
+    let mut reader = Metered::new(Fake::failing_after(TEXT, successes, kind));
+    let mut writer = Metered::new(Vec::new(alloc));
+    let outcome = plan_cmd(alloc, &mut reader, &mut writer);
+    let before = u64::from(successes);
+    assert_eq!(rt; outcome, Err(Fault::Read), "after {successes} reads");
+    assert_eq!(rt;
+        counts(&reader),
+        (before + 1, before, 1),
+        "after {successes} reads"
+    );
+    assert_eq!(rt; counts(&writer), (0, 0, 0), "after {successes} reads");
 }
 
 #[test]
-fn each_failed_read_is_a_fault(rt: HostRuntime) -> Result<(), Fail> {
+fn each_failed_read_is_a_fault(rt: HostRuntime) {
     for kind in [ErrorKind::Interrupted, ErrorKind::Other] {
         // A call for each byte, and one that finds the end.
         for successes in 0..25u32 {
-            let mut reader = Metered::new(Fake::failing_after(TEXT, successes, kind));
-            let mut writer = Metered::new(Vec::new(rt.alloc()));
-            let outcome = plan_cmd(rt.alloc(), &mut reader, &mut writer);
-            let before = u64::from(successes);
-            assert_eq!(rt; outcome, Err(Fault::Read), "after {successes} reads");
-            assert_eq!(rt;
-                counts(&reader),
-                (before + 1, before, 1),
-                "after {successes} reads"
-            );
-            assert_eq!(rt; counts(&writer), (0, 0, 0), "after {successes} reads");
+            assert_failed_read(&rt, rt.alloc(), successes, kind);
         }
     }
-    Ok(())
 }
 
 #[test]
@@ -164,13 +166,11 @@ fn assert_read(
     rest: &str,
 ) -> Result<(), Fault> {
     let mut reader = Metered::new(Fake::in_pieces(b"abcdef".as_slice(), 1));
-    let text = read_text(alloc, &mut reader, limit)?;
+    let text = read_text(alloc, &mut reader, limit);
+    let left = reader.into_inner().device;
+    let text = text?;
     assert_eq!(rt; text.as_slice(), front.as_bytes(), "limit {limit}");
-    assert_eq!(rt;
-        reader.into_inner().device,
-        rest.as_bytes(),
-        "limit {limit}"
-    );
+    assert_eq!(rt; left, rest.as_bytes(), "limit {limit}");
     Ok(())
 }
 
