@@ -117,7 +117,12 @@ pub(crate) fn answer<A: Allocator + Copy>(
     ensures { IfOk result (λ answer. Answers text.now answer.0 answer.1.items) }
 {
     match read_declaration(alloc, text) {
-        Ok(declared) => answer_declared(alloc, &declared.table, &declared.groups),
+        Ok(declared) => {
+            let answer = answer_declared(alloc, &declared.table, &declared.groups);
+            // Said as a call, so that the proof has one step for it.
+            drop(declared);
+            answer
+        }
         Err(Stop::Refused { code, line }) => {
             let text = refusal_text(alloc, code, line)?;
             Ok((End::Refused, text))

@@ -4,4 +4,4 @@ use Rattle.wq_commands.proofs.answer.answer.Goals as goal
 
 pub returns-in-Ok : goal.returns-in-Ok
 returns-in-Ok g c =
-    IfOk-weaker c.answer_declared.result _ _ (λ printed answers. Answers-declared c.args.text.now _ printed.0 printed.1.items c.in-Ok.ensures.declaration answers) c.answer_declared.ensures
+    IfOk-weaker c.answer_declared-answer.result _ _ (λ printed answers. Answers-declared c.args.text.now _ printed.0 printed.1.items c.in-Ok.ensures.declaration answers) c.answer_declared-answer.ensures
