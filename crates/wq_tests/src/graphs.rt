@@ -4,11 +4,12 @@ ghost use Rattle.std.specs.Prelude.{◌≡◌, length};
 
 use crate::answers::lines_of;
 use crate::declared::declared;
+use crate::groups::assert_lanes;
 use std::alloc::Global;
 use std::process::Abort;
 use std::test::Fail;
 use wq_graph::{WaitArc, WaitGraph};
-use wq_groups::{Assignment, GroupId, Groups};
+use wq_groups::Groups;
 use wq_items::ItemTable;
 use wq_levels::{Ranked, rank};
 use wq_plan::{Answer, solve};
@@ -149,16 +150,7 @@ fn assert_ranked(
     }
 }
 
-/// Asserts the lanes of an assignment, which are the ranks of the groups.
-fn assert_lanes(rt: &impl Abort, row: &str, assignment: &Assignment<Global>, ranks: &[u16]) {
-    assert!(rt; assignment.groups() == ranks.len(), "{row}");
-    for (i, rank) in ranks.iter().enumerate() {
-        let group = GroupId::new(u16::try_from(i).expect(rt, "a group too many"));
-        assert_eq!(rt; assignment.lane(group).get(), *rank, "{row}");
-    }
-}
-
-/// Asserts the lanes and the chain of a plan, or the arcs of a circle.
+/// Asserts the lanes of a plan, which are the ranks of the groups, and its chain; or the arcs of a circle.
 fn assert_solved(
     rt: &impl Abort,
     row: &str,
@@ -168,7 +160,7 @@ fn assert_solved(
 ) {
     match answer {
         Answer::Plan { assignment, chain } => {
-            assert_lanes(rt, row, assignment, ranks);
+            assert_lanes(rt, assignment, ranks);
             assert_arcs(rt, row, chain, arcs);
         }
         Answer::Circle { arcs: circle } => {

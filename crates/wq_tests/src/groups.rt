@@ -134,13 +134,12 @@ const LANES: &[(u16, &[u16], bool)] = &[
     (65_535, &[65_534], false),
 ];
 
-/// Asserts the number of lanes, and the lane of each group.
-fn assert_lanes(rt: &impl Abort, assignment: &Assignment<Global>, lanes: u16, of_group: &[u16]) {
-    assert_eq!(rt; assignment.lanes(), lanes, "{of_group:?}");
-    assert!(rt; assignment.groups() == of_group.len(), "{lanes} lanes");
+/// Asserts the lane of each group.
+pub(crate) fn assert_lanes(rt: &impl Abort, assignment: &Assignment<Global>, of_group: &[u16]) {
+    assert!(rt; assignment.groups() == of_group.len(), "{of_group:?}");
     for (i, lane) in of_group.iter().enumerate() {
         let group = GroupId::new(u16::try_from(i).expect(rt, "a group too many"));
-        assert_eq!(rt; assignment.lane(group).get(), *lane, "{lanes} lanes");
+        assert_eq!(rt; assignment.lane(group).get(), *lane, "{of_group:?}");
     }
 }
 
@@ -167,7 +166,8 @@ fn assert_assigned(
 ) {
     assert_eq!(rt; assignment.is_some(), is_one, "{lanes} lanes, {of_group:?}");
     if let Some(assignment) = assignment {
-        assert_lanes(rt, assignment, lanes, of_group);
+        assert_eq!(rt; assignment.lanes(), lanes, "{of_group:?}");
+        assert_lanes(rt, assignment, of_group);
     }
 }
 
