@@ -17,15 +17,39 @@ fn counts<D>(metered: &Metered<D>) -> (u64, u64, u64) {
     (metered.calls(), metered.bytes(), metered.failures())
 }
 
+/// How a run ended, what was counted of its reader and its writer, and what it wrote.
+#[derive(Drop)]
+struct Outcome {
+    end: Result<End, Fault>,
+    reads: (u64, u64, u64),
+    writes: (u64, u64, u64),
+    written: Vec<u8>,
+}
+
+/// Runs `plan` over a reader and a writer that may misbehave.
+fn run(alloc: Global, reader: Fake<&[u8]>, writer: Fake<Vec<u8>>) -> Outcome {
+    let mut reader = Metered::new(reader);
+    let mut writer = Metered::new(writer);
+    let end = plan_cmd(alloc, &mut reader, &mut writer);
+    Outcome {
+        end,
+        reads: counts(&reader),
+        writes: counts(&writer),
+        written: writer.into_inner().device,
+    }
+}
+
 /// Asserts that a run answers that reads and writes so many bytes a call.
 fn assert_pieces(rt: &impl Abort, alloc: Global, reads: usize, writes: usize) {
-    let mut reader = Metered::new(Fake::in_pieces(TEXT, reads));
-    let mut writer = Metered::new(Fake::in_pieces(Vec::new(alloc), writes));
-    let outcome = plan_cmd(alloc, &mut reader, &mut writer);
-    let written = writer.into_inner().device;
-    assert_eq!(rt; outcome, Ok(End::Good), "{reads} and {writes} bytes a call");
+    let writer = Fake::in_pieces(Vec::new(alloc), writes);
+    let outcome = run(alloc, Fake::in_pieces(TEXT, reads), writer);
     assert_eq!(rt;
-        written.as_slice(),
+        outcome.end,
+        Ok(End::Good),
+        "{reads} and {writes} bytes a call"
+    );
+    assert_eq!(rt;
+        outcome.written.as_slice(),
         ANSWER,
         "{reads} and {writes} bytes a call"
     );
@@ -40,17 +64,16 @@ fn pieces_change_no_answer(rt: HostRuntime) {
 
 /// Asserts how a run ends whose reader fails after it gave so many bytes one by one.
 fn assert_failed_read(rt: &impl Abort, alloc: Global, successes: u32, kind: ErrorKind) {
-    let mut reader = Metered::new(Fake::failing_after(TEXT, successes, kind));
-    let mut writer = Metered::new(Vec::new(alloc));
-    let outcome = plan_cmd(alloc, &mut reader, &mut writer);
+    let writer = Fake::in_pieces(Vec::new(alloc), 1);
+    let outcome = run(alloc, Fake::failing_after(TEXT, successes, kind), writer);
     let before = u64::from(successes);
-    assert_eq!(rt; outcome, Err(Fault::Read), "after {successes} reads");
+    assert_eq!(rt; outcome.end, Err(Fault::Read), "after {successes} reads");
     assert_eq!(rt;
-        counts(&reader),
+        outcome.reads,
         (before + 1, before, 1),
         "after {successes} reads"
     );
-    assert_eq!(rt; counts(&writer), (0, 0, 0), "after {successes} reads");
+    assert_eq!(rt; outcome.writes, (0, 0, 0), "after {successes} reads");
 }
 
 #[test]
@@ -96,26 +119,19 @@ fn a_reader_without_end_is_left(rt: HostRuntime) -> Result<(), Fail> {
 
 /// Asserts how a run ends whose writer fails after it took so many bytes one by one, and what it took.
 fn assert_failed_write(rt: &impl Abort, alloc: Global, text: &[u8], successes: u32, front: &[u8]) {
-    let fake = Fake::failing_after(Vec::new(alloc), successes, ErrorKind::Interrupted);
-    let mut writer = Metered::new(fake);
-    let outcome = plan_cmd(alloc, &mut Metered::new(text), &mut writer);
+    let writer = Fake::failing_after(Vec::new(alloc), successes, ErrorKind::Interrupted);
+    let outcome = run(alloc, Fake::in_pieces(text, 4096), writer);
     let before = u64::from(successes);
-    let counted = counts(&writer);
-    let written = writer.into_inner().device;
+    assert_eq!(rt; outcome.end, Err(Fault::Write), "after {successes} writes");
     assert_eq!(rt;
-        outcome,
-        Err(Fault::Write),
-        "{text:?}: after {successes} writes"
-    );
-    assert_eq!(rt;
-        counted,
+        outcome.writes,
         (before + 1, before, 1),
-        "{text:?}: after {successes} writes"
+        "after {successes} writes"
     );
     assert_eq!(rt;
-        written.as_slice(),
+        outcome.written.as_slice(),
         front,
-        "{text:?}: after {successes} writes"
+        "after {successes} writes"
     );
 }
 
