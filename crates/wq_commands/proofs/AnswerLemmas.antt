@@ -38,11 +38,10 @@ use Rattle.wq_levels.proofs.OneCircle.{IsWalkedCircle-few}
 use Rattle.wq_plan.proofs.Plans.{length-group_graph}
 use Rattle.wq_plan.proofs.Plans.{IsPlan-lanes}
 use Rattle.wq_commands.specs.declared.end.End.{End}
-use Rattle.wq_commands.specs.declared.end.End.TheVariants.{Good, Bad, Refused}
-use Rattle.wq_commands.specs.PlanText.{plan_text, item_lanes, ends_of}
-use Rattle.wq_commands.specs.CircleText.{circle_text}
-use Rattle.wq_commands.specs.Answer.{Answers, AnswersDeclared, refusal_text, declared_waits, text_of_plan}
-use Rattle.wq_commands.specs.Meter.{Meter, count_after}
+use Rattle.wq_commands.specs.declared.end.End.TheVariants.{Refused}
+use Rattle.wq_commands.specs.PlanText.{ends_of}
+use Rattle.wq_commands.specs.Answer.{Answers, AnswersDeclared, refusal_text, declared_waits}
+use Rattle.wq_meter.specs.Meter.{Meter, count_after}
 use Rattle.wq_commands.specs.Run.{IsInput, AnswersInput}
 use Rattle.wq_commands.specs.Declaration.{Declared, max_text, max_line, by_limits, by_directives, by_table, by_groups, declaration}
 
@@ -121,11 +120,10 @@ printable s arcs ends sound few are is =
     }
 
 -- so are those of a plan's chain
-pub ArePrintable-planned : (text : List ℕ) (s : Declared) (a : Assignment) (chain : List WaitArc) (ends : List (ℕ × ℕ)) → declaration text ≡ Ok s
-    → IsPlanned (declared_waits s) a chain → ends ≡ map ends_of chain → ArePrintable s.table ends
-ArePrintable-planned text s a chain ends declared planned is =
+pub ArePrintable-planned : (s : Declared) (a : Assignment) (chain : List WaitArc) (ends : List (ℕ × ℕ)) → IsSound s → IsPlanned (declared_waits s) a chain
+    → ends ≡ map ends_of chain → ArePrintable s.table ends
+ArePrintable-planned s a chain ends sound planned is =
     let d = declared_waits s in
-    let sound = IsSound-declaration text s declared in
     let declaration = IsDeclaration-sound s sound in
     let longest : IsLongestChain d a chain = subst (IsLongestChain d a) (sym planned.longest) (chain_of-longest d declaration a planned.plan) in
     let few : a.lanes ≤ d.groups = IsPlan-lanes d declaration a planned.plan in
@@ -139,10 +137,9 @@ IsWalkedCircle-short s circle sound walked =
     let few : length circle ≤ length (group_graph d) = IsWalkedCircle-few (group_graph d) circle walked in
     omega (arith, few, length-group_graph d, is.partition.few_groups, is.partition.few_items)
 
-pub ArePrintable-circled : (text : List ℕ) (s : Declared) (circle : List WaitArc) (ends : List (ℕ × ℕ)) → declaration text ≡ Ok s
-    → IsCircled (declared_waits s) circle → ends ≡ map ends_of circle → ArePrintable s.table ends
-ArePrintable-circled text s circle ends declared circled is =
-    let sound = IsSound-declaration text s declared in
+pub ArePrintable-circled : (s : Declared) (circle : List WaitArc) (ends : List (ℕ × ℕ)) → IsSound s → IsCircled (declared_waits s) circle
+    → ends ≡ map ends_of circle → ArePrintable s.table ends
+ArePrintable-circled s circle ends sound circled is =
     printable s circle ends sound (IsWalkedCircle-short s circle sound circled.walked) (IsCircleOfGroups-walked (declared_waits s) (IsDeclaration-sound s sound) circle circled.walked).declared is
 
 -- ---- the text that was read, and the text that there was
@@ -189,15 +186,7 @@ AnswersInput-read remaining old new read end out front within consumed counted f
       answer = Answers-same read had.text end out (ap declaration had.front ∙ declaration-take had.text) answers;
     }
 
--- the text of a plan is the answer
-pub Answers-planned : (text : List ℕ) (s : Declared) (a : Assignment) (chain : List WaitArc) (ends : List (ℕ × ℕ)) (out : List ℕ) → declaration text ≡ Ok s
-    → IsPlanned (declared_waits s) a chain → ends ≡ map ends_of chain → out ≡ plan_text s.table.names a.lanes (item_lanes a s.partition.group_of) ends → Answers text Good out
-Answers-planned text s a chain ends out declared planned is printed =
-    let whole : out ≡ text_of_plan s a = printed ∙ ap (plan_text s.table.names a.lanes (item_lanes a s.partition.group_of)) is ∙ ap (λ (arcs : List WaitArc). plan_text s.table.names a.lanes (item_lanes a s.partition.group_of) (map ends_of arcs)) planned.longest in
-    subst (λ (d : Result Declared Refusal). MatchResult d (λ u. AnswersDeclared u Good out) (λ r. (Good ≡ Refused) × (out ≡ refusal_text r))) (sym declared) (a, planned.plan, whole)
-
--- the text of a circle is the answer
-pub Answers-circled : (text : List ℕ) (s : Declared) (circle : List WaitArc) (ends : List (ℕ × ℕ)) (out : List ℕ) → declaration text ≡ Ok s
-    → IsCircled (declared_waits s) circle → ends ≡ map ends_of circle → out ≡ circle_text s.table.names ends → Answers text Bad out
-Answers-circled text s circle ends out declared circled is printed =
-    subst (λ (d : Result Declared Refusal). MatchResult d (λ u. AnswersDeclared u Bad out) (λ r. (Bad ≡ Refused) × (out ≡ refusal_text r))) (sym declared) (circle, circled.walked, printed ∙ ap (circle_text s.table.names) is)
+-- an answer to what a text declares is one to the text
+pub Answers-declared : (text : List ℕ) (s : Declared) (end : End) (out : List ℕ) → declaration text ≡ Ok s → AnswersDeclared s end out → Answers text end out
+Answers-declared text s end out declared answers =
+    subst (λ (d : Result Declared Refusal). MatchResult d (λ u. AnswersDeclared u end out) (λ r. (end ≡ Refused) × (out ≡ refusal_text r))) (sym declared) answers

@@ -3,6 +3,5 @@ pub mod Examples
 pub mod Existence
 pub mod LineLemmas
 pub mod ItemLanes
-pub mod MeterLemmas
 pub mod TextLength
 pub mod Uniqueness

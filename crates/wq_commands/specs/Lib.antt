@@ -1,4 +1,5 @@
 pub use Rattle.wq_text.specs.Refusal
+pub use Rattle.wq_meter.specs.Meter
 pub use Rattle.wq_items.specs.Table
 pub use Rattle.wq_items.specs.Chain
 pub use Rattle.wq_groups.specs.Grouping
@@ -9,9 +10,7 @@ pub mod Answer
 pub mod CircleText
 pub mod Declaration
 pub mod End
-pub mod Fault
 pub mod LineText
-pub mod Meter
 pub mod PlanText
 pub mod Run
 pub mod Stop

@@ -3,7 +3,7 @@ use Rattle.std.specs.Prelude.{◌≡◌, ℕ, ◌+◌, List, IfSome, Option}
 use Rattle.wq_commands.specs.declared.end.End.{End}
 use Rattle.wq_commands.specs.Answer.{Answers}
 use Rattle.wq_commands.specs.Declaration.{max_text}
-use Rattle.wq_commands.specs.Meter.{Meter, TakesFront}
+use Rattle.wq_meter.specs.Meter.{Meter, TakesFront}
 
 -- the text is what a reader has left, where that is known
 abbrev pub IsInput : Option (List ℕ) → List ℕ → Type 0

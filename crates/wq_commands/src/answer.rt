@@ -2,17 +2,22 @@
 //!
 //! Takes time in the workqueues times the items and flushes, and memory in the length of the text.
 
-ghost use Rattle.std.specs.Prelude.{◌≡◌, IfOk, decimal};
-ghost use Rattle.wq_commands.specs.Answer.{Answers, refusal_text};
+ghost use Rattle.std.specs.Prelude.{◌≡◌, IfOk, decimal, length};
 ghost use Rattle.wq_text.specs.Refusal.{Refusal};
+ghost use Rattle.wq_groups.specs.Declaration.{declaration_of};
+ghost use Rattle.wq_plan.specs.Solve.{IsPlanned, IsCircled, Solves};
+ghost use Rattle.wq_commands.specs.Answer.{Answers, AnswersDeclared, refusal_text, text_of_plan, text_of_circle};
 
 use crate::arc_printing::ends_of;
 use crate::circle_printing::circle_text;
-use crate::declaration::{Declaration, Stop, read_declaration};
+use crate::declaration::{Stop, read_declaration};
 use crate::end::End;
 use crate::lines::{put, put_end, put_number, put_word};
 use crate::plan_printing::plan_text;
 use std::alloc::{AllocError, Allocator};
+use wq_graph::WaitArc;
+use wq_groups::{Assignment, Groups};
+use wq_items::ItemTable;
 use wq_plan::{Answer, solve};
 
 /// `refused CODE line N`.
@@ -32,6 +37,78 @@ pub(crate) fn refusal_text<A: Allocator + Copy>(
     Ok(out)
 }
 
+/// The text of the plan of a table's items, with the chain that `solve` answered beside it.
+fn text_of_plan<A: Allocator + Copy>(
+    alloc: A,
+    table: &ItemTable<'_, A>,
+    groups: &Groups<A>,
+    assignment: &Assignment<A>,
+    chain: &[WaitArc],
+) -> Result<Vec<u8, A>, AllocError>
+    requires grouped { length groups.now.group_of ≡ length table.now.names }
+    requires planned { IsPlanned (declaration_of table.now groups.now) assignment.now chain.now }
+    ensures { IfOk result (λ text. text.items ≡ text_of_plan (record { table = table.now; partition = groups.now }) assignment.now) }
+{
+    // What holds of every table and of all groups.
+    let _items = table.len();
+    let _groups = groups.len();
+    let chain = ends_of(alloc, chain)?;
+    plan_text(alloc, table, groups, assignment, &chain)
+}
+
+/// The text of the circle in which the groups of a table's items wait.
+fn text_of_circle<A: Allocator + Copy>(
+    alloc: A,
+    table: &ItemTable<'_, A>,
+    groups: &Groups<A>,
+    arcs: &[WaitArc],
+) -> Result<Vec<u8, A>, AllocError>
+    requires grouped { length groups.now.group_of ≡ length table.now.names }
+    requires circled { IsCircled (declaration_of table.now groups.now) arcs.now }
+    ensures { IfOk result (λ text. text.items ≡ text_of_circle (record { table = table.now; partition = groups.now }) arcs.now) }
+{
+    let _items = table.len();
+    let _groups = groups.len();
+    let arcs = ends_of(alloc, arcs)?;
+    circle_text(alloc, table, &arcs)
+}
+
+/// How a run ends that has this answer to these groups, and what it prints.
+fn print_answer<A: Allocator + Copy>(
+    alloc: A,
+    table: &ItemTable<'_, A>,
+    groups: &Groups<A>,
+    answer: &Answer<A>,
+) -> Result<(End, Vec<u8, A>), AllocError>
+    requires grouped { length groups.now.group_of ≡ length table.now.names }
+    requires solved { Solves (declaration_of table.now groups.now) answer.now }
+    ensures { IfOk result (λ printed. AnswersDeclared (record { table = table.now; partition = groups.now }) printed.0 printed.1.items) }
+{
+    match answer {
+        Answer::Plan { assignment, chain } => {
+            let text = text_of_plan(alloc, table, groups, assignment, chain)?;
+            Ok((End::Good, text))
+        }
+        Answer::Circle { arcs } => {
+            let text = text_of_circle(alloc, table, groups, arcs)?;
+            Ok((End::Bad, text))
+        }
+    }
+}
+
+/// How a run ends that is given these items and their groups, and what it prints.
+fn answer_declared<A: Allocator + Copy>(
+    alloc: A,
+    table: &ItemTable<'_, A>,
+    groups: &Groups<A>,
+) -> Result<(End, Vec<u8, A>), AllocError>
+    requires { length groups.now.group_of ≡ length table.now.names }
+    ensures { IfOk result (λ printed. AnswersDeclared (record { table = table.now; partition = groups.now }) printed.0 printed.1.items) }
+{
+    let answer = solve(alloc, table, groups)?;
+    print_answer(alloc, table, groups, &answer)
+}
+
 /// How a run ends that is given this text, and what it prints.
 pub(crate) fn answer<A: Allocator + Copy>(
     alloc: A,
@@ -39,22 +116,17 @@ pub(crate) fn answer<A: Allocator + Copy>(
 ) -> Result<(End, Vec<u8, A>), AllocError>
     ensures { IfOk result (λ answer. Answers text.now answer.0 answer.1.items) }
 {
-    let Declaration { table, groups } = match read_declaration(alloc, text) {
-        Ok(declaration) => declaration,
+    match read_declaration(alloc, text) {
+        Ok(declared) => {
+            let answer = answer_declared(alloc, &declared.table, &declared.groups);
+            // Said as a call, so that the proof has one step for it.
+            drop(declared);
+            answer
+        }
         Err(Stop::Refused { code, line }) => {
-            return Ok((End::Refused, refusal_text(alloc, code, line)?));
+            let text = refusal_text(alloc, code, line)?;
+            Ok((End::Refused, text))
         }
-        Err(Stop::OutOfMemory) => return Err(AllocError),
-    };
-    match solve(alloc, &table, &groups)? {
-        Answer::Plan { assignment, chain } => {
-            let chain = ends_of(alloc, &chain)?;
-            let text = plan_text(alloc, &table, &groups, &assignment, &chain)?;
-            Ok((End::Good, text))
-        }
-        Answer::Circle { arcs } => {
-            let arcs = ends_of(alloc, &arcs)?;
-            Ok((End::Bad, circle_text(alloc, &table, &arcs)?))
-        }
+        Err(Stop::OutOfMemory) => Err(AllocError),
     }
 }

@@ -4,19 +4,16 @@
 
 ghost use Rattle.std.specs.Prelude.{◌≡◌, ◌≢◌, ◌≤◌, ◌+◌, ℕ, List, Err, IfOk};
 ghost use Rattle.wq_commands.specs.Declaration.{max_text};
-ghost use Rattle.wq_commands.specs.Meter.{count_after, LosesFront, WritesFront, WritesWhole};
+ghost use Rattle.wq_meter.specs.Meter.{count_after, LosesFront, WritesFront, WritesWhole};
 ghost use Rattle.wq_commands.specs.Run.{AnswersInput};
 ghost use Rattle.wq_commands.specs.declared.end.End.{End};
 
 use crate::answer::answer;
 use crate::declaration::MAX_TEXT;
 use crate::end::End;
-use crate::fault::Fault;
-use crate::input::read_text;
-use crate::metered::Metered;
-use crate::output::write_text;
 use std::alloc::Allocator;
 use std::io::{Read, Write};
+use wq_meter::{Fault, Metered, read_text, write_text};
 
 /// Reads a declaration to its end and writes its answer: the text of its plan, that of the circle in which its groups
 /// wait, or its refusal.

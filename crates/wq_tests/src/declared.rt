@@ -6,21 +6,19 @@ ghost use Rattle.std.specs.Prelude.{◌≡◌, length, IfOk};
 
 use std::alloc::Global;
 use std::test::Fail;
+use wq_commands::Declaration;
 use wq_decl::DeclView;
 use wq_groups::Groups;
 use wq_items::ItemTable;
 use wq_text::Text;
 
 /// The items that a text declares, and their groups.
-pub(crate) fn declared<'a>(
-    alloc: Global,
-    text: &'a [u8],
-) -> Result<(ItemTable<'a, Global>, Groups<Global>), Fail>
-    ensures { IfOk result (λ (table, groups). length groups.group_of ≡ length table.names) }
+pub(crate) fn declared<'a>(alloc: Global, text: &'a [u8]) -> Result<Declaration<'a, Global>, Fail>
+    ensures { IfOk result (λ d. length d.groups.group_of ≡ length d.table.names) }
 {
     let text = Text::new(text, 4096, 4096)?;
     let view = DeclView::new(text)?;
     let table = ItemTable::read(alloc, &view)?;
     let groups = Groups::read(alloc, &view, &table)?;
-    Ok((table, groups))
+    Ok(Declaration { table, groups })
 }

@@ -1,25 +1,29 @@
 //! Wait graphs, and what they come to: ranks or a circle, which answers show only in part.
 
+ghost use Rattle.std.specs.Prelude.{◌≡◌, length};
+
 use crate::answers::lines_of;
 use crate::declared::declared;
-use std::alloc::{AllocError, Global};
+use crate::groups::assert_lanes;
+use std::alloc::Global;
 use std::process::Abort;
 use std::test::Fail;
 use wq_graph::{WaitArc, WaitGraph};
-use wq_groups::{Assignment, GroupId};
+use wq_groups::Groups;
+use wq_items::ItemTable;
 use wq_levels::{Ranked, rank};
 use wq_plan::{Answer, solve};
 
 /// An arc in numbers: its item, its target, the group of the target, and its place.
 type Numbers = (u16, u16, u16, u32);
 
-/// Arcs in numbers.
-fn numbers_of(alloc: Global, arcs: &[WaitArc]) -> Result<Vec<Numbers>, AllocError> {
-    let mut numbers = Vec::new(alloc);
-    for arc in arcs {
-        numbers.push((arc.src.get(), arc.dst.get(), arc.head, arc.place))?;
+/// Asserts what arcs are in numbers.
+fn assert_arcs(rt: &impl Abort, row: &str, arcs: &[WaitArc], want: &[Numbers]) {
+    assert_eq!(rt; arcs.len(), want.len(), "{row}");
+    for (arc, numbers) in arcs.iter().zip(want) {
+        let is = (arc.src.get(), arc.dst.get(), arc.head, arc.place);
+        assert_eq!(rt; is, *numbers, "{row}");
     }
-    Ok(numbers)
 }
 
 /// Texts whose lines all end, and of each of their groups in turn the arcs that leave it.
@@ -49,18 +53,48 @@ const GRAPHS: &[(&str, &[&[Numbers]])] = &[
     ),
 ];
 
+/// Asserts of each group in turn the arcs that leave it.
+fn assert_graph(rt: &impl Abort, row: &str, graph: &WaitGraph<Global>, want: &[&[Numbers]]) {
+    assert_eq!(rt; usize::from(graph.vertices()), want.len(), "{row}");
+    for vertex in 0..graph.vertices() {
+        let arcs = want.get(usize::from(vertex)).expect(rt, "a group too many");
+        assert_arcs(rt, row, graph.arcs(vertex), arcs);
+    }
+}
+
+/// Asserts the arcs of each of these groups.
+fn assert_graph_of(
+    rt: &impl Abort,
+    alloc: Global,
+    row: &str,
+    table: &ItemTable<'_, Global>,
+    groups: &Groups<Global>,
+    want: &[&[Numbers]],
+) -> Result<(), Fail>
+    requires { length groups.now.group_of ≡ length table.now.names }
+{
+    let graph = WaitGraph::of_groups(alloc, table, groups)?;
+    assert_graph(rt, row, &graph, want);
+    Ok(())
+}
+
+/// Asserts the arcs of each group of a text.
+fn assert_graph_of_text(
+    rt: &impl Abort,
+    alloc: Global,
+    row: &str,
+    text: &[u8],
+    want: &[&[Numbers]],
+) -> Result<(), Fail> {
+    let declared = declared(alloc, text)?;
+    assert_graph_of(rt, alloc, row, &declared.table, &declared.groups, want)
+}
+
 #[test]
 fn graphs_have_their_arcs(rt: HostRuntime) -> Result<(), Fail> {
     for (row, want) in GRAPHS {
         let text = lines_of(rt.alloc(), row)?;
-        let (table, groups) = declared(rt.alloc(), &text)?;
-        let graph = WaitGraph::of_groups(rt.alloc(), &table, &groups)?;
-        assert_eq!(rt; usize::from(graph.vertices()), want.len(), "{row}");
-        for vertex in 0..graph.vertices() {
-            let numbers = numbers_of(rt.alloc(), graph.arcs(vertex))?;
-            let arcs = want.get(usize::from(vertex)).ok_or("a group too many")?;
-            assert_eq!(rt; numbers.as_slice(), *arcs, "{row}: group {vertex}");
-        }
+        assert_graph_of_text(&rt, rt.alloc(), row, &text, want)?;
     }
     Ok(())
 }
@@ -102,56 +136,129 @@ const SOLVED: &[(&str, &[u16], &[Numbers])] = &[
 /// Asserts the ranks of a graph, or its circle.
 fn assert_ranked(
     rt: &impl Abort,
+    row: &str,
+    ranked: &Ranked<Global>,
+    ranks: &[u16],
+    arcs: &[Numbers],
+) {
+    match ranked {
+        Ranked::Ranks(is) => assert_eq!(rt; is.as_slice(), ranks, "{row}"),
+        Ranked::Circle(circle) => {
+            assert!(rt; ranks.is_empty(), "{row}");
+            assert_arcs(rt, row, circle, arcs);
+        }
+    }
+}
+
+/// Asserts the lanes of a plan, which are the ranks of the groups, and its chain; or the arcs of a circle.
+fn assert_solved(
+    rt: &impl Abort,
+    row: &str,
+    answer: &Answer<Global>,
+    ranks: &[u16],
+    arcs: &[Numbers],
+) {
+    match answer {
+        Answer::Plan { assignment, chain } => {
+            assert_lanes(rt, assignment, ranks);
+            assert_arcs(rt, row, chain, arcs);
+        }
+        Answer::Circle { arcs: circle } => {
+            assert!(rt; ranks.is_empty(), "{row}");
+            assert_arcs(rt, row, circle, arcs);
+        }
+    }
+}
+
+/// Asserts what the wait graph of these groups comes to.
+fn assert_ranks_of(
+    rt: &impl Abort,
     alloc: Global,
+    row: &str,
     graph: &WaitGraph<Global>,
     ranks: &[u16],
     arcs: &[Numbers],
 ) -> Result<(), Fail> {
-    match rank(alloc, graph)? {
-        Ranked::Ranks(is) => assert_eq!(rt; is.as_slice(), ranks),
-        Ranked::Circle(circle) => {
-            assert!(rt; ranks.is_empty(), "no ranks {ranks:?}");
-            assert_eq!(rt; numbers_of(alloc, &circle)?.as_slice(), arcs);
-        }
-    }
+    let ranked = rank(alloc, graph)?;
+    assert_ranked(rt, row, &ranked, ranks, arcs);
     Ok(())
 }
 
-/// Asserts the lanes of an assignment, which are the ranks of the groups.
-fn assert_lanes(
+/// Asserts what these groups come to: the plan, or the circle.
+fn assert_solved_of(
     rt: &impl Abort,
     alloc: Global,
-    assignment: &Assignment<Global>,
+    row: &str,
+    table: &ItemTable<'_, Global>,
+    groups: &Groups<Global>,
     ranks: &[u16],
-) -> Result<(), Fail> {
-    let mut lanes = Vec::new(alloc);
-    for group in 0..assignment.groups() {
-        let group = GroupId::new(u16::try_from(group)?);
-        lanes.push(assignment.lane(group).get())?;
-    }
-    assert_eq!(rt; lanes.as_slice(), ranks);
+    arcs: &[Numbers],
+) -> Result<(), Fail>
+    requires { length groups.now.group_of ≡ length table.now.names }
+{
+    let answer = solve(alloc, table, groups)?;
+    assert_solved(rt, row, &answer, ranks, arcs);
     Ok(())
+}
+
+/// Asserts the ranks or the circle of the wait graph of these groups.
+fn assert_ranked_of(
+    rt: &impl Abort,
+    alloc: Global,
+    row: &str,
+    table: &ItemTable<'_, Global>,
+    groups: &Groups<Global>,
+    ranks: &[u16],
+    arcs: &[Numbers],
+) -> Result<(), Fail>
+    requires { length groups.now.group_of ≡ length table.now.names }
+{
+    let graph = WaitGraph::of_groups(alloc, table, groups)?;
+    assert_ranks_of(rt, alloc, row, &graph, ranks, arcs)
+}
+
+/// Asserts both of a declaration.
+fn assert_both_of(
+    rt: &impl Abort,
+    alloc: Global,
+    row: &str,
+    table: &ItemTable<'_, Global>,
+    groups: &Groups<Global>,
+    ranks: &[u16],
+    arcs: &[Numbers],
+) -> Result<(), Fail>
+    requires { length groups.now.group_of ≡ length table.now.names }
+{
+    assert_ranked_of(rt, alloc, row, table, groups, ranks, arcs)?;
+    assert_solved_of(rt, alloc, row, table, groups, ranks, arcs)
+}
+
+/// Asserts both of what a text declares.
+fn assert_both_of_text(
+    rt: &impl Abort,
+    alloc: Global,
+    row: &str,
+    text: &[u8],
+    ranks: &[u16],
+    arcs: &[Numbers],
+) -> Result<(), Fail> {
+    let declared = declared(alloc, text)?;
+    assert_both_of(
+        rt,
+        alloc,
+        row,
+        &declared.table,
+        &declared.groups,
+        ranks,
+        arcs,
+    )
 }
 
 #[test]
 fn graphs_have_ranks_or_a_circle(rt: HostRuntime) -> Result<(), Fail> {
-    let alloc = rt.alloc();
     for (row, ranks, arcs) in SOLVED {
-        let text = lines_of(alloc, row)?;
-        let (table, groups) = declared(alloc, &text)?;
-        let graph = WaitGraph::of_groups(alloc, &table, &groups)?;
-        assert_ranked(&rt, alloc, &graph, ranks, arcs)?;
-        let solved = match solve(alloc, &table, &groups)? {
-            Answer::Plan { assignment, chain } => {
-                assert_lanes(&rt, alloc, &assignment, ranks)?;
-                chain
-            }
-            Answer::Circle { arcs: circle } => {
-                assert!(rt; ranks.is_empty(), "{row}");
-                circle
-            }
-        };
-        assert_eq!(rt; numbers_of(alloc, &solved)?.as_slice(), *arcs, "{row}");
+        let text = lines_of(rt.alloc(), row)?;
+        assert_both_of_text(&rt, rt.alloc(), row, &text, ranks, arcs)?;
     }
     Ok(())
 }

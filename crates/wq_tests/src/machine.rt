@@ -464,6 +464,46 @@ fn two_lanes_that_wait_for_each_other_are_stuck(rt: HostRuntime) -> Result<(), F
     assert_stuck(&rt, rt.alloc(), &mut core)
 }
 
+/// Steps over the declaration of two items of which the first flushes the second, the first on lane 1 and the second on
+/// lane 0. After each: the lowest lane that can move, and the steps that lanes 0 and 1 make as declared.
+const PLAYED: &[(Made, Option<u16>, Option<Made>, Option<Made>)] = &[
+    (Queue(0), Some(1), None, Some(Start(1, 0))),
+    (Start(1, 0), Some(1), None, Some(Wait(1, 1))),
+    (Queue(1), Some(0), Some(Start(0, 1)), Some(Wait(1, 1))),
+    (Wait(1, 1), Some(0), Some(Start(0, 1)), None),
+    (Queue(0), Some(0), Some(Start(0, 1)), None),
+    (Start(0, 1), Some(0), Some(Finish(0, 1)), None),
+    (Finish(0, 1), Some(1), None, Some(Over(1, 1))),
+    (Over(1, 1), Some(1), None, Some(Finish(1, 0))),
+    (Finish(1, 0), Some(1), None, Some(Start(1, 0))),
+    (Cancel(0), None, None, None),
+];
+
+#[test]
+fn lanes_move_as_declared(rt: HostRuntime) -> Result<(), Fail> {
+    let row = "item a / item b / flush a b";
+    let mut core = core_of(rt.alloc(), row, 2, &[1, 0])?;
+    for (made, enabled, first, second) in PLAYED {
+        assert!(rt; core.step(step_of(*made)).is_ok(), "{made:?}");
+        assert_eq!(rt; core.enabled(), enabled.map(LaneId::new), "{made:?}");
+        for (lane, step) in [(0, *first), (1, *second), (2, None)] {
+            let declared = core.declared(LaneId::new(lane));
+            assert_eq!(rt; declared, step.map(step_of), "{made:?}: {lane}");
+        }
+    }
+    Ok(())
+}
+
+#[test]
+fn stuck_lanes_cannot_move(rt: HostRuntime) -> Result<(), Fail> {
+    let mut core = core_of(rt.alloc(), CROSSED, 2, CROSSED_LANES)?;
+    assert_stuck(&rt, rt.alloc(), &mut core)?;
+    assert_eq!(rt; core.enabled(), None);
+    assert_eq!(rt; core.declared(LaneId::new(0)), None);
+    assert_eq!(rt; core.declared(LaneId::new(1)), None);
+    Ok(())
+}
+
 /// Steps over the same declaration, how many of them are made, and the work that is left then.
 const REFUSED: &[(&[Made], u32, u64)] = &[
     (&[Start(0, 0)], 0, 0),

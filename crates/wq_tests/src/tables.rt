@@ -1,43 +1,70 @@
 //! Tables of items: names, where they stand, and what they wait for, which answers don't print.
 
-use std::test::Fail;
-use wq_commands::{Declaration, Stop, read_declaration};
-use wq_groups::GroupError;
-use wq_items::{ItemError, ItemId, Target};
-use wq_text::Span;
+ghost use Rattle.std.specs.Prelude.{◌<◌, length};
 
-#[test]
-fn items_and_waits_keep_their_places(rt: HostRuntime) -> Result<(), Fail> {
-    let text = b"item c\nitem  a\n\nflush c a c\nitem b\nordered b a\nflush b a\nflush c a";
-    let Declaration { table, .. } = read_declaration(rt.alloc(), text)?;
-    let (c, a) = (ItemId::new(0), ItemId::new(1));
-    let c_waits = [
-        Target { item: a, place: 0 },
-        Target { item: c, place: 1 },
-        Target { item: a, place: 3 },
-    ];
-    let b_waits = [Target { item: a, place: 2 }];
-    let rows = [
-        (b"c", (5, 6), c_waits.as_slice()),
-        (b"a", (13, 14), &[]),
-        (b"b", (33, 34), b_waits.as_slice()),
-    ];
+use std::alloc::Global;
+use std::process::Abort;
+use std::test::Fail;
+use wq_commands::{Stop, read_declaration};
+use wq_groups::GroupError;
+use wq_items::{ItemError, ItemId, ItemTable, Target};
+
+/// A declaration of three items.
+const TEXT: &[u8] = b"item c\nitem  a\n\nflush c a c\nitem b\nordered b a\nflush b a\nflush c a";
+
+/// The name of each item of it in turn, where it stands, and the target and the place of each of its flushes.
+const ITEMS: &[(&[u8], (u32, u32), &[(u16, u32)])] = &[
+    (b"c", (5, 6), &[(1, 0), (0, 1), (1, 3)]),
+    (b"a", (13, 14), &[]),
+    (b"b", (33, 34), &[(1, 2)]),
+];
+
+/// Asserts of flushes the target and the place of each.
+fn assert_waits(rt: &impl Abort, name: &[u8], waits: &[Target], want: &[(u16, u32)]) {
+    assert_eq!(rt; waits.len(), want.len(), "{name:?}");
+    for (target, numbers) in waits.iter().zip(want) {
+        assert_eq!(rt; (target.item.get(), target.place), *numbers, "{name:?}");
+    }
+}
+
+/// Asserts the name of an item, where it stands, and its flushes.
+fn assert_item(
+    rt: &impl Abort,
+    table: &ItemTable<'_, Global>,
+    item: ItemId,
+    name: &[u8],
+    span: (u32, u32),
+    waits: &[(u16, u32)],
+)
+    requires { item < length table.now.names }
+{
+    assert_eq!(rt; table.find(name), Some(item), "{name:?}");
+    assert_eq!(rt; table.name(item), name, "{name:?}");
+    let is = table.span(item);
+    assert_eq!(rt; (is.start, is.end), span, "{name:?}");
+    assert_waits(rt, name, table.waits(item), waits);
+}
+
+/// Asserts the items of a table.
+fn assert_items(rt: &impl Abort, table: &ItemTable<'_, Global>) {
     assert_eq!(rt; table.len(), 3);
     assert!(rt; !table.is_empty());
     assert_eq!(rt; table.flushes(), 4);
     let mut i = 0;
-    for (name, (start, end), waits) in rows {
+    for (name, span, waits) in ITEMS {
         assert!(rt; i < table.len());
-        let item = ItemId::new(i);
-        assert_eq!(rt; table.find(name), Some(item), "{name:?}");
-        assert_eq!(rt; table.name(item), name.as_slice(), "{name:?}");
-        assert_eq!(rt; table.span(item), Span { start, end }, "{name:?}");
-        assert_eq!(rt; table.waits(item), waits, "{name:?}");
+        assert_item(rt, table, ItemId::new(i), name, *span, waits);
         i += 1;
     }
     for name in [b"d".as_slice(), b"", b"C", b"cc", b"item"] {
         assert_eq!(rt; table.find(name), None, "{name:?}");
     }
+}
+
+#[test]
+fn items_and_waits_keep_their_places(rt: HostRuntime) -> Result<(), Fail> {
+    let declared = read_declaration(rt.alloc(), TEXT)?;
+    assert_items(&rt, &declared.table);
     Ok(())
 }
 

@@ -2,88 +2,104 @@
 
 use std::process::Abort;
 use std::test::Fail;
-use wq_text::{Span, Text, TextError, number};
+use wq_text::{Line, Span, Text, TextError, number};
 
-/// Asserts that a text has these lines and no others: the number of each, where it begins and ends, and its bytes.
-fn assert_lines(rt: &impl Abort, text: &Text, want: &[(u32, u32, u32, &[u8])]) {
-    let mut lines = text.lines();
-    for (no, start, end, bytes) in want {
-        let line = lines.next().expect(rt, "a line is missing");
-        let (start, end) = (*start, *end);
-        assert_eq!(rt; line.no(), *no, "{bytes:?}");
-        assert_eq!(rt; line.span(), Span { start, end }, "{bytes:?}");
-        assert_eq!(rt; line.bytes(), *bytes, "{bytes:?}");
-    }
-    assert!(rt; lines.next().is_none(), "a line too many");
+/// The number of a line, where it begins and ends, and its bytes; or so of a word, with the number of its line.
+type Place<'a> = (u32, u32, u32, &'a [u8]);
+
+/// Asserts a place.
+fn assert_place(rt: &impl Abort, no: u32, span: Span, bytes: &[u8], want: &Place) {
+    assert_eq!(rt;
+        (no, span.start, span.end),
+        (want.0, want.1, want.2),
+        "{bytes:?}"
+    );
+    assert_eq!(rt; bytes, want.3);
 }
 
-/// Asserts that a text has these words and no others: the line of each, where it begins and ends, and its bytes.
-fn assert_words(rt: &impl Abort, text: &Text, want: &[(u32, u32, u32, &[u8])]) {
+/// Asserts that a text has these lines and no others.
+fn assert_lines(rt: &impl Abort, text: &Text, want: &[Place]) {
     let mut want = want.iter();
     for line in text.lines() {
-        for word in line.words().again() {
-            let (no, start, end, bytes) = want.next().expect(rt, "a word too many");
-            let (start, end) = (*start, *end);
-            assert_eq!(rt; line.no(), *no, "{bytes:?}");
-            assert_eq!(rt; word.span(), Span { start, end }, "{bytes:?}");
-            assert_eq!(rt; word.again().bytes(), *bytes, "{bytes:?}");
-        }
+        let place = want.next().expect(rt, "a line too many");
+        assert_place(rt, line.no(), line.span(), line.bytes(), place);
+    }
+    assert!(rt; want.next().is_none(), "a line is missing");
+}
+
+/// Asserts that a line has these words and no others.
+fn assert_words(rt: &impl Abort, line: &Line, want: &[Place]) {
+    let mut want = want.iter();
+    for word in line.words().again() {
+        let place = want.next().expect(rt, "a word too many");
+        assert_place(rt, line.no(), word.span(), word.again().bytes(), place);
     }
     assert!(rt; want.next().is_none(), "a word is missing");
 }
 
-#[test]
-fn lines_and_words_stand_in_their_text(rt: HostRuntime) -> Result<(), Fail> {
-    assert_lines(&rt, &Text::new(b"", 9, 9)?, &[]);
-    assert_lines(&rt, &Text::new(b"\n", 9, 9)?, &[(1, 0, 0, b"")]);
-    assert_lines(&rt, &Text::new(b"ab", 9, 9)?, &[(1, 0, 2, b"ab")]);
-    assert_lines(&rt, &Text::new(b"ab\n", 9, 9)?, &[(1, 0, 2, b"ab")]);
-    let text = Text::new(b"wq a\n\n\t two \tx\t\n \t", 99, 99)?;
-    assert_lines(
-        &rt,
-        &text,
+/// Asserts the words of each line of a text.
+fn assert_words_of_lines(rt: &impl Abort, text: &Text, want: &[&[Place]]) {
+    let mut want = want.iter();
+    for line in text.lines() {
+        let words = want.next().expect(rt, "a line too many");
+        assert_words(rt, &line, words);
+    }
+    assert!(rt; want.next().is_none(), "a line is missing");
+}
+
+/// Texts, their lines, and of each line its words.
+const TEXTS: &[(&[u8], &[Place], &[&[Place]])] = &[
+    (b"", &[], &[]),
+    (b"\n", &[(1, 0, 0, b"")], &[&[]]),
+    (b"ab", &[(1, 0, 2, b"ab")], &[&[(1, 0, 2, b"ab")]]),
+    (b"ab\n", &[(1, 0, 2, b"ab")], &[&[(1, 0, 2, b"ab")]]),
+    (
+        b"wq a\n\n\t two \tx\t\n \t",
         &[
             (1, 0, 4, b"wq a"),
             (2, 5, 5, b""),
             (3, 6, 15, b"\t two \tx\t"),
             (4, 16, 18, b" \t"),
         ],
-    );
-    assert_words(
-        &rt,
-        &text,
         &[
-            (1, 0, 2, b"wq"),
-            (1, 3, 4, b"a"),
-            (3, 8, 11, b"two"),
-            (3, 13, 14, b"x"),
+            &[(1, 0, 2, b"wq"), (1, 3, 4, b"a")],
+            &[],
+            &[(3, 8, 11, b"two"), (3, 13, 14, b"x")],
+            &[],
         ],
-    );
-    Ok(())
-}
-
-#[test]
-fn comments_stand_in_no_word(rt: HostRuntime) -> Result<(), Fail> {
-    let text = Text::new(b"wq a # b\r\n\tx#y\r\r\nz\r", 99, 99)?;
-    assert_lines(
-        &rt,
-        &text,
+    ),
+    // No word stands in a comment.
+    (
+        COMMENTS,
         &[
             (1, 0, 8, b"wq a # b"),
             (2, 10, 15, b"\tx#y\r"),
             (3, 17, 19, b"z\r"),
         ],
-    );
-    assert_words(
-        &rt,
-        &text,
         &[
-            (1, 0, 2, b"wq"),
-            (1, 3, 4, b"a"),
-            (2, 11, 12, b"x"),
-            (3, 17, 19, b"z\r"),
+            &[(1, 0, 2, b"wq"), (1, 3, 4, b"a")],
+            &[(2, 11, 12, b"x")],
+            &[(3, 17, 19, b"z\r")],
         ],
-    );
+    ),
+];
+
+#[test]
+fn lines_and_words_stand_in_their_text(rt: HostRuntime) -> Result<(), Fail> {
+    for (bytes, lines, words) in TEXTS {
+        let text = Text::new(bytes, 99, 99)?;
+        assert_lines(&rt, &text, lines);
+        assert_words_of_lines(&rt, &text, words);
+    }
+    Ok(())
+}
+
+/// A text with comments and carriage returns.
+const COMMENTS: &[u8] = b"wq a # b\r\n\tx#y\r\r\nz\r";
+
+#[test]
+fn comments_stand_in_no_content(rt: HostRuntime) -> Result<(), Fail> {
+    let text = Text::new(COMMENTS, 99, 99)?;
     let contents = [b"wq a ".as_slice(), b"\tx", b"z\r"];
     for (line, content) in text.lines().zip(contents) {
         assert_eq!(rt; line.content(), content);
@@ -91,24 +107,42 @@ fn comments_stand_in_no_word(rt: HostRuntime) -> Result<(), Fail> {
     Ok(())
 }
 
+/// Texts, their limits, the first fault of each, and the number and the line of that.
+const FAULTS: &[(&[u8], u32, u32, TextError, u32, u32)] = &[
+    (LONG, 13, 5, TextError::TextTooLong, 1, 0),
+    (LONG, 13, 4, TextError::TextTooLong, 1, 0),
+    (LONG, 14, 4, TextError::LineTooLong { line: 3 }, 2, 3),
+    (LONG, 14, 3, TextError::LineTooLong { line: 2 }, 2, 2),
+    // A carriage return that isn't dropped is counted in its line.
+    (
+        b"abc\r\nabc\r",
+        10,
+        3,
+        TextError::LineTooLong { line: 2 },
+        2,
+        2,
+    ),
+];
+
+/// A text of 14 bytes, whose longest line has five.
+const LONG: &[u8] = b"abc\nabcd\nabcde";
+
 #[test]
-fn limits_refuse_the_first_fault(rt: HostRuntime) -> Result<(), Fail> {
-    let text = b"abc\nabcd\nabcde";
-    assert_eq!(rt; Text::new(text, 14, 5)?.bytes(), text.as_slice());
-    for (max_text, max_line, fault, code, no) in [
-        (13, 5, TextError::TextTooLong, 1, 0),
-        (13, 4, TextError::TextTooLong, 1, 0),
-        (14, 4, TextError::LineTooLong { line: 3 }, 2, 3),
-        (14, 3, TextError::LineTooLong { line: 2 }, 2, 2),
-    ] {
-        let is = Text::new(text, max_text, max_line).err();
-        assert_eq!(rt; is, Some(fault), "limits {max_text} and {max_line}");
-        assert_eq!(rt; (fault.code(), fault.line()), (code, no), "{fault:?}");
+fn limits_refuse_the_first_fault(rt: HostRuntime) {
+    for (text, max_text, max_line, fault, code, no) in FAULTS {
+        let is = Text::new(text, *max_text, *max_line).err();
+        assert_eq!(rt; is, Some(*fault), "limits {max_text} and {max_line}");
+        assert_eq!(rt; (fault.code(), fault.line()), (*code, *no), "{fault:?}");
     }
-    // A carriage return that is dropped isn't counted in its line, and one that stays is.
-    assert!(rt; Text::new(b"abc\r\n#bc\r\n", 10, 3).is_ok());
-    let is = Text::new(b"abc\r\nabc\r", 10, 3).err();
-    assert_eq!(rt; is, Some(TextError::LineTooLong { line: 2 }));
+}
+
+#[test]
+fn what_is_within_its_limits_is_a_text(rt: HostRuntime) -> Result<(), Fail> {
+    // A carriage return that is dropped isn't counted in its line.
+    for (bytes, max_text, max_line) in [(LONG, 14, 5), (b"abc\r\n#bc\r\n", 10, 3)] {
+        let text = Text::new(bytes, max_text, max_line)?;
+        assert_eq!(rt; text.bytes(), bytes);
+    }
     Ok(())
 }
 

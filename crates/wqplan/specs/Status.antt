@@ -1,7 +1,7 @@
 -- The exit status of a command that ran.
 use Rattle.std.specs.Prelude.{ℕ, Result, Ok, Err}
 use Rattle.wq_commands.specs.declared.end.End.{End}
-use Rattle.wq_commands.specs.declared.fault.Fault.{Fault}
+use Rattle.wq_meter.specs.declared.fault.Fault.{Fault}
 use Rattle.wq_commands.specs.End.{exit_status}
 
 -- that of its end, or 3 where a fault stopped it

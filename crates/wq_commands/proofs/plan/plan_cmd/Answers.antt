@@ -1,6 +1,6 @@
 use Rattle.std.proofs.Common.{List, ℕ, subst, arith}
 use Rattle.wq_commands.specs.Answer.{Answers}
-use Rattle.wq_commands.specs.Meter.{WritesFront, WritesWhole}
+use Rattle.wq_meter.specs.Meter.{WritesFront, WritesWhole}
 use Rattle.wq_commands.specs.Run.{AnswersInput}
 use Rattle.wq_commands.proofs.AnswerLemmas.{AnswersInput-read}
 use Rattle.wq_commands.proofs.plan.plan_cmd.Goals as goal

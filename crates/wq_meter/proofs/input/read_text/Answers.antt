@@ -1,6 +1,6 @@
 use Rattle.std.proofs.Common.{rules, arith}
-use Rattle.wq_commands.proofs.MeterLemmas.{OnErr-from_fact, LosesFront-more}
-use Rattle.wq_commands.proofs.input.read_text.Goals as goal
+use Rattle.wq_meter.proofs.MeterLemmas.{OnErr-from_fact, LosesFront-more}
+use Rattle.wq_meter.proofs.input.read_text.Goals as goal
 
 pub returns-in_err-extend_from_slice-clause-lost :
     goal.returns-in_err-extend_from_slice-clause-lost

@@ -1,7 +1,7 @@
 -- What a fault is called.
 use Rattle.std.specs.Prelude.{ℕ, List, codes}
-use Rattle.wq_commands.specs.declared.fault.Fault.{Fault}
-use Rattle.wq_commands.specs.declared.fault.Fault.TheVariants.{Memory, Read, Write}
+use Rattle.wq_meter.specs.declared.fault.Fault.{Fault}
+use Rattle.wq_meter.specs.declared.fault.Fault.TheVariants.{Memory, Read, Write}
 
 -- the words that are printed for a fault, as bytes
 abbrev pub fault_text : Fault → List ℕ

@@ -4,7 +4,7 @@
 ghost use Rattle.std.specs.Prelude.{◌≡◌, ◌≢◌, ◌+◌, ◌<◌, ◌≤◌, length, take, min, vec_len, Err, IfOk, IfSome, OnOk, OnErr, IsOkUnless};
 ghost use Rattle.std.specs.Result.{result_unwrap_or};
 ghost use Rattle.std.specs.Io.KnownBytes.{Consumes, IsAtEnd, Keeps};
-ghost use Rattle.wq_commands.specs.Meter.{count_after, LosesFront};
+ghost use Rattle.wq_meter.specs.Meter.{count_after, LosesFront};
 
 use crate::fault::Fault;
 use crate::metered::Metered;

@@ -1,8 +1,8 @@
 -- The text is what came, in no more calls than it has bytes, and none of them failed.
 use Rattle.std.proofs.Common.{◌≡◌, ◌+◌, ◌≤◌, vec_len}
 use Rattle.std.specs.Io.KnownBytes.{Consumes}
-use Rattle.wq_commands.specs.Meter.{count_after}
-use Rattle.wq_commands.proofs.input.read_text.Given as goal
+use Rattle.wq_meter.specs.Meter.{count_after}
+use Rattle.wq_meter.proofs.input.read_text.Given as goal
 
 abbrev pub invariant-loop-room : goal.invariant-loop-room
 invariant-loop-room g l = record {

@@ -1,7 +1,7 @@
 use Rattle.std.proofs.Common.{arith}
 use Rattle.std.proofs.lemmas.List.{take_rest}
-use Rattle.wq_commands.proofs.MeterLemmas.{Appends-take_more}
-use Rattle.wq_commands.proofs.output.write_text.Goals as goal
+use Rattle.wq_meter.proofs.MeterLemmas.{Appends-take_more}
+use Rattle.wq_meter.proofs.output.write_text.Goals as goal
 
 pub loop-written-preserved : goal.loop-written-preserved
 loop-written-preserved g c =

@@ -1,8 +1,8 @@
 //! What can go wrong outside the program: memory, a read or a write. The texts are the program's own.
 //! Every call takes constant time.
 ghost use Rattle.std.specs.Prelude.{◌≡◌, Some};
-ghost use Rattle.wq_commands.specs.declared.fault.Fault.TheVariants.{Memory};
-ghost use Rattle.wq_commands.specs.Fault.{fault_text};
+ghost use Rattle.wq_meter.specs.declared.fault.Fault.TheVariants.{Memory};
+ghost use Rattle.wq_meter.specs.Fault.{fault_text};
 
 use std::alloc::{AllocError, AllocFailed};
 use std::error::Error;

@@ -3,7 +3,7 @@ use Rattle.std.proofs.Common.{◌≡◌, ℕ, ◌+◌, ◌≤◌, List, ◌++◌
 use Rattle.std.proofs.Math.Seq.{take-add}
 use Rattle.std.proofs.KnownBytes.{Appends-trans, Consumes-trans}
 use Rattle.std.specs.Io.KnownBytes.{Appends, Consumes}
-use Rattle.wq_commands.specs.Meter.{Meter, count_after, LosesFront}
+use Rattle.wq_meter.specs.Meter.{Meter, count_after, LosesFront}
 
 -- what holds, holds at an error
 pub OnErr-from_fact : {T E P : Type 0} (r : Result T E) → P → OnErr r P

@@ -4,7 +4,7 @@
 ghost use Rattle.std.specs.Prelude.{◌≡◌, ◌<◌, ◌≤◌, length, IfOk, OnOk, OnErr, IsOkUnless};
 ghost use Rattle.std.specs.Result.{result_unwrap_or};
 ghost use Rattle.std.specs.Io.KnownBytes.{ReadConsumes, WriteAppends};
-ghost use Rattle.wq_commands.specs.Meter.{count_after};
+ghost use Rattle.wq_meter.specs.Meter.{count_after};
 
 use crate::fault::Fault;
 use std::io::{Read, Write};
@@ -22,7 +22,7 @@ pub struct Metered<D> {
 }
 
 impl<D> Model for Metered<D> {
-    ghost use Rattle.wq_commands.specs.Meter.{Meter, meter_code};
+    ghost use Rattle.wq_meter.specs.Meter.{Meter, meter_code};
 
     ghost Value = { Meter D };
 

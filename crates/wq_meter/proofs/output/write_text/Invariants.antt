@@ -1,8 +1,8 @@
 -- A front of the text is written, in no more calls than it has bytes, and none of them failed.
 use Rattle.std.proofs.Common.{◌≡◌, ◌+◌, ◌-◌, ◌≤◌, length, take}
 use Rattle.std.specs.Io.KnownBytes.{Appends}
-use Rattle.wq_commands.specs.Meter.{count_after}
-use Rattle.wq_commands.proofs.output.write_text.Given as goal
+use Rattle.wq_meter.specs.Meter.{count_after}
+use Rattle.wq_meter.proofs.output.write_text.Given as goal
 
 abbrev pub invariant-loop-written : goal.invariant-loop-written
 invariant-loop-written g l = record {

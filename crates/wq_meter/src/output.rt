@@ -1,7 +1,7 @@
 //! Writing a text whole, a call at a time. The time is linear in the text, and each call that another
 //! one follows takes at least one byte.
 ghost use Rattle.std.specs.Prelude.{◌≡◌, ◌+◌, ◌≤◌, length, OnOk, OnErr, IsOkUnless};
-ghost use Rattle.wq_commands.specs.Meter.{count_after, WritesFront, WritesWhole};
+ghost use Rattle.wq_meter.specs.Meter.{count_after, WritesFront, WritesWhole};
 
 use crate::fault::Fault;
 use crate::metered::Metered;

@@ -1,0 +1,15 @@
+//! Readers and writers whose calls are counted, reading up to a limit and writing whole.
+//!
+//! What the commands above rely on: how many calls are made of a device and how many bytes they move is bounded by
+//! contract, and each fault has its cause. Takes time in the bytes that are moved.
+#![tactic(auto)]
+
+mod fault;
+mod input;
+mod metered;
+mod output;
+
+pub use fault::Fault;
+pub use input::read_text;
+pub use metered::Metered;
+pub use output::write_text;
