@@ -63,11 +63,13 @@ names_far_lane (Wait q b) = nat_lt 4095 q
 names_far_lane (Over q b) = nat_lt 4095 q
 names_far_lane (Finish q i) = nat_lt 4095 q
 
+-- the step that a line of this number says, if it says one and names no far workqueue
+abbrev pub step_in_range : ℕ → Option Step → Result Step CertError
+step_in_range n step = and_then (λ found. if names_far_lane found then Err (NumberOutOfRange n) else Ok found) (ok_or step (BadCertLine n))
+
 -- a step
 abbrev pub step_reading : List (List ℕ) → CertLine → Result Step CertError
-step_reading names line =
-    and_then (λ step. if names_far_lane step then Err (NumberOutOfRange line.no) else Ok step)
-    (ok_or (step_form names line.words) (BadCertLine line.no))
+step_reading names line = step_in_range line.no (step_form names line.words)
 
 -- ---- workqueues
 

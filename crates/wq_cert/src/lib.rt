@@ -7,6 +7,8 @@
 
 mod answer;
 mod fault;
+mod form;
+mod line_reading;
 mod view;
 
 pub use answer::CertAnswer;
