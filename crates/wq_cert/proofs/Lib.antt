@@ -1,1 +1,4 @@
 mod FormLemmas
+mod ReadLemmas
+mod StoodLemmas
+mod LaneLemmas

@@ -6,6 +6,7 @@ pub mod Certificate
 pub mod Lines
 pub mod Forms
 pub mod Reading
+pub mod Noted
 pub mod Texts
 pub mod LineText
 pub mod PlanText

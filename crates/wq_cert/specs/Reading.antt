@@ -82,19 +82,28 @@ abbrev pub has_stood : List ℕ → List ℕ → Bool
 has_stood before [] = false
 has_stood before (i ∷ items) = stands_in before i || has_stood (before ++ (i ∷ [])) items
 
+-- an item of the list is of group g
+abbrev pub holds_member : List ℕ → List ℕ → ℕ → Bool
+holds_member group_of items g = list_any (λ i. slice_index group_of i == g) items
+
 -- an item of the list shares its group with one of the other list
 abbrev pub splits_group : List ℕ → List ℕ → List ℕ → Bool
-splits_group group_of before items = list_any (λ i. list_any (λ j. slice_index group_of i == slice_index group_of j) before) items
+splits_group group_of before items = list_any (λ i. holds_member group_of before (slice_index group_of i)) items
+
+-- `wq Q NAME..`, where Q is the place of the workqueue, below 4,096: the items
+abbrev pub wq_items : List (List ℕ) → ℕ → CertLine → Result (List ℕ) CertError
+wq_items names place line =
+    and_then (λ (p : ℕ × List ℕ). if not (p.0 == place) || nat_le 4096 place then Err (NumberOutOfRange line.no) else Ok p.1)
+    (ok_or (wq_form names line.words) (BadCertLine line.no))
+
+-- the items on line n, where these stand on the lines before it: none of them twice, nor with a group that stands there
+abbrev pub fresh_items : List ℕ → List ℕ → ℕ → List ℕ → Result (List ℕ) CertError
+fresh_items group_of before n items =
+    if has_stood before items then Err (NotAllItems n) else (if splits_group group_of before items then Err (GroupSplit n) else Ok items)
 
 -- the items on the next workqueue, where these are those on the workqueues before it
 abbrev pub wq_reading : List (List ℕ) → List ℕ → List (List ℕ) → CertLine → Result (List ℕ) CertError
-wq_reading names group_of queues line =
-    and_then
-    (λ (p : ℕ × List ℕ).
-    if not (p.0 == length queues) || nat_le 4096 (length queues) then Err (NumberOutOfRange line.no)
-    else (if has_stood (concat queues) p.1 then Err (NotAllItems line.no)
-    else (if splits_group group_of (concat queues) p.1 then Err (GroupSplit line.no) else Ok p.1)))
-    (ok_or (wq_form names line.words) (BadCertLine line.no))
+wq_reading names group_of queues line = and_then (λ items. fresh_items group_of (concat queues) line.no items) (wq_items names (length queues) line)
 
 -- so many workqueues behind these
 abbrev pub next_queues : List (List ℕ) → List ℕ → ℕ → List (List ℕ) → List CertLine → Read (List (List ℕ))
@@ -114,9 +123,13 @@ all_queues names group_of queues (line ∷ lines) =
 abbrev pub hold_all : ℕ → List (List ℕ) → Bool
 hold_all items queues = list_all (stands_in (concat queues)) (range_with_len 0 items)
 
+-- the first workqueue that holds a member of group g, if one does
+abbrev pub queue_with : List ℕ → List (List ℕ) → ℕ → Option ℕ
+queue_with group_of queues g = position (λ items. holds_member group_of items g) queues
+
 -- the workqueue of a group: the one that holds a member of it
 abbrev pub queue_of_group : List ℕ → List (List ℕ) → ℕ → ℕ
-queue_of_group group_of queues g = unwrap_or (position (λ items. list_any (λ i. slice_index group_of i == g) items) queues) 0
+queue_of_group group_of queues g = unwrap_or (queue_with group_of queues g) 0
 
 -- the assignment that the workqueues are
 abbrev pub assignment_of : Partition → List (List ℕ) → Assignment
@@ -128,18 +141,25 @@ whole_assignment p queues = if hold_all (length p.group_of) queues then Ok (assi
 
 -- ---- texts
 
--- `plan K`, K workqueues, `chain N`, and N - 1 arcs, none where N is 0
+-- `chain N`, and N - 1 arcs, none where N is 0: N and the arcs
+abbrev pub chain_reading : List (List ℕ) → List CertLine → Result (ℕ × List (ℕ × ℕ)) CertError
+chain_reading names lines =
+    and_read (λ n behind_chain. and_read (λ arcs rest. at_end (n, arcs) rest) (next_lines (arc_reading names) (n - 1) behind_chain))
+    (next_line (count_reading (codes "chain")) lines)
+
+-- so many workqueues as an assignment
+abbrev pub counted_assignment : List (List ℕ) → Partition → ℕ → List CertLine → Read Assignment
+counted_assignment names p lanes lines =
+    and_read (λ queues rest. and_then (λ assignment. Ok (assignment, rest)) (whole_assignment p queues)) (next_queues names p.group_of lanes [] lines)
+
+-- `plan K`, K workqueues, and a chain
 abbrev pub plan_reading : List (List ℕ) → Partition → List CertLine → Result PlanCertificate CertError
 plan_reading names p lines =
     and_read (λ lanes behind_plan.
-    and_read (λ queues behind_queues.
-    and_then (λ assignment.
-    and_read (λ n behind_chain.
-    and_read (λ arcs rest. at_end (record { assignment = assignment; length = n; arcs = arcs }) rest)
-    (next_lines (arc_reading names) (n - 1) behind_chain))
-    (next_line (count_reading (codes "chain")) behind_queues))
-    (whole_assignment p queues))
-    (next_queues names p.group_of lanes [] behind_plan))
+    and_read (λ assignment behind_queues.
+    and_then (λ (chain : ℕ × List (ℕ × ℕ)). Ok (record { assignment = assignment; length = chain.0; arcs = chain.1 }))
+    (chain_reading names behind_queues))
+    (counted_assignment names p lanes behind_plan))
     (next_line (count_reading (codes "plan")) lines)
 
 -- `run M`, where M may be any number, and M steps

@@ -6,11 +6,16 @@
 #![tactic(auto)]
 
 mod answer;
+mod arc_reading;
 mod fault;
 mod form;
 mod line_reading;
+mod opening;
+mod queues;
+mod run_reading;
 mod view;
 
 pub use answer::CertAnswer;
 pub use fault::CertError;
+pub use run_reading::read_run;
 pub use view::{CertLines, CertView};
