@@ -2,3 +2,5 @@ mod FormLemmas
 mod ReadLemmas
 mod StoodLemmas
 mod LaneLemmas
+mod NotedLemmas
+mod WholeLemmas

@@ -200,9 +200,13 @@ queues_reading names p lines =
     and_read (λ queues rest. and_then (λ assignment. at_end assignment rest) (whole_assignment p queues))
     (all_queues names p.group_of [] lines)
 
+-- whether the first word of all is `plan`
+abbrev pub begins_plan : List CertLine → Bool
+begins_plan [] = false
+begins_plan (line ∷ lines) = begins_with (codes "plan") line.words
+
 -- an assignment: a whole plan text where the first word is `plan`, else `wq` lines
 abbrev pub assignment_reading : List (List ℕ) → Partition → List CertLine → Result Assignment CertError
-assignment_reading names p [] = queues_reading names p []
-assignment_reading names p (line ∷ lines) =
-    if begins_with (codes "plan") line.words then and_then (λ (plan : PlanCertificate). Ok plan.assignment) (plan_reading names p (line ∷ lines))
-    else queues_reading names p (line ∷ lines)
+assignment_reading names p lines =
+    if begins_plan lines then and_then (λ (plan : PlanCertificate). Ok plan.assignment) (plan_reading names p lines)
+    else queues_reading names p lines

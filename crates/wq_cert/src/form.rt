@@ -2,10 +2,10 @@
 //!
 //! The forms are those of "Certificates" in docs/FORMAT.md. A byte that no line may hold stands in no keyword, number or
 //! name, so a line with such a byte before its comment has no form. Each function takes time in the length of the words,
-//! and only `items_of` takes memory, in their number.
+//! and `items_of` and `wq_form` take memory in the number of the items.
 
 ghost use Rattle.std.specs.Prelude.{◌≡◌, IfOk, option_map};
-ghost use Rattle.wq_cert.specs.Forms.{number_of, items_of, begins_with, count_form, arc_form};
+ghost use Rattle.wq_cert.specs.Forms.{number_of, items_of, begins_with, count_form, wq_form, arc_form};
 ghost use Rattle.wq_cert.specs.Lines.{bytes_of, cert_line};
 
 use std::alloc::{AllocError, Allocator};
@@ -57,6 +57,32 @@ pub(crate) fn items_of<A: Allocator + Copy>(
         items.push(item)?;
     }
     Ok(Some(items))
+}
+
+/// `wq Q NAME..`: the number and the items. The only error is want of memory.
+pub(crate) fn wq_form<A: Allocator + Copy>(
+    alloc: A,
+    table: &ItemTable<'_, A>,
+    mut words: Words<'_>,
+) -> Result<Option<(u32, Vec<ItemId, A>)>, AllocError>
+    ensures { IfOk result (λ queue. option_map (λ q. (q.0, q.1.items)) queue ≡ wq_form table.now.names (bytes_of words.entry)) }
+{
+    let Some(word) = words.next() else {
+        return Ok(None);
+    };
+    let Some(number) = words.next() else {
+        return Ok(None);
+    };
+    if word.bytes() != b"wq".as_slice() {
+        return Ok(None);
+    }
+    let Some(number) = number_of(number.bytes()) else {
+        return Ok(None);
+    };
+    let Some(items) = items_of(alloc, table, words)? else {
+        return Ok(None);
+    };
+    Ok(Some((number, items)))
 }
 
 /// `arc NAME TARGET`: the item and the target.

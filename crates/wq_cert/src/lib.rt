@@ -6,16 +6,21 @@
 #![tactic(auto)]
 
 mod answer;
+mod answer_reading;
 mod arc_reading;
+mod assignment_reading;
 mod fault;
 mod form;
 mod line_reading;
 mod opening;
+mod queue_reading;
 mod queues;
 mod run_reading;
 mod view;
 
 pub use answer::CertAnswer;
+pub use answer_reading::read_answer;
+pub use assignment_reading::read_assignment;
 pub use fault::CertError;
 pub use run_reading::read_run;
 pub use view::{CertLines, CertView};

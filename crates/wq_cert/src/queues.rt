@@ -6,14 +6,20 @@
 ghost use Rattle.std.specs.Prelude.{◌≡◌, ◌<◌, ℕ, ◌∷◌, ◌++◌, [], true, false, not, List, length, map, Ok, Err, IfOk, IfErr, Option, Some, None, MatchOption, unwrap_or};
 ghost use Rattle.std.specs.List.{All, concat, list_all};
 ghost use Rattle.wq_groups.specs.Partition.{IsPartition};
-ghost use Rattle.wq_cert.specs.Noted.{marks, lanes_with, AreNoted, is_other};
-ghost use Rattle.wq_cert.specs.Reading.{has_stood, splits_group, fresh_items, whole_assignment};
+ghost use Rattle.wq_cert.specs.Lines.{cert_line};
+ghost use Rattle.wq_cert.specs.Noted.{marks, lanes_with, AreNoted, IsNextNoted, is_other};
+ghost use Rattle.wq_cert.specs.Reading.{has_stood, splits_group, fresh_items, wq_items, wq_reading, whole_assignment};
 ghost use Rattle.wq_cert.specs.Texts.{IsCertFaultOf};
 
 use crate::fault::CertError;
+use crate::form::wq_form;
 use std::alloc::{AllocError, Allocator};
 use wq_groups::{Assignment, Groups, LaneId};
-use wq_items::ItemId;
+use wq_items::{ItemId, ItemTable};
+use wq_text::Line;
+
+/// How many workqueues there may be.
+const MAX_LANES: u16 = 4096;
 
 /// What is noted of the workqueues that are read so far.
 #[derive(Drop)]
@@ -24,6 +30,25 @@ pub(crate) struct Queues<A: Allocator> {
     stood: Vec<bool, A>,
     /// Of each group the workqueue that holds a member of it.
     lane_of_group: Vec<Option<LaneId>, A>,
+}
+
+/// The items on the next workqueue, by the form and the number of its line, where so many stand before it.
+fn read_items<A: Allocator + Copy>(
+    alloc: A,
+    table: &ItemTable<'_, A>,
+    place: u16,
+    line: &Line<'_>,
+) -> Result<Vec<ItemId, A>, CertError>
+    ensures items { IfOk result (λ items. wq_items table.now.names place (cert_line line.now) ≡ Ok items.items) }
+    ensures fault { IfErr result (λ e. IsCertFaultOf e (wq_items table.now.names place (cert_line line.now))) }
+{
+    let Some((number, items)) = wq_form(alloc, table, line.words())? else {
+        return Err(CertError::BadCertLine { line: line.no() });
+    };
+    if number != u32::from(place) || place >= MAX_LANES {
+        return Err(CertError::NumberOutOfRange { line: line.no() });
+    }
+    Ok(items)
 }
 
 /// Marks these items. `None` where one is marked already, or is twice in the list.
@@ -96,4 +121,85 @@ fn lanes_of<A: Allocator>(
         .iter()
         .map(|lane| lane.unwrap_or(first))
         .collect(alloc)
+}
+
+impl<A: Allocator + Copy> Queues<A> {
+    /// No workqueue, for so many items, which stand in these groups.
+    pub(crate) fn none(alloc: A, groups: &Groups<A>, items: u16) -> Result<Self, AllocError>
+        requires { length groups.now.group_of ≡ items }
+        ensures { IfOk result (λ q. AreNoted groups.now [] q.count q.stood.items q.lane_of_group.items) }
+    {
+        let stood = vec![in alloc; false; usize::from(items)]?;
+        let lane_of_group = vec![in alloc; None; usize::from(groups.len())]?;
+        Ok(Queues {
+            count: 0,
+            stood,
+            lane_of_group,
+        })
+    }
+
+    /// These workqueues and one more with these items, by a line of this number.
+    fn with(self, line: u32, groups: &Groups<A>, items: &[ItemId]) -> Result<Self, CertError>
+        requires noted { (queues : List (List ℕ)) × AreNoted groups.now queues self.count self.stood.items self.lane_of_group.items }
+        requires room { self.count < 4096 }
+        requires items { All (λ i. i < length groups.now.group_of) items.now }
+        ensures queues { (queues : List (List ℕ)) → AreNoted groups.now queues self.count self.stood.items self.lane_of_group.items
+            → IfOk result (λ q. (fresh_items groups.now.group_of (concat queues) line items.now ≡ Ok items.now)
+            × AreNoted groups.now (queues ++ (items.now ∷ [])) q.count q.stood.items q.lane_of_group.items) }
+        ensures fault { (queues : List (List ℕ)) → AreNoted groups.now queues self.count self.stood.items self.lane_of_group.items
+            → IfErr result (λ e. fresh_items groups.now.group_of (concat queues) line items.now ≡ Err e) }
+    {
+        let Queues {
+            count,
+            stood,
+            lane_of_group,
+        } = self;
+        let Some(stood) = mark(stood, items) else {
+            return Err(CertError::NotAllItems { line });
+        };
+        let lane = LaneId::new(count);
+        let Some(lane_of_group) = settle(lane_of_group, groups, lane, items) else {
+            return Err(CertError::GroupSplit { line });
+        };
+        Ok(Queues {
+            count: count + 1,
+            stood,
+            lane_of_group,
+        })
+    }
+
+    /// These workqueues and the next, by its line.
+    pub(crate) fn read(
+        self,
+        alloc: A,
+        table: &ItemTable<'_, A>,
+        groups: &Groups<A>,
+        line: &Line<'_>,
+    ) -> Result<Self, CertError>
+        requires grouped { length groups.now.group_of ≡ length table.now.names }
+        requires noted { (queues : List (List ℕ)) × AreNoted groups.now queues self.count self.stood.items self.lane_of_group.items }
+        ensures queues { (queues : List (List ℕ)) → AreNoted groups.now queues self.count self.stood.items self.lane_of_group.items
+            → IfOk result (λ q. IsNextNoted table.now.names groups.now queues (cert_line line.now) q.count q.stood.items q.lane_of_group.items) }
+        ensures fault { (queues : List (List ℕ)) → AreNoted groups.now queues self.count self.stood.items self.lane_of_group.items
+            → IfErr result (λ e. IsCertFaultOf e (wq_reading table.now.names groups.now.group_of queues (cert_line line.now))) }
+    {
+        let items = read_items(alloc, table, self.count, line)?;
+        self.with(line.no(), groups, items.as_slice())
+    }
+
+    /// The assignment that these workqueues are, if each item stands on one.
+    pub(crate) fn assignment(self, alloc: A, groups: &Groups<A>) -> Result<Assignment<A>, CertError>
+        requires { (queues : List (List ℕ)) × AreNoted groups.now queues self.count self.stood.items self.lane_of_group.items }
+        ensures assignment { (queues : List (List ℕ)) → AreNoted groups.now queues self.count self.stood.items self.lane_of_group.items
+            → IfOk result (λ a. whole_assignment groups.now queues ≡ Ok a) }
+        ensures fault { (queues : List (List ℕ)) → AreNoted groups.now queues self.count self.stood.items self.lane_of_group.items
+            → IfErr result (λ e. IsCertFaultOf e (whole_assignment groups.now queues)) }
+    {
+        let _groups = groups.len();
+        if !are_all_marked(self.stood.as_slice()) {
+            return Err(CertError::NotAllItems { line: 0 });
+        }
+        let lanes = lanes_of(alloc, self.lane_of_group.as_slice())?;
+        Ok(Assignment::new(self.count, lanes).unwrap())
+    }
 }
