@@ -1,5 +1,6 @@
 -- Reading: what the lines of a certificate say, or the first fault, in a line by the first row of the table of refusals
--- that it meets: the form (40), the numbers (43), items that stand twice or nowhere (41), groups that are split (42).
+-- that it meets: the form (40), the numbers (43), items that stand twice (41), groups that are split (42). An item that
+-- stands nowhere is a fault of no line (41), judged behind the last `wq` line.
 use Rattle.std.specs.Prelude.{ℕ, zero, suc, ◌-◌, ◌==◌, ◌||◌, ◌&&◌, not, nat_le, nat_lt, if◌then◌else◌, Bool, false, List, [], ◌∷◌, ◌++◌, length, map, slice_index, unwrap_or, Option, Some, None, Result, Ok, Err, ok_or, codes}
 use Rattle.std.specs.List.{list_any, list_all, concat, position, range_with_len}
 use Rattle.wq_groups.specs.Partition.{Partition}
@@ -23,7 +24,7 @@ abbrev pub and_then : {V W : Type 0} → (V → Result W CertError) → Result V
 and_then next (Ok v) = next v
 and_then next (Err fault) = Err fault
 
--- a value, and the lines behind those of which it was read
+-- what follows a value and the lines behind it
 abbrev pub and_read : {V W : Type 0} → (V → List CertLine → Result W CertError) → Read V → Result W CertError
 and_read {V} next r = and_then (λ (p : V × List CertLine). next p.0 p.1) r
 
@@ -54,7 +55,7 @@ count_reading keyword line =
 abbrev pub arc_reading : List (List ℕ) → CertLine → Result (ℕ × ℕ) CertError
 arc_reading names line = ok_or (arc_form names line.words) (BadCertLine line.no)
 
--- the workqueue of a step is below 4,096, if it names one
+-- the step names a workqueue above 4,095
 abbrev pub names_far_lane : Step → Bool
 names_far_lane (Queue i) = false
 names_far_lane (Cancel i) = false
@@ -86,7 +87,7 @@ has_stood before (i ∷ items) = stands_in before i || has_stood (before ++ (i �
 abbrev pub holds_member : List ℕ → List ℕ → ℕ → Bool
 holds_member group_of items g = list_any (λ i. slice_index group_of i == g) items
 
--- an item of the list shares its group with one of the other list
+-- an item of the list shares its group with one of the other list, judged where no item of it stands there
 abbrev pub splits_group : List ℕ → List ℕ → List ℕ → Bool
 splits_group group_of before items = list_any (λ i. holds_member group_of before (slice_index group_of i)) items
 
@@ -101,7 +102,8 @@ abbrev pub fresh_items : List ℕ → List ℕ → ℕ → List ℕ → Result (
 fresh_items group_of before n items =
     if has_stood before items then Err (NotAllItems n) else (if splits_group group_of before items then Err (GroupSplit n) else Ok items)
 
--- the items on the next workqueue, where these are those on the workqueues before it
+-- the items on the next workqueue, where these are those on the workqueues before it: of a line its form is judged, then
+-- its number, which is that of its place and below 4,096, then items that stand again, then groups that are split
 abbrev pub wq_reading : List (List ℕ) → List ℕ → List (List ℕ) → CertLine → Result (List ℕ) CertError
 wq_reading names group_of queues line = and_then (λ items. fresh_items group_of (concat queues) line.no items) (wq_items names (length queues) line)
 
@@ -127,7 +129,7 @@ hold_all items queues = list_all (stands_in (concat queues)) (range_with_len 0 i
 abbrev pub queue_with : List ℕ → List (List ℕ) → ℕ → Option ℕ
 queue_with group_of queues g = position (λ items. holds_member group_of items g) queues
 
--- the workqueue of a group: the one that holds a member of it
+-- the workqueue of a group that has a member: the one that holds a member of it
 abbrev pub queue_of_group : List ℕ → List (List ℕ) → ℕ → ℕ
 queue_of_group group_of queues g = unwrap_or (queue_with group_of queues g) 0
 
