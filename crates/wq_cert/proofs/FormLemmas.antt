@@ -1,0 +1,99 @@
+-- Forms: a number by its one spelling, and names one after the other.
+use Rattle.std.proofs.Common.{◌≡◌, ℕ, ◌<◌, ◌^◌, Bool, true, false, ◌&&◌, cond, ltb, List, [], ◌∷◌, ◌++◌, Option, Some, None, refl, sym, ap, ap₂, subst, ◌∙◌, arith, append_assoc, append-nil, lt-ltb, ltb-true}
+use Rattle.std.specs.Prelude.{IfSome, IfNone, option_map, bytes_eq, decimal}
+use Rattle.std.specs.Option.{option_zip}
+use Rattle.std.specs.Str.Parse.{digits_value, AllDigits}
+use Rattle.std.proofs.lemmas.Bool.{cond-false, false_from_ne_true}
+use Rattle.std.proofs.lemmas.Fmt.{digits_value-decimal}
+use Rattle.std.proofs.lemmas.Str.Parse.{IsNumeralModel, numerals_by_value, tells_digits}
+use Rattle.wq_text.specs.Numbers.{Spells}
+use Rattle.wq_text.specs.Words.{WordView}
+use Rattle.wq_items.specs.Table.{item_named}
+use Rattle.wq_groups.proofs.Among.{same_name, bytes_eq-same}
+use Rattle.wq_cert.specs.Lines.{bytes_of}
+use Rattle.wq_cert.specs.Forms.{number_of, items_of}
+
+-- ---- numbers
+
+own : IsNumeralModel (AllDigits 10) (digits_value 10)
+own = numerals_by_value _ tells_digits
+
+-- a word and a value that may be its number
+is_spelling : List ℕ → ℕ → Bool
+is_spelling word n = bytes_eq word (decimal n) && ltb n (2 ^ 32)
+
+is_spelling-true : (word : List ℕ) (n : ℕ) → Spells word n → is_spelling word n ≡ true
+unfolding is_spelling
+is_spelling-true word n s = ap₂ (λ (a b : Bool). a && b) (bytes_eq-same word (decimal n) s.digits) (lt-ltb n (2 ^ 32) s.fits)
+
+both : (a b : Bool) → (a && b) ≡ true → (a ≡ true) × (b ≡ true)
+both true true e = (refl, refl)
+both true false e = absurd cc
+both false b e = absurd cc
+
+spelled : (word : List ℕ) (n : ℕ) → is_spelling word n ≡ true → Spells word n
+unfolding is_spelling
+spelled word n e =
+    let p = both (bytes_eq word (decimal n)) (ltb n (2 ^ 32)) e in
+    record { fits = ltb-true n (2 ^ 32) p.1; digits = same_name word (decimal n) p.0 }
+
+number_of-spelled : (word : List ℕ) (n : ℕ) → Spells word n → Some n ≡ number_of word
+unfolding is_spelling
+number_of-spelled word n s =
+    let value : digits_value 10 word ≡ n = ap (digits_value 10) s.digits ∙ digits_value-decimal own n (omega (arith, s.fits)) in
+    sym (ap (λ (m : ℕ). cond (is_spelling word m) (Some m) None) value ∙ ap (λ (b : Bool). cond b (Some n) None) (is_spelling-true word n s))
+
+number_of-none : (word : List ℕ) → ((n : ℕ) → Spells word n → ⊥) → None ≡ number_of word
+unfolding is_spelling
+number_of-none word none =
+    let n = digits_value 10 word in
+    sym (cond-false (is_spelling word n) (Some n) None (false_from_ne_true (is_spelling word n) (λ e. none n (spelled word n e))))
+
+-- what is read of a word is its number
+pub number_of-is : (word : List ℕ) (o : Option ℕ) → IfSome o (λ n. Spells word n) → IfNone o ((n : ℕ) → Spells word n → ⊥) → o ≡ number_of word
+number_of-is word None some none = number_of-none word none
+number_of-is word (Some n) some none = number_of-spelled word n some
+
+-- ---- names
+
+and_more : Option ℕ → Option (List ℕ) → Option (List ℕ)
+and_more item items = option_map (λ (p : ℕ × List ℕ). p.0 ∷ p.1) (option_zip item items)
+
+-- `rest` of all the words are left: those in front name these items
+pub record FoundSoFar (names : List (List ℕ)) (items : List ℕ) (rest words : List WordView) : Type 0 where
+  pub known : option_map (λ (is : List ℕ). items ++ is) (items_of names (bytes_of rest)) ≡ items_of names (bytes_of words)
+
+same_items : (o : Option (List ℕ)) → option_map (λ (is : List ℕ). [] ++ is) o ≡ o
+same_items None = refl
+same_items (Some is) = refl
+
+pub FoundSoFar-none : (names : List (List ℕ)) (items : List ℕ) (words : List WordView) → items ≡ [] → FoundSoFar names items words words
+FoundSoFar-none names items words none =
+    record { known = ap (λ (front : List ℕ). option_map (λ (is : List ℕ). front ++ is) (items_of names (bytes_of words))) none ∙ same_items (items_of names (bytes_of words)) }
+
+one_more : (i : ℕ) (items : List ℕ) (o : Option (List ℕ)) → option_map (λ (is : List ℕ). (items ++ (i ∷ [])) ++ is) o ≡ option_map (λ (is : List ℕ). items ++ is) (and_more (Some i) o)
+unfolding and_more
+one_more i items None = refl
+one_more i items (Some is) = ap (λ (l : List ℕ). Some l) (append_assoc items (i ∷ []) is)
+
+pub FoundSoFar-more : (names : List (List ℕ)) (items : List ℕ) (w : WordView) (rest words : List WordView) (i : ℕ) → item_named names w.bytes ≡ Some i → FoundSoFar names items (w ∷ rest) words
+    → FoundSoFar names (items ++ (i ∷ [])) rest words
+unfolding and_more
+FoundSoFar-more names items w rest words i found h = record {
+  known = one_more i items (items_of names (bytes_of rest))
+      ∙ ap (λ (o : Option ℕ). option_map (λ (is : List ℕ). items ++ is) (and_more o (items_of names (bytes_of rest)))) (sym found) ∙ h.known;
+}
+
+pub FoundSoFar-unknown : (names : List (List ℕ)) (items : List ℕ) (w : WordView) (rest words : List WordView) → item_named names w.bytes ≡ None → FoundSoFar names items (w ∷ rest) words
+    → None ≡ items_of names (bytes_of words)
+unfolding and_more
+FoundSoFar-unknown names items w rest words absent h =
+    sym (ap (λ (o : Option ℕ). option_map (λ (is : List ℕ). items ++ is) (and_more o (items_of names (bytes_of rest)))) absent) ∙ h.known
+
+append_none : (o : Option (List ℕ)) (items : List ℕ) → o ≡ Some [] → Some items ≡ option_map (λ (is : List ℕ). items ++ is) o
+append_none None items e = absurd cc
+append_none (Some []) items e = ap (λ (l : List ℕ). Some l) (sym (append-nil items))
+append_none (Some (i ∷ is)) items e = absurd cc
+
+pub FoundSoFar-all : (names : List (List ℕ)) (items : List ℕ) (words : List WordView) → FoundSoFar names items [] words → Some items ≡ items_of names (bytes_of words)
+FoundSoFar-all names items words h = append_none (items_of names (bytes_of [])) items refl ∙ h.known

@@ -1,0 +1,6 @@
+mod FormLemmas
+mod ReadLemmas
+mod StoodLemmas
+mod LaneLemmas
+mod NotedLemmas
+mod WholeLemmas

@@ -1,0 +1,242 @@
+-- What is noted of the workqueues that are read so far, and the assignment that they are.
+use Rattle.std.proofs.Common.{◌≡◌, ℕ, zero, suc, ◌+◌, ◌-◌, ◌<◌, ◌≤◌, ◌==◌, inl, inr, Bool, true, false, not, ◌||◌, cond, leb, eqb, List, [], ◌∷◌, ◌++◌, length, map, get_or, take, Option, Some, None, Result, Ok, Err, refl, sym, ap, ap₂, subst, subst₂, ◌∙◌, arith, append-nil}
+use Rattle.std.specs.Prelude.{Contains, replicate, unwrap_or, option_map, ok_or, bytes_eq, codes}
+use Rattle.std.specs.List.{All, list_all, list_any, concat, range_with_len}
+use Rattle.std.specs.Option.{option_zip}
+use Rattle.std.proofs.lemmas.Bool.{cases_Bool, cases_lt, eq-eqb, eqb-true, both_ways, le-leb}
+use Rattle.std.proofs.lemmas.List.{length-append, get_or_default, take_all, append_assoc}
+use Rattle.std.proofs.lemmas.List.Elements.{All-nil, All-cons}
+use Rattle.std.proofs.lemmas.List.Folds.{list_all-map, list_all_at, list_any-append, list_any_at, Any-from_list_any}
+use Rattle.std.proofs.lemmas.List.FromFn.{length-map-range_with_len, get_or-map-range_with_len}
+use Rattle.std.proofs.lemmas.Simd.{map-map}
+use Rattle.wq_text.specs.Lines.{LineView}
+use Rattle.wq_items.specs.Table.{item_named}
+use Rattle.wq_items.proofs.TableLemmas.{item_named-below}
+use Rattle.wq_groups.specs.Partition.{Partition, IsPartition}
+use Rattle.wq_groups.specs.Assignment.{Assignment, IsAssignment}
+use Rattle.wq_cert.specs.declared.fault.CertError.{CertError}
+use Rattle.wq_cert.specs.declared.fault.CertError.TheVariants.{BadCertLine, NotAllItems, GroupSplit, NumberOutOfRange, OutOfMemory}
+use Rattle.wq_cert.specs.Lines.{CertLine, cert_line}
+use Rattle.wq_cert.specs.Forms.{begins_with, number_of, wq_form, items_of}
+use Rattle.wq_cert.specs.Reading.{Read, and_then, and_read, next_line, stands_in, has_stood, holds_member, splits_group, wq_items, fresh_items, wq_reading, next_queues, all_queues, hold_all, queue_with, queue_of_group, assignment_of, whole_assignment}
+use Rattle.wq_cert.specs.Noted.{marks, lanes_with, AreNoted, IsNextNoted, AreRead, AreAllRead, first_number}
+use Rattle.wq_cert.specs.Texts.{IsCertFaultOf}
+use Rattle.wq_cert.proofs.ReadLemmas.{IsCertFaultOf-err, IsCertFaultOf-then}
+use Rattle.wq_cert.proofs.LaneLemmas.{HasQueue-held}
+
+-- ---- no workqueue
+
+replicate_is : {X : Type 0} (a n : ℕ) (v : X) → replicate n v ≡ map (λ (k : ℕ). v) (range_with_len a n)
+replicate_is a zero v = refl
+replicate_is {X} a (suc n) v = ap (λ (vs : List X). v ∷ vs) (replicate_is (a + 1) n v)
+
+pub AreNoted-none : (p : Partition) (n : ℕ) (stood : List Bool) (lanes : List (Option ℕ)) → length p.group_of ≡ n → stood ≡ replicate n false → lanes ≡ replicate p.groups None → AreNoted p [] 0 stood lanes
+AreNoted-none p n stood lanes all unmarked free = record {
+  number = refl;
+  few = omega arith;
+  items = unmarked ∙ replicate_is 0 n false ∙ ap (λ k. marks k []) (sym all);
+  groups = free ∙ replicate_is 0 p.groups None;
+}
+
+-- ---- one workqueue more
+
+module _ (p : Partition) (queues : List (List ℕ)) (count : ℕ) (stood : List Bool) (lanes : List (Option ℕ)) (noted : AreNoted p queues count stood lanes) (items : List ℕ) (n : ℕ) where
+  pub fresh_items-twice : has_stood (concat queues) items ≡ true → fresh_items p.group_of (concat queues) n items ≡ Err (NotAllItems n)
+  fresh_items-twice twice = ap (λ b. cond b (Err (NotAllItems n)) (cond (splits_group p.group_of (concat queues) items) (Err (GroupSplit n)) (Ok items))) twice
+
+  pub fresh_items-split : has_stood (concat queues) items ≡ false → splits_group p.group_of (concat queues) items ≡ true → fresh_items p.group_of (concat queues) n items ≡ Err (GroupSplit n)
+  fresh_items-split once split = ap₂ (λ a b. cond a (Err (NotAllItems n)) (cond b (Err (GroupSplit n)) (Ok items))) once split
+
+  pub fresh_items-fresh : has_stood (concat queues) items ≡ false → splits_group p.group_of (concat queues) items ≡ false → fresh_items p.group_of (concat queues) n items ≡ Ok items
+  fresh_items-fresh once apart = ap₂ (λ a b. cond a (Err (NotAllItems n)) (cond b (Err (GroupSplit n)) (Ok items))) once apart
+
+concat-push : (queues : List (List ℕ)) (items : List ℕ) → concat (queues ++ (items ∷ [])) ≡ concat queues ++ items
+concat-push [] items = append-nil items
+concat-push (front ∷ queues) items = ap (λ (is : List ℕ). front ++ is) (concat-push queues items) ∙ sym (append_assoc front (concat queues) items)
+
+pub AreNoted-more : (p : Partition) (queues : List (List ℕ)) (count : ℕ) (stood more_stood : List Bool) (lanes more_lanes : List (Option ℕ)) (items : List ℕ) → count < 4096 → AreNoted p queues count stood lanes
+    → more_stood ≡ marks (length p.group_of) (concat queues ++ items) → more_lanes ≡ lanes_with p (queues ++ (items ∷ [])) → AreNoted p (queues ++ (items ∷ [])) (count + 1) more_stood more_lanes
+AreNoted-more p queues count stood more_stood lanes more_lanes items room noted marked settled = record {
+  number = omega (arith, noted.number, length-append queues (items ∷ []));
+  few = omega (arith, room);
+  items = marked ∙ ap (marks (length p.group_of)) (sym (concat-push queues items));
+  groups = settled;
+}
+
+pub wq_reading-is : (names : List (List ℕ)) (p : Partition) (queues : List (List ℕ)) (line : CertLine) (count : ℕ) → count ≡ length queues
+    → wq_reading names p.group_of queues line ≡ and_then (λ items. fresh_items p.group_of (concat queues) line.no items) (wq_items names count line)
+wq_reading-is names p queues line count same = ap (λ n. and_then (λ items. fresh_items p.group_of (concat queues) line.no items) (wq_items names n line)) (sym same)
+
+pub wq_reading-fresh : (names : List (List ℕ)) (p : Partition) (queues : List (List ℕ)) (line : CertLine) (count : ℕ) (items : List ℕ) → count ≡ length queues → wq_items names count line ≡ Ok items
+    → wq_reading names p.group_of queues line ≡ fresh_items p.group_of (concat queues) line.no items
+wq_reading-fresh names p queues line count items same read =
+    wq_reading-is names p queues line count same ∙ ap (and_then (λ items. fresh_items p.group_of (concat queues) line.no items)) read
+
+-- ---- items that are read are declared
+
+some_same : (a b : List ℕ) → Some a ≡ Some b → a ≡ b
+some_same a b e = cc
+
+below_both : (names words : List (List ℕ)) (o : Option ℕ) (q : Option (List ℕ)) (items : List ℕ) → ((i : ℕ) → o ≡ Some i → i < length names) → ((is : List ℕ) → q ≡ Some is → All (λ i. i < length names) is)
+    → option_map (λ (r : ℕ × List ℕ). r.0 ∷ r.1) (option_zip o q) ≡ Some items → All (λ i. i < length names) items
+below_both names words None q items one others e = absurd cc
+below_both names words (Some i) None items one others e = absurd cc
+below_both names words (Some i) (Some is) items one others e =
+    subst (All (λ i. i < length names)) (some_same (i ∷ is) items e) (All-cons (λ i. i < length names) i is (one i refl) (others is refl))
+
+pub below_all : (names words : List (List ℕ)) (items : List ℕ) → items_of names words ≡ Some items → All (λ i. i < length names) items
+below_all names [] items e = subst (All (λ i. i < length names)) (some_same [] items e) (All-nil (λ i. i < length names))
+below_all names (word ∷ words) items e =
+    below_both names words (item_named names word) (items_of names words) items (λ i found. item_named-below names word i found) (λ is rest. below_all names words is rest) e
+
+zip_second : (b : Bool) (o : Option ℕ) (q : Option (List ℕ)) (n : ℕ) (items : List ℕ) → cond b (option_zip o q) None ≡ Some (n, items) → q ≡ Some items
+zip_second true None q n items e = absurd cc
+zip_second true (Some m) None n items e = absurd cc
+zip_second true (Some m) (Some is) n items e = ap (option_map (λ (r : ℕ × List ℕ). r.1)) e
+zip_second false o q n items e = absurd cc
+
+wq_form-below : (names words : List (List ℕ)) (n : ℕ) (items : List ℕ) → wq_form names words ≡ Some (n, items) → All (λ i. i < length names) items
+wq_form-below names [] n items e = absurd cc
+wq_form-below names (word ∷ []) n items e = absurd cc
+wq_form-below names (word ∷ number ∷ words) n items e =
+    below_all names words items (zip_second (bytes_eq word (codes "wq")) (number_of number) (items_of names words) n items e)
+
+-- the parts of a line that is read
+record IsNumbered (form : Option (ℕ × List ℕ)) (place : ℕ) (items : List ℕ) : Type 0 where
+  number : ℕ
+  is : form ≡ Some (number, items)
+  near : place < 4096
+
+numbered : (form : Option (ℕ × List ℕ)) (place at : ℕ) (items : List ℕ)
+    → and_then (λ (q : ℕ × List ℕ). cond (not (q.0 == place) || leb 4096 place) (Err (NumberOutOfRange at)) (Ok q.1)) (ok_or form (BadCertLine at)) ≡ Ok items → IsNumbered form place items
+numbered None place at items e = absurd cc
+numbered (Some q) place at items e = chosen (q.0 == place) (leb 4096 place) refl e
+  where
+    chosen : (same far : Bool) → leb 4096 place ≡ far → cond (not same || far) (Err (NumberOutOfRange at)) (Ok q.1) ≡ Ok items → IsNumbered (Some q) place items
+    chosen true true is e = absurd cc
+    chosen false far is e = absurd cc
+    chosen true false is e = record {
+      number = q.0;
+      is = let same : q.1 ≡ items = cc in ap (λ (is : List ℕ). let pair : ℕ × List ℕ = (q.0, is) in Some pair) same;
+      near = elim (cases_lt place 4096) [ inl lt ↦ lt | inr le ↦ absurd (both_ways (leb 4096 place) is (le-leb 4096 place le)) ];
+    }
+
+pub wq_items-below : (names : List (List ℕ)) (place : ℕ) (line : CertLine) (items : List ℕ) → wq_items names place line ≡ Ok items → All (λ i. i < length names) items
+wq_items-below names place line items e = let h = numbered (wq_form names line.words) place line.no items e in wq_form-below names line.words h.number items h.is
+
+pub wq_items-near : (names : List (List ℕ)) (place : ℕ) (line : CertLine) (items : List ℕ) → wq_items names place line ≡ Ok items → place < 4096
+wq_items-near names place line items e = (numbered (wq_form names line.words) place line.no items e).near
+
+-- ---- so many workqueues
+
+-- after some of n workqueues so many are left, from the lines of `rest` on
+pub record ReadSome (names : List (List ℕ)) (p : Partition) (n : ℕ) (lines : List CertLine) (count : ℕ) (stood : List Bool) (lanes : List (Option ℕ)) (left : ℕ) (rest : List CertLine) : Type 0 where
+  pub queues : List (List ℕ)
+  pub noted : AreNoted p queues count stood lanes
+  pub goes_on : next_queues names p.group_of n [] lines ≡ next_queues names p.group_of left queues rest
+
+pub ReadSome-none : (names : List (List ℕ)) (p : Partition) (n : ℕ) (lines : List CertLine) (count : ℕ) (stood : List Bool) (lanes : List (Option ℕ)) → AreNoted p [] count stood lanes → ReadSome names p n lines count stood lanes n lines
+ReadSome-none names p n lines count stood lanes noted = record { queues = []; noted = noted; goes_on = refl }
+
+-- what the next workqueue gives
+next_queue : List (List ℕ) → Partition → ℕ → List (List ℕ) → List CertLine → Result (List ℕ) CertError → Read (List (List ℕ))
+next_queue names p m queues rest r = and_read (λ items behind. next_queues names p.group_of m (queues ++ (items ∷ [])) behind) (and_then (λ (v : List ℕ). Ok (v, rest)) r)
+
+next_queue-then : (names : List (List ℕ)) (p : Partition) (m : ℕ) (queues : List (List ℕ)) (rest : List CertLine) (r : Result (List ℕ) CertError)
+    → next_queue names p m queues rest r ≡ and_then (λ (items : List ℕ). next_queues names p.group_of m (queues ++ (items ∷ [])) rest) r
+unfolding next_queue
+next_queue-then names p m queues rest (Ok items) = refl
+next_queue-then names p m queues rest (Err e) = refl
+
+module _ (names : List (List ℕ)) (p : Partition) (n i : ℕ) (lines : List CertLine) (count : ℕ) (stood : List Bool) (lanes : List (Option ℕ)) (left : List LineView) (h : ReadSome names p n lines count stood lanes (n - i) (map cert_line left)) where
+  next_goes_on : i < n → (views : List LineView) → left ≡ views → next_queues names p.group_of n [] lines ≡ next_queues names p.group_of (suc (n - (i + 1))) h.queues (map cert_line views)
+  next_goes_on lt views is =
+      let fewer : n - i ≡ suc (n - (i + 1)) = omega arith in
+      subst₂ (λ (m : ℕ) (ls : List LineView). next_queues names p.group_of n [] lines ≡ next_queues names p.group_of m h.queues (map cert_line ls)) fewer is h.goes_on
+
+  pub ReadSome-more : (line : LineView) (rest : List LineView) (more_count : ℕ) (more_stood : List Bool) (more_lanes : List (Option ℕ)) → i < n → left ≡ line ∷ rest
+      → IsNextNoted names p h.queues (cert_line line) more_count more_stood more_lanes → ReadSome names p n lines more_count more_stood more_lanes (n - (i + 1)) (map cert_line rest)
+  unfolding next_queue
+  ReadSome-more line rest more_count more_stood more_lanes lt first next = record {
+    queues = h.queues ++ (next.items ∷ []);
+    noted = next.noted;
+    goes_on = next_goes_on lt (line ∷ rest) first ∙ ap (next_queue names p (n - (i + 1)) h.queues (map cert_line rest)) next.read;
+  }
+
+  fault_goes_on : (line : LineView) (rest : List LineView) → i < n → left ≡ line ∷ rest → next_queues names p.group_of n [] lines ≡ next_queue names p (n - (i + 1)) h.queues (map cert_line rest) (wq_reading names p.group_of h.queues (cert_line line))
+  unfolding next_queue
+  fault_goes_on line rest lt first = next_goes_on lt (line ∷ rest) first
+
+  pub ReadSome-fault : (line : LineView) (rest : List LineView) (e : CertError) → i < n → left ≡ line ∷ rest → IsCertFaultOf e (wq_reading names p.group_of h.queues (cert_line line))
+      → IsCertFaultOf e (next_queues names p.group_of n [] lines)
+  ReadSome-fault line rest e lt first fault =
+      let all : List CertLine = map cert_line rest in
+      IsCertFaultOf-then (λ (items : List ℕ). next_queues names p.group_of (n - (i + 1)) (h.queues ++ (items ∷ [])) all) e (wq_reading names p.group_of h.queues (cert_line line)) (next_queues names p.group_of n [] lines)
+      (fault_goes_on line rest lt first ∙ next_queue-then names p (n - (i + 1)) h.queues (map cert_line rest) (wq_reading names p.group_of h.queues (cert_line line))) fault
+
+  pub ReadSome-short : i < n → left ≡ [] → next_queues names p.group_of n [] lines ≡ Err (BadCertLine 0)
+  ReadSome-short lt none = next_goes_on lt [] none
+
+  pub ReadSome-all : n ≤ i → AreRead names p n lines count stood lanes (map cert_line left)
+  ReadSome-all le =
+      let nothing : n - i ≡ zero = omega arith in
+      record {
+        queues = h.queues;
+        noted = h.noted;
+        read = h.goes_on ∙ ap (λ m. next_queues names p.group_of m h.queues (map cert_line left)) nothing;
+      }
+
+-- ---- all workqueues
+
+-- after some of the lines `rest` is left
+pub record ReadSoFar (names : List (List ℕ)) (p : Partition) (lines : List CertLine) (count : ℕ) (stood : List Bool) (lanes : List (Option ℕ)) (rest : List CertLine) : Type 0 where
+  pub queues : List (List ℕ)
+  pub noted : AreNoted p queues count stood lanes
+  pub goes_on : all_queues names p.group_of [] lines ≡ all_queues names p.group_of queues rest
+
+pub ReadSoFar-none : (names : List (List ℕ)) (p : Partition) (lines : List CertLine) (count : ℕ) (stood : List Bool) (lanes : List (Option ℕ)) → AreNoted p [] count stood lanes → ReadSoFar names p lines count stood lanes lines
+ReadSoFar-none names p lines count stood lanes noted = record { queues = []; noted = noted; goes_on = refl }
+
+module _ (names : List (List ℕ)) (p : Partition) (lines : List CertLine) (count : ℕ) (stood : List Bool) (lanes : List (Option ℕ)) (left : List LineView) (h : ReadSoFar names p lines count stood lanes (map cert_line left)) where
+  step : List CertLine → CertLine → Bool → Result (List ℕ) CertError → Read (List (List ℕ))
+  step rest line is_wq r = cond is_wq (and_then (λ items. all_queues names p.group_of (h.queues ++ (items ∷ [])) rest) r) (Ok (h.queues, line ∷ rest))
+
+  steps : (line : LineView) (rest : List LineView) → left ≡ line ∷ rest
+      → all_queues names p.group_of [] lines ≡ step (map cert_line rest) (cert_line line) (begins_with (codes "wq") (cert_line line).words) (wq_reading names p.group_of h.queues (cert_line line))
+  unfolding step
+  steps line rest first = h.goes_on ∙ ap (λ (ls : List LineView). all_queues names p.group_of h.queues (map cert_line ls)) first
+
+  pub ReadSoFar-more : (line : LineView) (rest : List LineView) (more_count : ℕ) (more_stood : List Bool) (more_lanes : List (Option ℕ)) → left ≡ line ∷ rest → begins_with (codes "wq") (cert_line line).words ≡ true
+      → IsNextNoted names p h.queues (cert_line line) more_count more_stood more_lanes → ReadSoFar names p lines more_count more_stood more_lanes (map cert_line rest)
+  unfolding step
+  ReadSoFar-more line rest more_count more_stood more_lanes first is_wq next = record {
+    queues = h.queues ++ (next.items ∷ []);
+    noted = next.noted;
+    goes_on = steps line rest first ∙ ap₂ (step (map cert_line rest) (cert_line line)) is_wq next.read;
+  }
+
+  pub ReadSoFar-fault : (line : LineView) (rest : List LineView) (e : CertError) → left ≡ line ∷ rest → begins_with (codes "wq") (cert_line line).words ≡ true → IsCertFaultOf e (wq_reading names p.group_of h.queues (cert_line line))
+      → IsCertFaultOf e (all_queues names p.group_of [] lines)
+  unfolding step
+  ReadSoFar-fault line rest e first is_wq fault =
+      IsCertFaultOf-then (λ (items : List ℕ). all_queues names p.group_of (h.queues ++ (items ∷ [])) (map cert_line rest)) e (wq_reading names p.group_of h.queues (cert_line line)) (all_queues names p.group_of [] lines)
+      (steps line rest first ∙ ap (λ b. step (map cert_line rest) (cert_line line) b (wq_reading names p.group_of h.queues (cert_line line))) is_wq) fault
+
+  pub ReadSoFar-stop : (line : LineView) (rest : List LineView) (at : ℕ) → left ≡ line ∷ rest → begins_with (codes "wq") (cert_line line).words ≡ false → at ≡ line.no → AreAllRead names p lines count stood lanes (Some at)
+  unfolding step
+  ReadSoFar-stop line rest at first other number = record {
+    queues = h.queues;
+    rest = cert_line line ∷ map cert_line rest;
+    noted = h.noted;
+    read = steps line rest first ∙ ap (λ b. step (map cert_line rest) (cert_line line) b (wq_reading names p.group_of h.queues (cert_line line))) other;
+    line = ap (λ (n : ℕ). Some n) number;
+  }
+
+  pub ReadSoFar-all : left ≡ [] → AreAllRead names p lines count stood lanes None
+  ReadSoFar-all none = record {
+    queues = h.queues;
+    rest = [];
+    noted = h.noted;
+    read = h.goes_on ∙ ap (λ (ls : List LineView). all_queues names p.group_of h.queues (map cert_line ls)) none;
+    line = refl;
+  }

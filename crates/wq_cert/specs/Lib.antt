@@ -1,0 +1,14 @@
+pub use Rattle.wq_text.specs.Refusal
+pub use Rattle.wq_items.specs.Table
+pub use Rattle.wq_groups.specs.Assignment
+pub use Rattle.wq_core.specs.Wiring
+pub mod Certificate
+pub mod Lines
+pub mod Forms
+pub mod Reading
+pub mod Noted
+pub mod Texts
+pub mod LineText
+pub mod PlanText
+pub mod RunText
+pub mod CircleText

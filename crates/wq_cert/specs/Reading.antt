@@ -1,0 +1,214 @@
+-- Reading: what the lines of a certificate say, or the first fault, in a line by the first row of the table of refusals
+-- that it meets: the form (40), the numbers (43), items that stand twice (41), groups that are split (42). An item that
+-- stands nowhere is a fault of no line (41), judged behind the last `wq` line.
+use Rattle.std.specs.Prelude.{ℕ, zero, suc, ◌-◌, ◌==◌, ◌||◌, ◌&&◌, not, nat_le, nat_lt, if◌then◌else◌, Bool, false, List, [], ◌∷◌, ◌++◌, length, map, slice_index, unwrap_or, Option, Some, None, Result, Ok, Err, ok_or, codes}
+use Rattle.std.specs.List.{list_any, list_all, concat, position, range_with_len}
+use Rattle.wq_groups.specs.Partition.{Partition}
+use Rattle.wq_groups.specs.Assignment.{Assignment}
+use Rattle.wq_core.specs.declared.step.Step.{Step}
+use Rattle.wq_core.specs.declared.step.Step.TheVariants.{Queue, Cancel, Start, Wait, Over, Finish}
+use Rattle.wq_cert.specs.declared.fault.CertError.{CertError}
+use Rattle.wq_cert.specs.declared.fault.CertError.TheVariants.{BadCertLine, NotAllItems, GroupSplit, NumberOutOfRange}
+use Rattle.wq_cert.specs.Certificate.{PlanCertificate, CircleCertificate, Certificate, OfPlan, OfCircle}
+use Rattle.wq_cert.specs.Lines.{CertLine}
+use Rattle.wq_cert.specs.Forms.{begins_with, count_form, wq_form, arc_form, step_form}
+
+-- ---- one thing after the other
+
+-- a value that is read, and the lines behind it; or the first fault
+abbrev pub Read : Type 0 → Type 0
+Read V = Result (V × List CertLine) CertError
+
+-- what follows a value, where there is one
+abbrev pub and_then : {V W : Type 0} → (V → Result W CertError) → Result V CertError → Result W CertError
+and_then next (Ok v) = next v
+and_then next (Err fault) = Err fault
+
+-- what follows a value and the lines behind it
+abbrev pub and_read : {V W : Type 0} → (V → List CertLine → Result W CertError) → Read V → Result W CertError
+and_read {V} next r = and_then (λ (p : V × List CertLine). next p.0 p.1) r
+
+-- the next line, read so; a text that ends before it ends too early, which is a fault of no line
+abbrev pub next_line : {V : Type 0} → (CertLine → Result V CertError) → List CertLine → Read V
+next_line read [] = Err (BadCertLine 0)
+next_line read (line ∷ lines) = and_then (λ v. Ok (v, lines)) (read line)
+
+-- so many lines, each read so
+abbrev pub next_lines : {V : Type 0} → (CertLine → Result V CertError) → ℕ → List CertLine → Read (List V)
+next_lines read zero lines = Ok ([], lines)
+next_lines read (suc n) lines = and_read (λ v rest. and_read (λ vs behind. Ok (v ∷ vs, behind)) (next_lines read n rest)) (next_line read lines)
+
+-- a value that no line follows
+abbrev pub at_end : {V : Type 0} → V → List CertLine → Result V CertError
+at_end v [] = Ok v
+at_end v (line ∷ lines) = Err (BadCertLine line.no)
+
+-- ---- lines
+
+-- `KEYWORD N`, where N is a count of workqueues, groups or arcs: at most 4,096
+abbrev pub count_reading : List ℕ → CertLine → Result ℕ CertError
+count_reading keyword line =
+    and_then (λ n. if nat_lt 4096 n then Err (NumberOutOfRange line.no) else Ok n)
+    (ok_or (count_form keyword line.words) (BadCertLine line.no))
+
+-- `arc NAME TARGET`
+abbrev pub arc_reading : List (List ℕ) → CertLine → Result (ℕ × ℕ) CertError
+arc_reading names line = ok_or (arc_form names line.words) (BadCertLine line.no)
+
+-- the step names a workqueue above 4,095
+abbrev pub names_far_lane : Step → Bool
+names_far_lane (Queue i) = false
+names_far_lane (Cancel i) = false
+names_far_lane (Start q i) = nat_lt 4095 q
+names_far_lane (Wait q b) = nat_lt 4095 q
+names_far_lane (Over q b) = nat_lt 4095 q
+names_far_lane (Finish q i) = nat_lt 4095 q
+
+-- the step that a line of this number says, if it says one and names no far workqueue
+abbrev pub step_in_range : ℕ → Option Step → Result Step CertError
+step_in_range n step = and_then (λ found. if names_far_lane found then Err (NumberOutOfRange n) else Ok found) (ok_or step (BadCertLine n))
+
+-- a step
+abbrev pub step_reading : List (List ℕ) → CertLine → Result Step CertError
+step_reading names line = step_in_range line.no (step_form names line.words)
+
+-- ---- workqueues
+
+-- an item stands in the list
+abbrev pub stands_in : List ℕ → ℕ → Bool
+stands_in items i = list_any (λ j. i == j) items
+
+-- an item of the list stands in it twice, or in the other one
+abbrev pub has_stood : List ℕ → List ℕ → Bool
+has_stood before [] = false
+has_stood before (i ∷ items) = stands_in before i || has_stood (before ++ (i ∷ [])) items
+
+-- an item of the list is of group g
+abbrev pub holds_member : List ℕ → List ℕ → ℕ → Bool
+holds_member group_of items g = list_any (λ i. slice_index group_of i == g) items
+
+-- an item of the list shares its group with one of the other list, judged where no item of it stands there
+abbrev pub splits_group : List ℕ → List ℕ → List ℕ → Bool
+splits_group group_of before items = list_any (λ i. holds_member group_of before (slice_index group_of i)) items
+
+-- `wq Q NAME..`, where Q is the place of the workqueue, below 4,096: the items
+abbrev pub wq_items : List (List ℕ) → ℕ → CertLine → Result (List ℕ) CertError
+wq_items names place line =
+    and_then (λ (p : ℕ × List ℕ). if not (p.0 == place) || nat_le 4096 place then Err (NumberOutOfRange line.no) else Ok p.1)
+    (ok_or (wq_form names line.words) (BadCertLine line.no))
+
+-- the items on line n, where these stand on the lines before it: none of them twice, nor with a group that stands there
+abbrev pub fresh_items : List ℕ → List ℕ → ℕ → List ℕ → Result (List ℕ) CertError
+fresh_items group_of before n items =
+    if has_stood before items then Err (NotAllItems n) else (if splits_group group_of before items then Err (GroupSplit n) else Ok items)
+
+-- the items on the next workqueue, where these are those on the workqueues before it: of a line its form is judged, then
+-- its number, which is that of its place and below 4,096, then items that stand again, then groups that are split
+abbrev pub wq_reading : List (List ℕ) → List ℕ → List (List ℕ) → CertLine → Result (List ℕ) CertError
+wq_reading names group_of queues line = and_then (λ items. fresh_items group_of (concat queues) line.no items) (wq_items names (length queues) line)
+
+-- so many workqueues behind these
+abbrev pub next_queues : List (List ℕ) → List ℕ → ℕ → List (List ℕ) → List CertLine → Read (List (List ℕ))
+next_queues names group_of zero queues lines = Ok (queues, lines)
+next_queues names group_of (suc n) queues lines =
+    and_read (λ items rest. next_queues names group_of n (queues ++ (items ∷ [])) rest) (next_line (wq_reading names group_of queues) lines)
+
+-- all workqueues behind these: they end before the first line with another first word
+abbrev pub all_queues : List (List ℕ) → List ℕ → List (List ℕ) → List CertLine → Read (List (List ℕ))
+all_queues names group_of queues [] = Ok (queues, [])
+all_queues names group_of queues (line ∷ lines) =
+    if begins_with (codes "wq") line.words
+    then and_then (λ items. all_queues names group_of (queues ++ (items ∷ [])) lines) (wq_reading names group_of queues line)
+    else Ok (queues, line ∷ lines)
+
+-- each of so many items stands on a workqueue
+abbrev pub hold_all : ℕ → List (List ℕ) → Bool
+hold_all items queues = list_all (stands_in (concat queues)) (range_with_len 0 items)
+
+-- the first workqueue that holds a member of group g, if one does
+abbrev pub queue_with : List ℕ → List (List ℕ) → ℕ → Option ℕ
+queue_with group_of queues g = position (λ items. holds_member group_of items g) queues
+
+-- the workqueue of a group that has a member: the one that holds a member of it
+abbrev pub queue_of_group : List ℕ → List (List ℕ) → ℕ → ℕ
+queue_of_group group_of queues g = unwrap_or (queue_with group_of queues g) 0
+
+-- the assignment that the workqueues are
+abbrev pub assignment_of : Partition → List (List ℕ) → Assignment
+assignment_of p queues = record { lanes = length queues; lane_of_group = map (queue_of_group p.group_of queues) (range_with_len 0 p.groups) }
+
+-- the assignment, where each item stands on a workqueue: one that stands on none is a fault of no line
+abbrev pub whole_assignment : Partition → List (List ℕ) → Result Assignment CertError
+whole_assignment p queues = if hold_all (length p.group_of) queues then Ok (assignment_of p queues) else Err (NotAllItems 0)
+
+-- ---- texts
+
+-- `chain N`, and N - 1 arcs, none where N is 0: N and the arcs
+abbrev pub chain_reading : List (List ℕ) → List CertLine → Result (ℕ × List (ℕ × ℕ)) CertError
+chain_reading names lines =
+    and_read (λ n behind_chain. and_read (λ arcs rest. at_end (n, arcs) rest) (next_lines (arc_reading names) (n - 1) behind_chain))
+    (next_line (count_reading (codes "chain")) lines)
+
+-- so many workqueues as an assignment
+abbrev pub counted_assignment : List (List ℕ) → Partition → ℕ → List CertLine → Read Assignment
+counted_assignment names p lanes lines =
+    and_read (λ queues rest. and_then (λ assignment. Ok (assignment, rest)) (whole_assignment p queues)) (next_queues names p.group_of lanes [] lines)
+
+-- `plan K`, K workqueues, and a chain
+abbrev pub plan_reading : List (List ℕ) → Partition → List CertLine → Result PlanCertificate CertError
+plan_reading names p lines =
+    and_read (λ lanes behind_plan.
+    and_read (λ assignment behind_queues.
+    and_then (λ (chain : ℕ × List (ℕ × ℕ)). Ok (record { assignment = assignment; length = chain.0; arcs = chain.1 }))
+    (chain_reading names behind_queues))
+    (counted_assignment names p lanes behind_plan))
+    (next_line (count_reading (codes "plan")) lines)
+
+-- `run M`, where M may be any number, and M steps
+abbrev pub run_reading : List (List ℕ) → List CertLine → Result (List Step) CertError
+run_reading names lines =
+    and_read (λ m behind_run.
+    and_read (λ steps rest. at_end steps rest)
+    (next_lines (step_reading names) m behind_run))
+    (next_line (λ line. ok_or (count_form (codes "run") line.words) (BadCertLine line.no)) lines)
+
+-- the run behind a circle, if there is one
+abbrev pub run_behind : List (List ℕ) → List CertLine → Result (Option (List Step)) CertError
+run_behind names [] = Ok None
+run_behind names (line ∷ lines) = and_then (λ steps. Ok (Some steps)) (run_reading names (line ∷ lines))
+
+-- `circle N`, where N isn't 0
+abbrev pub circle_count_reading : CertLine → Result ℕ CertError
+circle_count_reading line = and_then (λ n. if n == 0 then Err (NumberOutOfRange line.no) else Ok n) (count_reading (codes "circle") line)
+
+-- `circle N`, N arcs, and perhaps a run
+abbrev pub circle_reading : List (List ℕ) → List CertLine → Result CircleCertificate CertError
+circle_reading names lines =
+    and_read (λ n behind_circle.
+    and_read (λ arcs rest. and_then (λ steps. Ok (record { arcs = arcs; steps = steps })) (run_behind names rest))
+    (next_lines (arc_reading names) n behind_circle))
+    (next_line circle_count_reading lines)
+
+-- an answer: the text of a plan or of a circle, by its first word
+abbrev pub answer_reading : List (List ℕ) → Partition → List CertLine → Result Certificate CertError
+answer_reading names p [] = Err (BadCertLine 0)
+answer_reading names p (line ∷ lines) =
+    if begins_with (codes "circle") line.words then and_then (λ circle. Ok (OfCircle circle)) (circle_reading names (line ∷ lines))
+    else and_then (λ plan. Ok (OfPlan plan)) (plan_reading names p (line ∷ lines))
+
+-- an assignment by `wq` lines alone
+abbrev pub queues_reading : List (List ℕ) → Partition → List CertLine → Result Assignment CertError
+queues_reading names p lines =
+    and_read (λ queues rest. and_then (λ assignment. at_end assignment rest) (whole_assignment p queues))
+    (all_queues names p.group_of [] lines)
+
+-- whether the first word of all is `plan`
+abbrev pub begins_plan : List CertLine → Bool
+begins_plan [] = false
+begins_plan (line ∷ lines) = begins_with (codes "plan") line.words
+
+-- an assignment: a whole plan text where the first word is `plan`, else `wq` lines
+abbrev pub assignment_reading : List (List ℕ) → Partition → List CertLine → Result Assignment CertError
+assignment_reading names p lines =
+    if begins_plan lines then and_then (λ (plan : PlanCertificate). Ok plan.assignment) (plan_reading names p lines)
+    else queues_reading names p lines

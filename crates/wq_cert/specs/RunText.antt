@@ -1,0 +1,27 @@
+-- Run texts: the steps of a run, one on each line.
+use Rattle.std.specs.Prelude.{ℕ, List, [], ◌∷◌, length, map, flat_map, codes, decimal}
+use Rattle.wq_core.specs.declared.step.Step.{Step}
+use Rattle.wq_core.specs.declared.step.Step.TheVariants.{Queue, Cancel, Start, Wait, Over, Finish}
+use Rattle.wq_cert.specs.LineText.{line_text}
+use Rattle.wq_cert.specs.PlanText.{name_of}
+
+-- `run M`: how many steps there are
+abbrev pub run_line : List Step → List (List ℕ)
+run_line steps = codes "run" ∷ decimal (length steps) ∷ []
+
+-- the line of a step: its word, the workqueue of a rescuer's step, and the name of the item
+abbrev pub step_line : List (List ℕ) → Step → List (List ℕ)
+step_line names (Queue i) = codes "queue" ∷ name_of names i ∷ []
+step_line names (Cancel i) = codes "cancel" ∷ name_of names i ∷ []
+step_line names (Start q i) = codes "start" ∷ decimal q ∷ name_of names i ∷ []
+step_line names (Wait q b) = codes "wait" ∷ decimal q ∷ name_of names b ∷ []
+step_line names (Over q b) = codes "over" ∷ decimal q ∷ name_of names b ∷ []
+step_line names (Finish q i) = codes "finish" ∷ decimal q ∷ name_of names i ∷ []
+
+-- the lines of a run text, as words
+abbrev pub run_lines : List (List ℕ) → List Step → List (List (List ℕ))
+run_lines names steps = run_line steps ∷ map (step_line names) steps
+
+-- the run text
+abbrev pub run_text : List (List ℕ) → List Step → List ℕ
+run_text names steps = flat_map line_text (run_lines names steps)

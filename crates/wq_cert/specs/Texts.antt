@@ -1,0 +1,63 @@
+-- Texts of certificates: their limits, what they say, or their first fault.
+use Rattle.std.specs.Prelude.{◌≡◌, ℕ, List, Option, Some, None, Result, Err}
+use Rattle.wq_text.specs.declared.text.TextError.{TextError}
+use Rattle.wq_text.specs.declared.text.TextError.TheVariants.{TextTooLong, LineTooLong}
+use Rattle.wq_text.specs.Lines.{lines_of}
+use Rattle.wq_text.specs.Limits.{limit_fault}
+use Rattle.wq_text.specs.Refusal.{Refusal}
+use Rattle.wq_groups.specs.Partition.{Partition}
+use Rattle.wq_groups.specs.Assignment.{Assignment}
+use Rattle.wq_core.specs.declared.step.Step.{Step}
+use Rattle.wq_cert.specs.declared.fault.CertError.{CertError}
+use Rattle.wq_cert.specs.declared.fault.CertError.TheVariants.{BadCertLine, NotAllItems, GroupSplit, NumberOutOfRange, OutOfMemory}
+use Rattle.wq_cert.specs.Certificate.{Certificate}
+use Rattle.wq_cert.specs.Lines.{CertLine, cert_lines}
+use Rattle.wq_cert.specs.Reading.{answer_reading, assignment_reading, run_reading}
+
+-- how many bytes a certificate may have
+abbrev pub max_text : ℕ
+max_text = 8388608
+
+-- how many bytes a line of it may have
+abbrev pub max_line : ℕ
+max_line = 524288
+
+-- the fault of a text or a line above its limit is one of form: of no line, or of the first that is too long
+abbrev pub by_limits : {V : Type 0} → Option TextError → Result V CertError → Result V CertError
+by_limits None rest = rest
+by_limits (Some TextTooLong) rest = Err (BadCertLine 0)
+by_limits (Some (LineTooLong line)) rest = Err (BadCertLine line)
+
+-- the limits are judged before all else, for lines without words too
+abbrev pub text_reading : {V : Type 0} → (List CertLine → Result V CertError) → List ℕ → Result V CertError
+text_reading read text = by_limits (limit_fault max_text max_line text) (read (cert_lines (lines_of text)))
+
+-- what the text of an answer says, for items of these names in these groups
+abbrev pub answer_of : List (List ℕ) → Partition → List ℕ → Result Certificate CertError
+answer_of names p text = text_reading (answer_reading names p) text
+
+-- what the text of an assignment says
+abbrev pub assignment_of_text : List (List ℕ) → Partition → List ℕ → Result Assignment CertError
+assignment_of_text names p text = text_reading (assignment_reading names p) text
+
+-- what the text of a run says
+abbrev pub run_of : List (List ℕ) → List ℕ → Result (List Step) CertError
+run_of names text = text_reading (run_reading names) text
+
+-- ---- faults
+
+-- what a call answers in place of a value: that memory ran out, or else the first fault
+abbrev pub IsCertFaultOf : {V : Type 0} → CertError → Result V CertError → Type 0
+IsCertFaultOf (BadCertLine line) r = r ≡ Err (BadCertLine line)
+IsCertFaultOf (NotAllItems line) r = r ≡ Err (NotAllItems line)
+IsCertFaultOf (GroupSplit line) r = r ≡ Err (GroupSplit line)
+IsCertFaultOf (NumberOutOfRange line) r = r ≡ Err (NumberOutOfRange line)
+IsCertFaultOf OutOfMemory r = Unit {0}
+
+-- 40, 41, 42 or 43 with the line, or 0 where no line is meant; 20 without one
+abbrev pub cert_refusal : CertError → Refusal
+cert_refusal (BadCertLine line) = record { code = 40; line = line }
+cert_refusal (NotAllItems line) = record { code = 41; line = line }
+cert_refusal (GroupSplit line) = record { code = 42; line = line }
+cert_refusal (NumberOutOfRange line) = record { code = 43; line = line }
+cert_refusal OutOfMemory = record { code = 20; line = 0 }

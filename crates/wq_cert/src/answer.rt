@@ -1,0 +1,28 @@
+//! What the text of an answer says.
+//!
+//! Nothing is computed here.
+
+use std::alloc::Allocator;
+use wq_core::Step;
+use wq_groups::Assignment;
+use wq_items::ItemId;
+
+/// What the text of a plan or of a circle says. Whether it is true is for a checker to find out.
+#[derive(Drop)]
+pub enum CertAnswer<A: Allocator> {
+    /// An assignment, and a chain that shows that no fewer workqueues are enough.
+    Plan {
+        assignment: Assignment<A>,
+        /// How many groups the chain has, at most 4,096.
+        length: u32,
+        /// The arcs of the chain, each an item and a target of it: one fewer than groups, none where there is no group.
+        arcs: Vec<(ItemId, ItemId), A>,
+    },
+    /// A circle in which groups wait.
+    Circle {
+        /// The arcs of the circle, each an item and a target of it: from 1 to 4,096.
+        arcs: Vec<(ItemId, ItemId), A>,
+        /// The steps of a run, where there is one.
+        steps: Option<Vec<Step, A>>,
+    },
+}

@@ -1,0 +1,89 @@
+//! Reading answers: the text of a plan or of a circle, by its first word.
+//!
+//! The texts are those of "Certificates" in docs/FORMAT.md. Reading takes time in the length of the text and the number
+//! of items, and memory in the number of the items, arcs and steps and in the length of the longest line.
+
+ghost use Rattle.std.specs.Prelude.{◌≡◌, length, map, Ok, IfOk, IfErr};
+ghost use Rattle.wq_cert.specs.Certificate.{certificate};
+ghost use Rattle.wq_cert.specs.Lines.{cert_line};
+ghost use Rattle.wq_cert.specs.Reading.{plan_reading, answer_reading};
+ghost use Rattle.wq_cert.specs.Texts.{answer_of, IsCertFaultOf};
+
+use crate::answer::CertAnswer;
+use crate::arc_reading::{read_chain, read_circle};
+use crate::fault::CertError;
+use crate::form::begins_with;
+use crate::line_reading::read_count;
+use crate::opening::open;
+use crate::queue_reading::read_counted;
+use crate::view::{CertLines, CertView};
+use std::alloc::Allocator;
+use wq_groups::{Assignment, Groups};
+use wq_items::{ItemId, ItemTable};
+
+/// The plan on these lines: its assignment, how many groups its chain is said to have, and the arcs of the chain.
+pub(crate) fn read_plan<A: Allocator + Copy>(
+    alloc: A,
+    table: &ItemTable<'_, A>,
+    groups: &Groups<A>,
+    mut lines: CertLines<'_>,
+) -> Result<(Assignment<A>, u32, Vec<(ItemId, ItemId), A>), CertError>
+    requires { length groups.now.group_of ≡ length table.now.names }
+    ensures plan { IfOk result (λ plan. plan_reading table.now.names groups.now (map cert_line lines.entry) ≡ Ok (record { assignment = plan.0; length = plan.1; arcs = plan.2.items })) }
+    ensures fault { IfErr result (λ e. IsCertFaultOf e (plan_reading table.now.names groups.now (map cert_line lines.entry))) }
+{
+    let Some(first) = lines.next() else {
+        return Err(CertError::BadCertLine { line: 0 });
+    };
+    let count = read_count(b"plan", &first)?;
+    let assignment = read_counted(alloc, table, groups, count, &mut lines)?;
+    let (length, arcs) = read_chain(alloc, table, lines)?;
+    Ok((assignment, length, arcs))
+}
+
+/// The answer on the lines of a view.
+fn read_answer_lines<A: Allocator + Copy>(
+    alloc: A,
+    table: &ItemTable<'_, A>,
+    groups: &Groups<A>,
+    view: &CertView<'_>,
+) -> Result<CertAnswer<A>, CertError>
+    requires { length groups.now.group_of ≡ length table.now.names }
+    ensures answer { IfOk result (λ c. answer_reading table.now.names groups.now (map cert_line view.now) ≡ Ok (certificate c)) }
+    ensures fault { IfErr result (λ e. IsCertFaultOf e (answer_reading table.now.names groups.now (map cert_line view.now))) }
+{
+    let Some(first) = view.lines().next() else {
+        return Err(CertError::BadCertLine { line: 0 });
+    };
+    if begins_with(&first, b"circle") {
+        let (arcs, steps) = read_circle(alloc, table, view.lines())?;
+        Ok(CertAnswer::Circle { arcs, steps })
+    } else {
+        let (assignment, length, arcs) = read_plan(alloc, table, groups, view.lines())?;
+        Ok(CertAnswer::Plan {
+            assignment,
+            length,
+            arcs,
+        })
+    }
+}
+
+/// What the text of an answer says, for the items of a table in these groups. Whether it is true isn't judged.
+///
+/// Else the answer is the first fault: `BadCertLine` (40) where the text or a line is too long, before all else; then in
+/// the first line that has one `BadCertLine` (40), `NumberOutOfRange` (43), `NotAllItems` (41) or `GroupSplit` (42), in
+/// this order in a line, with line 0 where the text ends too early (40) or an item stands on no workqueue (41); or
+/// `OutOfMemory` (20).
+pub fn read_answer<A: Allocator + Copy>(
+    alloc: A,
+    text: &[u8],
+    table: &ItemTable<'_, A>,
+    groups: &Groups<A>,
+) -> Result<CertAnswer<A>, CertError>
+    requires { length groups.now.group_of ≡ length table.now.names }
+    ensures answer { IfOk result (λ c. answer_of table.now.names groups.now text.now ≡ Ok (certificate c)) }
+    ensures fault { IfErr result (λ e. IsCertFaultOf e (answer_of table.now.names groups.now text.now)) }
+{
+    let view = open(text)?;
+    read_answer_lines(alloc, table, groups, &view)
+}

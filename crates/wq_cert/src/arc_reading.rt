@@ -1,0 +1,76 @@
+//! Reading arcs: those of a chain behind a plan, and those of a circle with the run behind them.
+//!
+//! The texts are those of "Certificates" in docs/FORMAT.md. Reading takes time in the length of the lines, and memory in
+//! the number of the arcs and steps that stand there.
+
+ghost use Rattle.std.specs.Prelude.{◌≡◌, Ok, IfOk, IfErr, map, option_map};
+ghost use Rattle.wq_cert.specs.Lines.{cert_line};
+ghost use Rattle.wq_cert.specs.Reading.{next_lines, arc_reading, chain_reading, circle_reading};
+ghost use Rattle.wq_cert.specs.Texts.{IsCertFaultOf};
+
+use crate::fault::CertError;
+use crate::line_reading::{read_arc, read_circle_count, read_count};
+use crate::run_reading::read_run_behind;
+use crate::view::CertLines;
+use std::alloc::Allocator;
+use wq_core::Step;
+use wq_items::{ItemId, ItemTable};
+
+/// So many arcs, each on one of the next lines.
+fn read_arcs<A: Allocator + Copy>(
+    alloc: A,
+    table: &ItemTable<'_, A>,
+    count: u32,
+    lines: &mut CertLines<'_>,
+) -> Result<Vec<(ItemId, ItemId), A>, CertError>
+    ensures arcs { IfOk result (λ arcs. next_lines (arc_reading table.now.names) count (map cert_line lines.old) ≡ Ok (arcs.items, map cert_line lines.new)) }
+    ensures fault { IfErr result (λ e. IsCertFaultOf e (next_lines (arc_reading table.now.names) count (map cert_line lines.old))) }
+{
+    let mut arcs = Vec::new(alloc);
+    for i in 0..count {
+        let Some(line) = lines.next() else {
+            return Err(CertError::BadCertLine { line: 0 });
+        };
+        let arc = read_arc(table, &line)?;
+        arcs.push(arc)?;
+    }
+    Ok(arcs)
+}
+
+/// The chain on these lines: how many groups it is said to have, and its arcs.
+pub(crate) fn read_chain<A: Allocator + Copy>(
+    alloc: A,
+    table: &ItemTable<'_, A>,
+    mut lines: CertLines<'_>,
+) -> Result<(u32, Vec<(ItemId, ItemId), A>), CertError>
+    ensures chain { IfOk result (λ chain. chain_reading table.now.names (map cert_line lines.entry) ≡ Ok (chain.0, chain.1.items)) }
+    ensures fault { IfErr result (λ e. IsCertFaultOf e (chain_reading table.now.names (map cert_line lines.entry))) }
+{
+    let Some(first) = lines.next() else {
+        return Err(CertError::BadCertLine { line: 0 });
+    };
+    let length = read_count(b"chain", &first)?;
+    let arcs = read_arcs(alloc, table, length.saturating_sub(1), &mut lines)?;
+    if let Some(line) = lines.next() {
+        return Err(CertError::BadCertLine { line: line.no() });
+    }
+    Ok((length, arcs))
+}
+
+/// The circle on these lines: its arcs, and the steps of the run behind it, if there is one.
+pub(crate) fn read_circle<A: Allocator + Copy>(
+    alloc: A,
+    table: &ItemTable<'_, A>,
+    mut lines: CertLines<'_>,
+) -> Result<(Vec<(ItemId, ItemId), A>, Option<Vec<Step, A>>), CertError>
+    ensures circle { IfOk result (λ circle. circle_reading table.now.names (map cert_line lines.entry) ≡ Ok (record { arcs = circle.0.items; steps = option_map (λ s. s.items) circle.1 })) }
+    ensures fault { IfErr result (λ e. IsCertFaultOf e (circle_reading table.now.names (map cert_line lines.entry))) }
+{
+    let Some(first) = lines.next() else {
+        return Err(CertError::BadCertLine { line: 0 });
+    };
+    let count = read_circle_count(&first)?;
+    let arcs = read_arcs(alloc, table, count, &mut lines)?;
+    let steps = read_run_behind(alloc, table, lines)?;
+    Ok((arcs, steps))
+}

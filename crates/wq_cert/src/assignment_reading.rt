@@ -1,0 +1,66 @@
+//! Reading assignments: a whole plan text, or the lines of workqueues alone.
+//!
+//! The texts are those of "Certificates" in docs/FORMAT.md. Reading takes time in the length of the text and the number
+//! of items, and memory in the number of the items and arcs and in the length of the longest line.
+
+ghost use Rattle.std.specs.Prelude.{◌≡◌, length, map, Ok, IfOk, IfErr};
+ghost use Rattle.wq_cert.specs.Lines.{cert_line};
+ghost use Rattle.wq_cert.specs.Reading.{begins_plan, assignment_reading};
+ghost use Rattle.wq_cert.specs.Texts.{assignment_of_text, IsCertFaultOf};
+
+use crate::answer_reading::read_plan;
+use crate::fault::CertError;
+use crate::form::begins_with;
+use crate::opening::open;
+use crate::queue_reading::read_queue_lines;
+use crate::view::CertView;
+use std::alloc::Allocator;
+use wq_groups::{Assignment, Groups};
+use wq_items::ItemTable;
+
+/// Whether the first word of the first line is `plan`.
+fn begins_plan(view: &CertView<'_>) -> bool
+    ensures { result ≡ begins_plan (map cert_line view.now) }
+{
+    match view.lines().next() {
+        Some(first) => begins_with(&first, b"plan"),
+        None => false,
+    }
+}
+
+/// The assignment on the lines of a view.
+fn read_assignment_lines<A: Allocator + Copy>(
+    alloc: A,
+    table: &ItemTable<'_, A>,
+    groups: &Groups<A>,
+    view: &CertView<'_>,
+) -> Result<Assignment<A>, CertError>
+    requires { length groups.now.group_of ≡ length table.now.names }
+    ensures assignment { IfOk result (λ a. assignment_reading table.now.names groups.now (map cert_line view.now) ≡ Ok a) }
+    ensures fault { IfErr result (λ e. IsCertFaultOf e (assignment_reading table.now.names groups.now (map cert_line view.now))) }
+{
+    if begins_plan(view) {
+        let (assignment, _, _) = read_plan(alloc, table, groups, view.lines())?;
+        Ok(assignment)
+    } else {
+        read_queue_lines(alloc, table, groups, view.lines())
+    }
+}
+
+/// The assignment that a text says, for the items of a table in these groups: a whole plan text, of whose chain only the
+/// form is judged, or the lines of workqueues alone.
+///
+/// The errors are those of `read_answer`.
+pub fn read_assignment<A: Allocator + Copy>(
+    alloc: A,
+    text: &[u8],
+    table: &ItemTable<'_, A>,
+    groups: &Groups<A>,
+) -> Result<Assignment<A>, CertError>
+    requires { length groups.now.group_of ≡ length table.now.names }
+    ensures assignment { IfOk result (λ a. assignment_of_text table.now.names groups.now text.now ≡ Ok a) }
+    ensures fault { IfErr result (λ e. IsCertFaultOf e (assignment_of_text table.now.names groups.now text.now)) }
+{
+    let view = open(text)?;
+    read_assignment_lines(alloc, table, groups, &view)
+}

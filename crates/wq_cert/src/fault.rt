@@ -1,0 +1,75 @@
+//! Why a text is no certificate.
+//!
+//! The faults are those of certificates in the table of refusals in docs/FORMAT.md. Each answer takes constant time.
+
+ghost use Rattle.std.specs.Prelude.{◌≡◌};
+ghost use Rattle.wq_cert.specs.Texts.{cert_refusal};
+ghost use Rattle.wq_cert.specs.declared.fault.CertError.TheVariants.{OutOfMemory};
+
+use std::alloc::{AllocError, AllocFailed};
+use thiserror::Error;
+
+/// The first fault of a certificate, in a line by the rows of the table of refusals in docs/FORMAT.md, or want of memory.
+#[derive(Clone, Copy, Debug, PartialEq, Eq, Error)]
+pub enum CertError {
+    /// The line isn't of the form that stands next, or is too long; line 0 where the text is too long or ends too
+    /// early (40).
+    #[error("line {line}: not what stands here in a certificate")]
+    BadCertLine { line: u32 },
+    /// An item stands on a workqueue already; line 0 where one stands on none (41).
+    #[error("line {line}: not each item stands on one workqueue")]
+    NotAllItems { line: u32 },
+    /// An item of a group of which another one stands on an earlier workqueue (42).
+    #[error("line {line}: a group on two workqueues")]
+    GroupSplit { line: u32 },
+    /// A number that is out of its range (43).
+    #[error("line {line}: a number out of range")]
+    NumberOutOfRange { line: u32 },
+    /// Memory ran out (20, without a line).
+    #[error("out of memory")]
+    OutOfMemory,
+}
+
+impl CertError {
+    /// The number of the fault: 40, 41, 42, 43 or 20.
+    pub fn code(self) -> u32
+        ensures { result ≡ (cert_refusal self).code }
+    {
+        match self {
+            CertError::BadCertLine { .. } => 40,
+            CertError::NotAllItems { .. } => 41,
+            CertError::GroupSplit { .. } => 42,
+            CertError::NumberOutOfRange { .. } => 43,
+            CertError::OutOfMemory => 20,
+        }
+    }
+
+    /// The line of the fault, from 1, or 0 where no line is meant.
+    pub fn line(self) -> u32
+        ensures { result ≡ (cert_refusal self).line }
+    {
+        match self {
+            CertError::BadCertLine { line }
+            | CertError::NotAllItems { line }
+            | CertError::GroupSplit { line }
+            | CertError::NumberOutOfRange { line } => line,
+            CertError::OutOfMemory => 0,
+        }
+    }
+}
+
+impl From<AllocError> for CertError {
+    ghost from_gives = { λ _ e. e ≡ OutOfMemory };
+
+    fn from(_e: AllocError) -> CertError {
+        CertError::OutOfMemory
+    }
+}
+
+impl<T: Drop> From<AllocFailed<T>> for CertError {
+    ghost from_gives = { λ _ e. e ≡ OutOfMemory };
+
+    fn from(_e: AllocFailed<T>) -> CertError {
+        CertError::OutOfMemory
+    }
+}

@@ -1,0 +1,104 @@
+//! What the words of one line say, if they have the form that is asked for.
+//!
+//! The forms are those of "Certificates" in docs/FORMAT.md. A byte that no line may hold stands in no keyword, number or
+//! name, so a line with such a byte before its comment has no form. Each function takes time in the length of the words,
+//! and `items_of` and `wq_form` take memory in the number of the items.
+
+ghost use Rattle.std.specs.Prelude.{◌≡◌, IfOk, option_map};
+ghost use Rattle.wq_cert.specs.Forms.{number_of, items_of, begins_with, count_form, wq_form, arc_form};
+ghost use Rattle.wq_cert.specs.Lines.{bytes_of, cert_line};
+
+use std::alloc::{AllocError, Allocator};
+use wq_items::{ItemId, ItemTable};
+use wq_text::{Line, Words, number};
+
+/// The number whose one spelling a word is.
+pub(crate) fn number_of(word: &[u8]) -> Option<u32>
+    ensures { result ≡ number_of word.now }
+{
+    number(word)
+}
+
+/// Whether the first word of a line is this one.
+pub(crate) fn begins_with(line: &Line<'_>, keyword: &[u8]) -> bool
+    ensures { result ≡ begins_with keyword.now (cert_line line.now).words }
+{
+    match line.words().next() {
+        Some(word) => word.bytes() == keyword,
+        None => false,
+    }
+}
+
+/// `KEYWORD N`: the number.
+pub(crate) fn count_form(keyword: &[u8], mut words: Words<'_>) -> Option<u32>
+    ensures { result ≡ count_form keyword.now (bytes_of words.entry) }
+{
+    let word = words.next()?;
+    let count = words.next()?;
+    if words.next().is_some() || word.bytes() != keyword {
+        return None;
+    }
+    number_of(count.bytes())
+}
+
+/// The items of these names, if each is declared. The only error is want of memory.
+pub(crate) fn items_of<A: Allocator + Copy>(
+    alloc: A,
+    table: &ItemTable<'_, A>,
+    words: Words<'_>,
+) -> Result<Option<Vec<ItemId, A>>, AllocError>
+    ensures { IfOk result (λ items. option_map (λ v. v.items) items ≡ items_of table.now.names (bytes_of words.entry)) }
+{
+    let mut items = Vec::new(alloc);
+    for word in words {
+        let Some(item) = table.find(word.bytes()) else {
+            return Ok(None);
+        };
+        items.push(item)?;
+    }
+    Ok(Some(items))
+}
+
+/// `wq Q NAME..`: the number and the items. The only error is want of memory.
+pub(crate) fn wq_form<A: Allocator + Copy>(
+    alloc: A,
+    table: &ItemTable<'_, A>,
+    mut words: Words<'_>,
+) -> Result<Option<(u32, Vec<ItemId, A>)>, AllocError>
+    ensures { IfOk result (λ queue. option_map (λ q. (q.0, q.1.items)) queue ≡ wq_form table.now.names (bytes_of words.entry)) }
+{
+    let Some(word) = words.next() else {
+        return Ok(None);
+    };
+    let Some(number) = words.next() else {
+        return Ok(None);
+    };
+    if word.bytes() != b"wq".as_slice() {
+        return Ok(None);
+    }
+    let Some(number) = number_of(number.bytes()) else {
+        return Ok(None);
+    };
+    let Some(items) = items_of(alloc, table, words)? else {
+        return Ok(None);
+    };
+    Ok(Some((number, items)))
+}
+
+/// `arc NAME TARGET`: the item and the target.
+pub(crate) fn arc_form<A: Allocator + Copy>(
+    table: &ItemTable<'_, A>,
+    mut words: Words<'_>,
+) -> Option<(ItemId, ItemId)>
+    ensures { result ≡ arc_form table.now.names (bytes_of words.entry) }
+{
+    let word = words.next()?;
+    let item = words.next()?;
+    let target = words.next()?;
+    if words.next().is_some() || word.bytes() != b"arc".as_slice() {
+        return None;
+    }
+    let item = table.find(item.bytes())?;
+    let target = table.find(target.bytes())?;
+    Some((item, target))
+}

@@ -1,0 +1,26 @@
+//! Certificates: the texts of plans, circles and runs, printed and read.
+//!
+//! What the layer above relies on: the printed texts are functions of what they say; each reader accepts exactly the texts
+//! of the format, with what they say, and else answers the first fault. The format is that of "Certificates" in
+//! docs/FORMAT.md.
+#![tactic(auto)]
+
+mod answer;
+mod answer_reading;
+mod arc_reading;
+mod assignment_reading;
+mod fault;
+mod form;
+mod line_reading;
+mod opening;
+mod queue_reading;
+mod queues;
+mod run_reading;
+mod view;
+
+pub use answer::CertAnswer;
+pub use answer_reading::read_answer;
+pub use assignment_reading::read_assignment;
+pub use fault::CertError;
+pub use run_reading::read_run;
+pub use view::{CertLines, CertView};

@@ -1,0 +1,31 @@
+//! Opening a text: its limits, which are judged before all else.
+//!
+//! The limits are those of "Certificates" in docs/FORMAT.md. Opening looks at each byte of the text once, and takes no
+//! memory.
+
+ghost use Rattle.std.specs.Prelude.{◌≡◌, Ok, Err, IfOk, IfErr, map};
+ghost use Rattle.wq_cert.specs.Lines.{cert_line};
+ghost use Rattle.wq_cert.specs.Texts.{text_reading};
+
+use crate::fault::CertError;
+use crate::view::CertView;
+use wq_text::{Text, TextError};
+
+/// How many bytes a certificate may have.
+const MAX_TEXT: u32 = 8_388_608;
+
+/// How many bytes a line of it may have.
+const MAX_LINE: u32 = 524_288;
+
+/// The text as its lines that hold a word. The error is `BadCertLine` (40): line 0 for a text that is too long, or else
+/// the first line that is.
+pub(crate) fn open(text: &[u8]) -> Result<CertView<'_>, CertError>
+    ensures lines { IfOk result (λ view. text_reading (λ lines. Ok lines) text.now ≡ Ok (map cert_line view)) }
+    ensures fault { IfErr result (λ e. text_reading (λ lines. Ok lines) text.now ≡ Err e) }
+{
+    match Text::new(text, MAX_TEXT, MAX_LINE) {
+        Ok(text) => Ok(CertView::new(text)),
+        Err(TextError::TextTooLong) => Err(CertError::BadCertLine { line: 0 }),
+        Err(TextError::LineTooLong { line }) => Err(CertError::BadCertLine { line }),
+    }
+}

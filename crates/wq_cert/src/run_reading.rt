@@ -1,0 +1,105 @@
+//! Reading runs: how many steps there are, and each of them on a line of its own.
+//!
+//! The text is that of "Certificates" in docs/FORMAT.md. Reading takes time in the length of the text, and memory in the
+//! number of the steps that stand there, whatever number is said.
+
+ghost use Rattle.std.specs.Prelude.{◌≡◌, ◌∷◌, Ok, IfOk, IfErr, map, option_map};
+ghost use Rattle.wq_cert.specs.Lines.{cert_line};
+ghost use Rattle.wq_cert.specs.Reading.{next_lines, step_reading, run_reading, run_behind};
+ghost use Rattle.wq_cert.specs.Texts.{run_of, IsCertFaultOf};
+
+use crate::fault::CertError;
+use crate::line_reading::{read_any_count, read_step};
+use crate::opening::open;
+use crate::view::CertLines;
+use std::alloc::Allocator;
+use wq_core::Step;
+use wq_items::ItemTable;
+use wq_text::Line;
+
+/// So many steps, each on one of the next lines.
+fn read_steps<A: Allocator + Copy>(
+    alloc: A,
+    table: &ItemTable<'_, A>,
+    count: u32,
+    lines: &mut CertLines<'_>,
+) -> Result<Vec<Step, A>, CertError>
+    ensures steps { IfOk result (λ steps. next_lines (step_reading table.now.names) count (map cert_line lines.old) ≡ Ok (steps.items, map cert_line lines.new)) }
+    ensures fault { IfErr result (λ e. IsCertFaultOf e (next_lines (step_reading table.now.names) count (map cert_line lines.old))) }
+{
+    let mut steps = Vec::new(alloc);
+    for i in 0..count {
+        let Some(line) = lines.next() else {
+            return Err(CertError::BadCertLine { line: 0 });
+        };
+        let step = read_step(table, &line)?;
+        steps.push(step)?;
+    }
+    Ok(steps)
+}
+
+/// The run that begins on this line and ends with the last of these.
+fn read_run_from<A: Allocator + Copy>(
+    alloc: A,
+    table: &ItemTable<'_, A>,
+    first: &Line<'_>,
+    mut lines: CertLines<'_>,
+) -> Result<Vec<Step, A>, CertError>
+    ensures steps { IfOk result (λ steps. run_reading table.now.names (cert_line first.now ∷ map cert_line lines.entry) ≡ Ok steps.items) }
+    ensures fault { IfErr result (λ e. IsCertFaultOf e (run_reading table.now.names (cert_line first.now ∷ map cert_line lines.entry))) }
+{
+    let count = read_any_count(first)?;
+    let steps = read_steps(alloc, table, count, &mut lines)?;
+    if let Some(line) = lines.next() {
+        return Err(CertError::BadCertLine { line: line.no() });
+    }
+    Ok(steps)
+}
+
+/// The run on these lines, if there is a line.
+pub(crate) fn read_run_behind<A: Allocator + Copy>(
+    alloc: A,
+    table: &ItemTable<'_, A>,
+    mut lines: CertLines<'_>,
+) -> Result<Option<Vec<Step, A>>, CertError>
+    ensures steps { IfOk result (λ steps. run_behind table.now.names (map cert_line lines.entry) ≡ Ok (option_map (λ s. s.items) steps)) }
+    ensures fault { IfErr result (λ e. IsCertFaultOf e (run_behind table.now.names (map cert_line lines.entry))) }
+{
+    let Some(first) = lines.next() else {
+        return Ok(None);
+    };
+    let steps = read_run_from(alloc, table, &first, lines)?;
+    Ok(Some(steps))
+}
+
+/// The run on these lines.
+fn read_run_lines<A: Allocator + Copy>(
+    alloc: A,
+    table: &ItemTable<'_, A>,
+    mut lines: CertLines<'_>,
+) -> Result<Vec<Step, A>, CertError>
+    ensures steps { IfOk result (λ steps. run_reading table.now.names (map cert_line lines.entry) ≡ Ok steps.items) }
+    ensures fault { IfErr result (λ e. IsCertFaultOf e (run_reading table.now.names (map cert_line lines.entry))) }
+{
+    let Some(first) = lines.next() else {
+        return Err(CertError::BadCertLine { line: 0 });
+    };
+    read_run_from(alloc, table, &first, lines)
+}
+
+/// The steps that the text of a run says, for the items of a table. Whether they are lawful isn't judged.
+///
+/// Else the answer is the first fault: `BadCertLine` (40) where the text or a line is too long, or in the first line that
+/// isn't of the form that stands next, with line 0 where the text ends too early; `NumberOutOfRange` (43) in a line of
+/// that form whose workqueue is above 4,095; or `OutOfMemory` (20).
+pub fn read_run<A: Allocator + Copy>(
+    alloc: A,
+    text: &[u8],
+    table: &ItemTable<'_, A>,
+) -> Result<Vec<Step, A>, CertError>
+    ensures steps { IfOk result (λ steps. run_of table.now.names text.now ≡ Ok steps.items) }
+    ensures fault { IfErr result (λ e. IsCertFaultOf e (run_of table.now.names text.now)) }
+{
+    let view = open(text)?;
+    read_run_lines(alloc, table, view.lines())
+}

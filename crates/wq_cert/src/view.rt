@@ -1,0 +1,93 @@
+//! The lines of a text that hold a word.
+//!
+//! Going over them looks at each byte of the text a fixed number of times, and takes no memory.
+
+ghost use Rattle.std.specs.Prelude.{◌≡◌};
+ghost use Rattle.std.specs.Iterator.{YieldsFirst, item_count};
+ghost use Rattle.wq_text.specs.Lines.{lines_of};
+ghost use Rattle.wq_cert.specs.Lines.{holds_word, filled};
+
+use std::marker::Model;
+use wq_text::{Line, Lines, Text};
+
+/// A text as the lines of it that hold a word: lines with nothing but blanks and a comment are skipped. Contracts see the
+/// list of these lines.
+#[derive(Drop)]
+pub struct CertView<'c> {
+    text: Text<'c>,
+}
+
+impl<'c> Model for CertView<'c> {
+    ghost use Rattle.std.specs.Prelude.{List};
+    ghost use Rattle.wq_text.specs.Lines.{LineView, lines_of};
+    ghost use Rattle.wq_cert.specs.Lines.{filled};
+
+    ghost Value = { List LineView };
+
+    ghost view = { λ v. filled (lines_of v.text) };
+}
+
+impl<'c> CertView<'c> {
+    /// The lines of a text that hold a word.
+    pub fn new(text: Text<'c>) -> Self
+        ensures { result ≡ filled (lines_of text.entry) }
+    {
+        CertView { text }
+    }
+
+    /// These lines, in order.
+    pub fn lines(&self) -> CertLines<'c>
+        ensures { result ≡ self.now }
+    {
+        CertLines {
+            lines: self.text.lines(),
+        }
+    }
+}
+
+/// The lines of a view, in order. Contracts see the list of those that are left.
+#[derive(Drop)]
+pub struct CertLines<'c> {
+    lines: Lines<'c>,
+}
+
+impl<'c> Model for CertLines<'c> {
+    ghost use Rattle.std.specs.Prelude.{List};
+    ghost use Rattle.wq_text.specs.Lines.{LineView};
+    ghost use Rattle.wq_cert.specs.Lines.{filled};
+
+    ghost Value = { List LineView };
+
+    ghost view = { λ l. filled l.lines };
+}
+
+/// Whether a line holds a word.
+fn holds_word(line: &Line<'_>) -> bool
+    ensures { result ≡ holds_word line.now }
+{
+    line.words().next().is_some()
+}
+
+/// The first line that holds a word, and the lines behind it.
+fn next_filled<'c>(lines: &mut Lines<'c>) -> Option<Line<'c>>
+    ensures { YieldsFirst filled lines.old result lines.new }
+{
+    while let Some(line) = lines.next() {
+        if holds_word(&line) {
+            return Some(line);
+        }
+    }
+    None
+}
+
+impl<'c> Iterator for CertLines<'c> {
+    type Item = Line<'c>;
+
+    ghost next_gives = { YieldsFirst (λ rest. rest) };
+
+    ghost remaining = { item_count (λ rest. rest) };
+
+    fn next(&mut self) -> Option<Line<'c>> {
+        next_filled(&mut self.lines)
+    }
+}
