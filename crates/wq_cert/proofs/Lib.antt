@@ -1,0 +1,2 @@
+pub mod ItemLanes
+pub mod LineLemmas

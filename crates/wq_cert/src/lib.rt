@@ -6,9 +6,17 @@
 #![tactic(auto)]
 
 mod answer;
+mod arc_printing;
+mod circle_printing;
 mod fault;
+mod lines;
+mod plan_printing;
+mod run_printing;
 mod view;
 
 pub use answer::CertAnswer;
+pub use circle_printing::circle_text;
 pub use fault::CertError;
+pub use plan_printing::plan_text;
+pub use run_printing::run_text;
 pub use view::{CertLines, CertView};
