@@ -1,2 +1,3 @@
 pub mod ItemLanes
 pub mod LineLemmas
+pub mod PrintedLines

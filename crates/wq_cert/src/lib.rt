@@ -9,6 +9,7 @@ mod answer;
 mod arc_printing;
 mod circle_printing;
 mod fault;
+pub mod laws;
 mod lines;
 mod plan_printing;
 mod run_printing;
