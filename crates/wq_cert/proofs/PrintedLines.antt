@@ -1,12 +1,12 @@
 -- Printed lines, read back: each is a line of the text, and its words are those that were printed.
-use Rattle.std.proofs.Common.{◌≡◌, ◌≢◌, ℕ, zero, suc, ◌+◌, ◌-◌, ◌<◌, ◌≤◌, Bool, true, false, cond, not, eqb, List, [], ◌∷◌, ◌++◌, length, get_or, refl, sym, ap, subst, ◌∙◌, arith, inl, append_assoc, None}
+use Rattle.std.proofs.Common.{◌≡◌, ◌≢◌, ℕ, zero, suc, ◌+◌, ◌-◌, ◌*◌, ◌<◌, ◌≤◌, Bool, true, false, cond, not, eqb, List, [], ◌∷◌, ◌++◌, length, get_or, refl, sym, ap, subst, ◌∙◌, arith, inl, append_assoc, length-append, Option, Result}
 use Rattle.std.specs.Prelude.{flat_map, Contains}
 use Rattle.std.specs.List.{All, AllByRecursion}
 use Rattle.std.specs.Str.Lines.{strip_carriage_return}
 use Rattle.std.proofs.lemmas.Bool.{ne_eqb}
 use Rattle.std.proofs.lemmas.List.Elements.{All-nil, All-cons}
 use Rattle.wq_text.specs.Comments.{before_comment}
-use Rattle.wq_text.specs.Limits.{limit_fault}
+use Rattle.wq_text.specs.declared.text.TextError.{TextError}
 use Rattle.wq_text.specs.Lines.{LineView, lines_from, lines_of, line_bytes, pieces}
 use Rattle.wq_text.specs.Words.{WordView, words_from, words_of, is_blank, NoBlank, EndsAWord}
 use Rattle.wq_text.proofs.CommentLemmas.{before_comment-IsBeforeComment}
@@ -14,8 +14,10 @@ use Rattle.wq_text.proofs.LimitLaws.{IsShort, limit_fault-fits}
 use Rattle.wq_text.proofs.LineLemmas.{length-line_bytes-le}
 use Rattle.wq_text.proofs.PieceLemmas.{NoFeed, pieces-feed}
 use Rattle.wq_text.proofs.WordLemmas.{words_from-filled}
+use Rattle.wq_cert.specs.declared.fault.CertError.{CertError}
 use Rattle.wq_cert.specs.LineText.{spaced, line_text}
-use Rattle.wq_cert.specs.Lines.{CertLine, bytes_of, holds_word, filled, cert_line, cert_lines}
+use Rattle.wq_cert.specs.Lines.{CertLine, bytes_of, holds_word, cert_line, cert_lines}
+use Rattle.wq_cert.specs.Texts.{max_text, max_line, by_limits, text_reading}
 
 -- ---- what can be printed
 
@@ -27,11 +29,13 @@ IsPlain bytes = AllByRecursion (λ b. 35 < b) bytes
 pub record IsPrintable (word : List ℕ) : Type 0 where
   pub filled : word ≢ []
   pub plain : IsPlain word
+  pub short : length word ≤ 63
 
--- a line of such words, of which there is one
-abbrev pub IsPrintableLine : List (List ℕ) → Type 0
-IsPrintableLine [] = ⊥
-IsPrintableLine (word ∷ words) = IsPrintable word × AllByRecursion IsPrintable words
+-- a line of such words
+pub record IsPrintableLine (words : List (List ℕ)) : Type 0 where
+  pub some : words ≢ []
+  pub each : AllByRecursion IsPrintable words
+  pub few : length words ≤ 8192
 
 -- the words of a line as they stand before its line feed
 abbrev pub line_body : List (List ℕ) → List ℕ
@@ -69,9 +73,10 @@ printed-spaced (word ∷ words) h =
     AllByRecursion-append IsPrinted (spaced word) (flat_map spaced words) first (printed-spaced words h.1)
 
 printed-body : (words : List (List ℕ)) → IsPrintableLine words → AllByRecursion IsPrinted (line_body words)
-printed-body [] h = absurd h
+printed-body [] h = tt
 printed-body (word ∷ words) h =
-    AllByRecursion-append IsPrinted word (flat_map spaced words) (AllByRecursion-weaker (λ b. 35 < b) IsPrinted printed_byte word h.0.plain) (printed-spaced words h.1)
+    let each = h.each in
+    AllByRecursion-append IsPrinted word (flat_map spaced words) (AllByRecursion-weaker (λ b. 35 < b) IsPrinted printed_byte word each.0.plain) (printed-spaced words each.1)
 
 NoFeed-printed : (bs : List ℕ) → AllByRecursion IsPrinted bs → NoFeed bs
 NoFeed-printed bs h = AllByRecursion-weaker IsPrinted (λ b. eqb b 10 ≡ false) (λ b is. ne_eqb b 10 (λ e. omega (arith, is.0))) bs h
@@ -118,8 +123,10 @@ words_from-spaced at [] h = refl
 words_from-spaced at (word ∷ words) h = words_from-word (at + 1) word words h.0 ∙ ap (λ (ws : List (List ℕ)). word ∷ ws) (words_from-spaced (at + 1 + length word) words h.1)
 
 words_from-body : (at : ℕ) (words : List (List ℕ)) → IsPrintableLine words → bytes_of (words_from at (line_body words)) ≡ words
-words_from-body at [] h = absurd h
-words_from-body at (word ∷ words) h = words_from-word at word words h.0 ∙ ap (λ (ws : List (List ℕ)). word ∷ ws) (words_from-spaced (at + length word) words h.1)
+words_from-body at [] h = refl
+words_from-body at (word ∷ words) h =
+    let each = h.each in
+    words_from-word at word words each.0 ∙ ap (λ (ws : List (List ℕ)). word ∷ ws) (words_from-spaced (at + length word) words each.1)
 
 -- ---- lines
 
@@ -134,7 +141,7 @@ bytes_of-printed_line n start words h =
     ∙ ap (λ (bs : List ℕ). bytes_of (words_from start bs)) (before_comment-printed (line_body words) bytes) ∙ words_from-body start words h
 
 some_word : (views : List WordView) (words : List (List ℕ)) → IsPrintableLine words → bytes_of views ≡ words → not (eqb (length views) 0) ≡ true
-some_word [] [] h e = absurd h
+some_word [] [] h e = absurd (h.some refl)
 some_word [] (word ∷ words) h e = absurd cc
 some_word (view ∷ views) words h e = ap not (ne_eqb (length (view ∷ views)) 0 (λ z. omega arith))
 
@@ -169,19 +176,60 @@ cert_lines-printed lines h = lines_from-printed 1 0 lines h
 
 -- ---- limits
 
-short-printed : (m n start : ℕ) (lines : List (List (List ℕ))) → AllByRecursion IsPrintableLine lines → AllByRecursion (λ words. length (line_body words) ≤ m) lines
-    → All (IsShort m) (lines_from n start (pieces (flat_map line_text lines)))
-short-printed m n start [] h short = All-nil (IsShort m)
-short-printed m n start (words ∷ lines) h short =
+length-flat_map-spaced : (words : List (List ℕ)) → AllByRecursion IsPrintable words → length (flat_map spaced words) ≤ 64 * length words
+length-flat_map-spaced [] h = omega arith
+length-flat_map-spaced (word ∷ words) h =
+    let rest : length (flat_map spaced words) ≤ 64 * length words = length-flat_map-spaced words h.1 in
+    let short : length word ≤ 63 = h.0.short in
+    omega (arith, length-append word (flat_map spaced words))
+
+length-line_body-le : (words : List (List ℕ)) → AllByRecursion IsPrintable words → length (line_body words) ≤ 64 * length words
+length-line_body-le [] h = omega arith
+length-line_body-le (word ∷ words) h =
+    let rest : length (flat_map spaced words) ≤ 64 * length words = length-flat_map-spaced words h.1 in
+    let short : length word ≤ 63 = h.0.short in
+    omega (arith, length-append word (flat_map spaced words))
+
+-- a printed line has 524,288 bytes at most
+length-line_body-most : (words : List (List ℕ)) → IsPrintableLine words → length (line_body words) ≤ 524288
+length-line_body-most words h = omega (arith, length-line_body-le words h.each, h.few)
+
+short-from : (n start : ℕ) (lines : List (List (List ℕ))) → AllByRecursion IsPrintableLine lines → All (IsShort 524288) (lines_from n start (pieces (flat_map line_text lines)))
+short-from n start [] h = All-nil (IsShort 524288)
+short-from n start (words ∷ lines) h =
     let text = flat_map line_text lines in
     let behind = start + (length (line_body words) + 1) in
-    subst (λ ps. All (IsShort m) (lines_from n start ps)) (sym (pieces-line words text h.0)) (
-    All-cons (IsShort m) (printed_line n start words) (lines_from (n + 1) behind (pieces text))
-    (omega (arith, length-line_bytes-le (record { bytes = line_body words; ended = true }), short.0))
-    (short-printed m (n + 1) behind lines h.1 short.1)
+    subst (λ ps. All (IsShort 524288) (lines_from n start ps)) (sym (pieces-line words text h.0)) (
+    All-cons (IsShort 524288) (printed_line n start words) (lines_from (n + 1) behind (pieces text))
+    (omega (arith, length-line_bytes-le (record { bytes = line_body words; ended = true }), length-line_body-most words h.0))
+    (short-from (n + 1) behind lines h.1)
     )
 
--- a printed text of at most this length, with lines of at most that one, is within these limits
-pub limit_fault-printed : (max_text max_line : ℕ) (lines : List (List (List ℕ))) → AllByRecursion IsPrintableLine lines → AllByRecursion (λ words. length (line_body words) ≤ max_line) lines
-    → length (flat_map line_text lines) ≤ max_text → limit_fault max_text max_line (flat_map line_text lines) ≡ None
-limit_fault-printed max_text max_line lines h short most = limit_fault-fits max_text max_line (flat_map line_text lines) (most, short-printed max_line 1 0 lines h short)
+-- the lines of a printed text are short enough
+pub IsShort-printed : (lines : List (List (List ℕ))) → AllByRecursion IsPrintableLine lines → All (IsShort 524288) (lines_of (flat_map line_text lines))
+IsShort-printed lines h = short-from 1 0 lines h
+
+-- ---- texts
+
+-- what is read in a printed text that isn't too long is what is read in the lines that were printed
+pub text_reading-printed : {V : Type 0} (read : List CertLine → Result V CertError) (lines : List (List (List ℕ))) → AllByRecursion IsPrintableLine lines
+    → length (flat_map line_text lines) ≤ max_text → text_reading read (flat_map line_text lines) ≡ read (numbered 1 lines)
+text_reading-printed {V} read lines h most =
+    let text = flat_map line_text lines in
+    ap (λ (fault : Option TextError). by_limits fault (read (cert_lines (lines_of text)))) (limit_fault-fits max_text max_line text (most, IsShort-printed lines h))
+    ∙ ap read (cert_lines-printed lines h)
+
+-- no more lines than bytes
+pub length-lines-le : (lines : List (List (List ℕ))) → length lines ≤ length (flat_map line_text lines)
+length-lines-le [] = omega arith
+length-lines-le (words ∷ lines) =
+    let rest : length lines ≤ length (flat_map line_text lines) = length-lines-le lines in
+    omega (arith, length-append (line_text words) (flat_map line_text lines), ap length (line_text-body words), length-append (line_body words) (10 ∷ []))
+
+-- ---- lines one after the other
+
+pub numbered-append : (n : ℕ) (lines more : List (List (List ℕ))) → numbered n (lines ++ more) ≡ numbered n lines ++ numbered (n + length lines) more
+numbered-append n [] more = ap (λ (k : ℕ). numbered k more) (omega arith)
+numbered-append n (words ∷ lines) more =
+    ap (λ (ls : List CertLine). record { no = n; words = words } ∷ ls) (numbered-append (n + 1) lines more
+    ∙ ap (λ (k : ℕ). numbered (n + 1) lines ++ numbered k more) (omega arith))
