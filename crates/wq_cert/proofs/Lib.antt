@@ -1,7 +1,11 @@
 pub mod ItemLanes
 pub mod LineLemmas
+pub mod ListLemmas
+pub mod PlanTextLength
 pub mod PrintedCircles
 pub mod PrintedLines
+pub mod PrintedPlans
+pub mod PrintedQueues
 pub mod PrintedRuns
 pub mod PrintedWords
 pub mod ReadLines

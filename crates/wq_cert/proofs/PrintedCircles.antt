@@ -18,7 +18,8 @@ use Rattle.wq_cert.specs.Printable.{IsNamedArc, IsNamedStep}
 use Rattle.wq_cert.specs.Reading.{Read, and_then, and_read, next_lines, arc_reading, run_behind, circle_count_reading, circle_reading, answer_reading}
 use Rattle.wq_cert.specs.RunText.{run_lines, step_line}
 use Rattle.wq_cert.specs.Texts.{max_text, answer_of}
-use Rattle.wq_cert.proofs.PrintedLines.{IsPrintableLine, AllByRecursion-append, numbered, text_reading-printed, length-lines-le}
+use Rattle.wq_cert.proofs.ListLemmas.{AllByRecursion-append}
+use Rattle.wq_cert.proofs.PrintedLines.{IsPrintableLine, numbered, text_reading-printed, length-lines-le}
 use Rattle.wq_cert.proofs.PrintedRuns.{run_reading-printed, IsPrintableLine-run}
 use Rattle.wq_cert.proofs.PrintedWords.{IsPrintable-keyword, IsPrintableLine-count}
 use Rattle.wq_cert.proofs.ReadLines.{next_lines-map, count_reading-printed, each_arc-read, IsPrintableLine-arcs}

@@ -17,6 +17,7 @@ use Rattle.wq_text.proofs.WordLemmas.{words_from-filled}
 use Rattle.wq_cert.specs.declared.fault.CertError.{CertError}
 use Rattle.wq_cert.specs.LineText.{spaced, line_text}
 use Rattle.wq_cert.specs.Lines.{CertLine, bytes_of, holds_word, cert_line, cert_lines}
+use Rattle.wq_cert.proofs.ListLemmas.{AllByRecursion-append, AllByRecursion-weaker}
 use Rattle.wq_cert.specs.Texts.{max_text, max_line, by_limits, text_reading}
 
 -- ---- what can be printed
@@ -45,17 +46,6 @@ line_body (word ∷ words) = word ++ flat_map spaced words
 pub line_text-body : (words : List (List ℕ)) → line_text words ≡ line_body words ++ (10 ∷ [])
 line_text-body [] = refl
 line_text-body (word ∷ words) = sym (append_assoc word (flat_map spaced words) (10 ∷ []))
-
--- ---- each of a list
-
-module _ {X : Type 0} where
-  pub AllByRecursion-append : (P : X → Type 0) (xs ys : List X) → AllByRecursion P xs → AllByRecursion P ys → AllByRecursion P (xs ++ ys)
-  AllByRecursion-append P [] ys left right = right
-  AllByRecursion-append P (x ∷ xs) ys left right = (left.0, AllByRecursion-append P xs ys left.1 right)
-
-  pub AllByRecursion-weaker : (P Q : X → Type 0) → ((x : X) → P x → Q x) → (xs : List X) → AllByRecursion P xs → AllByRecursion Q xs
-  AllByRecursion-weaker P Q weaker [] h = tt
-  AllByRecursion-weaker P Q weaker (x ∷ xs) h = (weaker x h.0, AllByRecursion-weaker P Q weaker xs h.1)
 
 -- ---- the bytes of a line
 

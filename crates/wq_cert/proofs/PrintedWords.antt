@@ -2,13 +2,12 @@
 use Rattle.std.proofs.Common.{◌≡◌, ◌≢◌, ℕ, ◌+◌, ◌<◌, ◌≤◌, ◌^◌, Bool, true, false, cond, ◌&&◌, ltb, nat_le, List, [], ◌∷◌, length, map, get_or, Option, Some, None, refl, sym, ap, ◌∙◌, arith, inl, inr, IsTrue, option_map}
 use Rattle.std.specs.Prelude.{AllPairs, bytes_eq}
 use Rattle.std.specs.Fmt.{decimal}
-use Rattle.std.specs.List.{All, AllByRecursion, list_all, position_or_len}
+use Rattle.std.specs.List.{All, AllByRecursion, list_all}
 use Rattle.std.specs.Option.{option_zip}
 use Rattle.std.specs.Str.Parse.{AllDigits, digits_value}
 use Rattle.std.proofs.lemmas.Bool.{lt-ltb, ltb-true, leb-true, and_parts}
 use Rattle.std.proofs.lemmas.Bool.Decides.{nat_tests}
 use Rattle.std.proofs.lemmas.Fmt.{decimal_nonempty, digits_decimal, digits_value-decimal, length-decimal-le}
-use Rattle.std.proofs.lemmas.List.Sums.{position_or_len_is}
 use Rattle.std.proofs.lemmas.Slice.Eq.{bytes_eq-Decides}
 use Rattle.std.proofs.lemmas.Str.Parse.{IsNumeralModel, numerals_by_value, tells_digits, digit_at}
 use Rattle.wq_items.specs.Names.{is_name, is_name_byte}
@@ -16,6 +15,7 @@ use Rattle.wq_text.proofs.PieceLemmas.{is_false}
 use Rattle.wq_items.specs.Table.{item_named}
 use Rattle.wq_cert.specs.Forms.{number_of, items_of, count_form}
 use Rattle.wq_cert.specs.PlanText.{name_of}
+use Rattle.wq_cert.proofs.ListLemmas.{position-first}
 use Rattle.wq_cert.proofs.PrintedLines.{IsPlain, IsPrintable, IsPrintableLine}
 
 pub bytes_eq-same : (bytes : List ℕ) → bytes_eq bytes bytes ≡ true
@@ -95,11 +95,9 @@ module _ (names : List (List ℕ)) where
     pub item_named-name_of : (i : ℕ) → i < length names → item_named names (name_of names i) ≡ Some i
     item_named-name_of i within =
         let name = name_of names i in
-        let place : position_or_len (bytes_eq name) names ≡ i =
-        position_or_len_is (bytes_eq name) names i [] (omega arith)
+        position-first (bytes_eq name) names i [] within
         (λ k lt. is_false (bytes_eq name (get_or names k [])) (λ e. differ k i [] lt within (sym ((bytes_eq-Decides name (get_or names k [])).0 e))))
-        (λ lt. bytes_eq-same name) in
-        ap (λ (n : ℕ). cond (ltb n (length names)) (Some n) None) place ∙ ap (λ (b : Bool). cond b (Some i) None) (lt-ltb i (length names) within)
+        (bytes_eq-same name)
 
     pub items_of-names_of : (is : List ℕ) → AllByRecursion (λ i. i < length names) is → items_of names (map (name_of names) is) ≡ Some is
     items_of-names_of [] within = refl
