@@ -1,7 +1,6 @@
 pub mod ItemLanes
 pub mod LineLemmas
 pub mod ListLemmas
-pub mod PlanTextLength
 pub mod PrintedCircles
 pub mod PrintedLines
 pub mod PrintedPlans
@@ -9,3 +8,4 @@ pub mod PrintedQueues
 pub mod PrintedRuns
 pub mod PrintedWords
 pub mod ReadLines
+pub mod TextLength

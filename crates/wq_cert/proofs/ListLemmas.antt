@@ -1,5 +1,5 @@
 -- Lists of numbers: ranges, what passes a test, and what stands in them.
-use Rattle.std.proofs.Common.{◌≡◌, ℕ, zero, suc, ◌+◌, ◌<◌, ◌≤◌, Bool, true, false, cond, eqb, ltb, ◌||◌, List, [], ◌∷◌, ◌++◌, length, get_or, Option, Some, None, refl, sym, ap, ◌∙◌, arith, inl, inr}
+use Rattle.std.proofs.Common.{◌≡◌, ℕ, zero, suc, ◌+◌, ◌<◌, ◌≤◌, Bool, true, false, cond, eqb, ltb, List, [], ◌∷◌, ◌++◌, length, get_or, Some, None, refl, sym, ap, ◌∙◌, arith, inl, inr}
 use Rattle.std.specs.Prelude.{filter, position}
 use Rattle.std.specs.List.{AllByRecursion, list_any, list_all, position_or_len, range_with_len}
 use Rattle.std.proofs.lemmas.Bool.{cases_lt, lt-ltb, eqb-true, eq-eqb, ne_eqb, or_cases, or_left, or_right, or_from, and_from}
@@ -119,9 +119,10 @@ IsRisingFrom-filter p a (suc n) = chosen (p a) (IsRisingFrom-filter p (a + 1) n)
 fresh-push : (before : List ℕ) (i : ℕ) (is : List ℕ) → AllByRecursion (λ j. stands_in before j ≡ false) is → IsRisingFrom (i + 1) is → AllByRecursion (λ j. stands_in (before ++ (i ∷ [])) j ≡ false) is
 fresh-push before i [] fresh rises = tt
 fresh-push before i (j ∷ js) fresh rises =
-    let other : eqb j i ≡ false = ne_eqb j i (λ e. omega (arith, rises.0, e)) in
-    (list_any-append (λ k. eqb j k) before (i ∷ []) ∙ or_from (stands_in before j) (stands_in (i ∷ []) j) fresh.0 (or_from (eqb j i) false other refl),
-    fresh-push before i js fresh.1 (IsRisingFrom-lower (j + 1) (i + 1) js (omega (arith, rises.0)) rises.1))
+    let other : eqb j i ≡ false = ne_eqb j i (λ e. omega (arith, rises.0, e)) in (
+      list_any-append (λ k. eqb j k) before (i ∷ []) ∙ or_from (stands_in before j) (stands_in (i ∷ []) j) fresh.0 (or_from (eqb j i) false other refl),
+      fresh-push before i js fresh.1 (IsRisingFrom-lower (j + 1) (i + 1) js (omega (arith, rises.0)) rises.1),
+    )
 
 pub has_stood-rising : (before : List ℕ) (a : ℕ) (is : List ℕ) → AllByRecursion (λ i. stands_in before i ≡ false) is → IsRisingFrom a is → has_stood before is ≡ false
 has_stood-rising before a [] fresh rises = refl

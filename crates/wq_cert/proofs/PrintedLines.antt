@@ -1,13 +1,13 @@
 -- Printed lines, read back: each is a line of the text, and its words are those that were printed.
-use Rattle.std.proofs.Common.{◌≡◌, ◌≢◌, ℕ, zero, suc, ◌+◌, ◌-◌, ◌*◌, ◌<◌, ◌≤◌, Bool, true, false, cond, not, eqb, List, [], ◌∷◌, ◌++◌, length, get_or, refl, sym, ap, subst, ◌∙◌, arith, inl, append_assoc, length-append, Option, Result}
-use Rattle.std.specs.Prelude.{flat_map, Contains}
+use Rattle.std.proofs.Common.{◌≡◌, ◌≢◌, ℕ, zero, suc, ◌+◌, ◌-◌, ◌*◌, ◌<◌, ◌≤◌, true, false, not, eqb, List, [], ◌∷◌, ◌++◌, length, get_or, refl, sym, ap, subst, ◌∙◌, arith, inl, append_assoc, length-append, Option, Result}
+use Rattle.std.specs.Prelude.{flat_map}
 use Rattle.std.specs.List.{All, AllByRecursion}
 use Rattle.std.specs.Str.Lines.{strip_carriage_return}
 use Rattle.std.proofs.lemmas.Bool.{ne_eqb}
 use Rattle.std.proofs.lemmas.List.Elements.{All-nil, All-cons}
 use Rattle.wq_text.specs.Comments.{before_comment}
 use Rattle.wq_text.specs.declared.text.TextError.{TextError}
-use Rattle.wq_text.specs.Lines.{LineView, lines_from, lines_of, line_bytes, pieces}
+use Rattle.wq_text.specs.Lines.{LineView, lines_from, lines_of, pieces}
 use Rattle.wq_text.specs.Words.{WordView, words_from, words_of, is_blank, NoBlank, EndsAWord}
 use Rattle.wq_text.proofs.CommentLemmas.{before_comment-IsBeforeComment}
 use Rattle.wq_text.proofs.LimitLaws.{IsShort, limit_fault-fits}

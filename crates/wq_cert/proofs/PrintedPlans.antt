@@ -1,5 +1,5 @@
 -- Plans as they are printed, read back.
-use Rattle.std.proofs.Common.{◌≡◌, ℕ, ◌+◌, ◌-◌, ◌<◌, ◌≤◌, Bool, true, false, cond, eqb, List, [], ◌∷◌, ◌++◌, length, map, Result, Ok, Err, refl, sym, ap, ◌∙◌, arith, append-nil}
+use Rattle.std.proofs.Common.{◌≡◌, ℕ, ◌+◌, ◌-◌, ◌≤◌, Bool, true, false, cond, eqb, List, [], ◌∷◌, ◌++◌, length, map, Result, Ok, refl, sym, ap, ◌∙◌, arith, append-nil}
 use Rattle.std.specs.Prelude.{codes}
 use Rattle.std.specs.List.{All, AllByRecursion, range_with_len}
 use Rattle.std.proofs.lemmas.Bool.{eqb-true}
@@ -19,7 +19,7 @@ use Rattle.wq_cert.specs.Texts.{max_text, answer_of, assignment_of_text}
 use Rattle.wq_cert.proofs.ListLemmas.{AllByRecursion-append}
 use Rattle.wq_cert.proofs.PrintedLines.{IsPrintableLine, IsShort-printed, numbered, text_reading-printed}
 use Rattle.wq_cert.proofs.PrintedQueues.{FollowsGroups, follows_groups, next_queues-printed, whole_assignment-queues, IsPrintableLine-wqs}
-use Rattle.wq_cert.proofs.PlanTextLength.{length-plan_text}
+use Rattle.wq_cert.proofs.TextLength.{length-plan_text}
 use Rattle.wq_cert.proofs.PrintedWords.{IsPrintable-keyword, IsPrintableLine-count}
 use Rattle.wq_cert.proofs.ReadLines.{next_lines-map, count_reading-printed, each_arc-read, IsPrintableLine-arcs}
 
@@ -41,8 +41,8 @@ module _ (t : Table) (table : IsTable t) (lanes : ℕ) (lane : List ℕ) (chain 
   IsPrintableLine-plan arcs = (
     IsPrintableLine-count (codes "plan") lanes (IsPrintable-keyword (codes "plan") refl (omega arith) (omega arith)) (omega arith),
     AllByRecursion-append IsPrintableLine (map (wq_line t.names lane) (range_with_len 0 lanes)) (chain_line lanes chain ∷ map (arc_line t.names) chain)
-    (IsPrintableLine-wqs lane t table long 0 lanes (omega arith))
-    (IsPrintableLine-count (codes "chain") (chain_length lanes chain) (IsPrintable-keyword (codes "chain") refl (omega arith) (omega arith)) (omega (arith, chain_length-most lanes 4096 chain short)), IsPrintableLine-arcs t table chain arcs),
+        (IsPrintableLine-wqs lane t table long 0 lanes (omega arith))
+        (IsPrintableLine-count (codes "chain") (chain_length lanes chain) (IsPrintable-keyword (codes "chain") refl (omega arith) (omega arith)) (omega (arith, chain_length-most lanes 4096 chain short)), IsPrintableLine-arcs t table chain arcs),
   )
 
   pub length-plan_text-most : length (plan_text t.names lanes lane chain) ≤ 8388608

@@ -1,8 +1,7 @@
 -- Workqueues as they are printed, read back.
-use Rattle.std.proofs.Common.{◌≡◌, ◌≢◌, ℕ, zero, suc, ◌+◌, ◌<◌, ◌≤◌, ◌^◌, Bool, true, false, cond, not, eqb, leb, ◌||◌, List, [], ◌∷◌, ◌++◌, length, map, get_or, Option, Some, None, Result, Ok, Err, refl, sym, ap, ap₂, ◌∙◌, arith, inl, inr}
-use Rattle.std.specs.Prelude.{codes, ok_or, filter, position, slice_index, unwrap_or, Contains}
-use Rattle.std.specs.Fmt.{decimal}
-use Rattle.std.specs.List.{All, AllByRecursion, concat, list_any, range_with_len}
+use Rattle.std.proofs.Common.{◌≡◌, ◌≢◌, ℕ, zero, suc, ◌+◌, ◌<◌, ◌≤◌, Bool, true, false, cond, not, eqb, leb, ◌||◌, List, [], ◌∷◌, ◌++◌, length, map, get_or, Option, Some, Result, Ok, Err, refl, sym, ap, ap₂, ◌∙◌, arith, inl, inr}
+use Rattle.std.specs.Prelude.{codes, ok_or, position, slice_index, unwrap_or}
+use Rattle.std.specs.List.{AllByRecursion, concat, list_any, range_with_len}
 use Rattle.std.specs.Option.{option_zip}
 use Rattle.std.proofs.lemmas.Bool.{cases_lt, eqb-true, eq-eqb, ne_eqb, lt-leb, or_from, not_from_true}
 use Rattle.std.proofs.lemmas.List.{get_or-map, get_or_default, length-map}

@@ -1,25 +1,23 @@
 -- Runs as they are printed, read back.
-use Rattle.std.proofs.Common.{◌≡◌, ◌≢◌, ℕ, suc, ◌+◌, ◌-◌, ◌<◌, ◌≤◌, ◌^◌, Bool, true, false, cond, ltb, List, [], ◌∷◌, ◌++◌, length, map, Option, Some, None, Result, Ok, Err, refl, sym, ap, ◌∙◌, arith, append-nil, IsTrue}
-use Rattle.std.specs.Prelude.{AllPairs, codes, ok_or}
+use Rattle.std.proofs.Common.{◌≡◌, ℕ, ◌+◌, ◌<◌, ◌≤◌, ◌^◌, Bool, cond, List, [], ◌∷◌, length, map, Option, Some, Result, Ok, Err, refl, sym, ap, ◌∙◌, arith, append-nil}
+use Rattle.std.specs.Prelude.{codes, ok_or}
 use Rattle.std.specs.Fmt.{decimal}
 use Rattle.std.specs.List.{All, AllByRecursion}
 use Rattle.std.specs.Option.{option_zip, option_and_then}
 use Rattle.std.proofs.lemmas.Bool.{ltb-false}
 use Rattle.std.proofs.lemmas.List.{length-map}
 use Rattle.std.proofs.lemmas.List.Elements.{All-head, All-tail}
-use Rattle.wq_items.specs.Names.{is_name}
 use Rattle.wq_items.specs.Table.{Table, IsTable, item_named}
 use Rattle.wq_core.specs.declared.step.Step.{Step}
 use Rattle.wq_core.specs.declared.step.Step.TheVariants.{Queue, Cancel, Start, Wait, Over, Finish}
 use Rattle.wq_cert.specs.declared.fault.CertError.{CertError}
 use Rattle.wq_cert.specs.declared.fault.CertError.TheVariants.{BadCertLine, NumberOutOfRange}
-use Rattle.wq_cert.specs.Forms.{number_of, count_form, item_step, lane_step, step_form}
-use Rattle.wq_cert.specs.LineText.{line_text}
+use Rattle.wq_cert.specs.Forms.{item_step, lane_step, step_form}
 use Rattle.wq_cert.specs.Lines.{CertLine}
 use Rattle.wq_cert.specs.PlanText.{name_of}
 use Rattle.wq_cert.specs.Printable.{IsNamedStep}
-use Rattle.wq_cert.specs.Reading.{Read, and_then, and_read, next_line, next_lines, at_end, names_far_lane, step_reading, run_reading}
-use Rattle.wq_cert.specs.RunText.{run_line, step_line, run_lines, run_text}
+use Rattle.wq_cert.specs.Reading.{Read, and_then, and_read, next_lines, at_end, names_far_lane, step_reading, run_reading}
+use Rattle.wq_cert.specs.RunText.{step_line, run_lines, run_text}
 use Rattle.wq_cert.specs.Texts.{max_text, run_of}
 use Rattle.wq_cert.proofs.PrintedLines.{IsPrintable, IsPrintableLine, numbered, text_reading-printed, length-lines-le}
 use Rattle.wq_cert.proofs.PrintedWords.{number_of-decimal, count_form-printed, item_named-name_of, IsPrintable-decimal, IsPrintable-keyword, IsPrintable-name_of, IsPrintableLine-count}

@@ -1,18 +1,29 @@
--- How long a plan text can be.
-use Rattle.std.proofs.Common.{◌≡◌, ℕ, zero, suc, ◌+◌, ◌*◌, ◌<◌, ◌≤◌, ◌==◌, ◌&&◌, nat_le, Bool, true, false, cond, inl, inr, List, [], ◌∷◌, ◌++◌, length, map, slice_index, refl, subst, arith, length-append}
+-- How long the text of a plan, of a circle or of a run can be.
+use Rattle.std.proofs.Common.{◌≡◌, ℕ, zero, suc, Option, Some, None, IfSome, ap, ◌+◌, ◌*◌, ◌<◌, ◌≤◌, ◌==◌, nat_le, Bool, true, false, cond, inl, inr, List, [], ◌∷◌, ◌++◌, length, map, slice_index, subst, arith, length-append}
 use Rattle.std.proofs.Math.Nat.{mul-suc}
-use Rattle.std.proofs.lemmas.Bool.{cases_lt, leb-true}
+use Rattle.std.proofs.lemmas.Bool.{cases_lt, ltb-false}
 use Rattle.std.proofs.lemmas.Bool.Decides.{nat_tests}
 use Rattle.std.proofs.lemmas.Fmt.{length-decimal-le}
 use Rattle.std.proofs.lemmas.List.{get_or_past}
 use Rattle.std.proofs.lemmas.List.Folds.{flat_map-map}
+use Rattle.std.proofs.lemmas.List.Concat.{flat_map-append}
+use Rattle.std.proofs.lemmas.List.Elements.{All-head, All-tail}
 use Rattle.std.proofs.lemmas.List.FromFn.{length-range_with_len}
-use Rattle.std.specs.List.{All, AllByRecursion, list_all, range_with_len}
+use Rattle.std.specs.List.{All, AllByRecursion, range_with_len}
+use Rattle.std.specs.Option.{option_map_or}
 use Rattle.std.specs.Prelude.{IsTrue, codes, decimal, filter, flat_map}
-use Rattle.wq_items.specs.Names.{is_name, is_name_byte}
+use Rattle.wq_items.specs.Names.{is_name}
+use Rattle.wq_core.specs.declared.step.Step.{Step}
+use Rattle.wq_core.specs.declared.step.Step.TheVariants.{Queue, Cancel, Start, Wait, Over, Finish}
 use Rattle.wq_cert.specs.LineText.{spaced, line_text}
 use Rattle.wq_cert.specs.PlanText.{name_of, items_on, plan_line, wq_line, chain_line, arc_line, plan_text}
+use Rattle.wq_cert.specs.CircleText.{circle_line, circle_text}
+use Rattle.wq_cert.specs.Printable.{IsNamedStep}
+use Rattle.wq_cert.specs.Reading.{names_far_lane}
+use Rattle.wq_cert.specs.RunText.{run_line, step_line, run_lines, run_text}
 use Rattle.wq_cert.proofs.LineLemmas.{plan_text-parts}
+use Rattle.wq_cert.proofs.ListLemmas.{AllByRecursion-range_with_len}
+use Rattle.wq_cert.proofs.PrintedWords.{IsPrintable-name}
 
 -- ---- sums of lengths
 
@@ -51,11 +62,6 @@ module _ {X : Type 0} where
   total-lines h [] = omega arith
   total-lines h (x ∷ xs) = let rest : total (λ x. 8 + 64 * h x) xs ≡ 8 * length xs + 64 * total h xs = total-lines h xs in omega arith
 
--- numbers from a on, below m
-range_below : (P : ℕ → Type 0) (m a n : ℕ) → a + n ≤ m → ((q : ℕ) → q < m → P q) → AllByRecursion P (range_with_len a n)
-range_below P m a zero le each = tt
-range_below P m a (suc n) le each = (each a (omega arith), range_below P m (a + 1) n (omega arith) each)
-
 -- ---- each item is on one workqueue
 
 module _ (f : ℕ → ℕ) where
@@ -85,18 +91,9 @@ module _ (f : ℕ → ℕ) where
 
 -- ---- the parts of a line
 
-both : (a b : Bool) → IsTrue (a && b) → IsTrue a × IsTrue b
-both true b h = (refl, h)
-both false b h = absurd cc
-
-is_name-most : (bytes : List ℕ) → IsTrue (is_name bytes) → length bytes ≤ 63
-is_name-most bytes h =
-    let most = both (nat_le (length bytes) 63) (list_all is_name_byte bytes) (both (nat_le 1 (length bytes)) (nat_le (length bytes) 63 && list_all is_name_byte bytes) h).1 in
-    leb-true (length bytes) 63 most.0
-
 name_of-most : (names : List (List ℕ)) → All (λ (name : List ℕ). IsTrue (is_name name)) names → (i : ℕ) → length (name_of names i) ≤ 63
 name_of-most names named i = elim (cases_lt i (length names)) [
-  | inl item ↦ is_name-most (name_of names i) (named i [] item)
+  | inl item ↦ (IsPrintable-name (name_of names i) (named i [] item)).short
   | inr past ↦ rw (get_or_past names i [] past) (omega arith)
 ]
 
@@ -113,7 +110,7 @@ cond-most : (b : Bool) (n m : ℕ) → n ≤ m → cond b 0 n ≤ m
 cond-most true n m le = omega arith
 cond-most false n m le = le
 
-module _ (names : List (List ℕ)) (lane : List ℕ) (named : All (λ (name : List ℕ). IsTrue (is_name name)) names) where
+module _ (names : List (List ℕ)) (named : All (λ (name : List ℕ). IsTrue (is_name name)) names) where
   length-plan_line : (k : ℕ) → k ≤ 4096 → length (line_text (plan_line k)) ≤ 10
   length-plan_line k few = omega (arith, length-line_text (codes "plan") (decimal k ∷ []), length-spaced (decimal k) [], few_digits k (omega arith))
 
@@ -128,6 +125,77 @@ module _ (names : List (List ℕ)) (lane : List ℕ) (named : All (λ (name : Li
       let b = name_of names arc.1 in
       omega (arith, length-line_text (codes "arc") (a ∷ b ∷ []), length-spaced a (b ∷ []), length-spaced b [], name_of-most names named arc.0, name_of-most names named arc.1)
 
+  length-arc_lines : (chain : List (ℕ × ℕ)) → length (flat_map line_text (map (arc_line names) chain)) ≤ 132 * length chain
+  length-arc_lines chain = rw (flat_map-map line_text (arc_line names) chain) (length-flat_map-most (λ arc. line_text (arc_line names arc)) 132 length-arc_line chain)
+
+  -- ---- circles and runs
+
+  length-circle : (arcs : List (ℕ × ℕ)) → length arcs ≤ 4096 → length (line_text (circle_line arcs)) ≤ 12
+  length-circle arcs few =
+      omega (arith, length-line_text (codes "circle") (decimal (length arcs) ∷ []), length-spaced (decimal (length arcs)) [], few_digits (length arcs) (omega arith))
+
+  length-run : (steps : List Step) → length steps ≤ 65536 → length (line_text (run_line steps)) ≤ 10
+  length-run steps few =
+      omega (arith, length-line_text (codes "run") (decimal (length steps) ∷ []), length-spaced (decimal (length steps)) [], length-decimal-le 5 (length steps) (omega arith) (omega arith) (omega arith))
+
+  length-item_step : (word : List ℕ) (i : ℕ) → length word ≤ 6 → length (line_text (word ∷ name_of names i ∷ [])) ≤ 76
+  length-item_step word i short = omega (arith, length-line_text word (name_of names i ∷ []), length-spaced (name_of names i) [], name_of-most names named i)
+
+  length-lane_step : (word : List ℕ) (q i : ℕ) → length word ≤ 6 → q ≤ 4095 → length (line_text (word ∷ decimal q ∷ name_of names i ∷ [])) ≤ 76
+  length-lane_step word q i short near =
+      omega (
+        arith,
+        length-line_text word (decimal q ∷ name_of names i ∷ []),
+        length-spaced (decimal q) (name_of names i ∷ []),
+        length-spaced (name_of names i) [],
+        few_digits q (omega arith),
+        name_of-most names named i,
+      )
+
+  length-step_line : (step : Step) → names_far_lane step ≡ false → length (line_text (step_line names step)) ≤ 76
+  length-step_line (Queue i) near = length-item_step (codes "queue") i (omega arith)
+  length-step_line (Cancel i) near = length-item_step (codes "cancel") i (omega arith)
+  length-step_line (Start q i) near = length-lane_step (codes "start") q i (omega arith) (ltb-false 4095 q near)
+  length-step_line (Wait q b) near = length-lane_step (codes "wait") q b (omega arith) (ltb-false 4095 q near)
+  length-step_line (Over q b) near = length-lane_step (codes "over") q b (omega arith) (ltb-false 4095 q near)
+  length-step_line (Finish q i) near = length-lane_step (codes "finish") q i (omega arith) (ltb-false 4095 q near)
+
+  length-step_lines : (steps : List Step) → All (IsNamedStep names) steps → length (flat_map line_text (map (step_line names) steps)) ≤ 76 * length steps
+  length-step_lines [] each = omega arith
+  length-step_lines (step ∷ steps) each =
+      let rest : length (flat_map line_text (map (step_line names) steps)) ≤ 76 * length steps = length-step_lines steps (All-tail (IsNamedStep names) step steps each) in
+      let first : length (line_text (step_line names step)) ≤ 76 = length-step_line step (All-head (IsNamedStep names) step steps each).1 in
+      omega (arith, length-append (line_text (step_line names step)) (flat_map line_text (map (step_line names) steps)))
+
+  length-run_text-le : (steps : List Step) → All (IsNamedStep names) steps → length steps ≤ 65536 → length (run_text names steps) ≤ 10 + 76 * length steps
+  length-run_text-le steps each few =
+      omega (arith, length-append (line_text (run_line steps)) (flat_map line_text (map (step_line names) steps)), length-run steps few, length-step_lines steps each)
+
+  length-run_behind : (steps : Option (List Step)) → IfSome steps (All (IsNamedStep names)) → IfSome steps (λ run. length run ≤ 65536) → length (flat_map line_text (option_map_or (run_lines names) steps [])) ≤ 5000000
+  length-run_behind None each few = omega arith
+  length-run_behind (Some run) each few = omega (arith, length-run_text-le run each few)
+
+  pub length-run_text : (steps : List Step) → All (IsNamedStep names) steps → length steps ≤ 65536 → length (run_text names steps) ≤ 8388608
+  length-run_text steps each few = omega (arith, length-run_text-le steps each few)
+
+  pub length-circle_text : (arcs : List (ℕ × ℕ)) (steps : Option (List Step)) → length arcs ≤ 4096 → IfSome steps (All (IsNamedStep names)) → IfSome steps (λ run. length run ≤ 65536)
+      → length (circle_text names arcs steps) ≤ 8388608
+  length-circle_text arcs steps few each few_steps =
+      let lines = map (arc_line names) arcs in
+      let behind = option_map_or (run_lines names) steps [] in
+      omega (
+        arith,
+        length-append (line_text (circle_line arcs)) (flat_map line_text (lines ++ behind)),
+        ap length (flat_map-append line_text lines behind),
+        length-append (flat_map line_text lines) (flat_map line_text behind),
+        length-circle arcs few,
+        length-arc_lines arcs,
+        length-run_behind steps each few_steps,
+      )
+
+-- ---- plans
+
+module _ (names : List (List ℕ)) (lane : List ℕ) (named : All (λ (name : List ℕ). IsTrue (is_name name)) names) where
   length-wq_line : (q : ℕ) → q < 4096 → length (line_text (wq_line names lane q)) ≤ 8 + 64 * length (items_on lane q)
   length-wq_line q few =
       let words = map (name_of names) (items_on lane q) in
@@ -147,13 +215,10 @@ module _ (names : List (List ℕ)) (lane : List ℕ) (named : All (λ (name : Li
       let is = range_with_len 0 (length lane) in
       let sum : length (flat_map (λ q. line_text (wq_line names lane q)) qs) ≤ total (λ q. 8 + 64 * length (items_on lane q)) qs =
       length-flat_map-le (λ q. line_text (wq_line names lane q)) (λ q. 8 + 64 * length (items_on lane q)) qs
-      (range_below (λ q. length (line_text (wq_line names lane q)) ≤ 8 + 64 * length (items_on lane q)) 4096 0 lanes (omega arith) length-wq_line) in
+      (AllByRecursion-range_with_len (λ q. length (line_text (wq_line names lane q)) ≤ 8 + 64 * length (items_on lane q)) 0 lanes (λ q low high. length-wq_line q (omega arith))) in
       let parts : total (λ q. 8 + 64 * length (items_on lane q)) qs ≡ 8 * length qs + 64 * total (λ q. length (items_on lane q)) qs = total-lines (λ q. length (items_on lane q)) qs in
       let once : total (λ q. length (items_on lane q)) qs ≤ length is = total-items lanes in
       rw (flat_map-map line_text (wq_line names lane) qs) (omega (arith, length-range_with_len 0 lanes, length-range_with_len 0 (length lane)))
-
-  length-arc_lines : (chain : List (ℕ × ℕ)) → length (flat_map line_text (map (arc_line names) chain)) ≤ 132 * length chain
-  length-arc_lines chain = rw (flat_map-map line_text (arc_line names) chain) (length-flat_map-most (λ arc. line_text (arc_line names arc)) 132 length-arc_line chain)
 
   pub length-plan_text : (lanes : ℕ) (chain : List (ℕ × ℕ)) → lanes ≤ 4096 → length lane ≤ 4096 → length chain ≤ 4096 → length (plan_text names lanes lane chain) ≤ 8388608
   length-plan_text lanes chain few items short =
@@ -168,8 +233,8 @@ module _ (names : List (List ℕ)) (lane : List ℕ) (named : All (λ (name : Li
         length-append ((first ++ wqs) ++ middle) arcs,
         length-append (first ++ wqs) middle,
         length-append first wqs,
-        length-plan_line lanes few,
+        length-plan_line names named lanes few,
         length-wq_lines lanes few,
-        length-chain_line lanes chain short,
-        length-arc_lines chain,
+        length-chain_line names named lanes chain short,
+        length-arc_lines names named chain,
       ))
