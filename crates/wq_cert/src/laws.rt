@@ -1,4 +1,5 @@
-//! Laws of certificates, as contracts of functions with empty bodies: what is printed is read back.
+//! Laws of certificates, as contracts of functions with empty bodies: what is printed is read back,
+//! and is within the limits of what is read.
 //!
 //! They are said of the definitions of what is printed and of what is read, whatever code prints and reads.
 
@@ -33,8 +34,8 @@ pub fn a_circle_text_is_within_the_limits()
         length (circle_text t.names arcs steps) ≤ max_text }
 {}
 
-/// The text of a plan of up to 4,096 workqueues and 4,095 arcs says its assignment and its chain, whose groups are one
-/// more than the arcs. Read as an assignment it says the same assignment.
+/// The text of a plan of up to 4,096 workqueues and 4,095 arcs says its assignment and its chain, of one group more than
+/// arcs, or of none where there is no workqueue. Read as an assignment it says the same assignment.
 pub fn a_plan_text_is_read_back()
     ensures answer { (t : Table) (p : Partition) (a : Assignment) (chain : List (ℕ × ℕ)) → IsTable t → IsPartition p →
         length p.group_of ≡ length t.names → IsAssignment p.groups a → a.lanes ≤ 4096 →
