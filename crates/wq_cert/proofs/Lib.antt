@@ -1,6 +1,17 @@
-mod FormLemmas
-mod ReadLemmas
-mod StoodLemmas
-mod LaneLemmas
-mod NotedLemmas
-mod WholeLemmas
+pub mod FormLemmas
+pub mod ReadLemmas
+pub mod StoodLemmas
+pub mod LaneLemmas
+pub mod NotedLemmas
+pub mod WholeLemmas
+pub mod ItemLanes
+pub mod LineLemmas
+pub mod ListLemmas
+pub mod PrintedCircles
+pub mod PrintedLines
+pub mod PrintedPlans
+pub mod PrintedQueues
+pub mod PrintedRuns
+pub mod PrintedWords
+pub mod ReadLines
+pub mod TextLength

@@ -12,3 +12,4 @@ pub mod LineText
 pub mod PlanText
 pub mod RunText
 pub mod CircleText
+pub mod Printable

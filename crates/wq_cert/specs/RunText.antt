@@ -25,3 +25,12 @@ run_lines names steps = run_line steps ∷ map (step_line names) steps
 -- the run text
 abbrev pub run_text : List (List ℕ) → List Step → List ℕ
 run_text names steps = flat_map line_text (run_lines names steps)
+
+-- the item that a step names
+abbrev pub item_in : Step → ℕ
+item_in (Queue i) = i
+item_in (Cancel i) = i
+item_in (Start q i) = i
+item_in (Wait q b) = b
+item_in (Over q b) = b
+item_in (Finish q i) = i

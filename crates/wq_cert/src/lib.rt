@@ -1,26 +1,36 @@
 //! Certificates: the texts of plans, circles and runs, printed and read.
 //!
 //! What the layer above relies on: the printed texts are functions of what they say; each reader accepts exactly the texts
-//! of the format, with what they say, and else answers the first fault. The format is that of "Certificates" in
-//! docs/FORMAT.md.
+//! of the format, with what they say, and else answers the first fault; what is printed is read back. The format is that
+//! of "Certificates" in docs/FORMAT.md.
 #![tactic(auto)]
 
 mod answer;
 mod answer_reading;
+mod arc_printing;
 mod arc_reading;
 mod assignment_reading;
+mod circle_printing;
 mod fault;
 mod form;
+pub mod laws;
 mod line_reading;
+pub mod lines;
 mod opening;
+mod plan_printing;
 mod queue_reading;
 mod queues;
+pub mod reading_laws;
+mod run_printing;
 mod run_reading;
 mod view;
 
 pub use answer::CertAnswer;
 pub use answer_reading::read_answer;
 pub use assignment_reading::read_assignment;
+pub use circle_printing::circle_text;
 pub use fault::CertError;
+pub use plan_printing::plan_text;
+pub use run_printing::run_text;
 pub use run_reading::read_run;
 pub use view::{CertLines, CertView};

@@ -1,0 +1,16 @@
+use Rattle.std.proofs.Common.{◌≡◌, ◌++◌, take}
+use Rattle.std.specs.List.{range_with_len}
+use Rattle.wq_cert.specs.LineText.{line_text}
+use Rattle.wq_cert.specs.PlanText.{plan_line, wq_line, chain_line, arc_line}
+use Rattle.wq_cert.proofs.LineLemmas.{lines}
+use Rattle.wq_cert.proofs.plan_printing.print_plan.Given as goal
+
+-- the lines of the workqueues below q
+abbrev pub invariant-loop-q : goal.invariant-loop-q
+invariant-loop-q g l = l.out.items ≡ line_text (plan_line l.lanes) ++ lines (wq_line l.table.names l.lane) (range_with_len 0 l.q)
+
+-- all of them, the line of the chain, and the lines of the arcs so far
+abbrev pub invariant-loop-arc : goal.invariant-loop-arc
+invariant-loop-arc g l =
+    l.out.items ≡ ((line_text (plan_line l.lanes) ++ lines (wq_line l.table.names l.lane) (range_with_len 0 l.lanes)) ++ line_text (chain_line l.lanes l.chain))
+    ++ lines (arc_line l.table.names) (take l.arc-index l.chain)

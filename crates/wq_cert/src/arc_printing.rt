@@ -1,0 +1,27 @@
+//! Arcs as they are printed, in plan texts and in circle texts.
+//!
+//! The format is that of "Certificates" in docs/FORMAT.md. Takes time in what is printed.
+
+ghost use Rattle.std.specs.Prelude.{◌≡◌, ◌<◌, ◌++◌, ℕ, length, OnOk};
+ghost use Rattle.wq_cert.specs.LineText.{line_text};
+ghost use Rattle.wq_cert.specs.PlanText.{arc_line};
+
+use crate::lines::{put, put_end, put_word};
+use std::alloc::{AllocError, Allocator};
+use wq_items::{ItemId, ItemTable};
+
+/// Adds `arc NAME TARGET`.
+pub(crate) fn put_arc_line<A: Allocator + Copy>(
+    out: &mut Vec<u8, A>,
+    table: &ItemTable<'_, A>,
+    arc: (ItemId, ItemId),
+) -> Result<(), AllocError>
+    requires source { arc.0 < length table.now.names }
+    requires target { arc.1 < length table.now.names }
+    ensures { OnOk result (out.new.items ≡ out.old.items ++ line_text (arc_line table.now.names arc)) }
+{
+    put(out, b"arc")?;
+    put_word(out, table.name(arc.0))?;
+    put_word(out, table.name(arc.1))?;
+    put_end(out)
+}

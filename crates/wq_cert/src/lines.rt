@@ -1,0 +1,48 @@
+//! Lines as they are printed: words with one space between them, and a line feed.
+//!
+//! Each call takes time in what it adds.
+
+ghost use Rattle.std.specs.Prelude.{◌≡◌, ◌++◌, ◌∷◌, [], OnOk, decimal};
+ghost use Rattle.wq_cert.specs.LineText.{spaced};
+
+use std::alloc::{AllocError, Allocator};
+
+/// Adds bytes.
+pub fn put<A: Allocator + Copy>(out: &mut Vec<u8, A>, bytes: &[u8]) -> Result<(), AllocError>
+    ensures { OnOk result (out.new.items ≡ out.old.items ++ bytes.now) }
+{
+    out.extend_from_slice(bytes)?;
+    Ok(())
+}
+
+/// Adds a space and a word.
+pub fn put_word<A: Allocator + Copy>(
+    out: &mut Vec<u8, A>,
+    word: &[u8],
+) -> Result<(), AllocError>
+    ensures { OnOk result (out.new.items ≡ out.old.items ++ spaced word.now) }
+{
+    out.push(b' ')?;
+    out.extend_from_slice(word)?;
+    Ok(())
+}
+
+/// Adds a space and a number.
+pub fn put_number<A: Allocator + Copy>(
+    alloc: A,
+    out: &mut Vec<u8, A>,
+    number: u32,
+) -> Result<(), AllocError>
+    ensures { OnOk result (out.new.items ≡ out.old.items ++ spaced (decimal number)) }
+{
+    let digits = number.to_string(alloc)?;
+    put_word(out, digits.as_bytes())
+}
+
+/// Ends a line.
+pub fn put_end<A: Allocator + Copy>(out: &mut Vec<u8, A>) -> Result<(), AllocError>
+    ensures { OnOk result (out.new.items ≡ out.old.items ++ (10 ∷ [])) }
+{
+    out.push(b'\n')?;
+    Ok(())
+}

@@ -1,0 +1,135 @@
+//! Plan texts: the workqueues with their items, and a longest waiting chain.
+//!
+//! The format is that of "Certificates" in docs/FORMAT.md. Printing takes time in the workqueues times the items, and
+//! in the length of the text.
+
+ghost use Rattle.std.specs.Prelude.{◌≡◌, ◌<◌, ◌+◌, ◌++◌, ◌^◌, ℕ, length, OnOk, IfOk};
+ghost use Rattle.std.specs.List.{All};
+ghost use Rattle.wq_cert.specs.LineText.{line_text};
+ghost use Rattle.wq_cert.specs.PlanText.{plan_line, wq_line, chain_line, item_lanes, plan_text};
+
+use crate::arc_printing::put_arc_line;
+use crate::lines::{put, put_end, put_number, put_word};
+use std::alloc::{AllocError, Allocator};
+use wq_groups::{Assignment, Groups};
+use wq_items::{ItemId, ItemTable};
+
+/// Adds `plan K`.
+fn put_plan_line<A: Allocator + Copy>(
+    alloc: A,
+    out: &mut Vec<u8, A>,
+    lanes: u16,
+) -> Result<(), AllocError>
+    ensures { OnOk result (out.new.items ≡ out.old.items ++ line_text (plan_line lanes)) }
+{
+    put(out, b"plan")?;
+    put_number(alloc, out, u32::from(lanes))?;
+    put_end(out)
+}
+
+/// Adds `wq Q NAME..`.
+fn put_wq_line<A: Allocator + Copy>(
+    alloc: A,
+    out: &mut Vec<u8, A>,
+    table: &ItemTable<'_, A>,
+    lane: &[u16],
+    q: u16,
+) -> Result<(), AllocError>
+    requires one_each { length lane.now ≡ length table.now.names }
+    ensures { OnOk result (out.new.items ≡ out.old.items ++ line_text (wq_line table.now.names lane.now q)) }
+{
+    put(out, b"wq")?;
+    put_number(alloc, out, u32::from(q))?;
+    for i in 0..table.len() {
+        if lane[usize::from(i)] == q {
+            put_word(out, table.name(ItemId::new(i)))?;
+        }
+    }
+    put_end(out)
+}
+
+/// Adds `chain N`.
+fn put_chain_line<A: Allocator + Copy>(
+    alloc: A,
+    out: &mut Vec<u8, A>,
+    lanes: u16,
+    chain: &[(ItemId, ItemId)],
+) -> Result<(), AllocError>
+    requires { length chain.now + 1 < 2 ^ 32 }
+    ensures { OnOk result (out.new.items ≡ out.old.items ++ line_text (chain_line lanes chain.now)) }
+{
+    let items = if lanes == 0 {
+        0
+    } else {
+        chain.len() as u32 + 1
+    };
+    put(out, b"chain")?;
+    put_number(alloc, out, items)?;
+    put_end(out)
+}
+
+/// Of each item in turn the workqueue of its group.
+fn item_lanes<A: Allocator + Copy>(
+    alloc: A,
+    items: u16,
+    groups: &Groups<A>,
+    assignment: &Assignment<A>,
+) -> Result<Vec<u16, A>, AllocError>
+    requires items { length groups.now.group_of ≡ items }
+    requires groups { length assignment.now.lane_of_group ≡ groups.now.groups }
+    ensures { IfOk result (λ lane. lane.items ≡ item_lanes assignment.now groups.now.group_of) }
+{
+    let mut lane = Vec::new(alloc);
+    for i in 0..items {
+        let group = groups.of(ItemId::new(i));
+        lane.push(assignment.lane(group).get())?;
+    }
+    Ok(lane)
+}
+
+/// The text of a plan: the number of the workqueues, the items of each, and the arcs of a waiting chain.
+///
+/// The groups are those of the table's items, and each has a workqueue. The chain has fewer than 4,294,967,295 arcs, each from
+/// an item of the table to one of it.
+pub fn plan_text<A: Allocator + Copy>(
+    alloc: A,
+    table: &ItemTable<'_, A>,
+    groups: &Groups<A>,
+    assignment: &Assignment<A>,
+    chain: &[(ItemId, ItemId)],
+) -> Result<Vec<u8, A>, AllocError>
+    requires grouped { length groups.now.group_of ≡ length table.now.names }
+    requires assigned { length assignment.now.lane_of_group ≡ groups.now.groups }
+    requires few { length chain.now + 1 < 2 ^ 32 }
+    requires items { All (λ (arc : ℕ × ℕ). (arc.0 < length table.now.names) × (arc.1 < length table.now.names)) chain.now }
+    ensures { IfOk result (λ text. text.items
+        ≡ plan_text table.now.names assignment.now.lanes (item_lanes assignment.now groups.now.group_of) chain.now) }
+{
+    let lane = item_lanes(alloc, table.len(), groups, assignment)?;
+    print_plan(alloc, table, assignment.lanes(), &lane, chain)
+}
+
+/// The text of a plan that gives each item its workqueue.
+fn print_plan<A: Allocator + Copy>(
+    alloc: A,
+    table: &ItemTable<'_, A>,
+    lanes: u16,
+    lane: &[u16],
+    chain: &[(ItemId, ItemId)],
+) -> Result<Vec<u8, A>, AllocError>
+    requires one_each { length lane.now ≡ length table.now.names }
+    requires few { length chain.now + 1 < 2 ^ 32 }
+    requires items { All (λ (arc : ℕ × ℕ). (arc.0 < length table.now.names) × (arc.1 < length table.now.names)) chain.now }
+    ensures { IfOk result (λ text. text.items ≡ plan_text table.now.names lanes lane.now chain.now) }
+{
+    let mut out = Vec::new(alloc);
+    put_plan_line(alloc, &mut out, lanes)?;
+    for q in 0..lanes {
+        put_wq_line(alloc, &mut out, table, lane, q)?;
+    }
+    put_chain_line(alloc, &mut out, lanes, chain)?;
+    for arc in chain {
+        put_arc_line(&mut out, table, *arc)?;
+    }
+    Ok(out)
+}

@@ -1,0 +1,119 @@
+//! Run texts: the steps of a run, one on each line.
+//!
+//! The format is that of "Certificates" in docs/FORMAT.md. Takes time in the length of the text.
+
+ghost use Rattle.std.specs.Prelude.{◌≡◌, ◌<◌, ◌++◌, ◌∷◌, [], ◌^◌, ℕ, length, flat_map, decimal, OnOk, IfOk};
+ghost use Rattle.std.specs.List.{All};
+ghost use Rattle.wq_core.specs.declared.step.Step.{Step};
+ghost use Rattle.wq_cert.specs.LineText.{line_text};
+ghost use Rattle.wq_cert.specs.PlanText.{name_of};
+ghost use Rattle.wq_cert.specs.RunText.{item_in, run_line, step_line, run_lines, run_text};
+
+use crate::lines::{put, put_end, put_number, put_word};
+use std::alloc::{AllocError, Allocator};
+use wq_core::Step;
+use wq_groups::LaneId;
+use wq_items::{ItemId, ItemTable};
+
+/// Adds `run M`.
+fn put_run_line<A: Allocator + Copy>(
+    alloc: A,
+    out: &mut Vec<u8, A>,
+    steps: &[Step],
+) -> Result<(), AllocError>
+    requires { length steps.now < 2 ^ 32 }
+    ensures { OnOk result (out.new.items ≡ out.old.items ++ line_text (run_line steps.now)) }
+{
+    put(out, b"run")?;
+    put_number(alloc, out, steps.len() as u32)?;
+    put_end(out)
+}
+
+/// Adds `KEYWORD NAME`.
+fn put_item_step<A: Allocator + Copy>(
+    out: &mut Vec<u8, A>,
+    table: &ItemTable<'_, A>,
+    keyword: &[u8],
+    item: ItemId,
+) -> Result<(), AllocError>
+    requires { item < length table.now.names }
+    ensures { OnOk result (out.new.items ≡ out.old.items ++ line_text (keyword.now ∷ name_of table.now.names item ∷ [])) }
+{
+    put(out, keyword)?;
+    put_word(out, table.name(item))?;
+    put_end(out)
+}
+
+/// Adds `KEYWORD Q NAME`.
+fn put_lane_step<A: Allocator + Copy>(
+    alloc: A,
+    out: &mut Vec<u8, A>,
+    table: &ItemTable<'_, A>,
+    keyword: &[u8],
+    lane: LaneId,
+    item: ItemId,
+) -> Result<(), AllocError>
+    requires { item < length table.now.names }
+    ensures { OnOk result (out.new.items
+        ≡ out.old.items ++ line_text (keyword.now ∷ decimal lane ∷ name_of table.now.names item ∷ [])) }
+{
+    put(out, keyword)?;
+    put_number(alloc, out, u32::from(lane.get()))?;
+    put_word(out, table.name(item))?;
+    put_end(out)
+}
+
+/// Adds the line of a step.
+fn put_step_line<A: Allocator + Copy>(
+    alloc: A,
+    out: &mut Vec<u8, A>,
+    table: &ItemTable<'_, A>,
+    step: Step,
+) -> Result<(), AllocError>
+    requires { item_in step < length table.now.names }
+    ensures { OnOk result (out.new.items ≡ out.old.items ++ line_text (step_line table.now.names step)) }
+{
+    match step {
+        Step::Queue(item) => put_item_step(out, table, b"queue", item),
+        Step::Cancel(item) => put_item_step(out, table, b"cancel", item),
+        Step::Start(lane, item) => put_lane_step(alloc, out, table, b"start", lane, item),
+        Step::Wait(lane, target) => put_lane_step(alloc, out, table, b"wait", lane, target),
+        Step::Over(lane, target) => put_lane_step(alloc, out, table, b"over", lane, target),
+        Step::Finish(lane, item) => put_lane_step(alloc, out, table, b"finish", lane, item),
+    }
+}
+
+/// Adds the lines of a run.
+pub(crate) fn put_run<A: Allocator + Copy>(
+    alloc: A,
+    out: &mut Vec<u8, A>,
+    table: &ItemTable<'_, A>,
+    steps: &[Step],
+) -> Result<(), AllocError>
+    requires few { length steps.now < 2 ^ 32 }
+    requires items { All (λ (step : Step). item_in step < length table.now.names) steps.now }
+    ensures { OnOk result (out.new.items ≡ out.old.items ++ run_text table.now.names steps.now) }
+{
+    put_run_line(alloc, out, steps)?;
+    for step in steps {
+        put_step_line(alloc, out, table, *step)?;
+    }
+    Ok(())
+}
+
+/// The text of a run: how many steps it has, and these.
+///
+/// There are fewer than 4,294,967,296 steps, each of an item of the table.
+pub fn run_text<A: Allocator + Copy>(
+    alloc: A,
+    table: &ItemTable<'_, A>,
+    steps: &[Step],
+) -> Result<Vec<u8, A>, AllocError>
+    requires few { length steps.now < 2 ^ 32 }
+    requires items { All (λ (step : Step). item_in step < length table.now.names) steps.now }
+    ensures { IfOk result (λ text. text.items ≡ run_text table.now.names steps.now) }
+{
+    let mut out = Vec::new(alloc);
+    put_run(alloc, &mut out, table, steps)?;
+    Ok(out)
+}
