@@ -11,3 +11,5 @@ pub mod LineText
 pub mod PlanText
 pub mod RunText
 pub mod CircleText
+pub mod Ranges
+pub mod Spelled

@@ -7,6 +7,7 @@
 
 mod answer;
 mod fault;
+pub mod laws;
 mod view;
 
 pub use answer::CertAnswer;
