@@ -6,3 +6,4 @@ pub mod SpelledQueues
 pub mod SpelledTexts
 pub mod QueueLanes
 pub mod ReadRanges
+pub mod LongCertificates
