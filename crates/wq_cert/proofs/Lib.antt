@@ -7,3 +7,4 @@ pub mod SpelledTexts
 pub mod QueueLanes
 pub mod ReadRanges
 pub mod LongCertificates
+pub mod SpelledAnswers

@@ -1,16 +1,18 @@
 -- Spelled: which lines are read, said without a reader: their words are those of the forms, one behind the other.
-use Rattle.std.specs.Prelude.{◌≡◌, ◌≢◌, ℕ, ◌-◌, ◌^◌, ◌<◌, ◌≤◌, List, [], ◌∷◌, ◌++◌, length, map, slice_index, slice_index_or, Contains, AllPairs, codes, decimal, Option, Some, None}
+use Rattle.std.specs.Prelude.{◌≡◌, ◌≢◌, ℕ, ◌-◌, ◌^◌, ◌<◌, ◌≤◌, List, [], ◌∷◌, ◌++◌, ◌⊎◌, length, map, slice_index, slice_index_or, Contains, AllPairs, codes, decimal, Option, Some, None}
 use Rattle.std.specs.List.{All, concat, enumerate_from}
+use Rattle.wq_text.specs.Lines.{LineView, lines_of}
 use Rattle.wq_groups.specs.Partition.{Partition}
 use Rattle.wq_groups.specs.Assignment.{Assignment}
 use Rattle.wq_core.specs.declared.step.Step.{Step}
-use Rattle.wq_cert.specs.Certificate.{PlanCertificate, CircleCertificate}
-use Rattle.wq_cert.specs.Lines.{CertLine}
+use Rattle.wq_cert.specs.Certificate.{PlanCertificate, CircleCertificate, Certificate, OfPlan, OfCircle}
+use Rattle.wq_cert.specs.Lines.{CertLine, cert_lines}
 use Rattle.wq_cert.specs.Ranges.{IsArcOf, IsStepOf}
 use Rattle.wq_cert.specs.Reading.{assignment_of}
 use Rattle.wq_cert.specs.PlanText.{name_of, plan_line, arc_line}
 use Rattle.wq_cert.specs.RunText.{run_lines}
 use Rattle.wq_cert.specs.CircleText.{circle_line}
+use Rattle.wq_cert.specs.Texts.{max_text, max_line}
 
 -- the words of each line
 abbrev pub words_in : List CertLine → List (List (List ℕ))
@@ -43,7 +45,7 @@ queue_line names queue = codes "wq" ∷ decimal queue.0 ∷ map (name_of names) 
 abbrev pub queue_lines : List (List ℕ) → List (List ℕ) → List (List (List ℕ))
 queue_lines names queues = map (queue_line names) (enumerate_from 0 queues)
 
--- ---- texts
+-- ---- lines
 
 -- an assignment by `wq` lines alone
 pub record SpellsQueues (names : List (List ℕ)) (p : Partition) (lines : List (List (List ℕ))) (a : Assignment) : Type 0 where
@@ -85,3 +87,23 @@ pub record SpellsCircle (names : List (List ℕ)) (lines : List (List (List ℕ)
   pub few : length c.arcs ≤ 4096
   pub known : All (IsArcOf (length names)) c.arcs
   pub run : SpellsRunBehind names behind c.steps
+
+-- an answer: a plan or a circle
+abbrev pub SpellsCertificate : List (List ℕ) → Partition → List (List (List ℕ)) → Certificate → Type 0
+SpellsCertificate names p lines (OfPlan c) = SpellsPlan names p lines c
+SpellsCertificate names p lines (OfCircle c) = SpellsCircle names lines c
+
+-- an assignment: `wq` lines alone, or a plan
+abbrev pub SpellsAssignment : List (List ℕ) → Partition → List (List (List ℕ)) → Assignment → Type 0
+SpellsAssignment names p lines a = SpellsQueues names p lines a ⊎ ((c : PlanCertificate) × SpellsPlan names p lines c × (c.assignment ≡ a))
+
+-- ---- texts
+
+-- neither the text nor a line of it is too long
+pub record KeepsLimits (text : List ℕ) : Type 0 where
+  pub text_fits : length text ≤ max_text
+  pub lines_fit : All (λ (line : LineView). length line.bytes ≤ max_line) (lines_of text)
+
+-- the words of each line that holds one
+abbrev pub words_of_text : List ℕ → List (List (List ℕ))
+words_of_text text = words_in (cert_lines (lines_of text))
