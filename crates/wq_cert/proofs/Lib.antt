@@ -15,3 +15,15 @@ pub mod PrintedRuns
 pub mod PrintedWords
 pub mod ReadLines
 pub mod TextLength
+pub mod SpelledNumbers
+pub mod SpelledForms
+pub mod SpelledLines
+pub mod QueueLists
+pub mod SpelledQueues
+pub mod SpelledTexts
+pub mod QueueLanes
+pub mod ReadRanges
+pub mod LongCertificates
+pub mod SpelledAnswers
+pub mod QueueTurns
+pub mod PlanTurns

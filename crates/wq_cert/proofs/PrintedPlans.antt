@@ -9,6 +9,7 @@ use Rattle.wq_text.proofs.LimitLaws.{IsShort}
 use Rattle.wq_items.specs.Table.{Table, IsTable}
 use Rattle.wq_groups.specs.Partition.{Partition, IsPartition}
 use Rattle.wq_groups.specs.Assignment.{Assignment, IsAssignment, lane_of}
+use Rattle.wq_cert.proofs.PlanTurns.{plan_reading-turn}
 use Rattle.wq_cert.specs.declared.fault.CertError.{CertError}
 use Rattle.wq_cert.specs.Certificate.{Certificate, PlanCertificate, OfPlan}
 use Rattle.wq_cert.specs.Lines.{CertLine}
@@ -118,7 +119,8 @@ module _ (t : Table) (p : Partition) (a : Assignment) (chain : List (ℕ × ℕ)
       let behind = numbered (n + 1) (map (wq_line t.names lane) (range_with_len 0 a.lanes) ++ more) in
       let tail : Result ℕ CertError → Read ℕ = λ r. and_then (λ k. Ok (k, behind)) r in
       let all : 0 + a.lanes ≡ a.lanes = omega arith in
-      ap (λ (r : Result ℕ CertError). and_read after_plan (tail r)) (count_reading-printed (codes "plan") n a.lanes few)
+      plan_reading-turn t.names p (numbered n (plan_lines t.names a.lanes lane chain))
+      ∙ ap (λ (r : Result ℕ CertError). and_read after_plan (tail r)) (count_reading-printed (codes "plan") n a.lanes few)
       ∙ ap (and_read after_queues) (next_queues-printed lane t table length-lane p.group_of follows a.lanes 0 (n + 1) more (omega arith))
       ∙ ap (λ (k : ℕ). after_queues (map (items_on lane) (range_with_len 0 k)) (numbered (n + 1 + a.lanes) more)) all
       ∙ queues-read (n + 1 + a.lanes)

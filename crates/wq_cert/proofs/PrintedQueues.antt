@@ -10,6 +10,7 @@ use Rattle.wq_items.specs.Table.{Table, IsTable}
 use Rattle.wq_items.proofs.FoundNames.{position-map}
 use Rattle.wq_groups.specs.Partition.{Partition, IsPartition}
 use Rattle.wq_groups.specs.Assignment.{Assignment, IsAssignment, lane_of}
+use Rattle.wq_cert.proofs.QueueTurns.{wq_reading-turn}
 use Rattle.wq_cert.specs.declared.fault.CertError.{CertError}
 use Rattle.wq_cert.specs.declared.fault.CertError.TheVariants.{BadCertLine, NotAllItems, GroupSplit, NumberOutOfRange}
 use Rattle.wq_cert.specs.Forms.{items_of}
@@ -76,10 +77,10 @@ module _ (lane : List ℕ) where
 
   splits_group-items_on : (group_of : List ℕ) → FollowsGroups group_of → (q : ℕ) → splits_group group_of (queued 0 q) (items_on lane q) ≡ false
   splits_group-items_on group_of follows q =
-      let same_group : ℕ → ℕ → Bool = λ i j. eqb (slice_index group_of i) (slice_index group_of j) in
+      let same_group : ℕ → ℕ → Bool = λ i j. eqb (slice_index group_of j) (slice_index group_of i) in
       list_any-none (λ i. list_any (same_group i) (queued 0 q)) (items_on lane q)
       (list_any-apart (IsOn q) (IsBelow q) same_group
-      (λ i j on below. ne_eqb (slice_index group_of i) (slice_index group_of j) (λ e. omega (arith, on.1, below.1, follows i j on.0 below.0 e))) (items_on lane q) (queued 0 q) (IsOn-items_on q)
+      (λ i j on below. ne_eqb (slice_index group_of j) (slice_index group_of i) (λ e. omega (arith, on.1, below.1, follows i j on.0 below.0 (sym e)))) (items_on lane q) (queued 0 q) (IsOn-items_on q)
       (IsBelow-queued 0 q q (omega arith)))
 
   -- ---- a line, as it is printed
@@ -112,7 +113,8 @@ module _ (lane : List ℕ) where
         cond (not (eqb p.0 (length queues)) || leb 4096 (length queues)) (Err (NumberOutOfRange n))
         (cond (has_stood (concat queues) p.1) (Err (NotAllItems n)) (cond (splits_group group_of (concat queues) p.1) (Err (GroupSplit n)) (Ok p.1))) in
         let near : (not (eqb q (length queues)) || leb 4096 (length queues)) ≡ false = or_from _ _ (not_from_true _ (eq-eqb q (length queues) (sym count))) (lt-leb 4096 (length queues) (omega arith)) in
-        ap (λ (o : Option ℕ). and_then judged (ok_or (option_zip o (items_of t.names (map (name_of t.names) items))) (BadCertLine n))) (number_of-decimal q (omega arith))
+        wq_reading-turn t.names group_of queues (record { no = n; words = wq_line t.names lane q })
+        ∙ ap (λ (o : Option ℕ). and_then judged (ok_or (option_zip o (items_of t.names (map (name_of t.names) items))) (BadCertLine n))) (number_of-decimal q (omega arith))
         ∙ ap (λ (o : Option (List ℕ)). and_then judged (ok_or (option_zip (Some q) o) (BadCertLine n))) (items_of-names_of t.names table.distinct items (named t table long q))
         ∙ ap (λ (b : Bool). cond b (Err (NumberOutOfRange n)) (cond (has_stood (concat queues) items) (Err (NotAllItems n)) (cond (splits_group group_of (concat queues) items) (Err (GroupSplit n)) (Ok items)))) near
         ∙ ap (λ (b : Bool). cond b (Err (NotAllItems n)) (cond (splits_group group_of (concat queues) items) (Err (GroupSplit n)) (Ok items))) (has_stood-items_on q)

@@ -13,3 +13,5 @@ pub mod PlanText
 pub mod RunText
 pub mod CircleText
 pub mod Printable
+pub mod Ranges
+pub mod Spelled

@@ -20,7 +20,6 @@ mod opening;
 mod plan_printing;
 mod queue_reading;
 mod queues;
-pub mod reading_laws;
 mod run_printing;
 mod run_reading;
 mod view;

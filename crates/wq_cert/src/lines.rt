@@ -16,10 +16,7 @@ pub fn put<A: Allocator + Copy>(out: &mut Vec<u8, A>, bytes: &[u8]) -> Result<()
 }
 
 /// Adds a space and a word.
-pub fn put_word<A: Allocator + Copy>(
-    out: &mut Vec<u8, A>,
-    word: &[u8],
-) -> Result<(), AllocError>
+pub fn put_word<A: Allocator + Copy>(out: &mut Vec<u8, A>, word: &[u8]) -> Result<(), AllocError>
     ensures { OnOk result (out.new.items ≡ out.old.items ++ spaced word.now) }
 {
     out.push(b' ')?;

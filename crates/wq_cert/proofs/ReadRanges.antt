@@ -1,0 +1,193 @@
+-- What is read is in range.
+use Rattle.std.proofs.Common.{◌≡◌, ℕ, suc, ◌+◌, ◌-◌, ◌<◌, ◌≤◌, ◌⊎◌, inl, inr, Bool, true, false, cond, eqb, List, [], ◌∷◌, ◌++◌, length, map, Option, Some, None, Result, Ok, Err, refl, sym, ap, subst, ◌∙◌, arith, length-append}
+use Rattle.std.specs.Prelude.{codes, filter}
+use Rattle.std.specs.List.{All}
+use Rattle.std.proofs.lemmas.List.{length-map}
+use Rattle.wq_text.specs.declared.text.TextError.{TextError}
+use Rattle.wq_text.specs.declared.text.TextError.TheVariants.{TextTooLong, LineTooLong}
+use Rattle.wq_text.specs.Lines.{LineView, Piece, pieces, in_front, lines_from, line_bytes, taken, lines_of}
+use Rattle.wq_text.specs.Limits.{limit_fault}
+use Rattle.wq_text.proofs.LimitLaws.{fits-limit_fault}
+use Rattle.wq_groups.specs.Partition.{Partition, IsPartition}
+use Rattle.wq_groups.specs.Assignment.{Assignment}
+use Rattle.wq_core.specs.declared.step.Step.{Step}
+use Rattle.wq_cert.specs.declared.fault.CertError.{CertError}
+use Rattle.wq_cert.specs.Certificate.{PlanCertificate, CircleCertificate, Certificate, OfPlan, OfCircle}
+use Rattle.wq_cert.specs.Lines.{CertLine, holds_word, cert_line, cert_lines}
+use Rattle.wq_cert.specs.Forms.{begins_with}
+use Rattle.wq_cert.specs.PlanText.{arc_line}
+use Rattle.wq_cert.specs.RunText.{step_line}
+use Rattle.wq_cert.specs.Ranges.{IsAssignmentOf, IsRunOf, IsPlanOf, IsCircleOf, IsCertificateOf}
+use Rattle.wq_cert.specs.Reading.{and_then, plan_reading, circle_reading, run_reading, queues_reading, answer_reading, assignment_reading, assignment_of}
+use Rattle.wq_cert.specs.Spelled.{words_in, AreQueues, SpellsPlan, SpellsRun, SpellsRunBehind, SpellsCircle, SpellsQueues}
+use Rattle.wq_cert.specs.Texts.{max_text, max_line, by_limits, text_reading, answer_of, assignment_of_text, run_of}
+use Rattle.wq_cert.proofs.SpelledLines.{Follows-and_then, same_ok}
+use Rattle.wq_cert.proofs.SpelledTexts.{SpellsRun-run_reading, SpellsCircle-circle_reading, SpellsQueues-queues_reading, SpellsPlan-plan_reading}
+use Rattle.wq_cert.proofs.QueueLanes.{IsAssignmentOf-queues}
+
+-- ---- lines
+
+length-in_front : (b : ℕ) (ps : List Piece) → length (in_front b ps) ≤ suc (length ps)
+length-in_front b [] = omega arith
+length-in_front b (p ∷ ps) = omega arith
+
+-- a text has no more pieces than bytes
+length-pieces : (text : List ℕ) → length (pieces text) ≤ length text
+length-pieces [] = omega arith
+length-pieces (b ∷ bs) = chosen (eqb b 10) (length-pieces bs)
+  where
+    chosen : (feed : Bool) → length (pieces bs) ≤ length bs → length (cond feed (record { bytes = []; ended = true } ∷ pieces bs) (in_front b (pieces bs))) ≤ length (b ∷ bs)
+    chosen true few = omega arith
+    chosen false few = omega (arith, length-in_front b (pieces bs))
+
+length-lines_from : (n start : ℕ) (ps : List Piece) → length (lines_from n start ps) ≡ length ps
+length-lines_from n start [] = refl
+length-lines_from n start (p ∷ ps) = ap suc (length-lines_from (n + 1) (start + taken p) ps)
+
+length-filter : {X : Type 0} (test : X → Bool) (xs : List X) → length (filter test xs) ≤ length xs
+length-filter test [] = omega arith
+length-filter test (x ∷ xs) = chosen (test x) (length-filter test xs)
+  where
+    chosen : (b : Bool) → length (filter test xs) ≤ length xs → length (cond b (x ∷ filter test xs) (filter test xs)) ≤ length (x ∷ xs)
+    chosen true few = omega arith
+    chosen false few = omega arith
+
+pub length-cert_lines : (text : List ℕ) → length (cert_lines (lines_of text)) ≤ length text
+length-cert_lines text =
+    omega (
+      arith,
+      length-map (filter holds_word (lines_of text)) cert_line,
+      length-filter holds_word (lines_of text),
+      length-lines_from 1 0 (pieces text),
+      length-pieces text,
+    )
+
+length-words_in : (lines : List CertLine) → length (words_in lines) ≡ length lines
+length-words_in lines = length-map lines (λ (line : CertLine). line.words)
+
+-- ---- texts
+
+-- the text keeps the limits, and its lines are read so
+pub record IsReadSo {V : Type 0} (read : List CertLine → Result V CertError) (text : List ℕ) (v : V) : Type 0 where
+  pub within : limit_fault max_text max_line text ≡ None
+  pub is_read : read (cert_lines (lines_of text)) ≡ Ok v
+
+pub IsReadSo-text_reading : {V : Type 0} (read : List CertLine → Result V CertError) (text : List ℕ) (v : V) → text_reading read text ≡ Ok v → IsReadSo read text v
+IsReadSo-text_reading {V} read text v e = chosen (limit_fault max_text max_line text) refl e
+  where
+    chosen : (o : Option TextError) → limit_fault max_text max_line text ≡ o → by_limits o (read (cert_lines (lines_of text))) ≡ Ok v → IsReadSo read text v
+    chosen None within e = record { within = within; is_read = e }
+    chosen (Some TextTooLong) within e = absurd cc
+    chosen (Some (LineTooLong line)) within e = absurd cc
+
+few_lines : (text : List ℕ) → limit_fault max_text max_line text ≡ None → length (cert_lines (lines_of text)) ≤ 8388608
+few_lines text within =
+    let fits : length text ≤ 8388608 = (fits-limit_fault max_text max_line text within).0 in
+    omega (arith, fits, length-cert_lines text)
+
+-- ---- the text of an answer
+
+-- the lines are read as what the certificate says
+abbrev pub IsReadAs : List (List ℕ) → Partition → List CertLine → Certificate → Type 0
+IsReadAs names p lines (OfPlan c) = plan_reading names p lines ≡ Ok c
+IsReadAs names p lines (OfCircle c) = circle_reading names lines ≡ Ok c
+
+abbrev pub circle_answer : CircleCertificate → Result Certificate CertError
+circle_answer circle = Ok (OfCircle circle)
+
+abbrev pub plan_answer : PlanCertificate → Result Certificate CertError
+plan_answer plan = Ok (OfPlan plan)
+
+pub IsReadAs-answer_reading : (names : List (List ℕ)) (p : Partition) (lines : List CertLine) (c : Certificate) → answer_reading names p lines ≡ Ok c → IsReadAs names p lines c
+IsReadAs-answer_reading names p [] c e = absurd cc
+IsReadAs-answer_reading names p (line ∷ lines) c e = chosen (begins_with (codes "circle") line.words) e
+  where
+    chosen : (b : Bool) → cond b (and_then circle_answer (circle_reading names (line ∷ lines))) (and_then plan_answer (plan_reading names p (line ∷ lines))) ≡ Ok c → IsReadAs names p (line ∷ lines) c
+    chosen true e =
+        let found = Follows-and_then circle_answer (circle_reading names (line ∷ lines)) c e in
+        subst (IsReadAs names p (line ∷ lines)) (same_ok (OfCircle found.value) c found.then) found.first
+    chosen false e =
+        let found = Follows-and_then plan_answer (plan_reading names p (line ∷ lines)) c e in
+        subst (IsReadAs names p (line ∷ lines)) (same_ok (OfPlan found.value) c found.then) found.first
+
+-- ---- the text of an assignment
+
+-- the lines are `wq` lines alone, or those of a plan
+abbrev pub IsAssignedBy : List (List ℕ) → Partition → List CertLine → Assignment → Type 0
+IsAssignedBy names p lines a = (queues_reading names p lines ≡ Ok a) ⊎ ((c : PlanCertificate) × (plan_reading names p lines ≡ Ok c) × (c.assignment ≡ a))
+
+abbrev pub of_plan : PlanCertificate → Result Assignment CertError
+of_plan plan = Ok plan.assignment
+
+pub IsAssignedBy-assignment_reading : (names : List (List ℕ)) (p : Partition) (lines : List CertLine) (a : Assignment) → assignment_reading names p lines ≡ Ok a → IsAssignedBy names p lines a
+IsAssignedBy-assignment_reading names p [] a e = inl e
+IsAssignedBy-assignment_reading names p (line ∷ lines) a e = chosen (begins_with (codes "plan") line.words) e
+  where
+    chosen : (b : Bool) → cond b (and_then of_plan (plan_reading names p (line ∷ lines))) (queues_reading names p (line ∷ lines)) ≡ Ok a → IsAssignedBy names p (line ∷ lines) a
+    chosen true e =
+        let found = Follows-and_then of_plan (plan_reading names p (line ∷ lines)) a e in
+        inr (found.value, found.first, same_ok found.value.assignment a found.then)
+    chosen false e = inl e
+
+-- ---- in range
+
+-- the steps are fewer than the lines
+IsRunOf-spelled : (names : List (List ℕ)) (lines : List (List (List ℕ))) (steps : List Step) → length lines ≤ 8388608 → SpellsRun names lines steps → IsRunOf (length names) steps
+IsRunOf-spelled names lines steps few spells = record {
+  known = spells.known;
+  few = omega (arith, few, ap length spells.words, length-map steps (step_line names));
+}
+
+module _ (names : List (List ℕ)) (p : Partition) (partition : IsPartition p) (one_group_each : length names ≡ length p.group_of) where
+  IsAssignmentOf-spelled : (queues : List (List ℕ)) (a : Assignment) → AreQueues (length names) p.group_of queues → a ≡ assignment_of p queues → IsAssignmentOf p.groups a
+  IsAssignmentOf-spelled queues a are is =
+      subst (IsAssignmentOf p.groups) (sym is) (IsAssignmentOf-queues p queues partition (subst (λ (n : ℕ). AreQueues n p.group_of queues) one_group_each are))
+
+  IsPlanOf-spelled : (lines : List (List (List ℕ))) (c : PlanCertificate) → SpellsPlan names p lines c → IsPlanOf (length names) p.groups c
+  IsPlanOf-spelled lines c spells = record {
+    assignment = IsAssignmentOf-spelled spells.queues c.assignment spells.are spells.assignment;
+    few = spells.few;
+    count = spells.count;
+    arcs = spells.known;
+  }
+
+  run_behind : (behind : List (List (List ℕ))) (run : Option (List Step)) (steps : List Step) → length behind ≤ 8388608 → SpellsRunBehind names behind run → run ≡ Some steps → IsRunOf (length names) steps
+  run_behind behind None steps few spells is = absurd cc
+  run_behind behind (Some others) steps few spells is =
+      let same : others ≡ steps = cc in
+      subst (IsRunOf (length names)) same (IsRunOf-spelled names behind others few spells)
+
+  IsCircleOf-spelled : (lines : List (List (List ℕ))) (c : CircleCertificate) → length lines ≤ 8388608 → SpellsCircle names lines c → IsCircleOf (length names) c
+  IsCircleOf-spelled lines c few spells =
+      let behind : length spells.behind ≤ 8388608 = omega (arith, few, ap length spells.words, length-append (map (arc_line names) c.arcs) spells.behind) in
+      record { some = spells.some; few = spells.few; arcs = spells.known; run = λ steps is. run_behind spells.behind c.steps steps behind spells.run is }
+
+  IsCertificateOf-read : (lines : List CertLine) (c : Certificate) → length lines ≤ 8388608 → IsReadAs names p lines c → IsCertificateOf (length names) p.groups c
+  IsCertificateOf-read lines (OfPlan c) few e = IsPlanOf-spelled (words_in lines) c (SpellsPlan-plan_reading names p one_group_each lines c e)
+  IsCertificateOf-read lines (OfCircle c) few e =
+      IsCircleOf-spelled (words_in lines) c (omega (arith, few, length-words_in lines)) (SpellsCircle-circle_reading names lines c e)
+
+  pub IsCertificateOf-answer_of : (text : List ℕ) (c : Certificate) → answer_of names p text ≡ Ok c → IsCertificateOf (length names) p.groups c
+  IsCertificateOf-answer_of text c e =
+      let found = IsReadSo-text_reading (answer_reading names p) text c e in
+      let lines = cert_lines (lines_of text) in
+      IsCertificateOf-read lines c (few_lines text found.within) (IsReadAs-answer_reading names p lines c found.is_read)
+
+  IsAssignmentOf-read : (lines : List CertLine) (a : Assignment) → IsAssignedBy names p lines a → IsAssignmentOf p.groups a
+  IsAssignmentOf-read lines a (inl e) =
+      let spells = SpellsQueues-queues_reading names p one_group_each lines a e in
+      IsAssignmentOf-spelled spells.queues a spells.are spells.assignment
+  IsAssignmentOf-read lines a (inr (c, e, is)) =
+      subst (IsAssignmentOf p.groups) is (IsPlanOf-spelled (words_in lines) c (SpellsPlan-plan_reading names p one_group_each lines c e)).assignment
+
+  pub IsAssignmentOf-assignment_of_text : (text : List ℕ) (a : Assignment) → assignment_of_text names p text ≡ Ok a → IsAssignmentOf p.groups a
+  IsAssignmentOf-assignment_of_text text a e =
+      let found = IsReadSo-text_reading (assignment_reading names p) text a e in
+      let lines = cert_lines (lines_of text) in
+      IsAssignmentOf-read lines a (IsAssignedBy-assignment_reading names p lines a found.is_read)
+
+pub IsRunOf-run_of : (names : List (List ℕ)) (text : List ℕ) (steps : List Step) → run_of names text ≡ Ok steps → IsRunOf (length names) steps
+IsRunOf-run_of names text steps e =
+    let found = IsReadSo-text_reading (run_reading names) text steps e in
+    let lines = cert_lines (lines_of text) in
+    IsRunOf-spelled names (words_in lines) steps (omega (arith, few_lines text found.within, length-words_in lines)) (SpellsRun-run_reading names lines steps found.is_read)

@@ -1,0 +1,50 @@
+-- Ranges: what is known of every certificate, assignment and run that is read. Items are counted by their names.
+use Rattle.std.specs.Prelude.{◌≡◌, ℕ, ◌-◌, ◌<◌, ◌≤◌, List, length, Option, Some}
+use Rattle.std.specs.List.{All}
+use Rattle.wq_groups.specs.Assignment.{Assignment, IsAssignment}
+use Rattle.wq_core.specs.declared.step.Step.{Step}
+use Rattle.wq_core.specs.declared.step.Step.TheVariants.{Queue, Cancel, Start, Wait, Over, Finish}
+use Rattle.wq_cert.specs.Certificate.{PlanCertificate, CircleCertificate, Certificate, OfPlan, OfCircle}
+
+-- the item and the target of an arc are two of so many items, or one of them twice
+abbrev pub IsArcOf : ℕ → ℕ × ℕ → Type 0
+IsArcOf items arc = (arc.0 < items) × (arc.1 < items)
+
+-- a step names one of so many items, and a workqueue below 4,096 if it names one
+abbrev pub IsStepOf : ℕ → Step → Type 0
+IsStepOf items (Queue i) = i < items
+IsStepOf items (Cancel i) = i < items
+IsStepOf items (Start q i) = (i < items) × (q < 4096)
+IsStepOf items (Wait q b) = (b < items) × (q < 4096)
+IsStepOf items (Over q b) = (b < items) × (q < 4096)
+IsStepOf items (Finish q i) = (i < items) × (q < 4096)
+
+-- an assignment of so many groups to at most 4,096 workqueues
+pub record IsAssignmentOf (groups : ℕ) (a : Assignment) : Type 0 where
+  pub assignment : IsAssignment groups a
+  pub few : a.lanes ≤ 4096
+
+-- steps of so many items, fewer than 4,294,967,295
+pub record IsRunOf (items : ℕ) (steps : List Step) : Type 0 where
+  pub known : All (IsStepOf items) steps
+  pub few : length steps < 4294967295
+
+-- what the text of a plan says of so many items and groups: an assignment to at most 4,096 workqueues, a chain of at most
+-- 4,096 groups, and one arc fewer, none where there is no group
+pub record IsPlanOf (items groups : ℕ) (c : PlanCertificate) : Type 0 where
+  pub assignment : IsAssignmentOf groups c.assignment
+  pub few : c.length ≤ 4096
+  pub count : length c.arcs ≡ c.length - 1
+  pub arcs : All (IsArcOf items) c.arcs
+
+-- what the text of a circle says of so many items: from 1 to 4,096 arcs, and perhaps a run
+pub record IsCircleOf (items : ℕ) (c : CircleCertificate) : Type 0 where
+  pub some : 0 < length c.arcs
+  pub few : length c.arcs ≤ 4096
+  pub arcs : All (IsArcOf items) c.arcs
+  pub run : (steps : List Step) → c.steps ≡ Some steps → IsRunOf items steps
+
+-- what the text of an answer says of so many items and groups
+abbrev pub IsCertificateOf : ℕ → ℕ → Certificate → Type 0
+IsCertificateOf items groups (OfPlan c) = IsPlanOf items groups c
+IsCertificateOf items groups (OfCircle c) = IsCircleOf items c

@@ -1,0 +1,109 @@
+-- Spelled: which lines are read, said without a reader: their words are those of the forms, one behind the other.
+use Rattle.std.specs.Prelude.{◌≡◌, ◌≢◌, ℕ, ◌-◌, ◌^◌, ◌<◌, ◌≤◌, List, [], ◌∷◌, ◌++◌, ◌⊎◌, length, map, slice_index, slice_index_or, Contains, AllPairs, codes, decimal, Option, Some, None}
+use Rattle.std.specs.List.{All, concat, enumerate_from}
+use Rattle.wq_text.specs.Lines.{LineView, lines_of}
+use Rattle.wq_groups.specs.Partition.{Partition}
+use Rattle.wq_groups.specs.Assignment.{Assignment}
+use Rattle.wq_core.specs.declared.step.Step.{Step}
+use Rattle.wq_cert.specs.Certificate.{PlanCertificate, CircleCertificate, Certificate, OfPlan, OfCircle}
+use Rattle.wq_cert.specs.Lines.{CertLine, cert_lines}
+use Rattle.wq_cert.specs.Ranges.{IsArcOf, IsStepOf}
+use Rattle.wq_cert.specs.Reading.{assignment_of}
+use Rattle.wq_cert.specs.PlanText.{name_of, plan_line, arc_line}
+use Rattle.wq_cert.specs.RunText.{run_lines}
+use Rattle.wq_cert.specs.CircleText.{circle_line}
+use Rattle.wq_cert.specs.Texts.{max_text, max_line}
+
+-- the words of each line
+abbrev pub words_in : List CertLine → List (List (List ℕ))
+words_in lines = map (λ (line : CertLine). line.words) lines
+
+-- ---- workqueues
+
+-- item i is on workqueue q
+abbrev pub IsOnQueue : List (List ℕ) → ℕ → ℕ → Type 0
+IsOnQueue queues q i = Contains (slice_index_or queues q []) i
+
+-- two items of one group are on one workqueue
+abbrev pub GroupsAreWhole : List ℕ → List (List ℕ) → Type 0
+GroupsAreWhole group_of queues =
+    (q r i j : ℕ) → IsOnQueue queues q i → IsOnQueue queues r j → slice_index group_of i ≡ slice_index group_of j → q ≡ r
+
+-- at most 4,096 workqueues with these items, each on one of them and only once, and each group on one workqueue
+pub record AreQueues (items : ℕ) (group_of : List ℕ) (queues : List (List ℕ)) : Type 0 where
+  pub few : length queues ≤ 4096
+  pub known : All (λ i. i < items) (concat queues)
+  pub all : (i : ℕ) → i < items → Contains (concat queues) i
+  pub once : AllPairs (λ (i j : ℕ). i ≢ j) (concat queues)
+  pub whole : GroupsAreWhole group_of queues
+
+-- `wq Q NAME..`
+abbrev pub queue_line : List (List ℕ) → ℕ × List ℕ → List (List ℕ)
+queue_line names queue = codes "wq" ∷ decimal queue.0 ∷ map (name_of names) queue.1
+
+-- the lines of the workqueues, which are numbered from 0, with their items in any order
+abbrev pub queue_lines : List (List ℕ) → List (List ℕ) → List (List (List ℕ))
+queue_lines names queues = map (queue_line names) (enumerate_from 0 queues)
+
+-- ---- lines
+
+-- an assignment by `wq` lines alone
+pub record SpellsQueues (names : List (List ℕ)) (p : Partition) (lines : List (List (List ℕ))) (a : Assignment) : Type 0 where
+  pub queues : List (List ℕ)
+  pub words : lines ≡ queue_lines names queues
+  pub are : AreQueues (length names) p.group_of queues
+  pub assignment : a ≡ assignment_of p queues
+
+-- `chain N`
+abbrev pub count_line : ℕ → List (List ℕ)
+count_line n = codes "chain" ∷ decimal n ∷ []
+
+-- a plan: `plan K`, the workqueues, `chain N`, and the arcs
+pub record SpellsPlan (names : List (List ℕ)) (p : Partition) (lines : List (List (List ℕ))) (c : PlanCertificate) : Type 0 where
+  pub queues : List (List ℕ)
+  pub words : lines ≡ plan_line (length queues) ∷ (queue_lines names queues ++ (count_line c.length ∷ map (arc_line names) c.arcs))
+  pub are : AreQueues (length names) p.group_of queues
+  pub assignment : c.assignment ≡ assignment_of p queues
+  pub few : c.length ≤ 4096
+  pub count : length c.arcs ≡ c.length - 1
+  pub known : All (IsArcOf (length names)) c.arcs
+
+-- a run: `run M` and the steps, where M is a number
+pub record SpellsRun (names : List (List ℕ)) (lines : List (List (List ℕ))) (steps : List Step) : Type 0 where
+  pub words : lines ≡ run_lines names steps
+  pub few : length steps < 2 ^ 32
+  pub known : All (IsStepOf (length names)) steps
+
+-- no line, or a run
+abbrev pub SpellsRunBehind : List (List ℕ) → List (List (List ℕ)) → Option (List Step) → Type 0
+SpellsRunBehind names lines None = lines ≡ []
+SpellsRunBehind names lines (Some steps) = SpellsRun names lines steps
+
+-- a circle: `circle N` and the arcs, and perhaps a run behind them
+pub record SpellsCircle (names : List (List ℕ)) (lines : List (List (List ℕ))) (c : CircleCertificate) : Type 0 where
+  pub behind : List (List (List ℕ))
+  pub words : lines ≡ circle_line c.arcs ∷ (map (arc_line names) c.arcs ++ behind)
+  pub some : 0 < length c.arcs
+  pub few : length c.arcs ≤ 4096
+  pub known : All (IsArcOf (length names)) c.arcs
+  pub run : SpellsRunBehind names behind c.steps
+
+-- an answer: a plan or a circle
+abbrev pub SpellsCertificate : List (List ℕ) → Partition → List (List (List ℕ)) → Certificate → Type 0
+SpellsCertificate names p lines (OfPlan c) = SpellsPlan names p lines c
+SpellsCertificate names p lines (OfCircle c) = SpellsCircle names lines c
+
+-- an assignment: `wq` lines alone, or a plan
+abbrev pub SpellsAssignment : List (List ℕ) → Partition → List (List (List ℕ)) → Assignment → Type 0
+SpellsAssignment names p lines a = SpellsQueues names p lines a ⊎ ((c : PlanCertificate) × SpellsPlan names p lines c × (c.assignment ≡ a))
+
+-- ---- texts
+
+-- neither the text nor a line of it is too long
+pub record KeepsLimits (text : List ℕ) : Type 0 where
+  pub text_fits : length text ≤ max_text
+  pub lines_fit : All (λ (line : LineView). length line.bytes ≤ max_line) (lines_of text)
+
+-- the words of each line that holds one
+abbrev pub words_of_text : List ℕ → List (List (List ℕ))
+words_of_text text = words_in (cert_lines (lines_of text))
