@@ -61,7 +61,7 @@ module _ (waits : List (List Target)) (lane_of_item : List ℕ) (lanes : List He
       let before = held.machine in
       let after : IsMachine (machine_after held_machine step) = record {
         wiring = before.wiring;
-        state = IsSoundState-effect held_machine.wiring held_machine.state step before.wiring before.state lawful;
+        state = IsSoundState-effect held_machine.wiring held_machine.state step before.state lawful;
         few_items = before.few_items;
         few_flushes = before.few_flushes;
         few_lanes = before.few_lanes;

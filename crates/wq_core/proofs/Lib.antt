@@ -1,5 +1,6 @@
 pub mod Changes
 pub mod FirstMachines
+pub mod LaneCircles
 pub mod LaneLemmas
 pub mod Machines
 pub mod Parts

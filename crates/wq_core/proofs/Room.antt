@@ -129,7 +129,7 @@ module _ (waits : List (List Target)) (lane_of_item : List ℕ) (lanes : List He
       let e : Entry = record { number = next; item = i } in
       let after : State = effect before.wiring before.state (Queue i) in
       let count : length (lane_at after q).pending ≤ count_by (λ l. l == q) lane_of_item =
-      pending_count before.wiring after q held.machine.wiring (IsSoundState-effect before.wiring before.state (Queue i) held.machine.wiring held.machine.state lawful) in
+      pending_count before.wiring after q held.machine.wiring (IsSoundState-effect before.wiring before.state (Queue i) held.machine.state lawful) in
       let there : q < length before.state.lanes = omega (arith, within, held.machine.state.one_each, ap (λ (k : Machine). k.wiring.lanes) view) in
       let lane : lane_at after q ≡ with_queued e old.lane =
       subst (λ r. lane_at (effect before.wiring before.state (Queue i)) r ≡ with_queued e (lane_at before.state r)) at (lane_at-with_lane_same before.state (lane_of before.wiring i) (with_queued e (lane_at before.state (lane_of before.wiring i))) (rw at there))

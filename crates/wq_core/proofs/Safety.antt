@@ -7,7 +7,7 @@ use Rattle.wq_core.specs.declared.entry.Flush.{Flush}
 use Rattle.wq_core.specs.declared.entry.Running.{Running}
 use Rattle.wq_core.specs.declared.step.Step.{Step}
 use Rattle.wq_core.specs.declared.step.Step.TheVariants.{Start, Over, Finish}
-use Rattle.wq_core.specs.Wiring.{Wiring, IsWiring, lane_of}
+use Rattle.wq_core.specs.Wiring.{Wiring, lane_of}
 use Rattle.wq_core.specs.State.{Lane, State, lane_at, Runs, IsPendingOn, IsUnfinishedOn, HasUnfinishedBelow}
 use Rattle.wq_core.specs.Rules.{MayStart, Lawful}
 use Rattle.wq_core.specs.Runs.{end_of, IsRescuerStep}
@@ -73,11 +73,11 @@ none_below w s number zero falls sound no_step p lt = absurd (omega arith)
 none_below w s number (suc n) falls sound no_step p lt =
     none_on w s number p falls sound no_step (λ o less. none_below w s number n falls sound no_step o (omega arith))
 
-pub IsSafe-falls : (w : Wiring) (number : ℕ → ℕ) → IsWiring w
+pub IsSafe-falls : (w : Wiring) (number : ℕ → ℕ)
     → ((i j : ℕ) → ItemWaits w.waits i j → number (lane_of w j) < number (lane_of w i)) → IsSafe w
-IsSafe-falls w number wiring falls steps run stuck =
+IsSafe-falls w number falls steps run stuck =
     let s : State = end_of w steps in
     let left = stuck.left in
-    let sound : IsSoundState w s = IsSoundState-end_of w steps wiring run in
+    let sound : IsSoundState w s = IsSoundState-end_of w steps run in
     let none = none_below w s number (number left.lane + 1) falls sound stuck.no_step in
     none left.lane (omega arith) left.entry left.unfinished

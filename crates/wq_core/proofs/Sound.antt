@@ -10,7 +10,7 @@ use Rattle.wq_core.specs.declared.entry.Flush.{Flush}
 use Rattle.wq_core.specs.declared.entry.Running.{Running}
 use Rattle.wq_core.specs.declared.step.Step.{Step}
 use Rattle.wq_core.specs.declared.step.Step.TheVariants.{Queue, Cancel, Start, Wait, Over, Finish}
-use Rattle.wq_core.specs.Wiring.{Wiring, IsWiring, items, lane_of, declared_by}
+use Rattle.wq_core.specs.Wiring.{Wiring, items, lane_of, declared_by}
 use Rattle.wq_core.specs.State.{Lane, State, idle_lane, lane_at, with_lane, empty_state, Runs, IsUnfinishedOn, HasPending, IsPendingOn}
 use Rattle.wq_core.specs.Rules.{MayWait, MayStart, Lawful, with_queued, with_cancelled, with_started, with_wait, with_wait_over, with_finished, effect}
 use Rattle.wq_core.specs.Runs.{after, IsRunFrom, IsRun, end_of}
@@ -222,40 +222,40 @@ not_pending s q i none k d within same =
     let there : IsPendingOn (lane_at s q) (get_or (lane_at s q).pending k d) = Contains-get_or (lane_at s q).pending k d within in
     none (record { lane = q; entry = get_or (lane_at s q).pending k d; pending = there; of_item = same })
 
-pub IsSoundState-effect : (w : Wiring) (s : State) (step : Step) → IsWiring w → IsSoundState w s → Lawful w s step
+pub IsSoundState-effect : (w : Wiring) (s : State) (step : Step) → IsSoundState w s → Lawful w s step
     → IsSoundState w (effect w s step)
-IsSoundState-effect w s (Queue i) wiring sound (below, none) =
+IsSoundState-effect w s (Queue i) sound (below, none) =
     let q : ℕ = lane_of w i in
     let before : IsSoundLane w s.next q (lane_at s q) = IsSoundLane-lane_at w s q sound in
     let new : Lane = with_queued (record { number = s.next; item = i }) (lane_at s q) in
     let queued : IsSoundLane w (s.next + 1) q new = IsSoundLane-queued w s.next i (lane_at s q) below (not_pending s q i none) before in
     IsSoundState-with_lane w s q new (s.next + 1) (omega arith) sound queued
-IsSoundState-effect w s (Cancel i) wiring sound lawful =
+IsSoundState-effect w s (Cancel i) sound lawful =
     let q : ℕ = lane_of w i in
     let lane : Lane = lane_at s q in
     IsSoundState-with_lane_now w s q (with_cancelled i lane) sound (IsSoundLane-cancelled w s.next q i lane)
-IsSoundState-effect w s (Start q i) wiring sound lawful =
+IsSoundState-effect w s (Start q i) sound lawful =
     let lane : Lane = lane_at s q in
     IsSoundState-with_lane_now w s q (with_started lane) sound (IsSoundLane-started w s.next q i lane lawful)
-IsSoundState-effect w s (Wait q b) wiring sound (r, runs, may) =
+IsSoundState-effect w s (Wait q b) sound (r, runs, may) =
     let lane : Lane = lane_at s q in
     let keeps = IsSoundLane-waiting w s.next q b s.next lane r runs may in
     IsSoundState-with_lane_now w s q (with_wait b s.next lane) sound keeps
-IsSoundState-effect w s (Over q b) wiring sound lawful =
+IsSoundState-effect w s (Over q b) sound lawful =
     let lane : Lane = lane_at s q in
     IsSoundState-with_lane_now w s q (with_wait_over lane) sound (IsSoundLane-wait_over w s.next q lane)
-IsSoundState-effect w s (Finish q i) wiring sound lawful =
+IsSoundState-effect w s (Finish q i) sound lawful =
     let lane : Lane = lane_at s q in
     IsSoundState-with_lane_now w s q (with_finished lane) sound (IsSoundLane-finished w s.next q lane)
 
 -- ---- states after runs
 
-pub IsSoundState-after : (w : Wiring) (s : State) (steps : List Step) → IsWiring w → IsSoundState w s
+pub IsSoundState-after : (w : Wiring) (s : State) (steps : List Step) → IsSoundState w s
     → IsRunFrom w s steps → IsSoundState w (after w s steps)
-IsSoundState-after w s [] wiring sound run = sound
-IsSoundState-after w s (step ∷ steps) wiring sound run =
-    IsSoundState-after w (effect w s step) steps wiring (IsSoundState-effect w s step wiring sound run.0) run.1
+IsSoundState-after w s [] sound run = sound
+IsSoundState-after w s (step ∷ steps) sound run =
+    IsSoundState-after w (effect w s step) steps (IsSoundState-effect w s step sound run.0) run.1
 
-pub IsSoundState-end_of : (w : Wiring) (steps : List Step) → IsWiring w → IsRun w steps
+pub IsSoundState-end_of : (w : Wiring) (steps : List Step) → IsRun w steps
     → IsSoundState w (end_of w steps)
-IsSoundState-end_of w steps wiring run = IsSoundState-after w (empty_state w) steps wiring (IsSoundState-empty w) run
+IsSoundState-end_of w steps run = IsSoundState-after w (empty_state w) steps (IsSoundState-empty w) run

@@ -12,7 +12,7 @@ use Rattle.wq_core.specs.declared.entry.Flush.{Flush}
 use Rattle.wq_core.specs.declared.entry.Running.{Running}
 use Rattle.wq_core.specs.declared.step.Step.{Step}
 use Rattle.wq_core.specs.declared.step.Step.TheVariants.{Queue, Cancel, Start, Wait, Over, Finish}
-use Rattle.wq_core.specs.Wiring.{Wiring, IsWiring, lane_of, declared_by}
+use Rattle.wq_core.specs.Wiring.{Wiring, lane_of, declared_by}
 use Rattle.wq_core.specs.State.{Lane, State, idle_lane, lane_at, with_lane, Runs}
 use Rattle.wq_core.specs.Rules.{MayWait, MayStart, Lawful, with_cancelled, with_started, with_wait, with_wait_over, with_finished, effect}
 use Rattle.wq_core.specs.Runs.{IsRunFrom, IsRun, end_of, IsRescuerStep, IsCancel}
@@ -174,23 +174,23 @@ step_bound w s step sound lawful (inr cancel) =
     let less : work_left w (effect w s step) ≤ work_left w s = work_left-cancel w s step cancel in
     omega (arith, none, less)
 
-pub count_by-rescuer_steps : (w : Wiring) (s : State) (more : List Step) → IsWiring w → IsSoundState w s
+pub count_by-rescuer_steps : (w : Wiring) (s : State) (more : List Step) → IsSoundState w s
     → All (λ (step : Step). IsRescuerStep step ⊎ IsCancel step) more → IsRunFrom w s more
     → count_by is_rescuer_step more ≤ work_left w s
-count_by-rescuer_steps w s [] wiring sound each run = omega arith
-count_by-rescuer_steps w s (step ∷ more) wiring sound each run =
+count_by-rescuer_steps w s [] sound each run = omega arith
+count_by-rescuer_steps w s (step ∷ more) sound each run =
     let Kind : Step → Type 0 = λ (x : Step). IsRescuerStep x ⊎ IsCancel x in
     let all : count_by is_rescuer_step (step ∷ more) ≡ counted step + count_by is_rescuer_step more =
     sum_by-cons counted step more in
     let first : counted step + work_left w (effect w s step) ≤ work_left w s =
     step_bound w s step sound run.0 (All-head Kind step more each) in
-    let next : IsSoundState w (effect w s step) = IsSoundState-effect w s step wiring sound run.0 in
+    let next : IsSoundState w (effect w s step) = IsSoundState-effect w s step sound run.0 in
     let rest : count_by is_rescuer_step more ≤ work_left w (effect w s step) =
-    count_by-rescuer_steps w (effect w s step) more wiring next (All-tail Kind step more each) run.1 in
+    count_by-rescuer_steps w (effect w s step) more next (All-tail Kind step more each) run.1 in
     omega (arith, all, first, rest)
 
-pub count_by-rescuer_steps_after : (w : Wiring) (steps more : List Step) → IsWiring w → IsRun w steps
+pub count_by-rescuer_steps_after : (w : Wiring) (steps more : List Step) → IsRun w steps
     → All (λ (step : Step). IsRescuerStep step ⊎ IsCancel step) more → IsRunFrom w (end_of w steps) more
     → count_by is_rescuer_step more ≤ work_left w (end_of w steps)
-count_by-rescuer_steps_after w steps more wiring run each on =
-    count_by-rescuer_steps w (end_of w steps) more wiring (IsSoundState-end_of w steps wiring run) each on
+count_by-rescuer_steps_after w steps more run each on =
+    count_by-rescuer_steps w (end_of w steps) more (IsSoundState-end_of w steps run) each on
