@@ -1,17 +1,15 @@
 -- Machines as their fields hold them, after one lane has changed.
-use Rattle.std.proofs.Common.{◌≡◌, ◌≢◌, ℕ, zero, suc, ◌==◌, ◌+◌, ◌<◌, ◌≤◌, ◌⊎◌, ◌^◌, List, [], ◌∷◌, length, map, set, get_or, refl, sym, subst, ◌∙◌, ap, arith, inl, inr}
-use Rattle.std.specs.Prelude.{Option, Some, None, IfSome, slice_get, sum_by}
+use Rattle.std.proofs.Common.{◌≡◌, ◌≢◌, ℕ, zero, suc, ◌==◌, ◌+◌, ◌<◌, ◌≤◌, ◌⊎◌, ◌^◌, List, [], ◌∷◌, map, set, refl, sym, subst, ◌∙◌, ap, arith, inl, inr}
+use Rattle.std.specs.Prelude.{Some, slice_get}
 use Rattle.std.specs.List.{count_by}
 use Rattle.std.proofs.lemmas.List.{get_or-map, map-set, length-set}
-use Rattle.std.proofs.lemmas.List.Sums.{get_or-le-sum_by}
 use Rattle.std.proofs.lemmas.Option.{slice_get_within, get_or_from_slice_get}
 use Rattle.wq_items.specs.declared.target.Target.{Target}
-use Rattle.wq_core.specs.declared.entry.Running.{Running}
 use Rattle.wq_core.specs.declared.step.Step.{Step}
 use Rattle.wq_core.specs.declared.step.Step.TheVariants.{Queue, Cancel, Start, Wait, Over, Finish}
-use Rattle.wq_core.specs.Wiring.{Wiring, IsWiring, items, lane_of, declared_by}
-use Rattle.wq_core.specs.State.{Lane, State, idle_lane, lane_at, with_lane, Runs}
-use Rattle.wq_core.specs.Rules.{MayWait, Lawful, Gives, effect, with_queued, with_cancelled, with_started, with_wait, with_wait_over, with_finished}
+use Rattle.wq_core.specs.Wiring.{lane_of}
+use Rattle.wq_core.specs.State.{Lane, State, idle_lane, lane_at, with_lane}
+use Rattle.wq_core.specs.Rules.{Lawful, effect, with_queued, with_cancelled, with_started, with_wait, with_wait_over, with_finished}
 use Rattle.wq_core.specs.Held.{HeldLane, Machine, machine_of, HasRoom, IsHeld, IsMachine, IsNumberOf, UsesUp, machine_after, IsDone}
 use Rattle.wq_core.proofs.Sound.{IsSoundState-effect}
 

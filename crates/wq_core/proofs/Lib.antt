@@ -1,4 +1,5 @@
 pub mod Changes
+pub mod DeclaredSteps
 pub mod FirstMachines
 pub mod LaneCircles
 pub mod LaneLemmas

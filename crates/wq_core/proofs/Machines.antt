@@ -1,13 +1,13 @@
 -- What a machine answers about a lane or an item.
-use Rattle.std.proofs.Common.{◌≡◌, ◌≢◌, ℕ, suc, ◌+◌, ◌<◌, ◌≤◌, ◌==◌, eqb, cond, Bool, true, false, List, [], ◌∷◌, length, refl, sym, subst, ◌∙◌, ap, arith, inl, inr, ◌↔◌, zero}
-use Rattle.std.specs.Prelude.{Option, Some, None, IfSome, IfNone, slice_get, slice_index_or, Contains}
+use Rattle.std.proofs.Common.{◌≡◌, ◌≢◌, ℕ, suc, ◌<◌, ◌==◌, eqb, cond, Bool, true, false, List, [], ◌∷◌, length, refl, sym, subst, ◌∙◌, ap, arith, inl, inr, ◌↔◌, zero}
+use Rattle.std.specs.Prelude.{Option, Some, None, IfSome, IfNone, slice_index_or, Contains}
 use Rattle.std.specs.List.{find}
 use borrow.Author.Tests.{eqb-true}
 use Rattle.wq_core.specs.declared.entry.Entry.{Entry}
 use Rattle.wq_core.specs.declared.entry.Running.{Running}
 use Rattle.wq_core.specs.Wiring.{Wiring, items, lane_of}
 use Rattle.wq_core.specs.State.{Lane, State, lane_at, IsPendingOn, IsUnfinishedOn, Runs, HasPending, HasUnfinishedBelow}
-use Rattle.wq_core.specs.Held.{IsSoundState, IsMachine, Machine, LaneHasUnfinishedBelow}
+use Rattle.wq_core.specs.Held.{IsSoundState, LaneHasUnfinishedBelow}
 
 -- ---- the first entry of an item
 

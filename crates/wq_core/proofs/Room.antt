@@ -1,6 +1,6 @@
 -- A lane that has room for all its items has room for one entry more, where a queueing is lawful.
-use Rattle.std.proofs.Common.{◌≡◌, ◌≢◌, ℕ, zero, suc, ◌+◌, ◌-◌, ◌<◌, ◌≤◌, ◌⊎◌, ◌==◌, eqb, Bool, true, false, List, [], ◌∷◌, ◌++◌, length, map, take, get_or, refl, sym, subst, ◌∙◌, ap, arith, inl, inr}
-use Rattle.std.specs.Prelude.{AllPairs, Option, Some, slice_get, IfSome, sum_by}
+use Rattle.std.proofs.Common.{◌≡◌, ◌≢◌, ℕ, zero, suc, ◌+◌, ◌-◌, ◌<◌, ◌≤◌, ◌==◌, eqb, Bool, true, false, List, [], ◌∷◌, length, map, take, get_or, refl, sym, subst, ◌∙◌, ap, arith, inl, inr}
+use Rattle.std.specs.Prelude.{Option, Some, slice_get, IfSome}
 use Rattle.std.specs.List.{All, count_by}
 use Rattle.std.proofs.lemmas.Bool.{cases_lt}
 use Rattle.std.proofs.lemmas.List.{get_or-map, length-map, take_all, length-append}
@@ -10,11 +10,10 @@ use Rattle.wq_items.specs.declared.target.Target.{Target}
 use Rattle.wq_items.proofs.Pigeonhole.{repeats_from_length}
 use Rattle.wq_core.specs.declared.entry.Entry.{Entry}
 use Rattle.wq_core.specs.declared.entry.Running.{Running}
-use Rattle.wq_core.specs.declared.step.Step.{Step}
 use Rattle.wq_core.specs.declared.step.Step.TheVariants.{Queue, Wait}
-use Rattle.wq_core.specs.Wiring.{Wiring, IsWiring, items, lane_of, declared_by}
-use Rattle.wq_core.specs.State.{Lane, State, lane_at, Runs}
-use Rattle.wq_core.specs.Rules.{MayWait, Lawful, effect, with_queued}
+use Rattle.wq_core.specs.Wiring.{Wiring, IsWiring, items, lane_of}
+use Rattle.wq_core.specs.State.{Lane, State, lane_at}
+use Rattle.wq_core.specs.Rules.{Lawful, effect, with_queued}
 use Rattle.wq_core.specs.Held.{IsSoundState, HeldLane, Machine, machine_of, IsHeld, IsMachine, IsNumberOf}
 use Rattle.wq_core.proofs.LaneLemmas.{lane_at-with_lane_same}
 use Rattle.wq_core.proofs.Sound.{IsSoundState-effect}

@@ -1,12 +1,12 @@
 -- What is unfinished on a lane, and the tests for it.
-use Rattle.std.proofs.Common.{◌≡◌, ◌≢◌, ℕ, ◌<◌, ◌==◌, ◌↔◌, Bool, true, false, List, rules, refl, sym, subst, ◌∙◌, ap, arith, inl, inr}
+use Rattle.std.proofs.Common.{◌≡◌, ℕ, ◌<◌, ◌↔◌, Bool, true, false, rules, refl, ◌∙◌, ap, arith, inl, inr}
 use Rattle.std.specs.Prelude.{IsTrue, ◌||◌, Option, Some, None}
 use Rattle.std.specs.List.{list_any, Any}
 use Rattle.std.proofs.lemmas.List.Folds.{Any-from_list_any, list_any-from_Any}
 use borrow.Author.Tests.{tests}
 use Rattle.wq_core.specs.declared.entry.Entry.{Entry}
 use Rattle.wq_core.specs.declared.entry.Running.{Running}
-use Rattle.wq_core.specs.State.{Lane, Runs, IsPendingOn, IsUnfinishedOn}
+use Rattle.wq_core.specs.State.{Lane, Runs, IsUnfinishedOn}
 use Rattle.wq_core.specs.Held.{LaneHasUnfinishedBelow, is_below, runs_below}
 
 -- the test says what it is named for

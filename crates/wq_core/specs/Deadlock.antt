@@ -1,5 +1,5 @@
 -- Deadlocks: runs that end stuck, and assignments that have none.
-use Rattle.std.specs.Prelude.{ℕ, ◌<◌, List}
+use Rattle.std.specs.Prelude.{◌<◌, List}
 use Rattle.wq_groups.specs.Declaration.{Declaration}
 use Rattle.wq_groups.specs.Assignment.{Assignment, IsAssignment}
 use Rattle.wq_core.specs.declared.step.Step.{Step}

@@ -1,5 +1,5 @@
 -- Rules: which steps are lawful in a state, what they do to it, and which number they give.
-use Rattle.std.specs.Prelude.{◌≡◌, ℕ, ◌+◌, ◌<◌, ◌==◌, not, List, [], ◌∷◌, ◌++◌, length, filter, drop, slice_get, Option, Some, None, option_map}
+use Rattle.std.specs.Prelude.{◌≡◌, ℕ, ◌+◌, ◌<◌, ◌==◌, not, [], ◌∷◌, ◌++◌, length, filter, drop, slice_get, Some, None, option_map}
 use Rattle.wq_items.specs.Table.{ItemWaits}
 use Rattle.wq_core.specs.declared.entry.Entry.{Entry}
 use Rattle.wq_core.specs.declared.entry.Flush.{Flush}
@@ -7,7 +7,7 @@ use Rattle.wq_core.specs.declared.entry.Running.{Running}
 use Rattle.wq_core.specs.declared.step.Step.{Step}
 use Rattle.wq_core.specs.declared.step.Step.TheVariants.{Queue, Cancel, Start, Wait, Over, Finish}
 use Rattle.wq_core.specs.Wiring.{Wiring, items, lane_of, declared_by}
-use Rattle.wq_core.specs.State.{Lane, State, lane_at, with_lane, Runs, IsPendingOn, HasPending, HasUnfinishedBelow}
+use Rattle.wq_core.specs.State.{Lane, State, lane_at, with_lane, Runs, HasPending, HasUnfinishedBelow}
 
 -- ---- what one context may do with what it runs
 

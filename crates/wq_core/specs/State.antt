@@ -1,5 +1,5 @@
 -- States: what is queued and what runs, lane by lane.
-use Rattle.std.specs.Prelude.{◌≡◌, ℕ, ◌<◌, ◌⊎◌, List, [], length, replicate, slice_index_or, slice_set, Option, Some, None, Contains}
+use Rattle.std.specs.Prelude.{◌≡◌, ℕ, ◌<◌, ◌⊎◌, List, [], replicate, slice_index_or, slice_set, Option, Some, None, Contains}
 use Rattle.wq_core.specs.declared.entry.Entry.{Entry}
 use Rattle.wq_core.specs.declared.entry.Running.{Running}
 use Rattle.wq_core.specs.Wiring.{Wiring}

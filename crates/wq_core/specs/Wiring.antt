@@ -1,8 +1,8 @@
 -- Wiring: all that the machine sees of a declaration and an assignment.
-use Rattle.std.specs.Prelude.{◌≡◌, ℕ, ◌<◌, ◌≤◌, List, length, map, slice_get, slice_index, Some}
+use Rattle.std.specs.Prelude.{◌≡◌, ℕ, ◌<◌, List, length, map, slice_get, slice_index, Some}
 use Rattle.std.specs.List.{All, range_with_len}
 use Rattle.wq_items.specs.declared.target.Target.{Target}
-use Rattle.wq_items.specs.Table.{ItemWaits, TargetsBelow, flush_count, targets_of}
+use Rattle.wq_items.specs.Table.{ItemWaits, TargetsBelow, targets_of}
 use Rattle.wq_groups.specs.Declaration.{Declaration}
 use Rattle.wq_groups.specs.Assignment.{Assignment, lane_of as lane_of_group}
 

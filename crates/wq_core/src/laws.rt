@@ -2,18 +2,19 @@
 //!
 //! They are said of wirings, runs and states alone, whatever code makes the steps.
 
-ghost use Rattle.std.specs.Prelude.{ℕ, ◌<◌, ◌≤◌, ◌⊎◌, List, length};
+ghost use Rattle.std.specs.Prelude.{◌≡◌, ℕ, ◌<◌, ◌≤◌, ◌⊎◌, List, length};
 ghost use Rattle.std.specs.List.{All, count_by};
 ghost use Rattle.wq_items.specs.Chain.{IsChain, Circle};
 ghost use Rattle.wq_items.specs.Table.{ItemWaits};
 ghost use Rattle.wq_groups.specs.Declaration.{Declaration, GroupWaits};
 ghost use Rattle.wq_groups.specs.Assignment.{Assignment, IsAssignment};
 ghost use Rattle.wq_core.specs.declared.step.Step.{Step};
-ghost use Rattle.wq_core.specs.Wiring.{Wiring, LaneWaits, wiring, lane_of};
-ghost use Rattle.wq_core.specs.State.{HasUnfinished};
+ghost use Rattle.wq_core.specs.Wiring.{Wiring, IsWiring, LaneWaits, wiring, lane_of};
+ghost use Rattle.wq_core.specs.State.{State, HasUnfinished};
 ghost use Rattle.wq_core.specs.Rules.{Lawful};
 ghost use Rattle.wq_core.specs.Runs.{IsRun, IsRunFrom, end_of, IsRescuerStep, IsCancel};
 ghost use Rattle.wq_core.specs.Deadlock.{IsSafe};
+ghost use Rattle.wq_core.specs.Played.{CanMove, IsDeclaredStep};
 ghost use Rattle.wq_core.specs.Work.{is_rescuer_step, work_left};
 
 /// Where nothing more is queued, the rescuers make at most as many steps as there is work left, whatever the order and
@@ -44,4 +45,15 @@ pub fn lanes_come_to_wait_in_a_circle()
         IsChain (GroupWaits d) groups → All (λ g. g < d.groups) groups → a.lanes < length groups →
         Circle (LaneWaits (wiring d a)) }
     ensures of_a_circle { (d : Declaration) (a : Assignment) → Circle (GroupWaits d) → Circle (LaneWaits (wiring d a)) }
+{}
+
+/// A lane has one step at most that flushes as declared.
+pub fn a_lane_has_one_declared_step()
+    ensures { (w : Wiring) (s : State) (q : ℕ) (a b : Step) → IsDeclaredStep w s q a → IsDeclaredStep w s q b → a ≡ b }
+{}
+
+/// After a run each lane that can move has such a step, whatever was flushed before.
+pub fn a_lane_that_can_move_has_a_declared_step()
+    ensures { (w : Wiring) (steps : List Step) (q : ℕ) → IsWiring w → IsRun w steps → CanMove w (end_of w steps) q →
+        (step : Step) × IsDeclaredStep w (end_of w steps) q step }
 {}

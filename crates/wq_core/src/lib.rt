@@ -11,6 +11,7 @@ mod lane;
 mod lanes;
 pub mod laws;
 mod machine;
+mod questions;
 mod step;
 
 pub use entry::{Entry, Flush, Running};

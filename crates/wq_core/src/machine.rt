@@ -106,7 +106,7 @@ impl<A: Allocator> Core<A> {
     }
 
     /// What a lane runs; nothing, where there is no such lane.
-    fn running_on(&self, q: LaneId) -> Option<Running>
+    pub(crate) fn running_on(&self, q: LaneId) -> Option<Running>
         ensures running { result ≡ (lane_at self.now.state q).running }
         ensures machine { IsMachine self.now }
     {
@@ -118,7 +118,7 @@ impl<A: Allocator> Core<A> {
     }
 
     /// The entry that a lane starts next, if there is such a lane.
-    fn first_on(&self, q: LaneId) -> Option<Entry>
+    pub(crate) fn first_on(&self, q: LaneId) -> Option<Entry>
         ensures first { result ≡ slice_get (lane_at self.now.state q).pending 0 }
         ensures machine { IsMachine self.now }
     {
@@ -153,7 +153,7 @@ impl<A: Allocator> Core<A> {
     }
 
     /// Whether an unfinished entry of an item has a number below the mark.
-    fn has_unfinished_below(&self, item: ItemId, mark: u32) -> bool
+    pub(crate) fn has_unfinished_below(&self, item: ItemId, mark: u32) -> bool
         ensures { IsTrue result ↔ HasUnfinishedBelow self.now.state item mark }
     {
         if usize::from(item.get()) < self.items() {
@@ -165,7 +165,7 @@ impl<A: Allocator> Core<A> {
     }
 
     /// The targets that an item declares.
-    fn targets(&self, item: ItemId) -> &[Target]
+    pub(crate) fn targets(&self, item: ItemId) -> &[Target]
         requires { item < items self.now.wiring }
         ensures { result.now ≡ declared_by self.now.wiring item }
     {

@@ -1,8 +1,7 @@
-use Rattle.std.proofs.Common.{◌≡◌, ap, ◌==◌, rules}
+use Rattle.std.proofs.Common.{ap, ◌==◌, rules}
 use Rattle.std.specs.Prelude.{not, List}
 use Rattle.std.proofs.lemmas.Fn.{filter_same}
 use Rattle.wq_core.specs.declared.entry.Entry.{Entry}
-use Rattle.wq_core.specs.State.{Lane}
 use Rattle.wq_core.proofs.lane.Lane.cancel.Goals as goal
 
 pub returns-clause-lane : goal.returns-clause-lane

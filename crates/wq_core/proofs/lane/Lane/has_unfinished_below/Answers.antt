@@ -1,4 +1,4 @@
-use Rattle.std.proofs.Common.{◌≡◌, ◌↔◌, subst, sym, ap, ◌∙◌, Bool}
+use Rattle.std.proofs.Common.{◌↔◌, subst, sym, ap, ◌∙◌, Bool}
 use Rattle.std.specs.Prelude.{IsTrue, ◌||◌}
 use Rattle.wq_core.specs.Held.{LaneHasUnfinishedBelow, is_below, runs_below}
 use Rattle.wq_core.proofs.Unfinished.{unfinished_below}

@@ -1,7 +1,4 @@
-use Rattle.std.proofs.Common.{◌≡◌, ap, ◌==◌, rules, sym, ◌∙◌, refl, Bor}
-use Rattle.std.specs.Option.{option_copied}
-use Rattle.std.specs.Prelude.{Option, option_map}
-use Rattle.std.specs.List.{find}
+use Rattle.std.proofs.Common.{◌==◌, rules, ◌∙◌}
 use Rattle.std.proofs.lemmas.Iterator.Consumers.{YieldsList-from_deque}
 use Rattle.std.proofs.lemmas.Iterator.Search.{find_from_yields_List}
 use Rattle.wq_core.specs.declared.entry.Entry.{Entry}

@@ -1,5 +1,4 @@
-use Rattle.std.proofs.Common.{◌≡◌, ◌↔◌, ap, sym, ◌∙◌, arith}
-use Rattle.wq_core.specs.State.{Lane, lane_at}
+use Rattle.std.proofs.Common.{arith}
 use Rattle.wq_core.proofs.Machines.{unfinished_on_own_lane, unfinished-own_lane}
 use Rattle.wq_core.proofs.machine.Core.has_unfinished_below.Goals as goal
 

@@ -1,5 +1,4 @@
-use Rattle.std.proofs.Common.{◌≡◌, refl}
-use Rattle.std.specs.Prelude.{IfSome}
+use Rattle.std.proofs.Common.{refl}
 use Rattle.wq_core.specs.State.{HasPending}
 use Rattle.wq_core.specs.Wiring.{lane_of}
 use Rattle.wq_core.proofs.machine.Core.may_cancel.Goals as goal

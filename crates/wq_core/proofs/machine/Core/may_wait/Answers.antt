@@ -1,4 +1,4 @@
-use Rattle.std.proofs.Common.{◌≡◌, sym, ◌∙◌}
+use Rattle.std.proofs.Common.{sym}
 use Rattle.wq_core.proofs.Machines.{running-item}
 use Rattle.wq_core.proofs.machine.Core.may_wait.Goals as goal
 

@@ -1,5 +1,4 @@
-use Rattle.std.proofs.Common.{◌<◌, ℕ, List, map, sym, ap, subst, ◌∙◌, arith}
-use Rattle.std.specs.List.{All}
+use Rattle.std.proofs.Common.{ℕ, List, map, ap, ◌∙◌, arith}
 use Rattle.wq_groups.specs.Assignment.{IsAssignment, lane_of}
 use Rattle.wq_groups.specs.Declaration.{Declaration, IsDeclaration, declaration_of}
 use Rattle.wq_groups.proofs.Declarations.{IsDeclaration-of}

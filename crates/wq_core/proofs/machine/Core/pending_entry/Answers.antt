@@ -1,7 +1,5 @@
-use Rattle.std.proofs.Common.{◌≡◌, ap, sym, ◌∙◌, arith}
-use Rattle.std.specs.List.{find}
-use Rattle.wq_core.specs.declared.entry.Entry.{Entry}
-use Rattle.wq_core.specs.State.{Lane, lane_at}
+use Rattle.std.proofs.Common.{ap, ◌∙◌, arith}
+use Rattle.wq_core.specs.State.{lane_at}
 use Rattle.wq_core.proofs.Machines.{pending-some, pending-none, pending-own_lane}
 use Rattle.wq_core.proofs.machine.Core.pending_entry.Goals as goal
 

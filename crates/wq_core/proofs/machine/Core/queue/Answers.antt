@@ -1,4 +1,4 @@
-use Rattle.std.proofs.Common.{map, arith}
+use Rattle.std.proofs.Common.{map}
 use Rattle.wq_core.proofs.Changes.{queued}
 use Rattle.wq_core.proofs.Room.{room_left}
 use Rattle.wq_core.proofs.machine.Core.queue.Goals as goal

@@ -1,0 +1,217 @@
+-- Which steps a lane can make, and which of them where its executions flush as declared.
+use Rattle.std.proofs.Common.{◌≡◌, ℕ, ◌<◌, ◌≤◌, inl, inr, ◌↔◌, Bool, true, false, not, List, [], ◌∷◌, length, Option, Some, None, refl, sym, ap, subst, ◌∙◌, arith}
+use Rattle.std.specs.Prelude.{slice_get, is_some, Contains, IsTrue}
+use Rattle.std.proofs.lemmas.Option.{slice_get_within, slice_get_past, slice_get_cases, get_or_from_slice_get}
+use Rattle.wq_items.specs.declared.target.Target.{Target}
+use Rattle.wq_items.specs.Table.{ItemWaits}
+use Rattle.wq_core.specs.declared.entry.Entry.{Entry}
+use Rattle.wq_core.specs.declared.entry.Flush.{Flush}
+use Rattle.wq_core.specs.declared.entry.Running.{Running}
+use Rattle.wq_core.specs.declared.step.Step.{Step}
+use Rattle.wq_core.specs.declared.step.Step.TheVariants.{Queue, Cancel, Start, Wait, Over, Finish}
+use Rattle.wq_core.specs.Wiring.{Wiring, declared_by}
+use Rattle.wq_core.specs.State.{Lane, State, lane_at, Runs, HasUnfinishedBelow}
+use Rattle.wq_core.specs.Rules.{MayStart, Lawful}
+use Rattle.wq_core.specs.Runs.{KeepsOrder}
+use Rattle.wq_core.specs.Held.{IsSoundRunning, IsSoundState}
+use Rattle.wq_core.specs.Played.{IsStepOf, CanMove, IsDeclaredStep}
+use Rattle.wq_core.proofs.LaneLemmas.{lane_within}
+
+-- what holds of each kind of step of lane q holds of its steps
+by_kind : (q : ℕ) (P : Step → Type 0) → ((i : ℕ) → P (Start q i)) → ((b : ℕ) → P (Wait q b)) → ((b : ℕ) → P (Over q b))
+    → ((i : ℕ) → P (Finish q i)) → (step : Step) → IsStepOf q step → P step
+by_kind q P starts waits goes_on finishes (Queue i) is = absurd is
+by_kind q P starts waits goes_on finishes (Cancel i) is = absurd is
+by_kind q P starts waits goes_on finishes (Start p i) is = subst (λ (n : ℕ). P (Start n i)) (sym is) (starts i)
+by_kind q P starts waits goes_on finishes (Wait p b) is = subst (λ (n : ℕ). P (Wait n b)) (sym is) (waits b)
+by_kind q P starts waits goes_on finishes (Over p b) is = subst (λ (n : ℕ). P (Over n b)) (sym is) (goes_on b)
+by_kind q P starts waits goes_on finishes (Finish p i) is = subst (λ (n : ℕ). P (Finish n i)) (sym is) (finishes i)
+
+-- what runs, and what it waits for, are one alone
+same_running : (lane : Lane) (r t : Running) → Runs lane r → Runs lane t → t ≡ r
+same_running lane r t runs there = let e : Some r ≡ Some t = sym runs ∙ there in cc
+
+idle-runs : (lane : Lane) (r : Running) → lane.running ≡ None → ¬ Runs lane r
+idle-runs lane r idle runs = let e : None ≡ Some r = sym idle ∙ runs in cc
+
+waits-awake : (lane : Lane) (r t : Running) (flush : Flush) → Runs lane r → r.waiting ≡ Some flush → Runs lane t → ¬ t.waiting ≡ None
+waits-awake lane r t flush runs waits there awake =
+    let same : t.waiting ≡ r.waiting = ap (λ (x : Running). x.waiting) (same_running lane r t runs there) in
+    let e : Some flush ≡ None = sym waits ∙ sym same ∙ awake in
+    cc
+
+awake-waits : (lane : Lane) (r t : Running) (flush : Flush) → Runs lane r → r.waiting ≡ None → Runs lane t → ¬ t.waiting ≡ Some flush
+awake-waits lane r t flush runs awake there waits = waits-awake lane t r flush there waits runs awake
+
+module _ (w : Wiring) (s : State) (q : ℕ) where
+  -- ---- an idle lane
+
+  module _ (idle : (lane_at s q).running ≡ None) where
+    -- it can only start its first pending entry
+    starts_only : (step : Step) → IsStepOf q step → Lawful w s step
+        → (e : Entry) × (slice_get (lane_at s q).pending 0 ≡ Some e) × (step ≡ Start q e.item)
+    starts_only =
+        by_kind q (λ (step : Step). Lawful w s step → (e : Entry) × (slice_get (lane_at s q).pending 0 ≡ Some e) × (step ≡ Start q e.item))
+        (λ i may. (may.entry, may.first, ap (λ (n : ℕ). Start q n) (sym may.of_item)))
+        (λ b may. absurd (idle-runs (lane_at s q) may.0 idle may.1)) (λ b may. absurd (idle-runs (lane_at s q) may.0 idle may.1))
+        (λ i may. absurd (idle-runs (lane_at s q) may.0 idle may.1))
+
+    MayStart-first : (e : Entry) → slice_get (lane_at s q).pending 0 ≡ Some e → MayStart (lane_at s q) e.item
+    MayStart-first e first = record { idle = idle; entry = e; first = first; of_item = refl }
+
+    pub CanMove-idle : (first : Option Entry) → first ≡ slice_get (lane_at s q).pending 0 → (b : Bool) → b ≡ is_some first → IsTrue b ↔ CanMove w s q
+    CanMove-idle None is b test = (
+      (λ t. absurd (let e : false ≡ true = sym test ∙ t in cc)),
+      (λ can.
+          let starts = starts_only can.0 can.1 can.2 in
+          absurd (let e : None ≡ Some starts.0 = is ∙ starts.1 in cc)),
+    )
+    CanMove-idle (Some e) is b test = ((λ t. (Start q e.item, refl, MayStart-first e (sym is))), (λ can. test))
+
+    pub IsDeclaredStep-start : (e : Entry) → slice_get (lane_at s q).pending 0 ≡ Some e → IsDeclaredStep w s q (Start q e.item)
+    IsDeclaredStep-start e first = record { of_lane = refl; lawful = MayStart-first e first; in_order = tt }
+
+  -- ---- a lane that runs something
+
+  module _ (r : Running) (runs : Runs (lane_at s q) r) where
+    -- what waits can only go on
+    goes_on_only : (flush : Flush) → r.waiting ≡ Some flush → (step : Step) → IsStepOf q step → Lawful w s step
+        → (¬ HasUnfinishedBelow s flush.target flush.mark) × (step ≡ Over q flush.target)
+    goes_on_only flush waits =
+        by_kind q (λ (step : Step). Lawful w s step → (¬ HasUnfinishedBelow s flush.target flush.mark) × (step ≡ Over q flush.target))
+        (λ i may. absurd (idle-runs (lane_at s q) r may.idle runs))
+        (λ b may. absurd (waits-awake (lane_at s q) r may.0 flush runs waits may.1 may.2.awake)) over
+        (λ i may. absurd (waits-awake (lane_at s q) r may.0 flush runs waits may.1 may.2.awake))
+      where
+        same_flush : (t : Running) → Runs (lane_at s q) t → (f : Flush) → t.waiting ≡ Some f → f ≡ flush
+        same_flush t there f begun =
+            let same : t.waiting ≡ r.waiting = ap (λ (x : Running). x.waiting) (same_running (lane_at s q) r t runs there) in
+            let e : Some f ≡ Some flush = sym begun ∙ same ∙ waits in
+            cc
+
+        over : (b : ℕ) → Lawful w s (Over q b) → (¬ HasUnfinishedBelow s flush.target flush.mark) × (Over q b ≡ Over q flush.target)
+        over b (t, there, may) =
+            let same : may.flush ≡ flush = same_flush t there may.flush may.waits in
+            let target : b ≡ flush.target = sym may.target ∙ ap (λ (f : Flush). f.target) same in
+            let done : ¬ HasUnfinishedBelow s b flush.mark = subst (λ (f : Flush). ¬ HasUnfinishedBelow s b f.mark) same may.done in
+            (subst (λ (n : ℕ). ¬ HasUnfinishedBelow s n flush.mark) target done, ap (λ (n : ℕ). Over q n) target)
+
+    Lawful-over : (flush : Flush) → r.waiting ≡ Some flush → (¬ HasUnfinishedBelow s flush.target flush.mark) → Lawful w s (Over q flush.target)
+    Lawful-over flush waits done = (r, runs, record { flush = flush; waits = waits; target = refl; done = done })
+
+    pub CanMove-waiting : (flush : Flush) → r.waiting ≡ Some flush → (b : Bool) → IsTrue b ↔ HasUnfinishedBelow s flush.target flush.mark → IsTrue (not b) ↔ CanMove w s q
+    CanMove-waiting flush waits true left =
+        ((λ t. absurd cc), (λ can. absurd ((goes_on_only flush waits can.0 can.1 can.2).0 (left.0 refl))))
+    CanMove-waiting flush waits false left =
+        let done : ¬ HasUnfinishedBelow s flush.target flush.mark = λ some. absurd (let e : false ≡ true = left.1 some in cc) in
+        ((λ t. (Over q flush.target, refl, Lawful-over flush waits done)), (λ can. refl))
+
+    pub IsDeclaredStep-over : (flush : Flush) → r.waiting ≡ Some flush → (¬ HasUnfinishedBelow s flush.target flush.mark) → IsDeclaredStep w s q (Over q flush.target)
+    IsDeclaredStep-over flush waits done = record { of_lane = refl; lawful = Lawful-over flush waits done; in_order = tt }
+
+    module _ (awake : r.waiting ≡ None) where
+      -- the targets that its item declares
+      abbrev targets : List Target
+      targets = declared_by w r.entry.item
+
+      -- a wait for the next target, or a finish
+      abbrev next_step : Option Target → Step
+      next_step (Some t) = Wait q t.item
+      next_step None = Finish q r.entry.item
+
+      -- what doesn't wait can only make its next step
+      next_only : (step : Step) → IsDeclaredStep w s q step → step ≡ next_step (slice_get targets r.made)
+      next_only step is =
+          by_kind q (λ (x : Step). Lawful w s x → KeepsOrder w s x → x ≡ next_step (slice_get targets r.made))
+          (λ i may order. absurd (idle-runs (lane_at s q) r may.idle runs)) wait
+          (λ b may order. absurd (awake-waits (lane_at s q) r may.0 may.2.flush runs awake may.1 may.2.waits)) finish step is.of_lane is.lawful is.in_order
+        where
+          wait : (b : ℕ) → Lawful w s (Wait q b) → KeepsOrder w s (Wait q b) → Wait q b ≡ next_step (slice_get targets r.made)
+          wait b may (t, there, (x, next, item)) =
+              let same : t ≡ r = same_running (lane_at s q) r t runs there in
+              let here : slice_get targets r.made ≡ Some x = subst (λ (y : Running). slice_get (declared_by w y.entry.item) y.made ≡ Some x) same next in
+              ap (λ (n : ℕ). Wait q n) (sym item) ∙ sym (ap (λ (o : Option Target). next_step o) here)
+
+          finish : (i : ℕ) → Lawful w s (Finish q i) → KeepsOrder w s (Finish q i) → Finish q i ≡ next_step (slice_get targets r.made)
+          finish i (t, there, may) (u, runs_too, last) =
+              let same : t ≡ r = same_running (lane_at s q) r t runs there in
+              let made : r.made ≡ length targets = subst (λ (y : Running). y.made ≡ length (declared_by w y.entry.item)) (same_running (lane_at s q) r u runs runs_too) last in
+              let past : slice_get targets r.made ≡ None = slice_get_past targets r.made (omega (arith, made)) in
+              let of_item : i ≡ r.entry.item = sym may.entry ∙ ap (λ (y : Running). y.entry.item) same in
+              ap (λ (n : ℕ). Finish q n) of_item ∙ sym (ap (λ (o : Option Target). next_step o) past)
+
+      Lawful-finish : Lawful w s (Finish q r.entry.item)
+      Lawful-finish = (r, runs, record { entry = refl; awake = awake })
+
+      pub CanMove-awake : CanMove w s q
+      CanMove-awake = (Finish q r.entry.item, refl, Lawful-finish)
+
+      pub IsDeclaredStep-wait : (t : Target) → slice_get targets r.made ≡ Some t → IsDeclaredStep w s q (Wait q t.item)
+      IsDeclaredStep-wait t next =
+          let within : r.made < length targets = slice_get_within targets r.made t next in
+          let declared : ItemWaits w.waits r.entry.item t.item = (r.made, t, within, get_or_from_slice_get targets r.made t t next, refl) in
+          record {
+            of_lane = refl;
+            lawful = (r, runs, record { awake = awake; declared = declared; fewer = within });
+            in_order = (r, runs, (t, next, refl));
+          }
+
+      pub IsDeclaredStep-finish : IsSoundRunning w r → slice_get targets r.made ≡ None → IsDeclaredStep w s q (Finish q r.entry.item)
+      IsDeclaredStep-finish sound none =
+          record { of_lane = refl; lawful = Lawful-finish; in_order = (r, runs, omega (arith, past, sound.made)) }
+        where
+          past : length targets ≤ r.made
+          past = elim (slice_get_cases targets r.made).1 [
+            | inl inside ↦ absurd (let e : None ≡ Some inside.0 = sym none ∙ inside.2 in cc)
+            | inr out ↦ out.0
+          ]
+
+  -- ---- any lane
+
+  -- a lane has one declared step at most
+  pub declared_steps_equal : (a b : Step) → IsDeclaredStep w s q a → IsDeclaredStep w s q b → a ≡ b
+  declared_steps_equal a b first second = by_running (lane_at s q).running refl
+    where
+      by_waiting : (r : Running) → Runs (lane_at s q) r → (o : Option Flush) → r.waiting ≡ o → a ≡ b
+      by_waiting r runs None awake = next_only r runs awake a first ∙ sym (next_only r runs awake b second)
+      by_waiting r runs (Some flush) waits =
+          (goes_on_only r runs flush waits a first.of_lane first.lawful).1 ∙ sym (goes_on_only r runs flush waits b second.of_lane second.lawful).1
+
+      by_running : (o : Option Running) → (lane_at s q).running ≡ o → a ≡ b
+      by_running None idle =
+          let (e, is_first, start) = starts_only idle a first.of_lane first.lawful in
+          let (f, is_first_too, start_too) = starts_only idle b second.of_lane second.lawful in
+          let same : Some e ≡ Some f = sym is_first ∙ is_first_too in
+          let entry : e ≡ f = cc in
+          start ∙ ap (λ (x : Entry). Start q x.item) entry ∙ sym start_too
+      by_running (Some r) runs = by_waiting r runs r.waiting refl
+
+  -- a lane that can move has a declared step
+  pub IsDeclaredStep-can_move : IsSoundState w s → CanMove w s q → (step : Step) × IsDeclaredStep w s q step
+  IsDeclaredStep-can_move sound (step, of_lane, lawful) = by_running (lane_at s q).running refl
+    where
+      by_next : (r : Running) → Runs (lane_at s q) r → r.waiting ≡ None → (o : Option Target) → slice_get (declared_by w r.entry.item) r.made ≡ o → (x : Step) × IsDeclaredStep w s q x
+      by_next r runs awake None next = (Finish q r.entry.item, IsDeclaredStep-finish r runs awake (sound.running q r runs) next)
+      by_next r runs awake (Some t) next = (Wait q t.item, IsDeclaredStep-wait r runs awake t next)
+
+      by_waiting : (r : Running) → Runs (lane_at s q) r → (o : Option Flush) → r.waiting ≡ o → (x : Step) × IsDeclaredStep w s q x
+      by_waiting r runs None awake = by_next r runs awake (slice_get (declared_by w r.entry.item) r.made) refl
+      by_waiting r runs (Some flush) waits =
+          (Over q flush.target, IsDeclaredStep-over r runs flush waits (goes_on_only r runs flush waits step of_lane lawful).0)
+
+      by_running : (o : Option Running) → (lane_at s q).running ≡ o → (x : Step) × IsDeclaredStep w s q x
+      by_running None idle = let (e, first, start) = starts_only idle step of_lane lawful in (Start q e.item, IsDeclaredStep-start idle e first)
+      by_running (Some r) runs = by_waiting r runs r.waiting refl
+
+  -- a lane that can move exists
+  pub CanMove-within : CanMove w s q → q < length s.lanes
+  CanMove-within (step, of_lane, lawful) =
+      by_kind q (λ (x : Step). Lawful w s x → q < length s.lanes) (λ i may. lane_within s q may.entry (inl (first_is (lane_at s q).pending may.entry may.first)))
+      (λ b may. runs_within may.0 may.1) (λ b may. runs_within may.0 may.1) (λ i may. runs_within may.0 may.1) step of_lane lawful
+    where
+      first_is : (ps : List Entry) (e : Entry) → slice_get ps 0 ≡ Some e → Contains ps e
+      first_is [] e is = absurd cc
+      first_is (p ∷ ps) e is = (0, omega arith, cc)
+
+      runs_within : (r : Running) → Runs (lane_at s q) r → q < length s.lanes
+      runs_within r runs = lane_within s q r.entry (inr (r, runs, refl))

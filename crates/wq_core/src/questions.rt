@@ -1,0 +1,107 @@
+//! Questions about a lane: whether it can move, and its next step where what runs flushes as declared.
+//!
+//! A lane moves by the steps of its rescuer, by the rules of "Rules" in the specs of this crate: an idle lane starts what
+//! is queued, what waits goes on once its wait is over, and anything else that runs can finish. What flushes as declared
+//! waits for the targets of its item in their order, and finishes after the last. `declared` takes time in the number of
+//! entries that are pending on one lane, `enabled` that much for each lane. Nothing takes memory.
+
+ghost use Rattle.std.specs.Prelude.{◌≡◌, ◌<◌, ◌↔◌, ℕ, IsTrue, IfSome, IfNone, None, slice_get};
+ghost use Rattle.wq_core.specs.declared.step.Step.{Step};
+ghost use Rattle.wq_core.specs.Wiring.{items, declared_by};
+ghost use Rattle.wq_core.specs.State.{lane_at, Runs};
+ghost use Rattle.wq_core.specs.Held.{IsMachine};
+ghost use Rattle.wq_core.specs.Played.{CanMove, CannotMove, IsDeclaredStep};
+
+use crate::entry::Running;
+use crate::machine::Core;
+use crate::step::Step;
+use std::alloc::Allocator;
+use wq_groups::LaneId;
+use wq_items::{ItemId, Target};
+
+impl<A: Allocator> Core<A> {
+    /// Whether a lane can make a step.
+    fn can_move(&self, q: LaneId) -> bool
+        ensures { IsTrue result ↔ CanMove self.now.wiring self.now.state q }
+    {
+        let Some(running) = self.running_on(q) else {
+            return self.first_on(q).is_some();
+        };
+        let Some(flush) = running.waiting else {
+            return true;
+        };
+        !self.has_unfinished_below(flush.target, flush.mark)
+    }
+
+    /// The lowest lane that can make a step: a start, a wait, the end of a wait or a finish. None only where no lane can.
+    pub fn enabled(&self) -> Option<LaneId>
+        ensures some { IfSome result (λ q. CanMove self.now.wiring self.now.state q
+            × ((p : ℕ) → p < q → ¬ CanMove self.now.wiring self.now.state p)) }
+        ensures none { IfNone result ((q : ℕ) → ¬ CanMove self.now.wiring self.now.state q) }
+        ensures machine { IsMachine self.now }
+    {
+        let lanes = self.lanes() as u16;
+        for number in 0..lanes {
+            let q = LaneId::new(number);
+            if self.can_move(q) {
+                return Some(q);
+            }
+        }
+        None
+    }
+
+    /// The target of the next wait of an item's execution that has made so many; none after the last.
+    fn next_target(&self, item: ItemId, made: u32) -> Option<Target>
+        requires { item < items self.now.wiring }
+        ensures { result ≡ slice_get (declared_by self.now.wiring item) made }
+    {
+        self.targets(item).get(made as usize).copied()
+    }
+
+    /// The step of an idle lane: it starts its first pending entry, if it has one.
+    fn declared_idle(&self, q: LaneId) -> Option<Step>
+        requires { (lane_at self.now.state q).running ≡ None }
+        ensures some { IfSome result (λ step. IsDeclaredStep self.now.wiring self.now.state q step) }
+        ensures none { IfNone result (CannotMove self.now.wiring self.now.state q) }
+    {
+        let first = self.first_on(q)?;
+        Some(Step::Start(q, first.item))
+    }
+
+    /// The step of a lane that runs something: the end of its wait, if that is over; and where it doesn't wait, the next
+    /// wait, or after the last the finish.
+    fn declared_running(&self, q: LaneId, running: Running) -> Option<Step>
+        requires machine { IsMachine self.now }
+        requires runs { Runs (lane_at self.now.state q) running }
+        ensures some { IfSome result (λ step. IsDeclaredStep self.now.wiring self.now.state q step) }
+        ensures none { IfNone result (CannotMove self.now.wiring self.now.state q) }
+    {
+        let item = running.entry.item;
+        let made = running.made;
+        let Some(flush) = running.waiting else {
+            return match self.next_target(item, made) {
+                Some(target) => Some(Step::Wait(q, target.item)),
+                None => Some(Step::Finish(q, item)),
+            };
+        };
+        if self.has_unfinished_below(flush.target, flush.mark) {
+            None
+        } else {
+            Some(Step::Over(q, flush.target))
+        }
+    }
+
+    /// The step that a lane can make where what it runs flushes as declared: each execution waits for the targets of its
+    /// item in their order, and finishes after the last. None only where it can make no such step, as where there is no
+    /// such lane.
+    pub fn declared(&self, q: LaneId) -> Option<Step>
+        ensures some { IfSome result (λ step. IsDeclaredStep self.now.wiring self.now.state q step) }
+        ensures none { IfNone result (CannotMove self.now.wiring self.now.state q) }
+        ensures machine { IsMachine self.now }
+    {
+        match self.running_on(q) {
+            Some(running) => self.declared_running(q, running),
+            None => self.declared_idle(q),
+        }
+    }
+}
