@@ -12,13 +12,17 @@ abbrev pub Joins : Declaration → Option (ℕ × ℕ) → ℕ × ℕ → Type 0
 Joins d None arc = ItemWaits d.waits arc.0 arc.1
 Joins d (Some before) arc = ItemWaits d.waits arc.0 arc.1 × ShareGroup d before.1 arc.0
 
--- what stands before the arc at place k of a chain: nothing before the first
-abbrev pub before_in_chain : List (ℕ × ℕ) → ℕ → Option (ℕ × ℕ)
-before_in_chain arcs k = if k == 0 then None else slice_get arcs (k - 1)
+-- what stands before the arc at place k, where this stands before the first
+abbrev pub before_from : Option (ℕ × ℕ) → List (ℕ × ℕ) → ℕ → Option (ℕ × ℕ)
+before_from first arcs k = if k == 0 then first else slice_get arcs (k - 1)
 
--- what stands before the arc at place k of a circle: the last before the first
+-- in a chain: nothing before the first
+abbrev pub before_in_chain : List (ℕ × ℕ) → ℕ → Option (ℕ × ℕ)
+before_in_chain arcs = before_from None arcs
+
+-- in a circle: the last before the first
 abbrev pub before_in_circle : List (ℕ × ℕ) → ℕ → Option (ℕ × ℕ)
-before_in_circle arcs k = if k == 0 then slice_get arcs (length arcs - 1) else slice_get arcs (k - 1)
+before_in_circle arcs = before_from (slice_get arcs (length arcs - 1)) arcs
 
 -- each arc joins the one before it
 abbrev pub AllJoin : Declaration → (ℕ → Option (ℕ × ℕ)) → List (ℕ × ℕ) → Type 0

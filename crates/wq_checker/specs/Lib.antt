@@ -5,3 +5,5 @@ pub mod Chains
 pub mod Falling
 pub mod Answers
 pub mod RunEnds
+pub mod Searching
+pub mod Codes

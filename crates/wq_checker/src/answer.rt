@@ -3,6 +3,7 @@
 //! Nothing is computed here but numbers of refusals, in constant time.
 
 ghost use Rattle.std.specs.Prelude.{◌≡◌};
+ghost use Rattle.wq_checker.specs.Codes.{no_code};
 
 use wq_items::ItemId;
 
@@ -29,4 +30,19 @@ pub enum No {
     CircleBroken { at: u32 },
     /// The steps are no deadlocking run of the assignment in which each group has a workqueue of its own (54).
     RunBroken,
+}
+
+impl No {
+    /// The number of the reason: from 50 to 54.
+    pub fn code(self) -> u32
+        ensures { result ≡ no_code self }
+    {
+        match self {
+            No::NotFalling { .. } => 50,
+            No::ChainBroken { .. } => 51,
+            No::LengthDiffers => 52,
+            No::CircleBroken { .. } => 53,
+            No::RunBroken => 54,
+        }
+    }
 }

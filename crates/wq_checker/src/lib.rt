@@ -7,6 +7,8 @@
 #![tactic(auto)]
 
 mod answer;
+mod chains;
+mod falling;
 mod run;
 
 pub use answer::{No, Yes};
