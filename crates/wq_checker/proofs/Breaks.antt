@@ -1,5 +1,5 @@
 -- The first arc that doesn't join the one before it.
-use Rattle.std.proofs.Common.{◌≡◌, ℕ, ◌+◌, ◌-◌, ◌<◌, List, length, Option, Some, arith}
+use Rattle.std.proofs.Common.{◌≡◌, ℕ, ◌<◌, List, Option, Some}
 use Rattle.std.specs.Prelude.{slice_get}
 use Rattle.wq_groups.specs.Declaration.{Declaration}
 use Rattle.wq_checker.specs.Chains.{Joins}

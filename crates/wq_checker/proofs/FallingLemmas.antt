@@ -1,14 +1,12 @@
 -- The first flush by place that doesn't fall.
-use Rattle.std.proofs.Common.{◌≡◌, ℕ, ◌+◌, ◌<◌, ◌≤◌, ◌⊎◌, inl, inr, Bool, true, false, cond, ltb, List, [], length, get_or, Option, Some, None, refl, sym, ap, subst, ◌∙◌, arith}
-use Rattle.std.specs.Prelude.{Contains}
-use Rattle.std.specs.List.{All}
+use Rattle.std.proofs.Common.{◌≡◌, ℕ, ◌+◌, ◌<◌, ◌≤◌, ◌⊎◌, inl, inr, Bool, true, false, cond, ltb, [], length, get_or, Option, Some, None, refl, sym, ap, subst, arith}
 use Rattle.std.proofs.lemmas.Bool.{cases_lt, ltb-true, ltb-false}
-use Rattle.std.proofs.lemmas.List.{get_or_past, get_or_default}
+use Rattle.std.proofs.lemmas.List.{get_or_past}
 use Rattle.wq_items.specs.declared.target.Target.{Target}
 use Rattle.wq_items.specs.Table.{ItemWaits, PlacesRise, targets_of}
 use Rattle.wq_items.proofs.Tables.{PlacesRise-places}
 use Rattle.wq_groups.specs.Declaration.{Declaration}
-use Rattle.wq_groups.specs.Assignment.{Assignment, lane_of_item}
+use Rattle.wq_groups.specs.Assignment.{Assignment}
 use Rattle.wq_checker.specs.declared.falling.Flush.{Flush}
 use Rattle.wq_checker.specs.Falling.{Falls, AllFall, Declares, IsFirstNotFalling}
 use Rattle.wq_checker.specs.Searching.{IsFirstOf, FindsFirst, OfItem, OfItemsBelow, earlier}

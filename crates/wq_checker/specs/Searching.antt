@@ -1,8 +1,13 @@
 -- Searching: what is found in parts of a declaration, of a circle or of a run.
-use Rattle.std.specs.Prelude.{◌≡◌, ℕ, ◌<◌, nat_lt, if◌then◌else◌, Option, Some, None}
+use Rattle.std.specs.Prelude.{◌≡◌, ◌↔◌, ℕ, ◌<◌, nat_lt, if◌then◌else◌, Bool, IsTrue, List, Option, Some, None}
 use Rattle.wq_items.specs.declared.target.Target.{Target}
 use Rattle.wq_groups.specs.Declaration.{Declaration}
 use Rattle.wq_groups.specs.Assignment.{Assignment}
+use Rattle.wq_core.specs.declared.step.Step.{Step}
+use Rattle.wq_core.specs.Wiring.{Wiring}
+use Rattle.wq_core.specs.State.{empty_state}
+use Rattle.wq_core.specs.Runs.{IsRun, end_of, AsDeclaredFrom}
+use Rattle.wq_core.specs.Held.{Machine}
 use Rattle.wq_checker.specs.declared.falling.Flush.{Flush}
 use Rattle.wq_checker.specs.Falling.{Falls, Declares}
 
@@ -30,3 +35,10 @@ abbrev pub earlier : Option Flush → Option Flush → Option Flush
 earlier None other = other
 earlier (Some one) None = Some one
 earlier (Some one) (Some other) = if nat_lt other.target.place one.target.place then Some other else Some one
+
+-- the steps are a run, which leaves this machine; `in_order` says whether what ran flushed as declared
+pub record IsPlayed (w : Wiring) (steps : List Step) (in_order : Bool) (m : Machine) : Type 0 where
+  pub run : IsRun w steps
+  pub wiring : m.wiring ≡ w
+  pub state : m.state ≡ end_of w steps
+  pub declared : IsTrue in_order ↔ AsDeclaredFrom w (empty_state w) steps

@@ -62,7 +62,7 @@ pub(crate) fn first_break<A: Allocator + Copy>(
     arcs: &[(ItemId, ItemId)],
 ) -> Option<u32>
     requires grouped { length groups.now.group_of ≡ length table.now.names }
-    requires first { IfSome first (λ b. b.1 < length table.now.names) }
+    requires first { IfSome first (λ b. b.1 < length table.now.waits) }
     requires arcs { ArcsOfItems (declaration_of table.now groups.now) arcs.now }
     requires few { length arcs.now ≤ 4096 }
     ensures some { IfSome result (λ at. IsFirstBreak (declaration_of table.now groups.now) (before_from first arcs.now) arcs.now at) }

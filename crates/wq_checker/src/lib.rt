@@ -8,8 +8,13 @@
 
 mod answer;
 mod chains;
+mod checking;
 mod falling;
+mod once;
 mod run;
+mod running;
 
 pub use answer::{No, Yes};
+pub use checking::check_answer;
 pub use run::RunEnd;
+pub use running::check_run;

@@ -1,8 +1,7 @@
-use Rattle.std.proofs.Common.{◌≡◌, ◌≤◌, List, length, get_or, ap, subst, ◌∙◌, arith}
+use Rattle.std.proofs.Common.{◌≡◌, List, length, get_or, ap, subst, arith}
 use Rattle.wq_items.specs.declared.target.Target.{Target}
 use Rattle.wq_items.proofs.Tables.{targets_of-rise}
 use Rattle.wq_groups.specs.Declaration.{declaration_of}
-use Rattle.wq_groups.specs.Assignment.{lane_of_item}
 use Rattle.wq_checker.proofs.FallingLemmas.{IsFirstOf-item}
 use Rattle.wq_checker.proofs.falling.first_of_item.Goals as goal
 
