@@ -4,6 +4,7 @@ pub use Rattle.wq_cert.specs.Certificate
 pub mod Chains
 pub mod Falling
 pub mod Answers
+pub mod Implications
 pub mod RunEnds
 pub mod Searching
 pub mod Codes

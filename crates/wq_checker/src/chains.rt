@@ -7,7 +7,8 @@ ghost use Rattle.std.specs.Prelude.{◌≡◌, ◌<◌, ◌≤◌, ◌↔◌, �
 ghost use Rattle.std.specs.List.{Any, All};
 ghost use Rattle.wq_items.specs.declared.target.Target.{Target};
 ghost use Rattle.wq_groups.specs.Declaration.{declaration_of};
-ghost use Rattle.wq_checker.specs.Chains.{Joins, ShareGroup, AllJoin, IsFirstBreak, before_from};
+ghost use Rattle.wq_groups.specs.Partition.{ShareGroup};
+ghost use Rattle.wq_checker.specs.Chains.{Joins, AllJoin, IsFirstBreak, before_from};
 ghost use Rattle.wq_checker.specs.Answers.{ArcsOfItems};
 
 use std::alloc::Allocator;
@@ -22,15 +23,10 @@ fn have_target(targets: &[Target], item: ItemId) -> bool
 }
 
 /// Whether two items are in one group.
-fn share_group<A: Allocator + Copy>(
-    table: &ItemTable<'_, A>,
-    groups: &Groups<A>,
-    one: ItemId,
-    other: ItemId,
-) -> bool
+fn share_group<A: Allocator + Copy>(groups: &Groups<A>, one: ItemId, other: ItemId) -> bool
     requires one { one < length groups.now.group_of }
     requires other { other < length groups.now.group_of }
-    ensures { IsTrue result ↔ ShareGroup (declaration_of table.now groups.now) one other }
+    ensures { IsTrue result ↔ ShareGroup groups.now one other }
 {
     groups.of(one) == groups.of(other)
 }
@@ -49,7 +45,7 @@ fn joins<A: Allocator + Copy>(
 {
     have_target(table.waits(arc.0), arc.1)
         && match before {
-            Some(before) => share_group(table, groups, before.1, arc.0),
+            Some(before) => share_group(groups, before.1, arc.0),
             None => true,
         }
 }

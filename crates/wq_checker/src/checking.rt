@@ -12,6 +12,7 @@ ghost use Rattle.wq_core.specs.Deadlock.{DeadlocksBy};
 ghost use Rattle.wq_cert.specs.Certificate.{certificate};
 ghost use Rattle.wq_checker.specs.declared.run.RunEnd.TheVariants.{Deadlock};
 ghost use Rattle.wq_checker.specs.Answers.{IsAsked, IsPlanAsked, IsCircleAsked, AnswersPlan, AnswersCircle, AnswersCertificate, ShowsDeadlock};
+ghost use Rattle.wq_checker.specs.Implications.{YesIsSafe, FewerWaitInCircle, EachWaitsInCircle};
 
 use crate::answer::{No, Yes};
 use crate::chains::first_break;
@@ -130,12 +131,8 @@ fn check_circle<A: Allocator + Copy>(
     }
 }
 
-/// What is answered to a certificate: what it shows, or the first reason why it shows nothing.
-///
-/// It is one of the declaration, as every certificate is that is read: its assignment has a lane for each group, its arcs
-/// are of items, and their number is one less than the length of the chain (none for 0), or from 1 to 4,096 in a circle;
-/// and it has fewer than 4,294,967,295 steps. The only error is want of memory (20).
-pub fn check_answer<A: Allocator + Copy>(
+/// What is answered to a certificate.
+fn check_certificate<A: Allocator + Copy>(
     alloc: A,
     table: &ItemTable<'_, A>,
     groups: &Groups<A>,
@@ -143,7 +140,7 @@ pub fn check_answer<A: Allocator + Copy>(
 ) -> Result<Result<Yes, No>, AllocError>
     requires grouped { length groups.now.group_of ≡ length table.now.names }
     requires asked { IsAsked (declaration_of table.now groups.now) (certificate answer.now) }
-    ensures answer { IfOk result (λ r. AnswersCertificate (declaration_of table.now groups.now) (certificate answer.now) r) }
+    ensures { IfOk result (λ r. AnswersCertificate (declaration_of table.now groups.now) (certificate answer.now) r) }
 {
     match answer {
         CertAnswer::Plan {
@@ -155,4 +152,29 @@ pub fn check_answer<A: Allocator + Copy>(
             check_circle(alloc, table, groups, arcs.as_slice(), steps)
         }
     }
+}
+
+/// What is answered to a certificate: what it shows, or the first reason why it shows nothing.
+///
+/// It is one of the declaration, as every certificate is that is read: its assignment has a lane for each group, its arcs
+/// are of items, and their number is one less than the length of the chain (none for 0), or from 1 to 4,096 in a circle;
+/// and it has fewer than 4,294,967,295 steps. A yes to a plan implies that it is safe, and that in every assignment to
+/// fewer workqueues these wait in a circle; a yes to a circle, that in every assignment they do. The only error is want of
+/// memory (20).
+pub fn check_answer<A: Allocator + Copy>(
+    alloc: A,
+    table: &ItemTable<'_, A>,
+    groups: &Groups<A>,
+    answer: &CertAnswer<A>,
+) -> Result<Result<Yes, No>, AllocError>
+    requires grouped { length groups.now.group_of ≡ length table.now.names }
+    requires asked { IsAsked (declaration_of table.now groups.now) (certificate answer.now) }
+    ensures answer { IfOk result (λ r. AnswersCertificate (declaration_of table.now groups.now) (certificate answer.now) r) }
+    ensures safe { IfOk result (λ r. YesIsSafe (declaration_of table.now groups.now) (certificate answer.now) r) }
+    ensures fewer { IfOk result (λ r. FewerWaitInCircle (declaration_of table.now groups.now) r) }
+    ensures circle { IfOk result (λ r. EachWaitsInCircle (declaration_of table.now groups.now) r) }
+{
+    let _items = table.len();
+    let _groups = groups.len();
+    check_certificate(alloc, table, groups, answer)
 }

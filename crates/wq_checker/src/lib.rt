@@ -10,6 +10,7 @@ mod answer;
 mod chains;
 mod checking;
 mod falling;
+pub mod laws;
 mod once;
 mod run;
 mod running;
