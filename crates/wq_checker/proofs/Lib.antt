@@ -1,7 +1,9 @@
 pub mod Breaks
 pub mod FallingLemmas
+pub mod FlushPlaces
 pub mod GoodAnswers
 pub mod GroupChains
+pub mod OneAnswer
 pub mod PlayedRuns
 pub mod QueueCounts
 pub mod RunEndLemmas

@@ -2,14 +2,19 @@
 //!
 //! They are said of declarations, certificates and lists of steps alone, whatever code checks them.
 
-ghost use Rattle.std.specs.Prelude.{◌<◌};
+ghost use Rattle.std.specs.Prelude.{◌≡◌, ◌<◌, List, Result};
 ghost use Rattle.wq_items.specs.Chain.{Circle};
 ghost use Rattle.wq_groups.specs.Declaration.{Declaration, IsDeclaration};
 ghost use Rattle.wq_groups.specs.Assignment.{Assignment, IsAssignment};
-ghost use Rattle.wq_core.specs.Wiring.{LaneWaits, wiring};
+ghost use Rattle.wq_core.specs.declared.step.Step.{Step};
+ghost use Rattle.wq_core.specs.Wiring.{Wiring, LaneWaits, wiring};
 ghost use Rattle.wq_core.specs.Deadlock.{IsSafe};
-ghost use Rattle.wq_cert.specs.Certificate.{PlanCertificate, CircleCertificate};
-ghost use Rattle.wq_checker.specs.Answers.{IsGoodPlan, IsGoodCircle, IsPlanAsked, IsCircleAsked};
+ghost use Rattle.wq_cert.specs.Certificate.{PlanCertificate, CircleCertificate, Certificate};
+ghost use Rattle.wq_checker.specs.declared.answer.Yes.{Yes};
+ghost use Rattle.wq_checker.specs.declared.answer.No.{No};
+ghost use Rattle.wq_checker.specs.declared.run.RunEnd.{RunEnd};
+ghost use Rattle.wq_checker.specs.Answers.{IsGoodPlan, IsGoodCircle, IsPlanAsked, IsCircleAsked, IsAsked, AnswersCertificate};
+ghost use Rattle.wq_checker.specs.RunEnds.{EndsAs};
 
 /// A good plan is safe, and in every assignment to fewer workqueues these wait in a circle.
 pub fn a_good_plan_is_safe_and_fewer_wait_in_a_circle()
@@ -22,4 +27,15 @@ pub fn a_good_plan_is_safe_and_fewer_wait_in_a_circle()
 pub fn a_good_circle_is_one_in_every_assignment()
     ensures { (d : Declaration) (c : CircleCertificate) (b : Assignment) → IsDeclaration d → IsCircleAsked d c → IsGoodCircle d c →
         IsAssignment d.groups b → Circle (LaneWaits (wiring d b)) }
+{}
+
+/// A certificate has one answer at most.
+pub fn a_certificate_has_one_answer()
+    ensures { (d : Declaration) (c : Certificate) (r s : Result Yes No) → IsDeclaration d → IsAsked d c →
+        AnswersCertificate d c r → AnswersCertificate d c s → r ≡ s }
+{}
+
+/// A list of steps has one end at most.
+pub fn steps_have_one_end()
+    ensures { (w : Wiring) (steps : List Step) (r s : RunEnd) → EndsAs w steps r → EndsAs w steps s → r ≡ s }
 {}
