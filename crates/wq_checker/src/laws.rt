@@ -35,7 +35,8 @@ pub fn a_certificate_has_one_answer()
         AnswersCertificate d c r → AnswersCertificate d c s → r ≡ s }
 {}
 
-/// A list of steps has one end at most.
+/// A list of steps has one end, and no other.
 pub fn steps_have_one_end()
-    ensures { (w : Wiring) (steps : List Step) (r s : RunEnd) → EndsAs w steps r → EndsAs w steps s → r ≡ s }
+    ensures one { (w : Wiring) (steps : List Step) → (end : RunEnd) × EndsAs w steps end }
+    ensures at_most_one { (w : Wiring) (steps : List Step) (r s : RunEnd) → EndsAs w steps r → EndsAs w steps s → r ≡ s }
 {}
