@@ -87,8 +87,8 @@ module _ (w : Wiring) (s : State) where
       by_waiting (Some f) waits =
           alike (λ (h : (f.target ≡ b) × (¬ HasUnfinishedBelow s b f.mark)). record { flush = f; waits = waits; target = h.0; done = h.1 })
           (λ (may : MayGoOn s b r).
-            let same : may.flush ≡ f = (let e : Some may.flush ≡ Some f = sym may.waits ∙ waits in cc) in
-            (ap (λ (x : Flush). x.target) (sym same) ∙ may.target, subst (λ (x : Flush). ¬ HasUnfinishedBelow s b x.mark) same may.done))
+          let same : may.flush ≡ f = (let e : Some may.flush ≡ Some f = sym may.waits ∙ waits in cc) in
+          (ap (λ (x : Flush). x.target) (sym same) ∙ may.target, subst (λ (x : Flush). ¬ HasUnfinishedBelow s b x.mark) same may.done))
           (both (cases_eq f.target b) (not_so (cases_HasUnfinishedBelow s b f.mark)))
 
   cases_MayFinish : (i : ℕ) (r : Running) → Decided (MayFinish i r)

@@ -1,3 +1,4 @@
+pub mod AnswersDecided
 pub mod Breaks
 pub mod Decided
 pub mod FallingLemmas

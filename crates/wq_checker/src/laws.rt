@@ -29,9 +29,10 @@ pub fn a_good_circle_is_one_in_every_assignment()
         IsAssignment d.groups b → Circle (LaneWaits (wiring d b)) }
 {}
 
-/// A certificate has one answer at most.
+/// A certificate has one answer, and no other.
 pub fn a_certificate_has_one_answer()
-    ensures { (d : Declaration) (c : Certificate) (r s : Result Yes No) → IsDeclaration d → IsAsked d c →
+    ensures one { (d : Declaration) (c : Certificate) → IsDeclaration d → (r : Result Yes No) × AnswersCertificate d c r }
+    ensures at_most_one { (d : Declaration) (c : Certificate) (r s : Result Yes No) → IsDeclaration d → IsAsked d c →
         AnswersCertificate d c r → AnswersCertificate d c s → r ≡ s }
 {}
 
