@@ -3,7 +3,7 @@
 //! The rules are those of "Certificates" in docs/FORMAT.md. The search takes time in the number of arcs and of the flushes
 //! that their items declare, and no memory.
 
-ghost use Rattle.std.specs.Prelude.{◌≡◌, ◌<◌, ◌≤◌, ◌↔◌, ℕ, IsTrue, IfSome, IfNone, length};
+ghost use Rattle.std.specs.Prelude.{◌≡◌, ◌<◌, ◌≤◌, ◌↔◌, IsTrue, IfSome, IfNone, length};
 ghost use Rattle.std.specs.List.{Any, All};
 ghost use Rattle.wq_items.specs.declared.target.Target.{Target};
 ghost use Rattle.wq_groups.specs.Declaration.{declaration_of};

@@ -3,8 +3,7 @@
 //! A plan is safe where each declared flush goes to a workqueue with a lower number; the rule is that of "Certificates" in
 //! docs/FORMAT.md. The search takes time in the number of items and flushes, and no memory.
 
-ghost use Rattle.std.specs.Prelude.{◌≡◌, ◌<◌, ◌↔◌, IsTrue, IfSome, IfNone, length};
-ghost use Rattle.wq_items.specs.Table.{targets_of, PlacesRise};
+ghost use Rattle.std.specs.Prelude.{◌≡◌, ◌<◌, IfSome, IfNone, length};
 ghost use Rattle.wq_groups.specs.Declaration.{declaration_of};
 ghost use Rattle.wq_groups.specs.Assignment.{lane_of_item};
 ghost use Rattle.wq_checker.specs.Falling.{AllFall, IsFirstNotFalling};

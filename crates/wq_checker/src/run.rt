@@ -1,6 +1,6 @@
 //! How a list of steps ends.
 //!
-//! Nothing is computed here yet.
+//! Nothing is computed here.
 
 /// How a list of steps ends, where it is made from the empty state on.
 #[derive(Clone, Copy, Debug, PartialEq, Eq)]

@@ -1,7 +1,7 @@
 //! How a list of steps ends.
 //!
-//! The steps are made on the core machine, from the empty state on; its rules are those of "Steps" in docs/FORMAT.md. It
-//! takes time in the number of steps and of what each of them takes, and memory in the number of items, flushes and lanes.
+//! The steps are made on the core machine, from the empty state on, by its rules ("Rules" in the specs of wq_core). It takes
+//! time in the number of steps and of what each of them takes, and memory in the number of items, flushes and lanes.
 
 ghost use Rattle.std.specs.Prelude.{◌≡◌, ◌<◌, ◌↔◌, IsTrue, IfOk, IfErr, length};
 ghost use Rattle.wq_groups.specs.Declaration.{declaration_of};
