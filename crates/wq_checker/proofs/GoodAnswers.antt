@@ -1,0 +1,76 @@
+-- What good certificates imply: safe assignments, and lanes that wait in a circle.
+use Rattle.std.proofs.Common.{◌≡◌, ℕ, ◌-◌, ◌<◌, List, [], ◌∷◌, length, None, Result, Ok, sym, subst, arith}
+use Rattle.std.specs.Prelude.{slice_index}
+use Rattle.std.proofs.lemmas.List.{get_or-map}
+use Rattle.std.proofs.lemmas.List.Elements.{All-cons, All-nil}
+use Rattle.wq_items.specs.Chain.{Circle}
+use Rattle.wq_groups.specs.Declaration.{Declaration, IsDeclaration, GroupWaits}
+use Rattle.wq_groups.specs.Assignment.{Assignment, IsAssignment, lane_of as lane_of_group}
+use Rattle.wq_core.specs.Wiring.{LaneWaits, wiring, lane_of}
+use Rattle.wq_core.specs.Deadlock.{IsSafe}
+use Rattle.wq_core.proofs.LaneCircles.{Circle-lanes, Circle-few_lanes}
+use Rattle.wq_core.proofs.Safety.{IsSafe-falls}
+use Rattle.wq_cert.specs.Certificate.{PlanCertificate, CircleCertificate, Certificate, OfPlan, OfCircle}
+use Rattle.wq_checker.specs.declared.answer.Yes.{Yes}
+use Rattle.wq_checker.specs.declared.answer.Yes.TheVariants as yes
+use Rattle.wq_checker.specs.declared.answer.No.{No}
+use Rattle.wq_checker.specs.Chains.{AllJoin, before_in_chain, before_in_circle}
+use Rattle.wq_checker.specs.Falling.{AllFall}
+use Rattle.wq_checker.specs.Answers.{IsGoodPlan, IsPlanAsked, IsCircleAsked, IsAsked, AnswersPlan, AnswersCircle, AnswersCertificate}
+use Rattle.wq_checker.specs.Implications.{YesIsSafe, FewerWaitInCircle, EachWaitsInCircle}
+use Rattle.wq_checker.proofs.GroupChains.{waits-item, waits-target, chain_of_groups, circle_of_groups}
+
+module _ (d : Declaration) (is : IsDeclaration d) where
+  -- ---- plans
+
+  -- where each flush falls no run ends stuck
+  pub IsSafe-fall : (a : Assignment) → AllFall d a → IsSafe (wiring d a)
+  IsSafe-fall a falls =
+      IsSafe-falls (wiring d a) (λ l. l) (λ i j waits.
+      let one : lane_of (wiring d a) i ≡ lane_of_group a (slice_index d.group_of i) = get_or-map (lane_of_group a) d.group_of i 0 0 (waits-item d is i j waits) in
+      let other : lane_of (wiring d a) j ≡ lane_of_group a (slice_index d.group_of j) = get_or-map (lane_of_group a) d.group_of j 0 0 (waits-target d is i j waits) in
+      omega (arith, one, other, falls i j waits)
+      )
+
+  -- the chain is longer than the number of lanes
+  circle_from_arcs : (n : ℕ) (arcs : List (ℕ × ℕ)) → AllJoin d (before_in_chain arcs) arcs → length arcs ≡ n - 1 → (n ≡ 1 → ¬ (d.groups ≡ 0)) → (b : Assignment) → IsAssignment d.groups b → b.lanes < n → Circle (LaneWaits (wiring d b))
+  circle_from_arcs n [] joined count some b assignment fewer =
+      let alone : n ≡ 1 = omega (arith, count, fewer) in
+      let group : 0 < d.groups = omega (arith, some alone) in
+      Circle-few_lanes d b (0 ∷ []) assignment tt (All-cons (λ g. g < d.groups) 0 [] group (All-nil (λ g. g < d.groups))) (omega (arith, fewer, alone))
+  circle_from_arcs n (arc ∷ arcs) joined count some b assignment fewer =
+      let chain = chain_of_groups d is None arc arcs joined in
+      Circle-few_lanes d b chain.0 assignment chain.1 chain.2 (omega (arith, chain.3, count, fewer))
+
+  pub Circle-fewer : (c : PlanCertificate) → IsPlanAsked d c → IsGoodPlan d c → (b : Assignment) → IsAssignment d.groups b → b.lanes < c.assignment.lanes → Circle (LaneWaits (wiring d b))
+  Circle-fewer c asked good b assignment fewer =
+      circle_from_arcs c.length c.arcs good.joined asked.count (λ one none. good.has_group (one, none)) b assignment (omega (arith, fewer, good.long))
+
+  -- ---- circles
+
+  circle_from_round : (arcs : List (ℕ × ℕ)) → 0 < length arcs → AllJoin d (before_in_circle arcs) arcs → Circle (GroupWaits d)
+  circle_from_round [] some joined = absurd (omega arith)
+  circle_from_round (arc ∷ arcs) some joined = circle_of_groups d is arc arcs joined
+
+  pub Circle-any : (c : CircleCertificate) → IsCircleAsked d c → AllJoin d (before_in_circle c.arcs) c.arcs → (b : Assignment) → Circle (LaneWaits (wiring d b))
+  Circle-any c asked joined b = Circle-lanes d b (circle_from_round c.arcs asked.some joined)
+
+-- ---- answers
+
+module _ (d : Declaration) (is : IsDeclaration d) where
+  pub YesIsSafe-answer : (c : Certificate) (answer : Result Yes No) → AnswersCertificate d c answer → YesIsSafe d c answer
+  YesIsSafe-answer c answer answers plan number same says =
+      let good = subst (λ (x : Certificate). AnswersCertificate d x (Ok (yes.Plan number))) same (subst (AnswersCertificate d c) says answers) in
+      (sym good.1, IsSafe-fall d is plan.assignment good.0.falls)
+
+  pub FewerWaitInCircle-answer : (c : Certificate) (answer : Result Yes No) → IsAsked d c → AnswersCertificate d c answer → FewerWaitInCircle d answer
+  FewerWaitInCircle-answer (OfPlan plan) answer asked answers number b says assignment fewer =
+      let good = subst (AnswersPlan d plan) says answers in
+      Circle-fewer d is plan asked good.0 b assignment (omega (arith, fewer, good.1))
+  FewerWaitInCircle-answer (OfCircle circle) answer asked answers number b says assignment fewer = absurd (subst (AnswersCircle d circle) says answers)
+
+  pub EachWaitsInCircle-answer : (c : Certificate) (answer : Result Yes No) → IsAsked d c → AnswersCertificate d c answer → EachWaitsInCircle d answer
+  EachWaitsInCircle-answer (OfPlan plan) answer asked answers n b says assignment = absurd (subst (AnswersPlan d plan) says answers)
+  EachWaitsInCircle-answer (OfCircle circle) answer asked answers n b says assignment =
+      let good = subst (AnswersCircle d circle) says answers in
+      Circle-any d is circle asked good.0.joined b

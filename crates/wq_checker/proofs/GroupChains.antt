@@ -1,0 +1,121 @@
+-- Arcs that join, as chains and circles of groups.
+use Rattle.std.proofs.Common.{◌≡◌, ℕ, zero, suc, ◌+◌, ◌-◌, ◌<◌, List, [], ◌∷◌, length, map, get_or, eqb, Option, Some, None, refl, sym, ap, subst, ◌∙◌, arith}
+use Rattle.std.specs.Prelude.{slice_get, slice_index}
+use Rattle.std.specs.List.{All}
+use Rattle.std.proofs.lemmas.Bool.{cond-false, ne_eqb}
+use Rattle.std.proofs.lemmas.List.{length-map}
+use Rattle.std.proofs.lemmas.List.Elements.{All-cons, All-nil}
+use Rattle.std.proofs.lemmas.Option.{slice_get-get_or}
+use Rattle.wq_items.specs.Chain.{IsChain, last_of, Circle}
+use Rattle.wq_items.specs.Table.{ItemWaits}
+use Rattle.wq_items.proofs.Tables.{ItemWaits-below}
+use Rattle.wq_groups.specs.Declaration.{Declaration, IsDeclaration, GroupWaits}
+use Rattle.wq_checker.specs.Chains.{Joins, AllJoin, before_from, before_in_circle}
+use Rattle.wq_checker.proofs.FallingLemmas.{Declares-within, Declares-waits}
+
+-- the group of item i
+abbrev group : Declaration → ℕ → ℕ
+group d i = slice_index d.group_of i
+
+-- the groups in which the arcs end
+abbrev heads : Declaration → List (ℕ × ℕ) → List ℕ
+heads d arcs = map (λ (arc : ℕ × ℕ). group d arc.1) arcs
+
+-- each arc is declared, and begins in the group in which the one before it ends, the first in group g
+abbrev Linked : Declaration → ℕ → List (ℕ × ℕ) → Type 0
+Linked d g [] = Unit {0}
+Linked d g (arc ∷ arcs) = ItemWaits d.waits arc.0 arc.1 × (group d arc.0 ≡ g) × Linked d (group d arc.1) arcs
+
+-- ---- what stands before an arc
+
+before_from-suc : (first : Option (ℕ × ℕ)) (arcs : List (ℕ × ℕ)) (k : ℕ) → before_from first arcs (suc k) ≡ slice_get arcs k
+before_from-suc first arcs k =
+    cond-false (eqb (suc k) 0) first (slice_get arcs (suc k - 1)) (ne_eqb (suc k) 0 (λ e. absurd (omega (arith, e)))) ∙ ap (slice_get arcs) (let e : suc k - 1 ≡ k = omega arith in e)
+
+before_from-next : (first : Option (ℕ × ℕ)) (arc : ℕ × ℕ) (arcs : List (ℕ × ℕ)) (k : ℕ) → before_from first (arc ∷ arcs) (suc k) ≡ before_from (Some arc) arcs k
+before_from-next first arc arcs zero = before_from-suc first (arc ∷ arcs) zero
+before_from-next first arc arcs (suc k) = before_from-suc first (arc ∷ arcs) (suc k) ∙ sym (before_from-suc (Some arc) arcs k)
+
+module _ (d : Declaration) where
+  AllJoin-rest : (first : Option (ℕ × ℕ)) (arc : ℕ × ℕ) (arcs : List (ℕ × ℕ)) → AllJoin d (before_from first (arc ∷ arcs)) (arc ∷ arcs) → AllJoin d (before_from (Some arc) arcs) arcs
+  AllJoin-rest first arc arcs joined k other stands = subst (λ (o : Option (ℕ × ℕ)). Joins d o other) (before_from-next first arc arcs k) (joined (suc k) other stands)
+
+  Joins-waits : (o : Option (ℕ × ℕ)) (arc : ℕ × ℕ) → Joins d o arc → ItemWaits d.waits arc.0 arc.1
+  Joins-waits None arc joins = joins
+  Joins-waits (Some before) arc joins = joins.0
+
+  Linked-joined : (before : ℕ × ℕ) (arcs : List (ℕ × ℕ)) → AllJoin d (before_from (Some before) arcs) arcs → Linked d (group d before.1) arcs
+  Linked-joined before [] joined = tt
+  Linked-joined before (arc ∷ arcs) joined =
+      let here = joined 0 arc refl in
+      (here.0, sym here.1, Linked-joined arc arcs (AllJoin-rest (Some before) arc arcs joined))
+
+  -- from the group of the first item on
+  Linked-from_first : (first : Option (ℕ × ℕ)) (arc : ℕ × ℕ) (arcs : List (ℕ × ℕ)) → AllJoin d (before_from first (arc ∷ arcs)) (arc ∷ arcs) → Linked d (group d arc.0) (arc ∷ arcs)
+  Linked-from_first first arc arcs joined = (Joins-waits first arc (joined 0 arc refl), refl, Linked-joined arc arcs (AllJoin-rest first arc arcs joined))
+
+  module _ (is : IsDeclaration d) where
+    pub waits-item : (i j : ℕ) → ItemWaits d.waits i j → i < length d.group_of
+    waits-item i j waits = let flush = Declares-waits d i j waits in omega (arith, Declares-within d i flush.0 flush.1, is.one_list_each)
+
+    pub waits-target : (i j : ℕ) → ItemWaits d.waits i j → j < length d.group_of
+    waits-target i j waits = ItemWaits-below (length d.group_of) d.waits is.targets_are_items i j waits
+
+    GroupWaits-item : (i j g : ℕ) → ItemWaits d.waits i j → group d i ≡ g → GroupWaits d g (group d j)
+    GroupWaits-item i j g waits of = record {
+      item = i;
+      target = j;
+      declares = waits;
+      of_item = slice_get-get_or d.group_of i 0 (waits-item i j waits) ∙ ap (λ (x : ℕ). Some x) of;
+      of_target = slice_get-get_or d.group_of j 0 (waits-target i j waits);
+    }
+
+    group-within : (i : ℕ) → i < length d.group_of → group d i < d.groups
+    group-within i within = is.partition.within i 0 within
+
+    -- ---- chains
+
+    IsChain-linked : (g : ℕ) (arcs : List (ℕ × ℕ)) → Linked d g arcs → IsChain (GroupWaits d) (g ∷ heads d arcs)
+    IsChain-linked g [] linked = tt
+    IsChain-linked g (arc ∷ arcs) linked = (GroupWaits-item arc.0 arc.1 g linked.0 linked.1, IsChain-linked (group d arc.1) arcs linked.2)
+
+    heads-within : (g : ℕ) (arcs : List (ℕ × ℕ)) → Linked d g arcs → All (λ h. h < d.groups) (heads d arcs)
+    heads-within g [] linked = All-nil (λ h. h < d.groups)
+    heads-within g (arc ∷ arcs) linked =
+        All-cons (λ h. h < d.groups) (group d arc.1) (heads d arcs) (group-within arc.1 (waits-target arc.0 arc.1 linked.0)) (heads-within (group d arc.1) arcs linked.2)
+
+    -- arcs that join are a chain of one group more
+    pub chain_of_groups : (first : Option (ℕ × ℕ)) (arc : ℕ × ℕ) (arcs : List (ℕ × ℕ)) → AllJoin d (before_from first (arc ∷ arcs)) (arc ∷ arcs)
+        → (groups : List ℕ) × IsChain (GroupWaits d) groups × All (λ g. g < d.groups) groups × (length groups ≡ length (arc ∷ arcs) + 1)
+    chain_of_groups first arc arcs joined =
+        let linked = Linked-from_first first arc arcs joined in
+        let g : ℕ = group d arc.0 in (
+          g ∷ heads d (arc ∷ arcs),
+          IsChain-linked g (arc ∷ arcs) linked,
+          All-cons (λ h. h < d.groups) g (heads d (arc ∷ arcs)) (group-within arc.0 (waits-item arc.0 arc.1 linked.0)) (heads-within g (arc ∷ arcs) linked),
+          omega (arith, length-map (arc ∷ arcs) (λ (a : ℕ × ℕ). group d a.1)),
+        )
+
+    -- ---- circles
+
+    last_of-heads : (arc : ℕ × ℕ) (arcs : List (ℕ × ℕ)) (last : ℕ × ℕ) → slice_get (arc ∷ arcs) (length arcs) ≡ Some last → last_of (group d arc.1) (heads d arcs) ≡ group d last.1
+    last_of-heads arc [] last stands = let same : arc ≡ last = cc in ap (λ (a : ℕ × ℕ). group d a.1) same
+    last_of-heads arc (next ∷ arcs) last stands = last_of-heads next arcs last stands
+
+    -- arcs that join, the first the last, are a circle
+    pub circle_of_groups : (arc : ℕ × ℕ) (arcs : List (ℕ × ℕ)) → AllJoin d (before_in_circle (arc ∷ arcs)) (arc ∷ arcs) → Circle (GroupWaits d)
+    circle_of_groups arc arcs joined =
+        let circle : List (ℕ × ℕ) = arc ∷ arcs in
+        let end : ℕ = length arcs in
+        let last : ℕ × ℕ = get_or circle end arc in
+        let stands : slice_get circle end ≡ Some last = slice_get-get_or circle end arc (omega arith) in
+        let at_end : slice_get circle (length circle - 1) ≡ Some last = ap (slice_get circle) (let e : length circle - 1 ≡ end = omega arith in e) ∙ stands in
+        let linked = Linked-from_first (slice_get circle (length circle - 1)) arc arcs joined in
+        let closed : group d last.1 ≡ group d arc.0 = (subst (λ (o : Option (ℕ × ℕ)). Joins d o arc) at_end (joined 0 arc refl)).1 in
+        let chain : IsChain (GroupWaits d) (group d arc.0 ∷ heads d circle) = IsChain-linked (group d arc.0) circle linked in
+        record {
+          first = group d arc.1;
+          others = heads d arcs;
+          chain = chain.1;
+          closes = subst (λ (g : ℕ). GroupWaits d g (group d arc.1)) (sym (last_of-heads arc arcs last stands ∙ closed)) chain.0;
+        }

@@ -1,0 +1,161 @@
+-- Whether a step is lawful, whether it keeps to the order of its declaration, and whether a state is stuck.
+use Rattle.std.proofs.Common.{◌≡◌, ℕ, zero, suc, ◌<◌, ◌⊎◌, inl, inr, ◌↔◌, Bool, true, false, List, [], ◌∷◌, length, get_or, Option, Some, None, refl, sym, ap, subst, ◌∙◌}
+use Rattle.std.specs.Prelude.{IsTrue, ◌||◌, slice_get, is_some}
+use Rattle.std.specs.List.{Any, list_any}
+use Rattle.std.proofs.lemmas.Bool.{cases_eq}
+use Rattle.wq_items.specs.declared.target.Target.{Target}
+use Rattle.wq_items.specs.Table.{ItemWaits, targets_of}
+use Rattle.wq_core.specs.declared.entry.Entry.{Entry}
+use Rattle.wq_core.specs.declared.entry.Flush.{Flush}
+use Rattle.wq_core.specs.declared.entry.Running.{Running}
+use Rattle.wq_core.specs.declared.step.Step.{Step}
+use Rattle.wq_core.specs.declared.step.Step.TheVariants.{Queue, Cancel, Start, Wait, Over, Finish}
+use Rattle.wq_core.specs.Wiring.{Wiring, items, declared_by}
+use Rattle.wq_core.specs.State.{Lane, State, idle_lane, lane_at, Runs, HasPending, HasUnfinishedBelow}
+use Rattle.wq_core.specs.Rules.{MayWait, MayGoOn, MayFinish, MayStart, Lawful}
+use Rattle.wq_core.specs.Runs.{KeepsOrder}
+use Rattle.wq_core.specs.Deadlock.{IsStuck}
+use Rattle.wq_core.specs.Held.{LaneHasUnfinishedBelow, is_below, runs_below}
+use Rattle.wq_core.specs.Played.{CanMove}
+use Rattle.wq_core.proofs.DeclaredSteps.{CanMove-idle, CanMove-waiting, CanMove-awake, CanMove-within}
+use Rattle.wq_core.proofs.Unfinished.{unfinished_below}
+use Rattle.wq_checker.proofs.Decided.{Decided, both, not_so, alike, cases_below, cases_Any, cases_each_below}
+use Rattle.wq_checker.proofs.StuckStates.{cases_HasUnfinished, IsStuck-can_move, IsStuck-cannot_move}
+
+-- ---- some lane
+
+module _ (P : Lane → Type 0) (decide : (lane : Lane) → Decided (P lane)) where
+  cases_lane : (lanes : List Lane) → ((q : ℕ) × P (get_or lanes q idle_lane)) ⊎ ((q : ℕ) → ¬ P (get_or lanes q idle_lane))
+  cases_lane [] = elim (decide idle_lane) [ inl p ↦ inl (0, p) | inr none ↦ inr (λ q. none) ]
+  cases_lane (lane ∷ lanes) = elim (decide lane) [
+    | inl p ↦ inl (0, p)
+    | inr none ↦ elim (cases_lane lanes) [ inl some ↦ inl (suc some.0, some.1) | inr no_others ↦ inr (each none no_others) ]
+  ]
+    where
+      each : (¬ P lane) → ((q : ℕ) → ¬ P (get_or lanes q idle_lane)) → (q : ℕ) → ¬ P (get_or (lane ∷ lanes) q idle_lane)
+      each none no_others zero = none
+      each none no_others (suc q) = no_others q
+
+cases_HasPending : (s : State) (i : ℕ) → Decided (HasPending s i)
+cases_HasPending s i = elim (cases_lane (λ lane. Any (λ (e : Entry). e.item ≡ i) lane.pending) (λ lane. cases_Any (λ (e : Entry). e.item ≡ i) (λ e. cases_eq e.item i) lane.pending) s.lanes) [
+  | inl some ↦ inl (record { lane = some.0; entry = some.1.1; pending = (some.1.0, some.1.2, some.1.3); of_item = some.1.4 })
+  | inr none ↦ inr (λ h. none h.lane (h.pending.0, h.entry, h.pending.1, h.pending.2, h.of_item))
+]
+
+cases_test : {P : Type 0} (b : Bool) → (IsTrue b ↔ P) → Decided P
+cases_test true test = inl (test.0 refl)
+cases_test false test = inr (λ p. absurd (let e : false ≡ true = test.1 p in cc))
+
+cases_HasUnfinishedBelow : (s : State) (item mark : ℕ) → Decided (HasUnfinishedBelow s item mark)
+cases_HasUnfinishedBelow s item mark =
+    elim (cases_lane (λ lane. LaneHasUnfinishedBelow lane item mark) (λ lane. cases_test (list_any (is_below item mark) lane.pending || runs_below item mark lane.running) (unfinished_below lane item mark)) s.lanes) [
+      | inl some ↦ inl (record { lane = some.0; entry = some.1.entry; unfinished = some.1.unfinished; of_item = some.1.of_item; below = some.1.below })
+      | inr none ↦ inr (λ h. none h.lane (record { entry = h.entry; unfinished = h.unfinished; of_item = h.of_item; below = h.below }))
+    ]
+
+-- ---- what runs
+
+cases_awake : (o : Option Flush) → Decided (o ≡ None)
+cases_awake None = inl refl
+cases_awake (Some f) = inr (λ e. absurd cc)
+
+cases_ItemWaits : (waits : List (List Target)) (i j : ℕ) → Decided (ItemWaits waits i j)
+cases_ItemWaits waits i j = cases_Any (λ (t : Target). t.item ≡ j) (λ t. cases_eq t.item j) (targets_of waits i)
+
+module _ (w : Wiring) (s : State) where
+  -- what runs, and what is said of it
+  cases_runs : (lane : Lane) (P : Running → Type 0) → ((r : Running) → Decided (P r)) → Decided ((r : Running) × Runs lane r × P r)
+  cases_runs lane P decide = by_running lane.running refl
+    where
+      at : (r t : Running) → lane.running ≡ Some r → lane.running ≡ Some t → t ≡ r
+      at r t one other = let e : Some r ≡ Some t = sym one ∙ other in cc
+
+      by_running : (o : Option Running) → lane.running ≡ o → Decided ((r : Running) × Runs lane r × P r)
+      by_running None idle = inr (λ h. absurd (let e : None ≡ Some h.0 = sym idle ∙ h.1 in cc))
+      by_running (Some r) runs = elim (decide r) [ inl p ↦ inl (r, runs, p) | inr fails ↦ inr (λ h. fails (subst P (at r h.0 runs h.1) h.2)) ]
+
+  cases_MayWait : (b : ℕ) (r : Running) → Decided (MayWait w b r)
+  cases_MayWait b r =
+      alike {P = (r.waiting ≡ None) × (ItemWaits w.waits r.entry.item b × (r.made < length (declared_by w r.entry.item)))} (λ h. record { awake = h.0; declared = h.1.0; fewer = h.1.1 })
+      (λ may. (may.awake, (may.declared, may.fewer))) (both (cases_awake r.waiting) (both (cases_ItemWaits w.waits r.entry.item b) (cases_below r.made (length (declared_by w r.entry.item)))))
+
+  cases_MayGoOn : (b : ℕ) (r : Running) → Decided (MayGoOn s b r)
+  cases_MayGoOn b r = by_waiting r.waiting refl
+    where
+      by_waiting : (o : Option Flush) → r.waiting ≡ o → Decided (MayGoOn s b r)
+      by_waiting None awake = inr (λ may. absurd (let e : None ≡ Some may.flush = sym awake ∙ may.waits in cc))
+      by_waiting (Some f) waits =
+          alike (λ (h : (f.target ≡ b) × (¬ HasUnfinishedBelow s b f.mark)). record { flush = f; waits = waits; target = h.0; done = h.1 })
+          (λ (may : MayGoOn s b r).
+          let same : may.flush ≡ f = (let e : Some may.flush ≡ Some f = sym may.waits ∙ waits in cc) in
+          (ap (λ (x : Flush). x.target) (sym same) ∙ may.target, subst (λ (x : Flush). ¬ HasUnfinishedBelow s b x.mark) same may.done))
+          (both (cases_eq f.target b) (not_so (cases_HasUnfinishedBelow s b f.mark)))
+
+  cases_MayFinish : (i : ℕ) (r : Running) → Decided (MayFinish i r)
+  cases_MayFinish i r =
+      alike {P = (r.entry.item ≡ i) × (r.waiting ≡ None)} (λ h. record { entry = h.0; awake = h.1 }) (λ may. (may.entry, may.awake)) (both (cases_eq r.entry.item i) (cases_awake r.waiting))
+
+  cases_MayStart : (lane : Lane) (i : ℕ) → Decided (MayStart lane i)
+  cases_MayStart lane i = by_running lane.running refl
+    where
+      by_first : lane.running ≡ None → (o : Option Entry) → slice_get lane.pending 0 ≡ o → Decided (MayStart lane i)
+      by_first idle None none = inr (λ may. absurd (let e : None ≡ Some may.entry = sym none ∙ may.first in cc))
+      by_first idle (Some e) first =
+          alike (λ (of : e.item ≡ i). record { idle = idle; entry = e; first = first; of_item = of })
+          (λ (may : MayStart lane i). (let same : e ≡ may.entry = (let both_first : Some e ≡ Some may.entry = sym first ∙ may.first in cc) in ap (λ (x : Entry). x.item) same ∙ may.of_item)) (cases_eq e.item i)
+
+      by_running : (o : Option Running) → lane.running ≡ o → Decided (MayStart lane i)
+      by_running None idle = by_first idle (slice_get lane.pending 0) refl
+      by_running (Some r) runs = inr (λ may. absurd (let e : Some r ≡ None = sym runs ∙ may.idle in cc))
+
+  -- ---- steps
+
+  pub cases_Lawful : (step : Step) → Decided (Lawful w s step)
+  cases_Lawful (Queue i) = both (cases_below i (items w)) (not_so (cases_HasPending s i))
+  cases_Lawful (Cancel i) = cases_HasPending s i
+  cases_Lawful (Start q i) = cases_MayStart (lane_at s q) i
+  cases_Lawful (Wait q b) = cases_runs (lane_at s q) (MayWait w b) (cases_MayWait b)
+  cases_Lawful (Over q b) = cases_runs (lane_at s q) (MayGoOn s b) (cases_MayGoOn b)
+  cases_Lawful (Finish q i) = cases_runs (lane_at s q) (MayFinish i) (cases_MayFinish i)
+
+  cases_next : (b : ℕ) (o : Option Target) → Decided ((t : Target) × (o ≡ Some t) × (t.item ≡ b))
+  cases_next b None = inr (λ h. absurd (let e : None ≡ Some h.0 = h.1 in cc))
+  cases_next b (Some t) = alike (λ (of : t.item ≡ b). (t, refl, of)) (λ (h : (x : Target) × (Some t ≡ Some x) × (x.item ≡ b)). (let same : t ≡ h.0 = (let e : Some t ≡ Some h.0 = h.1 in cc) in ap (λ (x : Target). x.item) same ∙ h.2)) (cases_eq t.item b)
+
+  pub cases_KeepsOrder : (step : Step) → Decided (KeepsOrder w s step)
+  cases_KeepsOrder (Queue i) = inl tt
+  cases_KeepsOrder (Cancel i) = inl tt
+  cases_KeepsOrder (Start q i) = inl tt
+  cases_KeepsOrder (Wait q b) = cases_runs (lane_at s q) (λ r. (t : Target) × (slice_get (declared_by w r.entry.item) r.made ≡ Some t) × (t.item ≡ b)) (λ r. cases_next b (slice_get (declared_by w r.entry.item) r.made))
+  cases_KeepsOrder (Over q b) = inl tt
+  cases_KeepsOrder (Finish q i) = cases_runs (lane_at s q) (λ r. r.made ≡ length (declared_by w r.entry.item)) (λ r. cases_eq r.made (length (declared_by w r.entry.item)))
+
+  -- ---- lanes
+
+  cases_CanMove : (q : ℕ) → Decided (CanMove w s q)
+  cases_CanMove q = by_running (lane_at s q).running refl
+    where
+      by_waiting : (r : Running) → Runs (lane_at s q) r → (o : Option Flush) → r.waiting ≡ o → Decided (CanMove w s q)
+      by_waiting r runs None awake = inl (CanMove-awake w s q r runs awake)
+      by_waiting r runs (Some f) waits = elim (cases_HasUnfinishedBelow s f.target f.mark) [
+        | inl left ↦ cases_test false (CanMove-waiting w s q r runs f waits true ((λ e. left), (λ h. refl)))
+        | inr done ↦ cases_test true (CanMove-waiting w s q r runs f waits false ((λ e. absurd (let apart : false ≡ true = e in cc)), (λ h. absurd (done h))))
+      ]
+
+      by_running : (o : Option Running) → (lane_at s q).running ≡ o → Decided (CanMove w s q)
+      by_running None idle = cases_test (is_some (slice_get (lane_at s q).pending 0)) (CanMove-idle w s q idle (slice_get (lane_at s q).pending 0) refl (is_some (slice_get (lane_at s q).pending 0)) refl)
+      by_running (Some r) runs = by_waiting r runs r.waiting refl
+
+  cases_none_moves : Decided ((q : ℕ) → ¬ CanMove w s q)
+  cases_none_moves =
+      alike (λ (each : (q : ℕ) → q < length s.lanes → ¬ CanMove w s q) q can. each q (CanMove-within w s q can) can) (λ (none : (q : ℕ) → ¬ CanMove w s q) q within. none q)
+      (cases_each_below (λ q. ¬ CanMove w s q) (λ q. not_so (cases_CanMove q)) (length s.lanes))
+
+  pub cases_IsStuck : Decided (IsStuck w s)
+  cases_IsStuck = elim cases_none_moves [
+    | inl none ↦ elim (cases_HasUnfinished s) [
+      | inl left ↦ inl ((IsStuck-cannot_move w s none false ((λ e. absurd (let apart : false ≡ true = e in cc)), (λ nothing. absurd (nothing left)))).0 refl)
+      | inr nothing ↦ inr (λ stuck. nothing stuck.left)
+    ]
+    | inr some ↦ inr (λ stuck. some (λ q can. IsStuck-can_move w s q can stuck))
+  ]

@@ -1,0 +1,14 @@
+pub mod AnswersDecided
+pub mod Breaks
+pub mod Decided
+pub mod FallingLemmas
+pub mod FlushPlaces
+pub mod GoodAnswers
+pub mod GroupChains
+pub mod LawfulSteps
+pub mod OneAnswer
+pub mod PlayedRuns
+pub mod QueueCounts
+pub mod RunEndLemmas
+pub mod RunsDecided
+pub mod StuckStates

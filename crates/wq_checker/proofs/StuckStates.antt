@@ -1,0 +1,78 @@
+-- States in which an entry is unfinished and no lane can move.
+use Rattle.std.proofs.Common.{◌≡◌, ℕ, zero, suc, ◌⊎◌, inl, inr, ◌↔◌, Bool, true, false, not, List, [], ◌∷◌, get_or, Option, Some, None, refl, arith}
+use Rattle.std.specs.Prelude.{IsTrue}
+use Rattle.wq_core.specs.declared.entry.Entry.{Entry}
+use Rattle.wq_core.specs.declared.entry.Running.{Running}
+use Rattle.wq_core.specs.declared.step.Step.{Step}
+use Rattle.wq_core.specs.declared.step.Step.TheVariants.{Queue, Cancel, Start, Wait, Over, Finish}
+use Rattle.wq_core.specs.Wiring.{Wiring}
+use Rattle.wq_core.specs.State.{Lane, State, idle_lane, IsUnfinishedOn, HasUnfinished}
+use Rattle.wq_core.specs.Rules.{Lawful}
+use Rattle.wq_core.specs.Runs.{IsRescuerStep}
+use Rattle.wq_core.specs.Deadlock.{IsStuck}
+use Rattle.wq_core.specs.Played.{IsStepOf, CanMove}
+use Rattle.wq_core.proofs.LaneLemmas.{idle_lane-unfinished}
+
+-- ---- whether something is unfinished
+
+cases_unfinished_on : (lane : Lane) → ((e : Entry) × IsUnfinishedOn lane e) ⊎ ((e : Entry) → ¬ IsUnfinishedOn lane e)
+cases_unfinished_on lane = fields lane.pending lane.running
+  where
+    fields : (es : List Entry) (o : Option Running) → ((e : Entry) × IsUnfinishedOn (record { pending = es; running = o }) e) ⊎ ((e : Entry) → ¬ IsUnfinishedOn (record { pending = es; running = o }) e)
+    fields [] None = inr idle_lane-unfinished
+    fields [] (Some r) = inl (r.entry, inr (r, refl, refl))
+    fields (e ∷ es) o = inl (e, inl (0, omega arith, refl))
+
+cases_lanes : (lanes : List Lane) → ((q : ℕ) × ((e : Entry) × IsUnfinishedOn (get_or lanes q idle_lane) e)) ⊎ ((q : ℕ) (e : Entry) → ¬ IsUnfinishedOn (get_or lanes q idle_lane) e)
+cases_lanes [] = inr (λ q. idle_lane-unfinished)
+cases_lanes (lane ∷ lanes) = elim (cases_unfinished_on lane) [
+  | inl some ↦ inl (0, some)
+  | inr none ↦ elim (cases_lanes lanes) [
+    | inl some ↦ inl (suc some.0, some.1)
+    | inr no_others ↦ inr (each none no_others)
+  ]
+]
+  where
+    each : ((e : Entry) → ¬ IsUnfinishedOn lane e) → ((q : ℕ) (e : Entry) → ¬ IsUnfinishedOn (get_or lanes q idle_lane) e) → (q : ℕ) (e : Entry) → ¬ IsUnfinishedOn (get_or (lane ∷ lanes) q idle_lane) e
+    each none no_others zero e = none e
+    each none no_others (suc q) e = no_others q e
+
+pub cases_HasUnfinished : (s : State) → HasUnfinished s ⊎ (¬ HasUnfinished s)
+cases_HasUnfinished s = elim (cases_lanes s.lanes) [
+  | inl some ↦ inl (record { lane = some.0; entry = some.1.0; unfinished = some.1.1 })
+  | inr none ↦ inr (λ h. none h.lane h.entry h.unfinished)
+]
+
+-- ---- rescuer steps and lanes that move
+
+CanMove-rescuer : (w : Wiring) (s : State) (step : Step) → IsRescuerStep step → Lawful w s step → (q : ℕ) × CanMove w s q
+CanMove-rescuer w s (Queue i) is lawful = absurd is
+CanMove-rescuer w s (Cancel i) is lawful = absurd is
+CanMove-rescuer w s (Start q i) is lawful = (q, (Start q i, refl, lawful))
+CanMove-rescuer w s (Wait q b) is lawful = (q, (Wait q b, refl, lawful))
+CanMove-rescuer w s (Over q b) is lawful = (q, (Over q b, refl, lawful))
+CanMove-rescuer w s (Finish q i) is lawful = (q, (Finish q i, refl, lawful))
+
+IsRescuerStep-of_lane : (q : ℕ) (step : Step) → IsStepOf q step → IsRescuerStep step
+IsRescuerStep-of_lane q (Queue i) is = absurd is
+IsRescuerStep-of_lane q (Cancel i) is = absurd is
+IsRescuerStep-of_lane q (Start p i) is = tt
+IsRescuerStep-of_lane q (Wait p b) is = tt
+IsRescuerStep-of_lane q (Over p b) is = tt
+IsRescuerStep-of_lane q (Finish p i) is = tt
+
+-- ---- stuck
+
+module _ (w : Wiring) (s : State) where
+  -- where a lane can move, the state isn't stuck
+  pub IsStuck-can_move : (q : ℕ) → CanMove w s q → ¬ IsStuck w s
+  IsStuck-can_move q can stuck = stuck.no_step can.0 (IsRescuerStep-of_lane q can.0 can.1) can.2
+
+  -- where none can, it is stuck exactly where something is unfinished
+  pub IsStuck-cannot_move : ((q : ℕ) → ¬ CanMove w s q) → (idle : Bool) → (IsTrue idle ↔ (¬ HasUnfinished s)) → IsTrue (not idle) ↔ IsStuck w s
+  IsStuck-cannot_move none true both = ((λ e. absurd cc), (λ stuck. absurd (both.0 refl stuck.left)))
+  IsStuck-cannot_move none false both = ((λ e. stuck (cases_HasUnfinished s)), (λ stuck. refl))
+    where
+      stuck : HasUnfinished s ⊎ (¬ HasUnfinished s) → IsStuck w s
+      stuck (inl left) = record { left = left; no_step = λ step is lawful. let moves = CanMove-rescuer w s step is lawful in none moves.0 moves.1 }
+      stuck (inr nothing) = absurd (let e : false ≡ true = both.1 nothing in cc)

@@ -1,0 +1,37 @@
+-- Chains and circles of arcs, where an arc is an item and the target of its flush: they join by group.
+use Rattle.std.specs.Prelude.{◌≡◌, ℕ, ◌-◌, ◌<◌, ◌==◌, if◌then◌else◌, List, length, slice_index, slice_get, Option, Some, None}
+use Rattle.wq_items.specs.Table.{ItemWaits}
+use Rattle.wq_groups.specs.Declaration.{Declaration}
+
+-- two items are in one group
+abbrev pub ShareGroup : Declaration → ℕ → ℕ → Type 0
+ShareGroup d i j = slice_index d.group_of i ≡ slice_index d.group_of j
+
+-- the arc is a declared flush, and its item is in the group of the target of the arc before it, if there is one
+abbrev pub Joins : Declaration → Option (ℕ × ℕ) → ℕ × ℕ → Type 0
+Joins d None arc = ItemWaits d.waits arc.0 arc.1
+Joins d (Some before) arc = ItemWaits d.waits arc.0 arc.1 × ShareGroup d before.1 arc.0
+
+-- what stands before the arc at place k, where this stands before the first
+abbrev pub before_from : Option (ℕ × ℕ) → List (ℕ × ℕ) → ℕ → Option (ℕ × ℕ)
+before_from first arcs k = if k == 0 then first else slice_get arcs (k - 1)
+
+-- in a chain: nothing before the first
+abbrev pub before_in_chain : List (ℕ × ℕ) → ℕ → Option (ℕ × ℕ)
+before_in_chain arcs = before_from None arcs
+
+-- in a circle: the last before the first
+abbrev pub before_in_circle : List (ℕ × ℕ) → ℕ → Option (ℕ × ℕ)
+before_in_circle arcs = before_from (slice_get arcs (length arcs - 1)) arcs
+
+-- each arc joins the one before it
+abbrev pub AllJoin : Declaration → (ℕ → Option (ℕ × ℕ)) → List (ℕ × ℕ) → Type 0
+AllJoin d before arcs = (k : ℕ) (arc : ℕ × ℕ) → slice_get arcs k ≡ Some arc → Joins d (before k) arc
+
+-- arc `at`, counted from 1, is the first that doesn't
+pub record IsFirstBreak (d : Declaration) (before : ℕ → Option (ℕ × ℕ)) (arcs : List (ℕ × ℕ)) (at : ℕ) : Type 0 where
+  pub from_one : 0 < at
+  pub arc : ℕ × ℕ
+  pub stands : slice_get arcs (at - 1) ≡ Some arc
+  pub breaks : ¬ Joins d (before (at - 1)) arc
+  pub first : (k : ℕ) (other : ℕ × ℕ) → k < at - 1 → slice_get arcs k ≡ Some other → Joins d (before k) other

@@ -1,0 +1,24 @@
+-- What a yes implies, in words of lanes that wait and of runs.
+use Rattle.std.specs.Prelude.{◌≡◌, ℕ, ◌<◌, Result, Ok}
+use Rattle.wq_items.specs.Chain.{Circle}
+use Rattle.wq_groups.specs.Declaration.{Declaration}
+use Rattle.wq_groups.specs.Assignment.{Assignment, IsAssignment}
+use Rattle.wq_core.specs.Wiring.{LaneWaits, wiring}
+use Rattle.wq_core.specs.Deadlock.{IsSafe}
+use Rattle.wq_cert.specs.Certificate.{PlanCertificate, Certificate, OfPlan}
+use Rattle.wq_checker.specs.declared.answer.Yes.{Yes}
+use Rattle.wq_checker.specs.declared.answer.Yes.TheVariants as yes
+use Rattle.wq_checker.specs.declared.answer.No.{No}
+
+-- where the answer is yes to a plan, it has so many workqueues, and is safe
+abbrev pub YesIsSafe : Declaration → Certificate → Result Yes No → Type 0
+YesIsSafe d certificate answer =
+    (plan : PlanCertificate) (number : ℕ) → certificate ≡ OfPlan plan → answer ≡ Ok (yes.Plan number) → (plan.assignment.lanes ≡ number) × IsSafe (wiring d plan.assignment)
+
+-- and in every assignment to fewer the lanes wait in a circle
+abbrev pub FewerWaitInCircle : Declaration → Result Yes No → Type 0
+FewerWaitInCircle d answer = (number : ℕ) (b : Assignment) → answer ≡ Ok (yes.Plan number) → IsAssignment d.groups b → b.lanes < number → Circle (LaneWaits (wiring d b))
+
+-- where it is yes to a circle, in every assignment they do
+abbrev pub EachWaitsInCircle : Declaration → Result Yes No → Type 0
+EachWaitsInCircle d answer = (n : ℕ) (b : Assignment) → answer ≡ Ok (yes.Circle n) → IsAssignment d.groups b → Circle (LaneWaits (wiring d b))

@@ -1,0 +1,44 @@
+-- Searching: what is found in parts of a declaration, of a circle or of a run.
+use Rattle.std.specs.Prelude.{◌≡◌, ◌↔◌, ℕ, ◌<◌, nat_lt, if◌then◌else◌, Bool, IsTrue, List, Option, Some, None}
+use Rattle.wq_items.specs.declared.target.Target.{Target}
+use Rattle.wq_groups.specs.Declaration.{Declaration}
+use Rattle.wq_groups.specs.Assignment.{Assignment}
+use Rattle.wq_core.specs.declared.step.Step.{Step}
+use Rattle.wq_core.specs.Wiring.{Wiring}
+use Rattle.wq_core.specs.State.{empty_state}
+use Rattle.wq_core.specs.Runs.{IsRun, end_of, AsDeclaredFrom}
+use Rattle.wq_core.specs.Held.{Machine}
+use Rattle.wq_checker.specs.declared.falling.Flush.{Flush}
+use Rattle.wq_checker.specs.Falling.{Falls, Declares}
+
+-- of the flushes that `Of` has, this is the first by place that doesn't fall
+pub record IsFirstOf (d : Declaration) (a : Assignment) (Of : ℕ → Target → Type 0) (flush : Flush) : Type 0 where
+  pub there : Of flush.item flush.target
+  pub stays : ¬ Falls d a flush.item flush.target.item
+  pub first : (k : ℕ) (other : Target) → Of k other → other.place < flush.target.place → Falls d a k other.item
+
+-- it is found where there is one, and else each falls
+abbrev pub FindsFirst : Declaration → Assignment → (ℕ → Target → Type 0) → Option Flush → Type 0
+FindsFirst d a Of None = (k : ℕ) (target : Target) → Of k target → Falls d a k target.item
+FindsFirst d a Of (Some flush) = IsFirstOf d a Of flush
+
+-- the flushes of item i
+abbrev pub OfItem : Declaration → ℕ → ℕ → Target → Type 0
+OfItem d i k target = (k ≡ i) × Declares d k target
+
+-- the flushes of the items below n
+abbrev pub OfItemsBelow : Declaration → ℕ → ℕ → Target → Type 0
+OfItemsBelow d n k target = (k < n) × Declares d k target
+
+-- the one of lower place, where there are two
+abbrev pub earlier : Option Flush → Option Flush → Option Flush
+earlier None other = other
+earlier (Some one) None = Some one
+earlier (Some one) (Some other) = if nat_lt other.target.place one.target.place then Some other else Some one
+
+-- the steps are a run, which leaves this machine; `in_order` says whether what ran flushed as declared
+pub record IsPlayed (w : Wiring) (steps : List Step) (in_order : Bool) (m : Machine) : Type 0 where
+  pub run : IsRun w steps
+  pub wiring : m.wiring ≡ w
+  pub state : m.state ≡ end_of w steps
+  pub declared : IsTrue in_order ↔ AsDeclaredFrom w (empty_state w) steps

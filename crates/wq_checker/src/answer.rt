@@ -1,0 +1,48 @@
+//! What is answered to a certificate.
+//!
+//! Nothing is computed here but numbers of refusals, in constant time.
+
+ghost use Rattle.std.specs.Prelude.{◌≡◌};
+ghost use Rattle.wq_checker.specs.Codes.{no_code};
+
+use wq_items::ItemId;
+
+/// What a certificate shows.
+#[derive(Clone, Copy, Debug, PartialEq, Eq)]
+pub enum Yes {
+    /// The assignment is safe, and no fewer workqueues are enough than this number.
+    Plan { number: u32 },
+    /// The groups wait in a circle of so many arcs.
+    Circle { length: u32 },
+}
+
+/// Why a certificate shows nothing: the first of these that stands.
+#[derive(Clone, Copy, Debug, PartialEq, Eq)]
+pub enum No {
+    /// The first flush, by place, that doesn't fall: the workqueue of its item isn't above that of its target (50).
+    NotFalling { item: ItemId, target: ItemId },
+    /// The chain hasn't as many groups as there are workqueues (52).
+    LengthDiffers,
+    /// Arc `at` of the chain, counted from 1, is no declared flush, or its item isn't in the group of the target of the arc
+    /// before it; 0 where a chain of one group lacks its group (51).
+    ChainBroken { at: u32 },
+    /// The same for the arcs of a circle, where the first joins the last (53).
+    CircleBroken { at: u32 },
+    /// The steps are no deadlocking run of the assignment in which each group has a workqueue of its own (54).
+    RunBroken,
+}
+
+impl No {
+    /// The number of the reason: from 50 to 54.
+    pub fn code(self) -> u32
+        ensures { result ≡ no_code self }
+    {
+        match self {
+            No::NotFalling { .. } => 50,
+            No::ChainBroken { .. } => 51,
+            No::LengthDiffers => 52,
+            No::CircleBroken { .. } => 53,
+            No::RunBroken => 54,
+        }
+    }
+}

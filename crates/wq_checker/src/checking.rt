@@ -1,0 +1,180 @@
+//! Whether a certificate shows what it says.
+//!
+//! Of a plan: each declared flush goes to a workqueue with a lower number, so it is safe; and a chain of as many groups as
+//! there are workqueues shows that fewer make workqueues wait in a circle. Of a circle: its arcs go round groups, and its
+//! run, where there is one, ends in a deadlock. The rules are those of "Certificates" in docs/FORMAT.md. A plan takes time
+//! in the number of items and flushes, and no memory; the run of a circle that of `check_run`.
+
+ghost use Rattle.std.specs.Prelude.{◌≡◌, ◌<◌, ◌≤◌, ◌↔◌, IsTrue, IfOk, IfSome, option_map, length};
+ghost use Rattle.wq_groups.specs.Declaration.{declaration_of};
+ghost use Rattle.wq_core.specs.Wiring.{wiring, own_lanes};
+ghost use Rattle.wq_core.specs.Deadlock.{DeadlocksBy};
+ghost use Rattle.wq_cert.specs.Certificate.{certificate};
+ghost use Rattle.wq_checker.specs.declared.run.RunEnd.TheVariants.{Deadlock};
+ghost use Rattle.wq_checker.specs.Answers.{IsAsked, IsPlanAsked, IsCircleAsked, AnswersPlan, AnswersCircle, AnswersCertificate, ShowsDeadlock};
+ghost use Rattle.wq_checker.specs.Implications.{YesIsSafe, FewerWaitInCircle, EachWaitsInCircle};
+
+use crate::answer::{No, Yes};
+use crate::chains::first_break;
+use crate::falling::first_not_falling;
+use crate::run::RunEnd;
+use crate::running::check_run;
+use std::alloc::{AllocError, Allocator};
+use wq_cert::CertAnswer;
+use wq_core::Step;
+use wq_groups::{Assignment, Groups, LaneId};
+use wq_items::{ItemId, ItemTable};
+
+/// What is answered to the text of a plan.
+fn check_plan<A: Allocator + Copy>(
+    table: &ItemTable<'_, A>,
+    groups: &Groups<A>,
+    assignment: &Assignment<A>,
+    chain: u32,
+    arcs: &[(ItemId, ItemId)],
+) -> Result<Yes, No>
+    requires grouped { length groups.now.group_of ≡ length table.now.names }
+    requires asked { IsPlanAsked (declaration_of table.now groups.now) (record { assignment = assignment.now; length = chain; arcs = arcs.now }) }
+    ensures { AnswersPlan (declaration_of table.now groups.now) (record { assignment = assignment.now; length = chain; arcs = arcs.now }) result }
+{
+    if let Some((item, target)) = first_not_falling(table, groups, assignment) {
+        return Err(No::NotFalling { item, target });
+    }
+    if chain != u32::from(assignment.lanes()) {
+        return Err(No::LengthDiffers);
+    }
+    if chain == 1 && groups.len() == 0 {
+        return Err(No::ChainBroken { at: 0 });
+    }
+    match first_break(table, groups, None, arcs) {
+        Some(at) => Err(No::ChainBroken { at }),
+        None => Ok(Yes::Plan { number: chain }),
+    }
+}
+
+/// The assignment in which each of so many groups has a workqueue of its own, with its number.
+fn own_lanes<A: Allocator + Copy>(alloc: A, groups: u16) -> Result<Assignment<A>, AllocError>
+    requires { groups ≤ 4096 }
+    ensures { IfOk result (λ a. a ≡ own_lanes groups) }
+{
+    let mut lanes = Vec::with_capacity(alloc, usize::from(groups))?;
+    for group in 0..groups {
+        lanes.push(LaneId::new(group))?;
+    }
+    Ok(Assignment::new(groups, lanes).unwrap())
+}
+
+/// Whether a run ends in a deadlock.
+fn is_deadlock(end: RunEnd) -> bool
+    ensures { IsTrue result ↔ (end ≡ Deadlock) }
+{
+    match end {
+        RunEnd::Deadlock => true,
+        RunEnd::NotLawful(_) | RunEnd::Stuck | RunEnd::Free => false,
+    }
+}
+
+/// Whether steps are a run that deadlocks where each group has a workqueue of its own.
+fn deadlocks<A: Allocator + Copy>(
+    alloc: A,
+    table: &ItemTable<'_, A>,
+    groups: &Groups<A>,
+    steps: &[Step],
+) -> Result<bool, AllocError>
+    requires grouped { length groups.now.group_of ≡ length table.now.names }
+    requires few { length steps.now < 4294967295 }
+    ensures { IfOk result (λ b. IsTrue b ↔ DeadlocksBy (wiring (declaration_of table.now groups.now) (own_lanes groups.now.groups)) steps.now) }
+{
+    let assignment = own_lanes(alloc, groups.len())?;
+    let end = check_run(alloc, table, groups, &assignment, steps)?;
+    Ok(is_deadlock(end))
+}
+
+/// Whether the steps, if there are any, are such a run.
+fn show_deadlock<A: Allocator + Copy>(
+    alloc: A,
+    table: &ItemTable<'_, A>,
+    groups: &Groups<A>,
+    steps: &Option<Vec<Step, A>>,
+) -> Result<bool, AllocError>
+    requires grouped { length groups.now.group_of ≡ length table.now.names }
+    requires few { IfSome steps.now (λ s. length s.items < 4294967295) }
+    ensures { IfOk result (λ b. IsTrue b ↔ ShowsDeadlock (declaration_of table.now groups.now) (option_map (λ s. s.items) steps.now)) }
+{
+    match steps {
+        Some(steps) => deadlocks(alloc, table, groups, steps.as_slice()),
+        None => Ok(true),
+    }
+}
+
+/// What is answered to the text of a circle.
+fn check_circle<A: Allocator + Copy>(
+    alloc: A,
+    table: &ItemTable<'_, A>,
+    groups: &Groups<A>,
+    arcs: &[(ItemId, ItemId)],
+    steps: &Option<Vec<Step, A>>,
+) -> Result<Result<Yes, No>, AllocError>
+    requires grouped { length groups.now.group_of ≡ length table.now.names }
+    requires asked { IsCircleAsked (declaration_of table.now groups.now) (record { arcs = arcs.now; steps = option_map (λ s. s.items) steps.now }) }
+    ensures { IfOk result (λ answer. AnswersCircle (declaration_of table.now groups.now) (record { arcs = arcs.now; steps = option_map (λ s. s.items) steps.now }) answer) }
+{
+    if let Some(at) = first_break(table, groups, arcs.last().copied(), arcs) {
+        return Ok(Err(No::CircleBroken { at }));
+    }
+    if show_deadlock(alloc, table, groups, steps)? {
+        Ok(Ok(Yes::Circle {
+            length: arcs.len() as u32,
+        }))
+    } else {
+        Ok(Err(No::RunBroken))
+    }
+}
+
+/// What is answered to a certificate.
+fn check_certificate<A: Allocator + Copy>(
+    alloc: A,
+    table: &ItemTable<'_, A>,
+    groups: &Groups<A>,
+    answer: &CertAnswer<A>,
+) -> Result<Result<Yes, No>, AllocError>
+    requires grouped { length groups.now.group_of ≡ length table.now.names }
+    requires asked { IsAsked (declaration_of table.now groups.now) (certificate answer.now) }
+    ensures { IfOk result (λ r. AnswersCertificate (declaration_of table.now groups.now) (certificate answer.now) r) }
+{
+    match answer {
+        CertAnswer::Plan {
+            assignment,
+            length,
+            arcs,
+        } => Ok(check_plan(table, groups, assignment, *length, arcs.as_slice())),
+        CertAnswer::Circle { arcs, steps } => {
+            check_circle(alloc, table, groups, arcs.as_slice(), steps)
+        }
+    }
+}
+
+/// What is answered to a certificate: what it shows, or the first reason why it shows nothing.
+///
+/// It is one of the declaration, as every certificate is that is read: its assignment has a lane for each group, its arcs
+/// are of items, and their number is one less than the length of the chain (none for 0), or from 1 to 4,096 in a circle;
+/// and it has fewer than 4,294,967,295 steps. A yes to a plan implies that it is safe, and that in every assignment to
+/// fewer workqueues these wait in a circle; a yes to a circle, that in every assignment they do. The only error is want of
+/// memory (20).
+pub fn check_answer<A: Allocator + Copy>(
+    alloc: A,
+    table: &ItemTable<'_, A>,
+    groups: &Groups<A>,
+    answer: &CertAnswer<A>,
+) -> Result<Result<Yes, No>, AllocError>
+    requires grouped { length groups.now.group_of ≡ length table.now.names }
+    requires asked { IsAsked (declaration_of table.now groups.now) (certificate answer.now) }
+    ensures answer { IfOk result (λ r. AnswersCertificate (declaration_of table.now groups.now) (certificate answer.now) r) }
+    ensures safe { IfOk result (λ r. YesIsSafe (declaration_of table.now groups.now) (certificate answer.now) r) }
+    ensures fewer { IfOk result (λ r. FewerWaitInCircle (declaration_of table.now groups.now) r) }
+    ensures circle { IfOk result (λ r. EachWaitsInCircle (declaration_of table.now groups.now) r) }
+{
+    let _items = table.len();
+    let _groups = groups.len();
+    check_certificate(alloc, table, groups, answer)
+}

@@ -1,0 +1,43 @@
+//! Laws of answers and of ends, as contracts of functions with empty bodies.
+//!
+//! They are said of declarations, certificates and lists of steps alone, whatever code checks them.
+
+ghost use Rattle.std.specs.Prelude.{◌≡◌, ◌<◌, List, Result};
+ghost use Rattle.wq_items.specs.Chain.{Circle};
+ghost use Rattle.wq_groups.specs.Declaration.{Declaration, IsDeclaration};
+ghost use Rattle.wq_groups.specs.Assignment.{Assignment, IsAssignment};
+ghost use Rattle.wq_core.specs.declared.step.Step.{Step};
+ghost use Rattle.wq_core.specs.Wiring.{Wiring, LaneWaits, wiring};
+ghost use Rattle.wq_core.specs.Deadlock.{IsSafe};
+ghost use Rattle.wq_cert.specs.Certificate.{PlanCertificate, CircleCertificate, Certificate};
+ghost use Rattle.wq_checker.specs.declared.answer.Yes.{Yes};
+ghost use Rattle.wq_checker.specs.declared.answer.No.{No};
+ghost use Rattle.wq_checker.specs.declared.run.RunEnd.{RunEnd};
+ghost use Rattle.wq_checker.specs.Answers.{IsGoodPlan, IsGoodCircle, IsPlanAsked, IsCircleAsked, IsAsked, AnswersCertificate};
+ghost use Rattle.wq_checker.specs.RunEnds.{EndsAs};
+
+/// A good plan is safe, and in every assignment to fewer workqueues these wait in a circle.
+pub fn a_good_plan_is_safe_and_fewer_wait_in_a_circle()
+    ensures safe { (d : Declaration) (c : PlanCertificate) → IsDeclaration d → IsGoodPlan d c → IsSafe (wiring d c.assignment) }
+    ensures fewer { (d : Declaration) (c : PlanCertificate) (b : Assignment) → IsDeclaration d → IsPlanAsked d c → IsGoodPlan d c →
+        IsAssignment d.groups b → b.lanes < c.assignment.lanes → Circle (LaneWaits (wiring d b)) }
+{}
+
+/// Where a circle is good, the workqueues of every assignment wait in a circle.
+pub fn a_good_circle_is_one_in_every_assignment()
+    ensures { (d : Declaration) (c : CircleCertificate) (b : Assignment) → IsDeclaration d → IsCircleAsked d c → IsGoodCircle d c →
+        IsAssignment d.groups b → Circle (LaneWaits (wiring d b)) }
+{}
+
+/// A certificate has one answer, and no other.
+pub fn a_certificate_has_one_answer()
+    ensures one { (d : Declaration) (c : Certificate) → IsDeclaration d → (r : Result Yes No) × AnswersCertificate d c r }
+    ensures at_most_one { (d : Declaration) (c : Certificate) (r s : Result Yes No) → IsDeclaration d → IsAsked d c →
+        AnswersCertificate d c r → AnswersCertificate d c s → r ≡ s }
+{}
+
+/// A list of steps has one end, and no other.
+pub fn steps_have_one_end()
+    ensures one { (w : Wiring) (steps : List Step) → (end : RunEnd) × EndsAs w steps end }
+    ensures at_most_one { (w : Wiring) (steps : List Step) (r s : RunEnd) → EndsAs w steps r → EndsAs w steps s → r ≡ s }
+{}

@@ -1,0 +1,75 @@
+//! Whether each item is queued once, and none cancelled.
+//!
+//! The queueings of all items are counted in one pass. It takes time in the number of steps and of items, and memory in
+//! the number of items.
+
+ghost use Rattle.std.specs.Prelude.{◌≡◌, ◌<◌, ◌↔◌, ℕ, IsTrue, IfOk, length, slice_index};
+ghost use Rattle.std.specs.List.{All, count_by};
+ghost use Rattle.wq_core.specs.declared.step.Step.{Step};
+ghost use Rattle.wq_core.specs.Runs.{queues, IsCancel, IsOnce};
+
+use std::alloc::{AllocError, Allocator};
+use wq_core::{Core, Step};
+
+/// Whether a step is no cancellation.
+fn cancels_none(step: Step) -> bool
+    ensures { IsTrue result ↔ (¬ IsCancel step) }
+{
+    match step {
+        Step::Cancel(_) => false,
+        Step::Queue(_) | Step::Start(..) | Step::Wait(..) | Step::Over(..) | Step::Finish(..) =>
+            true,
+    }
+}
+
+/// Whether no step is a cancellation.
+fn none_cancels(steps: &[Step]) -> bool
+    ensures { IsTrue result ↔ All (λ (step : Step). ¬ IsCancel step) steps.now }
+{
+    steps.iter().all(|step| cancels_none(*step))
+}
+
+/// Of each of so many items in turn how often it is queued.
+fn count_queueings<A: Allocator + Copy>(
+    alloc: A,
+    items: usize,
+    steps: &[Step],
+) -> Result<Vec<u32, A>, AllocError>
+    requires { length steps.now < 4294967295 }
+    ensures len { IfOk result (λ counts. length counts.items ≡ items) }
+    ensures counts { IfOk result (λ counts. (i : ℕ) → i < items → slice_index counts.items i ≡ count_by (λ (step : Step). queues i step) steps.now) }
+{
+    let mut counts = vec![in alloc; 0; items]?;
+    for step in steps {
+        if let Step::Queue(item) = step {
+            let item = usize::from(item.get());
+            if item < items {
+                counts[item] += 1;
+            }
+        }
+    }
+    Ok(counts)
+}
+
+/// Whether each number is one.
+fn are_one(counts: &[u32]) -> bool
+    ensures { IsTrue result ↔ All (λ n. n ≡ 1) counts.now }
+{
+    counts.iter().all(|n| *n == 1)
+}
+
+/// Whether each item is queued exactly once, and none is cancelled.
+pub(crate) fn is_once<A: Allocator + Copy>(
+    alloc: A,
+    core: &Core<A>,
+    steps: &[Step],
+) -> Result<bool, AllocError>
+    requires { length steps.now < 4294967295 }
+    ensures { IfOk result (λ b. IsTrue b ↔ IsOnce core.now.wiring steps.now) }
+{
+    if !none_cancels(steps) {
+        return Ok(false);
+    }
+    let counts = count_queueings(alloc, core.items(), steps)?;
+    Ok(are_one(counts.as_slice()))
+}

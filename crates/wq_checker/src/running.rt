@@ -1,0 +1,112 @@
+//! How a list of steps ends.
+//!
+//! The steps are made on the core machine, from the empty state on, by its rules ("Rules" in the specs of wq_core). It takes
+//! time in the number of steps and of what each of them takes, and memory in the number of items, flushes and lanes.
+
+ghost use Rattle.std.specs.Prelude.{◌≡◌, ◌<◌, ◌↔◌, IsTrue, IfOk, IfErr, length};
+ghost use Rattle.wq_groups.specs.Declaration.{declaration_of};
+ghost use Rattle.wq_core.specs.Wiring.{wiring};
+ghost use Rattle.wq_core.specs.State.{empty_state};
+ghost use Rattle.wq_core.specs.Rules.{Lawful};
+ghost use Rattle.wq_core.specs.Runs.{KeepsOrder};
+ghost use Rattle.wq_core.specs.Deadlock.{IsStuck};
+ghost use Rattle.wq_core.specs.Played.{IsDeclaredStep};
+ghost use Rattle.wq_checker.specs.RunEnds.{IsFirstUnlawful, EndsAs};
+ghost use Rattle.wq_checker.specs.Searching.{IsPlayed};
+
+use crate::once::is_once;
+use crate::run::RunEnd;
+use std::alloc::{AllocError, Allocator};
+use wq_core::{Core, Step};
+use wq_groups::{Assignment, Groups, LaneId};
+use wq_items::ItemTable;
+
+/// Whether the step is the one that the lane can make where what it runs flushes as declared.
+fn is_declared<A: Allocator>(core: &Core<A>, q: LaneId, step: Step) -> bool
+    ensures { IsTrue result ↔ IsDeclaredStep core.now.wiring core.now.state q step }
+{
+    match core.declared(q) {
+        Some(declared) => declared == step,
+        None => false,
+    }
+}
+
+/// Whether a lawful step keeps to the order of the declaration.
+fn keeps_order<A: Allocator>(core: &Core<A>, step: Step) -> bool
+    ensures { Lawful core.now.wiring core.now.state step → IsTrue result ↔ KeepsOrder core.now.wiring core.now.state step }
+{
+    match step {
+        Step::Queue(_) | Step::Cancel(_) | Step::Start(..) | Step::Over(..) => true,
+        Step::Wait(q, _) | Step::Finish(q, _) => is_declared(core, q, step),
+    }
+}
+
+/// Makes the steps on a machine on which nothing was queued yet: whether what ran flushed as declared. The error is the
+/// number, counted from 1, of the first step that isn't lawful.
+fn play<A: Allocator>(core: &mut Core<A>, steps: &[Step]) -> Result<bool, u32>
+    requires empty { core.old.state ≡ empty_state core.old.wiring }
+    requires few { length steps.now < 4294967295 }
+    ensures played { IfOk result (λ in_order. IsPlayed core.old.wiring steps.now in_order core.new) }
+    ensures unlawful { IfErr result (λ n. IsFirstUnlawful core.old.wiring steps.now n) }
+{
+    let mut in_order = true;
+    let mut made = 0;
+    for step in steps {
+        made += 1;
+        let keeps = keeps_order(core, *step);
+        if core.step(*step).is_err() {
+            return Err(made);
+        }
+        in_order = in_order && keeps;
+    }
+    Ok(in_order)
+}
+
+/// Whether an entry is unfinished, and no lane can move.
+fn is_stuck<A: Allocator>(core: &Core<A>) -> bool
+    ensures { IsTrue result ↔ IsStuck core.now.wiring core.now.state }
+{
+    core.enabled().is_none() && !core.is_idle()
+}
+
+/// How a run ends that leaves this machine.
+fn end_of<A: Allocator + Copy>(
+    alloc: A,
+    core: &Core<A>,
+    steps: &[Step],
+    in_order: bool,
+) -> Result<RunEnd, AllocError>
+    requires few { length steps.now < 4294967295 }
+    requires played { IsPlayed core.now.wiring steps.now in_order core.now }
+    ensures { IfOk result (λ end. EndsAs core.now.wiring steps.now end) }
+{
+    if !is_stuck(core) {
+        return Ok(RunEnd::Free);
+    }
+    if in_order && is_once(alloc, core, steps)? {
+        Ok(RunEnd::Deadlock)
+    } else {
+        Ok(RunEnd::Stuck)
+    }
+}
+
+/// How a list of fewer than 4,294,967,295 steps ends under an assignment of the groups. The only error is want of memory
+/// (20).
+pub fn check_run<A: Allocator + Copy>(
+    alloc: A,
+    table: &ItemTable<'_, A>,
+    groups: &Groups<A>,
+    assignment: &Assignment<A>,
+    steps: &[Step],
+) -> Result<RunEnd, AllocError>
+    requires grouped { length groups.now.group_of ≡ length table.now.names }
+    requires assigned { length assignment.now.lane_of_group ≡ groups.now.groups }
+    requires few { length steps.now < 4294967295 }
+    ensures { IfOk result (λ end. EndsAs (wiring (declaration_of table.now groups.now) assignment.now) steps.now end) }
+{
+    let mut core = Core::new(alloc, table, groups, assignment)?;
+    match play(&mut core, steps) {
+        Ok(in_order) => end_of(alloc, &core, steps, in_order),
+        Err(at) => Ok(RunEnd::NotLawful(at)),
+    }
+}
