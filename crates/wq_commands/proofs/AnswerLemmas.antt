@@ -39,7 +39,7 @@ use Rattle.wq_plan.proofs.Plans.{length-group_graph}
 use Rattle.wq_plan.proofs.Plans.{IsPlan-lanes}
 use Rattle.wq_commands.specs.declared.end.End.{End}
 use Rattle.wq_commands.specs.declared.end.End.TheVariants.{Refused}
-use Rattle.wq_commands.specs.PlanText.{ends_of}
+use Rattle.wq_commands.specs.Answer.{ends_of}
 use Rattle.wq_commands.specs.Answer.{Answers, AnswersDeclared, refusal_text, declared_waits}
 use Rattle.wq_meter.specs.Meter.{Meter, count_after}
 use Rattle.wq_commands.specs.Run.{IsInput, AnswersInput}
@@ -106,7 +106,7 @@ IsArc-joins s a sound arc =
 
 -- few arcs that join items
 pub record ArePrintable (t : Table) (arcs : List (ℕ × ℕ)) : Type 0 where
-  pub few : length arcs < 2 ^ 16
+  pub few : length arcs ≤ 4096
   pub items : All (JoinsItems t) arcs
 
 printable : (s : Declared) (arcs : List WaitArc) (ends : List (ℕ × ℕ)) → IsSound s → length arcs ≤ 4096 → All (IsArc s.table.waits s.partition.group_of) arcs → ends ≡ map ends_of arcs

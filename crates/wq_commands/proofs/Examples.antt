@@ -1,5 +1,5 @@
 -- Answers, computed.
-use Rattle.std.proofs.Common.{◌≡◌, ℕ, zero, suc, ◌<◌, ◌≤◌, List, [], ◌∷◌, codes, refl, sym, subst, ◌∙◌, ap, arith, Some}
+use Rattle.std.proofs.Common.{◌≡◌, ℕ, zero, suc, ◌<◌, ◌≤◌, List, [], ◌∷◌, codes, refl, sym, subst, ◌∙◌, ap, arith, Some, None}
 use Rattle.std.specs.Prelude.{slice_get, map}
 use Rattle.std.proofs.lemmas.Fmt.{decimal_digit, decimal-digits_of}
 use Rattle.std.proofs.lemmas.List.Elements.{All-from_recursion}
@@ -14,8 +14,9 @@ use Rattle.wq_graph.specs.Graph.{HasArc, group_graph}
 use Rattle.wq_levels.specs.Walks.{Remains, IsWalkedCircle}
 use Rattle.wq_plan.specs.Plan.{chain_of}
 use Rattle.wq_commands.specs.declared.end.End.TheVariants.{Good, Bad, Refused}
-use Rattle.wq_commands.specs.PlanText.{plan_text, item_lanes, ends_of}
-use Rattle.wq_commands.specs.CircleText.{circle_text}
+use Rattle.wq_cert.specs.PlanText.{plan_text, item_lanes}
+use Rattle.wq_commands.specs.Answer.{ends_of}
+use Rattle.wq_cert.specs.CircleText.{circle_text}
 use Rattle.wq_commands.specs.Answer.{Answers, refusal_text}
 
 -- ---- an item that is used before its line
@@ -65,7 +66,7 @@ module _ (arc : WaitArc) (own : arc.head ≡ 0) where
     once = λ i j d apart within. absurd (omega (arith, apart, within));
   }
 
-circle_of_a : codes "circle 1\narc a a\n" ≡ circle_text (codes "a" ∷ []) ((0, 0) ∷ [])
+circle_of_a : codes "circle 1\narc a a\n" ≡ circle_text (codes "a" ∷ []) ((0, 0) ∷ []) None
 circle_of_a = rw (decimal_digit 1 (omega arith)) refl
 
 pub self_flush : Answers (codes "item a\nflush a a\n") Bad (codes "circle 1\narc a a\n")
@@ -73,7 +74,7 @@ self_flush =
     let arc : WaitArc = record { src = 0; dst = 0; head = 0; place = 0 } in
     (arc ∷ [], round arc refl, circle_of_a)
 
-circle_of_ordered : codes "circle 1\narc a b\n" ≡ circle_text (codes "a" ∷ codes "b" ∷ []) ((0, 1) ∷ [])
+circle_of_ordered : codes "circle 1\narc a b\n" ≡ circle_text (codes "a" ∷ codes "b" ∷ []) ((0, 1) ∷ []) None
 circle_of_ordered = rw (decimal_digit 1 (omega arith)) refl
 
 pub ordered_flush : Answers (codes "item a\nitem b\nordered a b\nflush a b\n") Bad (codes "circle 1\narc a b\n")

@@ -1,7 +1,7 @@
 pub mod AnswerLemmas
 pub mod Examples
 pub mod Existence
-pub mod LineLemmas
-pub mod ItemLanes
 pub mod TextLength
 pub mod Uniqueness
+pub mod CheckLemmas
+pub mod InputLemmas

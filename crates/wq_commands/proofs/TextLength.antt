@@ -1,5 +1,5 @@
 -- How long a plan text can be.
-use Rattle.std.proofs.Common.{◌≡◌, ℕ, zero, suc, ◌+◌, ◌*◌, ◌<◌, ◌≤◌, ◌==◌, ◌&&◌, nat_le, Bool, true, false, cond, inl, inr, List, [], ◌∷◌, ◌++◌, length, map, slice_index, refl, subst, arith, length-append}
+use Rattle.std.proofs.Common.{◌≡◌, ℕ, zero, suc, ◌+◌, ◌*◌, ◌<◌, ◌≤◌, ◌==◌, ◌&&◌, nat_le, Bool, true, false, cond, inl, inr, List, [], ◌∷◌, ◌++◌, length, map, slice_index, refl, subst, arith, length-append, None, append-nil, ap}
 use Rattle.std.proofs.Math.Nat.{mul-suc}
 use Rattle.std.proofs.lemmas.Bool.{cases_lt, leb-true}
 use Rattle.std.proofs.lemmas.Bool.Decides.{nat_tests}
@@ -18,13 +18,14 @@ use Rattle.wq_plan.specs.Plan.{IsPlan, chain_of}
 use Rattle.wq_plan.specs.LongestChain.{IsLongestChain}
 use Rattle.wq_plan.proofs.LongestChain.{chain_of-longest}
 use Rattle.wq_plan.proofs.Plans.{IsPlan-lanes}
-use Rattle.wq_commands.specs.LineText.{spaced, line_text}
-use Rattle.wq_commands.specs.PlanText.{name_of, items_on, plan_line, wq_line, chain_line, arc_line, plan_text, item_lanes, ends_of}
-use Rattle.wq_commands.specs.CircleText.{circle_line, circle_text}
+use Rattle.wq_cert.specs.LineText.{spaced, line_text}
+use Rattle.wq_cert.specs.PlanText.{name_of, items_on, plan_line, wq_line, chain_line, arc_line, plan_text, item_lanes}
+use Rattle.wq_commands.specs.Answer.{ends_of}
+use Rattle.wq_cert.specs.CircleText.{circle_line, circle_text}
 use Rattle.wq_commands.specs.Answer.{declared_waits, text_of_plan, text_of_circle}
 use Rattle.wq_commands.specs.Declaration.{Declared}
 use Rattle.wq_commands.proofs.AnswerLemmas.{IsSound, IsDeclaration-sound, IsWalkedCircle-short}
-use Rattle.wq_commands.proofs.LineLemmas.{plan_text-parts}
+use Rattle.wq_cert.proofs.LineLemmas.{plan_text-parts}
 
 -- ---- sums of lengths
 
@@ -186,12 +187,15 @@ module _ (names : List (List ℕ)) (lane : List ℕ) (named : All (λ (name : Li
         length-arc_lines chain,
       ))
 
-  pub length-circle_text : (arcs : List (ℕ × ℕ)) → length arcs ≤ 4096 → length (circle_text names arcs) ≤ 8388608
+  pub length-circle_text : (arcs : List (ℕ × ℕ)) → length arcs ≤ 4096 → length (circle_text names arcs None) ≤ 8388608
   length-circle_text arcs few =
       let first = line_text (circle_line arcs) in
-      let lines = flat_map line_text (map (arc_line names) arcs) in
+      let lines = flat_map line_text (map (arc_line names) arcs ++ []) in
+      let same : length lines ≡ length (flat_map line_text (map (arc_line names) arcs)) =
+      ap (λ (ls : List (List (List ℕ))). length (flat_map line_text ls)) (append-nil (map (arc_line names) arcs)) in
       omega (
         arith,
+        same,
         length-append first lines,
         length-line_text (codes "circle") (decimal (length arcs) ∷ []),
         length-spaced (decimal (length arcs)) [],

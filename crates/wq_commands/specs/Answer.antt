@@ -1,5 +1,5 @@
 -- The answer to a declaration text: what is printed, and how the run ends.
-use Rattle.std.specs.Prelude.{◌≡◌, ℕ, List, [], ◌∷◌, map, codes, decimal, MatchResult}
+use Rattle.std.specs.Prelude.{◌≡◌, ℕ, List, [], ◌∷◌, map, codes, decimal, MatchResult, None}
 use Rattle.wq_text.specs.Refusal.{Refusal}
 use Rattle.wq_groups.specs.Declaration.{Declaration, declaration_of}
 use Rattle.wq_groups.specs.Assignment.{Assignment}
@@ -9,18 +9,26 @@ use Rattle.wq_levels.specs.Walks.{IsWalkedCircle}
 use Rattle.wq_plan.specs.Plan.{IsPlan, chain_of}
 use Rattle.wq_commands.specs.declared.end.End.{End}
 use Rattle.wq_commands.specs.declared.end.End.TheVariants.{Good, Bad, Refused}
-use Rattle.wq_commands.specs.LineText.{line_text}
-use Rattle.wq_commands.specs.PlanText.{plan_text, item_lanes, ends_of}
-use Rattle.wq_commands.specs.CircleText.{circle_text}
+use Rattle.wq_cert.specs.LineText.{line_text}
+use Rattle.wq_cert.specs.PlanText.{plan_text, item_lanes}
+use Rattle.wq_cert.specs.CircleText.{circle_text}
 use Rattle.wq_commands.specs.Declaration.{Declared, declaration}
 
 -- `refused CODE line N`
 abbrev pub refusal_text : Refusal → List ℕ
 refusal_text r = line_text (codes "refused" ∷ decimal r.code ∷ codes "line" ∷ decimal r.line ∷ [])
 
+-- a text is refused, and that is printed
+abbrev pub IsRefused : Refusal → End → List ℕ → Type 0
+IsRefused r end out = (end ≡ Refused) × (out ≡ refusal_text r)
+
 -- what a text declares, its names aside
 abbrev pub declared_waits : Declared → Declaration
 declared_waits s = declaration_of s.table s.partition
+
+-- the item and the target of an arc
+abbrev pub ends_of : WaitArc → ℕ × ℕ
+ends_of arc = (arc.src, arc.dst)
 
 -- the text of an assignment, with the chain that is printed
 abbrev pub text_of_plan : Declared → Assignment → List ℕ
@@ -29,7 +37,7 @@ text_of_plan s a =
 
 -- the text of a circle
 abbrev pub text_of_circle : Declared → List WaitArc → List ℕ
-text_of_circle s circle = circle_text s.table.names (map ends_of circle)
+text_of_circle s circle = circle_text s.table.names (map ends_of circle) None
 
 -- the answer to a declaration: the text of its plan, or that of the circle in which its groups wait
 abbrev pub AnswersDeclared : Declared → End → List ℕ → Type 0
@@ -40,4 +48,4 @@ AnswersDeclared s Refused out = ⊥
 -- the answer to a text: that to what it declares, or its refusal
 abbrev pub Answers : List ℕ → End → List ℕ → Type 0
 Answers text end out =
-    MatchResult (declaration text) (λ s. AnswersDeclared s end out) (λ r. (end ≡ Refused) × (out ≡ refusal_text r))
+    MatchResult (declaration text) (λ s. AnswersDeclared s end out) (λ r. IsRefused r end out)

@@ -7,10 +7,11 @@ pub use Rattle.wq_graph.specs.Graph
 pub use Rattle.wq_levels.specs.Walks
 pub use Rattle.wq_plan.specs.Plan
 pub mod Answer
-pub mod CircleText
+pub mod Input
+pub mod Checking
+pub mod CheckInput
+pub mod Replaying
 pub mod Declaration
 pub mod End
-pub mod LineText
-pub mod PlanText
 pub mod Run
 pub mod Stop

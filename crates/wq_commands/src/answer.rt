@@ -2,40 +2,21 @@
 //!
 //! Takes time in the workqueues times the items and flushes, and memory in the length of the text.
 
-ghost use Rattle.std.specs.Prelude.{◌≡◌, IfOk, decimal, length};
-ghost use Rattle.wq_text.specs.Refusal.{Refusal};
+ghost use Rattle.std.specs.Prelude.{◌≡◌, IfOk, length};
 ghost use Rattle.wq_groups.specs.Declaration.{declaration_of};
 ghost use Rattle.wq_plan.specs.Solve.{IsPlanned, IsCircled, Solves};
-ghost use Rattle.wq_commands.specs.Answer.{Answers, AnswersDeclared, refusal_text, text_of_plan, text_of_circle};
+ghost use Rattle.wq_commands.specs.Answer.{Answers, AnswersDeclared, text_of_plan, text_of_circle};
 
-use crate::arc_printing::ends_of;
-use crate::circle_printing::circle_text;
+use crate::arc_ends::ends_of;
 use crate::declaration::{Stop, read_declaration};
 use crate::end::End;
-use crate::lines::{put, put_end, put_number, put_word};
-use crate::plan_printing::plan_text;
+use crate::refusal::refuse;
 use std::alloc::{AllocError, Allocator};
+use wq_cert::{circle_text, plan_text};
 use wq_graph::WaitArc;
 use wq_groups::{Assignment, Groups};
 use wq_items::ItemTable;
 use wq_plan::{Answer, solve};
-
-/// `refused CODE line N`.
-pub(crate) fn refusal_text<A: Allocator + Copy>(
-    alloc: A,
-    code: u32,
-    line: u32,
-) -> Result<Vec<u8, A>, AllocError>
-    ensures { IfOk result (λ text. text.items ≡ refusal_text (record { code = code; line = line })) }
-{
-    let mut out = Vec::new(alloc);
-    put(&mut out, b"refused")?;
-    put_number(alloc, &mut out, code)?;
-    put_word(&mut out, b"line")?;
-    put_number(alloc, &mut out, line)?;
-    put_end(&mut out)?;
-    Ok(out)
-}
 
 /// The text of the plan of a table's items, with the chain that `solve` answered beside it.
 fn text_of_plan<A: Allocator + Copy>(
@@ -70,7 +51,7 @@ fn text_of_circle<A: Allocator + Copy>(
     let _items = table.len();
     let _groups = groups.len();
     let arcs = ends_of(alloc, arcs)?;
-    circle_text(alloc, table, &arcs)
+    circle_text(alloc, table, &arcs, None)
 }
 
 /// How a run ends that has this answer to these groups, and what it prints.
@@ -123,10 +104,7 @@ pub(crate) fn answer<A: Allocator + Copy>(
             drop(declared);
             answer
         }
-        Err(Stop::Refused { code, line }) => {
-            let text = refusal_text(alloc, code, line)?;
-            Ok((End::Refused, text))
-        }
+        Err(Stop::Refused { code, line }) => refuse(alloc, code, line),
         Err(Stop::OutOfMemory) => Err(AllocError),
     }
 }

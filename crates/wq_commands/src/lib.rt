@@ -5,18 +5,20 @@
 #![tactic(auto)]
 
 mod answer;
-mod arc_printing;
-mod circle_printing;
+mod arc_ends;
+mod check;
+mod checking;
 mod declaration;
 mod end;
 pub mod laws;
-mod lines;
 mod plan;
-mod plan_printing;
+mod refusal;
+mod replay;
+mod replaying;
 
-pub use circle_printing::circle_text;
+pub use check::check_cmd;
 pub use declaration::{Declaration, Stop, read_declaration};
 pub use end::End;
 pub use plan::plan_cmd;
-pub use plan_printing::plan_text;
+pub use replay::replay_cmd;
 pub use wq_meter::{Fault, Metered, read_text, write_text};

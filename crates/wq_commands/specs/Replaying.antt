@@ -1,0 +1,51 @@
+-- The answer to a declaration, an assignment and a run: how the run ends.
+use Rattle.std.specs.Prelude.{◌≡◌, ℕ, List, [], ◌∷◌, codes, decimal, MatchResult}
+use Rattle.wq_groups.specs.Assignment.{Assignment}
+use Rattle.wq_core.specs.declared.step.Step.{Step}
+use Rattle.wq_core.specs.Wiring.{wiring}
+use Rattle.wq_cert.specs.LineText.{line_text}
+use Rattle.wq_cert.specs.Texts.{assignment_of_text, run_of, cert_refusal}
+use Rattle.wq_checker.specs.declared.run.RunEnd.{RunEnd}
+use Rattle.wq_checker.specs.declared.run.RunEnd.TheVariants.{NotLawful, Deadlock, Stuck, Free}
+use Rattle.wq_checker.specs.RunEnds.{EndsAs}
+use Rattle.wq_commands.specs.declared.end.End.{End}
+use Rattle.wq_commands.specs.declared.end.End.TheVariants.{Good, Bad}
+use Rattle.wq_commands.specs.Answer.{declared_waits, IsRefused}
+use Rattle.wq_commands.specs.Declaration.{Declared, declaration}
+
+-- the words of an answer: `open`, `deadlock`, `stuck` or `not lawful N`
+abbrev pub replay_words : RunEnd → List (List ℕ)
+replay_words Free = codes "open" ∷ []
+replay_words Deadlock = codes "deadlock" ∷ []
+replay_words Stuck = codes "stuck" ∷ []
+replay_words (NotLawful n) = codes "not" ∷ codes "lawful" ∷ decimal n ∷ []
+
+-- a run that doesn't end stuck is good, and all else is bad
+abbrev pub replay_end : RunEnd → End
+replay_end Free = Good
+replay_end Deadlock = Bad
+replay_end Stuck = Bad
+replay_end (NotLawful n) = Bad
+
+-- how these steps end under an assignment of a declaration is printed
+pub record AnswersReplay (s : Declared) (a : Assignment) (steps : List Step) (end : End) (out : List ℕ) : Type 0 where
+  pub run_end : RunEnd
+  pub ends : EndsAs (wiring (declared_waits s) a) steps run_end
+  pub status : end ≡ replay_end run_end
+  pub printed : out ≡ line_text (replay_words run_end)
+
+-- the answer to a run under an assignment of a declaration
+abbrev pub ReplaysAssigned : Declared → Assignment → List ℕ → End → List ℕ → Type 0
+ReplaysAssigned s a text end out =
+    MatchResult (run_of s.table.names text)
+    (λ steps. AnswersReplay s a steps end out)
+    (λ fault. IsRefused (cert_refusal fault) end out)
+
+-- the answer to an assignment of a declaration and a run
+abbrev pub ReplaysDeclared : Declared → List ℕ → List ℕ → End → List ℕ → Type 0
+ReplaysDeclared s assigned text end out =
+    MatchResult (assignment_of_text s.table.names s.partition assigned) (λ a. ReplaysAssigned s a text end out) (λ fault. IsRefused (cert_refusal fault) end out)
+
+-- the answer to the texts of a declaration, an assignment and a run: the refusal of the first that is refused comes first
+abbrev pub Replays : List ℕ → List ℕ → List ℕ → End → List ℕ → Type 0
+Replays declared assigned text end out = MatchResult (declaration declared) (λ s. ReplaysDeclared s assigned text end out) (λ r. IsRefused r end out)

@@ -1,0 +1,24 @@
+//! Arcs as they are printed: each as an item and the target of its flush.
+//!
+//! Takes time and memory in the number of arcs.
+
+ghost use Rattle.std.specs.Prelude.{◌≡◌, map, IfOk};
+ghost use Rattle.wq_commands.specs.Answer.{ends_of};
+
+use std::alloc::{AllocError, Allocator};
+use wq_graph::WaitArc;
+use wq_items::ItemId;
+
+/// Of each arc the item and the target.
+pub(crate) fn ends_of<A: Allocator + Copy>(
+    alloc: A,
+    arcs: &[WaitArc],
+) -> Result<Vec<(ItemId, ItemId), A>, AllocError>
+    ensures { IfOk result (λ ends. ends.items ≡ map ends_of arcs.now) }
+{
+    let mut ends = Vec::new(alloc);
+    for arc in arcs {
+        ends.push((arc.src, arc.dst))?;
+    }
+    Ok(ends)
+}

@@ -1,0 +1,63 @@
+//! The command `check`: from the bytes of a declaration and a certificate to the bytes of the checker's answer.
+//!
+//! Both texts are read before one is judged, and the answer is made whole before the first byte is written.
+
+ghost use Rattle.std.specs.Prelude.{◌≡◌, ◌≢◌, ◌≤◌, ◌+◌, ◌⊎◌, ℕ, List, Err, IfOk};
+ghost use Rattle.wq_meter.specs.Meter.{count_after, LosesFront, WritesFront, WritesWhole};
+ghost use Rattle.wq_cert.specs.Texts.{max_text as max_certificate};
+ghost use Rattle.wq_commands.specs.Declaration.{max_text};
+ghost use Rattle.wq_commands.specs.CheckInput.{ChecksInput};
+ghost use Rattle.wq_commands.specs.declared.end.End.{End};
+
+use crate::checking::check;
+use crate::declaration::MAX_TEXT;
+use crate::end::End;
+use std::alloc::Allocator;
+use std::io::{Read, Write};
+use wq_meter::{Fault, Metered, read_text, write_text};
+
+/// How many bytes a certificate may have.
+pub(crate) const MAX_CERTIFICATE: u32 = 8_388_608;
+
+/// Reads a declaration and then a certificate to their ends, and writes what the checker answers: `yes K`, `yes circle N`
+/// or `no ..`, or the refusal of the first of the two that is refused.
+///
+/// At most 1,048,577 bytes of the declaration and 8,388,609 of the certificate are read, in at most as many calls. The
+/// errors are `Fault::Read`, where a read failed, `Fault::Memory`, and `Fault::Write`, where a write failed or took no
+/// byte; after the last one a front of the answer is written, and after the others nothing.
+pub fn check_cmd<D: Read, C: Read, W: Write, A: Allocator + Copy>(
+    alloc: A,
+    declaration: &mut Metered<D>,
+    certificate: &mut Metered<C>,
+    writer: &mut Metered<W>,
+) -> Result<End, Fault>
+    // The answer to the texts that the readers had is written, and nothing else.
+    ensures answered { IfOk result (λ end. (out : List ℕ)
+        × ChecksInput D.remaining C.remaining declaration.old declaration.new certificate.old certificate.new end out
+        × WritesWhole W.contents writer.old writer.new out) }
+
+    // What a fault leaves.
+    ensures front { result ≡ Err Fault.Write → (end : End) × (out : List ℕ)
+        × ChecksInput D.remaining C.remaining declaration.old declaration.new certificate.old certificate.new end out
+        × WritesFront W.contents writer.old writer.new out }
+    ensures untouched { result ≡ Err Fault.Memory → writer.new ≡ writer.old }
+    ensures unwritten { result ≡ Err Fault.Read → writer.new ≡ writer.old }
+
+    // What is asked of the readers, whatever the result.
+    ensures reads { (declaration.new.calls ≤ declaration.old.calls + (max_text + 1)) × (certificate.new.calls ≤ certificate.old.calls + (max_certificate + 1)) }
+    ensures bytes_read { (declaration.new.bytes ≤ declaration.old.bytes + (max_text + 1)) × (certificate.new.bytes ≤ certificate.old.bytes + (max_certificate + 1)) }
+
+    // Which fault it is.
+    ensures read_failed { result ≡ Err Fault.Read →
+        (declaration.new.failures ≡ count_after declaration.old.failures 1) ⊎ (certificate.new.failures ≡ count_after certificate.old.failures 1) }
+    ensures no_read_failed { result ≢ Err Fault.Read →
+        (declaration.new.failures ≡ declaration.old.failures) × (certificate.new.failures ≡ certificate.old.failures) }
+    ensures write_failed { result ≡ Err Fault.Write → writer.new.failures ≡ count_after writer.old.failures 1 }
+    ensures no_write_failed { result ≢ Err Fault.Write → writer.new.failures ≡ writer.old.failures }
+{
+    let text = read_text(alloc, declaration, MAX_TEXT)?;
+    let claim = read_text(alloc, certificate, MAX_CERTIFICATE)?;
+    let (end, answer) = check(alloc, &text, &claim)?;
+    write_text(writer, &answer)?;
+    Ok(end)
+}

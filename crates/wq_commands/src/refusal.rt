@@ -1,0 +1,39 @@
+//! What is printed for a text that is refused.
+//!
+//! Takes constant time.
+
+ghost use Rattle.std.specs.Prelude.{◌≡◌, IfOk};
+ghost use Rattle.wq_commands.specs.Answer.{refusal_text, IsRefused};
+
+use crate::end::End;
+use std::alloc::{AllocError, Allocator};
+use wq_cert::lines::{put, put_end, put_number, put_word};
+
+/// `refused CODE line N`.
+pub(crate) fn refusal_text<A: Allocator + Copy>(
+    alloc: A,
+    code: u32,
+    line: u32,
+) -> Result<Vec<u8, A>, AllocError>
+    ensures { IfOk result (λ text. text.items ≡ refusal_text (record { code = code; line = line })) }
+{
+    let mut out = Vec::new(alloc);
+    put(&mut out, b"refused")?;
+    put_number(alloc, &mut out, code)?;
+    put_word(&mut out, b"line")?;
+    put_number(alloc, &mut out, line)?;
+    put_end(&mut out)?;
+    Ok(out)
+}
+
+/// How a run ends whose text is refused, and what it prints.
+pub(crate) fn refuse<A: Allocator + Copy>(
+    alloc: A,
+    code: u32,
+    line: u32,
+) -> Result<(End, Vec<u8, A>), AllocError>
+    ensures { IfOk result (λ printed. IsRefused (record { code = code; line = line }) printed.0 printed.1.items) }
+{
+    let text = refusal_text(alloc, code, line)?;
+    Ok((End::Refused, text))
+}

@@ -1,0 +1,65 @@
+//! The command `replay`: from the bytes of a declaration, an assignment and a run to how the run ends.
+//!
+//! All texts are read before one is judged, and the answer is made whole before the first byte is written.
+
+ghost use Rattle.std.specs.Prelude.{◌≡◌, ◌≢◌, ◌≤◌, ◌+◌, ◌⊎◌, ℕ, List, Err, IfOk};
+ghost use Rattle.wq_meter.specs.Meter.{count_after, WritesFront, WritesWhole};
+ghost use Rattle.wq_cert.specs.Texts.{max_text as max_certificate};
+ghost use Rattle.wq_commands.specs.Declaration.{max_text};
+ghost use Rattle.wq_commands.specs.CheckInput.{ReplaysInput};
+ghost use Rattle.wq_commands.specs.declared.end.End.{End};
+
+use crate::check::MAX_CERTIFICATE;
+use crate::declaration::MAX_TEXT;
+use crate::end::End;
+use crate::replaying::replay;
+use std::alloc::Allocator;
+use std::io::{Read, Write};
+use wq_meter::{Fault, Metered, read_text, write_text};
+
+/// Reads a declaration, an assignment and a run to their ends, makes the steps of the run, and writes how that ends:
+/// `open`, `deadlock`, `stuck` or `not lawful N`, or the refusal of the first of the three that is refused.
+///
+/// At most 1,048,577 bytes of the declaration and 8,388,609 of each of the others are read, in at most as many calls. The
+/// errors are `Fault::Read`, where a read failed, `Fault::Memory`, and `Fault::Write`, where a write failed or took no
+/// byte; after the last one a front of the answer is written, and after the others nothing.
+pub fn replay_cmd<D: Read, S: Read, R: Read, W: Write, A: Allocator + Copy>(
+    alloc: A,
+    declaration: &mut Metered<D>,
+    assignment: &mut Metered<S>,
+    run: &mut Metered<R>,
+    writer: &mut Metered<W>,
+) -> Result<End, Fault>
+    // The answer to the texts that the readers had is written, and nothing else.
+    ensures answered { IfOk result (λ end. (out : List ℕ)
+        × ReplaysInput D.remaining S.remaining R.remaining declaration.old declaration.new assignment.old assignment.new run.old run.new end out
+        × WritesWhole W.contents writer.old writer.new out) }
+
+    // What a fault leaves.
+    ensures front { result ≡ Err Fault.Write → (end : End) × (out : List ℕ)
+        × ReplaysInput D.remaining S.remaining R.remaining declaration.old declaration.new assignment.old assignment.new run.old run.new end out
+        × WritesFront W.contents writer.old writer.new out }
+    ensures untouched { result ≡ Err Fault.Memory → writer.new ≡ writer.old }
+    ensures unwritten { result ≡ Err Fault.Read → writer.new ≡ writer.old }
+
+    // What is asked of the readers, whatever the result.
+    ensures reads { (declaration.new.calls ≤ declaration.old.calls + (max_text + 1))
+        × (assignment.new.calls ≤ assignment.old.calls + (max_certificate + 1)) × (run.new.calls ≤ run.old.calls + (max_certificate + 1)) }
+    ensures bytes_read { (declaration.new.bytes ≤ declaration.old.bytes + (max_text + 1))
+        × (assignment.new.bytes ≤ assignment.old.bytes + (max_certificate + 1)) × (run.new.bytes ≤ run.old.bytes + (max_certificate + 1)) }
+
+    // Which fault it is.
+    ensures read_failed { result ≡ Err Fault.Read → (declaration.new.failures ≡ count_after declaration.old.failures 1)
+        ⊎ (assignment.new.failures ≡ count_after assignment.old.failures 1) ⊎ (run.new.failures ≡ count_after run.old.failures 1) }
+    ensures no_read_failed { result ≢ Err Fault.Read → (declaration.new.failures ≡ declaration.old.failures)
+        × (assignment.new.failures ≡ assignment.old.failures) × (run.new.failures ≡ run.old.failures) }
+    ensures write_failed { result ≡ Err Fault.Write → writer.new.failures ≡ count_after writer.old.failures 1 }
+    ensures no_write_failed { result ≢ Err Fault.Write → writer.new.failures ≡ writer.old.failures }
+{
+    let text = read_text(alloc, declaration, MAX_TEXT)?;
+    let lanes = read_text(alloc, assignment, MAX_CERTIFICATE)?;
+    let steps = read_text(alloc, run, MAX_CERTIFICATE)?;
+    let (end, answer) = replay(alloc, &text, &lanes, &steps)?;
+    write_text(writer, &answer)?;
+    Ok(end)
+}

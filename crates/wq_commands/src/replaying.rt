@@ -1,0 +1,151 @@
+//! The answer to a declaration, an assignment and a run, made whole in memory.
+//!
+//! Takes the time and the memory of reading the three and of making the steps.
+
+ghost use Rattle.std.specs.Prelude.{◌≡◌, ◌∷◌, [], ◌<◌, IfOk, length, codes, decimal};
+ghost use Rattle.wq_cert.specs.LineText.{line_text};
+ghost use Rattle.wq_commands.specs.Replaying.{replay_words, replay_end, AnswersReplay, ReplaysAssigned, ReplaysDeclared, Replays};
+
+use crate::declaration::{Stop, read_declaration};
+use crate::end::End;
+use crate::refusal::refuse;
+use std::alloc::{AllocError, Allocator};
+use wq_cert::lines::{put, put_end, put_number};
+use wq_cert::{CertError, read_assignment, read_run};
+use wq_checker::{RunEnd, check_run};
+use wq_core::Step;
+use wq_groups::{Assignment, Groups};
+use wq_items::ItemTable;
+
+/// `not lawful N`.
+fn unlawful_text<A: Allocator + Copy>(alloc: A, number: u32) -> Result<Vec<u8, A>, AllocError>
+    ensures { IfOk result (λ text. text.items ≡ line_text (codes "not" ∷ codes "lawful" ∷ decimal number ∷ [])) }
+{
+    let mut out = Vec::new(alloc);
+    put(&mut out, b"not lawful")?;
+    put_number(alloc, &mut out, number)?;
+    put_end(&mut out)?;
+    Ok(out)
+}
+
+/// One word.
+fn word_text<A: Allocator + Copy>(alloc: A, word: &[u8]) -> Result<Vec<u8, A>, AllocError>
+    ensures { IfOk result (λ text. text.items ≡ line_text (word.now ∷ [])) }
+{
+    let mut out = Vec::new(alloc);
+    put(&mut out, word)?;
+    put_end(&mut out)?;
+    Ok(out)
+}
+
+/// The line that says how a run ends.
+fn replay_text<A: Allocator + Copy>(alloc: A, end: RunEnd) -> Result<Vec<u8, A>, AllocError>
+    ensures { IfOk result (λ text. text.items ≡ line_text (replay_words end)) }
+{
+    match end {
+        RunEnd::Free => word_text(alloc, b"open"),
+        RunEnd::Deadlock => word_text(alloc, b"deadlock"),
+        RunEnd::Stuck => word_text(alloc, b"stuck"),
+        RunEnd::NotLawful(number) => unlawful_text(alloc, number),
+    }
+}
+
+/// What a run's end is for the program: good where it isn't stuck.
+fn replay_end(end: RunEnd) -> End
+    ensures { result ≡ replay_end end }
+{
+    match end {
+        RunEnd::Free => End::Good,
+        RunEnd::Deadlock | RunEnd::Stuck | RunEnd::NotLawful(_) => End::Bad,
+    }
+}
+
+/// How a run of the program ends that makes these steps, and what it prints.
+fn replay_steps<A: Allocator + Copy>(
+    alloc: A,
+    table: &ItemTable<'_, A>,
+    groups: &Groups<A>,
+    assignment: &Assignment<A>,
+    steps: &[Step],
+) -> Result<(End, Vec<u8, A>), AllocError>
+    requires grouped { length groups.now.group_of ≡ length table.now.names }
+    requires assigned { length assignment.now.lane_of_group ≡ groups.now.groups }
+    requires few { length steps.now < 4294967295 }
+    ensures { IfOk result (λ printed. AnswersReplay (record { table = table.now; partition = groups.now }) assignment.now steps.now printed.0 printed.1.items) }
+{
+    let end = check_run(alloc, table, groups, assignment, steps)?;
+    let text = replay_text(alloc, end)?;
+    Ok((replay_end(end), text))
+}
+
+/// How a run of the program ends that is given an assignment of these groups and the text of a run, and what it prints.
+fn replay_assigned<A: Allocator + Copy>(
+    alloc: A,
+    table: &ItemTable<'_, A>,
+    groups: &Groups<A>,
+    assignment: &Assignment<A>,
+    text: &[u8],
+) -> Result<(End, Vec<u8, A>), AllocError>
+    requires grouped { length groups.now.group_of ≡ length table.now.names }
+    requires assigned { length assignment.now.lane_of_group ≡ groups.now.groups }
+    ensures { IfOk result (λ printed. ReplaysAssigned (record { table = table.now; partition = groups.now }) assignment.now text.now printed.0 printed.1.items) }
+{
+    // What holds of every table and of all groups.
+    let _items = table.len();
+    let _groups = groups.len();
+    match read_run(alloc, text, table) {
+        Ok(steps) => {
+            let answer = replay_steps(alloc, table, groups, assignment, steps.as_slice());
+            // Said as a call, so that the proof has one step for it.
+            drop(steps);
+            answer
+        }
+        Err(CertError::OutOfMemory) => Err(AllocError),
+        Err(fault) => refuse(alloc, fault.code(), fault.line()),
+    }
+}
+
+/// How a run of the program ends that is given the texts of an assignment of these groups and of a run, and what it prints.
+fn replay_declared<A: Allocator + Copy>(
+    alloc: A,
+    table: &ItemTable<'_, A>,
+    groups: &Groups<A>,
+    assigned: &[u8],
+    text: &[u8],
+) -> Result<(End, Vec<u8, A>), AllocError>
+    requires { length groups.now.group_of ≡ length table.now.names }
+    ensures { IfOk result (λ printed. ReplaysDeclared (record { table = table.now; partition = groups.now }) assigned.now text.now printed.0 printed.1.items) }
+{
+    // What holds of every table and of all groups.
+    let _items = table.len();
+    let _groups = groups.len();
+    match read_assignment(alloc, assigned, table, groups) {
+        Ok(assignment) => {
+            let answer = replay_assigned(alloc, table, groups, &assignment, text);
+            drop(assignment);
+            answer
+        }
+        Err(CertError::OutOfMemory) => Err(AllocError),
+        Err(fault) => refuse(alloc, fault.code(), fault.line()),
+    }
+}
+
+/// How a run of the program ends that is given the texts of a declaration, an assignment and a run, and what it prints.
+pub(crate) fn replay<A: Allocator + Copy>(
+    alloc: A,
+    text: &[u8],
+    assigned: &[u8],
+    run: &[u8],
+) -> Result<(End, Vec<u8, A>), AllocError>
+    ensures { IfOk result (λ printed. Replays text.now assigned.now run.now printed.0 printed.1.items) }
+{
+    match read_declaration(alloc, text) {
+        Ok(declared) => {
+            let answer = replay_declared(alloc, &declared.table, &declared.groups, assigned, run);
+            drop(declared);
+            answer
+        }
+        Err(Stop::Refused { code, line }) => refuse(alloc, code, line),
+        Err(Stop::OutOfMemory) => Err(AllocError),
+    }
+}
