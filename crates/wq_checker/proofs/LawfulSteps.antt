@@ -1,5 +1,5 @@
 -- Whether a step is lawful, whether it keeps to the order of its declaration, and whether a state is stuck.
-use Rattle.std.proofs.Common.{◌≡◌, ℕ, zero, suc, ◌<◌, ◌⊎◌, inl, inr, ◌↔◌, Bool, true, false, List, [], ◌∷◌, length, get_or, Option, Some, None, refl, sym, ap, subst, ◌∙◌}
+use Rattle.std.proofs.Common.{◌≡◌, ℕ, ◌<◌, inl, inr, ◌↔◌, Bool, true, false, List, length, Option, Some, None, refl, sym, ap, subst, ◌∙◌}
 use Rattle.std.specs.Prelude.{IsTrue, ◌||◌, slice_get, is_some}
 use Rattle.std.specs.List.{Any, list_any}
 use Rattle.std.proofs.lemmas.Bool.{cases_eq}
@@ -11,7 +11,7 @@ use Rattle.wq_core.specs.declared.entry.Running.{Running}
 use Rattle.wq_core.specs.declared.step.Step.{Step}
 use Rattle.wq_core.specs.declared.step.Step.TheVariants.{Queue, Cancel, Start, Wait, Over, Finish}
 use Rattle.wq_core.specs.Wiring.{Wiring, items, declared_by}
-use Rattle.wq_core.specs.State.{Lane, State, idle_lane, lane_at, Runs, HasPending, HasUnfinishedBelow}
+use Rattle.wq_core.specs.State.{Lane, State, lane_at, Runs, HasPending, HasUnfinishedBelow}
 use Rattle.wq_core.specs.Rules.{MayWait, MayGoOn, MayFinish, MayStart, Lawful}
 use Rattle.wq_core.specs.Runs.{KeepsOrder}
 use Rattle.wq_core.specs.Deadlock.{IsStuck}
@@ -20,21 +20,9 @@ use Rattle.wq_core.specs.Played.{CanMove}
 use Rattle.wq_core.proofs.DeclaredSteps.{CanMove-idle, CanMove-waiting, CanMove-awake, CanMove-within}
 use Rattle.wq_core.proofs.Unfinished.{unfinished_below}
 use Rattle.wq_checker.proofs.Decided.{Decided, both, not_so, alike, cases_below, cases_Any, cases_each_below}
-use Rattle.wq_checker.proofs.StuckStates.{cases_HasUnfinished, IsStuck-can_move, IsStuck-cannot_move}
+use Rattle.wq_checker.proofs.StuckStates.{cases_lane, cases_HasUnfinished, IsStuck-can_move, IsStuck-cannot_move}
 
--- ---- some lane
-
-module _ (P : Lane → Type 0) (decide : (lane : Lane) → Decided (P lane)) where
-  cases_lane : (lanes : List Lane) → ((q : ℕ) × P (get_or lanes q idle_lane)) ⊎ ((q : ℕ) → ¬ P (get_or lanes q idle_lane))
-  cases_lane [] = elim (decide idle_lane) [ inl p ↦ inl (0, p) | inr none ↦ inr (λ q. none) ]
-  cases_lane (lane ∷ lanes) = elim (decide lane) [
-    | inl p ↦ inl (0, p)
-    | inr none ↦ elim (cases_lane lanes) [ inl some ↦ inl (suc some.0, some.1) | inr no_others ↦ inr (each none no_others) ]
-  ]
-    where
-      each : (¬ P lane) → ((q : ℕ) → ¬ P (get_or lanes q idle_lane)) → (q : ℕ) → ¬ P (get_or (lane ∷ lanes) q idle_lane)
-      each none no_others zero = none
-      each none no_others (suc q) = no_others q
+-- ---- what is pending or unfinished
 
 cases_HasPending : (s : State) (i : ℕ) → Decided (HasPending s i)
 cases_HasPending s i = elim (cases_lane (λ lane. Any (λ (e : Entry). e.item ≡ i) lane.pending) (λ lane. cases_Any (λ (e : Entry). e.item ≡ i) (λ e. cases_eq e.item i) lane.pending) s.lanes) [

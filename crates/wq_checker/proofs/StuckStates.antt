@@ -12,35 +12,36 @@ use Rattle.wq_core.specs.Runs.{IsRescuerStep}
 use Rattle.wq_core.specs.Deadlock.{IsStuck}
 use Rattle.wq_core.specs.Played.{IsStepOf, CanMove}
 use Rattle.wq_core.proofs.LaneLemmas.{idle_lane-unfinished}
+use Rattle.wq_checker.proofs.Decided.{Decided}
+
+-- ---- some lane
+
+module _ (P : Lane → Type 0) (decide : (lane : Lane) → Decided (P lane)) where
+  pub cases_lane : (lanes : List Lane) → ((q : ℕ) × P (get_or lanes q idle_lane)) ⊎ ((q : ℕ) → ¬ P (get_or lanes q idle_lane))
+  cases_lane [] = elim (decide idle_lane) [ inl p ↦ inl (0, p) | inr none ↦ inr (λ q. none) ]
+  cases_lane (lane ∷ lanes) = elim (decide lane) [
+    | inl p ↦ inl (0, p)
+    | inr none ↦ elim (cases_lane lanes) [ inl some ↦ inl (suc some.0, some.1) | inr no_others ↦ inr (each none no_others) ]
+  ]
+    where
+      each : (¬ P lane) → ((q : ℕ) → ¬ P (get_or lanes q idle_lane)) → (q : ℕ) → ¬ P (get_or (lane ∷ lanes) q idle_lane)
+      each none no_others zero = none
+      each none no_others (suc q) = no_others q
 
 -- ---- whether something is unfinished
 
-cases_unfinished_on : (lane : Lane) → ((e : Entry) × IsUnfinishedOn lane e) ⊎ ((e : Entry) → ¬ IsUnfinishedOn lane e)
+cases_unfinished_on : (lane : Lane) → Decided ((e : Entry) × IsUnfinishedOn lane e)
 cases_unfinished_on lane = fields lane.pending lane.running
   where
-    fields : (es : List Entry) (o : Option Running) → ((e : Entry) × IsUnfinishedOn (record { pending = es; running = o }) e) ⊎ ((e : Entry) → ¬ IsUnfinishedOn (record { pending = es; running = o }) e)
-    fields [] None = inr idle_lane-unfinished
+    fields : (es : List Entry) (o : Option Running) → Decided ((e : Entry) × IsUnfinishedOn (record { pending = es; running = o }) e)
+    fields [] None = inr (λ h. idle_lane-unfinished h.0 h.1)
     fields [] (Some r) = inl (r.entry, inr (r, refl, refl))
     fields (e ∷ es) o = inl (e, inl (0, omega arith, refl))
 
-cases_lanes : (lanes : List Lane) → ((q : ℕ) × ((e : Entry) × IsUnfinishedOn (get_or lanes q idle_lane) e)) ⊎ ((q : ℕ) (e : Entry) → ¬ IsUnfinishedOn (get_or lanes q idle_lane) e)
-cases_lanes [] = inr (λ q. idle_lane-unfinished)
-cases_lanes (lane ∷ lanes) = elim (cases_unfinished_on lane) [
-  | inl some ↦ inl (0, some)
-  | inr none ↦ elim (cases_lanes lanes) [
-    | inl some ↦ inl (suc some.0, some.1)
-    | inr no_others ↦ inr (each none no_others)
-  ]
-]
-  where
-    each : ((e : Entry) → ¬ IsUnfinishedOn lane e) → ((q : ℕ) (e : Entry) → ¬ IsUnfinishedOn (get_or lanes q idle_lane) e) → (q : ℕ) (e : Entry) → ¬ IsUnfinishedOn (get_or (lane ∷ lanes) q idle_lane) e
-    each none no_others zero e = none e
-    each none no_others (suc q) e = no_others q e
-
-pub cases_HasUnfinished : (s : State) → HasUnfinished s ⊎ (¬ HasUnfinished s)
-cases_HasUnfinished s = elim (cases_lanes s.lanes) [
+pub cases_HasUnfinished : (s : State) → Decided (HasUnfinished s)
+cases_HasUnfinished s = elim (cases_lane (λ lane. (e : Entry) × IsUnfinishedOn lane e) cases_unfinished_on s.lanes) [
   | inl some ↦ inl (record { lane = some.0; entry = some.1.0; unfinished = some.1.1 })
-  | inr none ↦ inr (λ h. none h.lane h.entry h.unfinished)
+  | inr none ↦ inr (λ h. none h.lane (h.entry, h.unfinished))
 ]
 
 -- ---- rescuer steps and lanes that move
