@@ -1,12 +1,11 @@
 -- The workqueue of each group, one item after the other.
-use Rattle.std.proofs.Common.{◌≡◌, ◌≢◌, ℕ, suc, ◌+◌, ◌<◌, ◌≤◌, ◌⊎◌, ◌==◌, inl, inr, Bool, true, false, ◌||◌, not, cond, ltb, eqb, List, [], ◌∷◌, ◌++◌, length, map, get_or, set, take, drop, Option, Some, None, refl, sym, ap, ap₂, subst, ◌∙◌, arith, append_assoc, append-nil, lt-ltb, ltb-true}
-use Rattle.std.specs.List.{list_any, position, position_or_len, concat, range_with_len}
+use Rattle.std.proofs.Common.{◌≡◌, ◌≢◌, ℕ, ◌+◌, ◌<◌, ◌≤◌, ◌⊎◌, ◌==◌, inl, inr, Bool, true, false, ◌||◌, not, cond, ltb, eqb, List, [], ◌∷◌, ◌++◌, length, get_or, set, take, Option, Some, None, refl, sym, ap, ap₂, subst, ◌∙◌, arith, lt-ltb}
+use Rattle.std.specs.List.{list_any, position, position_or_len, concat}
 use Rattle.std.specs.Prelude.{slice_get}
-use Rattle.std.proofs.lemmas.Bool.{cases_Bool, cases_eq, cases_lt, le-ltb, eq-eqb, eqb-true, ne_eqb, both_ways, cond-true, cond-false, false_from_ne_true}
-use Rattle.std.proofs.lemmas.List.{length-set, length-append, get_or-set_same, get_or-set_other, get_or_default, take_all}
+use Rattle.std.proofs.lemmas.Bool.{cases_Bool, cases_eq, cases_lt, le-ltb, eq-eqb, ne_eqb, both_ways, cond-true, cond-false}
+use Rattle.std.proofs.lemmas.List.{length-set, length-append, get_or-set_same, get_or-set_other, take_all}
 use Rattle.std.proofs.lemmas.List.Folds.{list_any-append, list_any_more, list_any_at, Any-from_list_any, position_or_len_push}
 use Rattle.std.proofs.lemmas.List.FromFn.{length-map-range_with_len, get_or-map-range_with_len, fill_by_all}
-use Rattle.std.proofs.lemmas.List.Quantifiers.{position-Some}
 use Rattle.std.proofs.lemmas.List.Sums.{fails_before_first, passes_at_first, prefix_len-le-length}
 use Rattle.std.proofs.lemmas.Option.{get_or_from_slice_get}
 use Rattle.wq_groups.specs.Partition.{Partition}

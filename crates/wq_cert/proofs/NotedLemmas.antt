@@ -1,28 +1,23 @@
 -- What is noted of the workqueues that are read so far, and the assignment that they are.
-use Rattle.std.proofs.Common.{◌≡◌, ℕ, zero, suc, ◌+◌, ◌-◌, ◌<◌, ◌≤◌, ◌==◌, inl, inr, Bool, true, false, not, ◌||◌, cond, leb, eqb, List, [], ◌∷◌, ◌++◌, length, map, get_or, take, Option, Some, None, Result, Ok, Err, refl, sym, ap, ap₂, subst, subst₂, ◌∙◌, arith, append-nil}
-use Rattle.std.specs.Prelude.{Contains, replicate, unwrap_or, option_map, ok_or, bytes_eq, codes}
-use Rattle.std.specs.List.{All, list_all, list_any, concat, range_with_len}
+use Rattle.std.proofs.Common.{◌≡◌, ℕ, zero, suc, ◌+◌, ◌-◌, ◌<◌, ◌≤◌, ◌==◌, inl, inr, Bool, true, false, not, ◌||◌, cond, leb, List, [], ◌∷◌, ◌++◌, length, map, Option, Some, None, Result, Ok, Err, refl, sym, ap, ap₂, subst, subst₂, ◌∙◌, arith, append-nil}
+use Rattle.std.specs.Prelude.{replicate, option_map, ok_or, bytes_eq, codes}
+use Rattle.std.specs.List.{All, concat, range_with_len}
 use Rattle.std.specs.Option.{option_zip}
-use Rattle.std.proofs.lemmas.Bool.{cases_Bool, cases_lt, eq-eqb, eqb-true, both_ways, le-leb}
-use Rattle.std.proofs.lemmas.List.{length-append, get_or_default, take_all, append_assoc}
+use Rattle.std.proofs.lemmas.Bool.{cases_lt, both_ways, le-leb}
+use Rattle.std.proofs.lemmas.List.{length-append, append_assoc}
 use Rattle.std.proofs.lemmas.List.Elements.{All-nil, All-cons}
-use Rattle.std.proofs.lemmas.List.Folds.{list_all-map, list_all_at, list_any-append, list_any_at, Any-from_list_any}
-use Rattle.std.proofs.lemmas.List.FromFn.{length-map-range_with_len, get_or-map-range_with_len}
-use Rattle.std.proofs.lemmas.Simd.{map-map}
 use Rattle.wq_text.specs.Lines.{LineView}
 use Rattle.wq_items.specs.Table.{item_named}
 use Rattle.wq_items.proofs.TableLemmas.{item_named-below}
-use Rattle.wq_groups.specs.Partition.{Partition, IsPartition}
-use Rattle.wq_groups.specs.Assignment.{Assignment, IsAssignment}
+use Rattle.wq_groups.specs.Partition.{Partition}
 use Rattle.wq_cert.specs.declared.fault.CertError.{CertError}
-use Rattle.wq_cert.specs.declared.fault.CertError.TheVariants.{BadCertLine, NotAllItems, GroupSplit, NumberOutOfRange, OutOfMemory}
+use Rattle.wq_cert.specs.declared.fault.CertError.TheVariants.{BadCertLine, NotAllItems, GroupSplit, NumberOutOfRange}
 use Rattle.wq_cert.specs.Lines.{CertLine, cert_line}
 use Rattle.wq_cert.specs.Forms.{begins_with, number_of, wq_form, items_of}
-use Rattle.wq_cert.specs.Reading.{Read, and_then, and_read, next_line, stands_in, has_stood, holds_member, splits_group, wq_items, fresh_items, wq_reading, next_queues, all_queues, hold_all, queue_with, queue_of_group, assignment_of, whole_assignment}
-use Rattle.wq_cert.specs.Noted.{marks, lanes_with, AreNoted, IsNextNoted, AreRead, AreAllRead, first_number}
+use Rattle.wq_cert.specs.Reading.{Read, and_then, and_read, has_stood, splits_group, wq_items, fresh_items, wq_reading, next_queues, all_queues}
+use Rattle.wq_cert.specs.Noted.{marks, lanes_with, AreNoted, IsNextNoted, AreRead, AreAllRead}
 use Rattle.wq_cert.specs.Texts.{IsCertFaultOf}
-use Rattle.wq_cert.proofs.ReadLemmas.{IsCertFaultOf-err, IsCertFaultOf-then}
-use Rattle.wq_cert.proofs.LaneLemmas.{HasQueue-held}
+use Rattle.wq_cert.proofs.ReadLemmas.{IsCertFaultOf-then}
 
 -- ---- no workqueue
 
@@ -40,15 +35,8 @@ AreNoted-none p n stood lanes all unmarked free = record {
 
 -- ---- one workqueue more
 
-module _ (p : Partition) (queues : List (List ℕ)) (count : ℕ) (stood : List Bool) (lanes : List (Option ℕ)) (noted : AreNoted p queues count stood lanes) (items : List ℕ) (n : ℕ) where
-  pub fresh_items-twice : has_stood (concat queues) items ≡ true → fresh_items p.group_of (concat queues) n items ≡ Err (NotAllItems n)
-  fresh_items-twice twice = ap (λ b. cond b (Err (NotAllItems n)) (cond (splits_group p.group_of (concat queues) items) (Err (GroupSplit n)) (Ok items))) twice
-
-  pub fresh_items-split : has_stood (concat queues) items ≡ false → splits_group p.group_of (concat queues) items ≡ true → fresh_items p.group_of (concat queues) n items ≡ Err (GroupSplit n)
-  fresh_items-split once split = ap₂ (λ a b. cond a (Err (NotAllItems n)) (cond b (Err (GroupSplit n)) (Ok items))) once split
-
-  pub fresh_items-fresh : has_stood (concat queues) items ≡ false → splits_group p.group_of (concat queues) items ≡ false → fresh_items p.group_of (concat queues) n items ≡ Ok items
-  fresh_items-fresh once apart = ap₂ (λ a b. cond a (Err (NotAllItems n)) (cond b (Err (GroupSplit n)) (Ok items))) once apart
+pub fresh_items-fresh : (group_of before items : List ℕ) (n : ℕ) → has_stood before items ≡ false → splits_group group_of before items ≡ false → fresh_items group_of before n items ≡ Ok items
+fresh_items-fresh group_of before items n once apart = ap₂ (λ a b. cond a (Err (NotAllItems n)) (cond b (Err (GroupSplit n)) (Ok items))) once apart
 
 concat-push : (queues : List (List ℕ)) (items : List ℕ) → concat (queues ++ (items ∷ [])) ≡ concat queues ++ items
 concat-push [] items = append-nil items
@@ -62,15 +50,6 @@ AreNoted-more p queues count stood more_stood lanes more_lanes items room noted 
   items = marked ∙ ap (marks (length p.group_of)) (sym (concat-push queues items));
   groups = settled;
 }
-
-pub wq_reading-is : (names : List (List ℕ)) (p : Partition) (queues : List (List ℕ)) (line : CertLine) (count : ℕ) → count ≡ length queues
-    → wq_reading names p.group_of queues line ≡ and_then (λ items. fresh_items p.group_of (concat queues) line.no items) (wq_items names count line)
-wq_reading-is names p queues line count same = ap (λ n. and_then (λ items. fresh_items p.group_of (concat queues) line.no items) (wq_items names n line)) (sym same)
-
-pub wq_reading-fresh : (names : List (List ℕ)) (p : Partition) (queues : List (List ℕ)) (line : CertLine) (count : ℕ) (items : List ℕ) → count ≡ length queues → wq_items names count line ≡ Ok items
-    → wq_reading names p.group_of queues line ≡ fresh_items p.group_of (concat queues) line.no items
-wq_reading-fresh names p queues line count items same read =
-    wq_reading-is names p queues line count same ∙ ap (and_then (λ items. fresh_items p.group_of (concat queues) line.no items)) read
 
 -- ---- items that are read are declared
 

@@ -1,8 +1,8 @@
 -- The assignment that workqueues are, where each item stands on one.
-use Rattle.std.proofs.Common.{◌≡◌, ℕ, ◌+◌, ◌<◌, ◌≤◌, ◌==◌, Bool, true, false, cond, List, [], ◌∷◌, length, map, get_or, Option, Some, None, Result, Ok, Err, refl, sym, ap, ap₂, subst, ◌∙◌, arith}
+use Rattle.std.proofs.Common.{◌≡◌, ℕ, ◌+◌, ◌<◌, ◌==◌, Bool, true, false, cond, List, length, map, get_or, Option, Ok, Err, sym, ap, ap₂, subst, ◌∙◌, arith}
 use Rattle.std.specs.Prelude.{Contains, unwrap_or}
-use Rattle.std.specs.List.{All, list_all, list_any, concat, range_with_len}
-use Rattle.std.proofs.lemmas.Bool.{cases_Bool, eq-eqb, eqb-true, both_ways}
+use Rattle.std.specs.List.{All, list_all, concat, range_with_len}
+use Rattle.std.proofs.lemmas.Bool.{eq-eqb, eqb-true}
 use Rattle.std.proofs.lemmas.List.{get_or_default}
 use Rattle.std.proofs.lemmas.List.Folds.{list_all-map, list_any_at, Any-from_list_any}
 use Rattle.std.proofs.lemmas.List.FromFn.{length-map-range_with_len, get_or-map-range_with_len, get_or-range_with_len, length-range_with_len}
@@ -10,10 +10,9 @@ use Rattle.std.proofs.lemmas.List.Sums.{AllPass-from_list_all}
 use Rattle.std.proofs.lemmas.Simd.{map-map}
 use Rattle.wq_groups.specs.Partition.{Partition, IsPartition}
 use Rattle.wq_groups.specs.Assignment.{Assignment, IsAssignment}
-use Rattle.wq_cert.specs.declared.fault.CertError.{CertError}
 use Rattle.wq_cert.specs.declared.fault.CertError.TheVariants.{NotAllItems}
 use Rattle.wq_cert.specs.Reading.{stands_in, holds_member, hold_all, queue_with, queue_of_group, assignment_of, whole_assignment}
-use Rattle.wq_cert.specs.Noted.{marks, lanes_with, AreNoted}
+use Rattle.wq_cert.specs.Noted.{marks, AreNoted}
 use Rattle.wq_cert.proofs.LaneLemmas.{HasQueue, HasQueue-held}
 
 -- ---- each item stands on a workqueue

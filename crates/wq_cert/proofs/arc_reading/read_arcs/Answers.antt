@@ -1,9 +1,6 @@
-use Rattle.std.proofs.Common.{map, rules, subst, sym}
-use Rattle.std.specs.Prelude.{IfErr}
+use Rattle.std.proofs.Common.{map, rules}
 use Rattle.wq_cert.specs.Lines.{cert_line}
-use Rattle.wq_cert.specs.Reading.{next_lines, arc_reading}
-use Rattle.wq_cert.specs.Texts.{IsCertFaultOf}
-use Rattle.std.proofs.lemmas.Result.{err_from_is_err_and}
+use Rattle.wq_cert.specs.Reading.{arc_reading}
 use Rattle.wq_cert.proofs.ReadLemmas.{goes_on-more, goes_on-fault, goes_on-short}
 use Rattle.wq_cert.proofs.arc_reading.read_arcs.Goals as goal
 

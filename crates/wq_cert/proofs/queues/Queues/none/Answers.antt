@@ -1,4 +1,4 @@
-use Rattle.std.proofs.Common.{◌≡◌, false, None, List, Option, ℕ, refl, sym, ap, ◌∙◌, rules}
+use Rattle.std.proofs.Common.{◌≡◌, false, None, sym, ap, ◌∙◌, rules}
 use Rattle.std.specs.Prelude.{replicate}
 use Rattle.wq_cert.proofs.NotedLemmas.{AreNoted-none}
 use Rattle.wq_cert.proofs.queues.Queues.none.Goals as goal

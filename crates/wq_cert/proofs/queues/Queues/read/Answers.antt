@@ -1,4 +1,4 @@
-use Rattle.std.proofs.Common.{◌≡◌, ◌<◌, ℕ, List, length, sym, subst, subst₂}
+use Rattle.std.proofs.Common.{◌<◌, ℕ, List, sym, subst₂}
 use Rattle.std.specs.List.{All}
 use Rattle.wq_cert.specs.Lines.{cert_line}
 use Rattle.wq_cert.proofs.NotedLemmas.{wq_items-below}

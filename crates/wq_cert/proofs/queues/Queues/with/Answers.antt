@@ -1,4 +1,4 @@
-use Rattle.std.proofs.Common.{◌≡◌, ◌<◌, ℕ, List, length, sym, ap, subst, ◌∙◌, arith}
+use Rattle.std.proofs.Common.{◌≡◌, ◌<◌, ℕ, length, sym, ap, subst, ◌∙◌}
 use Rattle.std.specs.List.{All, concat}
 use Rattle.wq_cert.proofs.StoodLemmas.{length-marks}
 use Rattle.wq_cert.proofs.LaneLemmas.{length-lanes_with}
@@ -19,6 +19,6 @@ returns-clause-queues g c = λ queues noted.
     let p = c.args.groups.now in
     let marked = c.in-Some.ensures (length p.group_of) (concat queues) noted.items in
     let settled = c.in-Some-settle.ensures queues (c.new-lane.ensures ∙ noted.number) noted.groups in (
-      fresh_items-fresh p queues c.args.self.count c.args.self.stood.items c.args.self.lane_of_group.items noted c.args.items.now c.args.line marked.0 settled.0,
+      fresh_items-fresh p.group_of (concat queues) c.args.items.now c.args.line marked.0 settled.0,
       AreNoted-more p queues c.args.self.count c.args.self.stood.items c.in-Some.stood.items c.args.self.lane_of_group.items c.in-Some-settle.lane_of_group.items c.args.items.now c.requires.room noted marked.1 settled.1,
     )
