@@ -3,6 +3,7 @@ pub mod Arcs
 pub mod Relations
 pub mod Ranked
 pub mod SafePlans
+pub mod LeastPlans
 pub mod Plans
 pub mod Places
 pub mod Paths

@@ -19,7 +19,9 @@ use Rattle.wq_plan.proofs.Relations.{HasCircle-implied, IsRank-same}
 use Rattle.wq_plan.proofs.Ranked.{ranks-fall, ranks-most}
 use Rattle.wq_plan.proofs.Lanes.{lanes_of-above, lanes_of-most}
 use Rattle.wq_core.specs.Wiring.{wiring}
-use Rattle.wq_core.specs.Deadlock.{IsSafe}
+use Rattle.wq_core.specs.Deadlock.{IsSafe, IsLeast}
+use Rattle.wq_core.proofs.Least.{Deadlocks-circle_of_groups}
+use Rattle.wq_plan.proofs.LeastPlans.{IsLeast-lanes_fall}
 use Rattle.wq_plan.proofs.SafePlans.{IsSafe-lanes_fall}
 use Rattle.wq_graph.proofs.Graphs.{IsGraph-group_graph, GroupWaits-HasArc}
 
@@ -39,6 +41,10 @@ module _ (d : Declaration) (a : Assignment) (plan : IsPlan d a) where
   -- no chain has more groups than there are lanes
   pub IsPlan-most : (vs : List ℕ) → IsChain (GroupWaits d) vs → All (λ v. v < d.groups) vs → length vs ≤ a.lanes
   IsPlan-most vs chain below = rw plan.count (ranks-most (GroupWaits d) d.groups a.lane_of_group plan.one_each plan.ranks vs chain below)
+
+-- a plan is least
+pub IsLeast-plan : (d : Declaration) (a : Assignment) → IsDeclaration d → IsPlan d a → IsLeast d a
+IsLeast-plan d a is plan = IsLeast-lanes_fall d is a plan (IsPlan-falls d a plan)
 
 -- no run of a plan ends stuck
 pub IsSafe-plan : (d : Declaration) (a : Assignment) → IsDeclaration d → IsPlan d a → IsSafe (wiring d a)
@@ -105,10 +111,12 @@ module _ (d : Declaration) (is : IsDeclaration d) where
         record {
           plan = plan;
           no_circle = IsPlan-no_circle d a plan;
-          safe = IsSafe-lanes_fall d is a (IsPlan-falls d a plan);
+          least = IsLeast-lanes_fall d is a plan (IsPlan-falls d a plan);
           longest = rw same longest;
         }
 
   -- a circle of the walk is one of groups
   pub IsCircled-from_walk : (circle : List WaitArc) → IsWalkedCircle (group_graph d) circle → IsCircled d circle
-  IsCircled-from_walk circle walked = record { has_circle = HasCircle-from_graph (HasCircle-walked (group_graph d) (IsGraph-group_graph d is) circle walked); walked = walked }
+  IsCircled-from_walk circle walked =
+      let has : HasCircle (GroupWaits d) d.groups = HasCircle-from_graph (HasCircle-walked (group_graph d) (IsGraph-group_graph d is) circle walked) in
+      record { has_circle = has; walked = walked; deadlocks = λ a assignment. Deadlocks-circle_of_groups d a is assignment has.0 }

@@ -2,9 +2,9 @@
 use Rattle.std.specs.Prelude.{◌≡◌, List}
 use Rattle.wq_items.specs.Chain.{HasCircle}
 use Rattle.wq_groups.specs.Declaration.{Declaration, GroupWaits}
-use Rattle.wq_groups.specs.Assignment.{Assignment}
+use Rattle.wq_groups.specs.Assignment.{Assignment, IsAssignment}
 use Rattle.wq_core.specs.Wiring.{wiring}
-use Rattle.wq_core.specs.Deadlock.{IsSafe}
+use Rattle.wq_core.specs.Deadlock.{Deadlocks, IsLeast}
 use Rattle.wq_graph.specs.declared.arc.WaitArc.{WaitArc}
 use Rattle.wq_graph.specs.Graph.{group_graph}
 use Rattle.wq_levels.specs.Walks.{IsWalkedCircle}
@@ -12,17 +12,19 @@ use Rattle.wq_plan.specs.declared.answer.Answer.{Answer}
 use Rattle.wq_plan.specs.declared.answer.Answer.TheVariants as answer
 use Rattle.wq_plan.specs.Plan.{IsPlan, chain_of}
 
--- the assignment is the plan, so the groups wait in no circle and no run ends stuck; and the chain is the plan's
+-- the assignment is the plan, so the groups wait in no circle, no run ends stuck, and every assignment to fewer lanes
+-- deadlocks; and the chain is the plan's
 pub record IsPlanned (d : Declaration) (a : Assignment) (chain : List WaitArc) : Type 0 where
   pub plan : IsPlan d a
   pub no_circle : ¬ HasCircle (GroupWaits d) d.groups
-  pub safe : IsSafe (wiring d a)
+  pub least : IsLeast d a
   pub longest : chain ≡ chain_of (group_graph d) a.lane_of_group
 
--- the groups wait in a circle, and it is that of the walk
+-- the groups wait in a circle, and it is that of the walk; so every assignment deadlocks
 pub record IsCircled (d : Declaration) (circle : List WaitArc) : Type 0 where
   pub has_circle : HasCircle (GroupWaits d) d.groups
   pub walked : IsWalkedCircle (group_graph d) circle
+  pub deadlocks : (a : Assignment) → IsAssignment d.groups a → Deadlocks (wiring d a)
 
 -- a plan where the groups wait in no circle, and the circle where they do
 abbrev pub Solves : {A : Type 0} → Declaration → Answer A → Type 0

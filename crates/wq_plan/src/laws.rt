@@ -10,7 +10,7 @@ ghost use Rattle.wq_groups.specs.Assignment.{Assignment, lane_of};
 ghost use Rattle.wq_graph.specs.declared.arc.WaitArc.{WaitArc};
 ghost use Rattle.wq_graph.specs.Graph.{group_graph};
 ghost use Rattle.wq_core.specs.Wiring.{wiring};
-ghost use Rattle.wq_core.specs.Deadlock.{IsSafe};
+ghost use Rattle.wq_core.specs.Deadlock.{IsSafe, IsLeast};
 ghost use Rattle.wq_levels.specs.Walks.{IsWalkedCircle};
 ghost use Rattle.wq_plan.specs.Plan.{IsPlan, lanes_of, chain_of};
 ghost use Rattle.wq_plan.specs.LongestChain.{IsLongestChain};
@@ -37,6 +37,12 @@ pub fn lanes_fall()
 /// No run of a plan ends stuck, whatever is queued and cancelled, and whatever the executions flush.
 pub fn a_plan_is_safe()
     ensures { (d : Declaration) (a : Assignment) → IsDeclaration d → IsPlan d a → IsSafe (wiring d a) }
+{}
+
+/// Every assignment of the groups to fewer workqueues than a plan has deadlocks: it has a run that ends stuck, with each
+/// item queued once and flushing as declared.
+pub fn a_plan_is_least()
+    ensures { (d : Declaration) (a : Assignment) → IsDeclaration d → IsPlan d a → IsLeast d a }
 {}
 
 /// The groups of a declaration have a plan, or they wait in a circle.
