@@ -109,7 +109,7 @@ pub record ArePrintable (t : Table) (arcs : List (ℕ × ℕ)) : Type 0 where
   pub few : length arcs ≤ 4096
   pub items : All (JoinsItems t) arcs
 
-printable : (s : Declared) (arcs : List WaitArc) (ends : List (ℕ × ℕ)) → IsSound s → length arcs ≤ 4096 → All (IsArc s.table.waits s.partition.group_of) arcs → ends ≡ map ends_of arcs
+pub printable : (s : Declared) (arcs : List WaitArc) (ends : List (ℕ × ℕ)) → IsSound s → length arcs ≤ 4096 → All (IsArc s.table.waits s.partition.group_of) arcs → ends ≡ map ends_of arcs
     → ArePrintable s.table ends
 printable s arcs ends sound few are is =
     let joins = All-map (JoinsItems s.table) ends_of arcs

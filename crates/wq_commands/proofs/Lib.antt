@@ -5,3 +5,4 @@ pub mod TextLength
 pub mod Uniqueness
 pub mod CheckLemmas
 pub mod InputLemmas
+pub mod PromiseLemmas

@@ -8,6 +8,7 @@ pub use Rattle.wq_levels.specs.Walks
 pub use Rattle.wq_plan.specs.Plan
 pub mod Answer
 pub mod Input
+pub mod Promise
 pub mod Checking
 pub mod CheckInput
 pub mod Replaying

@@ -3,6 +3,7 @@ use Rattle.std.specs.Prelude.{◌≡◌, ℕ, ◌+◌, List, IfSome, Option}
 use Rattle.wq_commands.specs.declared.end.End.{End}
 use Rattle.wq_commands.specs.Answer.{Answers}
 use Rattle.wq_commands.specs.Declaration.{max_text}
+use Rattle.wq_commands.specs.Promise.{KeepsPromise}
 use Rattle.wq_meter.specs.Meter.{Meter, TakesFront}
 
 -- the text is what a reader has left, where that is known
@@ -15,3 +16,9 @@ pub record AnswersInput {R : Type 0} (remaining : R → Option (List ℕ)) (old 
   pub input : IsInput (remaining old.device) text
   pub taken : TakesFront remaining old new (max_text + 1) text
   pub answer : Answers text end out
+
+-- this answers the text that a reader had, and keeps what it promises
+pub record KeepsPromiseOfInput {R : Type 0} (remaining : R → Option (List ℕ)) (old : Meter R) (end : End) (out : List ℕ) : Type 0 where
+  pub text : List ℕ
+  pub input : IsInput (remaining old.device) text
+  pub promise : KeepsPromise text end out

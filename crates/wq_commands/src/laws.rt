@@ -9,6 +9,7 @@ ghost use Rattle.wq_graph.specs.Graph.{group_graph};
 ghost use Rattle.wq_levels.specs.Walks.{IsWalkedCircle};
 ghost use Rattle.wq_plan.specs.Plan.{IsPlan};
 ghost use Rattle.wq_commands.specs.Answer.{Answers, declared_waits, text_of_plan, text_of_circle};
+ghost use Rattle.wq_commands.specs.Promise.{KeepsPromise};
 ghost use Rattle.wq_commands.specs.Declaration.{Declared, declaration, max_text};
 ghost use Rattle.wq_commands.specs.declared.end.End.{End};
 ghost use Rattle.wq_commands.specs.declared.end.End.TheVariants.{Good, Bad, Refused};
@@ -17,6 +18,14 @@ ghost use Rattle.wq_commands.specs.declared.end.End.TheVariants.{Good, Bad, Refu
 pub fn a_text_has_one_answer()
     ensures end { (text : List ℕ) (end other : End) (out printed : List ℕ) → Answers text end out → Answers text other printed → end ≡ other }
     ensures out { (text : List ℕ) (end other : End) (out printed : List ℕ) → Answers text end out → Answers text other printed → out ≡ printed }
+{}
+
+/// An answer keeps what it promises. Of a plan text: the assignment that is read from it lets no run end stuck, every
+/// assignment to fewer workqueues has a run that ends stuck, with each item queued once and flushing as declared, and the
+/// printed chain has as many groups as there are workqueues. Of a circle text: its arcs go round groups, and every
+/// assignment has such a run.
+pub fn an_answer_keeps_its_promise()
+    ensures { (text : List ℕ) (end : End) (out : List ℕ) → Answers text end out → KeepsPromise text end out }
 {}
 
 /// A text has an answer.

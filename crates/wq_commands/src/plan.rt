@@ -5,7 +5,7 @@
 ghost use Rattle.std.specs.Prelude.{◌≡◌, ◌≢◌, ◌≤◌, ◌+◌, ℕ, List, Err, IfOk};
 ghost use Rattle.wq_commands.specs.Declaration.{max_text};
 ghost use Rattle.wq_meter.specs.Meter.{count_after, LosesFront, WritesFront, WritesWhole};
-ghost use Rattle.wq_commands.specs.Run.{AnswersInput};
+ghost use Rattle.wq_commands.specs.Run.{AnswersInput, KeepsPromiseOfInput};
 ghost use Rattle.wq_commands.specs.declared.end.End.{End};
 
 use crate::answer::answer;
@@ -28,6 +28,12 @@ pub fn plan_cmd<R: Read, W: Write, A: Allocator + Copy>(
 ) -> Result<End, Fault>
     // The answer to the text that the reader had is written, and nothing else.
     ensures answered { IfOk result (λ end. (out : List ℕ) × AnswersInput R.remaining reader.old reader.new end out
+        × WritesWhole W.contents writer.old writer.new out) }
+
+    // What is written is true. Of a plan: no run of the assignment that is read from it ends stuck, and every assignment to
+    // fewer workqueues has a run, with each item queued once and flushing as declared, that ends stuck. Of a circle: every
+    // assignment has such a run.
+    ensures promised { IfOk result (λ end. (out : List ℕ) × KeepsPromiseOfInput R.remaining reader.old end out
         × WritesWhole W.contents writer.old writer.new out) }
 
     // What a fault leaves.

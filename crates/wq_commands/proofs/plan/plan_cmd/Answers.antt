@@ -3,6 +3,7 @@ use Rattle.wq_commands.specs.Answer.{Answers}
 use Rattle.wq_meter.specs.Meter.{WritesFront, WritesWhole}
 use Rattle.wq_commands.specs.Run.{AnswersInput}
 use Rattle.wq_commands.proofs.AnswerLemmas.{AnswersInput-read}
+use Rattle.wq_commands.proofs.PromiseLemmas.{KeepsPromise-answers}
 use Rattle.wq_commands.proofs.plan.plan_cmd.Goals as goal
 
 pub returns-in_err-write_text-clause-front : goal.returns-in_err-write_text-clause-front
@@ -27,3 +28,17 @@ returns-clause-answered g c =
     read.text (omega arith) read.rest (omega arith) (omega arith)
     (subst (λ (bytes : List ℕ). Answers bytes c.in_ok-end.end c.in_ok-end.answer.items) c.deref.ensures.value c.in_ok-end.ensures) in
     (c.in_ok-end.answer.items, answered, subst (λ (bytes : List ℕ). WritesWhole g.W.Write.contents c.args.writer.now c.write_text.new.writer bytes) c.deref-2.ensures.value c.in_ok-write_text.ensures.whole)
+
+pub returns-clause-promised : goal.returns-clause-promised
+returns-clause-promised g c =
+    let text = c.in_ok-text.text in
+    let read = c.in_ok-text.ensures in
+    let whole = text.ok.0 in
+    let answered : AnswersInput g.R.Read.remaining c.args.reader.now c.read_text.new.reader c.in_ok-end.end c.in_ok-end.answer.items =
+    AnswersInput-read g.R.Read.remaining c.args.reader.now c.read_text.new.reader text.items c.in_ok-end.end c.in_ok-end.answer.items
+    read.text (omega arith) read.rest (omega arith) (omega arith)
+    (subst (λ (bytes : List ℕ). Answers bytes c.in_ok-end.end c.in_ok-end.answer.items) c.deref.ensures.value c.in_ok-end.ensures) in (
+      c.in_ok-end.answer.items,
+      record { text = answered.text; input = answered.input; promise = KeepsPromise-answers answered.text c.in_ok-end.end c.in_ok-end.answer.items answered.answer },
+      subst (λ (bytes : List ℕ). WritesWhole g.W.Write.contents c.args.writer.now c.write_text.new.writer bytes) c.deref-2.ensures.value c.in_ok-write_text.ensures.whole,
+    )

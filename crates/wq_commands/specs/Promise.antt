@@ -1,0 +1,38 @@
+-- What an answer promises, said of the bytes that are printed.
+use Rattle.std.specs.Prelude.{◌≡◌, ℕ, List, Ok, MatchResult}
+use Rattle.wq_groups.specs.Assignment.{Assignment, IsAssignment}
+use Rattle.wq_core.specs.Wiring.{wiring}
+use Rattle.wq_core.specs.Deadlock.{Deadlocks, IsLeast}
+use Rattle.wq_cert.specs.Certificate.{PlanCertificate, CircleCertificate, OfPlan, OfCircle}
+use Rattle.wq_cert.specs.Texts.{answer_of, assignment_of_text}
+use Rattle.wq_checker.specs.Chains.{AllJoin, before_in_circle}
+use Rattle.wq_commands.specs.declared.end.End.{End}
+use Rattle.wq_commands.specs.declared.end.End.TheVariants.{Good, Bad, Refused}
+use Rattle.wq_commands.specs.Answer.{declared_waits}
+use Rattle.wq_commands.specs.Declaration.{Declared, declaration}
+
+-- a plan is read from the bytes; its assignment lets no run end stuck, and every assignment to fewer workqueues has a run
+-- that ends stuck, with each item queued once and flushing as declared; the chain has as many groups as there are workqueues
+pub record KeepsPlan (s : Declared) (out : List ℕ) : Type 0 where
+  pub plan : PlanCertificate
+  pub read : answer_of s.table.names s.partition out ≡ Ok (OfPlan plan)
+  pub assignment : assignment_of_text s.table.names s.partition out ≡ Ok plan.assignment
+  pub least : IsLeast (declared_waits s) plan.assignment
+  pub length : plan.length ≡ plan.assignment.lanes
+
+-- a circle is read from the bytes, and every assignment has such a run
+pub record KeepsCircle (s : Declared) (out : List ℕ) : Type 0 where
+  pub circle : CircleCertificate
+  pub read : answer_of s.table.names s.partition out ≡ Ok (OfCircle circle)
+  pub round : AllJoin (declared_waits s) (before_in_circle circle.arcs) circle.arcs
+  pub deadlocks : (a : Assignment) → IsAssignment s.partition.groups a → Deadlocks (wiring (declared_waits s) a)
+
+-- what is promised of the bytes that answer a declaration, by the end of the run
+abbrev pub KeepsDeclared : Declared → End → List ℕ → Type 0
+KeepsDeclared s Good out = KeepsPlan s out
+KeepsDeclared s Bad out = KeepsCircle s out
+KeepsDeclared s Refused out = ⊥
+
+-- what is promised of the bytes that answer a text: of a text that declares nothing, that it is refused
+abbrev pub KeepsPromise : List ℕ → End → List ℕ → Type 0
+KeepsPromise text end out = MatchResult (declaration text) (λ s. KeepsDeclared s end out) (λ r. end ≡ Refused)
