@@ -293,18 +293,23 @@ def any_step(choose, declared, wqs):
 def near_step(choose, declared, wqs, state):
     """A step that is nearly lawful: the right word, workqueue or name, and something else wrong."""
     steps = list(state.rescuer_steps())
-    if not steps or choose.random() < 0.3:
+    if not steps or choose.random() < 0.2:
         return any_step(choose, declared, wqs)
     word, workqueue, name = choose.choice(steps)
     way = choose.random()
-    if way < 0.4:
+    if way < 0.25:
         return choose.choice(STEP_WORDS[2:]), workqueue, name
-    if way < 0.6:
+    if way < 0.4:
         return word, choose.choice([workqueue + 1, max(workqueue - 1, 0), len(wqs)]), name
-    entry = state.running.get(workqueue)
-    if entry is not None and way < 0.8:
+    running = list(state.running)
+    if running and way < 0.85:
+        # The running entries, whether they wait or not.
+        workqueue = choose.choice(running)
+        entry = state.running[workqueue]
         targets = [entry.target] if entry.target else state.targets[entry.item] + [entry.item]
-        return choose.choice([b"over", b"wait", b"finish"]), workqueue, choose.choice(targets)
+        if choose.random() < 0.4:
+            targets = declared.items
+        return choose.choice([b"over", b"over", b"wait", b"finish"]), workqueue, choose.choice(targets)
     return word, workqueue, any_item(choose, declared)
 
 
@@ -347,7 +352,7 @@ def play(choose, declared, wqs, first):
         step = choose.choice(may)
         state.make(step)
         steps.append(step)
-    if choose.random() < 0.15:
+    if choose.random() < 0.2:
         steps.append(near_step(choose, declared, wqs, state))
         for _ in range(choose.randint(0, 2)):
             steps.append(any_step(choose, declared, wqs))
@@ -590,6 +595,35 @@ def random_replay_case(seed, number):
     return [text, spelled(choose, declared, assignment, 0.15), spelled(choose, declared, run, 0.15)]
 
 
+OTHER_WORDS = [b"0", b"1", b"007", b"+1", b"4095", b"4096", b"4097", b"4294967295", b"4294967296",
+               b"a", b"b", b"zz", b"a\x80", b"run"]
+
+
+def faults_everywhere(certificate):
+    """The certificate with a fault of form, or another word, at each of its places in turn."""
+    lines = [line.split(b" ") for line in certificate.splitlines()]
+
+    def text(front, changed, back):
+        return join(*[b" ".join(words) for words in front + changed + back])
+
+    for at, words in enumerate(lines):
+        front, back = lines[:at], lines[at + 1:]
+        yield f"the end cut off before line {at + 1}", text(front, [], [])
+        yield f"line {at + 1} dropped", text(front, [], back)
+        yield f"line {at + 1} doubled", text(front, [words, words], back)
+        yield f"line {at + 1} behind the next", text(front, back[:1] + [words], back[1:])
+        yield f"line {at + 1} in a comment", text(front, [[b"#"] + words], back)
+        yield f"line {at + 1} ends with CR CR", text(front, [words + [b"\r\r"]], back)
+        for place, word in enumerate(words):
+            what = f"line {at + 1}, word {place + 1}"
+            before, behind = words[:place], words[place + 1:]
+            yield f"{what} dropped", text(front, [before + behind], back)
+            yield f"{what} doubled", text(front, [before + [word, word] + behind], back)
+            yield f"{what} cut off by a comment", text(front, [before + [b"#" + word]], back)
+            for other in OTHER_WORDS if place else KEYWORDS + [word.upper(), word + b"s", b"\x80"]:
+                yield f"{what} is {other!r}", text(front, [before + [other] + behind], back)
+
+
 def limit_check_cases():
     """The cases at the limits: what each is, the declaration and the certificate."""
     cases = []
@@ -602,6 +636,16 @@ def limit_check_cases():
 
     add_text_limits(lambda what, text: add(what, none, text), empty, b"chain 0")
     add("a bad declaration and a long certificate", b"item\n", b"#" * (TEXT_LIMIT + 1))
+
+    two = join(b"item a", b"item b", b"flush a b")
+    round_two = join(b"item a", b"item b", b"flush a b", b"flush b a")
+    run = join(b"run 6", b"queue a", b"queue b", b"start 0 a", b"wait 0 b", b"start 1 b", b"wait 1 a")
+    for what, declaration, certificate in [
+        ("a plan", two, plan.answer(two)[0]),
+        ("a circle", round_two, plan.answer(round_two)[0] + run),
+    ]:
+        for fault, text in faults_everywhere(certificate):
+            add(f"{what}, {fault}", declaration, text)
 
     # K, N, and the empty certificate.
     add("no line", none, none)
@@ -715,6 +759,14 @@ def limit_replay_cases():
     add("M is the largest number", one, join(b"wq 0 a"), join(b"run 4294967295", b"queue a"))
     add("M is larger", one, join(b"wq 0 a"), join(b"run 4294967296", b"queue a"))
 
+    run = [b"queue b", b"queue a", b"cancel b", b"queue b", b"start 0 a", b"wait 0 b", b"start 1 b",
+           b"finish 1 b", b"over 0 b", b"finish 0 a"]
+    for fault, text in faults_everywhere(join(b"run 10", *run)):
+        add(f"a run, {fault}", two, b"wq 0 a\nwq 1 b\n", text)
+    for assignment in b"wq 0 a\nwq 1 b\n", b"plan 2\nwq 0 a\nwq 1 b\nchain 2\narc b a\n":
+        for fault, text in faults_everywhere(assignment):
+            add(f"an assignment, {fault}", two, text, join(b"run 10", *run))
+
     # Workqueues.
     for count in 4_095, 4_096, 4_097:
         lines = [b"wq %d" % number for number in range(count)]
@@ -787,6 +839,10 @@ def limit_replay_cases():
         ("a wait while it waits", two + b"flush a b", b"wq 0 a b", wait + [b"wait 0 b"]),
         ("a finish while it waits", two, b"wq 0 a b", wait + [b"finish 0 a"]),
         ("an over for another", two, b"wq 0 a b", wait + [b"over 0 a"]),
+        ("an over for one that is finished", join(two, b"item c"), b"wq 0 a b c",
+         wait + [b"over 0 c"]),
+        ("a wait for another that is declared", join(two, b"item c", b"flush b c"), b"wq 0 a b c",
+         [b"queue a", b"start 0 a", b"wait 0 c"]),
         ("an over where none waits", two, b"wq 0 a b", wait + [b"over 0 b", b"over 0 b"]),
         ("a finish of another", two, b"wq 0 a b", [b"queue a", b"start 0 a", b"finish 0 b"]),
         ("queued while pending", two, b"wq 0 a b", [b"queue a", b"queue a"]),
