@@ -20,7 +20,8 @@ NUMBER_OUT_OF_RANGE = 43
 
 # The steps: whether a step names a workqueue before its item.
 NAMES_WORKQUEUE = {
-    b"queue": False, b"cancel": False, b"start": True, b"wait": True, b"over": True, b"finish": True,
+    b"queue": False, b"cancel": False,
+    b"start": True, b"wait": True, b"over": True, b"finish": True,
 }
 
 

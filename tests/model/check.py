@@ -3,10 +3,11 @@
 
 import sys
 
-import certificate
-import declaration
-from declaration import Refused
-from steps import end_of_run
+sys.dont_write_bytecode = True
+import certificate  # noqa: E402  (beside this file)
+import declaration  # noqa: E402
+from declaration import Refused  # noqa: E402
+from steps import end_of_run  # noqa: E402
 
 
 def first_bad_arc(declared, arcs, before):

@@ -3,15 +3,16 @@
 #     compare.py PROGRAM [SEED] [CASES] [--only COMMAND,..]
 #
 # It makes up declarations, answers, assignments and runs, gives them to `PROGRAM plan` on standard
-# input, and as files to `PROGRAM check` and `PROGRAM replay`, and compares the bytes that are printed
-# and the exit status with the model's. Of each command there are the cases at the limits of
-# docs/FORMAT.md, once each, and then CASES random ones. The same SEED makes the same cases. It fails
-# where an answer differs, and where some kind of answer never came, as may be with few CASES. Before
-# all this the model must answer the worked examples of the page (examples.py).
+# input, and as files to `PROGRAM check` and `PROGRAM replay`, and compares the bytes that are
+# printed and the exit status with the model's. Of each command there are the cases at the limits of
+# docs/FORMAT.md and at each place of small texts, once each, and then CASES random ones. The same
+# SEED makes the same cases. It fails where an answer differs, and where some kind of answer never
+# came, as may be with few CASES. Before all this the model must answer the worked examples of the
+# page (examples.py).
 #
 # With --only the program is asked for these commands alone; with `--only none` it isn't run at all.
-# The cases of the other commands are made all the same, and the model's answers must have one of the
-# forms of the page.
+# The cases of the other commands are made all the same, and the model's answers must have one of
+# the forms of the page.
 
 import collections
 import concurrent.futures
@@ -37,9 +38,11 @@ DIFFERENCES_SHOWN = 3
 SECONDS_PER_RUN = 30
 
 # Of each command: the model, the cases at the limits, the random cases, the names of the texts, and
-# the kinds of answer, each with its exit status and its form. In a form N is a number, Z one or more
-# names, and A is an `arc` line.
-DECLARATION_REFUSALS = [(f"refusals {code}", 2, rf"refused {code} line N\n") for code in range(1, 13)]
+# the kinds of answer, each with its exit status and its form. In a form N is a number, Z one or
+# more names, and A is an `arc` line.
+DECLARATION_REFUSALS = [
+    (f"refusals {code}", 2, rf"refused {code} line N\n") for code in range(1, 13)
+]
 CERTIFICATE_REFUSALS = [("refusals of the declaration", 2, r"refused ([1-9]|1[0-2]) line N\n")] + [
     (f"refusals {code}", 2, rf"refused {code} line N\n") for code in (40, 41, 42, 43)
 ]

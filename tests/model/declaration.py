@@ -1,5 +1,5 @@
-# Reads a declaration, for the model in plan.py, check.py and replay.py: docs/FORMAT.md, from "Lines,
-# words and numbers" to "Refusals". See plan.py for what the model is.
+# Reads a declaration, for the model in plan.py, check.py and replay.py: docs/FORMAT.md, from
+# "Lines, words and numbers" to "Refusals". See plan.py for what the model is.
 
 import dataclasses
 

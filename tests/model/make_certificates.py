@@ -309,7 +309,8 @@ def near_step(choose, declared, wqs, state):
         targets = [entry.target] if entry.target else state.targets[entry.item] + [entry.item]
         if choose.random() < 0.4:
             targets = declared.items
-        return choose.choice([b"over", b"over", b"wait", b"finish"]), workqueue, choose.choice(targets)
+        word = choose.choice([b"over", b"over", b"wait", b"finish"])
+        return word, workqueue, choose.choice(targets)
     return word, workqueue, any_item(choose, declared)
 
 
@@ -446,6 +447,20 @@ def fault_lines_swapped(choose, declared, lines):
         lines[first], lines[second] = lines[second], lines[first]
 
 
+def fault_lines_merged(choose, declared, lines):
+    """Two lines on one, with the second's first words or without."""
+    if len(lines) > 1:
+        at = choose.randrange(len(lines) - 1)
+        lines[at:at + 2] = [lines[at] + lines[at + 1][choose.choice([0, 1, 2]):]]
+
+
+def fault_line_split(choose, declared, lines):
+    if lines:
+        at = choose.randrange(len(lines))
+        place = choose.randint(0, len(lines[at]))
+        lines[at:at + 1] = [lines[at][:place], lines[at][place:]]
+
+
 def fault_end_cut(choose, declared, lines):
     del lines[choose.randint(0, len(lines)):]
 
@@ -525,16 +540,18 @@ def fault_bad_byte(choose, declared, lines):
         words[at] = words[at][:place] + bad + words[at][place:]
 
 
-FAULTS = [fault_line_dropped, fault_line_doubled, fault_lines_swapped, fault_end_cut,
-          fault_line_added, fault_number, fault_number, fault_head, fault_word_dropped,
-          fault_word_added, fault_keyword, fault_name, fault_name, fault_bad_byte]
+FAULTS = [fault_line_dropped, fault_line_doubled, fault_lines_swapped, fault_lines_merged,
+          fault_line_split, fault_end_cut, fault_line_added, fault_number, fault_number,
+          fault_head, fault_word_dropped, fault_word_added, fault_keyword, fault_name, fault_name,
+          fault_bad_byte]
 
 
 def fault_of_bytes(choose, text):
     """A few bytes of the text changed, whatever they mean."""
     for _ in range(choose.choice([1, 1, 2])):
         at = choose.randint(0, len(text))
-        byte = bytes([choose.choice(b"\n\r\t #019aqw\x00\x0b\xff" + bytes([choose.randrange(256)]))])
+        any_byte = bytes([choose.randrange(256)])
+        byte = bytes([choose.choice(b"\n\r\t #019aqw\x00\x0b\xff" + any_byte)])
         way = choose.random()
         if way < 0.5:
             text = text[:at] + byte + text[at + 1:]
@@ -639,13 +656,16 @@ def limit_check_cases():
 
     two = join(b"item a", b"item b", b"flush a b")
     round_two = join(b"item a", b"item b", b"flush a b", b"flush b a")
-    run = join(b"run 6", b"queue a", b"queue b", b"start 0 a", b"wait 0 b", b"start 1 b", b"wait 1 a")
+    run = join(b"run 6", b"queue a", b"queue b", b"start 0 a", b"wait 0 b", b"start 1 b",
+               b"wait 1 a")
     for what, declaration, certificate in [
         ("a plan", two, plan.answer(two)[0]),
         ("a circle", round_two, plan.answer(round_two)[0] + run),
     ]:
         for fault, text in faults_everywhere(certificate):
             add(f"{what}, {fault}", declaration, text)
+
+    add("a circle with a run of no step", round_two, plan.answer(round_two)[0] + b"run 0\n")
 
     # K, N, and the empty certificate.
     add("no line", none, none)
@@ -670,7 +690,8 @@ def limit_check_cases():
         add(f"circle {count}", looped, join(b"circle %d" % count) + arcs)
         add(f"circle {count}, one arc less", looped, join(b"circle %d" % count) + arcs[8:])
         add(f"circle {count}, one arc more", looped, join(b"circle %d" % count, b"arc a a") + arcs)
-        run = join(b"circle 1", b"arc a a", b"run 3", b"queue a", b"start %d a" % count, b"wait 0 a")
+        run = join(b"circle 1", b"arc a a", b"run 3", b"queue a", b"start %d a" % count,
+                   b"wait 0 a")
         add(f"a step on workqueue {count}", looped, run)
         add(f"a step on workqueue {count}, of no item", looped, run.replace(b"%d a" % count,
                                                                             b"%d b" % count))
@@ -725,7 +746,8 @@ def add_text_limits(add, certificate, last):
         add(f"{length} bytes, the lines last", filler + certificate)
         add(f"{length} bytes, the lines first", certificate + filler)
         add(f"{length} bytes, a fault first", b"x" + filler + certificate[1:])
-        add(f"{length} bytes, a long line first", b" " * LINE_LIMIT + (filler + certificate)[LINE_LIMIT:])
+        blanked = b" " * LINE_LIMIT + (filler + certificate)[LINE_LIMIT:]
+        add(f"{length} bytes, a long line first", blanked)
 
 
 def limit_replay_cases():
@@ -805,6 +827,28 @@ def limit_replay_cases():
     add("4,096 items, one queued twice", join(*items), line,
         join(b"run 4097", *queued, queued[7]))
 
+    # Each step behind each front of a run.
+    three = join(b"item a", b"item b", b"item c", b"flush a b c", b"flush b c b")
+    for declaration, assignment, steps in [
+        (two, b"wq 0 b\nwq 1 a\n",
+         [b"queue a", b"queue b", b"start 1 a", b"wait 1 b", b"queue a", b"start 0 b", b"cancel a",
+          b"finish 0 b", b"over 1 b", b"finish 1 a"]),
+        (three, b"wq 0 a c\nwq 1 b\n",
+         [b"queue b", b"queue a", b"queue c", b"start 0 a", b"wait 0 b", b"queue b", b"start 1 b",
+          b"wait 1 c"]),
+        (three, b"wq 0 a b c\n",
+         [b"queue c", b"queue b", b"start 0 c", b"queue a", b"finish 0 c", b"start 0 b",
+          b"wait 0 c", b"over 0 c", b"wait 0 b"]),
+    ]:
+        names = sorted(read_declaration(declaration).items)
+        others = [b"%s %s" % (word, name) for word in STEP_WORDS[:2] for name in names]
+        others += [b"%s %d %s" % (word, number, name) for word in STEP_WORDS[2:]
+                   for number in range(3) for name in names]
+        for length in range(len(steps) + 1):
+            for other in others:
+                add(f"{other.decode()} behind {length} steps of {b', '.join(steps).decode()}",
+                    declaration, assignment, join(b"run %d" % (length + 1), *steps[:length], other))
+
     # What the steps' table says, each on its own.
     wait = [b"queue a", b"start 0 a", b"wait 0 b"]
     for what, declaration, assignment, steps in [
@@ -858,9 +902,11 @@ def limit_replay_cases():
           b"start 0 c", b"finish 0 c", b"start 0 b"]),
         ("started elsewhere", two, b"wq 0 a b\nwq 1", [b"queue a", b"start 1 a"]),
         ("started where there is none", two, b"wq 0 a b", [b"queue a", b"start 1 a"]),
-        ("a wait for what isn't declared", two, b"wq 0 a b", [b"queue b", b"start 0 b", b"wait 0 a"]),
+        ("a wait for what isn't declared", two, b"wq 0 a b",
+         [b"queue b", b"start 0 b", b"wait 0 a"]),
         ("a later run of a target, which waits", two + b"flush b a", b"wq 0 a\nwq 1 b",
-         [b"queue a", b"queue b", b"start 0 a", b"start 1 b", b"queue b", b"wait 0 b", b"wait 1 a"]),
+         [b"queue a", b"queue b", b"start 0 a", b"start 1 b", b"queue b", b"wait 0 b",
+          b"wait 1 a"]),
         ("a deadlock of two", two + b"flush b a", b"wq 0 a\nwq 1 b",
          [b"queue a", b"queue b", b"start 0 a", b"start 1 b", b"wait 0 b", b"wait 1 a"]),
     ]:

@@ -10,7 +10,8 @@
 
 import sys
 
-from declaration import TEXT_LIMIT, Refused, read_declaration
+sys.dont_write_bytecode = True
+from declaration import TEXT_LIMIT, Refused, read_declaration  # noqa: E402  (beside this file)
 
 
 def chain_lengths(waits_for):

@@ -2,9 +2,9 @@
 #
 #     properties.py [SEED] [CASES]
 #
-# It makes up the same cases as compare.py, and looks at the model's answers with other means: with a
-# second reading of certificates that is one pattern for each kind of text, with a second reading of
-# the steps that keeps no state and looks at all steps before, and with laws that docs/FORMAT.md
+# It makes up the same cases as compare.py, and looks at the model's answers with other means: with
+# a second reading of certificates that is one pattern for each kind of text, with a second reading
+# of the steps that keeps no state and looks at all steps before, and with laws that docs/FORMAT.md
 # implies. It stops at the first case that breaks one.
 
 import collections
@@ -199,7 +199,8 @@ class Past:
 
     def is_as_declared(self):
         words = collections.Counter((word, name) for word, _, name in self.steps)
-        if any(words[b"queue", item] != 1 or words[b"cancel", item] for item in self.declared.items):
+        items = self.declared.items
+        if any(words[b"queue", item] != 1 or words[b"cancel", item] for item in items):
             return False
         # Each item runs at most once, on a workqueue where others run before and behind it.
         for workqueue in set(self.workqueue_of.values()):
@@ -242,7 +243,7 @@ def look_at_plan(text):
     """What the model's plan answers is true, and a smaller plan isn't."""
     printed, status = plan.answer(text)
     if status == 2:
-        demand(check.answer(text, printed) == (printed, 2), "a refusal of the declaration comes first")
+        demand(check.answer(text, printed) == (printed, 2), "its refusal comes first")
         return
     head = printed.split(b"\n", 1)[0].replace(b"plan ", b"yes ").replace(b"circle", b"yes circle")
     demand(check.answer(text, printed) == (head + b"\n", 0), "what plan answers is true")
@@ -309,11 +310,13 @@ def look_at_replay(declaration_text, assignment_text, run_text):
         return
     printed, status = replay.answer(declaration_text, assignment_text, run_text)
     fits = good("assignment", assignment_text, declared)
-    demand((status != 2) == (fits and good("run", run_text, declared)), "both readings are the same")
+    both = fits and good("run", run_text, declared)
+    demand((status != 2) == both, "both readings are the same")
     if status == 2:
         if fits:
             look_at_refusal(
-                lambda other: replay.answer(declaration_text, assignment_text, other), run_text, printed)
+                lambda other: replay.answer(declaration_text, assignment_text, other), run_text,
+                printed)
         else:
             look_at_refusal(
                 lambda other: replay.answer(declaration_text, other, b"run 0\n"), assignment_text,
@@ -325,7 +328,8 @@ def look_at_replay(declaration_text, assignment_text, run_text):
     demand(second in (None, printed), "both readings of the steps are the same")
     falls = all(assignment.workqueue_of[item] > assignment.workqueue_of[target]
                 for item, target in declared.flushes)
-    demand(not falls or printed not in (b"stuck\n", b"deadlock\n"), "falling numbers end nothing stuck")
+    stuck = printed in (b"stuck\n", b"deadlock\n")
+    demand(not (falls and stuck), "where the numbers fall no run ends stuck")
 
     # The fronts of the run.
     lines = tidy(run_text).split(b"\n")[1:-1]
@@ -353,9 +357,9 @@ def main(arguments):
     seed = arguments[0] if arguments else DEFAULT_SEED
     count = int(arguments[1]) if len(arguments) > 1 else DEFAULT_CASES
     parts = [
-        ("plan", look_at_plan, lambda number: [make_declarations.random_case(seed, number)]),
-        ("check", look_at_check, lambda number: make_certificates.random_check_case(seed, number)),
-        ("replay", look_at_replay, lambda number: make_certificates.random_replay_case(seed, number)),
+        ("plan", look_at_plan, lambda *case: [make_declarations.random_case(*case)]),
+        ("check", look_at_check, make_certificates.random_check_case),
+        ("replay", look_at_replay, make_certificates.random_replay_case),
     ]
     limits = {
         "plan": [],
@@ -366,7 +370,7 @@ def main(arguments):
     for command, look_at, random_case in parts:
         small = [texts for _, texts in limits[command] if sum(map(len, texts)) < 20_000]
         for number in range(len(small) + count):
-            texts = small[number] if number < len(small) else random_case(number - len(small))
+            texts = small[number] if number < len(small) else random_case(seed, number - len(small))
             looked += 1
             try:
                 look_at(*texts)
