@@ -665,6 +665,19 @@ def limit_check_cases():
         for fault, text in faults_everywhere(certificate):
             add(f"{what}, {fault}", declaration, text)
 
+    # Several faults on one line, and on two.
+    grouped = join(b"item a", b"item b", b"item c", b"item d", b"ordered a d", b"ordered b c")
+    for text in [
+        b"wq 2 zz", b"wq 007 a", b"wq 2 d", b"wq 2 b b", b"wq 1 zz b b", b"wq 1 zz d", b"wq 1 a d",
+        b"wq 1 d a", b"wq 1 d b b", b"wq 1 b c d", b"wq 1 b b", b"wq 2 a", b"wq 1 b c", b"wq 1 b",
+        b"wq 1 b\nwq 2 c", b"wq 1 b\nwq 3 c", b"wq 1 b\nwq 2 zz", b"wq 1 b\nwq 2 b c", b"wq 1 d\nx",
+        b"wq 1 b\nx", b"wq 1 b c\nx", b"wq 1 b c\nwq 3", b"wq 1 b\nwq 2", b"wq 1 b\nchain 4097",
+        b"wq 1 b c\nchain 4097 4097", b"wq 1 b c\nchain 4097\nx", b"chain 4097",
+    ]:
+        for front in b"wq 0 a\n", b"wq 0 a d\n":
+            for count in 1, 2, 3, 4_097:
+                add(f"{(front + text).decode()!r} in a plan of {count}", grouped,
+                    b"plan %d\n" % count + front + text + b"\n")
     add("a circle with a run of no step", round_two, plan.answer(round_two)[0] + b"run 0\n")
 
     # K, N, and the empty certificate.
@@ -788,6 +801,11 @@ def limit_replay_cases():
     for assignment in b"wq 0 a\nwq 1 b\n", b"plan 2\nwq 0 a\nwq 1 b\nchain 2\narc b a\n":
         for fault, text in faults_everywhere(assignment):
             add(f"an assignment, {fault}", two, text, join(b"run 10", *run))
+
+    for what, (declaration, certificate) in limit_check_cases():
+        if "in a plan of 4097" in what:
+            text = certificate.split(b"\n", 1)[1]
+            add(f"{text.decode()!r} as an assignment", declaration, text, no_steps)
 
     # Workqueues.
     for count in 4_095, 4_096, 4_097:
