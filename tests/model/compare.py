@@ -1,24 +1,35 @@
-# Compares the program with the model of it in plan.py:
+# Compares the program with the model of it in plan.py, check.py and replay.py:
 #
-#     compare.py PROGRAM [SEED] [CASES]
+#     compare.py PROGRAM [SEED] [CASES] [--only COMMAND,..]
 #
-# It makes up declarations, gives each to `PROGRAM plan` on standard input, and compares the bytes
-# that it prints and its exit status with the model's. There are the cases at the limits of
-# docs/FORMAT.md, once each, and then CASES random ones. The same SEED makes the same cases. It
-# fails where an answer differs, and where some kind of answer never came, as may be with few CASES.
+# It makes up declarations, answers, assignments and runs, gives them to `PROGRAM plan` on standard
+# input, and as files to `PROGRAM check` and `PROGRAM replay`, and compares the bytes that are
+# printed and the exit status with the model's. Of each command there are the cases at the limits of
+# docs/FORMAT.md and at each place of small texts, once each, and then CASES random ones. The same
+# SEED makes the same cases. It fails where an answer differs, and where some kind of answer never
+# came, as may be with few CASES. Before all this the model must answer the worked examples of the
+# page (examples.py).
+#
+# With --only the program is asked for these commands alone; with `--only none` it isn't run at all.
+# The cases of the other commands are made all the same, and the model's answers must have one of
+# the forms of the page.
 
 import collections
 import concurrent.futures
-import dataclasses
 import os
-import random
-import string
+import re
 import subprocess
 import sys
 import tempfile
+import traceback
 
 sys.dont_write_bytecode = True
-import plan  # noqa: E402  (beside this file)
+import check  # noqa: E402  (beside this file)
+import examples  # noqa: E402
+import make_certificates  # noqa: E402
+import make_declarations  # noqa: E402
+import plan  # noqa: E402
+import replay  # noqa: E402
 
 DEFAULT_SEED = "1"
 DEFAULT_CASES = 2_000
@@ -26,605 +37,105 @@ WORKERS = 2
 DIFFERENCES_SHOWN = 3
 SECONDS_PER_RUN = 30
 
-NAME_LETTERS = (string.ascii_letters + string.digits + "_-.").encode()
-OTHER_LETTERS = bytes(byte for byte in range(0x21, 0x7F) if byte not in NAME_LETTERS + b"#")
-BAD_BYTES = bytes(byte for byte in range(256) if byte not in b"\t\n" + bytes(range(0x20, 0x7F)))
-COMMENT_BYTES = bytes(byte for byte in range(256) if byte != 0x0A)
-TAKEN_WORDS = [b"item", b"flush", b"ordered", b"7", b"-", b".", b"_", b"0", b"plan", b"Item"]
-WRONG_FIRST_WORDS = [
-    b"Item", b"ITEM", b"items", b"ite", b"item:", b".item", b"flus", b"Flush", b"flushed",
-    b"flush,", b"order", b"Ordered", b"ordereds", b"orderec", b"a", b"7", b"-", b"itemflush", b"!",
-    b"x" * 64,
+# Of each command: the model, the cases at the limits, the random cases, the names of the texts, and
+# the kinds of answer, each with its exit status and its form. In a form N is a number, Z one or
+# more names, and A is an `arc` line.
+DECLARATION_REFUSALS = [
+    (f"refusals {code}", 2, rf"refused {code} line N\n") for code in range(1, 13)
 ]
-
-# Every kind of answer. The numbers of the refusals are those of the table.
-KINDS = ["plans", "circles"] + [f"refusals {code}" for code in range(1, 13)]
-
-
-@dataclasses.dataclass
-class Line:
-    """One line of a declaration before it is spelled."""
-
-    words: list
-    bad_byte: bytes = b""
-    length: int = 0  # where it isn't 0, the line is filled up to this many bytes
-
-
-# Items and groups --------------------------------------------------------------------------------
-
-
-def make_names(choose, count):
-    """So many names, all different, of many lengths."""
-    names = set()
-    few_letters = bytes(choose.choices(NAME_LETTERS, k=4))
-    long_front = bytes(choose.choices(NAME_LETTERS, k=61))
-    while len(names) < count:
-        kind = choose.random()
-        if kind < 0.5:
-            name = bytes(choose.choices(few_letters, k=choose.randint(1, 3)))
-        elif kind < 0.8:
-            name = bytes(choose.choices(NAME_LETTERS, k=choose.randint(1, 4)))
-        elif kind < 0.9:
-            name = choose.choice(TAKEN_WORDS)
-        elif kind < 0.95:
-            name = bytes(choose.choices(NAME_LETTERS, k=choose.randint(5, 63)))
-        else:
-            name = long_front + bytes(choose.choices(few_letters, k=choose.randint(1, 2)))
-        names.add(name)
-    names = sorted(names)
-    choose.shuffle(names)
-    return names
-
-
-def make_groups(choose, item_count):
-    """The items of each `ordered` line, and then each other item alone; items are numbers here."""
-    share = choose.choice([0, 0.3, 0.6, 0.9, 1])
-    items = list(range(item_count))
-    choose.shuffle(items)
-    ordered_count = sum(choose.random() < share for _ in items)
-    left, alone = items[:ordered_count], items[ordered_count:]
-    ordered = []
-    while left:
-        size = choose.choice([1, 1, 2, 2, 2, 3, 3, 4, 6, len(left)])
-        ordered.append(left[:size])
-        left = left[size:]
-    return ordered, [[item] for item in alone]
-
-
-# Arcs between groups, by the shape of the declaration. Each gets the number of groups, and returns
-# pairs of positions among groups that stand in random order.
-
-
-def downward(choose, count, wanted):
-    """Pairs that lead from a position to a later one: no circle."""
-    pairs = []
-    for _ in range(wanted if count >= 2 else 0):
-        first, second = sorted(choose.sample(range(count), 2))
-        pairs.append((first, second))
-    return pairs
-
-
-def path(positions):
-    return list(zip(positions, positions[1:]))
-
-
-def shape_none(choose, count):
-    return []
-
-
-def shape_any(choose, count):
-    wanted = choose.randint(0, 2 * count) if count else 0
-    pairs = [(choose.randrange(count), choose.randrange(count)) for _ in range(wanted)]
-    if choose.random() < 0.7:
-        pairs = [(group, target) for group, target in pairs if group != target]
-    return pairs
-
-
-def shape_downward(choose, count):
-    return downward(choose, count, choose.randint(0, 3 * count))
-
-
-def shape_deep(choose, count):
-    return path(range(count)) + downward(choose, count, choose.randint(0, count))
-
-
-def shape_layers(choose, count):
-    """Layers of groups, where each group waits for some of the next layer: many ties."""
-    layers = []
-    left = list(range(count))
-    while left:
-        size = choose.randint(1, max(1, count // 2))
-        layers.append(left[:size])
-        left = left[size:]
-    pairs = []
-    for layer, below in path(layers):
-        for group in layer:
-            pairs += [(group, choose.choice(below)) for _ in range(choose.randint(1, 3))]
-    return pairs + downward(choose, count, choose.randint(0, count // 2))
-
-
-def shape_wide(choose, count):
-    """One group waits for all others, or all others for one."""
-    if choose.random() < 0.5:
-        pairs = [(0, target) for target in range(1, count)]
-    else:
-        pairs = [(group, count - 1) for group in range(count - 1)]
-    return pairs + downward(choose, count, choose.randint(0, 3))
-
-
-def shape_circle(choose, count):
-    """One circle, with groups that lead to it and groups that it leads to."""
-    if count == 0:
-        return []
-    length = min(count, choose.choice([1, 2, 2, 3, 3, 4, 5, count]))
-    begin = choose.randint(0, count - length)
-    end = begin + length - 1
-    pairs = path(range(begin, end + 1)) + [(end, begin)]
-    if choose.random() < 0.7:
-        pairs += path(range(0, begin + 1))
-    if choose.random() < 0.5:
-        pairs += path(range(end, count))
-    return pairs + downward(choose, count, choose.choice([0, 1, 2, count]))
-
-
-def shape_two_circles(choose, count):
-    """Two circles, with groups that lead to both of them."""
-    if count < 2:
-        return shape_circle(choose, count)
-    cut = choose.randint(1, count - 1)
-    first, second = list(range(cut)), list(range(cut, count))
-    pairs = []
-    for part in first, second:
-        circle = part[choose.randrange(len(part)):]
-        pairs += path(part) + [(circle[-1], circle[0])]
-    if choose.random() < 0.7:
-        pairs.append((choose.choice(first), choose.choice(second)))
-    return pairs
-
-
-SHAPES = [
-    (shape_none, 2), (shape_any, 8), (shape_downward, 12), (shape_deep, 6), (shape_layers, 12),
-    (shape_wide, 4), (shape_circle, 14), (shape_two_circles, 5),
+CERTIFICATE_REFUSALS = [("refusals of the declaration", 2, r"refused ([1-9]|1[0-2]) line N\n")] + [
+    (f"refusals {code}", 2, rf"refused {code} line N\n") for code in (40, 41, 42, 43)
 ]
-
-
-def make_lines(choose, item_count):
-    """The lines of a declaration that breaks no rule, without blank ones."""
-    names = make_names(choose, item_count)
-    ordered, alone = make_groups(choose, item_count)
-    groups = ordered + alone
-    choose.shuffle(groups)
-    if choose.random() < 0.2:
-        groups.sort(key=min, reverse=choose.random() < 0.5)
-    shapes, weights = zip(*SHAPES)
-    pairs = choose.choices(shapes, weights)[0](choose, len(groups))
-
-    if pairs and choose.random() < 0.4:
-        pairs += choose.choices(pairs, k=choose.randint(1, 3))
-    if groups and choose.random() < 0.05:
-        group = choose.randrange(len(groups))
-        pairs.append((group, group))
-    if choose.random() < 0.8:
-        choose.shuffle(pairs)
-    flushes = [(choose.choice(groups[group]), choose.choice(groups[to])) for group, to in pairs]
-
-    # Each flush has a line of its own, or stands on one with others of the same item.
-    flush_lines = []
-    joined = choose.choice([0, 0.3, 0.8])
-    for item, target in flushes:
-        same = [line for line in flush_lines if line[0] == item]
-        if same and choose.random() < joined:
-            choose.choice(same).append(target)
-        else:
-            flush_lines.append([item, target])
-
-    # Each of these lines comes anywhere behind the `item` lines that it needs.
-    others = [(b"flush", line) for line in flush_lines] + [(b"ordered", line) for line in ordered]
-    choose.shuffle(others)
-    early = choose.random() < 0.5
-    behind = collections.defaultdict(list)
-    for first, line in others:
-        slot = choose.randint(max(line), item_count - 1) if early else item_count - 1
-        behind[slot].append(Line([first] + [names[item] for item in line]))
-    lines = []
-    for item, name in enumerate(names):
-        lines += [Line([b"item", name])] + behind[item]
-    return lines
-
-
-# Faults ------------------------------------------------------------------------------------------
-# Each of these puts a fault into the lines, or leaves them as they are where there is no place.
-
-
-def lines_of(lines, *firsts):
-    return [line for line in lines if line.words and line.words[0] in firsts]
-
-
-def insert(choose, lines, words):
-    lines.insert(choose.randint(0, len(lines)), Line(words))
-
-
-def fault_long_line(choose, lines):
-    if not lines:
-        lines.append(Line([]))
-    line = choose.choice(lines)
-    line.length = choose.choice([4_096, 4_097, 4_097, 4_097, 4_098, choose.randint(4_099, 9_000)])
-
-
-def fault_bad_byte(choose, lines):
-    if not lines:
-        lines.append(Line([]))
-    bad = bytes([choose.choice(BAD_BYTES)])
-    near = [b"\r", b"\r\r", b"\x00", b"\x7f", b"\x80", b"\xff", b"\x0b", b"\x1f"]
-    choose.choice(lines).bad_byte = choose.choice(near + [bad])
-
-
-def fault_unknown_word(choose, lines):
-    wrong = choose.choice(WRONG_FIRST_WORDS)
-    known = lines_of(lines, b"item", b"flush", b"ordered")
-    if known and choose.random() < 0.7:
-        choose.choice(known).words[0] = wrong
-    else:
-        insert(choose, lines, [wrong] + [b"a"] * choose.randint(0, 2))
-
-
-def fault_missing_name(choose, lines):
-    known = lines_of(lines, b"item", b"flush", b"ordered")
-    if known and choose.random() < 0.7:
-        line = choose.choice(known)
-        most = 2 if line.words[0] == b"flush" else 1
-        del line.words[choose.randint(1, most):]
-    else:
-        short = [[b"item"], [b"flush"], [b"flush", b"a"], [b"ordered"]]
-        insert(choose, lines, choose.choice(short))
-
-
-def fault_extra_word(choose, lines):
-    known = lines_of(lines, b"item")
-    words = choose.choices([b"a", b"b!", b"item", b"x" * 64, b"/"], k=choose.randint(1, 3))
-    if known:
-        line = choose.choice(known)
-        line.words[choose.randint(1, len(line.words)):0] = words
-    else:
-        insert(choose, lines, [b"item", b"a"] + words)
-
-
-def fault_bad_name(choose, lines):
-    known = [line for line in lines if len(line.words) > 1]
-    if not known:
-        insert(choose, lines, [b"item", b"b"])
-        known = [line for line in lines if len(line.words) > 1]
-    words = choose.choice(known).words
-    position = choose.randint(1, len(words) - 1)
-    if choose.random() < 0.6:
-        at = choose.randint(0, len(words[position]))
-        other = choose.choice([b"!", b"~", bytes([choose.choice(OTHER_LETTERS)])])
-        words[position] = words[position][:at] + other + words[position][at:]
-    else:
-        words[position] = words[position][:1] * choose.choice([64, 64, 65, 128, 319, 320])
-
-
-def fault_item_twice(choose, lines):
-    known = [line.words[1] for line in lines_of(lines, b"item") if len(line.words) > 1]
-    insert(choose, lines, [b"item", choose.choice(known or [b"a"])])
-
-
-def fault_unknown_item(choose, lines):
-    users = [line for line in lines_of(lines, b"flush", b"ordered") if len(line.words) > 1]
-    items = lines_of(lines, b"item")
-    way = choose.random()
-    if users and way < 0.5:
-        words = choose.choice(users).words
-        position = choose.randint(1, len(words) - 1)
-        name = words[position]
-        unknown = [name.swapcase(), name + b".", name[:-1] or b"z", b"zz", b"x" * 63]
-        words[position] = choose.choice(unknown)[:63]
-    elif items and way < 0.8:
-        line = choose.choice(items)
-        lines.remove(line)
-        if way < 0.75:
-            lines.append(line)
-    else:
-        insert(choose, lines, choose.choice([[b"flush", b"a", b"a"], [b"ordered", b"a"]]))
-
-
-def fault_grouped_twice(choose, lines):
-    items = [line.words[1] for line in lines_of(lines, b"item") if len(line.words) > 1]
-    ordered = [line for line in lines_of(lines, b"ordered") if len(line.words) > 1]
-    if not items:
-        return
-    if ordered and choose.random() < 0.5:
-        words = choose.choice(ordered).words
-        words.insert(choose.randint(1, len(words)), choose.choice(words[1:]))
-    elif ordered and choose.random() < 0.5:
-        again = [choose.choice(choose.choice(ordered).words[1:])]
-        again += choose.sample(items, choose.randint(0, min(2, len(items))))
-        choose.shuffle(again)
-        lines.append(Line([b"ordered"] + again))
-    else:
-        name = choose.choice(items)
-        lines.append(Line([b"ordered", name]))
-        lines.append(Line([b"ordered", name]))
-
-
-FAULTS = [
-    fault_long_line, fault_bad_byte, fault_unknown_word, fault_missing_name, fault_extra_word,
-    fault_bad_name, fault_item_twice, fault_unknown_item, fault_grouped_twice,
-]
-
-
-def put_faults(choose, lines, count):
-    faults = choose.choices(FAULTS, k=count)
-    if count > 1 and choose.random() < 0.4:
-        # Several of one pass are more often met in one declaration so.
-        faults = choose.choices(choose.choice([FAULTS[1:6], FAULTS[6:9]]), k=count)
-    if count > 1 and lines and choose.random() < 0.3:
-        # All in a few lines, so that several fall on the same one.
-        part = lines[-choose.randint(1, 2):]
-        del lines[-len(part):]
-        for fault in faults:
-            fault(choose, part)
-        lines += part
-    else:
-        for fault in faults:
-            fault(choose, lines)
-
-
-# Spelling ----------------------------------------------------------------------------------------
-
-
-def blanks(choose, least, odd):
-    if not odd:
-        return b" " * least
-    most = choose.choice([least, least, 1, 3, 8])
-    return bytes(choose.choices(b" \t", k=choose.randint(least, max(least, most))))
-
-
-def make_comment(choose):
-    kind = choose.random()
-    if kind < 0.3:
-        return b"#" + choose.choice([b"", b"#", b" x", b" item a", b"\t# y", b"a", b"\r", b"x\r"])
-    if kind < 0.5:
-        return b"#" + bytes(choose.choices(b"\x00\x80\xff\r# \ta", k=choose.randint(1, 6)))
-    return b"#" + bytes(choose.choices(COMMENT_BYTES, k=choose.randint(0, 40)))
-
-
-def spell_line(choose, line, odd):
-    """The bytes of a line, without what ends it."""
-    before = b""
-    if odd:
-        before = blanks(choose, 0, choose.random() < 0.4)
-    for number, word in enumerate(line.words):
-        before += (blanks(choose, 1, odd) if number else b"") + word
-    if odd:
-        before += blanks(choose, 0, choose.random() < 0.4)
-    if line.bad_byte:
-        at = choose.choice([0, len(before), choose.randint(0, len(before))])
-        before = before[:at] + line.bad_byte + before[at:]
-    comment = make_comment(choose) if odd and choose.random() < 0.4 else b""
-    missing = line.length - len(before) - len(comment)
-    if missing > 0:
-        way = choose.random()
-        if way < 0.4:
-            comment = (comment or b"#") + b"x" * (missing if comment else missing - 1)
-        elif way < 0.7:
-            before += bytes(choose.choices(b" \t", k=missing))
-        else:
-            before = bytes(choose.choices(b" \t", k=missing)) + before
-    return before + comment
-
-
-def spell(choose, lines, plain):
-    """The bytes of the declaration."""
-    odd = not plain
-    endings = [b"\n"]
-    if odd:
-        endings = choose.choice([[b"\n"], [b"\n"], [b"\r\n"], [b"\n", b"\r\n"]])
-        for _ in range(choose.choice([0, 0, 1, 3])):
-            insert(choose, lines, [])
-    text = b""
-    for line in lines:
-        spelled = spell_line(choose, line, odd)
-        ending = choose.choice(endings)
-        if odd and b"#" in spelled and choose.random() < 0.2:
-            ending = choose.choice([b"\r\n", b"\r\r\n", b"\r\r\r\n"])
-        text += spelled + ending
-    if odd and choose.random() < 0.4:
-        text = text[:-1]
-    return text
-
-
-# Cases -------------------------------------------------------------------------------------------
-
-
-def item_count_of(choose):
-    way = choose.random()
-    if way < 0.02:
-        return 0
-    if way < 0.07:
-        return 1
-    if way < 0.92:
-        return choose.randint(2, 12)
-    return choose.randint(13, 60) if way < 0.98 else choose.randint(61, 200)
-
-
-def case_small(choose):
-    lines = make_lines(choose, item_count_of(choose))
-    way = choose.random()
-    if way > 0.55:
-        put_faults(choose, lines, 1 if way < 0.85 else choose.randint(2, 4))
-    return spell(choose, lines, choose.random() < 0.4)
-
-
-def case_long_text(choose):
-    """About as long as a text may be, with a fault or without one."""
-    lines = make_lines(choose, choose.randint(0, 8))
-    if choose.random() < 0.5:
-        put_faults(choose, lines, 1)
-    text = spell(choose, lines, False)
-    if not text.endswith(b"\n"):
-        text += b"\n"
-    wanted = plan.TEXT_LIMIT + choose.choice([0, 1, 1, 1, 2, 5_000])
-    filler = (b"#" + b"y" * choose.randint(500, 4_095) + b"\n") * 2_200
-    if choose.random() < 0.5:
-        return text + filler[:wanted - len(text)]
-    return filler[:wanted - len(text) - 1] + b"\n" + text
-
-
-def case_many_items(choose):
-    """About as many items as there may be."""
-    names = [b"%x" % number for number in range(5_000)]
-    choose.shuffle(names)
-    count = plan.ITEM_LIMIT + choose.choice([-1, 0, 0, 1, 1, 1, 2, 100])
-    lines = [Line([b"item", name]) for name in names[:count]]
-    near = choose.sample(names[:4_096], 200)
-    for _ in range(choose.randint(0, 50)):
-        lines.append(Line([b"flush", choose.choice(near), choose.choice(near)]))
-    lines.append(Line([b"ordered"] + near[:100]))
-    if choose.random() < 0.3:
-        at = choose.choice([count, plan.ITEM_LIMIT, plan.ITEM_LIMIT - 1])
-        lines.insert(at, Line([b"item", names[choose.randrange(4_000)]]))
-    if choose.random() < 0.3:
-        at = choose.choice([count, plan.ITEM_LIMIT, plan.ITEM_LIMIT + 1])
-        lines.insert(at, Line([b"ordered", names[choose.randrange(5_000)]]))
-    return spell(choose, lines, True)
-
-
-def case_many_flushes(choose):
-    """About as many flushes as there may be."""
-    names = make_names(choose, choose.randint(2, 40))
-    wanted = plan.FLUSH_LIMIT + choose.choice([-1, 0, 0, 1, 1, 1, 2, 30, 500])
-    lines = [Line([b"item", name]) for name in names]
-    circles = choose.random() < 0.5
-    while wanted > 0:
-        item = choose.randrange(len(names) - 1)
-        below = names if circles else names[item + 1:]
-        size = min(wanted, choose.randint(1, 4_000 // max(len(name) + 1 for name in below)))
-        lines.append(Line([b"flush", names[item]] + choose.choices(below, k=size)))
-        wanted -= size
-    if choose.random() < 0.3:
-        choose.choice(lines[-1:] + lines[-3:]).words[-1] = b"z..z"
-    lines.append(Line([b"ordered", names[0]]))
-    if choose.random() < 0.2:
-        lines.append(Line([b"ordered", choose.choice(names)]))
-    return spell(choose, lines, True)
-
-
-def random_case(seed, number):
-    """The case of this number, which doesn't depend on any other."""
-    choose = random.Random(f"{seed} {number}")
-    way = choose.random()
-    if way < 0.013:
-        return case_long_text(choose)
-    if way < 0.031:
-        return case_many_items(choose)
-    if way < 0.049:
-        return case_many_flushes(choose)
-    return case_small(choose)
-
-
-def join(*lines):
-    return b"".join(line + b"\n" for line in lines)
-
-
-def numbered_items(count):
-    return [b"item i%d" % number for number in range(count)]
-
-
-def limit_cases():
-    """The cases at the limits: pairs of what it is and the declaration."""
-    cases = []
-
-    def add(what, text):
-        cases.append((what, text))
-
-    # Bytes of a line.
-    for length in 4_096, 4_097:
-        for ending in b"", b"\n", b"\r\n", b"\r\r\n", b"\r":
-            end = repr(ending)[1:]
-            add(f"a comment of {length} bytes, then {end}", b"#" + b"x" * (length - 1) + ending)
-            line = b"item a" + b" " * (length - 9) + b"#xx"
-            add(f"an item line of {length} bytes, then {end}", line + ending)
-            line = b"\t" * (length - 6) + b"item a"
-            add(f"blanks and an item, {length} bytes, then {end}", b"item b\n" + line + ending)
-        add(f"a blank line of {length} bytes", b" " * length + b"\nitem a\n")
-        line = b"flush a" + b" a" * ((length - 7) // 2)
-        line += b"\t" * (length - len(line))
-        add(f"a flush line of {length} bytes", b"item a\n" + line + b"\n")
-
-    # Bytes of a text. The last ones hold a line that is too long, too.
-    for length in plan.TEXT_LIMIT, plan.TEXT_LIMIT + 1:
-        full = (b"#" + b"x" * 4_095 + b"\n") * 256
-        add(f"{length} bytes, all LF", b"\n" * length)
-        add(f"{length} bytes, an item last", full[: length - 7] + b"\nitem a")
-        add(f"{length} bytes, a fault first", (b"item\n" + full)[:length - 1] + b"\n")
-        add(f"{length} bytes, one line", b" " * length)
-
-    # Bytes of a name.
-    for length in 63, 64:
-        name = b"n" * length
-        text = join(b"item " + name, b"item a", b"ordered " + name, b"flush a " + name)
-        add(f"a name of {length} bytes", text)
-
-    # Items.
-    items = numbered_items(4_097)
-    flushes = [b"flush i%d i%d" % (number, number + 1) for number in range(4_096)]
-    add("4,096 items", join(*items[:4_096]))
-    add("4,097 items", join(*items))
-    add("4,097 items, the last one declared before", join(*items[:4_096], b"item i7", b"item x"))
-    add("4,097 items, an unknown one used before", join(*items[:4_096], b"ordered x", b"item x"))
-    add("4,097 items, an unknown one used behind", join(*items, b"ordered x"))
-    add("4,097 items, a bad line behind", join(*items, b"ordered"))
-    add("a chain of 4,096", join(*items[:4_096], *flushes[:4_095]))
-    add("a chain of 4,096, upwards", join(*items[:4_096][::-1], *flushes[:4_095]))
-    add("a chain of 4,097", join(*items, *flushes))
-    add("a circle of 4,096", join(*items[:4_096], *flushes[:4_095], b"flush i4095 i0"))
-    add("4,095 that lead to one", join(*items[:4_096], *flushes[:4_095], b"flush i4095 i4095"))
-    names = [first + second for first in (b"%x" % n for n in range(16)) for second in
-             (bytes([letter]) for letter in NAME_LETTERS)]
-    text = join(*[b"item " + name for name in names], b"ordered " + b" ".join(names))
-    add("one group of 1,040 items", text)
-    add("one group of 1,040 items, and again", text + join(b"ordered " + names[500]))
-
-    # Flushes.
-    full = [b"flush a" + b" a" * 1_024] * 16
-    add("16,384 flushes on 16 lines", join(b"item a", *full))
-    add("16,385 flushes, one on a line behind", join(b"item a", *full, b"flush a a"))
-    add("16,385 flushes on 16 lines", join(b"item a", *full)[:-1] + b" a\n")
-    add("16,383 flushes and two", join(b"item a", *full)[:-3] + join(b"", b"flush a a a"))
-    near = [b"item a", b"item b"] + [b"flush a" + b" b" * 2_040] * 8
-    for more in 64, 65, 2_040:
-        add(f"16,320 flushes and {more}", join(*near, b"flush a" + b" b" * more))
-        unknown = b"flush a" + b" b" * (more - 1) + b" c"
-        add(f"16,320 flushes and {more}, an unknown one last", join(*near, unknown))
-    flushes = [b"flush i%d i%d" % (number // 4 % 4_000, 4_000 + number % 96)
-               for number in range(16_385)]
-    add("16,384 flushes on lines of their own", join(*items[:4_096], *flushes[:16_384]))
-    add("16,385 flushes on lines of their own", join(*items[:4_096], *flushes))
-
-    # 512 groups of 8, with 16,384 flushes: 32 each, of the groups behind, by all members in turn.
-    ordered = [b"ordered" + b"".join(b" i%d" % (number + 512 * member) for member in range(8))
-               for number in range(512)]
-    flushes = []
-    for number in range(16_384):
-        group, turn = number % 511, number // 511
-        target = min(511, group + 1 + turn * turn % 37)
-        member = number * 5 % 8
-        flushes.append(b"flush i%d i%d" % (group + 512 * member, target + 512 * (turn % 8)))
-    add("512 groups with 16,384 flushes", join(*items[:4_096], *ordered, *flushes))
-    flushes[-1] = b"flush i4095 i100"
-    add("512 groups with 16,384 flushes, a circle", join(*items[:4_096], *flushes, *ordered))
-    return cases
-
-
-# Comparing ---------------------------------------------------------------------------------------
-
-
-def kind_of(answer):
+COMMANDS = {
+    "plan": (
+        plan.answer,
+        lambda: [(what, [text]) for what, text in make_declarations.limit_cases()],
+        lambda seed, number: [make_declarations.random_case(seed, number)],
+        ["declaration"],
+        [("plans", 0, r"plan N\n(wq N Z\n)*chain N\nA*"), ("circles", 1, r"circle N\nA+")]
+        + DECLARATION_REFUSALS,
+    ),
+    "check": (
+        check.answer,
+        make_certificates.limit_check_cases,
+        make_certificates.random_check_case,
+        ["declaration", "certificate"],
+        [("yes", 0, r"yes N\n"), ("yes circle", 0, r"yes circle N\n"), ("no 50", 1, r"no 50 Z\n"),
+         ("no 51", 1, r"no 51 N\n"), ("no 52", 1, r"no 52\n"), ("no 53", 1, r"no 53 N\n"),
+         ("no 54", 1, r"no 54\n")]
+        + CERTIFICATE_REFUSALS,
+    ),
+    "replay": (
+        replay.answer,
+        make_certificates.limit_replay_cases,
+        make_certificates.random_replay_case,
+        ["declaration", "assignment", "run"],
+        [("open", 0, r"open\n"), ("stuck", 1, r"stuck\n"), ("deadlock", 1, r"deadlock\n"),
+         ("not lawful", 1, r"not lawful N\n")]
+        + CERTIFICATE_REFUSALS,
+    ),
+}
+
+
+def form(pattern):
+    pattern = pattern.replace("A", r"(arc Z\n)").replace("N", r"(0|[1-9][0-9]*)")
+    return re.compile(pattern.replace("Z", r"[A-Za-z0-9_.-]+( [A-Za-z0-9_.-]+)*").encode())
+
+
+KINDS = {
+    command: [(kind, status, form(pattern)) for kind, status, pattern in kinds]
+    for command, (*_, kinds) in COMMANDS.items()
+}
+
+
+def kind_of(command, answer):
+    """The kind of the model's answer, or None where it has no form of the page."""
     printed, status = answer
-    if status == 2:
-        return "refusals " + printed.split(b" ")[1].decode()
-    return ["plans", "circles"][status]
+    for kind, of_status, pattern in KINDS[command]:
+        if status == of_status and pattern.fullmatch(printed):
+            return kind
+    return None
+
+
+def ask(program, command, texts, folder, number):
+    """The program's answer, and what it prints to standard error."""
+    places = []
+    if command == "plan":
+        given = {"input": texts[0]}
+    else:
+        given = {"stdin": subprocess.DEVNULL}
+        for name, text in zip(COMMANDS[command][3], texts):
+            places.append(os.path.join(folder, f"{number}.{name}"))
+            with open(places[-1], "wb") as file:
+                file.write(text)
+    try:
+        run = subprocess.run(
+            [program, command, *places], capture_output=True, timeout=SECONDS_PER_RUN, **given
+        )
+        return (run.stdout, run.returncode), run.stderr
+    except subprocess.TimeoutExpired:
+        return (b"", None), b"(ended: it took too long)"
+    finally:
+        for place in places:
+            os.remove(place)
+
+
+def compare(program, command, what, texts, folder, number):
+    """The kind of the model's answer, and where the program's differs, both of them.
+
+    `program` is None where the program isn't asked for this command.
+    """
+    try:
+        wanted = COMMANDS[command][0](*texts)
+    except Exception:
+        return None, (what, texts, (b"", None), (b"", None), traceback.format_exc().encode())
+    kind = kind_of(command, wanted)
+    if kind is None:
+        return None, (what, texts, wanted, (b"", None), b"(the model's answer has no form)")
+    if program is None:
+        return kind, None
+    found, errors = ask(program, command, texts, folder, number)
+    return kind, None if found == wanted else (what, texts, wanted, found, errors)
 
 
 def show_bytes(text, folder, name):
@@ -636,50 +147,87 @@ def show_bytes(text, folder, name):
     return f"{len(text)} bytes, in {place}"
 
 
-def compare(program, what, text):
-    """The kind of the model's answer, and where the program's differs, both of them."""
-    wanted = plan.answer(text)
-    try:
-        run = subprocess.run(
-            [program, "plan"], input=text, capture_output=True, timeout=SECONDS_PER_RUN
-        )
-        found, errors = (run.stdout, run.returncode), run.stderr
-    except subprocess.TimeoutExpired:
-        found, errors = (b"", None), b"(ended: it took too long)"
-    difference = None if found == wanted else (what, text, wanted, found, errors)
-    return kind_of(wanted), difference
-
-
-def show_difference(seed, number, difference, folder):
-    what, text, (printed, status), (found, found_status), errors = difference
-    print(f"FAILED  {what} (seed {seed})")
-    print(f"    declaration: {show_bytes(text, folder, f'{number}.declaration')}")
-    print(f"    model:   status {status}, {show_bytes(printed, folder, f'{number}.model')}")
-    place = show_bytes(found, folder, f"{number}.program")
+def show_difference(seed, command, number, difference, folder):
+    what, texts, (printed, status), (found, found_status), errors = difference
+    print(f"FAILED  {command}, {what} (seed {seed})")
+    for name, text in zip(COMMANDS[command][3], texts):
+        print(f"    {name}: {show_bytes(text, folder, f'{command}{number}.{name}')}")
+    place = show_bytes(printed, folder, f"{command}{number}.model")
+    print(f"    model:   status {status}, {place}")
+    place = show_bytes(found, folder, f"{command}{number}.program")
     print(f"    program: status {found_status}, {place}")
     if errors:
-        print(f"    standard error: {errors[:500]!r}")
+        print(f"    standard error: {errors.decode(errors='backslashreplace')[-2_000:]}")
 
 
-def main(arguments):
-    if not 1 <= len(arguments) <= 3 or not all(word.isdecimal() for word in arguments[2:]):
-        print("usage: compare.py PROGRAM [SEED] [CASES]", file=sys.stderr)
-        return 2
-    program = os.path.realpath(arguments[0])
-    seed = arguments[1] if len(arguments) > 1 else DEFAULT_SEED
-    random_count = int(arguments[2]) if len(arguments) > 2 else DEFAULT_CASES
-    if not os.access(program, os.X_OK) or os.path.isdir(program):
-        print(f"model: there is nothing to run at {program}")
-        return 1
-
+def compare_all(program, command, seed, random_count, folder):
+    """Counts the kinds of answer. Returns None where too many answers differ."""
+    _, limit_cases, random_case, _, _ = COMMANDS[command]
     limits = limit_cases()
     numbers = range(len(limits) + random_count)
 
     def compare_case(number):
         if number < len(limits):
-            what, text = limits[number]
-            return compare(program, f"case {number}: {what}", text)
-        return compare(program, f"case {number}", random_case(seed, number - len(limits)))
+            what, texts = limits[number]
+            what = f"case {number}: {what}"
+        else:
+            what, texts = f"case {number}", random_case(seed, number - len(limits))
+        return compare(program, command, what, texts, scratch, number)
+
+    kinds = collections.Counter()
+    differences = 0
+    with tempfile.TemporaryDirectory(prefix="model_") as scratch:
+        pool = concurrent.futures.ThreadPoolExecutor(WORKERS)
+        for number, (kind, difference) in zip(numbers, pool.map(compare_case, numbers)):
+            kinds[kind] += 1
+            if difference is not None:
+                differences += 1
+                show_difference(seed, command, number, difference, folder)
+                if differences == DIFFERENCES_SHOWN:
+                    break
+        pool.shutdown(cancel_futures=True)
+    if differences:
+        compared = sum(kinds.values())
+        print(f"model: {command}: {differences} of the first {compared} cases differ (seed {seed})")
+        return None
+    return kinds
+
+
+def show_counts(command, kinds):
+    counts = ", ".join(f"{kind}: {kinds[kind]}" for kind, _, _ in KINDS[command])
+    print(f"model: {command}: {counts}")
+
+
+def options(arguments):
+    """The arguments without `--only`, and the commands that the program is asked for."""
+    arguments, asked = list(arguments), list(COMMANDS)
+    while "--only" in arguments[:-1]:
+        at = arguments.index("--only")
+        asked = [] if arguments[at + 1] == "none" else arguments[at + 1].split(",")
+        del arguments[at:at + 2]
+    right = 1 <= len(arguments) <= 3 and all(word.isdecimal() for word in arguments[2:])
+    right = right and not any(word.startswith("--") for word in arguments)
+    return (arguments, asked) if right and set(asked) <= set(COMMANDS) else (None, None)
+
+
+def main(arguments):
+    arguments, asked = options(arguments)
+    if arguments is None:
+        print("usage: compare.py PROGRAM [SEED] [CASES] [--only COMMAND,..]", file=sys.stderr)
+        return 2
+    program = os.path.realpath(arguments[0])
+    seed = arguments[1] if len(arguments) > 1 else DEFAULT_SEED
+    random_count = int(arguments[2]) if len(arguments) > 2 else DEFAULT_CASES
+    if asked and (not os.access(program, os.X_OK) or os.path.isdir(program)):
+        print(f"model: there is nothing to run at {program}")
+        return 1
+
+    failed = examples.failures()
+    if failed:
+        print("\n".join(failed))
+        print(f"model: {len(failed)} of {examples.count()} examples of the page differ")
+        return 1
+    print(f"model: {examples.count()} examples of the page agree")
 
     folders = []
 
@@ -689,29 +237,27 @@ def main(arguments):
             folders.append(tempfile.mkdtemp(prefix="model_"))
         return folders[0]
 
-    kinds = collections.Counter()
-    differences = 0
-    pool = concurrent.futures.ThreadPoolExecutor(WORKERS)
-    for number, (kind, difference) in zip(numbers, pool.map(compare_case, numbers)):
-        kinds[kind] += 1
-        if difference is not None:
-            differences += 1
-            show_difference(seed, number, difference, folder)
-            if differences == DIFFERENCES_SHOWN:
-                break
-    pool.shutdown(cancel_futures=True)
-
-    if differences:
-        compared = sum(kinds.values())
-        print(f"model: {differences} of the first {compared} cases differ (seed {seed})")
+    agreed = 0
+    never = []
+    different = False
+    for command in COMMANDS:
+        asks = command in asked
+        kinds = compare_all(program if asks else None, command, seed, random_count, folder)
+        if kinds is None:
+            different = True
+            continue
+        show_counts(command, kinds)
+        agreed += sum(kinds.values()) if asks else 0
+        never += [f"{command}: {kind}" for kind, _, _ in KINDS[command] if kinds[kind] == 0]
+    if different:
+        print("model: FAILED")
         return 1
-    counts = ", ".join([f"plans {kinds['plans']}", f"circles {kinds['circles']}"])
-    codes = ", ".join(f"{kind.split()[1]}: {kinds[kind]}" for kind in KINDS[2:])
-    print(f"model: {len(numbers)} cases agree ({counts}, refusals {codes})")
-    never = [kind for kind in KINDS if kinds[kind] == 0]
     if never:
         print(f"model: FAILED: with seed {seed} these never came: {', '.join(never)}")
         return 1
+    alone = [command for command in COMMANDS if command not in asked]
+    note = f" (the model alone: {', '.join(alone)})" if alone else ""
+    print(f"model: {agreed} cases agree{note}")
     return 0
 
 

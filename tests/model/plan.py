@@ -5,141 +5,13 @@
 # unclear. It goes for plain reading, and not for speed. Each part names the section of
 # docs/FORMAT.md that it is from.
 #
-# compare.py beside it compares the program with it.
+# declaration.py beside it reads declarations; check.py and replay.py are the model of the other
+# commands. compare.py compares the program with them.
 
 import sys
 
-# Limits
-TEXT_LIMIT = 1_048_576
-LINE_LIMIT = 4_096
-NAME_LIMIT = 63
-ITEM_LIMIT = 4_096
-FLUSH_LIMIT = 16_384
-
-LETTERS = b"ABCDEFGHIJKLMNOPQRSTUVWXYZabcdefghijklmnopqrstuvwxyz"
-NAME_BYTES = frozenset(LETTERS + b"0123456789_-.")
-LINE_BYTES = frozenset(b"\t" + bytes(range(0x20, 0x7F)))
-
-# Directives: how many further words a line needs at least.
-FEWEST_WORDS = {b"item": 1, b"flush": 2, b"ordered": 1}
-
-
-class Refused(Exception):
-    """Refusals: the number of the fault, and the number of its line or 0."""
-
-    def __init__(self, code, line):
-        super().__init__(code, line)
-        self.code = code
-        self.line = line
-
-
-def split_lines(text):
-    """Lines, words and numbers: Lines, CR."""
-    lines = text.split(b"\n")
-    behind_last_lf = lines.pop()
-    lines = [line[:-1] if line.endswith(b"\r") else line for line in lines]
-    if behind_last_lf != b"":
-        lines.append(behind_last_lf)
-    return lines
-
-
-def before_comment(line):
-    """Lines, words and numbers: Comments."""
-    return line.split(b"#", 1)[0]
-
-
-def split_words(line):
-    """Lines, words and numbers: Words."""
-    return [word for word in before_comment(line).replace(b"\t", b" ").split(b" ") if word != b""]
-
-
-def is_name(word):
-    """Names."""
-    return 1 <= len(word) <= NAME_LIMIT and all(byte in NAME_BYTES for byte in word)
-
-
-def text_pass(text):
-    """Refusals, the pass over the text (1, 2). Returns the lines."""
-    if len(text) > TEXT_LIMIT:
-        raise Refused(1, 0)
-    lines = split_lines(text)
-    for number, line in enumerate(lines, start=1):
-        if len(line) > LINE_LIMIT:
-            raise Refused(2, number)
-    return lines
-
-
-def directives_pass(lines):
-    """Refusals, the pass over the directives (3, 4, 5, 12, 6).
-
-    Returns the number, the first word and the further words of each line that isn't blank.
-    """
-    directives = []
-    for number, line in enumerate(lines, start=1):
-        if not all(byte in LINE_BYTES for byte in before_comment(line)):
-            raise Refused(3, number)
-        words = split_words(line)
-        if not words:
-            continue
-        first, further = words[0], words[1:]
-        if first not in FEWEST_WORDS:
-            raise Refused(4, number)
-        if len(further) < FEWEST_WORDS[first]:
-            raise Refused(5, number)
-        if first == b"item" and len(further) > 1:
-            raise Refused(12, number)
-        if not all(is_name(word) for word in further):
-            raise Refused(6, number)
-        directives.append((number, first, further))
-    return directives
-
-
-def items_pass(directives):
-    """Refusals, the pass over the items (7, 9, 8, 10); Items and groups: Items, Flushes and places.
-
-    Returns the names of the items by their numbers, and the flushes by their places, each as the
-    names of its item and of its target.
-    """
-    items = []
-    declared = set()
-    flushes = []
-    for number, first, names in directives:
-        if first == b"item":
-            if names[0] in declared:
-                raise Refused(7, number)
-            if len(items) == ITEM_LIMIT:
-                raise Refused(9, number)
-            items.append(names[0])
-            declared.add(names[0])
-        else:
-            if not all(name in declared for name in names):
-                raise Refused(8, number)
-            if first == b"flush":
-                flushes += [(names[0], target) for target in names[1:]]
-                if len(flushes) > FLUSH_LIMIT:
-                    raise Refused(10, number)
-    return items, flushes
-
-
-def groups_pass(directives, items):
-    """Refusals, the pass over the groups (11); Items and groups: Groups.
-
-    Returns the groups by their numbers, each as the list of its members in the order of their
-    declaration.
-    """
-    item_number = {name: number for number, name in enumerate(items)}
-    groups = []
-    grouped = set()
-    for number, first, names in directives:
-        if first == b"ordered":
-            for name in names:
-                if name in grouped:
-                    raise Refused(11, number)
-                grouped.add(name)
-            groups.append(sorted(names, key=item_number.get))
-    groups += [[name] for name in items if name not in grouped]
-    groups.sort(key=lambda members: item_number[members[0]])
-    return groups
+sys.dont_write_bytecode = True
+from declaration import TEXT_LIMIT, Refused, read_declaration  # noqa: E402  (beside this file)
 
 
 def chain_lengths(waits_for):
@@ -217,16 +89,14 @@ def circle_text(group_of, arcs, remaining):
 def answer(text):
     """The bytes of the answer to the text, and the exit status (Faults and exit statuses)."""
     try:
-        directives = directives_pass(text_pass(text))
-        items, flushes = items_pass(directives)
-        groups = groups_pass(directives, items)
+        declaration = read_declaration(text)
     except Refused as refused:
-        return b"refused %d line %d\n" % (refused.code, refused.line), 2
+        return refused.answer()
+    items, group_of = declaration.items, declaration.group_of
 
     # Items and groups: Arcs.
-    group_of = {name: number for number, members in enumerate(groups) for name in members}
-    arcs = [[] for _ in groups]
-    for item, target in flushes:
+    arcs = [[] for _ in declaration.groups]
+    for item, target in declaration.flushes:
         arcs[group_of[item]].append((item, target))
     waits_for = [{group_of[target] for _, target in arcs_of_group} for arcs_of_group in arcs]
 

@@ -1,0 +1,151 @@
+# The worked examples of docs/FORMAT.md, each of which the model must answer as the page says:
+#
+#     examples.py
+#
+# compare.py goes through them before it compares anything. As on the page, ` / ` parts lines.
+
+import sys
+
+sys.dont_write_bytecode = True
+import check  # noqa: E402  (beside this file)
+import plan  # noqa: E402
+import replay  # noqa: E402
+
+
+def text(lines):
+    """The bytes of lines that ` / ` parts. None of them may be empty."""
+    return b"".join(line.encode() + b"\n" for line in lines.split(" / ") if line)
+
+
+ITEMS = "item a / item b / item c / item d"
+EMPTY = "plan 0 / chain 0"
+
+# Worked examples: the declaration as bytes, and the answer.
+PLANS = [
+    (b"item a\nitem b\nflush a b\n", "plan 2 / wq 0 b / wq 1 a / chain 2 / arc a b"),
+    (b"item a\n\n\titem\tb \nflush a b", "plan 2 / wq 0 b / wq 1 a / chain 2 / arc a b"),
+    (b"item a # x\r\n\titem\tb\r\n\r\n# \xff\r\nflush a b",
+     "plan 2 / wq 0 b / wq 1 a / chain 2 / arc a b"),
+    (b"item a#x\r\r\nitem b\nflush a b#x\r", "plan 2 / wq 0 b / wq 1 a / chain 2 / arc a b"),
+    (b"", EMPTY),
+    (b"\n \n\t\r\n", EMPTY),
+    (b"#" + b"x" * 4_095, EMPTY),
+    (b"#" + b"x" * 4_095 + b"\n", EMPTY),
+    (b"#" + b"x" * 4_095 + b"\r\n", EMPTY),
+    (b"#" + b"x" * 4_095 + b"\r", "refused 2 line 1"),
+    (b"#" + b"x" * 4_096, "refused 2 line 1"),
+    (text("item a / item b / item c"), "plan 1 / wq 0 a b c / chain 1"),
+    (text(ITEMS + " / flush a b / flush b c"),
+     "plan 3 / wq 0 c d / wq 1 b / wq 2 a / chain 3 / arc a b / arc b c"),
+    (text(ITEMS + " / flush c b / flush d a / flush c a"),
+     "plan 2 / wq 0 a b / wq 1 c d / chain 2 / arc c b"),
+    (text("item a / item b / item c / flush a c / flush a b / flush b c"),
+     "plan 3 / wq 0 c / wq 1 b / wq 2 a / chain 3 / arc a b / arc b c"),
+    (text(ITEMS + " / ordered b c / flush a b / flush c d"),
+     "plan 3 / wq 0 d / wq 1 b c / wq 2 a / chain 3 / arc a b / arc c d"),
+    (text(ITEMS + " / ordered d b / flush c a / flush d a"),
+     "plan 2 / wq 0 a / wq 1 b c d / chain 2 / arc d a"),
+    (text(ITEMS + " / flush b d / flush a c d / ordered a b"),
+     "plan 2 / wq 0 c d / wq 1 a b / chain 2 / arc b d"),
+    (text("item a / flush a a"), "circle 1 / arc a a"),
+    (text("item a / item b / flush a b / flush b a"), "circle 2 / arc a b / arc b a"),
+    (text("item a / item b / ordered a b / flush a b"), "circle 1 / arc a b"),
+    (text("item a / item b / item c / flush a c b / flush b a"), "circle 2 / arc a b / arc b a"),
+    (text("item a / item b / item c / flush a b / flush b c / flush c b"),
+     "circle 2 / arc b c / arc c b"),
+    (text(ITEMS + " / ordered a d / ordered b c / flush a b / flush c d"),
+     "circle 2 / arc a b / arc c d"),
+    (text("item a / flush a b / item b"), "refused 8 line 2"),
+    (text("item a / flush a zz / items b"), "refused 4 line 3"),
+    (text("item a / item b / ordered a b / ordered b"), "refused 11 line 4"),
+    (text("item a / ordered a / ordered a"), "refused 11 line 3"),
+    (text("item a / ordered a a"), "refused 11 line 2"),
+    (text("item a / ordered a a / flush a zz"), "refused 8 line 3"),
+    (text("item a / ordered a b / item b"), "refused 8 line 2"),
+    (text("item a / item a"), "refused 7 line 2"),
+    (text("item a b!"), "refused 12 line 1"),
+    (text("item a!"), "refused 6 line 1"),
+    (text("item"), "refused 5 line 1"),
+    (text("item a / flush a"), "refused 5 line 2"),
+    (text("item a / flush a #a"), "refused 5 line 2"),
+    (text("ordered"), "refused 5 line 1"),
+    (b"item\x20\xc3\xa9", "refused 3 line 1"),
+    (b"item a\r\r\n", "refused 3 line 1"),
+    (b"item a\r", "refused 3 line 1"),
+]
+
+# Worked certificates.
+P = "item a / item b / flush a b"
+Q = ITEMS + " / flush a b / flush b c"
+R = "item a / item b / item c / flush a b / flush b c"
+S = "item a / flush a a"
+T = ITEMS + " / ordered a d / ordered b c / flush a b / flush c d"
+TWO = "plan 2 / wq 0 b / wq 1 a / chain 2"
+RUN = "queue a / queue b / queue c / start 0 a / wait 0 b / start 1 b"
+
+# The declaration, the certificate and the answer.
+CHECKS = [
+    (P, TWO + " / arc a b", "yes 2"),
+    (P, "plan 1 / wq 0 a b / chain 1", "no 50 a b"),
+    (P, "plan 3 / wq 0 b / wq 1 / wq 2 a / chain 2 / arc a b", "no 52"),
+    (P, TWO, "refused 40 line 0"),
+    (P, "circle 1 / arc a b", "no 53 1"),
+    (Q, "plan 3 / wq 0 c d / wq 1 b / wq 2 a / chain 3 / arc a b / arc a b", "no 51 2"),
+    ("", "plan 1 / wq 0 / chain 1", "no 51 0"),
+    (S, "circle 1 / arc a a / run 3 / queue a / start 0 a / wait 0 a", "yes circle 1"),
+    (S, "circle 1 / arc a a / run 2 / queue a / start 0 a", "no 54"),
+    (T, "circle 2 / arc a b / arc c d", "yes circle 2"),
+    # What stands between the tables.
+    (P, "plan 007", "refused 40 line 1"),
+    (P, "plan +1", "refused 40 line 1"),
+    (P, "plan 4294967296", "refused 40 line 1"),
+    (P, "plan 4097", "refused 43 line 1"),
+    (P, "circle 0", "refused 43 line 1"),
+    (P, "plan 2 / wq 0 b / chain 2 / arc a b", "refused 40 line 3"),
+    (P, "plan 2 / wq 0 b", "refused 40 line 0"),
+    (P, "plan 1 / wq 0 b / wq 1 a / chain 1", "refused 41 line 0"),
+]
+
+# The declaration, the assignment, the run and the answer.
+REPLAYS = [
+    (R, "wq 0 a c / wq 1 b", f"run 7 / {RUN} / wait 1 c", "deadlock"),
+    (R, "wq 0 a c / wq 1 b", f"run 6 / {RUN}", "open"),
+    (R, "wq 0 a c / wq 1 b", "run 1 / start 0 a", "not lawful 1"),
+    (T, "wq 0 a d / wq 1 b / wq 2 c", "run 0", "refused 42 line 3"),
+    (T, "wq 0 a d / wq 1 b", "", "refused 41 line 0"),
+    (T, "wq 1 a d", "run", "refused 43 line 1"),
+    # What stands between the tables.
+    ("", "", "run 0", "open"),
+    (P, "wq 0 a / chain 1", "run 0", "refused 41 line 0"),
+    (P, "wq 0 a b / chain 1", "run 0", "refused 40 line 2"),
+]
+
+STATUSES = {"plan": 0, "yes": 0, "open": 0, "circle": 1, "no": 1, "not": 1, "deadlock": 1,
+            "stuck": 1, "refused": 2}
+
+
+def wanted(answer):
+    return text(answer), STATUSES[answer.split()[0]]
+
+
+def failures():
+    """What is shown of each example that the model answers in another way."""
+    answers = [(repr(texts), plan.answer(texts), wanted(answer)) for texts, answer in PLANS]
+    for *texts, answer in CHECKS:
+        answers.append((texts, check.answer(*map(text, texts)), wanted(answer)))
+    for *texts, answer in REPLAYS:
+        answers.append((texts, replay.answer(*map(text, texts)), wanted(answer)))
+    return [
+        f"{what}: the page has {page}, the model has {model}"
+        for what, model, page in answers if model != page
+    ]
+
+
+def count():
+    return len(PLANS) + len(CHECKS) + len(REPLAYS)
+
+
+if __name__ == "__main__":
+    failed = failures()
+    print("\n".join(failed) or f"model: {count()} examples of the page agree")
+    sys.exit(1 if failed else 0)

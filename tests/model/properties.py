@@ -1,0 +1,386 @@
+# Tests the model itself, without the program:
+#
+#     properties.py [SEED] [CASES]
+#
+# It makes up the same cases as compare.py, and looks at the model's answers with other means: with
+# a second reading of certificates that is one pattern for each kind of text, with a second reading
+# of the steps that keeps no state and looks at all steps before, and with laws that docs/FORMAT.md
+# implies. It stops at the first case that breaks one.
+
+import collections
+import re
+import sys
+
+sys.dont_write_bytecode = True
+import certificate  # noqa: E402  (beside this file)
+import check  # noqa: E402
+import make_certificates  # noqa: E402
+import make_declarations  # noqa: E402
+import plan  # noqa: E402
+import replay  # noqa: E402
+from declaration import Refused, read_declaration  # noqa: E402
+
+DEFAULT_SEED = "1"
+DEFAULT_CASES = 500
+
+
+# A second reading of certificates ----------------------------------------------------------------
+
+N = rb"(0|[1-9][0-9]{0,9})"
+W = rb" [^ \n]+"
+ARCS = rb"((?:arc" + W + W + rb"\n)*)"
+RUN = (rb"run " + N + rb"\n((?:(?:queue|cancel)" + W + rb"\n|(?:start|wait|over|finish) "
+       + rb"[0-9]+" + W + rb"\n)*)")
+WQS = rb"((?:wq [0-9]+(?:" + W + rb")*\n)*)"
+PLAN = re.compile(rb"plan " + N + rb"\n" + WQS + rb"chain " + N + rb"\n" + ARCS)
+CIRCLE = re.compile(rb"circle " + N + rb"\n" + ARCS + rb"(?:" + RUN + rb")?")
+ASSIGNMENT = re.compile(WQS)
+STEPS = re.compile(RUN)
+
+
+def tidy(text):
+    """The lines that hold a word, with one space between words and an LF behind each; or None."""
+    if len(text) > 8_388_608:
+        return None
+    text = text.replace(b"\r\n", b"\n")
+    if any(len(line) > 524_288 for line in text.split(b"\n")):
+        return None
+    text = re.sub(rb"#[^\n]*", b"", text)
+    text = re.sub(rb"[ \t]+", b" ", text) + b"\n"
+    text = re.sub(rb" ?\n ?", b"\n", text)
+    return re.sub(rb"\n+", b"\n", text).lstrip(b" \n")
+
+
+def count_of(lines):
+    return lines.count(b"\n")
+
+
+def good_arcs(lines, declared):
+    names = [name for line in lines.split(b"\n")[:-1] for name in line.split(b" ")[1:]]
+    return all(name in declared.items for name in names)
+
+
+def good_wqs(lines, declared):
+    names, groups = [], []
+    for number, line in enumerate(lines.split(b"\n")[:-1]):
+        words = line.split(b" ")
+        if words[1] != b"%d" % number or number >= 4_096:
+            return False
+        names += words[2:]
+        groups += sorted({declared.group_of.get(name, -1) for name in words[2:]})
+    return sorted(names) == sorted(declared.items) and groups.count(-1) == 0 and (
+        len(groups) == len(set(groups)))
+
+
+def good_run(count, lines, declared):
+    for line in lines.split(b"\n")[:-1]:
+        words = line.split(b" ")
+        if words[-1] not in declared.items:
+            return False
+        if len(words) == 3 and not (re.fullmatch(N, words[1]) and int(words[1]) <= 4_095):
+            return False
+    return int(count) <= 4_294_967_295 and int(count) == count_of(lines)
+
+
+def good_plan(text, declared):
+    match = PLAN.fullmatch(text)
+    if not match:
+        return False
+    count, wqs, chain, arcs = match.groups()
+    return (int(count) <= 4_096 and int(chain) <= 4_096 and count_of(wqs) == int(count)
+            and count_of(arcs) == max(int(chain) - 1, 0)
+            and good_wqs(wqs, declared) and good_arcs(arcs, declared))
+
+
+def good_circle(text, declared):
+    match = CIRCLE.fullmatch(text)
+    if not match:
+        return False
+    count, arcs, steps, run = match.groups()
+    return (1 <= int(count) <= 4_096 and count_of(arcs) == int(count) and good_arcs(arcs, declared)
+            and (steps is None or good_run(steps, run, declared)))
+
+
+def good(kind, text, declared):
+    """Whether the text is a certificate of this kind."""
+    text = tidy(text)
+    if text is None:
+        return False
+    if kind == "certificate":
+        return good_plan(text, declared) or good_circle(text, declared)
+    if kind == "assignment":
+        match = ASSIGNMENT.fullmatch(text)
+        return good_plan(text, declared) or bool(match and good_wqs(match[1], declared))
+    match = STEPS.fullmatch(text)
+    return bool(match and good_run(*match.groups(), declared))
+
+
+# A second reading of the steps -------------------------------------------------------------------
+
+
+class Past:
+    """What the steps up to some step say, without any state between them."""
+
+    def __init__(self, declared, assignment, steps):
+        self.declared, self.steps = declared, steps
+        self.workqueue_of = assignment.workqueue_of
+
+    def last(self, holds, end=None):
+        """The number of the last step, before `end`, for which `holds` is true, or None."""
+        numbers = range(len(self.steps) if end is None else end)
+        return next((n for n in reversed(numbers) if holds(*self.steps[n])), None)
+
+    def queued(self, item, end=None):
+        """The number of the step that queued the item, where it is pending still, or None."""
+        words = (b"queue", b"cancel", b"start")
+        n = self.last(lambda word, q, name: name == item and word in words, end)
+        return n if n is not None and self.steps[n][0] == b"queue" else None
+
+    def started(self, workqueue):
+        """The number of the `start` of what runs on the workqueue, or None."""
+        n = self.last(lambda word, q, name: q == workqueue and word in (b"start", b"finish"))
+        return n if n is not None and self.steps[n][0] == b"start" else None
+
+    def waits(self, workqueue):
+        """The numbers of the `wait` and `over` steps of what runs on the workqueue."""
+        begin = self.started(workqueue)
+        return [n for n in range(begin, len(self.steps)) if self.steps[n][1] == workqueue
+                and self.steps[n][0] in (b"wait", b"over")]
+
+    def is_waiting(self, workqueue):
+        waits = self.waits(workqueue)
+        return bool(waits) and self.steps[waits[-1]][0] == b"wait"
+
+    def targets(self, item):
+        return [target for source, target in self.declared.flushes if source == item]
+
+    def unfinished(self, item):
+        """The numbers of the steps that queued the unfinished entries of the item."""
+        numbers = [self.queued(item)]
+        begin = self.started(self.workqueue_of[item])
+        if begin is not None and self.steps[begin][2] == item:
+            numbers.append(self.queued(item, begin))
+        return [n for n in numbers if n is not None]
+
+    def may(self, word, workqueue, name):
+        if word == b"queue":
+            return self.queued(name) is None
+        if word == b"cancel":
+            return self.queued(name) is not None
+        begin = self.started(workqueue)
+        if word == b"start":
+            here = [item for item in self.declared.items if self.workqueue_of[item] == workqueue
+                    and self.queued(item) is not None]
+            return begin is None and here != [] and min(here, key=self.queued) == name
+        if begin is None:
+            return False
+        item = self.steps[begin][2]
+        if word == b"finish":
+            return item == name and not self.is_waiting(workqueue)
+        if word == b"wait":
+            made = [n for n in self.waits(workqueue) if self.steps[n][0] == b"wait"]
+            targets = self.targets(item)
+            return (not self.is_waiting(workqueue) and name in targets
+                    and len(made) < len(targets))
+        if not self.is_waiting(workqueue):
+            return False
+        mark = self.waits(workqueue)[-1]
+        return self.steps[mark][2] == name and all(n > mark for n in self.unfinished(name))
+
+    def is_stuck(self):
+        if not any(self.unfinished(item) for item in self.declared.items):
+            return False
+        return not any(
+            self.may(word, workqueue, name)
+            for word in (b"start", b"wait", b"over", b"finish")
+            for workqueue in set(self.workqueue_of.values())
+            for name in self.declared.items
+        )
+
+    def is_as_declared(self):
+        words = collections.Counter((word, name) for word, _, name in self.steps)
+        items = self.declared.items
+        if any(words[b"queue", item] != 1 or words[b"cancel", item] for item in items):
+            return False
+        # Each item runs at most once, on a workqueue where others run before and behind it.
+        for workqueue in set(self.workqueue_of.values()):
+            here = [step for step in self.steps if step[1] == workqueue and step[0] != b"over"]
+            while here:
+                item = here.pop(0)[2]
+                targets = self.targets(item)
+                while targets and here and here[0] == (b"wait", workqueue, targets[0]):
+                    here.pop(0)
+                    targets.pop(0)
+                if here and (targets or here.pop(0)[0] != b"finish"):
+                    return False
+        return True
+
+
+def second_end(declared, assignment, steps):
+    """How the run ends, as the line of `replay`."""
+    for number, step in enumerate(steps):
+        if not Past(declared, assignment, steps[:number]).may(*step):
+            return b"not lawful %d\n" % (number + 1)
+    past = Past(declared, assignment, steps)
+    if not past.is_stuck():
+        return b"open\n"
+    return b"deadlock\n" if past.is_as_declared() else b"stuck\n"
+
+
+# Laws --------------------------------------------------------------------------------------------
+
+
+def joined(lines):
+    return b"".join(line + b"\n" for line in lines)
+
+
+def demand(holds, law):
+    if not holds:
+        raise AssertionError(law)
+
+
+def look_at_plan(text):
+    """What the model's plan answers is true, and a smaller plan isn't."""
+    printed, status = plan.answer(text)
+    if status == 2:
+        demand(check.answer(text, printed) == (printed, 2), "its refusal comes first")
+        return
+    head = printed.split(b"\n", 1)[0].replace(b"plan ", b"yes ").replace(b"circle", b"yes circle")
+    demand(check.answer(text, printed) == (head + b"\n", 0), "what plan answers is true")
+    spelled = b"#\n" + printed.replace(b" ", b" \t ").replace(b"\n", b" #\xff\r\n \n")
+    demand(check.answer(text, spelled) == (head + b"\n", 0), "blanks mean nothing")
+
+
+def look_at_refusal(answer, text, told):
+    """The line of a refusal is the first that can't be borne.
+
+    `answer` gives the answer for a text in the place of this one, and `told` is that for this one.
+    """
+    line = int(told.split()[3])
+    lines = re.findall(rb"[^\n]*\n|[^\n]+", text)
+    if line == 0 or any(len(part) > 500_000 for part in lines):
+        return
+    front, before = b"".join(lines[:line]), b"".join(lines[:line - 1])
+    demand(answer(front)[0] == told, "a refusal needs no line behind it")
+    printed = answer(before)[0]
+    demand(not printed.startswith(b"refused") or printed.endswith(b" line 0\n"),
+           "no line before the refused one is refused")
+
+
+def look_at_check(declaration_text, text):
+    try:
+        declared = read_declaration(declaration_text)
+    except Refused as refused:
+        demand(check.answer(declaration_text, text) == refused.answer(), "its refusal comes first")
+        return
+    printed, status = check.answer(declaration_text, text)
+    demand((status != 2) == good("certificate", text, declared), "the two readings accept the same")
+    truth = plan.answer(declaration_text)
+    words = printed.split()
+    if status == 2:
+        look_at_refusal(lambda other: check.answer(declaration_text, other), text, printed)
+    elif words[:2] == [b"yes", b"circle"]:
+        demand(truth[1] == 1, "there is a circle where the answer is yes")
+    elif words[0] == b"yes":
+        demand(truth[0].startswith(b"plan %s\n" % words[1]), "yes means the fewest workqueues")
+    elif words[1] == b"50":
+        demand(tuple(words[2:]) in declared.flushes, "the flush of 50 is declared")
+    elif words[1] == b"54":
+        steps = tidy(text)[tidy(text).index(b"\nrun ") + 1:]
+        look_at_run(declared, declared.group_of, steps, not_deadlock=True)
+
+
+def look_at_run(declared, workqueue_of, run, not_deadlock=False):
+    """What the model and the second reading say of a run is the same."""
+    assignment = certificate.Assignment(workqueue_of, 4_096)
+    steps = certificate.read_run(run, declared)
+    if len(steps) > 60 or len(declared.items) > 15:
+        return None
+    end = second_end(declared, assignment, steps)
+    demand(not (not_deadlock and end == b"deadlock\n"), "54 means that the run doesn't deadlock")
+    return end
+
+
+def look_at_replay(declaration_text, assignment_text, run_text):
+    try:
+        declared = read_declaration(declaration_text)
+    except Refused as refused:
+        demand(replay.answer(declaration_text, assignment_text, run_text) == refused.answer(),
+               "its refusal comes first")
+        return
+    printed, status = replay.answer(declaration_text, assignment_text, run_text)
+    fits = good("assignment", assignment_text, declared)
+    both = fits and good("run", run_text, declared)
+    demand((status != 2) == both, "both readings are the same")
+    if status == 2:
+        if fits:
+            look_at_refusal(
+                lambda other: replay.answer(declaration_text, assignment_text, other), run_text,
+                printed)
+        else:
+            look_at_refusal(
+                lambda other: replay.answer(declaration_text, other, b"run 0\n"), assignment_text,
+                printed)
+        return
+
+    assignment = certificate.read_assignment(assignment_text, declared)
+    second = look_at_run(declared, assignment.workqueue_of, run_text)
+    demand(second in (None, printed), "both readings of the steps are the same")
+    falls = all(assignment.workqueue_of[item] > assignment.workqueue_of[target]
+                for item, target in declared.flushes)
+    stuck = printed in (b"stuck\n", b"deadlock\n")
+    demand(not (falls and stuck), "where the numbers fall no run ends stuck")
+
+    # The fronts of the run.
+    lines = tidy(run_text).split(b"\n")[1:-1]
+    if len(lines) > 60:
+        return
+    bad = int(printed.split()[2]) if printed.startswith(b"not lawful") else len(lines) + 1
+    for count in range(len(lines) + 1):
+        front = joined([b"run %d" % count] + lines[:count])
+        end = replay.answer(declaration_text, assignment_text, front)[0]
+        if count >= bad:
+            demand(end == printed, "an unlawful step stays so")
+        else:
+            demand(not end.startswith(b"not"), "the steps before an unlawful one may be made")
+            later = lines[count].split()[0] if count < bad - 1 else None
+            demand(not (later in (b"start", b"wait", b"over", b"finish") and end != b"open\n"),
+                   "what ends stuck goes on with queue or cancel alone")
+            demand(not (end == b"deadlock\n" and later is not None and count < len(lines)
+                        and printed == b"deadlock\n"), "no front of a deadlock is one")
+
+
+def main(arguments):
+    if len(arguments) > 2 or not all(word.isdecimal() for word in arguments[1:]):
+        print("usage: properties.py [SEED] [CASES]", file=sys.stderr)
+        return 2
+    seed = arguments[0] if arguments else DEFAULT_SEED
+    count = int(arguments[1]) if len(arguments) > 1 else DEFAULT_CASES
+    parts = [
+        ("plan", look_at_plan, lambda *case: [make_declarations.random_case(*case)]),
+        ("check", look_at_check, make_certificates.random_check_case),
+        ("replay", look_at_replay, make_certificates.random_replay_case),
+    ]
+    limits = {
+        "plan": [],
+        "check": make_certificates.limit_check_cases(),
+        "replay": make_certificates.limit_replay_cases(),
+    }
+    looked = 0
+    for command, look_at, random_case in parts:
+        small = [texts for _, texts in limits[command] if sum(map(len, texts)) < 20_000]
+        for number in range(len(small) + count):
+            texts = small[number] if number < len(small) else random_case(seed, number - len(small))
+            looked += 1
+            try:
+                look_at(*texts)
+            except AssertionError as error:
+                print(f"FAILED  {command}, case {number} (seed {seed}): {error}")
+                print("\n".join(f"    {text[:2_000]!r}" for text in texts))
+                return 1
+    print(f"model: the laws hold of {looked} cases")
+    return 0
+
+
+if __name__ == "__main__":
+    sys.exit(main(sys.argv[1:]))

@@ -1,0 +1,47 @@
+# A model of `wqplan replay DECL ASSIGN RUN`. It makes the steps of a run and says how that ends, as
+# docs/FORMAT.md asks for in "The command `replay`". See plan.py for what the model is.
+
+import sys
+
+sys.dont_write_bytecode = True
+import certificate  # noqa: E402  (beside this file)
+import declaration  # noqa: E402
+from declaration import Refused  # noqa: E402
+from steps import end_of_run  # noqa: E402
+
+
+def answer(declaration_text, assignment_text, run_text):
+    """The bytes of the answer, and the exit status (Faults and exit statuses)."""
+    try:
+        declared = declaration.read_declaration(declaration_text)
+        assignment = certificate.read_assignment(assignment_text, declared)
+        steps = certificate.read_run(run_text, declared)
+    except Refused as refused:
+        return refused.answer()
+    end = end_of_run(declared, assignment, steps)
+    if end in ("deadlock", "stuck", "open"):
+        return b"%s\n" % end.encode(), 0 if end == "open" else 1
+    return b"not lawful %d\n" % end, 1
+
+
+def main(arguments):
+    """Faults and exit statuses. Of the faults of the system only `fault read` is here."""
+    if len(arguments) != 4 or arguments[0] != "replay":
+        print("usage: replay.py replay DECL ASSIGN RUN", file=sys.stderr)
+        return 2
+    limits = declaration.TEXT_LIMIT, certificate.TEXT_LIMIT, certificate.TEXT_LIMIT
+    try:
+        texts = []
+        for place, limit in zip(arguments[1:], limits):
+            with open(place, "rb") as file:
+                texts.append(file.read(limit + 1))
+    except OSError:
+        print("fault read", file=sys.stderr)
+        return 3
+    printed, status = answer(*texts)
+    sys.stdout.buffer.write(printed)
+    return status
+
+
+if __name__ == "__main__":
+    sys.exit(main(sys.argv[1:]))
