@@ -13,7 +13,7 @@ const TEXT: &[u8] = b"item a\nitem b\nflush a b\n";
 const ANSWER: &[u8] = b"plan 2\nwq 0 b\nwq 1 a\nchain 2\narc a b\n";
 
 /// What was counted: the calls, the bytes and the failures.
-fn counts<D>(metered: &Metered<D>) -> (u64, u64, u64) {
+pub(crate) fn counts<D>(metered: &Metered<D>) -> (u64, u64, u64) {
     (metered.calls(), metered.bytes(), metered.failures())
 }
 

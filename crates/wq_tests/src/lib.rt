@@ -9,6 +9,14 @@ mod answers;
 #[cfg(test)]
 mod bytes;
 #[cfg(test)]
+mod certificate_devices;
+#[cfg(test)]
+mod certificate_heaps;
+#[cfg(test)]
+mod certificate_limits;
+#[cfg(test)]
+mod checks;
+#[cfg(test)]
 mod declared;
 #[cfg(test)]
 mod devices;
@@ -22,6 +30,8 @@ mod groups;
 mod limits;
 #[cfg(test)]
 mod machine;
+#[cfg(test)]
+mod replays;
 #[cfg(test)]
 mod rows;
 #[cfg(test)]

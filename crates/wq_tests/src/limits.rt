@@ -24,7 +24,7 @@ fn assert_begins(
 }
 
 /// A text that has the same byte so many times between a front and a rest.
-fn repeated(
+pub(crate) fn repeated(
     alloc: Global,
     front: &str,
     byte: u8,

@@ -20,7 +20,7 @@ fn run_in(
 }
 
 /// Asserts what a run left and wrote that ended so, and says whether it answered.
-fn is_answer(
+pub(crate) fn is_answer(
     rt: &impl Abort,
     outcome: Result<End, Fault>,
     written: &[u8],
