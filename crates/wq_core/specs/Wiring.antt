@@ -1,6 +1,6 @@
 -- Wiring: all that the machine sees of a declaration and an assignment.
 use Rattle.std.specs.Prelude.{◌≡◌, ℕ, ◌<◌, List, length, map, slice_get, slice_index, Some}
-use Rattle.std.specs.List.{All}
+use Rattle.std.specs.List.{All, range_with_len}
 use Rattle.wq_items.specs.declared.target.Target.{Target}
 use Rattle.wq_items.specs.Table.{ItemWaits, TargetsBelow, targets_of}
 use Rattle.wq_groups.specs.Declaration.{Declaration}
@@ -16,6 +16,10 @@ pub record Wiring : Type 0 where
 -- each item on the lane of its group
 abbrev pub wiring : Declaration → Assignment → Wiring
 wiring d a = record { waits = d.waits; lane_of_item = map (lane_of_group a) d.group_of; lanes = a.lanes }
+
+-- the assignment in which each of so many groups has a lane of its own, with its number
+abbrev pub own_lanes : ℕ → Assignment
+own_lanes groups = record { lanes = groups; lane_of_group = range_with_len 0 groups }
 
 -- how many items there are
 abbrev pub items : Wiring → ℕ
