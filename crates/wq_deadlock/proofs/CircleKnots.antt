@@ -1,10 +1,9 @@
 -- The first items of a circle of lanes hold one another up.
-use Rattle.std.proofs.Common.{◌≡◌, ◌≢◌, ℕ, zero, suc, ◌+◌, ◌-◌, ◌<◌, inl, inr, List, [], ◌∷◌, length, map, get_or, refl, sym, ap, subst, ◌∙◌, arith}
-use Rattle.std.specs.Prelude.{AllPairs, Contains, slice_index}
-use Rattle.std.specs.List.{All, Any}
+use Rattle.std.proofs.Common.{◌≡◌, ℕ, ◌+◌, ◌-◌, ◌<◌, inl, inr, List, length, get_or, sym, ap, subst, ◌∙◌, arith}
+use Rattle.std.specs.Prelude.{slice_index}
 use Rattle.std.proofs.lemmas.Bool.{cases_lt}
 use Rattle.std.proofs.lemmas.List.{length-map, get_or-map}
-use Rattle.std.proofs.lemmas.List.Elements.{All-contains, Contains-get_or}
+use Rattle.std.proofs.lemmas.List.Elements.{All-contains}
 use Rattle.wq_items.specs.declared.target.Target.{Target}
 use Rattle.wq_groups.specs.Declaration.{Declaration, IsDeclaration}
 use Rattle.wq_groups.specs.Assignment.{Assignment, IsAssignment}
@@ -13,7 +12,7 @@ use Rattle.wq_graph.specs.Graph.{lanes_of_items, lane_graph, arcs_at, IsArc}
 use Rattle.wq_graph.proofs.Graphs.{AreArcsFrom-lane_graph}
 use Rattle.wq_levels.specs.Walks.{LeadsRound}
 use Rattle.wq_levels.proofs.OneCircle.{some_length}
-use Rattle.wq_core.specs.Wiring.{Wiring, wiring, lane_of, declared_by}
+use Rattle.wq_core.specs.Wiring.{Wiring, wiring, lane_of}
 use Rattle.wq_core.specs.Knot.{HasLane, WaitsAmong, IsKnot}
 use Rattle.wq_deadlock.specs.CircleRun.{first_items}
 

@@ -1,13 +1,12 @@
 -- Steps that finish nothing: what was unfinished stays so, and no other lane becomes movable.
-use Rattle.std.proofs.Common.{◌≡◌, ◌≢◌, ℕ, ◌+◌, ◌<◌, inl, inr, Option, None, Some, refl, sym, subst, arith}
+use Rattle.std.proofs.Common.{◌≡◌, ◌≢◌, ℕ, ◌+◌, ◌<◌, inl, inr, None, Some, refl, sym, subst, arith}
 use Rattle.wq_core.specs.declared.entry.Entry.{Entry}
-use Rattle.wq_core.specs.declared.entry.Flush.{Flush}
 use Rattle.wq_core.specs.declared.entry.Running.{Running}
 use Rattle.wq_core.specs.declared.step.Step.{Step}
 use Rattle.wq_core.specs.declared.step.Step.TheVariants.{Queue, Cancel, Start, Wait, Over, Finish}
 use Rattle.wq_core.specs.Wiring.{Wiring}
 use Rattle.wq_core.specs.State.{Lane, State, lane_at, with_lane, Runs, IsUnfinishedOn, HasUnfinishedBelow}
-use Rattle.wq_core.specs.Rules.{MayStart, Lawful, with_started, with_wait, with_wait_over, effect}
+use Rattle.wq_core.specs.Rules.{MayStart, with_started, with_wait, with_wait_over, effect}
 use Rattle.wq_core.specs.Played.{IsDeclaredStep, CannotMove}
 use Rattle.wq_core.proofs.LaneLemmas.{cases_with_lane, lane_at-with_lane_other}
 use Rattle.wq_core.proofs.Knots.{unfinished-started, unfinished-going_on}

@@ -5,3 +5,7 @@ pub mod OwnLanes
 pub mod Queueings
 pub mod CircleKnots
 pub mod Verdicts
+pub mod Renumbered
+pub mod OnlyRun
+pub mod Named
+pub mod RunLengths

@@ -1,5 +1,5 @@
 -- Steps that a machine can make, one after another, up to each of them.
-use Rattle.std.proofs.Common.{◌≡◌, ℕ, zero, suc, ◌+◌, ◌<◌, ◌≤◌, List, [], ◌∷◌, length, take, Option, Some, None, Result, Ok, Err, refl, ap, subst, ◌∙◌, sym, arith}
+use Rattle.std.proofs.Common.{◌≡◌, ℕ, zero, suc, ◌+◌, ◌<◌, ◌≤◌, List, [], ◌∷◌, length, take, Option, Some, None, Result, Ok, Err, refl, ap, subst, sym, arith}
 use Rattle.std.specs.Prelude.{slice_get, IfErr, IfSome, IsOk}
 use Rattle.wq_core.specs.declared.step.Step.{Step}
 use Rattle.wq_core.specs.declared.step.Step.TheVariants.{Queue, Cancel, Start, Wait, Over, Finish}

@@ -1,6 +1,6 @@
 -- What ranks of the lanes, and circles of them, say of an assignment.
-use Rattle.std.proofs.Common.{◌≡◌, ℕ, ◌<◌, ◌≤◌, ◌↔◌, inl, inr, List, [], ◌++◌, length, map, get_or, Some, sym, ap, subst, ◌∙◌, arith}
-use Rattle.std.specs.Prelude.{slice_index, slice_get}
+use Rattle.std.proofs.Common.{◌≡◌, ℕ, ◌<◌, ◌≤◌, ◌↔◌, inl, inr, List, [], length, get_or, sym, ap, subst, ◌∙◌, arith}
+use Rattle.std.specs.Prelude.{slice_index}
 use Rattle.std.proofs.lemmas.Bool.{cases_lt}
 use Rattle.std.proofs.lemmas.List.{length-map, get_or-map, get_or_past}
 use Rattle.std.proofs.lemmas.List.FromFn.{length-map-range_with_len}
@@ -20,10 +20,9 @@ use Rattle.wq_levels.proofs.Ranks.{AreRanks-fall}
 use Rattle.wq_levels.proofs.OneCircle.{HasCircle-walked, IsWalkedCircle-few}
 use Rattle.wq_levels.proofs.Walks.{LeadsRound-walked}
 use Rattle.wq_core.specs.declared.step.Step.{Step}
-use Rattle.wq_core.specs.Wiring.{Wiring, LaneWaits, wiring, items, lane_of}
-use Rattle.wq_core.specs.State.{empty_state}
+use Rattle.wq_core.specs.Wiring.{LaneWaits, wiring, lane_of}
 use Rattle.wq_core.specs.Runs.{IsRun}
-use Rattle.wq_core.specs.Deadlock.{IsSafe, DeadlocksBy}
+use Rattle.wq_core.specs.Deadlock.{DeadlocksBy}
 use Rattle.wq_core.specs.Knot.{IsKnot}
 use Rattle.wq_core.specs.Played.{queue_order}
 use Rattle.wq_core.proofs.KnotRuns.{DeadlocksBy-knot, IsRun-queue_order}
@@ -36,7 +35,7 @@ use Rattle.wq_deadlock.proofs.CircleKnots.{IsKnot-first_items}
 use Rattle.wq_deadlock.proofs.Queueings.{length-queue_order}
 
 -- what waits is an item
-item_waits : (waits : List (List Target)) (i j : ℕ) → ItemWaits waits i j → i < length waits
+pub item_waits : (waits : List (List Target)) (i j : ℕ) → ItemWaits waits i j → i < length waits
 item_waits waits i j declares = elim (cases_lt i (length waits)) [
   | inl within ↦ within
   | inr past ↦ (
@@ -66,7 +65,7 @@ module _ (d : Declaration) (a : Assignment) (declaration : IsDeclaration d) (ass
   lane_of-item : (i : ℕ) → i < length d.waits → lane_of (wiring d a) i ≡ lane_of_item a d.group_of i
   lane_of-item i lt = get_or-map (lane_of_group a) d.group_of i 0 0 (omega (arith, declaration.one_list_each))
 
-  target_below : (i j : ℕ) → ItemWaits d.waits i j → j < length d.waits
+  pub target_below : (i j : ℕ) → ItemWaits d.waits i j → j < length d.waits
   target_below i j declares = omega (arith, ItemWaits-below (length d.group_of) d.waits declaration.targets_are_items i j declares, declaration.one_list_each)
 
   HasArc-items : (i j : ℕ) → ItemWaits d.waits i j → HasArc (lane_graph d a) (lane_of (wiring d a) i) (lane_of (wiring d a) j)
@@ -89,7 +88,7 @@ module _ (d : Declaration) (a : Assignment) (declaration : IsDeclaration d) (ass
     -- ---- ranks
 
     module _ (ranks : List ℕ) (are : AreRanks (lane_graph d a) ranks) where
-      fall : (i j : ℕ) → ItemWaits d.waits i j → slice_index ranks (lane_of (wiring d a) j) < slice_index ranks (lane_of (wiring d a) i)
+      pub fall : (i j : ℕ) → ItemWaits d.waits i j → slice_index ranks (lane_of (wiring d a) j) < slice_index ranks (lane_of (wiring d a) i)
       fall i j declares =
           let item : i < length (lanes_of_items d a) = omega (arith, item_waits d.waits i j declares, lanes_long) in
           let lane : lane_of (wiring d a) i < a.lanes = lanes_of_items-within d a declaration assignment i 0 item in
@@ -113,7 +112,7 @@ module _ (d : Declaration) (a : Assignment) (declaration : IsDeclaration d) (ass
       knot : IsKnot (wiring d a) (first_items circle)
       knot = IsKnot-first_items d a declaration assignment circle (LeadsRound-walked (lane_graph d a) circle walked)
 
-      lanes_wait : Circle (LaneWaits (wiring d a))
+      pub lanes_wait : Circle (LaneWaits (wiring d a))
       lanes_wait =
           Circle-map (HasArc (lane_graph d a)) (LaneWaits (wiring d a)) (λ q. q) (λ p q arc. (LaneWaits-HasArc p q).1 arc) (HasCircle-walked (lane_graph d a) sound circle walked).0
 

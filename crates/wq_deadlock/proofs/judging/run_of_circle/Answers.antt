@@ -1,12 +1,6 @@
-use Rattle.std.proofs.Common.{◌≡◌, ◌+◌, ◌<◌, List, length, sym, ap, subst, ◌∙◌, arith}
+use Rattle.std.proofs.Common.{arith}
 use Rattle.wq_groups.specs.Declaration.{declaration_of}
 use Rattle.wq_groups.proofs.Declarations.{IsDeclaration-of}
-use Rattle.wq_core.specs.declared.step.Step.{Step}
-use Rattle.wq_core.specs.Wiring.{wiring}
-use Rattle.wq_core.specs.Runs.{IsRunFrom}
-use Rattle.wq_core.specs.Played.{queue_order}
-use Rattle.wq_core.specs.Held.{Machine}
-use Rattle.wq_deadlock.specs.CircleRun.{first_items}
 use Rattle.wq_deadlock.proofs.Verdicts.{IsRun-first_items, length-first_items}
 use Rattle.wq_deadlock.proofs.judging.run_of_circle.Goals as goal
 

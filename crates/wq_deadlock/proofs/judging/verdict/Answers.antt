@@ -1,4 +1,4 @@
-use Rattle.std.proofs.Common.{sym, subst, ◌≤◌, arith}
+use Rattle.std.proofs.Common.{arith}
 use Rattle.wq_groups.specs.Declaration.{declaration_of}
 use Rattle.wq_groups.proofs.Declarations.{IsDeclaration-of}
 use Rattle.wq_deadlock.proofs.Verdicts.{IsSafeByRanks-ranks, IsDeadlock-walked}

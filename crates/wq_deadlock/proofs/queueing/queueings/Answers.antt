@@ -1,6 +1,4 @@
-use Rattle.std.proofs.Common.{◌≡◌, ℕ, ◌++◌, ◌∷◌, [], ◌==◌, sym, ap, ◌∙◌, List}
-use Rattle.std.specs.List.{list_any}
-use Rattle.wq_core.specs.declared.step.Step.{Step}
+use Rattle.std.proofs.Common.{ℕ, ◌++◌, ◌∷◌, [], sym, ap, ◌∙◌}
 use Rattle.wq_core.specs.declared.step.Step.TheVariants.{Queue}
 use Rattle.wq_deadlock.proofs.Queueings.{queued_more, queued_same}
 use Rattle.wq_deadlock.proofs.queueing.queueings.Goals as goal
