@@ -94,11 +94,11 @@ module _ (w : Wiring) (knot : List ℕ) (wiring : IsWiring w) (is : IsKnot w kno
   abbrev start : State
   start = end_of w (queue_order w knot)
 
-  runs_so_far : IsRun w (queue_order w knot)
-  runs_so_far = IsRunFrom-queued w (in_order knot (items w)) (empty_state w) all_items differ (λ i there. no_pending w i)
+  pub IsRun-queue_order : IsRun w (queue_order w knot)
+  IsRun-queue_order = IsRunFrom-queued w (in_order knot (items w)) (empty_state w) all_items differ (λ i there. no_pending w i)
 
   start_is_sound : IsSoundState w start
-  start_is_sound = IsSoundState-end_of w (queue_order w knot) runs_so_far
+  start_is_sound = IsSoundState-end_of w (queue_order w knot) IsRun-queue_order
 
   lanes_exist : All (λ i. lane_of w i < length (empty_state w).lanes) (in_order knot (items w))
   lanes_exist = All-weaker (λ i. i < items w) (λ i. lane_of w i < length (empty_state w).lanes) (λ i lt.
@@ -173,7 +173,7 @@ module _ (w : Wiring) (knot : List ℕ) (wiring : IsWiring w) (is : IsKnot w kno
 
     DeadlocksBy-here : DeadlocksBy w (queue_order w knot ++ more)
     DeadlocksBy-here = record {
-      run = IsRunFrom-append w (empty_state w) (queue_order w knot) more runs_so_far (IsRunFrom-played w start more played);
+      run = IsRunFrom-append w (empty_state w) (queue_order w knot) more IsRun-queue_order (IsRunFrom-played w start more played);
       once = once;
       as_declared = AsDeclaredFrom-append w (empty_state w) (queue_order w knot) more (AsDeclaredFrom-queued w (in_order knot (items w)) (empty_state w)) (AsDeclaredFrom-played w start more played);
       stuck = subst (λ (s : State). IsStuck w s) (sym (after-append w (empty_state w) (queue_order w knot) more)) stuck;

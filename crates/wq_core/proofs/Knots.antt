@@ -18,7 +18,7 @@ use Rattle.wq_core.proofs.Sound.{same_running}
 
 -- ---- what stays unfinished on a lane
 
-unfinished-started : (lane : Lane) (i : ℕ) (e : Entry) → MayStart lane i → IsUnfinishedOn lane e → IsUnfinishedOn (with_started lane) e
+pub unfinished-started : (lane : Lane) (i : ℕ) (e : Entry) → MayStart lane i → IsUnfinishedOn lane e → IsUnfinishedOn (with_started lane) e
 unfinished-started lane i e may (inl pending) = started lane.pending may.entry may.first pending
   where
     started : (ps : List Entry) (first : Entry) → slice_get ps 0 ≡ Some first → Contains ps e → IsUnfinishedOn (with_started (record { pending = ps; running = lane.running })) e
@@ -27,7 +27,7 @@ unfinished-started lane i e may (inl pending) = started lane.pending may.entry m
     started (p ∷ ps) first is (suc k, lt, at) = inl (k, omega arith, at)
 unfinished-started lane i e may (inr (r, runs, same)) = absurd (let never : None ≡ Some r = sym may.idle ∙ runs in cc)
 
-unfinished-going_on : (lane : Lane) (f : Running → Running) (e : Entry) → ((r : Running) → (f r).entry ≡ r.entry) → IsUnfinishedOn lane e
+pub unfinished-going_on : (lane : Lane) (f : Running → Running) (e : Entry) → ((r : Running) → (f r).entry ≡ r.entry) → IsUnfinishedOn lane e
     → IsUnfinishedOn (record lane { running = option_map f lane.running }) e
 unfinished-going_on lane f e keeps (inl pending) = inl pending
 unfinished-going_on lane f e keeps (inr (r, runs, same)) = inr (f r, ap (λ (o : Option Running). option_map f o) runs, keeps r ∙ same)

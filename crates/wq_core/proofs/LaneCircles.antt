@@ -23,7 +23,7 @@ module _ (R S : ℕ → ℕ → Type 0) (f : ℕ → ℕ) (keeps : (v w : ℕ) �
   last_of-map v [] = refl
   last_of-map v (w ∷ ws) = last_of-map w ws
 
-  Circle-map : Circle R → Circle S
+  pub Circle-map : Circle R → Circle S
   Circle-map c = record {
     first = f c.first;
     others = map f c.others;

@@ -1,20 +1,21 @@
 -- Graphs of declarations: which arcs a vertex has, and what holds of every such graph.
-use Rattle.std.proofs.Common.{◌≡◌, ℕ, ◌<◌, ◌==◌, Bool, inl, inr, List, [], length, map, get_or, Some, refl, sym, ap, subst, ◌∙◌, arith}
+use Rattle.std.proofs.Common.{◌≡◌, ℕ, ◌<◌, ◌≤◌, ◌==◌, Bool, inl, inr, List, [], length, map, get_or, Some, refl, sym, ap, subst, ◌∙◌, arith}
 use Rattle.std.specs.Prelude.{IsPermutation, AllPairs, Contains, slice_index, filter, ◌↔◌}
 use Rattle.std.specs.List.{All, range_with_len}
 use Rattle.std.specs.List.Sorted.{IsStrictlyIncreasing}
 use Rattle.std.proofs.lemmas.Bool.{cases_lt, eqb-true, eq-eqb}
-use Rattle.std.proofs.lemmas.List.{get_or_past}
+use Rattle.std.proofs.lemmas.List.{get_or_past, length-map}
 use Rattle.std.proofs.lemmas.List.Elements.{All-map, All-filter, All-contains, filter_passes}
 use Rattle.std.proofs.lemmas.List.FromFn.{length-map-range_with_len, get_or-map-range_with_len}
 use Rattle.std.proofs.lemmas.List.Kept.{AllPairs-filter, AllPairs-from_increasing}
 use Rattle.std.proofs.lemmas.Option.{get_or_from_slice_get, slice_get-get_or}
 use Rattle.wq_items.specs.declared.target.Target.{Target}
-use Rattle.wq_items.specs.Table.{flush_count, places}
+use Rattle.wq_items.specs.Table.{TargetsBelow, flush_count, places}
 use Rattle.wq_items.proofs.Tables.{ItemWaits-below}
 use Rattle.wq_groups.specs.Declaration.{Declaration, GroupWaits, IsDeclaration}
+use Rattle.wq_groups.specs.Assignment.{Assignment, IsAssignment, lane_of}
 use Rattle.wq_graph.specs.declared.arc.WaitArc.{WaitArc}
-use Rattle.wq_graph.specs.Graph.{arc_of, arcs_by_item, arcs_by_place, arcs_from, graph_of, group_graph, arcs_at, HasArc, IsArc, AreArcsFrom, IsGraph}
+use Rattle.wq_graph.specs.Graph.{arc_of, arcs_by_item, arcs_by_place, arcs_from, graph_of, group_graph, lanes_of_items, lane_graph, arcs_at, VertexWaits, HasArc, IsArc, AreArcsFrom, IsGraph}
 use Rattle.wq_graph.proofs.ListLemmas.{Contains-filter, IsStrictlyIncreasing-map, AllPairs-from_map, same_from_rising}
 use Rattle.wq_graph.proofs.Arcs.{IsArc-by_item, Contains-by_item, src-below, ByPlace, ByPlace-arc, ByPlace-arcs_by_place, place-below}
 
@@ -64,74 +65,136 @@ HasArc-below graph v w h = elim (cases_lt v (length graph)) [
       absurd (omega (arith, h.2))
 ]
 
--- ---- graphs of groups
+-- ---- graphs by the vertices of the items
 
-module _ (d : Declaration) (h : IsDeclaration d) where
+-- flushes of items, each at a place of its own, and for each item one of so many vertices
+pub record AreVertices (waits : List (List Target)) (vertex_of : List ℕ) (n : ℕ) : Type 0 where
+  pub one_each : length waits ≡ length vertex_of
+  pub within : All (λ v. v < n) vertex_of
+  pub targets_are_items : All (TargetsBelow (length vertex_of)) waits
+  pub numbered : IsPermutation (range_with_len 0 (flush_count waits)) (places waits)
+
+module _ (waits : List (List Target)) (vertex_of : List ℕ) (n : ℕ) (are : AreVertices waits vertex_of n) where
   -- an arc leads from an item to an item
-  dst-below : (a : WaitArc) → IsArc d.waits d.group_of a → a.dst < length d.group_of
-  dst-below a arc = ItemWaits-below (length d.group_of) d.waits h.targets_are_items a.src a.dst (arc.declared.0, arc.declared.1, arc.declared.2, arc.declared.3, arc.declared.4.0)
+  dst-below : (a : WaitArc) → IsArc waits vertex_of a → a.dst < length vertex_of
+  dst-below a arc = ItemWaits-below (length vertex_of) waits are.targets_are_items a.src a.dst (arc.declared.0, arc.declared.1, arc.declared.2, arc.declared.3, arc.declared.4.0)
 
-  head-below : (a : WaitArc) → IsArc d.waits d.group_of a → a.head < d.groups
-  head-below a arc = let inside = h.partition.within a.dst 0 (dst-below a arc) in omega (arith, inside, arc.head)
+  head-below : (a : WaitArc) → IsArc waits vertex_of a → a.head < n
+  head-below a arc = let inside = are.within a.dst 0 (dst-below a arc) in omega (arith, inside, arc.head)
 
-  pub IsGraph-group_graph : IsGraph (group_graph d)
-  IsGraph-group_graph =
-      let long : length (group_graph d) ≡ d.groups = length-map-range_with_len (arcs_from d.waits d.group_of) 0 d.groups in
+  pub IsGraph-graph_of : n ≤ 4096 → IsGraph (graph_of waits vertex_of n)
+  IsGraph-graph_of few =
+      let long : length (graph_of waits vertex_of n) ≡ n = length-map-range_with_len (arcs_from waits vertex_of) 0 n in
       record {
-        few = omega (arith, long, h.partition.few_groups, h.partition.few_items);
+        few = omega (arith, long, few);
         heads =
-            subst (λ n. All (λ (arcs : List WaitArc). All (λ (a : WaitArc). a.head < n) arcs) (group_graph d)) (sym long) (
-            All-map (λ (arcs : List WaitArc). All (λ (a : WaitArc). a.head < d.groups) arcs) (arcs_from d.waits d.group_of) (range_with_len 0 d.groups) (
-            λ k e within m a inside. let arcs = AreArcsFrom-arcs_from d.waits d.group_of h.places_are_numbered (get_or (range_with_len 0 d.groups) k e) in
-            head-below (get_or (arcs_from d.waits d.group_of (get_or (range_with_len 0 d.groups) k e)) m a) (arcs.declared m a inside).0
+            subst (λ m. All (λ (arcs : List WaitArc). All (λ (a : WaitArc). a.head < m) arcs) (graph_of waits vertex_of n)) (sym long) (
+            All-map (λ (arcs : List WaitArc). All (λ (a : WaitArc). a.head < n) arcs) (arcs_from waits vertex_of) (range_with_len 0 n) (
+            λ k e within m a inside. let arcs = AreArcsFrom-arcs_from waits vertex_of are.numbered (get_or (range_with_len 0 n) k e) in
+            head-below (get_or (arcs_from waits vertex_of (get_or (range_with_len 0 n) k e)) m a) (arcs.declared m a inside).0
             )
             );
         places_rise =
-            All-map (λ (arcs : List WaitArc). IsStrictlyIncreasing (map (λ (a : WaitArc). a.place) arcs)) (arcs_from d.waits d.group_of) (range_with_len 0 d.groups) (
-            λ k e within. (AreArcsFrom-arcs_from d.waits d.group_of h.places_are_numbered (get_or (range_with_len 0 d.groups) k e)).in_order
+            All-map (λ (arcs : List WaitArc). IsStrictlyIncreasing (map (λ (a : WaitArc). a.place) arcs)) (arcs_from waits vertex_of) (range_with_len 0 n) (
+            λ k e within. (AreArcsFrom-arcs_from waits vertex_of are.numbered (get_or (range_with_len 0 n) k e)).in_order
             );
       }
 
   -- the arcs of any number, also past the last vertex
-  pub AreArcsFrom-group_graph : (v : ℕ) → AreArcsFrom d.waits d.group_of v (arcs_at (group_graph d) v)
-  AreArcsFrom-group_graph v = elim (cases_lt v d.groups) [
-    | inl vertex ↦ subst (AreArcsFrom d.waits d.group_of v) (sym (arcs_at-graph_of d.waits d.group_of d.groups v vertex)) (AreArcsFrom-arcs_from d.waits d.group_of h.places_are_numbered v)
+  pub AreArcsFrom-graph_of : (v : ℕ) → AreArcsFrom waits vertex_of v (arcs_at (graph_of waits vertex_of n) v)
+  AreArcsFrom-graph_of v = elim (cases_lt v n) [
+    | inl vertex ↦ subst (AreArcsFrom waits vertex_of v) (sym (arcs_at-graph_of waits vertex_of n v vertex)) (AreArcsFrom-arcs_from waits vertex_of are.numbered v)
     | inr past ↦
-        subst (AreArcsFrom d.waits d.group_of v) (sym (get_or_past (group_graph d) v [] (omega (arith, length-map-range_with_len (arcs_from d.waits d.group_of) 0 d.groups)))) (
+        subst (AreArcsFrom waits vertex_of v) (sym (get_or_past (graph_of waits vertex_of n) v [] (omega (arith, length-map-range_with_len (arcs_from waits vertex_of) 0 n)))) (
         record {
           declared = λ k e within. absurd (omega (arith, within));
-          all = λ a arc leaves. let inside = h.partition.within a.src 0 (omega (arith, src-below d.waits d.group_of a arc, h.one_list_each)) in absurd (omega (arith, inside, leaves));
+          all = λ a arc leaves. let inside = are.within a.src 0 (omega (arith, src-below waits vertex_of a arc, are.one_each)) in absurd (omega (arith, inside, leaves));
           in_order = λ k within. absurd (omega (arith, within));
         }
         )
   ]
 
-  arc_from_wait : (v w : ℕ) → GroupWaits d v w → HasArc (group_graph d) v w
+  arc_from_wait : (v w : ℕ) → VertexWaits waits vertex_of v w → HasArc (graph_of waits vertex_of n) v w
   arc_from_wait v w g =
       let t = g.declares.1 in
-      let a : WaitArc = arc_of d.group_of g.item t in
+      let a : WaitArc = arc_of vertex_of g.item t in
       let target : t.item ≡ g.target = g.declares.4 in
-      let arc : IsArc d.waits d.group_of a = record { declared = (g.declares.0, t, g.declares.2, g.declares.3, (refl, refl)); head = refl } in
-      let there = (AreArcsFrom-group_graph v).all a arc (get_or_from_slice_get d.group_of g.item v 0 g.of_item) in
-      (there.0, a, there.1, there.2, ap (slice_index d.group_of) target ∙ get_or_from_slice_get d.group_of g.target w 0 g.of_target)
+      let arc : IsArc waits vertex_of a = record { declared = (g.declares.0, t, g.declares.2, g.declares.3, (refl, refl)); head = refl } in
+      let there = (AreArcsFrom-graph_of v).all a arc (get_or_from_slice_get vertex_of g.item v 0 g.of_item) in
+      (there.0, a, there.1, there.2, ap (slice_index vertex_of) target ∙ get_or_from_slice_get vertex_of g.target w 0 g.of_target)
 
-  wait_from_arc : (v w : ℕ) → HasArc (group_graph d) v w → GroupWaits d v w
+  wait_from_arc : (v w : ℕ) → HasArc (graph_of waits vertex_of n) v w → VertexWaits waits vertex_of v w
   wait_from_arc v w has =
       let a = has.1 in
-      let arcs = arcs_at (group_graph d) v in
-      let own = All-contains (λ (b : WaitArc). IsArc d.waits d.group_of b × (slice_index d.group_of b.src ≡ v)) arcs a (AreArcsFrom-group_graph v).declared (has.0, has.2, has.3) in
-      let arc : IsArc d.waits d.group_of a = own.0 in
+      let arcs = arcs_at (graph_of waits vertex_of n) v in
+      let own = All-contains (λ (b : WaitArc). IsArc waits vertex_of b × (slice_index vertex_of b.src ≡ v)) arcs a (AreArcsFrom-graph_of v).declared (has.0, has.2, has.3) in
+      let arc : IsArc waits vertex_of a = own.0 in
       record {
         item = a.src;
         target = a.dst;
         declares = (arc.declared.0, arc.declared.1, arc.declared.2, arc.declared.3, arc.declared.4.0);
-        of_item = slice_get-get_or d.group_of a.src 0 (omega (arith, src-below d.waits d.group_of a arc, h.one_list_each)) ∙ ap (λ (g : ℕ). Some g) own.1;
-        of_target = slice_get-get_or d.group_of a.dst 0 (dst-below a arc) ∙ ap (λ (g : ℕ). Some g) (sym arc.head ∙ has.4);
+        of_item = slice_get-get_or vertex_of a.src 0 (omega (arith, src-below waits vertex_of a arc, are.one_each)) ∙ ap (λ (g : ℕ). Some g) own.1;
+        of_target = slice_get-get_or vertex_of a.dst 0 (dst-below a arc) ∙ ap (λ (g : ℕ). Some g) (sym arc.head ∙ has.4);
       }
+
+  -- a vertex waits for a vertex exactly where an arc leaves the one for the other
+  pub VertexWaits-HasArc : (v w : ℕ) → VertexWaits waits vertex_of v w ↔ HasArc (graph_of waits vertex_of n) v w
+  VertexWaits-HasArc v w = (arc_from_wait v w, wait_from_arc v w)
+
+-- ---- graphs of groups
+
+module _ (d : Declaration) (h : IsDeclaration d) where
+  AreVertices-groups : AreVertices d.waits d.group_of d.groups
+  AreVertices-groups = record {
+    one_each = h.one_list_each;
+    within = h.partition.within;
+    targets_are_items = h.targets_are_items;
+    numbered = h.places_are_numbered;
+  }
+
+  pub IsGraph-group_graph : IsGraph (group_graph d)
+  IsGraph-group_graph = IsGraph-graph_of d.waits d.group_of d.groups AreVertices-groups (omega (arith, h.partition.few_groups, h.partition.few_items))
+
+  pub AreArcsFrom-group_graph : (v : ℕ) → AreArcsFrom d.waits d.group_of v (arcs_at (group_graph d) v)
+  AreArcsFrom-group_graph v = AreArcsFrom-graph_of d.waits d.group_of d.groups AreVertices-groups v
 
   -- a group waits for a group exactly where an arc leaves the one for the other
   pub GroupWaits-HasArc : (v w : ℕ) → GroupWaits d v w ↔ HasArc (group_graph d) v w
-  GroupWaits-HasArc v w = (arc_from_wait v w, wait_from_arc v w)
+  GroupWaits-HasArc v w =
+      let both = VertexWaits-HasArc d.waits d.group_of d.groups AreVertices-groups v w in (
+        (λ waits. both.0 (record { item = waits.item; target = waits.target; declares = waits.declares; of_item = waits.of_item; of_target = waits.of_target })),
+        (λ arc. let waits = both.1 arc in record { item = waits.item; target = waits.target; declares = waits.declares; of_item = waits.of_item; of_target = waits.of_target }),
+      )
+
+-- ---- graphs of lanes
+
+module _ (d : Declaration) (a : Assignment) (h : IsDeclaration d) (assignment : IsAssignment d.groups a) where
+  pub lanes_of_items-within : All (λ q. q < a.lanes) (lanes_of_items d a)
+  lanes_of_items-within =
+      All-map (λ q. q < a.lanes) (lane_of a) d.group_of (λ k e below.
+      let inside : get_or d.group_of k e < d.groups = h.partition.within k e below in
+      assignment.within (get_or d.group_of k e) 0 (omega (arith, assignment.one_each, inside))
+      )
+
+  AreVertices-lanes : AreVertices d.waits (lanes_of_items d a) a.lanes
+  AreVertices-lanes =
+      let long : length (lanes_of_items d a) ≡ length d.group_of = length-map d.group_of (lane_of a) in
+      record {
+        one_each = h.one_list_each ∙ sym long;
+        within = lanes_of_items-within;
+        targets_are_items = subst (λ n. All (TargetsBelow n) d.waits) (sym long) h.targets_are_items;
+        numbered = h.places_are_numbered;
+      }
+
+  pub IsGraph-lane_graph : a.lanes ≤ 4096 → IsGraph (lane_graph d a)
+  IsGraph-lane_graph few = IsGraph-graph_of d.waits (lanes_of_items d a) a.lanes AreVertices-lanes few
+
+  pub AreArcsFrom-lane_graph : (q : ℕ) → AreArcsFrom d.waits (lanes_of_items d a) q (arcs_at (lane_graph d a) q)
+  AreArcsFrom-lane_graph q = AreArcsFrom-graph_of d.waits (lanes_of_items d a) a.lanes AreVertices-lanes q
+
+  -- a lane waits for a lane exactly where an arc leaves the one for the other
+  pub VertexWaits-lane_graph : (p q : ℕ) → VertexWaits d.waits (lanes_of_items d a) p q ↔ HasArc (lane_graph d a) p q
+  VertexWaits-lane_graph p q = VertexWaits-HasArc d.waits (lanes_of_items d a) a.lanes AreVertices-lanes p q
 
 -- what making a graph asks of the arcs that it spreads: each leaves an item with a vertex
 pub src-by_place : (waits : List (List Target)) (vertex_of : List ℕ) (arcs : List WaitArc) (n : ℕ) → IsPermutation (range_with_len 0 (flush_count waits)) (places waits) → arcs ≡ arcs_by_place waits vertex_of → length waits ≡ n

@@ -1,17 +1,19 @@
 //! Who waits for whom: of each vertex the declared flushes that leave it.
 //!
-//! The vertices are the groups of the items, so an arc leaves a group whichever of its items declares the flush. Making a
-//! graph takes time and memory in the items, the groups and the flushes; each other call takes constant time.
+//! The vertices are the groups of the items, or their lanes, so an arc leaves a group or a lane whichever of its items
+//! declares the flush. Making a graph takes time and memory in the items, the vertices and the flushes; each other call
+//! takes constant time.
 
-ghost use Rattle.std.specs.Prelude.{◌≡◌, ◌<◌, length, IfOk};
+ghost use Rattle.std.specs.Prelude.{◌≡◌, ◌<◌, ◌≤◌, length, IfOk};
+ghost use Rattle.std.specs.List.{All};
 ghost use Rattle.wq_groups.specs.Declaration.{declaration_of};
-ghost use Rattle.wq_graph.specs.Graph.{IsGraph, arcs_at, group_graph};
+ghost use Rattle.wq_graph.specs.Graph.{IsGraph, arcs_at, graph_of, group_graph, lane_graph};
 
 use crate::arc::WaitArc;
-use crate::building::{arcs_by_place, arcs_by_vertex};
+use crate::building::{arcs_by_place, arcs_by_vertex, groups_of_items, lanes_of_items};
 use std::alloc::{AllocError, Allocator};
 use std::marker::Model;
-use wq_groups::Groups;
+use wq_groups::{Assignment, Groups};
 use wq_items::ItemTable;
 
 /// A wait graph. Contracts see the list of its vertices' arcs.
@@ -33,6 +35,23 @@ impl<A: Allocator> Model for WaitGraph<A> {
 }
 
 impl<A: Allocator + Copy> WaitGraph<A> {
+    /// The wait graph of a table's items, where `vertex_of` has of each its vertex, of so many.
+    fn of_vertices(
+        alloc: A,
+        table: &ItemTable<'_, A>,
+        vertex_of: &[u16],
+        vertices: u16,
+    ) -> Result<Self, AllocError>
+        requires one_each { length vertex_of.now ≡ length table.now.names }
+        requires within { All (λ v. v < vertices) vertex_of.now }
+        requires few { vertices ≤ 4096 }
+        ensures { IfOk result (λ g. g ≡ graph_of table.now.waits vertex_of.now vertices) }
+    {
+        let arcs = arcs_by_place(alloc, table, vertex_of)?;
+        let arcs = arcs_by_vertex(alloc, arcs.as_slice(), vertex_of, vertices)?;
+        Ok(WaitGraph { arcs })
+    }
+
     /// The wait graph of the groups of a table's items. The groups are those of this table.
     ///
     /// The only error is want of memory (20).
@@ -44,9 +63,26 @@ impl<A: Allocator + Copy> WaitGraph<A> {
         requires { length groups.now.group_of ≡ length table.now.names }
         ensures { IfOk result (λ g. g ≡ group_graph (declaration_of table.now groups.now)) }
     {
-        let arcs = arcs_by_place(alloc, table, groups)?;
-        let arcs = arcs_by_vertex(alloc, arcs.as_slice(), groups)?;
-        Ok(WaitGraph { arcs })
+        let vertex_of = groups_of_items(alloc, table.len(), groups)?;
+        Self::of_vertices(alloc, table, vertex_of.as_slice(), groups.len())
+    }
+
+    /// The wait graph of the lanes of an assignment. The groups are those of this table, and the assignment has a lane for
+    /// each of them. A lane that serves no group has no arc.
+    ///
+    /// The only error is want of memory (20).
+    pub fn of_lanes(
+        alloc: A,
+        table: &ItemTable<'_, A>,
+        groups: &Groups<A>,
+        assignment: &Assignment<A>,
+    ) -> Result<Self, AllocError>
+        requires grouped { length groups.now.group_of ≡ length table.now.names }
+        requires assigned { length assignment.now.lane_of_group ≡ groups.now.groups }
+        ensures { IfOk result (λ g. g ≡ lane_graph (declaration_of table.now groups.now) assignment.now) }
+    {
+        let vertex_of = lanes_of_items(alloc, table.len(), groups, assignment)?;
+        Self::of_vertices(alloc, table, vertex_of.as_slice(), assignment.lanes())
     }
 
     /// How many vertices there are, at most 4,096.

@@ -2,19 +2,22 @@
 //!
 //! `Graph` makes the arcs of a vertex from a list of all arcs. Here is what that comes to, said of the declared flushes.
 
-ghost use Rattle.std.specs.Prelude.{◌≡◌, ◌↔◌, ℕ, List};
+ghost use Rattle.std.specs.Prelude.{◌≡◌, ◌≤◌, ◌↔◌, ℕ, List};
 ghost use Rattle.wq_items.specs.declared.target.Target.{Target};
 ghost use Rattle.wq_groups.specs.Declaration.{Declaration, IsDeclaration, GroupWaits};
+ghost use Rattle.wq_groups.specs.Assignment.{Assignment, IsAssignment};
 ghost use Rattle.wq_graph.specs.declared.arc.WaitArc.{WaitArc};
-ghost use Rattle.wq_graph.specs.Graph.{arcs_from, arcs_at, group_graph, AreArcsFrom, HasArc, IsGraph};
+ghost use Rattle.wq_graph.specs.Graph.{arcs_from, arcs_at, group_graph, lane_graph, lanes_of_items, AreArcsFrom, VertexWaits, HasArc, IsGraph};
 
 /// The arcs that leave a vertex are the declared flushes that do, one for each, in order of place: whatever the vertices
-/// of the items are, and so in the graph of the groups.
+/// of the items are, and so in the graphs of the groups and of the lanes.
 pub fn arcs_are_the_declared_flushes()
     ensures from { (d : Declaration) (vertex_of : List ℕ) (v : ℕ) →
         IsDeclaration d → AreArcsFrom d.waits vertex_of v (arcs_from d.waits vertex_of v) }
     ensures graph { (d : Declaration) (g : ℕ) →
         IsDeclaration d → AreArcsFrom d.waits d.group_of g (arcs_at (group_graph d) g) }
+    ensures lanes { (d : Declaration) (a : Assignment) (q : ℕ) → IsDeclaration d → IsAssignment d.groups a →
+        AreArcsFrom d.waits (lanes_of_items d a) q (arcs_at (lane_graph d a) q) }
 {}
 
 /// No other list has the arcs of the flushes that leave a vertex in order of place.
@@ -29,7 +32,17 @@ pub fn groups_wait_along_arcs()
         IsDeclaration d → (GroupWaits d g h ↔ HasArc (group_graph d) g h) }
 {}
 
-/// What holds of every wait graph holds of the graph of the groups of a declaration.
+/// A lane waits for a lane, by an item of the one that declares a flush of an item of the other, exactly where an arc leaves
+/// the one for the other.
+pub fn lanes_wait_along_arcs()
+    ensures { (d : Declaration) (a : Assignment) (p q : ℕ) → IsDeclaration d → IsAssignment d.groups a →
+        (VertexWaits d.waits (lanes_of_items d a) p q ↔ HasArc (lane_graph d a) p q) }
+{}
+
+/// What holds of every wait graph holds of the graph of the groups of a declaration, and of that of the lanes of an
+/// assignment.
 pub fn graphs_are_sound()
-    ensures { (d : Declaration) → IsDeclaration d → IsGraph (group_graph d) }
+    ensures groups { (d : Declaration) → IsDeclaration d → IsGraph (group_graph d) }
+    ensures lanes { (d : Declaration) (a : Assignment) →
+        IsDeclaration d → IsAssignment d.groups a → a.lanes ≤ 4096 → IsGraph (lane_graph d a) }
 {}

@@ -1,4 +1,4 @@
-//! The wait graph of a declaration: which group waits for which, flush by flush.
+//! The wait graphs of a declaration: which group, or which lane of an assignment, waits for which, flush by flush.
 //!
 //! What the layer above relies on: the arcs of a vertex are the declared flushes that leave it, in order of place, one
 //! for each. The rules are those of "Items and groups" in docs/FORMAT.md. An arc says that work items depend on one

@@ -1,0 +1,11 @@
+pub mod Kept
+pub mod Onward
+pub mod Making
+pub mod OwnLanes
+pub mod Queueings
+pub mod CircleKnots
+pub mod Verdicts
+pub mod Renumbered
+pub mod OnlyRun
+pub mod Named
+pub mod RunLengths

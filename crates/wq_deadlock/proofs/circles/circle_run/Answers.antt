@@ -1,0 +1,9 @@
+use Rattle.std.proofs.Common.{length, ap, ◌∙◌}
+use Rattle.std.proofs.lemmas.List.FromFn.{length-range_with_len}
+use Rattle.wq_groups.specs.Assignment.{Assignment}
+use Rattle.wq_deadlock.proofs.circles.circle_run.Goals as goal
+
+pub verdict-requires-clause-assigned : goal.verdict-requires-clause-assigned
+verdict-requires-clause-assigned g c =
+    let groups = c.args.groups.now.groups in
+    ap (λ (a : Assignment). length a.lane_of_group) c.in_ok-assignment.ensures ∙ length-range_with_len 0 groups

@@ -1,0 +1,8 @@
+use Rattle.wq_deadlock.proofs.Onward.{IsPlaying, play_left}
+use Rattle.wq_deadlock.proofs.playing.play.Given as goal
+
+abbrev pub invariant-loop-q : goal.invariant-loop-q
+invariant-loop-q g l = IsPlaying l.fn.core l.core l.steps.items l.q
+
+abbrev pub decreases-loop-q : goal.decreases-loop-q
+decreases-loop-q g l = play_left l.core l.lanes l.q

@@ -1,0 +1,13 @@
+-- Where the search for the lowest lane that can move goes on.
+use Rattle.std.specs.Prelude.{ℕ}
+use Rattle.wq_core.specs.declared.step.Step.{Step}
+use Rattle.wq_core.specs.declared.step.Step.TheVariants.{Queue, Cancel, Start, Wait, Over, Finish}
+
+-- the lane from which it goes on after a step of lane q: only a finish makes a lower lane movable
+abbrev pub search_from : ℕ → Step → ℕ
+search_from q (Queue i) = q
+search_from q (Cancel i) = q
+search_from q (Start p i) = q
+search_from q (Wait p b) = q
+search_from q (Over p b) = q
+search_from q (Finish p i) = 0

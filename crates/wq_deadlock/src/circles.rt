@@ -1,0 +1,56 @@
+//! The run that shows a circle of groups: that of the assignment in which each group has a lane of its own.
+//!
+//! Where groups wait in a circle no assignment is safe, not even that with as many lanes as there are groups. It takes as
+//! long as a verdict on that.
+
+ghost use Rattle.std.specs.Prelude.{◌≡◌, length, IfOk};
+ghost use Rattle.std.specs.List.{range_with_len};
+ghost use Rattle.std.specs.Option.{option_map};
+ghost use Rattle.wq_groups.specs.Declaration.{declaration_of};
+ghost use Rattle.wq_core.specs.Wiring.{own_lanes};
+ghost use Rattle.wq_deadlock.specs.Verdict.{IsGroupsRun};
+
+use crate::judging::verdict;
+use crate::outcome::Verdict;
+use std::alloc::{AllocError, Allocator};
+use wq_core::Step;
+use wq_groups::{Assignment, Groups, LaneId};
+use wq_items::ItemTable;
+
+/// So many lanes in turn, from 0.
+fn lanes_in_turn<A: Allocator + Copy>(alloc: A, count: u16) -> Result<Vec<LaneId, A>, AllocError>
+    ensures { IfOk result (λ lanes. lanes.items ≡ range_with_len 0 count) }
+{
+    let mut lanes = Vec::with_capacity(alloc, usize::from(count))?;
+    for q in 0..count {
+        lanes.push(LaneId::new(q))?;
+    }
+    Ok(lanes)
+}
+
+/// The assignment in which group g has lane g.
+fn own_lanes<A: Allocator + Copy>(alloc: A, groups: &Groups<A>) -> Result<Assignment<A>, AllocError>
+    ensures { IfOk result (λ a. a ≡ own_lanes groups.now.groups) }
+{
+    let lanes = lanes_in_turn(alloc, groups.len())?;
+    Ok(Assignment::new(groups.len(), lanes).unwrap())
+}
+
+/// The run by which the assignment deadlocks in which group g has lane g; `None` exactly where that is safe, and so where
+/// the groups wait in no circle. The groups are those of this table.
+///
+/// The only error is want of memory (20).
+pub fn circle_run<A: Allocator + Copy>(
+    alloc: A,
+    table: &ItemTable<'_, A>,
+    groups: &Groups<A>,
+) -> Result<Option<Vec<Step, A>>, AllocError>
+    requires { length groups.now.group_of ≡ length table.now.names }
+    ensures { IfOk result (λ run. IsGroupsRun (declaration_of table.now groups.now) (option_map (λ steps. steps.items) run)) }
+{
+    let assignment = own_lanes(alloc, groups)?;
+    match verdict(alloc, table, groups, &assignment)? {
+        Verdict::Safe(_) => Ok(None),
+        Verdict::Deadlock(steps) => Ok(Some(steps)),
+    }
+}

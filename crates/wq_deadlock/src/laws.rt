@@ -1,0 +1,56 @@
+//! Laws of verdicts, as contracts of functions with empty bodies. No code runs here: the clauses are the laws.
+ghost use Rattle.std.specs.Prelude.{◌≡◌, ℕ, ◌+◌, ◌*◌, ◌≤◌, ◌↔◌, ◌⊎◌, List, length};
+ghost use Rattle.std.specs.List.{All};
+ghost use Rattle.wq_items.specs.Table.{flush_count};
+ghost use Rattle.wq_groups.specs.Declaration.{Declaration, IsDeclaration};
+ghost use Rattle.wq_groups.specs.Assignment.{Assignment, IsAssignment};
+ghost use Rattle.wq_graph.specs.declared.arc.WaitArc.{WaitArc};
+ghost use Rattle.wq_graph.specs.Graph.{group_graph, lane_graph, HasArc};
+ghost use Rattle.wq_core.specs.declared.step.Step.{Step};
+ghost use Rattle.wq_core.specs.Wiring.{Wiring, LaneWaits, wiring, own_lanes};
+ghost use Rattle.wq_core.specs.State.{State};
+ghost use Rattle.wq_core.specs.Deadlock.{IsSafe, DeadlocksBy, Deadlocks};
+ghost use Rattle.wq_core.specs.Played.{IsPlayedFrom};
+ghost use Rattle.wq_deadlock.specs.Bounds.{IsNamed};
+ghost use Rattle.wq_deadlock.specs.CircleRun.{IsCircleRun};
+
+/// A lane waits for a lane exactly where an arc of the wait graph of the lanes leaves the one for the other.
+pub fn lanes_wait_along_arcs()
+    ensures { (d : Declaration) (a : Assignment) (p q : ℕ) → IsDeclaration d → IsAssignment d.groups a →
+        (LaneWaits (wiring d a) p q ↔ HasArc (lane_graph d a) p q) }
+{}
+
+/// Where group g has lane g, the lanes wait as the groups do, arc by arc.
+pub fn own_lanes_wait_as_groups_do()
+    ensures { (d : Declaration) → IsDeclaration d → lane_graph d (own_lanes d.groups) ≡ group_graph d }
+{}
+
+/// Unsafe and deadlocking are the same: an assignment is safe, or some run deadlocks in which each item is queued once and
+/// flushes as declared; and it isn't both.
+pub fn unsafe_is_deadlocking()
+    ensures one { (d : Declaration) (a : Assignment) → IsDeclaration d → IsAssignment d.groups a →
+        IsSafe (wiring d a) ⊎ Deadlocks (wiring d a) }
+    ensures not_both { (w : Wiring) → Deadlocks w → ¬ IsSafe w }
+    ensures same { (d : Declaration) (a : Assignment) → IsDeclaration d → IsAssignment d.groups a →
+        ((¬ IsSafe (wiring d a)) ↔ Deadlocks (wiring d a)) }
+{}
+
+/// From a state one run is played, and no other; so a circle has one run.
+pub fn the_run_is_the_only_one()
+    ensures played { (w : Wiring) (s : State) (one other : List Step) →
+        IsPlayedFrom w s one → IsPlayedFrom w s other → one ≡ other }
+    ensures of_a_circle { (w : Wiring) (circle : List WaitArc) (one other : List Step) →
+        IsCircleRun w circle one → IsCircleRun w circle other → one ≡ other }
+{}
+
+/// The steps of a run by which an assignment deadlocks name items and lanes that exist. There are at most three for each
+/// item, where it is queued, started and finished, and two for each declared flush, where a wait begins and is over; so
+/// there are 45,056 at most.
+pub fn a_deadlocking_run_is_bounded()
+    ensures named { (d : Declaration) (a : Assignment) (steps : List Step) → IsDeclaration d → IsAssignment d.groups a →
+        DeadlocksBy (wiring d a) steps → All (IsNamed (wiring d a)) steps }
+    ensures short { (d : Declaration) (a : Assignment) (steps : List Step) →
+        DeadlocksBy (wiring d a) steps → length steps ≤ 3 * length d.waits + 2 * flush_count d.waits }
+    ensures few { (d : Declaration) (a : Assignment) (steps : List Step) → IsDeclaration d →
+        DeadlocksBy (wiring d a) steps → length steps ≤ 45056 }
+{}

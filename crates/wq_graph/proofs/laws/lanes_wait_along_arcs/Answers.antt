@@ -1,0 +1,5 @@
+use Rattle.wq_graph.proofs.Graphs.{VertexWaits-lane_graph}
+use Rattle.wq_graph.proofs.laws.lanes_wait_along_arcs.Goals as goal
+
+pub returns : goal.returns
+returns c d a p q h assignment = VertexWaits-lane_graph d a h assignment p q
