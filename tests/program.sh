@@ -43,6 +43,12 @@ check() {
     fi
 }
 
+# The largest texts that are read, and texts of one byte more.
+yes '' | head -c 1048576 >largest
+yes '' | head -c 1048577 >too_large
+yes '' | head -c 8388608 >largest_certificate
+yes '' | head -c 8388609 >too_large_certificate
+
 plan='plan 2\nwq 0 b\nwq 1 a\nchain 2\narc a b\n'
 printf 'item a\nitem b\nflush a b\n' >declaration
 printf 'item a # x\r\n\titem\tb\r\n\r\n# \377\r\nflush a b' >carriage_returns
@@ -81,11 +87,88 @@ check 'a refusal' 2 'refused 8 line 2\n' ''
 run plan grouped_twice </dev/null
 check 'a refusal of an item on two ordered lines' 2 'refused 11 line 4\n' ''
 
+# The checker.
+printf 'item a\nitem b\nitem c\nitem d\nflush a b\nflush b c\n' >three
+: >empty
+printf "$plan" >plan_of_two
+printf 'plan 3\nwq 0 b\nwq 1\nwq 2 a\nchain 2\narc a b\n' >not_least
+printf 'plan 1\nwq 0 a b\nchain 1\n' >one_workqueue
+printf 'plan 2\nwq 0 b\nwq 1 a\nchain 2\n' >cut_off
+printf 'circle 1\narc a b\n' >no_circle
+printf 'plan 3\nwq 0 c d\nwq 1 b\nwq 2 a\nchain 3\narc a b\narc a b\n' >broken_chain
+printf 'plan 1\nwq 0\nchain 1\n' >chain_of_nothing
+printf 'circle 1\narc a a\nrun 3\nqueue a\nstart 0 a\nwait 0 a\n' >circle_with_run
+printf 'circle 1\narc a a\nrun 2\nqueue a\nstart 0 a\n' >circle_with_open_run
+run check declaration plan_of_two </dev/null
+check 'check: the plan that is printed' 0 'yes 2\n' ''
+run check -- declaration plan_of_two </dev/null
+check 'check: two files behind --' 0 'yes 2\n' ''
+run check <(cat declaration) <(cat plan_of_two) </dev/null
+check 'check: two pipes' 0 'yes 2\n' ''
+run check declaration not_least </dev/null
+check 'check: a plan with a workqueue too many' 1 'no 52\n' ''
+run check declaration one_workqueue </dev/null
+check 'check: a flush within a workqueue' 1 'no 50 a b\n' ''
+run check declaration cut_off </dev/null
+check 'check: a plan without its last line' 2 'refused 40 line 0\n' ''
+run check declaration no_circle </dev/null
+check 'check: a circle that is none' 1 'no 53 1\n' ''
+run check three broken_chain </dev/null
+check 'check: a chain that breaks at its second arc' 1 'no 51 2\n' ''
+run check empty chain_of_nothing </dev/null
+check 'check: a chain of one group where there is none' 1 'no 51 0\n' ''
+run check circle circle_with_run </dev/null
+check 'check: a circle with its run' 0 'yes circle 1\n' ''
+run check circle circle_with_open_run </dev/null
+check 'check: a circle with a run that is not stuck' 1 'no 54\n' ''
+
+# Replays.
+printf 'item a\nitem b\nitem c\nflush a b\nflush b c\n' >chain
+printf 'wq 0 a c\nwq 1 b\n' >lanes
+printf 'run 7\nqueue a\nqueue b\nqueue c\nstart 0 a\nwait 0 b\nstart 1 b\nwait 1 c\n' >deadlock
+printf 'run 6\nqueue a\nqueue b\nqueue c\nstart 0 a\nwait 0 b\nstart 1 b\n' >open
+printf 'run 1\nstart 0 a\n' >unlawful
+printf 'run 7\nqueue a\ncancel a\nqueue a\nqueue b\nqueue c\nstart 0 a\nwait 0 b\n' >unstuck
+printf 'run 9\nqueue a\ncancel a\nqueue a\nqueue b\nqueue c\nstart 0 a\nwait 0 b\nstart 1 b\nwait 1 c\n' >stuck
+run replay chain lanes deadlock </dev/null
+check 'replay: a deadlock' 1 'deadlock\n' ''
+run replay chain lanes open </dev/null
+check 'replay: a run that can go on' 0 'open\n' ''
+run replay chain lanes unlawful </dev/null
+check 'replay: a step that is not lawful' 1 'not lawful 1\n' ''
+run replay chain lanes unstuck </dev/null
+check 'replay: a run with a cancelled item that can go on' 0 'open\n' ''
+run replay chain lanes stuck </dev/null
+check 'replay: a run with a cancelled item that is stuck' 1 'stuck\n' ''
+run replay <(cat chain) <(cat lanes) <(cat deadlock) </dev/null
+check 'replay: three pipes' 1 'deadlock\n' ''
+
+# Refusals come in the order of the arguments, each text as a whole before the next one.
+printf 'wq 0 a b\nwq 1\n' >without_c
+run check refused too_large_certificate </dev/null
+check 'check: a wrong declaration beside a certificate that is too long' 2 'refused 8 line 2\n' ''
+run check too_large too_large_certificate </dev/null
+check 'check: two texts that are too long' 2 'refused 1 line 0\n' ''
+run check declaration too_large_certificate </dev/null
+check 'check: a certificate of 8,388,609 bytes' 2 'refused 40 line 0\n' ''
+run check declaration <(cat plan_of_two largest_certificate | head -c 8388608) </dev/null
+check 'check: a certificate of 8,388,608 bytes' 0 'yes 2\n' ''
+run check declaration <(yes '' 2>/dev/null) </dev/null
+check 'check: a certificate without end' 2 'refused 40 line 0\n' ''
+run replay refused without_c unlawful </dev/null
+check 'replay: a wrong declaration before a wrong assignment' 2 'refused 8 line 2\n' ''
+run replay chain without_c too_large_certificate </dev/null
+check 'replay: a wrong assignment before a run that is too long' 2 'refused 41 line 0\n' ''
+run replay chain too_large_certificate unlawful </dev/null
+check 'replay: an assignment that is too long' 2 'refused 40 line 0\n' ''
+run replay chain lanes too_large_certificate </dev/null
+check 'replay: a run that is too long' 2 'refused 40 line 0\n' ''
+run replay chain lanes <(printf 'run 1\n\nstart 4096 a\n') </dev/null
+check 'replay: a run with a workqueue that none can be' 2 'refused 43 line 3\n' ''
+
 # Limits: 1,048,576 bytes are read as a declaration, and one byte more is refused.
-yes '' | head -c 1048576 >largest
 run plan largest </dev/null
 check 'a text of 1,048,576 bytes' 0 'plan 0\nchain 0\n' ''
-yes '' | head -c 1048577 >too_large
 run plan too_large </dev/null
 check 'a text of 1,048,577 bytes' 2 'refused 1 line 0\n' ''
 run plan < <(yes 'item a' 2>/dev/null)
@@ -109,6 +192,24 @@ check 'standard output that is full' 3 '' 'fault write\n'
 timeout 60 "$program" plan declaration </dev/null >&- 2>err
 status=$?
 check 'standard output that is closed' 3 '' 'fault write\n'
+for files in 'missing plan_of_two' 'declaration missing' 'folder plan_of_two' 'declaration folder' 'refused missing'; do
+    # Each word is an argument of its own.
+    run check $files </dev/null
+    check "check $files" 3 '' 'fault read\n'
+done
+for files in 'missing lanes deadlock' 'chain missing deadlock' 'chain lanes missing' 'refused lanes folder'; do
+    run replay $files </dev/null
+    check "replay $files" 3 '' 'fault read\n'
+done
+for words in 'check declaration plan_of_two' 'replay chain lanes deadlock'; do
+    timeout 60 "$program" $words </dev/null >/dev/full 2>err
+    status=$?
+    : >out
+    check "$words, standard output that is full" 3 '' 'fault write\n'
+    timeout 60 "$program" $words </dev/null >&- 2>err
+    status=$?
+    check "$words, standard output that is closed" 3 '' 'fault write\n'
+done
 timeout 60 "$program" --help </dev/null >/dev/full 2>err
 status=$?
 check 'help on a standard output that is full' 3 '' 'fault write\n'
@@ -120,13 +221,18 @@ run plant </dev/null
 check 'an unknown subcommand' 2 '' some
 run plan declaration circle </dev/null
 check 'two FILEs' 2 '' some
+for words in 'check' 'check declaration' 'check declaration plan_of_two lanes' 'replay' 'replay chain' \
+    'replay chain lanes' 'replay chain lanes deadlock open' 'check --fast declaration plan_of_two'; do
+    run $words </dev/null
+    check "$words" 2 '' some
+done
 run plan --fast </dev/null
 check 'an unknown option' 2 '' some
 run help plant </dev/null
 check 'help for an unknown subcommand' 2 '' some
 run plan $'\xff' </dev/null
 check 'an argument that is not UTF-8' 2 '' some
-for words in --help -h help 'help plan' 'plan --help' 'plan -h'; do
+for words in --help -h help 'help plan' 'plan --help' 'plan -h' 'help check' 'check --help' 'help replay' 'replay -h'; do
     # Each word is an argument of its own.
     run $words </dev/null
     check "$words" 0 some ''

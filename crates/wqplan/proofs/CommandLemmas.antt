@@ -1,80 +1,176 @@
--- The command that a parse of the program's words entered, and the FILE that it was given.
-use Rattle.std.proofs.Common.{refl, ap, sym, subst, Result, Ok, Err, IsErrAnd, MatchResult, ◌∙◌, codes, Bool, true, false, not, ◌==◌, [], ◌∷◌, List, Option, Some, None, ◌≡◌}
+-- The command that a parse of the program's words entered, and the files that it was given.
+use Rattle.std.proofs.Common.{refl, ap, ap₂, sym, subst, Result, Ok, Err, IsErrAnd, MatchResult, ◌∙◌, codes, Bool, true, false, not, ◌==◌, ◌&&◌, [], ◌∷◌, List, Option, Some, None, ◌≡◌}
 use Rattle.std.specs.Prelude.{option_map, unwrap_or}
-use Rattle.clap.specs.Words.{Row, Text, first_of, is_simple, takes}
+use Rattle.std.specs.Str.{bytes_eq}
+use Rattle.std.specs.Borrow.{Bor}
+use Rattle.clap.specs.Words.{Row, Text, first_of, first_value, is_simple, rows_of, subcommand_of, takes}
+use Rattle.clap.specs.declared.parser.matches.Found.{Found}
+use Rattle.clap.proofs.WalkLemmas.{first_value-rows}
 use Rattle.clap.specs.Lexer.{long_of, short_of}
 use Rattle.clap.proofs.OnLiterals.{clap_on_literals}
-use Rattle.wqplan.specs.CommandLine.{wqplan, named, is_no_option, CallsPlan}
+use Rattle.wqplan.specs.CommandLine.{wqplan, is_no_option, Asked, Asks, AsksFor, Calls, Gives, name_of}
+use Rattle.wqplan.specs.CommandLine.Asked.{plans, checks, replays}
+
+-- where a part that is turned around is one of those that hold, it doesn't
+pub third_is_not : (x y z w : Bool) → x && (y && (not z && w)) ≡ true → z ≡ false
+third_is_not x y false w all = refl
+third_is_not true true true w all = cc
+third_is_not true false true w all = cc
+third_is_not false y true w all = cc
 
 -- the matches of the program's words are those that `subcommand_of` gives
 pub wqplan_is_simple : is_simple wqplan ≡ true
 unfolding clap_on_literals
 wqplan_is_simple = refl
 
--- to map twice is to map once
-pub option_map_twice : {X Y W : Type 0} (f : X → Y) (g : Y → W) (o : Option X) → option_map g (option_map f o) ≡ option_map (λ x. g (f x)) o
-option_map_twice f g None = refl
-option_map_twice f g (Some x) = refl
+-- a word that is no option is no long one, no short one and not `--`
+pub long_of-no_option : (word : Text) → is_no_option word ≡ true → long_of word ≡ None
+long_of-no_option [] plain = refl
+long_of-no_option (x ∷ xs) plain = go (x == 45) refl plain
+  where
+    go : (dash : Bool) → x == 45 ≡ dash → not dash ≡ true → long_of (x ∷ xs) ≡ None
+    go true e plain = cc
+    go false e plain = rw e refl
 
--- the name of a subcommand and the FILE that its rows hold
-pub name_and_file : (sub : Option (Text × List Row)) (name : Text) (rows : List Row) → option_map (λ p. p.0) sub ≡ Some name → option_map (λ p. p.1) sub ≡ Some rows
-    → option_map {U = Text × Option Text} (λ p. (p.0, first_of (codes "FILE") p.1)) sub ≡ Some (name, first_of (codes "FILE") rows)
-name_and_file None name rows named held = cc
-name_and_file (Some p) name rows named held =
-    let same_name : p.0 ≡ name = ap (λ o. unwrap_or o p.0) named in
-    let same_rows : p.1 ≡ rows = ap (λ o. unwrap_or o p.1) held in
-    rw (same_name, same_rows) refl
+pub short_of-no_option : (word : Text) → is_no_option word ≡ true → short_of word ≡ None
+short_of-no_option [] plain = refl
+short_of-no_option (x ∷ xs) plain = go (x == 45) refl plain
+  where
+    go : (dash : Bool) → x == 45 ≡ dash → not dash ≡ true → short_of (x ∷ xs) ≡ None
+    go true e plain = cc
+    go false e plain = rw e refl
+
+pub bytes_eq-no_option : (word : Text) → is_no_option word ≡ true → bytes_eq word (45 ∷ 45 ∷ []) ≡ false
+bytes_eq-no_option [] plain = refl
+bytes_eq-no_option (x ∷ xs) plain = go (x == 45) refl plain
+  where
+    go : (dash : Bool) → x == 45 ≡ dash → not dash ≡ true → bytes_eq (x ∷ xs) (45 ∷ 45 ∷ []) ≡ false
+    go true e plain = cc
+    go false e plain = rw e refl
 
 -- `wqplan plan` is taken, and gives no FILE
 pub takes_plan : (program : Text) → takes wqplan (program ∷ codes "plan" ∷ []) ≡ true
 unfolding clap_on_literals
 takes_plan program = refl
 
-pub named_plan : (program : Text) → named (program ∷ codes "plan" ∷ []) ≡ Some (codes "plan", None)
+pub asks_plan : (program : Text) → Asks (program ∷ codes "plan" ∷ []) (plans None)
 unfolding clap_on_literals
-named_plan program = refl
+asks_plan program = (_, refl, refl)
 
 -- `wqplan plan FILE` is taken, and gives FILE
 pub takes_file : (program file : Text) → is_no_option file ≡ true → takes wqplan (program ∷ codes "plan" ∷ file ∷ []) ≡ true
 unfolding clap_on_literals
-takes_file program [] plain = refl
-takes_file program (x ∷ xs) plain = go (x == 45) refl plain
-  where
-    go : (dash : Bool) → x == 45 ≡ dash → not dash ≡ true → takes wqplan (program ∷ codes "plan" ∷ (x ∷ xs) ∷ []) ≡ true
-    go true e plain = cc
-    go false e plain =
-        let no_long : long_of (x ∷ xs) ≡ None = rw e refl in
-        let no_short : short_of (x ∷ xs) ≡ None = rw e refl in
-        rw (no_long, no_short, e) refl
+takes_file program file plain = rw (bytes_eq-no_option file plain, long_of-no_option file plain, short_of-no_option file plain) refl
 
-pub named_file : (program file : Text) → is_no_option file ≡ true → named (program ∷ codes "plan" ∷ file ∷ []) ≡ Some (codes "plan", Some file)
+pub asks_file : (program file : Text) → is_no_option file ≡ true → Asks (program ∷ codes "plan" ∷ file ∷ []) (plans (Some file))
 unfolding clap_on_literals
-named_file program [] plain = refl
-named_file program (x ∷ xs) plain = go (x == 45) refl plain
-  where
-    go : (dash : Bool) → x == 45 ≡ dash → not dash ≡ true → named (program ∷ codes "plan" ∷ (x ∷ xs) ∷ []) ≡ Some (codes "plan", Some (x ∷ xs))
-    go true e plain = cc
-    go false e plain =
-        let no_long : long_of (x ∷ xs) ≡ None = rw e refl in
-        let no_short : short_of (x ∷ xs) ≡ None = rw e refl in
-        rw (no_long, no_short, e) refl
+asks_file program file plain = rw (bytes_eq-no_option file plain, long_of-no_option file plain, short_of-no_option file plain) (_, refl, refl)
 
--- the words of a plan are taken, and name `plan` and FILE
-pub takes_CallsPlan : (words : List Text) (file : Option Text) → CallsPlan words file → takes wqplan words ≡ true
-takes_CallsPlan words None (program, are) = ap (takes wqplan) are ∙ takes_plan program
-takes_CallsPlan words (Some file) (program, are, plain) = ap (takes wqplan) are ∙ takes_file program file plain
+-- `wqplan check DECL CERT` is taken, and gives both
+pub takes_check : (program declaration certificate : Text) → is_no_option declaration ≡ true → is_no_option certificate ≡ true
+    → takes wqplan (program ∷ codes "check" ∷ declaration ∷ certificate ∷ []) ≡ true
+unfolding clap_on_literals
+takes_check program declaration certificate p q =
+    rw (bytes_eq-no_option declaration p, long_of-no_option declaration p, short_of-no_option declaration p)
+    (rw (bytes_eq-no_option certificate q, long_of-no_option certificate q, short_of-no_option certificate q) refl)
 
-pub named_CallsPlan : (words : List Text) (file : Option Text) → CallsPlan words file → named words ≡ Some (codes "plan", file)
-named_CallsPlan words None (program, are) = ap named are ∙ named_plan program
-named_CallsPlan words (Some file) (program, are, plain) = ap named are ∙ named_file program file plain
+pub asks_check : (program declaration certificate : Text) → is_no_option declaration ≡ true → is_no_option certificate ≡ true
+    → Asks (program ∷ codes "check" ∷ declaration ∷ certificate ∷ []) (checks declaration certificate)
+unfolding clap_on_literals
+asks_check program declaration certificate p q =
+    rw (bytes_eq-no_option declaration p, long_of-no_option declaration p, short_of-no_option declaration p)
+    (rw (bytes_eq-no_option certificate q, long_of-no_option certificate q, short_of-no_option certificate q) (_, refl, (refl, refl)))
+
+-- `wqplan replay DECL ASSIGN RUN` is taken, and gives all three
+pub takes_replay : (program declaration assignment run : Text) → is_no_option declaration ≡ true → is_no_option assignment ≡ true → is_no_option run ≡ true
+    → takes wqplan (program ∷ codes "replay" ∷ declaration ∷ assignment ∷ run ∷ []) ≡ true
+unfolding clap_on_literals
+takes_replay program declaration assignment run p q r =
+    rw (bytes_eq-no_option declaration p, long_of-no_option declaration p, short_of-no_option declaration p)
+    (rw (bytes_eq-no_option assignment q, long_of-no_option assignment q, short_of-no_option assignment q)
+    (rw (bytes_eq-no_option run r, long_of-no_option run r, short_of-no_option run r) refl))
+
+pub asks_replay : (program declaration assignment run : Text) → is_no_option declaration ≡ true → is_no_option assignment ≡ true → is_no_option run ≡ true
+    → Asks (program ∷ codes "replay" ∷ declaration ∷ assignment ∷ run ∷ []) (replays declaration assignment run)
+unfolding clap_on_literals
+asks_replay program declaration assignment run p q r =
+    rw (bytes_eq-no_option declaration p, long_of-no_option declaration p, short_of-no_option declaration p)
+    (rw (bytes_eq-no_option assignment q, long_of-no_option assignment q, short_of-no_option assignment q)
+    (rw (bytes_eq-no_option run r, long_of-no_option run r, short_of-no_option run r) (_, refl, (refl, refl, refl))))
+
+-- the words of a call are taken, and ask for what they call
+pub takes_Calls : (words : List Text) (wanted : Asked) → Calls words wanted → takes wqplan words ≡ true
+takes_Calls words (plans None) (program, are) = ap (takes wqplan) are ∙ takes_plan program
+takes_Calls words (plans (Some file)) (program, are, p) = ap (takes wqplan) are ∙ takes_file program file p
+takes_Calls words (checks declaration certificate) (program, are, p, q) = ap (takes wqplan) are ∙ takes_check program declaration certificate p q
+takes_Calls words (replays declaration assignment run) (program, are, p, q, r) = ap (takes wqplan) are ∙ takes_replay program declaration assignment run p q r
+
+pub Asks_Calls : (words : List Text) (wanted : Asked) → Calls words wanted → Asks words wanted
+Asks_Calls words (plans None) (program, are) = subst (λ ws. Asks ws (plans None)) (sym are) (asks_plan program)
+Asks_Calls words (plans (Some file)) (program, are, p) = subst (λ ws. Asks ws (plans (Some file))) (sym are) (asks_file program file p)
+Asks_Calls words (checks declaration certificate) (program, are, p, q) = subst (λ ws. Asks ws (checks declaration certificate)) (sym are) (asks_check program declaration certificate p q)
+Asks_Calls words (replays declaration assignment run) (program, are, p, q, r) = subst (λ ws. Asks ws (replays declaration assignment run)) (sym are) (asks_replay program declaration assignment run p q r)
+
+-- a value that a getter hands out is the first one of its rows, and where it hands out none there is none
+pub value_given : (r : Option (Bor Text)) (s : Bor Text) (f : Found) (id : Text) → option_map (λ b. b.now) r ≡ first_value f id → r ≡ Some s → first_of id (rows_of f) ≡ Some s.now
+value_given r s f id read is = sym (first_value-rows f id) ∙ (sym read ∙ ap (option_map (λ (b : Bor Text). b.now)) is)
+
+pub not_given : (r : Option (Bor Text)) (f : Found) (id value : Text) → option_map (λ b. b.now) r ≡ first_value f id → r ≡ None → first_of id (rows_of f) ≡ Some value → ⊥
+not_given r f id value read is given =
+    let bad : None ≡ Some value = sym (ap (option_map (λ (b : Bor Text). b.now)) is) ∙ (read ∙ (first_value-rows f id ∙ given)) in
+    cc
+
+-- an option has one value
+pub same_value : {T : Type 0} (o : Option T) (x y : T) → o ≡ Some x → o ≡ Some y → x ≡ y
+same_value o x y is also = ap (λ p. unwrap_or p x) (sym is ∙ also)
+
+-- to map twice is to map once
+pub option_map_twice : {X Y W : Type 0} (f : X → Y) (g : Y → W) (o : Option X) → option_map g (option_map f o) ≡ option_map (λ x. g (f x)) o
+option_map_twice f g None = refl
+option_map_twice f g (Some x) = refl
+
+-- a command that was met is its name and its rows
+pub met_is : (met : Option (Text × List Row)) (name : Text) (rows : List Row) → option_map (λ p. p.0) met ≡ Some name → option_map (λ p. p.1) met ≡ Some rows → met ≡ Some (name, rows)
+met_is None name rows named held = cc
+met_is (Some p) name rows named held =
+    let same_name : p.0 ≡ name = ap (λ o. unwrap_or o p.0) named in
+    let same_rows : p.1 ≡ rows = ap (λ o. unwrap_or o p.1) held in
+    rw (← same_name, ← same_rows) refl
+
+-- the same matches give one command the same files
+pub Gives-unique : (rows : List Row) (a b : Asked) → name_of a ≡ name_of b → Gives rows a → Gives rows b → a ≡ b
+Gives-unique rows (plans f) (plans f2) names g h = ap plans (sym g ∙ h)
+Gives-unique rows (plans f) (checks d c) names g h = cc
+Gives-unique rows (plans f) (replays d a r) names g h = cc
+Gives-unique rows (checks d c) (plans f) names g h = cc
+Gives-unique rows (checks d c) (checks d2 c2) names (gd, gc) (hd, hc) = ap₂ checks (same_value _ d d2 gd hd) (same_value _ c c2 gc hc)
+Gives-unique rows (checks d c) (replays d2 a r) names g h = cc
+Gives-unique rows (replays d a r) (plans f) names g h = cc
+Gives-unique rows (replays d a r) (checks d2 c) names g h = cc
+Gives-unique rows (replays d a r) (replays d2 a2 r2) names (gd, ga, gr) (hd, ha, hr) =
+    rw (same_value _ d d2 gd hd, same_value _ a a2 ga ha, same_value _ r r2 gr hr) refl
+
+-- a command that was met asks for one thing
+pub AsksFor-unique : (met : Option (Text × List Row)) (a b : Asked) → AsksFor met a → AsksFor met b → a ≡ b
+AsksFor-unique met a b (rows, is, gives) (others, also, given) =
+    let both : (name_of a, rows) ≡ (name_of b, others) = same_value {T = Text × List Row} met (name_of a, rows) (name_of b, others) is also in
+    let names : name_of a ≡ name_of b = ap (λ (p : Text × List Row). p.0) both in
+    let same : others ≡ rows = sym (ap (λ (p : Text × List Row). p.1) both) in
+    Gives-unique rows a b names gives (subst (λ (rs : List Row). Gives rs b) same given)
 
 -- what holds of an error holds of the result that has it
 pub failed_with : {T E : Type 0} (r : Result T E) (e : E) (P : T → Type 0) (Q : E → Type 0) → IsErrAnd r (λ y. y ≡ e) → Q e → MatchResult r P Q
 failed_with (Ok x) e P Q is holds = absurd is
 failed_with (Err y) e P Q is holds = subst Q (sym is) holds
 
--- the name that `named` gives is the subcommand's
-pub name_of_named : (sub : Option (Text × List Row)) (name : Text) (file : Option Text) → option_map {U = Text × Option Text} (λ p. (p.0, first_of (codes "FILE") p.1)) sub ≡ Some (name, file)
-    → option_map (λ p. p.0) sub ≡ Some name
-name_of_named sub name file named =
-    sym (option_map_twice {Y = Text × Option Text} (λ p. (p.0, first_of (codes "FILE") p.1)) (λ q. q.0) sub) ∙ ap (option_map {T = Text × Option Text} (λ q. q.0)) named
+-- what asks for `replay` gives it its three files
+pub replays_of : (met : Option (Text × List Row)) (rows : List Row) (wanted : Asked) → met ≡ Some (codes "replay", rows) → AsksFor met wanted
+    → (declaration : Text) × (assignment : Text) × (run : Text) × Gives rows (replays declaration assignment run)
+replays_of met rows wanted is (others, also, given) =
+    let both : (name_of wanted, others) ≡ (codes "replay", rows) = same_value {T = Text × List Row} met (name_of wanted, others) (codes "replay", rows) also is in
+    go wanted (ap (λ (p : Text × List Row). p.0) both) (subst (λ (rs : List Row). Gives rs wanted) (ap (λ (p : Text × List Row). p.1) both) given)
+  where
+    go : (w : Asked) → name_of w ≡ codes "replay" → Gives rows w → (d : Text) × (a : Text) × (r : Text) × Gives rows (replays d a r)
+    go (plans f) name given = cc
+    go (checks d c) name given = cc
+    go (replays d a r) name given = (d, a, r, given)

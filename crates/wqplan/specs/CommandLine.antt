@@ -1,37 +1,75 @@
 -- The command line of the program, in the words of `clap`.
-use Rattle.std.specs.Prelude.{◌≡◌, ◌==◌, Bool, not, [], ◌∷◌, List, Option, Some, None, codes, true, option_map}
-use Rattle.clap.specs.Words.{App, Text, first_of, new_app, new_rule, subcommand_of, with_rule, with_subcommand}
+use Rattle.std.specs.Prelude.{◌≡◌, ◌==◌, ℕ, Bool, not, [], ◌∷◌, List, Option, Some, None, codes, true, option_map}
+use Rattle.clap.specs.Words.{App, Row, Rule, Text, first_of, new_app, new_rule, subcommand_of, with_rule, with_subcommand}
 use Rattle.wqplan.specs.declared.command_line.Request.{Request}
-use Rattle.wqplan.specs.declared.command_line.Request.TheVariants.{Plan}
+use Rattle.wqplan.specs.declared.command_line.Request.TheVariants.{Plan, Check, Replay}
+
+-- a positional argument that has to be given
+abbrev pub needed : Text → Rule
+needed name = record (new_rule name) { required = true }
 
 -- `plan [FILE]`
 abbrev pub plan : App
 plan = with_rule (new_app (codes "plan")) (new_rule (codes "FILE"))
 
+-- `check DECL CERT`
+abbrev pub check : App
+check = with_rule (with_rule (new_app (codes "check")) (needed (codes "DECL"))) (needed (codes "CERT"))
+
+-- `replay DECL ASSIGN RUN`
+abbrev pub replay : App
+replay = with_rule (with_rule (with_rule (new_app (codes "replay")) (needed (codes "DECL"))) (needed (codes "ASSIGN"))) (needed (codes "RUN"))
+
 -- the program: it has a version, and one of its commands must be given
 abbrev pub wqplan : App
 wqplan =
     let start = new_app (codes "wqplan") in
-    with_subcommand (record start { top = record start.top { has_version = true; subcommand_required = true } }) plan.top
+    let bare = record start { top = record start.top { has_version = true; subcommand_required = true } } in
+    with_subcommand (with_subcommand (with_subcommand bare plan.top) check.top) replay.top
 
--- the command that the words name, and the FILE that they give it, if they give one
-abbrev pub named : List Text → Option (Text × Option Text)
-named words = option_map {U = Text × Option Text} (λ p. (p.0, first_of (codes "FILE") p.1)) (subcommand_of wqplan words)
+-- a command and the paths of its files
+pub data Asked : Type 0 where
+  plans : Option Text → Asked
+  checks : Text → Text → Asked
+  replays : Text → Text → Text → Asked
+
+-- what a request asks for
+abbrev pub spelled : Request → Asked
+spelled (Plan file) = plans (option_map (λ s. s.now) file)
+spelled (Check declaration certificate) = checks declaration.now certificate.now
+spelled (Replay declaration assignment run) = replays declaration.now assignment.now run.now
+
+-- the name of the command that is asked for
+abbrev pub name_of : Asked → Text
+name_of (plans file) = codes "plan"
+name_of (checks declaration certificate) = codes "check"
+name_of (replays declaration assignment run) = codes "replay"
+
+-- the matches of the command give it these files
+abbrev pub Gives : List Row → Asked → Type 0
+Gives rows (plans file) = first_of (codes "FILE") rows ≡ file
+Gives rows (checks declaration certificate) = (first_of (codes "DECL") rows ≡ Some declaration) × (first_of (codes "CERT") rows ≡ Some certificate)
+Gives rows (replays declaration assignment run) =
+    (first_of (codes "DECL") rows ≡ Some declaration) × (first_of (codes "ASSIGN") rows ≡ Some assignment) × (first_of (codes "RUN") rows ≡ Some run)
+
+-- a command that was met, with its matches, asks for this
+abbrev pub AsksFor : Option (Text × List Row) → Asked → Type 0
+AsksFor met wanted = (rows : List Row) × (met ≡ Some (name_of wanted, rows)) × Gives rows wanted
 
 -- the words ask for this
-abbrev pub Asks : List Text → Request → Type 0
-Asks words (Plan file) = named words ≡ Some (codes "plan", option_map (λ s. s.now) file)
+abbrev pub Asks : List Text → Asked → Type 0
+Asks words = AsksFor (subcommand_of wqplan words)
 
 -- the word can't be taken for an option: it doesn't begin with `-` (45)
 abbrev pub is_no_option : Text → Bool
 is_no_option [] = true
 is_no_option (x ∷ xs) = not (x == 45)
 
--- the words are the program's name and `plan`, and behind them FILE, if there is one
-abbrev pub CallsPlan : List Text → Option Text → Type 0
-CallsPlan words None = (program : Text) × (words ≡ program ∷ codes "plan" ∷ [])
-CallsPlan words (Some file) = (program : Text) × (words ≡ program ∷ codes "plan" ∷ file ∷ []) × (is_no_option file ≡ true)
-
--- a request for a plan of this file, or of standard input
-abbrev pub PlansFile : Option Text → Request → Type 0
-PlansFile wanted (Plan file) = option_map (λ s. s.now) file ≡ wanted
+-- the words are the program's name and a command, and behind them its files, of which no path looks like an option
+abbrev pub Calls : List Text → Asked → Type 0
+Calls words (plans None) = (program : Text) × (words ≡ program ∷ codes "plan" ∷ [])
+Calls words (plans (Some file)) = (program : Text) × (words ≡ program ∷ codes "plan" ∷ file ∷ []) × (is_no_option file ≡ true)
+Calls words (checks declaration certificate) = (program : Text) × (words ≡ program ∷ codes "check" ∷ declaration ∷ certificate ∷ [])
+    × (is_no_option declaration ≡ true) × (is_no_option certificate ≡ true)
+Calls words (replays declaration assignment run) = (program : Text) × (words ≡ program ∷ codes "replay" ∷ declaration ∷ assignment ∷ run ∷ [])
+    × (is_no_option declaration ≡ true) × (is_no_option assignment ≡ true) × (is_no_option run ≡ true)

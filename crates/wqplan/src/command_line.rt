@@ -2,14 +2,14 @@
 //!
 //! It is read by `clap`: one command, and positional arguments alone. The time is linear in the words.
 
-ghost use Rattle.std.specs.Prelude.{◌≡◌, ℕ, List, Option, IfOk, MatchResult, map};
-ghost use Rattle.clap.specs.Words.{app_of, kind_of};
+ghost use Rattle.std.specs.Prelude.{◌≡◌, ℕ, List, Some, codes, false, IfOk, IfSome, IsSome, MatchResult, map};
+ghost use Rattle.clap.specs.Words.{app_of, found_of, kind_of, rows_of, rule_of, subcommand_rows_of};
 ghost use Rattle.clap.specs.declared.error.kind.ErrorKind.TheVariants.{OutOfMemory};
-ghost use Rattle.wqplan.specs.CommandLine.{wqplan, Asks, CallsPlan, PlansFile};
+ghost use Rattle.wqplan.specs.CommandLine.{check, needed, plan, replay, spelled, wqplan, Asked, Asks, AsksFor, Calls, Gives, checks, replays};
 
 use crate::help;
 use clap::error::ErrorKind;
-use clap::{Arg, Command, Error};
+use clap::{Arg, ArgMatches, Command, Error};
 use std::alloc::{AllocError, Global};
 use std::convert::AsStr;
 use std::rt::Env;
@@ -19,7 +19,20 @@ use std::{env, io};
 #[derive(Clone, Copy, Debug, PartialEq, Eq)]
 pub(crate) enum Request<'a> {
     /// A plan of the declaration in this file, or in standard input.
-    Plan { file: Option<&'a str> },
+    Plan {
+        file: Option<&'a str>,
+    },
+    /// The checker's answer to the certificate in the second file, which is one of the declaration in the first.
+    Check {
+        declaration: &'a str,
+        certificate: &'a str,
+    },
+    /// How the run in the third file ends, under the assignment in the second one, of the declaration in the first.
+    Replay {
+        declaration: &'a str,
+        assignment: &'a str,
+        run: &'a str,
+    },
 }
 
 /// The words of the command line. The first is the program's name.
@@ -28,37 +41,123 @@ pub(crate) fn words<R: Env + AllocGlobal>(rt: &R) -> io::Result<Vec<String>> {
     Ok(words)
 }
 
+/// A file that a command has to be given.
+fn file<'a>(alloc: Global, name: &'a str, help: &'a str) -> Arg<'a>
+    ensures rule { rule_of result ≡ needed name.entry.now }
+    ensures own { result.global ≡ false }
+{
+    Arg::new(alloc, name).help(help).required(true)
+}
+
+/// The command `plan`.
+fn plan<'a>(alloc: Global) -> Result<Command<'a>, AllocError>
+    ensures { IfOk result (λ command. app_of command ≡ plan) }
+{
+    let file = Arg::new(alloc, "FILE").help(help::FILE);
+    Command::new(alloc, "plan")
+        .about(help::PLAN)
+        .after_help(help::STATUSES)
+        .arg(file)
+}
+
+/// The command `check`.
+fn check<'a>(alloc: Global) -> Result<Command<'a>, AllocError>
+    ensures { IfOk result (λ command. app_of command ≡ check) }
+{
+    let declaration = file(alloc, "DECL", help::DECL);
+    let certificate = file(alloc, "CERT", help::CERT);
+    Command::new(alloc, "check")
+        .about(help::CHECK)
+        .after_help(help::STATUSES)
+        .arg(declaration)?
+        .arg(certificate)
+}
+
+/// The command `replay`.
+fn replay<'a>(alloc: Global) -> Result<Command<'a>, AllocError>
+    ensures { IfOk result (λ command. app_of command ≡ replay) }
+{
+    let declaration = file(alloc, "DECL", help::DECL);
+    let assignment = file(alloc, "ASSIGN", help::ASSIGN);
+    let run = file(alloc, "RUN", help::RUN);
+    Command::new(alloc, "replay")
+        .about(help::REPLAY)
+        .after_help(help::STATUSES)
+        .arg(declaration)?
+        .arg(assignment)?
+        .arg(run)
+}
+
 /// The program with its commands, as it is read and as help shows it.
 fn program<'a>(alloc: Global) -> Result<Command<'a>, AllocError>
     ensures { IfOk result (λ command. app_of command ≡ wqplan) }
 {
-    let file = Arg::new(alloc, "FILE").help(help::FILE);
-    let plan = Command::new(alloc, "plan")
-        .about(help::PLAN)
-        .after_help(help::STATUSES)
-        .arg(file)?;
     Command::new(alloc, "wqplan")
         .version("0.1.0")
         .about(help::PROGRAM)
         .after_help(help::STATUSES)
         .subcommand_required(true)
-        .subcommand(plan)
+        .subcommand(plan(alloc)?)?
+        .subcommand(check(alloc)?)?
+        .subcommand(replay(alloc)?)
+}
+
+/// What `check` is asked for. Its two files are there in all matches that a parse gives.
+fn check_request<'a>(given: &ArgMatches<'a>) -> Option<Request<'a>>
+    ensures asked { IfSome result (λ request. AsksFor (Some (codes "check", rows_of (found_of given.now))) (spelled request)) }
+    ensures all { (declaration certificate : List ℕ) → Gives (rows_of (found_of given.now)) (checks declaration certificate) → IsSome result }
+{
+    let declaration = given.get_str("DECL")?;
+    let certificate = given.get_str("CERT")?;
+    Some(Request::Check {
+        declaration,
+        certificate,
+    })
+}
+
+/// What `replay` is asked for. Its three files are there in all matches that a parse gives.
+fn replay_request<'a>(given: &ArgMatches<'a>) -> Option<Request<'a>>
+    ensures asked { IfSome result (λ request. AsksFor (Some (codes "replay", rows_of (found_of given.now))) (spelled request)) }
+    ensures all { (declaration assignment run : List ℕ) → Gives (rows_of (found_of given.now)) (replays declaration assignment run) → IsSome result }
+{
+    let declaration = given.get_str("DECL")?;
+    let assignment = given.get_str("ASSIGN")?;
+    let run = given.get_str("RUN")?;
+    Some(Request::Replay {
+        declaration,
+        assignment,
+        run,
+    })
+}
+
+/// What the command that a parse entered is asked for. There is none where `help` was entered.
+fn entered<'a>(matches: &ArgMatches<'a>) -> Option<Request<'a>>
+    ensures asked { IfSome result (λ request. AsksFor (subcommand_rows_of matches.now) (spelled request)) }
+    ensures all { (wanted : Asked) → AsksFor (subcommand_rows_of matches.now) wanted → IsSome result }
+{
+    if let Some(given) = matches.subcommand_matches("plan") {
+        return Some(Request::Plan {
+            file: given.get_str("FILE"),
+        });
+    }
+    if let Some(given) = matches.subcommand_matches("check") {
+        return check_request(given);
+    }
+    replay_request(matches.subcommand_matches("replay")?)
 }
 
 /// What these words ask for.
 ///
 /// The error is a mistake in the words, a request for help or the version, or want of memory.
 pub(crate) fn parse<'a, S: AsStr>(alloc: Global, words: &'a [S]) -> Result<Request<'a>, Error>
-    ensures asked { IfOk result (Asks (map S.text words.entry.now)) }
-    ensures plan { (file : Option (List ℕ)) → CallsPlan (map S.text words.entry.now) file
-        → MatchResult result (PlansFile file) (λ e. kind_of e ≡ OutOfMemory) }
+    ensures asked { IfOk result (λ request. Asks (map S.text words.entry.now) (spelled request)) }
+    ensures called { (wanted : Asked) → Calls (map S.text words.entry.now) wanted
+        → MatchResult result (λ request. spelled request ≡ wanted) (λ e. kind_of e ≡ OutOfMemory) }
 {
     let mut command = program(alloc)?;
     let matches = command.try_get_matches_from_mut(words)?;
-    match matches.subcommand_matches("plan") {
-        Some(plan) => Ok(Request::Plan {
-            file: plan.get_str("FILE"),
-        }),
+    match entered(&matches) {
+        Some(request) => Ok(request),
         // `help` is a command too, but the parse itself answers it.
         None => Err(command.error(ErrorKind::MissingSubcommand, "a command is needed")?),
     }

@@ -9,19 +9,39 @@ so that no item shares one with an item that it waits for.";
 pub(crate) const PLAN: &str =
     "Reads a declaration of work items, their flushes and their ordered workqueues, and prints a plan";
 
+/// What `check` reads and prints.
+pub(crate) const CHECK: &str =
+    "Reads a declaration and an answer to it, and prints whether the answer is right";
+
+/// What `replay` reads and prints.
+pub(crate) const REPLAY: &str = "\
+Reads a declaration, which item is on which workqueue, and a run, and prints how the run ends";
+
 /// What FILE is.
 pub(crate) const FILE: &str = "The declaration. Without FILE it is read from standard input";
 
+/// What DECL is.
+pub(crate) const DECL: &str = "The declaration";
+
+/// What CERT is.
+pub(crate) const CERT: &str = "A plan or a circle of the declaration, as `plan` prints it";
+
+/// What ASSIGN is.
+pub(crate) const ASSIGN: &str = "A plan of the declaration, or its `wq` lines alone";
+
+/// What RUN is.
+pub(crate) const RUN: &str = "The steps of a run";
+
 /// What is printed and returned, and where the formats are described.
 pub(crate) const STATUSES: &str = "\
-`plan` prints one answer to standard output: a plan, a circle, or a line
-`refused CODE line N`.
+Each command prints one answer to standard output, or a line `refused CODE line N`.
 
 Exit status:
-  0  a plan was printed; or help or the version was
-  1  a circle was printed: items wait for one another in it, so there is no plan
-  2  a refusal was printed: the text is no declaration. Or the command line is wrong;
-     then standard error says how, and nothing was read
+  0  the answer is a plan, `yes ..` or `open`; or help or the version was printed
+  1  the answer is a circle, where items wait for one another and there is no plan;
+     or it is `no ..`, `deadlock`, `stuck` or `not lawful N`
+  2  a refusal was printed: a text isn't of the form that it should have. Or the
+     command line is wrong; then standard error says how, and nothing was read
   3  a fault: standard error has the line `fault memory`, `fault read` or `fault write`
 
-docs/FORMAT.md describes declarations, answers, and what each refusal's CODE means.";
+docs/FORMAT.md describes the texts, the answers, and what each refusal's CODE means.";

@@ -2,16 +2,39 @@
 //!
 //! What this crate adds is the command line, the files and the exit status; what is read and what is answered stand
 //! in `wq_commands`. The formats and the statuses are those of docs/FORMAT.md. The status is returned from `main` as
-//! a number and never as an error, since the status of an error is 1, which means a circle.
+//! a number and never as an error, since the status of an error is 1, which means an answer that is bad.
 #![tactic(auto)]
 
+mod check;
 mod command_line;
 mod ending;
 mod help;
 mod plan;
+mod replay;
 
 use command_line::Request;
 use std::process::ExitCode;
+use std::rt::Files;
+use wq_commands::{End, Fault};
+
+/// Runs the command that is asked for.
+fn perform<R: Files + Input + Print + AllocGlobal>(
+    rt: &R,
+    request: Request<'_>,
+) -> Result<End, Fault> {
+    match request {
+        Request::Plan { file } => plan::plan(rt, file),
+        Request::Check {
+            declaration,
+            certificate,
+        } => check::check(rt, declaration, certificate),
+        Request::Replay {
+            declaration,
+            assignment,
+            run,
+        } => replay::replay(rt, declaration, assignment, run),
+    }
+}
 
 fn main(rt: HostRuntime) -> ExitCode {
     let words = match command_line::words(&rt) {
@@ -19,7 +42,7 @@ fn main(rt: HostRuntime) -> ExitCode {
         Err(error) => return ExitCode::from(ending::unread(&rt, &error)),
     };
     let status = match command_line::parse(rt.alloc(), &words) {
-        Ok(Request::Plan { file }) => ending::answered(&rt, plan::plan(&rt, file)),
+        Ok(request) => ending::answered(&rt, perform(&rt, request)),
         Err(error) => ending::unasked(&rt, &error),
     };
     ExitCode::from(status)

@@ -1,13 +1,18 @@
-use Rattle.std.proofs.Common.{rules, true, ap, ap₂, codes, ◌≡◌, ◌∙◌}
+use Rattle.std.proofs.Common.{rules, ap, ap₂, codes, true, ◌≡◌, ◌∙◌}
 use Rattle.std.proofs.lemmas.Result.{IfOk-weaker}
-use Rattle.clap.specs.Words.{App, app_of, new_app, new_rule, rule_of, with_rule, with_subcommand}
-use Rattle.wqplan.specs.CommandLine.{plan}
+use Rattle.clap.specs.Words.{App, app_of, new_app, with_subcommand}
+use Rattle.wqplan.specs.CommandLine.{plan, check, replay}
+use Rattle.wqplan.proofs.CommandLemmas.{third_is_not}
 use Rattle.wqplan.proofs.command_line.program.Goals as goal
+
+abbrev bare : App
+bare = record (new_app (codes "wqplan")) { top = record (new_app (codes "wqplan")).top { has_version = true; subcommand_required = true } }
 
 pub returns : goal.returns
 returns c =
-    let file_is : rule_of c.help-file.result ≡ new_rule (codes "FILE") = search rules in
-    let empty_is : app_of c.after_help.result ≡ new_app (codes "plan") = search rules in
-    let plan_is : app_of c.in_ok-plan.plan ≡ plan = c.in_ok-plan.ensures.shape (search rules) ∙ ap₂ with_rule empty_is file_is in
-    let start_is : app_of c.subcommand_required.result ≡ record (new_app (codes "wqplan")) { top = record (new_app (codes "wqplan")).top { has_version = true; subcommand_required = true } } = search rules in
-    IfOk-weaker c.subcommand.result _ _ (λ r added. added.shape (search rules) ∙ ap₂ with_subcommand start_is (ap (λ (a : App). a.top) plan_is)) c.subcommand.ensures
+    let start_is : app_of c.subcommand_required.result ≡ bare = search rules in
+    let one : app_of c.in_ok-subcommand.field-0 ≡ with_subcommand bare plan.top =
+    c.in_ok-subcommand.ensures.shape (third_is_not _ _ _ _ (ap (λ (a : App). a.top.is_plain) c.in_ok-plan.ensures)) ∙ ap₂ with_subcommand start_is (ap (λ (a : App). a.top) c.in_ok-plan.ensures) in
+    let two : app_of c.in_ok-subcommand-2.field-0 ≡ with_subcommand (with_subcommand bare plan.top) check.top =
+    c.in_ok-subcommand-2.ensures.shape (third_is_not _ _ _ _ (ap (λ (a : App). a.top.is_plain) c.in_ok-check.ensures)) ∙ ap₂ with_subcommand one (ap (λ (a : App). a.top) c.in_ok-check.ensures) in
+    IfOk-weaker c.subcommand-3.result _ _ (λ r added. added.shape (third_is_not _ _ _ _ (ap (λ (a : App). a.top.is_plain) c.in_ok-replay.ensures)) ∙ ap₂ with_subcommand two (ap (λ (a : App). a.top) c.in_ok-replay.ensures)) c.subcommand-3.ensures

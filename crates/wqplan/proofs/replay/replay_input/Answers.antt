@@ -1,0 +1,22 @@
+use Rattle.std.proofs.Common.{List, ℕ, ap, subst}
+use Rattle.std.proofs.lemmas.Result.{IfOk-weaker}
+use Rattle.wq_commands.specs.Input.{IsInput}
+use Rattle.wq_commands.specs.CheckInput.{ReplaysInput}
+use Rattle.wqplan.proofs.replay.replay_input.Goals as goal
+
+pub returns : goal.returns
+returns g c =
+    let declared = ap (λ m. m.device) c.new-declared.ensures in
+    let assigned = ap (λ m. m.device) c.new-assigned.ensures in
+    let listed = ap (λ m. m.device) c.new-listed.ensures in
+    IfOk-weaker c.replay_cmd.result _ _ (λ end h.
+    let answer = h.1 in (
+      answer.text,
+      answer.lanes,
+      answer.steps,
+      h.0,
+      subst (λ device. IsInput (g.D.Read.remaining device) answer.text) declared answer.declaration.input,
+      subst (λ device. IsInput (g.A.Read.remaining device) answer.lanes) assigned answer.assignment.input,
+      subst (λ device. IsInput (g.S.Read.remaining device) answer.steps) listed answer.run.input,
+      answer.answer,
+    )) c.replay_cmd.ensures.answered
