@@ -1,7 +1,7 @@
 //! What of a certificate is as large as its limit, and what is one larger.
 //!
-//! The limits are those of "Certificates" in docs/FORMAT.md. The running time is that of the longest certificate that is
-//! accepted.
+//! The limits are those of "Certificates" in docs/FORMAT.md. They take time in the lengths of the
+//! texts.
 
 use crate::answers::lines_of;
 use crate::checks::assert_check;
@@ -14,7 +14,7 @@ use wq_commands::End;
 
 /// What a certificate of the empty declaration begins with, how often a byte stands behind that, what ends it, how a run
 /// ends, and its answer.
-const REPEATED: &[(&str, u8, usize, &str, End, &[u8])] = &[
+const LINES: &[(&str, u8, usize, &str, End, &[u8])] = &[
     // A line of 524,288 bytes, and one more: a comment.
     (PLAN_AND_COMMENT, b'x', 524_287, "", End::Good, YES),
     (PLAN_AND_COMMENT, b'x', 524_287, "\n", End::Good, YES),
@@ -69,16 +69,6 @@ const REPEATED: &[(&str, u8, usize, &str, End, &[u8])] = &[
         End::Refused,
         b"refused 40 line 2\n",
     ),
-    // A text of 8,388,608 bytes, and one more.
-    (PLAN, b'\n', 8_388_593, "", End::Good, YES),
-    (
-        PLAN,
-        b'\n',
-        8_388_594,
-        "",
-        End::Refused,
-        b"refused 40 line 0\n",
-    ),
 ];
 
 /// A plan text of 15 bytes, without and with the begin of a comment.
@@ -89,10 +79,23 @@ const PLAN_AND_COMMENT: &str = "plan 0\nchain 0\n#";
 const YES: &[u8] = b"yes 0\n";
 
 #[test]
-fn certificates_and_their_lines_have_limits(rt: HostRuntime) -> Result<(), Fail> {
-    for (front, byte, count, rest, end, answer) in REPEATED {
+fn lines_have_a_limit(rt: HostRuntime) -> Result<(), Fail> {
+    for (front, byte, count, rest, end, answer) in LINES {
         let claim = repeated(rt.alloc(), front, *byte, *count, rest)?;
         assert_check(&rt, rt.alloc(), b"", &claim, *end, answer)?;
+    }
+    Ok(())
+}
+
+#[test]
+fn texts_have_a_limit(rt: HostRuntime) -> Result<(), Fail> {
+    // The one line of both is too long, but a text that is too long has no line.
+    for (count, answer) in [
+        (8_388_608, b"refused 40 line 1\n".as_slice()),
+        (8_388_609, b"refused 40 line 0\n"),
+    ] {
+        let claim = repeated(rt.alloc(), "", b'x', count, "")?;
+        assert_check(&rt, rt.alloc(), b"", &claim, End::Refused, answer)?;
     }
     Ok(())
 }
