@@ -1,7 +1,6 @@
-use Rattle.std.proofs.Common.{List, ℕ, ap, subst}
+use Rattle.std.proofs.Common.{ap, subst}
 use Rattle.std.proofs.lemmas.Result.{IfOk-weaker}
 use Rattle.wq_commands.specs.Input.{IsInput}
-use Rattle.wq_commands.specs.CheckInput.{ChecksInput}
 use Rattle.wqplan.proofs.check.check_input.Goals as goal
 
 pub returns : goal.returns

@@ -1,7 +1,6 @@
-use Rattle.std.proofs.Common.{List, ℕ, ap, subst}
+use Rattle.std.proofs.Common.{ap, subst}
 use Rattle.std.proofs.lemmas.Result.{IfOk-weaker}
 use Rattle.wq_commands.specs.Input.{IsInput}
-use Rattle.wq_commands.specs.CheckInput.{ReplaysInput}
 use Rattle.wqplan.proofs.replay.replay_input.Goals as goal
 
 pub returns : goal.returns
