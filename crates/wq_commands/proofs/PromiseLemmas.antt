@@ -1,9 +1,9 @@
 -- Answers keep what they promise: what is printed is read back, and it is true.
-use Rattle.std.proofs.Common.{◌≡◌, ℕ, zero, suc, ◌+◌, ◌-◌, ◌<◌, ◌≤◌, ◌==◌, Bool, cond, List, [], ◌∷◌, length, map, get_or, Option, Some, None, Result, Ok, Err, refl, sym, ap, subst, ◌∙◌, arith}
+use Rattle.std.proofs.Common.{◌≡◌, ℕ, zero, suc, ◌+◌, ◌-◌, ◌<◌, ◌≤◌, ◌==◌, Bool, cond, inl, inr, List, [], ◌∷◌, length, map, get_or, Option, Some, None, Result, Ok, Err, refl, sym, ap, subst, ◌∙◌, arith}
 use Rattle.std.specs.Prelude.{MatchResult, slice_index, slice_get, option_map, if◌then◌else◌}
-use Rattle.std.specs.List.{All}
-use Rattle.std.proofs.lemmas.Bool.{ne_eqb}
-use Rattle.std.proofs.lemmas.List.{length-map}
+use Rattle.std.specs.List.{All, AllAdjacentBelow}
+use Rattle.std.proofs.lemmas.Bool.{ne_eqb, cases_lt}
+use Rattle.std.proofs.lemmas.List.{length-map, get_or_past}
 use Rattle.std.proofs.lemmas.Option.{slice_get-map, slice_get_within, slice_get-get_or, get_or_from_slice_get}
 use Rattle.wq_text.specs.Refusal.{Refusal}
 use Rattle.wq_groups.specs.Assignment.{Assignment, IsAssignment}
@@ -15,17 +15,26 @@ use Rattle.wq_plan.specs.LongestChain.{IsLongestChain}
 use Rattle.wq_plan.specs.CircleOfGroups.{IsCircleOfGroups}
 use Rattle.wq_plan.proofs.LongestChain.{chain_of-longest}
 use Rattle.wq_plan.proofs.GroupCircles.{IsCircleOfGroups-walked}
-use Rattle.wq_plan.proofs.Plans.{IsPlan-lanes, IsLeast-plan, IsCircled-from_walk}
+use Rattle.wq_plan.proofs.Plans.{IsPlan-lanes, IsPlan-falls, IsLeast-plan, IsCircled-from_walk}
 use Rattle.wq_cert.specs.Certificate.{PlanCertificate, CircleCertificate, OfPlan, OfCircle}
 use Rattle.wq_cert.specs.Texts.{answer_of, assignment_of_text}
 use Rattle.wq_cert.proofs.PrintedPlans.{answer_of-plan, assignment_of_text-plan}
 use Rattle.wq_cert.proofs.PrintedCircles.{answer_of-circle}
-use Rattle.wq_checker.specs.Chains.{Joins, AllJoin, before_in_circle}
-use Rattle.wq_items.specs.Table.{ItemWaits}
+use Rattle.wq_items.specs.declared.target.Target.{Target}
+use Rattle.wq_items.specs.Table.{ItemWaits, targets_of}
+use Rattle.wq_items.proofs.Tables.{ItemWaits-below}
+use Rattle.wq_checker.specs.Chains.{Joins, AllJoin, before_from, before_in_chain, before_in_circle}
+use Rattle.wq_checker.specs.Falling.{AllFall}
+use Rattle.wq_checker.specs.declared.answer.Yes.TheVariants as yes
+use Rattle.wq_checker.specs.Answers.{IsGoodPlan, IsGoodCircle}
 use Rattle.wq_commands.specs.declared.end.End.{End}
 use Rattle.wq_commands.specs.declared.end.End.TheVariants.{Good, Bad, Refused}
 use Rattle.wq_commands.specs.Answer.{Answers, AnswersDeclared, ends_of, declared_waits, text_of_plan, text_of_circle, refusal_text}
 use Rattle.wq_commands.specs.Declaration.{Declared, declaration}
+use Rattle.wq_cert.specs.LineText.{line_text}
+use Rattle.wq_commands.specs.Checking.{yes_words, ChecksDeclared}
+use Rattle.wq_commands.specs.PrintedChecked.{ChecksYes, ChecksYesOf}
+use Rattle.wq_commands.proofs.CheckLemmas.{MatchResult-ok}
 use Rattle.wq_commands.specs.Promise.{KeepsPlan, KeepsCircle, KeepsDeclared, KeepsPromise}
 use Rattle.wq_commands.proofs.TextLength.{length-circled}
 use Rattle.wq_commands.proofs.AnswerLemmas.{IsSound, IsSound-declaration, IsDeclaration-sound, ArePrintable, printable, IsWalkedCircle-short}
@@ -43,48 +52,80 @@ chain_length : (lanes n : ℕ) → n ≡ lanes - 1 → (if lanes == 0 then 0 els
 chain_length zero n e = refl
 chain_length (suc lanes) n e = ap (λ (b : Bool). cond b 0 (n + 1)) (ne_eqb (suc lanes) 0 (λ is. omega (arith, is))) ∙ omega (arith, e)
 
--- ---- the arcs of a printed circle join
+-- ---- printed arcs join
 
-module _ (s : Declared) (circle : List WaitArc) (round : IsCircleOfGroups (declared_waits s) circle) where
+module _ (s : Declared) (printed : List WaitArc) (none : WaitArc) (declared : All (IsArc s.table.waits s.partition.group_of) printed)
+    (adjacent : AllAdjacentBelow (λ (x y : WaitArc). slice_index s.partition.group_of x.dst ≡ slice_index s.partition.group_of y.src) printed (length printed)) where
   abbrev arcs : List (ℕ × ℕ)
-  arcs = map ends_of circle
+  arcs = map ends_of printed
 
   abbrev at : ℕ → WaitArc
-  at k = get_or circle k round.first
+  at k = get_or printed k none
 
-  ends_at : (k : ℕ) → k < length circle → slice_get arcs k ≡ Some (ends_of (at k))
-  ends_at k within = slice_get-map ends_of circle k ∙ ap (λ (o : Option WaitArc). option_map ends_of o) (slice_get-get_or circle k round.first within)
+  ends_at : (k : ℕ) → k < length printed → slice_get arcs k ≡ Some (ends_of (at k))
+  ends_at k within = slice_get-map ends_of printed k ∙ ap (λ (o : Option WaitArc). option_map ends_of o) (slice_get-get_or printed k none within)
 
-  waits_at : (k : ℕ) → k < length circle → ItemWaits s.table.waits (at k).src (at k).dst
-  waits_at k within = let d = (round.declared k round.first within).declared in (d.0, d.1, d.2, d.3, d.4.0)
+  waits_at : (k : ℕ) → k < length printed → ItemWaits s.table.waits (at k).src (at k).dst
+  waits_at k within = let d = (declared k none within).declared in (d.0, d.1, d.2, d.3, d.4.0)
 
-  joined : (before : Option (ℕ × ℕ)) (b : WaitArc) (k : ℕ) → before ≡ Some (ends_of b) → k < length circle
+  joined : (before : Option (ℕ × ℕ)) (b : WaitArc) (k : ℕ) → before ≡ Some (ends_of b) → k < length printed
       → slice_index s.partition.group_of b.dst ≡ slice_index s.partition.group_of (at k).src → Joins (declared_waits s) before (ends_of (at k))
   joined before b k is within share = subst (λ (o : Option (ℕ × ℕ)). Joins (declared_waits s) o (ends_of (at k))) (sym is) (waits_at k within, share)
 
-  last_at : slice_get arcs (length arcs - 1) ≡ Some (ends_of round.ends)
-  last_at =
-      ap (λ n. slice_get arcs (n - 1)) (length-map circle ends_of) ∙ slice_get-map ends_of circle (length circle - 1)
-      ∙ ap (λ (o : Option WaitArc). option_map ends_of o) round.last
+  module _ (first : Option (ℕ × ℕ)) (starts : 0 < length printed → Joins (declared_waits s) first (ends_of (at 0))) where
+    joins_at : (k : ℕ) → k < length printed → Joins (declared_waits s) (before_from first arcs k) (ends_of (at k))
+    joins_at zero within = starts within
+    joins_at (suc k) within =
+        let here : k < length printed = omega (arith, within) in
+        let less : suc k - 1 ≡ k = omega arith in
+        let next : k + 1 ≡ suc k = omega arith in
+        joined (before_from first arcs (suc k)) (at k) (suc k)
+        (ap (λ (b : Bool). cond b first (slice_get arcs (suc k - 1))) (ne_eqb (suc k) 0 (λ is. omega (arith, is))) ∙ ap (slice_get arcs) less ∙ ends_at k here)
+        within
+        (subst (λ n. slice_index s.partition.group_of (at k).dst ≡ slice_index s.partition.group_of (at n).src) next (adjacent k none (omega (arith, within))))
 
-  joins_at : (k : ℕ) → k < length circle → Joins (declared_waits s) (before_in_circle arcs k) (ends_of (at k))
-  joins_at zero within =
-      joined (slice_get arcs (length arcs - 1)) round.ends zero last_at within
-      (round.closes ∙ ap (λ (b : WaitArc). slice_index s.partition.group_of b.src) (sym (get_or_from_slice_get circle 0 round.first round.first round.begins)))
-  joins_at (suc k) within =
-      let here : k < length circle = omega (arith, within) in
-      let less : suc k - 1 ≡ k = omega arith in
-      let next : k + 1 ≡ suc k = omega arith in
-      joined (before_in_circle arcs (suc k)) (at k) (suc k)
-      (ap (λ (b : Bool). cond b (slice_get arcs (length arcs - 1)) (slice_get arcs (suc k - 1))) (ne_eqb (suc k) 0 (λ is. omega (arith, is))) ∙ ap (slice_get arcs) less ∙ ends_at k here)
-      within
-      (subst (λ n. slice_index s.partition.group_of (at k).dst ≡ slice_index s.partition.group_of (at n).src) next (round.joined k round.first (omega (arith, within))))
+    AllJoin-printed : AllJoin (declared_waits s) (before_from first arcs) arcs
+    AllJoin-printed k arc stands =
+        let within : k < length printed = subst (λ n. k < n) (length-map printed ends_of) (slice_get_within arcs k arc stands) in
+        let same : ends_of (at k) ≡ arc = some_same (ends_of (at k)) arc (sym (ends_at k within) ∙ stands) in
+        subst (Joins (declared_waits s) (before_from first arcs k)) same (joins_at k within)
 
-  AllJoin-circle : AllJoin (declared_waits s) (before_in_circle arcs) arcs
-  AllJoin-circle k arc stands =
-      let within : k < length circle = subst (λ n. k < n) (length-map circle ends_of) (slice_get_within arcs k arc stands) in
-      let same : ends_of (at k) ≡ arc = some_same (ends_of (at k)) arc (sym (ends_at k within) ∙ stands) in
-      subst (Joins (declared_waits s) (before_in_circle arcs k)) same (joins_at k within)
+-- the arcs of a circle go round
+AllJoin-circle : (s : Declared) (circle : List WaitArc) (round : IsCircleOfGroups (declared_waits s) circle) → AllJoin (declared_waits s) (before_in_circle (map ends_of circle)) (map ends_of circle)
+AllJoin-circle s circle round =
+    let ends = map ends_of circle in
+    let last : slice_get ends (length ends - 1) ≡ Some (ends_of round.ends) =
+    ap (λ n. slice_get ends (n - 1)) (length-map circle ends_of) ∙ slice_get-map ends_of circle (length circle - 1)
+    ∙ ap (λ (o : Option WaitArc). option_map ends_of o) round.last in
+    AllJoin-printed s circle round.first round.declared round.joined (slice_get ends (length ends - 1))
+    (λ some. joined s circle round.first round.declared round.joined (slice_get ends (length ends - 1)) round.ends 0 last some
+    (round.closes ∙ ap (λ (b : WaitArc). slice_index s.partition.group_of b.src) (sym (get_or_from_slice_get circle 0 round.first round.first round.begins))))
+
+-- those of a chain follow one another
+AllJoin-chain : (s : Declared) (a : Assignment) (chain : List WaitArc) → IsLongestChain (declared_waits s) a chain → AllJoin (declared_waits s) (before_in_chain (map ends_of chain)) (map ends_of chain)
+AllJoin-chain s a chain longest =
+    let none : WaitArc = record { src = 0; dst = 0; head = 0; place = 0 } in
+    let declared : All (IsArc s.table.waits s.partition.group_of) chain = λ k x within. (longest.arcs k x within).declared in
+    AllJoin-printed s chain none declared longest.joined None (λ some. waits_at s chain none declared longest.joined 0 some)
+
+-- ---- each flush falls
+
+waiting-below : (waits : List (List Target)) (i j : ℕ) → ItemWaits waits i j → i < length waits
+waiting-below waits i j declared = elim (cases_lt i (length waits)) [
+  | inl below ↦ below
+  | inr past ↦
+      let long : length (targets_of waits i) ≡ 0 = ap length (get_or_past waits i [] past) in
+      absurd (omega (arith, declared.2, long))
+]
+
+AllFall-plan : (s : Declared) → IsSound s → (a : Assignment) → IsPlan (declared_waits s) a → AllFall (declared_waits s) a
+AllFall-plan s sound a plan i j declared =
+    let d = declared_waits s in
+    let is = IsDeclaration-sound s sound in
+    let item : i < length d.group_of = subst (λ n. i < n) is.one_list_each (waiting-below d.waits i j declared) in
+    let target : j < length d.group_of = ItemWaits-below (length d.group_of) d.waits is.targets_are_items i j declared in
+    IsPlan-falls d a plan (slice_index d.group_of i) (slice_index d.group_of j) (is.partition.within i 0 item)
+    (record { item = i; target = j; declares = declared; of_item = slice_get-get_or d.group_of i 0 item; of_target = slice_get-get_or d.group_of j 0 target })
 
 module _ (s : Declared) (sound : IsSound s) where
   KeepsPlan-printed : (a : Assignment) → IsPlan (declared_waits s) a → KeepsPlan s (text_of_plan s a)
@@ -101,13 +142,19 @@ module _ (s : Declared) (sound : IsSound s) where
       let least = IsLeast-plan d a is plan in
       let short : length arcs ≤ 4095 = omega (arith, many, longest.count, few, is.partition.few_groups, is.partition.few_items) in
       let none : a.lanes ≡ 0 → arcs ≡ [] = λ zero_lanes. length_zero arcs (omega (arith, many, longest.count, zero_lanes)) in
+      let long : (if a.lanes == 0 then 0 else length arcs + 1) ≡ a.lanes = chain_length a.lanes (length arcs) (omega (arith, many, longest.count)) in
       let lanes : a.lanes ≤ 4096 = omega (arith, few, is.partition.few_groups, is.partition.few_items) in
       record {
         plan = record { assignment = a; length = if a.lanes == 0 then 0 else length arcs + 1; arcs = arcs };
         read = answer_of-plan s.table s.partition a arcs sound.table sound.partition sound.one_group_each least.assignment lanes prints.items short none;
         assignment = assignment_of_text-plan s.table s.partition a arcs sound.table sound.partition sound.one_group_each least.assignment lanes prints.items short none;
         least = least;
-        length = chain_length a.lanes (length arcs) (omega (arith, many, longest.count));
+        good = record {
+          falls = AllFall-plan s sound a plan;
+          long = long;
+          has_group = λ lacks. absurd (omega (arith, long, few, lacks.0, lacks.1));
+          joined = AllJoin-chain s a chain longest;
+        };
       }
 
   KeepsCircle-printed : (circle : List WaitArc) → IsWalkedCircle (group_graph (declared_waits s)) circle → KeepsCircle s (text_of_circle s circle)
@@ -123,7 +170,7 @@ module _ (s : Declared) (sound : IsSound s) where
       record {
         circle = record { arcs = arcs; steps = None };
         read = answer_of-circle s.table sound.table s.partition arcs None (omega (arith, some, many)) (omega (arith, few, many)) prints.items tt (length-circled s circle sound walked);
-        round = AllJoin-circle s circle round;
+        good = record { joined = AllJoin-circle s circle round; deadlocks = tt };
         deadlocks = (IsCircled-from_walk d is circle walked).deadlocks;
       }
 
@@ -142,3 +189,29 @@ keeps (Err r) end out sound answers = answers.0
 -- an answer keeps its promise
 pub KeepsPromise-answers : (text : List ℕ) (end : End) (out : List ℕ) → Answers text end out → KeepsPromise text end out
 KeepsPromise-answers text end out answers = keeps (declaration text) end out (IsSound-declaration text) answers
+
+-- ---- what the checker says of it
+
+-- the line that the checker answers to what is printed
+pub Checks-answers : (text out : List ℕ) (end : End) → Answers text end out → ChecksYes text out end
+Checks-answers text out end answers = checked (declaration text) end (keeps (declaration text) end out (IsSound-declaration text) answers)
+  where
+    plan_checked : (s : Declared) → KeepsPlan s out → (n : ℕ) × ChecksDeclared s out Good (line_text (yes_words (yes.Plan n)))
+    plan_checked s kept = (
+      kept.plan.assignment.lanes,
+      MatchResult-ok (answer_of s.table.names s.partition out) (OfPlan kept.plan) _ _ kept.read (Ok (yes.Plan kept.plan.assignment.lanes), (kept.good, refl), (refl, refl)),
+    )
+
+    circle_checked : (s : Declared) → KeepsCircle s out → (n : ℕ) × ChecksDeclared s out Good (line_text (yes_words (yes.Circle n)))
+    circle_checked s kept = (
+      length kept.circle.arcs,
+      MatchResult-ok (answer_of s.table.names s.partition out) (OfCircle kept.circle) _ _ kept.read (Ok (yes.Circle (length kept.circle.arcs)), (kept.good, refl), (refl, refl)),
+    )
+
+    checked : (declared : Result Declared Refusal) (end : End) → MatchResult declared (λ s. KeepsDeclared s end out) (λ r. end ≡ Refused) → ChecksYesOf declared out end
+    checked (Ok s) Good kept = plan_checked s kept
+    checked (Ok s) Bad kept = circle_checked s kept
+    checked (Ok s) Refused kept = absurd kept
+    checked (Err r) Good kept = absurd cc
+    checked (Err r) Bad kept = absurd cc
+    checked (Err r) Refused kept = tt

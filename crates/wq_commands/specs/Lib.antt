@@ -9,6 +9,7 @@ pub use Rattle.wq_plan.specs.Plan
 pub mod Answer
 pub mod Input
 pub mod Promise
+pub mod PrintedChecked
 pub mod Checking
 pub mod CheckInput
 pub mod Replaying

@@ -5,7 +5,7 @@ use Rattle.wq_core.specs.Wiring.{wiring}
 use Rattle.wq_core.specs.Deadlock.{Deadlocks, IsLeast}
 use Rattle.wq_cert.specs.Certificate.{PlanCertificate, CircleCertificate, OfPlan, OfCircle}
 use Rattle.wq_cert.specs.Texts.{answer_of, assignment_of_text}
-use Rattle.wq_checker.specs.Chains.{AllJoin, before_in_circle}
+use Rattle.wq_checker.specs.Answers.{IsGoodPlan, IsGoodCircle}
 use Rattle.wq_commands.specs.declared.end.End.{End}
 use Rattle.wq_commands.specs.declared.end.End.TheVariants.{Good, Bad, Refused}
 use Rattle.wq_commands.specs.Answer.{declared_waits}
@@ -13,18 +13,19 @@ use Rattle.wq_commands.specs.Declaration.{Declared, declaration}
 
 -- a plan is read from the bytes; its assignment lets no run end stuck, and every assignment to fewer workqueues has a run
 -- that ends stuck, with each item queued once and flushing as declared; the chain has as many groups as there are workqueues
+-- (`long` of `good`), each of which waits for the next
 pub record KeepsPlan (s : Declared) (out : List ℕ) : Type 0 where
   pub plan : PlanCertificate
   pub read : answer_of s.table.names s.partition out ≡ Ok (OfPlan plan)
   pub assignment : assignment_of_text s.table.names s.partition out ≡ Ok plan.assignment
   pub least : IsLeast (declared_waits s) plan.assignment
-  pub length : plan.length ≡ plan.assignment.lanes
+  pub good : IsGoodPlan (declared_waits s) plan
 
--- a circle is read from the bytes, and every assignment has such a run
+-- a circle is read from the bytes, its arcs go round groups, and every assignment has such a run
 pub record KeepsCircle (s : Declared) (out : List ℕ) : Type 0 where
   pub circle : CircleCertificate
   pub read : answer_of s.table.names s.partition out ≡ Ok (OfCircle circle)
-  pub round : AllJoin (declared_waits s) (before_in_circle circle.arcs) circle.arcs
+  pub good : IsGoodCircle (declared_waits s) circle
   pub deadlocks : (a : Assignment) → IsAssignment s.partition.groups a → Deadlocks (wiring (declared_waits s) a)
 
 -- what is promised of the bytes that answer a declaration, by the end of the run

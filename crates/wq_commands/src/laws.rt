@@ -10,6 +10,7 @@ ghost use Rattle.wq_levels.specs.Walks.{IsWalkedCircle};
 ghost use Rattle.wq_plan.specs.Plan.{IsPlan};
 ghost use Rattle.wq_commands.specs.Answer.{Answers, declared_waits, text_of_plan, text_of_circle};
 ghost use Rattle.wq_commands.specs.Promise.{KeepsPromise};
+ghost use Rattle.wq_commands.specs.PrintedChecked.{ChecksYes};
 ghost use Rattle.wq_commands.specs.Declaration.{Declared, declaration, max_text};
 ghost use Rattle.wq_commands.specs.declared.end.End.{End};
 ghost use Rattle.wq_commands.specs.declared.end.End.TheVariants.{Good, Bad, Refused};
@@ -26,6 +27,11 @@ pub fn a_text_has_one_answer()
 /// assignment has such a run.
 pub fn an_answer_keeps_its_promise()
     ensures { (text : List ℕ) (end : End) (out : List ℕ) → Answers text end out → KeepsPromise text end out }
+{}
+
+/// What `plan` prints is answered with yes: of a plan `check` prints `yes K`, and of a circle `yes circle N`.
+pub fn a_printed_answer_is_checked_with_yes()
+    ensures { (text out : List ℕ) (end : End) → Answers text end out → ChecksYes text out end }
 {}
 
 /// A text has an answer.

@@ -1,0 +1,23 @@
+-- What `check` answers to what `plan` prints.
+use Rattle.std.specs.Prelude.{ℕ, List, Result, Ok, Err, MatchResult}
+use Rattle.wq_text.specs.Refusal.{Refusal}
+use Rattle.wq_cert.specs.LineText.{line_text}
+use Rattle.wq_checker.specs.declared.answer.Yes.TheVariants as yes
+use Rattle.wq_commands.specs.declared.end.End.{End}
+use Rattle.wq_commands.specs.declared.end.End.TheVariants.{Good, Bad, Refused}
+use Rattle.wq_commands.specs.Checking.{yes_words, ChecksDeclared}
+use Rattle.wq_commands.specs.Declaration.{Declared, declaration}
+
+-- of a plan that is printed the answer is `yes K`, and of a circle `yes circle N`
+abbrev pub ChecksYesDeclared : Declared → List ℕ → End → Type 0
+ChecksYesDeclared s out Good = (number : ℕ) × ChecksDeclared s out Good (line_text (yes_words (yes.Plan number)))
+ChecksYesDeclared s out Bad = (n : ℕ) × ChecksDeclared s out Good (line_text (yes_words (yes.Circle n)))
+ChecksYesDeclared s out Refused = ⊥
+
+-- the same of what a text declares; nothing is said of a text that is refused
+abbrev pub ChecksYesOf : Result Declared Refusal → List ℕ → End → Type 0
+ChecksYesOf (Ok s) out end = ChecksYesDeclared s out end
+ChecksYesOf (Err r) out end = Unit {0}
+
+abbrev pub ChecksYes : List ℕ → List ℕ → End → Type 0
+ChecksYes text out end = ChecksYesOf (declaration text) out end
