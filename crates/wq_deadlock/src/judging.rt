@@ -36,6 +36,7 @@ fn run_of_circle<A: Allocator + Copy>(
     requires walked { IsWalkedCircle (lane_graph (declaration_of table.now groups.now) assignment.now) circle.now }
     ensures { IfOk result (λ steps. IsCircleRun (wiring (declaration_of table.now groups.now) assignment.now) circle.now steps.items) }
 {
+    // Each group has a member.
     prove!(groups.len() <= table.len());
     prove!(assignment.lanes() <= 4096);
     let mut core = Core::new(alloc, table, groups, assignment)?;
@@ -62,6 +63,7 @@ pub fn verdict<A: Allocator + Copy>(
     requires assigned { length assignment.now.lane_of_group ≡ groups.now.groups }
     ensures { IfOk result (IsVerdict (declaration_of table.now groups.now) assignment.now) }
 {
+    // Each group has a member.
     prove!(groups.len() <= table.len());
     prove!(assignment.lanes() <= 4096);
     let graph = WaitGraph::of_lanes(alloc, table, groups, assignment)?;
