@@ -178,7 +178,8 @@ def change_arc_alike(choose, declared, wqs, arcs):
     if not arcs:
         return
     at = choose.randrange(len(arcs))
-    ends = [declared.group_of[name] for name in arcs[at]]
+    # A name that isn't declared has no group, and no flush is like it.
+    ends = [declared.group_of.get(name) for name in arcs[at]]
     sides = choose.choice([[0, 1], [0, 1], [0], [1]])
     alike = [flush for flush in declared.flushes
              if all(declared.group_of[flush[side]] == ends[side] for side in sides)]
@@ -191,7 +192,10 @@ def change_arc_member(choose, declared, wqs, arcs):
     if arcs:
         at, side = choose.randrange(len(arcs)), choose.randrange(2)
         arc = list(arcs[at])
-        arc[side] = choose.choice(declared.groups[declared.group_of[arc[side]]])
+        group = declared.group_of.get(arc[side])
+        if group is None:
+            return
+        arc[side] = choose.choice(declared.groups[group])
         arcs[at] = tuple(arc)
 
 
