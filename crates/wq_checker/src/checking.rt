@@ -2,8 +2,9 @@
 //!
 //! Of a plan: each declared flush goes to a workqueue with a lower number, so it is safe; and a chain of as many groups as
 //! there are workqueues shows that fewer make workqueues wait in a circle. Of a circle: its arcs go round groups, and its
-//! run, where there is one, ends in a deadlock. The rules are those of "Certificates" in docs/FORMAT.md. A plan takes time
-//! in the number of items and flushes, and no memory; the run of a circle that of `check_run`.
+//! run, where there is one, ends in a deadlock. The rules are those of "The command `check`" in docs/FORMAT.md. A plan
+//! takes time in the number of items and flushes, and for each arc of its chain in the flushes that the arc's item
+//! declares, and no memory. A circle takes that for its arcs, and for its run that of `check_run`.
 
 ghost use Rattle.std.specs.Prelude.{◌≡◌, ◌<◌, ◌≤◌, ◌↔◌, IsTrue, IfOk, IfSome, option_map, length};
 ghost use Rattle.wq_groups.specs.Declaration.{declaration_of};

@@ -19,5 +19,6 @@ abbrev pub ChecksYesOf : Result Declared Refusal → List ℕ → End → Type 0
 ChecksYesOf (Ok s) out end = ChecksYesDeclared s out end
 ChecksYesOf (Err r) out end = Unit {0}
 
+-- `check` answers yes to what is printed for this text
 abbrev pub ChecksYes : List ℕ → List ℕ → End → Type 0
 ChecksYes text out end = ChecksYesOf (declaration text) out end

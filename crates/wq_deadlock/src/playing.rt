@@ -2,7 +2,8 @@
 //!
 //! It is "Played" in the specs of `wq_core`. A start, a wait or the end of a wait makes no lower lane movable, since
 //! nothing is finished by it. So the search for the lowest lane goes on from the lane that moved, and begins again at
-//! lane 0 only after a finish. Each lane is asked once for each of its own steps and once for each finish, at most.
+//! lane 0 only after a finish. Each lane is asked once for each of its own steps, once for each finish and once more,
+//! at most.
 
 ghost use Rattle.std.specs.Prelude.{◌≡◌, IfOk, OnOk, [], ◌∷◌, ◌++◌};
 ghost use Rattle.wq_core.specs.Held.{machine_after};

@@ -1,8 +1,9 @@
 //! Plans of workqueues: which workqueue serves each group, so that no flush waits for its own queue.
 //!
 //! What the layer above relies on: the lane of a group is the number of groups on the longest chain that begins at it,
-//! less one, the chain is a longest one, and no run of the plan ends stuck; or the groups wait in the circle that is
-//! answered. The planner's code knows arcs and numbers, no steps: of the machine it takes one law. The rules are those of
+//! less one, the chain is a longest one, no run of the plan ends stuck, and every assignment to fewer lanes deadlocks; or
+//! the groups wait in the circle that is answered, and every assignment deadlocks. The planner's code knows arcs and
+//! numbers, no steps: what it says of runs rests on laws of `wq_core`. The rules are those of
 //! "Plan texts" and "Circle texts" in docs/FORMAT.md; the reason is that of Documentation/core-api/workqueue.rst,
 //! "Guidelines": work items that depend on one another belong on separate workqueues with WQ_MEM_RECLAIM.
 #![tactic(auto)]
