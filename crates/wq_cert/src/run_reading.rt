@@ -3,10 +3,12 @@
 //! The text is that of "Certificates" in docs/FORMAT.md. Reading takes time in the length of the text, and memory in the
 //! number of the steps that stand there, whatever number is said.
 
-ghost use Rattle.std.specs.Prelude.{◌≡◌, ◌∷◌, Ok, IfOk, IfErr, map, option_map};
+ghost use Rattle.std.specs.Prelude.{◌≡◌, ◌∷◌, Ok, Err, None, IfOk, IfErr, map, option_map};
+ghost use Rattle.wq_text.specs.Limits.{limit_fault};
 ghost use Rattle.wq_cert.specs.Lines.{cert_line};
 ghost use Rattle.wq_cert.specs.Reading.{next_lines, step_reading, run_reading, run_behind};
-ghost use Rattle.wq_cert.specs.Texts.{run_of, IsCertFaultOf};
+ghost use Rattle.wq_cert.specs.Texts.{max_text, max_line, run_of, IsCertFaultOf};
+ghost use Rattle.wq_cert.specs.declared.fault.CertError.TheVariants.{OutOfMemory};
 
 use crate::fault::CertError;
 use crate::line_reading::{read_any_count, read_step};
@@ -99,6 +101,8 @@ pub fn read_run<A: Allocator + Copy>(
 ) -> Result<Vec<Step, A>, CertError>
     ensures steps { IfOk result (λ steps. run_of table.now.names text.now ≡ Ok steps.items) }
     ensures fault { IfErr result (λ e. IsCertFaultOf e (run_of table.now.names text.now)) }
+    // The limits are judged without memory.
+    ensures memory { result ≡ Err OutOfMemory → limit_fault max_text max_line text.now ≡ None }
 {
     let view = open(text)?;
     read_run_lines(alloc, table, view.lines())
