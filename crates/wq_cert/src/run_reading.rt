@@ -1,6 +1,6 @@
 //! Reading runs: how many steps there are, and each of them on a line of its own.
 //!
-//! The text is that of "Certificates" in docs/FORMAT.md. Reading takes time in the length of the text, and memory in the
+//! The text is that of "Run texts" and "Certificates" in docs/FORMAT.md. Reading takes time in the length of the text, and memory in the
 //! number of the steps that stand there, whatever number is said.
 
 ghost use Rattle.std.specs.Prelude.{◌≡◌, ◌∷◌, Ok, Err, None, IfOk, IfErr, map, option_map};
@@ -93,7 +93,8 @@ fn read_run_lines<A: Allocator + Copy>(
 ///
 /// Else the answer is the first fault: `BadCertLine` (40) where the text or a line is too long, or in the first line that
 /// isn't of the form that stands next, with line 0 where the text ends too early; `NumberOutOfRange` (43) in a line of
-/// that form whose workqueue is above 4,095; or `OutOfMemory` (20).
+/// that form whose workqueue is above 4,095; or `OutOfMemory` (20), where a growth was refused in a text within the
+/// limits.
 pub fn read_run<A: Allocator + Copy>(
     alloc: A,
     text: &[u8],

@@ -1,7 +1,7 @@
 //! Whether a certificate shows what it says.
 //!
 //! Of a plan: each declared flush goes to a workqueue with a lower number, so it is safe; and a chain of as many groups as
-//! there are workqueues shows that fewer make workqueues wait in a circle. Of a circle: its arcs go round groups, and its
+//! there are workqueues shows that fewer wait in a circle, and so deadlock. Of a circle: its arcs go round groups, and its
 //! run, where there is one, ends in a deadlock. The rules are those of "The command `check`" in docs/FORMAT.md. A plan
 //! takes time in the number of items and flushes, and for each arc of its chain in the flushes that the arc's item
 //! declares, and no memory. A circle takes that for its arcs, and for its run that of `check_run`.
@@ -163,8 +163,9 @@ fn check_certificate<A: Allocator + Copy>(
 /// It is one of the declaration, as every certificate is that is read: its assignment has a lane for each group, its arcs
 /// are of items, and their number is one less than the length of the chain (none for 0), or from 1 to 4,096 in a circle;
 /// and it has fewer than 4,294,967,295 steps. A yes to a plan implies that it is safe, and that in every assignment to
-/// fewer workqueues these wait in a circle; a yes to a circle, that in every assignment they do. The only error is want of
-/// memory (20).
+/// fewer workqueues these wait in a circle, and some run deadlocks; a yes to a circle, that both are so in every assignment.
+/// The only error is want of memory (20), and it comes only where the arcs of a circle go round and steps stand behind
+/// them.
 pub fn check_answer<A: Allocator + Copy>(
     alloc: A,
     table: &ItemTable<'_, A>,
