@@ -5,4 +5,5 @@ pub mod TextLength
 pub mod Uniqueness
 pub mod CheckLemmas
 pub mod InputLemmas
+pub mod JudgeLemmas
 pub mod PromiseLemmas

@@ -8,9 +8,13 @@ ghost use Rattle.wq_graph.specs.declared.arc.WaitArc.{WaitArc};
 ghost use Rattle.wq_graph.specs.Graph.{group_graph};
 ghost use Rattle.wq_levels.specs.Walks.{IsWalkedCircle};
 ghost use Rattle.wq_plan.specs.Plan.{IsPlan};
+ghost use Rattle.wq_cert.specs.LineText.{line_text};
+ghost use Rattle.wq_checker.specs.declared.run.RunEnd.TheVariants.{Deadlock};
 ghost use Rattle.wq_commands.specs.Answer.{Answers, declared_waits, text_of_plan, text_of_circle};
 ghost use Rattle.wq_commands.specs.Promise.{KeepsPromise};
 ghost use Rattle.wq_commands.specs.PrintedChecked.{ChecksYes};
+ghost use Rattle.wq_commands.specs.Replaying.{replay_words, Replays};
+ghost use Rattle.wq_commands.specs.Deadlocking.{Judges};
 ghost use Rattle.wq_commands.specs.Declaration.{Declared, declaration, max_text};
 ghost use Rattle.wq_commands.specs.declared.end.End.{End};
 ghost use Rattle.wq_commands.specs.declared.end.End.TheVariants.{Good, Bad, Refused};
@@ -86,4 +90,17 @@ pub fn an_item_that_flushes_itself_is_a_circle()
 /// So has a group in which one item flushes another: an ordered workqueue executes one item at a time.
 pub fn a_flush_within_an_ordered_line_is_a_circle()
     ensures { Answers (codes "item a\nitem b\nordered a b\nflush a b\n") Bad (codes "circle 1\narc a b\n") }
+{}
+
+/// A declaration and an assignment have one verdict, and no other: one end, and one text that is printed.
+pub fn an_assignment_has_one_verdict()
+    ensures one { (declared text : List ℕ) → (end : End) × (out : List ℕ) × Judges declared text end out }
+    ensures end { (declared text : List ℕ) (end other : End) (out printed : List ℕ) → Judges declared text end out → Judges declared text other printed → end ≡ other }
+    ensures out { (declared text : List ℕ) (end other : End) (out printed : List ℕ) → Judges declared text end out → Judges declared text other printed → out ≡ printed }
+{}
+
+/// The run that `deadlock` prints is read back: of the same declaration and the same assignment `replay` answers `deadlock`
+/// to it.
+pub fn a_printed_run_is_replayed_to_a_deadlock()
+    ensures { (declared text out : List ℕ) → Judges declared text Bad out → Replays declared text out Bad (line_text (replay_words Deadlock)) }
 {}

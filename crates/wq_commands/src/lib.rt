@@ -8,8 +8,10 @@ mod answer;
 mod arc_ends;
 mod check;
 mod checking;
+mod deadlock;
 mod declaration;
 mod end;
+mod judging;
 pub mod laws;
 mod plan;
 mod refusal;
@@ -17,6 +19,7 @@ mod replay;
 mod replaying;
 
 pub use check::check_cmd;
+pub use deadlock::deadlock_cmd;
 pub use declaration::{Declaration, Stop, read_declaration};
 pub use end::End;
 pub use plan::plan_cmd;
