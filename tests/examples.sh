@@ -48,13 +48,17 @@ begins() {
 }
 
 # hangs NAME DECL ASSIGN [STEPS]: counts whether `deadlock` prints a run (of so many steps), and `replay` says that it
-# deadlocks.
+# deadlocks, and that without its last step it doesn't.
 hangs() {
     run deadlock "$2" "$3"
     cp out hangs.run
-    begins "$1: deadlock" 1 "run ${4:-$(($(wc -l <out) - 1))}"
+    local steps=${4:-$(($(wc -l <out) - 1))}
+    begins "$1: deadlock" 1 "run $steps"
     run replay "$2" "$3" hangs.run
     ends "$1: its run, replayed" 1 deadlock
+    sed "1s/.*/run $((steps - 1))/; \$d" hangs.run >shorter.run
+    run replay "$2" "$3" shorter.run
+    ends "$1: its run without the last step" 0 open
 }
 
 # answers NAME ANSWER ITEM..: counts whether `plan` answers so, with arcs from each ITEM to the next one, and
