@@ -6,3 +6,6 @@ pub mod Uniqueness
 pub mod CheckLemmas
 pub mod InputLemmas
 pub mod PromiseLemmas
+pub mod Refusals
+pub mod CheckAnswers
+pub mod ReplayAnswers

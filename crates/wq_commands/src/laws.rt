@@ -3,6 +3,7 @@
 //! The examples are computed on the definitions, so that a reader can hold these against the format's own.
 
 ghost use Rattle.std.specs.Prelude.{◌≡◌, ℕ, ◌+◌, ◌<◌, ◌≤◌, List, length, take, codes, Ok, Err};
+ghost use Rattle.wq_groups.specs.Declaration.{IsDeclaration};
 ghost use Rattle.wq_groups.specs.Assignment.{Assignment};
 ghost use Rattle.wq_graph.specs.declared.arc.WaitArc.{WaitArc};
 ghost use Rattle.wq_graph.specs.Graph.{group_graph};
@@ -11,6 +12,8 @@ ghost use Rattle.wq_plan.specs.Plan.{IsPlan};
 ghost use Rattle.wq_commands.specs.Answer.{Answers, declared_waits, text_of_plan, text_of_circle};
 ghost use Rattle.wq_commands.specs.Promise.{KeepsPromise};
 ghost use Rattle.wq_commands.specs.PrintedChecked.{ChecksYes};
+ghost use Rattle.wq_commands.specs.Checking.{Checks};
+ghost use Rattle.wq_commands.specs.Replaying.{Replays};
 ghost use Rattle.wq_commands.specs.Declaration.{Declared, declaration, max_text};
 ghost use Rattle.wq_commands.specs.declared.end.End.{End};
 ghost use Rattle.wq_commands.specs.declared.end.End.TheVariants.{Good, Bad, Refused};
@@ -86,4 +89,36 @@ pub fn an_item_that_flushes_itself_is_a_circle()
 /// So has a group in which one item flushes another: an ordered workqueue executes one item at a time.
 pub fn a_flush_within_an_ordered_line_is_a_circle()
     ensures { Answers (codes "item a\nitem b\nordered a b\nflush a b\n") Bad (codes "circle 1\narc a b\n") }
+{}
+
+/// A declaration and a certificate have one answer of `check` at most: one end, and one text that is printed.
+pub fn a_check_has_one_answer()
+    ensures end { (text claim : List ℕ) (end other : End) (out printed : List ℕ) →
+        Checks text claim end out → Checks text claim other printed → end ≡ other }
+    ensures out { (text claim : List ℕ) (end other : End) (out printed : List ℕ) →
+        Checks text claim end out → Checks text claim other printed → out ≡ printed }
+{}
+
+/// They have an answer.
+pub fn a_check_has_an_answer()
+    ensures { (text claim : List ℕ) → (end : End) × (out : List ℕ) × Checks text claim end out }
+{}
+
+/// A declaration, an assignment and a run have one answer of `replay` at most: one end, and one text that is printed.
+pub fn a_replay_has_one_answer()
+    ensures end { (text lanes steps : List ℕ) (end other : End) (out printed : List ℕ) →
+        Replays text lanes steps end out → Replays text lanes steps other printed → end ≡ other }
+    ensures out { (text lanes steps : List ℕ) (end other : End) (out printed : List ℕ) →
+        Replays text lanes steps end out → Replays text lanes steps other printed → out ≡ printed }
+{}
+
+/// They have an answer.
+pub fn a_replay_has_an_answer()
+    ensures { (text lanes steps : List ℕ) → (end : End) × (out : List ℕ) × Replays text lanes steps end out }
+{}
+
+/// What a text declares is a declaration: one list of flushes and one group for each item, and at most 16,384 flushes, each
+/// of an item and at a place of its own.
+pub fn what_a_text_declares_is_a_declaration()
+    ensures { (text : List ℕ) (s : Declared) → declaration text ≡ Ok s → IsDeclaration (declared_waits s) }
 {}
