@@ -3,9 +3,8 @@ use Rattle.std.proofs.Common.{◌≡◌, ℕ, ◌+◌, ◌<◌, ◌≤◌, ◌^�
 use Rattle.std.proofs.lemmas.Bool.{cases_lt, lt-ltb}
 use Rattle.std.proofs.lemmas.List.{length-take, take_all, length-map}
 use Rattle.std.proofs.lemmas.List.Elements.{All-map, All-weaker}
-use Rattle.std.specs.Io.KnownBytes.{Consumes}
 use Rattle.std.specs.List.{All}
-use Rattle.std.specs.Prelude.{IfSome, MatchResult, take}
+use Rattle.std.specs.Prelude.{MatchResult, take}
 use Rattle.wq_text.specs.declared.text.TextError.{TextError}
 use Rattle.wq_text.specs.Lines.{lines_of}
 use Rattle.wq_text.specs.Limits.{limit_fault}
@@ -41,8 +40,6 @@ use Rattle.wq_commands.specs.declared.end.End.{End}
 use Rattle.wq_commands.specs.declared.end.End.TheVariants.{Refused}
 use Rattle.wq_commands.specs.Answer.{ends_of}
 use Rattle.wq_commands.specs.Answer.{Answers, AnswersDeclared, refusal_text, declared_waits}
-use Rattle.wq_meter.specs.Meter.{Meter, count_after}
-use Rattle.wq_commands.specs.Run.{IsInput, AnswersInput}
 use Rattle.wq_commands.specs.Declaration.{Declared, max_text, max_line, by_limits, by_directives, by_table, by_groups, declaration}
 
 past_limits : (fault : Option TextError) (rest : Result Declared Refusal) (s : Declared) → by_limits fault rest ≡ Ok s → rest ≡ Ok s
@@ -154,37 +151,9 @@ declaration-take bytes = elim (cases_lt (max_text + 1) (length bytes)) [
   | inr whole ↦ ap declaration (take_all (max_text + 1) bytes whole)
 ]
 
--- the text that a reader had, where what was read is its front
-record HasRead (known : Option (List ℕ)) (read : List ℕ) : Type 0 where
-  text : List ℕ
-  input : IsInput known text
-  front : read ≡ take (max_text + 1) text
-
-HasRead-front : (known : Option (List ℕ)) (read : List ℕ) → IfSome known (λ bytes. read ≡ take (max_text + 1) bytes) → length read ≤ max_text + 1 → HasRead known read
-HasRead-front None read front within = record { text = read; input = tt; front = sym (take_all (max_text + 1) read within) }
-HasRead-front (Some bytes) read front within = record { text = bytes; input = refl; front = front }
-
-Answers-same : (read text : List ℕ) (end : End) (out : List ℕ) → declaration read ≡ declaration text → Answers read end out → Answers text end out
+pub Answers-same : (read text : List ℕ) (end : End) (out : List ℕ) → declaration read ≡ declaration text → Answers read end out → Answers text end out
 Answers-same read text end out same answers =
     subst (λ (d : Result Declared Refusal). MatchResult d (λ s. AnswersDeclared s end out) (λ r. (end ≡ Refused) × (out ≡ refusal_text r))) same answers
-
--- the answer to what was read is that to the text that there was
-pub AnswersInput-read : {R : Type 0} (remaining : R → Option (List ℕ)) (old new : Meter R) (read : List ℕ) (end : End) (out : List ℕ)
-    → IfSome (remaining old.device) (λ bytes. read ≡ take (max_text + 1) bytes) → length read ≤ max_text + 1
-    → Consumes (remaining old.device) (remaining new.device) read → new.bytes ≡ count_after old.bytes (length read) → new.calls ≤ old.calls + (length read + 1)
-    → Answers read end out → AnswersInput remaining old new end out
-AnswersInput-read remaining old new read end out front within consumed counted few_calls answers =
-    let had = HasRead-front (remaining old.device) read front within in
-    record {
-      text = had.text;
-      input = had.input;
-      taken = record {
-        consumed = subst (Consumes (remaining old.device) (remaining new.device)) had.front consumed;
-        counted = subst (λ (bytes : List ℕ). new.bytes ≡ count_after old.bytes (length bytes)) had.front counted;
-        few_calls = subst (λ (bytes : List ℕ). new.calls ≤ old.calls + (length bytes + 1)) had.front few_calls;
-      };
-      answer = Answers-same read had.text end out (ap declaration had.front ∙ declaration-take had.text) answers;
-    }
 
 -- an answer to what a text declares is one to the text
 pub Answers-declared : (text : List ℕ) (s : Declared) (end : End) (out : List ℕ) → declaration text ≡ Ok s → AnswersDeclared s end out → Answers text end out

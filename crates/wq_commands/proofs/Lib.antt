@@ -7,3 +7,6 @@ pub mod CheckLemmas
 pub mod InputLemmas
 pub mod JudgeLemmas
 pub mod PromiseLemmas
+pub mod Refusals
+pub mod CheckAnswers
+pub mod ReplayAnswers

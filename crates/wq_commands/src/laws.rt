@@ -3,6 +3,7 @@
 //! The examples are computed on the definitions, so that a reader can hold these against the format's own.
 
 ghost use Rattle.std.specs.Prelude.{◌≡◌, ℕ, ◌+◌, ◌<◌, ◌≤◌, List, length, take, codes, Ok, Err};
+ghost use Rattle.wq_groups.specs.Declaration.{IsDeclaration};
 ghost use Rattle.wq_groups.specs.Assignment.{Assignment};
 ghost use Rattle.wq_graph.specs.declared.arc.WaitArc.{WaitArc};
 ghost use Rattle.wq_graph.specs.Graph.{group_graph};
@@ -13,6 +14,7 @@ ghost use Rattle.wq_checker.specs.declared.run.RunEnd.TheVariants.{Deadlock};
 ghost use Rattle.wq_commands.specs.Answer.{Answers, declared_waits, text_of_plan, text_of_circle};
 ghost use Rattle.wq_commands.specs.Promise.{KeepsPromise};
 ghost use Rattle.wq_commands.specs.PrintedChecked.{ChecksYes};
+ghost use Rattle.wq_commands.specs.Checking.{Checks};
 ghost use Rattle.wq_commands.specs.Replaying.{replay_words, Replays};
 ghost use Rattle.wq_commands.specs.Deadlocking.{Judges};
 ghost use Rattle.wq_commands.specs.Declaration.{Declared, declaration, max_text};
@@ -103,4 +105,36 @@ pub fn an_assignment_has_one_verdict()
 /// to it.
 pub fn a_printed_run_is_replayed_to_a_deadlock()
     ensures { (declared text out : List ℕ) → Judges declared text Bad out → Replays declared text out Bad (line_text (replay_words Deadlock)) }
+{}
+
+/// A declaration and a certificate have one answer of `check` at most: one end, and one text that is printed.
+pub fn a_check_has_one_answer()
+    ensures end { (text claim : List ℕ) (end other : End) (out printed : List ℕ) →
+        Checks text claim end out → Checks text claim other printed → end ≡ other }
+    ensures out { (text claim : List ℕ) (end other : End) (out printed : List ℕ) →
+        Checks text claim end out → Checks text claim other printed → out ≡ printed }
+{}
+
+/// They have an answer.
+pub fn a_check_has_an_answer()
+    ensures { (text claim : List ℕ) → (end : End) × (out : List ℕ) × Checks text claim end out }
+{}
+
+/// A declaration, an assignment and a run have one answer of `replay` at most: one end, and one text that is printed.
+pub fn a_replay_has_one_answer()
+    ensures end { (text lanes steps : List ℕ) (end other : End) (out printed : List ℕ) →
+        Replays text lanes steps end out → Replays text lanes steps other printed → end ≡ other }
+    ensures out { (text lanes steps : List ℕ) (end other : End) (out printed : List ℕ) →
+        Replays text lanes steps end out → Replays text lanes steps other printed → out ≡ printed }
+{}
+
+/// They have an answer.
+pub fn a_replay_has_an_answer()
+    ensures { (text lanes steps : List ℕ) → (end : End) × (out : List ℕ) × Replays text lanes steps end out }
+{}
+
+/// What a text declares is a declaration: one list of flushes and one group for each item, and at most 16,384 flushes, each
+/// of an item and at a place of its own.
+pub fn what_a_text_declares_is_a_declaration()
+    ensures { (text : List ℕ) (s : Declared) → declaration text ≡ Ok s → IsDeclaration (declared_waits s) }
 {}
