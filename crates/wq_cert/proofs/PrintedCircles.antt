@@ -5,6 +5,8 @@ use Rattle.std.specs.List.{All, AllByRecursion}
 use Rattle.std.specs.Option.{option_map_or}
 use Rattle.std.proofs.lemmas.Bool.{ne_eqb}
 use Rattle.std.proofs.lemmas.List.{length-map}
+use Rattle.wq_text.specs.Lines.{lines_of}
+use Rattle.wq_text.proofs.LimitLaws.{IsShort}
 use Rattle.wq_items.specs.Table.{Table, IsTable}
 use Rattle.wq_groups.specs.Partition.{Partition}
 use Rattle.wq_core.specs.declared.step.Step.{Step}
@@ -19,7 +21,7 @@ use Rattle.wq_cert.specs.Reading.{Read, and_then, and_read, next_lines, arc_read
 use Rattle.wq_cert.specs.RunText.{run_lines, step_line}
 use Rattle.wq_cert.specs.Texts.{max_text, answer_of}
 use Rattle.wq_cert.proofs.ListLemmas.{AllByRecursion-append}
-use Rattle.wq_cert.proofs.PrintedLines.{IsPrintableLine, numbered, text_reading-printed, length-lines-le}
+use Rattle.wq_cert.proofs.PrintedLines.{IsPrintableLine, numbered, IsShort-printed, text_reading-printed, length-lines-le}
 use Rattle.wq_cert.proofs.PrintedRuns.{run_reading-printed, IsPrintableLine-run}
 use Rattle.wq_cert.proofs.PrintedWords.{IsPrintable-keyword, IsPrintableLine-count}
 use Rattle.wq_cert.proofs.ReadLines.{next_lines-map, count_reading-printed, each_arc-read, IsPrintableLine-arcs}
@@ -72,6 +74,12 @@ module _ (t : Table) (table : IsTable t) where
   few_steps-text arcs None most = tt
   few_steps-text arcs (Some run) most =
       omega (arith, length-lines-le (circle_lines t.names arcs (Some run)), length-append (map (arc_line t.names) arcs) (run_lines t.names run), length-map run (step_line t.names))
+
+  -- the lines of a text that isn't too long are short enough
+  pub IsShort-circle : (arcs : List (ℕ × ℕ)) (steps : Option (List Step)) → length arcs ≤ 4096 → All (IsNamedArc t.names) arcs
+      → IfSome steps (All (IsNamedStep t.names)) → length (circle_text t.names arcs steps) ≤ max_text → All (IsShort 524288) (lines_of (circle_text t.names arcs steps))
+  IsShort-circle arcs steps few named steps_named most =
+      IsShort-printed (circle_lines t.names arcs steps) (IsPrintableLine-circle arcs steps few named steps_named (few_steps-text arcs steps most))
 
   pub answer_of-circle : (p : Partition) (arcs : List (ℕ × ℕ)) (steps : Option (List Step)) → 0 < length arcs → length arcs ≤ 4096 → All (IsNamedArc t.names) arcs
       → IfSome steps (All (IsNamedStep t.names)) → length (circle_text t.names arcs steps) ≤ max_text

@@ -98,12 +98,16 @@ pub fn a_circle_text_is_read_back()
         answer_of t.names p (circle_text t.names arcs steps) ≡ Ok (OfCircle (record { arcs = arcs; steps = steps })) }
 {}
 
-/// The text of a circle of up to 4,096 arcs and a run of up to 65,536 steps has at most 8,388,608 bytes, so it isn't too
-/// long to be read.
+/// The text of a circle of up to 4,096 arcs and a run of up to 65,536 steps has at most 8,388,608 bytes, and no line of it
+/// has more than 524,288: it is within the limits of what is read.
 pub fn a_circle_text_is_within_the_limits()
-    ensures { (t : Table) (arcs : List (ℕ × ℕ)) (steps : Option (List Step)) → IsTable t → length arcs ≤ 4096 →
+    ensures text { (t : Table) (arcs : List (ℕ × ℕ)) (steps : Option (List Step)) → IsTable t → length arcs ≤ 4096 →
         IfSome steps (All (IsNamedStep t.names)) → IfSome steps (λ run. length run ≤ 65536) →
         length (circle_text t.names arcs steps) ≤ max_text }
+    ensures lines { (t : Table) (arcs : List (ℕ × ℕ)) (steps : Option (List Step)) → IsTable t → length arcs ≤ 4096 →
+        All (IsNamedArc t.names) arcs → IfSome steps (All (IsNamedStep t.names)) →
+        IfSome steps (λ run. length run ≤ 65536) →
+        All (λ (line : LineView). length line.bytes ≤ max_line) (lines_of (circle_text t.names arcs steps)) }
 {}
 
 /// The text of a plan of up to 4,096 workqueues and 4,095 arcs says its assignment and its chain, of one group more than

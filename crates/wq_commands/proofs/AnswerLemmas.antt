@@ -1,5 +1,5 @@
 -- What a text declares is a declaration, and its plan or its circle has a text.
-use Rattle.std.proofs.Common.{◌≡◌, ℕ, ◌+◌, ◌<◌, ◌≤◌, ◌^◌, List, length, map, Option, Some, None, Result, Ok, Err, refl, sym, ap, subst, ◌∙◌, arith, inl, inr}
+use Rattle.std.proofs.Common.{◌≡◌, ℕ, ◌+◌, ◌<◌, ◌≤◌, List, length, map, Option, Some, None, Result, Ok, Err, refl, sym, ap, subst, ◌∙◌, arith, inl, inr}
 use Rattle.std.proofs.lemmas.Bool.{cases_lt, lt-ltb}
 use Rattle.std.proofs.lemmas.List.{length-take, take_all, length-map}
 use Rattle.std.proofs.lemmas.List.Elements.{All-map, All-weaker}
@@ -30,12 +30,12 @@ use Rattle.wq_graph.specs.Graph.{IsArc, group_graph}
 use Rattle.wq_graph.proofs.Arcs.{src-below}
 use Rattle.wq_levels.specs.Walks.{IsWalkedCircle}
 use Rattle.wq_plan.specs.LongestChain.{IsLongestChain}
-use Rattle.wq_plan.specs.Solve.{IsPlanned, IsCircled}
+use Rattle.wq_plan.specs.Plan.{IsPlan, chain_of}
+use Rattle.wq_plan.specs.Solve.{IsPlanned}
 use Rattle.wq_plan.proofs.LongestChain.{chain_of-longest}
 use Rattle.wq_plan.proofs.GroupCircles.{IsCircleOfGroups-walked}
 use Rattle.wq_levels.proofs.OneCircle.{IsWalkedCircle-few}
-use Rattle.wq_plan.proofs.Plans.{length-group_graph}
-use Rattle.wq_plan.proofs.Plans.{IsPlan-lanes}
+use Rattle.wq_plan.proofs.Plans.{length-group_graph, IsPlan-lanes}
 use Rattle.wq_commands.specs.declared.end.End.{End}
 use Rattle.wq_commands.specs.declared.end.End.TheVariants.{Refused}
 use Rattle.wq_commands.specs.Answer.{ends_of}
@@ -117,14 +117,18 @@ printable s arcs ends sound few are is =
     }
 
 -- so are those of a plan's chain
+pub ArePrintable-plan : (s : Declared) (a : Assignment) → IsSound s → IsPlan (declared_waits s) a → ArePrintable s.table (map ends_of (chain_of (group_graph (declared_waits s)) a.lane_of_group))
+ArePrintable-plan s a sound plan =
+    let d = declared_waits s in
+    let is = IsDeclaration-sound s sound in
+    let chain = chain_of (group_graph d) a.lane_of_group in
+    let longest : IsLongestChain d a chain = chain_of-longest d is a plan in
+    let few : a.lanes ≤ d.groups = IsPlan-lanes d is a plan in
+    printable s chain (map ends_of chain) sound (omega (arith, longest.count, few, is.partition.few_groups, is.partition.few_items)) (λ k x within. (longest.arcs k x within).declared) refl
+
 pub ArePrintable-planned : (s : Declared) (a : Assignment) (chain : List WaitArc) (ends : List (ℕ × ℕ)) → IsSound s → IsPlanned (declared_waits s) a chain
     → ends ≡ map ends_of chain → ArePrintable s.table ends
-ArePrintable-planned s a chain ends sound planned is =
-    let d = declared_waits s in
-    let declaration = IsDeclaration-sound s sound in
-    let longest : IsLongestChain d a chain = subst (IsLongestChain d a) (sym planned.longest) (chain_of-longest d declaration a planned.plan) in
-    let few : a.lanes ≤ d.groups = IsPlan-lanes d declaration a planned.plan in
-    printable s chain ends sound (omega (arith, longest.count, few, declaration.partition.few_groups, declaration.partition.few_items)) (λ k x within. (longest.arcs k x within).declared) is
+ArePrintable-planned s a chain ends sound planned is = subst (ArePrintable s.table) (sym (is ∙ ap (map ends_of) planned.longest)) (ArePrintable-plan s a sound planned.plan)
 
 -- and those of a circle
 pub IsWalkedCircle-short : (s : Declared) (circle : List WaitArc) → IsSound s → IsWalkedCircle (group_graph (declared_waits s)) circle → length circle ≤ 4096
@@ -134,10 +138,10 @@ IsWalkedCircle-short s circle sound walked =
     let few : length circle ≤ length (group_graph d) = IsWalkedCircle-few (group_graph d) circle walked in
     omega (arith, few, length-group_graph d, is.partition.few_groups, is.partition.few_items)
 
-pub ArePrintable-circled : (s : Declared) (circle : List WaitArc) (ends : List (ℕ × ℕ)) → IsSound s → IsCircled (declared_waits s) circle
+pub ArePrintable-walked : (s : Declared) (circle : List WaitArc) (ends : List (ℕ × ℕ)) → IsSound s → IsWalkedCircle (group_graph (declared_waits s)) circle
     → ends ≡ map ends_of circle → ArePrintable s.table ends
-ArePrintable-circled s circle ends sound circled is =
-    printable s circle ends sound (IsWalkedCircle-short s circle sound circled.walked) (IsCircleOfGroups-walked (declared_waits s) (IsDeclaration-sound s sound) circle circled.walked).declared is
+ArePrintable-walked s circle ends sound walked is =
+    printable s circle ends sound (IsWalkedCircle-short s circle sound walked) (IsCircleOfGroups-walked (declared_waits s) (IsDeclaration-sound s sound) circle walked).declared is
 
 -- ---- the text that was read, and the text that there was
 

@@ -1,4 +1,5 @@
 pub mod AnswerLemmas
+pub mod CircleRuns
 pub mod Examples
 pub mod Existence
 pub mod TextLength
