@@ -21,6 +21,7 @@ use Rattle.wq_cert.specs.Ranges.{IsAssignmentOf, IsRunOf, IsPlanOf, IsCircleOf, 
 use Rattle.wq_cert.specs.Reading.{and_then, plan_reading, circle_reading, run_reading, queues_reading, answer_reading, assignment_reading, assignment_of}
 use Rattle.wq_cert.specs.Spelled.{words_in, AreQueues, SpellsPlan, SpellsRun, SpellsRunBehind, SpellsCircle, SpellsQueues}
 use Rattle.wq_cert.specs.Texts.{max_text, max_line, by_limits, text_reading, answer_of, assignment_of_text, run_of}
+use Rattle.wq_cert.proofs.ListLemmas.{length-filter-le}
 use Rattle.wq_cert.proofs.SpelledLines.{Follows-and_then, same_ok}
 use Rattle.wq_cert.proofs.SpelledTexts.{SpellsRun-run_reading, SpellsCircle-circle_reading, SpellsQueues-queues_reading, SpellsPlan-plan_reading}
 use Rattle.wq_cert.proofs.QueueLanes.{IsAssignmentOf-queues}
@@ -44,20 +45,12 @@ length-lines_from : (n start : ℕ) (ps : List Piece) → length (lines_from n s
 length-lines_from n start [] = refl
 length-lines_from n start (p ∷ ps) = ap suc (length-lines_from (n + 1) (start + taken p) ps)
 
-length-filter : {X : Type 0} (test : X → Bool) (xs : List X) → length (filter test xs) ≤ length xs
-length-filter test [] = omega arith
-length-filter test (x ∷ xs) = chosen (test x) (length-filter test xs)
-  where
-    chosen : (b : Bool) → length (filter test xs) ≤ length xs → length (cond b (x ∷ filter test xs) (filter test xs)) ≤ length (x ∷ xs)
-    chosen true few = omega arith
-    chosen false few = omega arith
-
 pub length-cert_lines : (text : List ℕ) → length (cert_lines (lines_of text)) ≤ length text
 length-cert_lines text =
     omega (
       arith,
       length-map (filter holds_word (lines_of text)) cert_line,
-      length-filter holds_word (lines_of text),
+      length-filter-le holds_word (lines_of text),
       length-lines_from 1 0 (pieces text),
       length-pieces text,
     )

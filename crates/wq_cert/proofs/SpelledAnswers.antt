@@ -36,6 +36,18 @@ module _ {V : Type 0} (read : List CertLine → Result V CertError) (text : List
 
 -- ---- lines
 
+-- a circle, whatever the groups: the first word decides that it is one
+pub answer_reading-circle : (names : List (List ℕ)) (p : Partition) → AllPairs (λ (a b : List ℕ). a ≢ b) names → (lines : List CertLine) (c : CircleCertificate) → SpellsCircle names (words_in lines) c
+    → answer_reading names p lines ≡ Ok (OfCircle c)
+answer_reading-circle names p differ [] c spells = absurd (let words = spells.words in cc)
+answer_reading-circle names p differ (line ∷ lines) c spells =
+    let words = spells.words in
+    let first : line.words ≡ circle_line c.arcs = cc in
+    let circle = and_then circle_answer (circle_reading names (line ∷ lines)) in
+    let plan = and_then plan_answer (plan_reading names p (line ∷ lines)) in
+    ap (λ (ws : List (List ℕ)). cond (begins_with (codes "circle") ws) circle plan) first
+    ∙ ap (and_then circle_answer) (circle_reading-SpellsCircle names differ (line ∷ lines) c spells)
+
 module _ (names : List (List ℕ)) (p : Partition) (one_group_each : length names ≡ length p.group_of) where
   SpellsCertificate-read : (lines : List CertLine) (c : Certificate) → IsReadAs names p lines c → SpellsCertificate names p (words_in lines) c
   SpellsCertificate-read lines (OfPlan c) e = SpellsPlan-plan_reading names p one_group_each lines c e
@@ -60,8 +72,8 @@ module _ (names : List (List ℕ)) (p : Partition) (one_group_each : length name
   module _ (differ : AllPairs (λ (a b : List ℕ). a ≢ b) names) where
     -- the first word decides what is read
     answer_reading-spelled : (lines : List CertLine) (c : Certificate) → SpellsCertificate names p (words_in lines) c → answer_reading names p lines ≡ Ok c
+    answer_reading-spelled lines (OfCircle c) spells = answer_reading-circle names p differ lines c spells
     answer_reading-spelled [] (OfPlan c) spells = absurd (let words = spells.words in cc)
-    answer_reading-spelled [] (OfCircle c) spells = absurd (let words = spells.words in cc)
     answer_reading-spelled (line ∷ lines) (OfPlan c) spells =
         let words = spells.words in
         let first : line.words ≡ plan_line (length spells.queues) = cc in
@@ -69,13 +81,6 @@ module _ (names : List (List ℕ)) (p : Partition) (one_group_each : length name
         let plan = and_then plan_answer (plan_reading names p (line ∷ lines)) in
         ap (λ (ws : List (List ℕ)). cond (begins_with (codes "circle") ws) circle plan) first
         ∙ ap (and_then plan_answer) (plan_reading-SpellsPlan names p one_group_each differ (line ∷ lines) c spells)
-    answer_reading-spelled (line ∷ lines) (OfCircle c) spells =
-        let words = spells.words in
-        let first : line.words ≡ circle_line c.arcs = cc in
-        let circle = and_then circle_answer (circle_reading names (line ∷ lines)) in
-        let plan = and_then plan_answer (plan_reading names p (line ∷ lines)) in
-        ap (λ (ws : List (List ℕ)). cond (begins_with (codes "circle") ws) circle plan) first
-        ∙ ap (and_then circle_answer) (circle_reading-SpellsCircle names differ (line ∷ lines) c spells)
 
     pub answer_of-spelled : (text : List ℕ) (c : Certificate) → KeepsLimits text × SpellsCertificate names p (words_of_text text) c → answer_of names p text ≡ Ok c
     answer_of-spelled text c h =
