@@ -1,15 +1,10 @@
 -- Forms: a number by its one spelling, and names one after the other.
-use Rattle.std.proofs.Common.{◌≡◌, ℕ, ◌^◌, Bool, true, false, ◌&&◌, cond, ltb, List, [], ◌∷◌, ◌++◌, Option, Some, None, refl, sym, ap, ap₂, ◌∙◌, arith, append_assoc, append-nil, lt-ltb, ltb-true}
-use Rattle.std.specs.Prelude.{IfSome, IfNone, option_map, bytes_eq, decimal}
+use Rattle.std.proofs.Common.{◌≡◌, ℕ, List, [], ◌∷◌, ◌++◌, Option, Some, None, refl, sym, ap, ◌∙◌, append_assoc, append-nil}
+use Rattle.std.specs.Prelude.{IfSome, IfNone, option_map}
 use Rattle.std.specs.Option.{option_zip}
-use Rattle.std.specs.Str.Parse.{digits_value, AllDigits}
-use Rattle.std.proofs.lemmas.Bool.{cond-false, false_from_ne_true}
-use Rattle.std.proofs.lemmas.Fmt.{digits_value-decimal}
-use Rattle.std.proofs.lemmas.Str.Parse.{IsNumeralModel, numerals_by_value, tells_digits}
 use Rattle.wq_text.specs.Numbers.{Spells}
 use Rattle.wq_text.specs.Words.{WordView}
 use Rattle.wq_items.specs.Table.{item_named}
-use Rattle.wq_groups.proofs.Among.{same_name, bytes_eq-same}
 use Rattle.wq_cert.specs.Lines.{bytes_of}
 use Rattle.wq_cert.specs.Forms.{number_of, items_of}
 use Rattle.wq_cert.proofs.SpelledNumbers.{Spells-number_of, number_of-Spells}

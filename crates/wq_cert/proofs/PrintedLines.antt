@@ -1,12 +1,11 @@
 -- Printed lines, read back: each is a line of the text, and its words are those that were printed.
-use Rattle.std.proofs.Common.{◌≡◌, ◌≢◌, ℕ, zero, suc, ◌+◌, ◌-◌, ◌*◌, ◌<◌, ◌≤◌, true, false, not, eqb, List, [], ◌∷◌, ◌++◌, length, get_or, refl, sym, ap, subst, ◌∙◌, arith, inl, append_assoc, length-append, Option, Result}
+use Rattle.std.proofs.Common.{◌≡◌, ◌≢◌, ℕ, zero, suc, ◌+◌, ◌-◌, ◌*◌, ◌<◌, ◌≤◌, true, false, not, eqb, List, [], ◌∷◌, ◌++◌, length, get_or, refl, sym, ap, subst, ◌∙◌, arith, inl, append_assoc, length-append}
 use Rattle.std.specs.Prelude.{flat_map}
 use Rattle.std.specs.List.{All, AllByRecursion}
 use Rattle.std.specs.Str.Lines.{strip_carriage_return}
 use Rattle.std.proofs.lemmas.Bool.{ne_eqb}
 use Rattle.std.proofs.lemmas.List.Elements.{All-nil, All-cons}
 use Rattle.wq_text.specs.Comments.{before_comment}
-use Rattle.wq_text.specs.declared.text.TextError.{TextError}
 use Rattle.wq_text.specs.Lines.{LineView, lines_from, lines_of, pieces}
 use Rattle.wq_text.specs.Words.{WordView, words_from, words_of, is_blank, NoBlank, EndsAWord}
 use Rattle.wq_text.proofs.CommentLemmas.{before_comment-IsBeforeComment}
@@ -14,9 +13,8 @@ use Rattle.wq_text.proofs.LimitLaws.{IsShort}
 use Rattle.wq_text.proofs.LineLemmas.{length-line_bytes-le}
 use Rattle.wq_text.proofs.PieceLemmas.{NoFeed, pieces-feed}
 use Rattle.wq_text.proofs.WordLemmas.{words_from-filled}
-use Rattle.wq_cert.specs.declared.fault.CertError.{CertError}
 use Rattle.wq_cert.specs.LineText.{spaced, line_text}
-use Rattle.wq_cert.specs.Lines.{CertLine, bytes_of, holds_word, cert_line, cert_lines}
+use Rattle.wq_cert.specs.Lines.{bytes_of, holds_word, cert_line, cert_lines}
 use Rattle.wq_cert.proofs.ListLemmas.{AllByRecursion-append, AllByRecursion-weaker}
 use Rattle.wq_cert.specs.Spelled.{words_in, words_of_text, KeepsLimits}
 use Rattle.wq_cert.specs.Texts.{max_text}

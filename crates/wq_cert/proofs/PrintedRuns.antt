@@ -1,5 +1,5 @@
 -- Runs as they are printed, read back.
-use Rattle.std.proofs.Common.{◌≡◌, ℕ, ◌+◌, ◌<◌, ◌≤◌, ◌^◌, List, [], ◌∷◌, length, map, Ok, refl, sym, subst, arith}
+use Rattle.std.proofs.Common.{◌≡◌, ℕ, ◌<◌, ◌≤◌, ◌^◌, List, [], ◌∷◌, length, map, Ok, refl, sym, subst, arith}
 use Rattle.std.specs.Prelude.{codes}
 use Rattle.std.specs.Fmt.{decimal}
 use Rattle.std.specs.List.{All, AllByRecursion}

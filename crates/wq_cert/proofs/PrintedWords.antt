@@ -1,21 +1,14 @@
 -- Words that are read as they are printed: numbers, names and keywords.
-use Rattle.std.proofs.Common.{◌≡◌, ◌≢◌, ℕ, ◌<◌, ◌≤◌, ◌^◌, Bool, true, cond, ◌&&◌, ltb, nat_le, List, [], ◌∷◌, length, map, get_or, Option, Some, None, refl, sym, ap, ◌∙◌, arith, IsTrue, option_map}
-use Rattle.std.specs.Prelude.{AllPairs, bytes_eq}
+use Rattle.std.proofs.Common.{◌≡◌, ◌≢◌, ℕ, ◌<◌, ◌≤◌, ◌^◌, true, ◌&&◌, ltb, nat_le, List, [], ◌∷◌, length, map, ap, arith, IsTrue}
 use Rattle.std.specs.Fmt.{decimal}
 use Rattle.std.specs.List.{All, AllByRecursion, list_all}
-use Rattle.std.specs.Option.{option_zip}
-use Rattle.std.specs.Str.Parse.{AllDigits, digits_value}
-use Rattle.std.proofs.lemmas.Bool.{lt-ltb, ltb-true, leb-true, and_parts}
+use Rattle.std.specs.Str.Parse.{AllDigits}
+use Rattle.std.proofs.lemmas.Bool.{ltb-true, leb-true, and_parts}
 use Rattle.std.proofs.lemmas.Bool.Decides.{nat_tests}
-use Rattle.std.proofs.lemmas.Fmt.{decimal_nonempty, digits_decimal, digits_value-decimal, length-decimal-le}
-use Rattle.std.proofs.lemmas.Slice.Eq.{bytes_eq-Decides}
-use Rattle.std.proofs.lemmas.Str.Parse.{IsNumeralModel, numerals_by_value, tells_digits, digit_at}
+use Rattle.std.proofs.lemmas.Fmt.{decimal_nonempty, digits_decimal, length-decimal-le}
+use Rattle.std.proofs.lemmas.Str.Parse.{digit_at}
 use Rattle.wq_items.specs.Names.{is_name, is_name_byte}
-use Rattle.wq_text.proofs.PieceLemmas.{is_false}
-use Rattle.wq_items.specs.Table.{item_named}
-use Rattle.wq_cert.specs.Forms.{number_of, items_of, count_form}
 use Rattle.wq_cert.specs.PlanText.{name_of}
-use Rattle.wq_cert.proofs.ListLemmas.{position-first}
 use Rattle.wq_cert.proofs.PrintedLines.{IsPlain, IsPrintable, IsPrintableLine}
 use Rattle.wq_cert.proofs.SpelledNumbers.{decimals}
 

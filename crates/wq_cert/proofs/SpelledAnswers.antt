@@ -1,5 +1,5 @@
 -- Which texts are read as an answer, an assignment or a run.
-use Rattle.std.proofs.Common.{◌≡◌, ◌≢◌, ℕ, ◌≤◌, ◌⊎◌, inl, inr, Bool, true, false, cond, List, [], ◌∷◌, ◌++◌, length, map, get_or, Option, Some, None, Result, Ok, Err, refl, sym, ap, subst, ◌∙◌}
+use Rattle.std.proofs.Common.{◌≡◌, ◌≢◌, ℕ, inl, inr, Bool, false, cond, List, [], ◌∷◌, length, map, get_or, Option, None, Result, Ok, ap, ◌∙◌}
 use Rattle.std.specs.Prelude.{AllPairs, codes, decimal}
 use Rattle.wq_text.specs.declared.text.TextError.{TextError}
 use Rattle.wq_text.specs.Lines.{lines_of}
@@ -9,13 +9,13 @@ use Rattle.wq_groups.specs.Partition.{Partition}
 use Rattle.wq_groups.specs.Assignment.{Assignment}
 use Rattle.wq_core.specs.declared.step.Step.{Step}
 use Rattle.wq_cert.specs.declared.fault.CertError.{CertError}
-use Rattle.wq_cert.specs.Certificate.{PlanCertificate, CircleCertificate, Certificate, OfPlan, OfCircle}
+use Rattle.wq_cert.specs.Certificate.{CircleCertificate, Certificate, OfPlan, OfCircle}
 use Rattle.wq_cert.specs.Lines.{CertLine, cert_lines}
 use Rattle.wq_cert.specs.Forms.{begins_with}
 use Rattle.wq_cert.specs.PlanText.{plan_line}
 use Rattle.wq_cert.specs.CircleText.{circle_line}
 use Rattle.wq_cert.specs.Reading.{and_then, plan_reading, circle_reading, run_reading, queues_reading, answer_reading, assignment_reading}
-use Rattle.wq_cert.specs.Spelled.{words_in, words_of_text, queue_lines, SpellsPlan, SpellsCircle, SpellsRun, SpellsQueues, SpellsCertificate, SpellsAssignment, KeepsLimits}
+use Rattle.wq_cert.specs.Spelled.{words_in, words_of_text, queue_lines, SpellsCircle, SpellsRun, SpellsCertificate, SpellsAssignment, KeepsLimits}
 use Rattle.wq_cert.specs.Texts.{max_text, max_line, by_limits, text_reading, answer_of, assignment_of_text, run_of}
 use Rattle.wq_cert.proofs.SpelledTexts.{SpellsRun-run_reading, run_reading-SpellsRun, SpellsCircle-circle_reading, circle_reading-SpellsCircle, SpellsQueues-queues_reading, queues_reading-SpellsQueues, SpellsPlan-plan_reading, plan_reading-SpellsPlan}
 use Rattle.wq_cert.proofs.ReadRanges.{IsReadSo-text_reading, IsReadAs, IsReadAs-answer_reading, circle_answer, plan_answer, IsAssignedBy, IsAssignedBy-assignment_reading, of_plan}

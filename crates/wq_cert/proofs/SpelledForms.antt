@@ -1,10 +1,9 @@
 -- What a line says: its words are those of the form.
-use Rattle.std.proofs.Common.{◌≡◌, ◌≢◌, ℕ, ◌<◌, ◌≤◌, ◌^◌, ◌⊎◌, inl, inr, Bool, true, false, cond, ltb, List, [], ◌∷◌, length, map, Option, Some, None, Result, Ok, Err, refl, sym, ap, ap₂, subst, ◌∙◌, arith}
-use Rattle.std.specs.Prelude.{AllPairs, bytes_eq, codes, decimal, ok_or}
+use Rattle.std.proofs.Common.{◌≡◌, ◌≢◌, ℕ, ◌<◌, ◌≤◌, ◌^◌, inl, inr, Bool, cond, List, [], ◌∷◌, length, map, Option, Some, None, refl, ap, ap₂, subst, ◌∙◌, arith}
+use Rattle.std.specs.Prelude.{AllPairs, bytes_eq, codes, decimal}
 use Rattle.std.specs.List.{AllByRecursion}
 use Rattle.std.specs.Option.{option_zip, option_and_then}
-use Rattle.std.proofs.lemmas.Bool.{le-ltb, ltb-false}
-use Rattle.wq_text.specs.Numbers.{Spells}
+use Rattle.std.proofs.lemmas.Bool.{ltb-false}
 use Rattle.wq_items.specs.Table.{item_named}
 use Rattle.wq_groups.proofs.Among.{same_name, bytes_eq-same}
 use Rattle.wq_core.specs.declared.step.Step.{Step}
@@ -14,7 +13,7 @@ use Rattle.wq_cert.specs.PlanText.{name_of, arc_line}
 use Rattle.wq_cert.specs.RunText.{item_in, step_line}
 use Rattle.wq_cert.specs.Ranges.{IsArcOf, IsStepOf}
 use Rattle.wq_cert.specs.Spelled.{queue_line}
-use Rattle.wq_cert.proofs.SpelledNumbers.{guarded, one_of, AreBoth, AreBoth-zip, zip-AreBoth, Spells-number_of, number_of-Spells, Names, Names-item_named, item_named-name_of, AreNames, AreNames-items_of, items_of-names_of}
+use Rattle.wq_cert.proofs.SpelledNumbers.{guarded, one_of, AreBoth-zip, zip-AreBoth, Spells-number_of, number_of-Spells, Names-item_named, item_named-name_of, AreNames-items_of, items_of-names_of}
 
 -- ---- counts
 

@@ -1,5 +1,5 @@
 -- Ranges: what is known of every certificate, assignment and run that is read. Items are counted by their names.
-use Rattle.std.specs.Prelude.{◌≡◌, ℕ, ◌-◌, ◌<◌, ◌≤◌, false, List, length, Option, Some}
+use Rattle.std.specs.Prelude.{◌≡◌, ℕ, ◌-◌, ◌<◌, ◌≤◌, false, List, length, Some}
 use Rattle.std.specs.List.{All}
 use Rattle.wq_groups.specs.Assignment.{Assignment, IsAssignment}
 use Rattle.wq_core.specs.declared.step.Step.{Step}
