@@ -1,9 +1,6 @@
 -- Verdicts on assignments: a text has one, and a run that is printed is replayed to a deadlock.
 use Rattle.std.proofs.Common.{◌≡◌, ℕ, ◌+◌, ◌<◌, ◌≤◌, nat_lt, false, inl, inr, List, length, ◌++◌, Option, Result, Ok, Err, refl, sym, ap, subst, ◌∙◌, arith}
 use Rattle.std.specs.Prelude.{MatchResult, take}
-use Rattle.std.specs.List.{All}
-use Rattle.std.proofs.lemmas.Bool.{le-ltb}
-use Rattle.std.proofs.lemmas.List.Elements.{All-weaker}
 use Rattle.std.proofs.lemmas.Result.{MatchResult-weaker}
 use Rattle.wq_text.specs.Refusal.{Refusal}
 use Rattle.wq_groups.specs.Declaration.{IsDeclaration}
@@ -15,26 +12,17 @@ use Rattle.wq_levels.specs.Walks.{IsWalkedCircle}
 use Rattle.wq_levels.proofs.Existence.{AreRanks-or_walk}
 use Rattle.wq_levels.proofs.OneCircle.{IsWalkedCircle-unique}
 use Rattle.wq_core.specs.declared.step.Step.{Step}
-use Rattle.wq_core.specs.declared.step.Step.TheVariants.{Queue, Cancel, Start, Wait, Over, Finish}
-use Rattle.wq_core.specs.Wiring.{wiring, items, IsWiring}
-use Rattle.wq_core.specs.Runs.{end_of}
+use Rattle.wq_core.specs.Wiring.{wiring}
 use Rattle.wq_core.specs.Deadlock.{IsSafe, DeadlocksBy}
-use Rattle.wq_core.specs.Played.{queue_order}
-use Rattle.wq_core.proofs.Playing.{IsPlayedFrom-exists}
-use Rattle.wq_core.proofs.Sound.{IsSoundState-end_of}
-use Rattle.wq_core.proofs.Wirings.{IsWiring-wiring}
-use Rattle.wq_deadlock.specs.Bounds.{IsNamed}
-use Rattle.wq_deadlock.specs.CircleRun.{IsCircleRun, first_items}
+use Rattle.wq_deadlock.specs.CircleRun.{IsCircleRun}
 use Rattle.wq_deadlock.specs.Verdict.{IsDeadlock}
-use Rattle.wq_deadlock.proofs.Named.{IsNamed-run}
+use Rattle.wq_deadlock.proofs.CircleRuns.{IsCircleRun-exists}
 use Rattle.wq_deadlock.proofs.OnlyRun.{same_circle_run}
 use Rattle.wq_deadlock.proofs.Renumbered.{not_safe-deadlocks}
-use Rattle.wq_deadlock.proofs.RunLengths.{length-once}
-use Rattle.wq_deadlock.proofs.Verdicts.{IsSafeByRanks-ranks, IsRun-first_items, IsDeadlock-walked}
+use Rattle.wq_deadlock.proofs.Verdicts.{IsSafeByRanks-ranks, IsDeadlock-walked}
 use Rattle.wq_meter.specs.Meter.{Meter}
 use Rattle.wq_cert.specs.declared.fault.CertError.{CertError}
 use Rattle.wq_cert.specs.LineText.{line_text}
-use Rattle.wq_cert.specs.Printable.{IsNamedStep}
 use Rattle.wq_cert.specs.Ranges.{IsAssignmentOf}
 use Rattle.wq_cert.specs.Reading.{assignment_reading}
 use Rattle.wq_cert.specs.RunText.{run_text}
@@ -54,6 +42,7 @@ use Rattle.wq_commands.specs.Replaying.{replay_words, AnswersReplay, ReplaysAssi
 use Rattle.wq_commands.proofs.AnswerLemmas.{IsSound, IsSound-declaration, IsDeclaration-sound, declaration-take}
 use Rattle.wq_commands.proofs.CheckLemmas.{MatchResult-ok}
 use Rattle.wq_commands.proofs.InputLemmas.{IsFrontOf}
+use Rattle.wq_commands.proofs.NamedSteps.{IsStepOf-deadlock, length-deadlock}
 
 -- ---- a declaration and an assignment of it
 
@@ -66,38 +55,11 @@ module _ (s : Declared) (sound : IsSound s) (a : Assignment) (assigned : IsAssig
 
   -- ---- the run is printed and read back
 
-  item_below : (i : ℕ) → i < items (wiring (declared_waits s) a) → i < length s.table.names
-  item_below i within = omega (arith, within, sound.table.one_list_each)
-
-  near_lane : (q : ℕ) → q < a.lanes → nat_lt 4095 q ≡ false
-  near_lane q within = le-ltb 4095 q (omega (arith, within, assigned.few))
-
-  IsNamedStep-named : (step : Step) → IsNamed (wiring (declared_waits s) a) step → IsNamedStep s.table.names step
-  IsNamedStep-named (Queue i) h = (item_below i h, refl)
-  IsNamedStep-named (Cancel i) h = (item_below i h, refl)
-  IsNamedStep-named (Start q i) h = (item_below i h.1, near_lane q h.0)
-  IsNamedStep-named (Wait q b) h = (item_below b h.1, near_lane q h.0)
-  IsNamedStep-named (Over q b) h = (item_below b h.1, near_lane q h.0)
-  IsNamedStep-named (Finish q i) h = (item_below i h.1, near_lane q h.0)
-
-  -- its steps have names, on workqueues below 4,096
-  pub IsNamedStep-deadlock : (steps : List Step) → DeadlocksBy (wiring (declared_waits s) a) steps → All (IsNamedStep s.table.names) steps
-  IsNamedStep-deadlock steps deadlocks =
-      let w = wiring (declared_waits s) a in
-      let wired : IsWiring w = IsWiring-wiring (declared_waits s) a is_declaration assigned.assignment in
-      All-weaker (IsNamed w) (IsNamedStep s.table.names) IsNamedStep-named steps (IsNamed-run w steps wired deadlocks.run)
-
-  -- and they are few
-  pub length-deadlock : (steps : List Step) → DeadlocksBy (wiring (declared_waits s) a) steps → length steps ≤ 45056
-  length-deadlock steps deadlocks =
-      let short = length-once (wiring (declared_waits s) a) steps deadlocks.run deadlocks.once in
-      omega (arith, short, is_declaration.one_list_each, is_declaration.partition.few_items, is_declaration.few_flushes)
-
   -- so its text says them
   run_of-deadlock : (steps : List Step) → DeadlocksBy (wiring (declared_waits s) a) steps → run_of s.table.names (run_text s.table.names steps) ≡ Ok steps
   run_of-deadlock steps deadlocks =
-      let named = IsNamedStep-deadlock steps deadlocks in
-      let few : length steps ≤ 65536 = omega (arith, length-deadlock steps deadlocks) in
+      let named = IsStepOf-deadlock s sound a assigned steps deadlocks in
+      let few : length steps ≤ 65536 = omega (arith, length-deadlock s sound a assigned steps deadlocks) in
       run_of-printed s.table sound.table steps named (length-run_text s.table.names sound.table.named steps named few)
 
   ReplaysAssigned-judged : (out : List ℕ) → JudgesAssigned s a Bad out → ReplaysAssigned s a out Bad (line_text (replay_words Deadlock))
@@ -127,13 +89,8 @@ module _ (s : Declared) (sound : IsSound s) (a : Assignment) (assigned : IsAssig
 
   IsDeadlock-exists : (circle : List WaitArc) → IsWalkedCircle (lane_graph (declared_waits s) a) circle → (steps : List Step) × IsDeadlock (declared_waits s) a steps
   IsDeadlock-exists circle walked =
-      let d = declared_waits s in
-      let w = wiring d a in
-      let queued = queue_order w (first_items circle) in
-      let run = IsRun-first_items d a is_declaration assigned.assignment assigned.few circle walked in
-      let play = IsPlayedFrom-exists w (end_of w queued) (IsSoundState-end_of w queued run) in
-      let is_run : IsCircleRun w circle (queued ++ play.0) = record { played = play.0; is_played = play.1; all = refl } in
-      (queued ++ play.0, IsDeadlock-walked d a is_declaration assigned.assignment assigned.few circle walked (queued ++ play.0) is_run)
+      let run = IsCircleRun-exists (declared_waits s) a is_declaration assigned.assignment circle walked in
+      (run.0, IsDeadlock-walked (declared_waits s) a is_declaration assigned.assignment assigned.few circle walked run.0 run.1)
 
   JudgesAssigned-exist : (end : End) × (out : List ℕ) × JudgesAssigned s a end out
   JudgesAssigned-exist = elim (AreRanks-or_walk (lane_graph (declared_waits s) a) graph) [
@@ -230,11 +187,11 @@ pub JudgesInput-read : {D S : Type 0} (known : D → Option (List ℕ)) (assigne
     → IsFrontOf known old new max_text text → IsFrontOf assigned a_old a_new max_certificate lanes → Judges text lanes end out
     → JudgesInput known assigned old new a_old a_new end out
 JudgesInput-read known assigned old new a_old a_new end out text lanes declared assignment answer = record {
-  text = declared.text;
-  declaration = declared.gives;
-  lanes = assignment.text;
-  assignment = assignment.gives;
+  text = declared.given.text;
+  declaration = declared.given.gives;
+  lanes = assignment.given.text;
+  assignment = assignment.given.gives;
   answer =
-      Judges-take end out declared.text assignment.text
-      (subst (λ (t : List ℕ). Judges t (take (max_certificate + 1) assignment.text) end out) declared.front (subst (λ (l : List ℕ). Judges text l end out) assignment.front answer));
+      Judges-take end out declared.given.text assignment.given.text
+      (subst (λ (t : List ℕ). Judges t (take (max_certificate + 1) assignment.given.text) end out) declared.front (subst (λ (l : List ℕ). Judges text l end out) assignment.front answer));
 }

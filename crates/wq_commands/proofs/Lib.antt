@@ -7,6 +7,7 @@ pub mod Uniqueness
 pub mod CheckLemmas
 pub mod InputLemmas
 pub mod JudgeLemmas
+pub mod NamedSteps
 pub mod PromiseLemmas
 pub mod Refusals
 pub mod CheckAnswers

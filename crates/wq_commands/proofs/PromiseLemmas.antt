@@ -40,7 +40,8 @@ use Rattle.wq_commands.proofs.CheckLemmas.{MatchResult-ok}
 use Rattle.wq_commands.specs.Promise.{KeepsPlan, KeepsCircle, KeepsDeclared, KeepsPromise}
 use Rattle.wq_commands.proofs.TextLength.{length-circled}
 use Rattle.wq_commands.proofs.AnswerLemmas.{IsSound, IsSound-declaration, IsDeclaration-sound, ArePrintable, ArePrintable-plan, ArePrintable-walked}
-use Rattle.wq_commands.proofs.CircleRuns.{DeadlocksBy-own_lanes, named_steps}
+use Rattle.wq_commands.proofs.CircleRuns.{DeadlocksBy-own_lanes, IsAssignmentOf-own_lanes}
+use Rattle.wq_commands.proofs.NamedSteps.{IsStepOf-deadlock}
 
 some_same : (a b : ℕ × ℕ) → Some a ≡ Some b → a ≡ b
 some_same a b e = cc
@@ -172,7 +173,7 @@ module _ (s : Declared) (sound : IsSound s) where
       let deadlocks = DeadlocksBy-own_lanes s sound circle steps walked is_run in
       record {
         circle = record { arcs = arcs; steps = Some steps };
-        read = answer_of-circle s.table sound.table s.partition arcs (Some steps) (omega (arith, some, many)) prints.few prints.items (named_steps s sound steps deadlocks) (length-circled s sound circle steps walked is_run);
+        read = answer_of-circle s.table sound.table s.partition arcs (Some steps) (omega (arith, some, many)) prints.few prints.items (IsStepOf-deadlock s sound (own_lanes s.partition.groups) (IsAssignmentOf-own_lanes s sound) steps deadlocks) (length-circled s sound circle steps walked is_run);
         good = record { joined = AllJoin-circle s circle round; deadlocks = deadlocks };
         steps = steps;
         has_run = refl;

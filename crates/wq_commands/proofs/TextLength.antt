@@ -21,7 +21,8 @@ use Rattle.wq_deadlock.specs.CircleRun.{IsCircleRun}
 use Rattle.wq_commands.specs.Answer.{ends_of, declared_waits, text_of_plan, text_of_circle}
 use Rattle.wq_commands.specs.Declaration.{Declared}
 use Rattle.wq_commands.proofs.AnswerLemmas.{IsSound, IsDeclaration-sound, ArePrintable, ArePrintable-plan, IsWalkedCircle-short, ArePrintable-walked}
-use Rattle.wq_commands.proofs.CircleRuns.{DeadlocksBy-own_lanes, few_steps, named_steps}
+use Rattle.wq_commands.proofs.CircleRuns.{DeadlocksBy-own_lanes, IsAssignmentOf-own_lanes}
+use Rattle.wq_commands.proofs.NamedSteps.{IsStepOf-deadlock, length-deadlock}
 
 module _ (s : Declared) (sound : IsSound s) where
   -- ---- a plan of what a text declares
@@ -59,12 +60,12 @@ module _ (s : Declared) (sound : IsSound s) where
     deadlocks = DeadlocksBy-own_lanes s sound circle steps walked is_run
 
     pub few_lines : (length circle ≤ 4096) × (length steps ≤ 45056)
-    few_lines = (IsWalkedCircle-short s circle sound walked, few_steps s sound steps deadlocks)
+    few_lines = (IsWalkedCircle-short s circle sound walked, length-deadlock s sound (own_lanes s.partition.groups) (IsAssignmentOf-own_lanes s sound) steps deadlocks)
 
     pub length-circled : length (text_of_circle s circle steps) ≤ 8388608
     length-circled =
-        let few : length steps ≤ 65536 = omega (arith, few_steps s sound steps deadlocks) in
-        length-circle_text s.table.names sound.table.named (map ends_of circle) (Some steps) ends.few (named_steps s sound steps deadlocks) few
+        let few : length steps ≤ 65536 = omega (arith, length-deadlock s sound (own_lanes s.partition.groups) (IsAssignmentOf-own_lanes s sound) steps deadlocks) in
+        length-circle_text s.table.names sound.table.named (map ends_of circle) (Some steps) ends.few (IsStepOf-deadlock s sound (own_lanes s.partition.groups) (IsAssignmentOf-own_lanes s sound) steps deadlocks) few
 
     pub IsShort-circled : All (IsShort 524288) (lines_of (text_of_circle s circle steps))
-    IsShort-circled = IsShort-circle s.table sound.table (map ends_of circle) (Some steps) ends.few ends.items (named_steps s sound steps deadlocks) length-circled
+    IsShort-circled = IsShort-circle s.table sound.table (map ends_of circle) (Some steps) ends.few ends.items (IsStepOf-deadlock s sound (own_lanes s.partition.groups) (IsAssignmentOf-own_lanes s sound) steps deadlocks) length-circled

@@ -1,13 +1,14 @@
 //! The command `deadlock`: from the bytes of a declaration and an assignment to the bytes of the verdict on it.
 //!
-//! Both texts are read before one is judged, and the answer is made whole before the first byte is written.
+//! The declaration is read first and the assignment next, both before one is judged, and the answer is made whole before
+//! the first byte is written. Takes the time of reading the texts, of the verdict and of writing the answer.
 
 ghost use Rattle.std.specs.Prelude.{◌≡◌, ◌≢◌, ◌≤◌, ◌+◌, ◌⊎◌, ℕ, List, Err, IfOk};
 ghost use Rattle.wq_meter.specs.Meter.{count_after, LosesFront, WritesFront, WritesWhole};
 ghost use Rattle.wq_cert.specs.Texts.{max_text as max_certificate};
 ghost use Rattle.wq_commands.specs.Declaration.{max_text};
 ghost use Rattle.wq_commands.specs.DeadlockInput.{JudgesInput};
-ghost use Rattle.wq_commands.specs.Input.{Gives};
+ghost use Rattle.wq_commands.specs.Input.{AfterGiven, HasFailed, HasGiven};
 ghost use Rattle.wq_commands.specs.declared.end.End.{End};
 
 use crate::check::MAX_CERTIFICATE;
@@ -46,16 +47,14 @@ pub fn deadlock_cmd<D: Read, S: Read, W: Write, A: Allocator + Copy>(
     // What is asked of the readers, whatever the result.
     ensures lost { LosesFront D.remaining declaration.old declaration.new (max_text + 1)
         × LosesFront S.remaining assignment.old assignment.new (max_certificate + 1) }
-    ensures order { (assignment.new ≡ assignment.old)
-        ⊎ ((text : List ℕ) × Gives D.remaining declaration.old declaration.new max_text text) }
+    ensures order { AfterGiven D.remaining declaration.old declaration.new max_text assignment.old assignment.new }
     ensures reads { (declaration.new.calls ≤ declaration.old.calls + (max_text + 1)) × (assignment.new.calls ≤ assignment.old.calls + (max_certificate + 1)) }
     ensures bytes_read { (declaration.new.bytes ≤ declaration.old.bytes + (max_text + 1)) × (assignment.new.bytes ≤ assignment.old.bytes + (max_certificate + 1)) }
 
     // Which fault it is, and of which reader.
     ensures read_failed { result ≡ Err Fault.Read →
-        ((declaration.new.failures ≡ count_after declaration.old.failures 1) × (assignment.new ≡ assignment.old))
-        ⊎ (((text : List ℕ) × Gives D.remaining declaration.old declaration.new max_text text)
-        × (declaration.new.failures ≡ declaration.old.failures) × (assignment.new.failures ≡ count_after assignment.old.failures 1)) }
+        (HasFailed declaration.old declaration.new × (assignment.new ≡ assignment.old))
+        ⊎ (HasGiven D.remaining declaration.old declaration.new max_text × HasFailed assignment.old assignment.new) }
     ensures no_read_failed { result ≢ Err Fault.Read →
         (declaration.new.failures ≡ declaration.old.failures) × (assignment.new.failures ≡ assignment.old.failures) }
     ensures write_failed { result ≡ Err Fault.Write → writer.new.failures ≡ count_after writer.old.failures 1 }

@@ -9,7 +9,8 @@ use Rattle.wq_deadlock.proofs.OwnLanes.{IsAssignment-own_lanes}
 use Rattle.wq_commands.specs.Answer.{ends_of}
 use Rattle.wq_commands.specs.Declaration.{Declared}
 use Rattle.wq_commands.proofs.AnswerLemmas.{IsSound, ArePrintable-walked}
-use Rattle.wq_commands.proofs.CircleRuns.{IsCircleRun-deadlock, few_steps, items_of_steps}
+use Rattle.wq_commands.proofs.CircleRuns.{IsCircleRun-deadlock, IsAssignmentOf-own_lanes}
+use Rattle.wq_commands.proofs.NamedSteps.{item_in-deadlock, length-deadlock}
 use Rattle.wq_commands.proofs.answer.text_of_circle.Goals as goal
 
 pub run_of_groups-requires-clause-unsafe_groups : goal.run_of_groups-requires-clause-unsafe_groups
@@ -33,13 +34,13 @@ pub circle_text-requires-clause-few_steps : goal.circle_text-requires-clause-few
 circle_text-requires-clause-few_steps g c =
     let s : Declared = record { table = c.args.table.now; partition = c.args.groups.now } in
     let sound : IsSound s = record { table = c.len-items.ensures.table; partition = c.len-groups.ensures.partition; one_group_each = c.requires.grouped } in
-    omega (arith, ap length c.as_slice.ensures.value, few_steps s sound c.in_ok-steps.steps.items c.in_ok-steps.ensures.deadlocks)
+    omega (arith, ap length c.as_slice.ensures.value, length-deadlock s sound (own_lanes s.partition.groups) (IsAssignmentOf-own_lanes s sound) c.in_ok-steps.steps.items c.in_ok-steps.ensures.deadlocks)
 
 pub circle_text-requires-clause-step_items : goal.circle_text-requires-clause-step_items
 circle_text-requires-clause-step_items g c =
     let s : Declared = record { table = c.args.table.now; partition = c.args.groups.now } in
     let sound : IsSound s = record { table = c.len-items.ensures.table; partition = c.len-groups.ensures.partition; one_group_each = c.requires.grouped } in
-    subst (All (λ (step : Step). item_in step < length s.table.names)) (sym c.as_slice.ensures.value) (items_of_steps s sound c.in_ok-steps.steps.items c.in_ok-steps.ensures.deadlocks)
+    subst (All (λ (step : Step). item_in step < length s.table.names)) (sym c.as_slice.ensures.value) (item_in-deadlock s sound (own_lanes s.partition.groups) (IsAssignmentOf-own_lanes s sound) c.in_ok-steps.steps.items c.in_ok-steps.ensures.deadlocks)
 
 pub returns : goal.returns
 returns g c =

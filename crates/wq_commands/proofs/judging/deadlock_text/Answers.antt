@@ -1,12 +1,8 @@
-use Rattle.std.proofs.Common.{◌<◌, ◌≤◌, length, arith}
-use Rattle.std.proofs.lemmas.List.Elements.{All-weaker}
-use Rattle.wq_core.specs.declared.step.Step.{Step}
-use Rattle.wq_cert.specs.Printable.{IsNamedStep}
+use Rattle.std.proofs.Common.{◌≤◌, length, arith}
 use Rattle.wq_cert.specs.Ranges.{IsAssignmentOf}
-use Rattle.wq_cert.specs.RunText.{item_in}
 use Rattle.wq_commands.specs.Declaration.{Declared}
 use Rattle.wq_commands.proofs.AnswerLemmas.{IsSound}
-use Rattle.wq_commands.proofs.JudgeLemmas.{IsNamedStep-deadlock, length-deadlock}
+use Rattle.wq_commands.proofs.NamedSteps.{item_in-deadlock, length-deadlock}
 use Rattle.wq_commands.proofs.judging.deadlock_text.Goals as goal
 
 pub run_text-requires-clause-few : goal.run_text-requires-clause-few
@@ -26,6 +22,4 @@ run_text-requires-clause-items g c =
     let a = c.args.assignment.now in
     let lanes : a.lanes ≤ 4096 = omega (arith, c.lanes-lanes.ensures.lanes, c.lanes-lanes.ensures.few) in
     let assigned : IsAssignmentOf s.partition.groups a = record { assignment = record { one_each = c.requires.assigned; within = c.lanes-lanes.ensures.within }; few = lanes } in
-    let names = s.table.names in
-    All-weaker (IsNamedStep names) (λ (step : Step). item_in step < length names) (λ step named. named.0) c.args.steps.now
-    (IsNamedStep-deadlock s sound a assigned c.args.steps.now c.requires.deadlock.deadlocks)
+    item_in-deadlock s sound a assigned c.args.steps.now c.requires.deadlock.deadlocks
