@@ -23,7 +23,9 @@ impl<'a> Declaration<'a> {
     pub fn parse(text: &'a [u8]) -> Result<Self> {
         let mut reader = Reader::default();
         for (at, line) in lines(text).enumerate() {
-            reader.read_line(line).map_err(|error| format!("line {}: {error}", at + 1))?;
+            reader
+                .read_line(line)
+                .map_err(|error| format!("line {}: {error}", at + 1))?;
         }
         Ok(reader.finish())
     }
@@ -32,11 +34,13 @@ impl<'a> Declaration<'a> {
 /// The lines of a text, without their line feeds.
 fn lines(text: &[u8]) -> impl Iterator<Item = &[u8]> {
     let mut start = 0;
-    memchr_iter(b'\n', text).chain(Some(text.len())).map(move |end| {
-        let line = &text[start..end];
-        start = end + 1;
-        line
-    })
+    memchr_iter(b'\n', text)
+        .chain(Some(text.len()))
+        .map(move |end| {
+            let line = &text[start..end];
+            start = end + 1;
+            line
+        })
 }
 
 #[derive(Default)]
@@ -51,7 +55,9 @@ struct Reader<'a> {
 impl<'a> Reader<'a> {
     fn read_line(&mut self, line: &'a [u8]) -> Result<()> {
         let content = &line[..memchr(b'#', line).unwrap_or(line.len())];
-        let mut words = content.split(u8::is_ascii_whitespace).filter(|word| !word.is_empty());
+        let mut words = content
+            .split(u8::is_ascii_whitespace)
+            .filter(|word| !word.is_empty());
         match words.next() {
             None => Ok(()),
             Some(b"item") => self.read_item(words),
@@ -99,7 +105,10 @@ impl<'a> Reader<'a> {
     }
 
     fn find(&self, name: &[u8]) -> Result<usize> {
-        Ok(self.names.get_index_of(name).ok_or("no earlier line declares this item")?)
+        Ok(self
+            .names
+            .get_index_of(name)
+            .ok_or("no earlier line declares this item")?)
     }
 
     /// Numbers the groups in the order of their first-declared members.

@@ -32,7 +32,9 @@ fn wait_graph(declaration: &Declaration) -> WaitGraph {
 fn ranks(graph: &WaitGraph) -> Option<Vec<usize>> {
     let mut ranks = vec![0; graph.node_count()];
     for group in toposort(graph, None).ok()?.into_iter().rev() {
-        let below = graph.neighbors(group).map(|target| ranks[target.index()] + 1);
+        let below = graph
+            .neighbors(group)
+            .map(|target| ranks[target.index()] + 1);
         ranks[group.index()] = below.max().unwrap_or(0);
     }
     Some(ranks)
@@ -42,7 +44,9 @@ fn ranks(graph: &WaitGraph) -> Option<Vec<usize>> {
 fn longest_chain(graph: &WaitGraph, ranks: &[usize]) -> Vec<Flush> {
     let mut chain = Vec::new();
     let highest = ranks.iter().max();
-    let mut next = graph.node_indices().find(|group| Some(&ranks[group.index()]) == highest);
+    let mut next = graph
+        .node_indices()
+        .find(|group| Some(&ranks[group.index()]) == highest);
     while let Some(group) = next {
         let edge = graph
             .edges(group)
@@ -65,7 +69,12 @@ impl<'a> Plan<'a> {
         }
         let chain = longest_chain(&graph, &ranks)
             .into_iter()
-            .map(|flush| (declaration.names[flush.item], declaration.names[flush.target]))
+            .map(|flush| {
+                (
+                    declaration.names[flush.item],
+                    declaration.names[flush.target],
+                )
+            })
             .collect();
         Some(Plan { queues, chain })
     }

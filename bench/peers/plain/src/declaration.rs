@@ -22,7 +22,9 @@ impl<'a> Declaration<'a> {
     pub fn parse(text: &'a [u8]) -> Result<Self> {
         let mut reader = Reader::default();
         for (at, line) in text.split(|byte| *byte == b'\n').enumerate() {
-            reader.read_line(line).map_err(|error| format!("line {}: {error}", at + 1))?;
+            reader
+                .read_line(line)
+                .map_err(|error| format!("line {}: {error}", at + 1))?;
         }
         Ok(reader.finish())
     }
@@ -41,7 +43,9 @@ struct Reader<'a> {
 impl<'a> Reader<'a> {
     fn read_line(&mut self, line: &'a [u8]) -> Result<()> {
         let content = line.split(|byte| *byte == b'#').next().unwrap_or_default();
-        let mut words = content.split(u8::is_ascii_whitespace).filter(|word| !word.is_empty());
+        let mut words = content
+            .split(u8::is_ascii_whitespace)
+            .filter(|word| !word.is_empty());
         match words.next() {
             None => Ok(()),
             Some(b"item") => self.read_item(words),
@@ -90,7 +94,10 @@ impl<'a> Reader<'a> {
     }
 
     fn find(&self, name: &[u8]) -> Result<usize> {
-        Ok(*self.items.get(name).ok_or("no earlier line declares this item")?)
+        Ok(*self
+            .items
+            .get(name)
+            .ok_or("no earlier line declares this item")?)
     }
 
     /// Numbers the groups in the order of their first-declared members.
