@@ -11,42 +11,14 @@ if [[ ! -x $program ]]; then
     exit 2
 fi
 
-exec python3 - "$program" <<'PYTHON'
+PYTHONPATH=$(dirname "$0") exec python3 -B - "$program" <<'PYTHON'
 import os
-import random
-import subprocess
 import sys
-import tempfile
-import time
+
+from measure import FLUSHES, ITEMS, Texts, all_within, chain, declaration, own_workqueues, plan_of, random_flushes, run_text
 
 MOST_SECONDS = 0.5
 MOST_MIB = 64
-ITEMS = 4096
-FLUSHES = 16384
-RUNS = 5
-TIME = "/usr/bin/time"
-
-
-def declaration(flushes):
-    """All items, and of each flush one line."""
-    lines = [f"item i{i:04}\n" for i in range(ITEMS)]
-    lines += [f"flush i{source:04} i{target:04}\n" for source, target in flushes]
-    return "".join(lines)
-
-
-def chain():
-    """The flushes of a chain, each item's flush of the next one four times, and four of the last item's from the first."""
-    return [(i, i + 1) for i in range(ITEMS - 1) for _ in range(4)] + [(0, ITEMS - 1)] * 4
-
-
-def random_flushes():
-    numbers = random.Random(1)
-    return [tuple(sorted(numbers.sample(range(ITEMS), 2))) for _ in range(FLUSHES)]
-
-
-def lanes():
-    """A workqueue for each item."""
-    return "".join(f"wq {i} i{i:04}\n" for i in range(ITEMS))
 
 
 def run_to_the_end(flushes):
@@ -82,68 +54,22 @@ def run_that_waits(flushes):
     return steps
 
 
-def run_text(steps):
-    return f"run {len(steps)}\n" + "".join(steps)
-
-
-def run(program, command, paths, status, answer):
-    """One run: its wall time in seconds, its peak memory in MiB, and whether it ended so and printed this answer."""
-    with tempfile.TemporaryFile() as out, tempfile.NamedTemporaryFile("r") as peak:
-        words = [program, command] + paths
-        if os.access(TIME, os.X_OK):
-            words = [TIME, "-q", "-f", "%M", "-o", peak.name] + words
-        begun = time.perf_counter()
-        child = os.fork()
-        if child == 0:
-            os.dup2(out.fileno(), 1)
-            os.execv(words[0], words)
-        _, ended, usage = os.wait4(child, 0)
-        seconds = time.perf_counter() - begun
-        # The last line is the number. Without TIME it is no less than this interpreter's own memory.
-        kib = int(peak.read().split()[-1]) if words[0] == TIME else usage.ru_maxrss
-        out.seek(0)
-        answered = os.waitstatus_to_exitcode(ended) == status and out.read() == answer
-    return seconds, kib / 1024, answered
-
-
-def plan_of(program, path):
-    """The plan that is printed, with the number of its workqueues."""
-    text = subprocess.run([program, "plan", path], check=True, capture_output=True, text=True).stdout
-    return text, int(text.split(maxsplit=2)[1])
-
-
 def main():
     program = os.path.abspath(sys.argv[1])
-    kept = True
-    with tempfile.TemporaryDirectory() as folder:
-
-        def written(name, text):
-            path = os.path.join(folder, name.replace(" ", "_"))
-            with open(path, "w") as file:
-                file.write(text)
-            return path
-
-        cases = []
-        own = written("lanes", lanes())
+    cases = []
+    with Texts() as texts:
+        own = texts.written("lanes", own_workqueues())
         for name, flushes in [("chain", chain()), ("random flushes", random_flushes())]:
             assert len(flushes) == FLUSHES
-            declared = written(name, declaration(flushes))
+            declared = texts.written(name, declaration(flushes))
             plan, number = plan_of(program, declared)
-            planned = written(f"plan of {name}", plan)
-            cases.append((f"check: {name}, {number} workqueues", "check", [declared, planned], f"yes {number}\n"))
+            planned = texts.written(f"plan of {name}", plan)
+            cases.append((f"check: {name}, {number} workqueues", "check", [declared, planned], 0, f"yes {number}\n"))
             for kind, steps in [("to its end", run_to_the_end(flushes)), ("that waits", run_that_waits(flushes))]:
                 assert len(steps) == 3 * ITEMS + 2 * FLUSHES
-                listed = written(f"{name} {kind}", run_text(steps))
-                cases.append((f"replay: {name}, {len(steps)} steps, {kind}", "replay", [declared, own, listed], "open\n"))
-        for name, command, paths, answer in cases:
-            runs = [run(program, command, paths, 0, answer.encode()) for _ in range(RUNS)]
-            seconds = min(seconds for seconds, _, _ in runs)
-            mib = max(mib for _, mib, _ in runs)
-            answered = all(answered for _, _, answered in runs)
-            good = seconds <= MOST_SECONDS and mib <= MOST_MIB and answered
-            kept = kept and good
-            remark = "" if good else "  FAILED" if answered else f"  FAILED: not {answer.strip()}"
-            print(f"{name:50} {seconds:7.3f} s {mib:7.1f} MiB{remark}")
+                paths = [declared, own, texts.written(f"{name} {kind}", run_text(steps))]
+                cases.append((f"replay: {name}, {len(steps)} steps, {kind}", "replay", paths, 0, "open\n"))
+        kept = all_within(program, cases, MOST_SECONDS, MOST_MIB)
     sys.exit(0 if kept else 1)
 
 

@@ -79,9 +79,9 @@ check 'a plan of lines that end with CR LF, with comments' 0 "$plan" ''
 run plan ordered </dev/null
 check 'a plan with an ordered group' 0 'plan 3\nwq 0 d\nwq 1 b c\nwq 2 a\nchain 3\narc a b\narc c d\n' ''
 run plan circle </dev/null
-check 'a circle' 1 'circle 1\narc a a\n' ''
+check 'a circle and its run' 1 'circle 1\narc a a\nrun 3\nqueue a\nstart 0 a\nwait 0 a\n' ''
 run plan ordered_circle </dev/null
-check 'a circle within an ordered group' 1 'circle 1\narc a b\n' ''
+check 'a circle within an ordered group' 1 'circle 1\narc a b\nrun 4\nqueue a\nqueue b\nstart 0 a\nwait 0 b\n' ''
 run plan refused </dev/null
 check 'a refusal' 2 'refused 8 line 2\n' ''
 run plan grouped_twice </dev/null
@@ -122,10 +122,27 @@ check 'check: a circle with its run' 0 'yes circle 1\n' ''
 run check circle circle_with_open_run </dev/null
 check 'check: a circle with a run that is not stuck' 1 'no 54\n' ''
 
-# Replays.
+# Assignments.
+hangs='run 7\nqueue a\nqueue b\nqueue c\nstart 0 a\nwait 0 b\nstart 1 b\nwait 1 c\n'
 printf 'item a\nitem b\nitem c\nflush a b\nflush b c\n' >chain
 printf 'wq 0 a c\nwq 1 b\n' >lanes
-printf 'run 7\nqueue a\nqueue b\nqueue c\nstart 0 a\nwait 0 b\nstart 1 b\nwait 1 c\n' >deadlock
+printf 'plan 2\nwq 0 a c\nwq 1 b\nchain 0\n' >lanes_of_a_plan
+printf 'wq 0 c\nwq 1 b\nwq 2 a\n' >safe_lanes
+run deadlock chain lanes </dev/null
+check 'deadlock: a run that deadlocks' 1 "$hangs" ''
+run deadlock chain safe_lanes </dev/null
+check 'deadlock: a safe assignment' 0 'safe\n' ''
+run deadlock declaration plan_of_two </dev/null
+check 'deadlock: the plan that is printed' 0 'safe\n' ''
+run deadlock chain lanes_of_a_plan </dev/null
+check 'deadlock: a plan text as an assignment' 1 "$hangs" ''
+run deadlock -- chain lanes </dev/null
+check 'deadlock: two files behind --' 1 "$hangs" ''
+run deadlock <(cat chain) <(cat lanes) </dev/null
+check 'deadlock: two pipes' 1 "$hangs" ''
+
+# Replays.
+printf "$hangs" >deadlock
 printf 'run 6\nqueue a\nqueue b\nqueue c\nstart 0 a\nwait 0 b\nstart 1 b\n' >open
 printf 'run 1\nstart 0 a\n' >unlawful
 printf 'run 7\nqueue a\ncancel a\nqueue a\nqueue b\nqueue c\nstart 0 a\nwait 0 b\n' >unstuck
@@ -134,6 +151,10 @@ run replay chain lanes deadlock </dev/null
 check 'replay: a deadlock' 1 'deadlock\n' ''
 run replay chain lanes open </dev/null
 check 'replay: a run that can go on' 0 'open\n' ''
+run deadlock chain lanes </dev/null
+mv out printed
+run replay chain lanes printed </dev/null
+check 'replay: the run that is printed' 1 'deadlock\n' ''
 run replay chain lanes unlawful </dev/null
 check 'replay: a step that is not lawful' 1 'not lawful 1\n' ''
 run replay chain lanes unstuck </dev/null
@@ -155,6 +176,18 @@ run check declaration <(cat plan_of_two largest_certificate | head -c 8388608) <
 check 'check: a certificate of 8,388,608 bytes' 0 'yes 2\n' ''
 run check declaration <(yes '' 2>/dev/null) </dev/null
 check 'check: a certificate without end' 2 'refused 40 line 0\n' ''
+run deadlock refused too_large_certificate </dev/null
+check 'deadlock: a wrong declaration beside an assignment that is too long' 2 'refused 8 line 2\n' ''
+run deadlock too_large too_large_certificate </dev/null
+check 'deadlock: two texts that are too long' 2 'refused 1 line 0\n' ''
+run deadlock chain too_large_certificate </dev/null
+check 'deadlock: an assignment of 8,388,609 bytes' 2 'refused 40 line 0\n' ''
+run deadlock chain <(cat safe_lanes largest_certificate | head -c 8388608) </dev/null
+check 'deadlock: an assignment of 8,388,608 bytes' 0 'safe\n' ''
+run deadlock chain <(yes '' 2>/dev/null) </dev/null
+check 'deadlock: an assignment without end' 2 'refused 40 line 0\n' ''
+run deadlock chain without_c </dev/null
+check 'deadlock: an assignment without an item' 2 'refused 41 line 0\n' ''
 run replay refused without_c unlawful </dev/null
 check 'replay: a wrong declaration before a wrong assignment' 2 'refused 8 line 2\n' ''
 run replay chain without_c too_large_certificate </dev/null
@@ -197,11 +230,15 @@ for files in 'missing plan_of_two' 'declaration missing' 'folder plan_of_two' 'd
     run check $files </dev/null
     check "check $files" 3 '' 'fault read\n'
 done
+for files in 'missing lanes' 'chain missing' 'folder lanes' 'chain folder' 'refused missing'; do
+    run deadlock $files </dev/null
+    check "deadlock $files" 3 '' 'fault read\n'
+done
 for files in 'missing lanes deadlock' 'chain missing deadlock' 'chain lanes missing' 'refused lanes folder'; do
     run replay $files </dev/null
     check "replay $files" 3 '' 'fault read\n'
 done
-for words in 'check declaration plan_of_two' 'replay chain lanes deadlock'; do
+for words in 'plan circle' 'check declaration plan_of_two' 'deadlock chain lanes' 'replay chain lanes deadlock'; do
     timeout 60 "$program" $words </dev/null >/dev/full 2>err
     status=$?
     : >out
@@ -221,8 +258,9 @@ run plant </dev/null
 check 'an unknown subcommand' 2 '' some
 run plan declaration circle </dev/null
 check 'two FILEs' 2 '' some
-for words in 'check' 'check declaration' 'check declaration plan_of_two lanes' 'replay' 'replay chain' \
-    'replay chain lanes' 'replay chain lanes deadlock open' 'check --fast declaration plan_of_two'; do
+for words in 'check' 'check declaration' 'check declaration plan_of_two lanes' 'deadlock' 'deadlock chain' \
+    'deadlock chain lanes open' 'replay' 'replay chain' 'replay chain lanes' 'replay chain lanes deadlock open' \
+    'check --fast declaration plan_of_two' 'deadlock --fast chain lanes'; do
     run $words </dev/null
     check "$words" 2 '' some
 done
@@ -232,7 +270,8 @@ run help plant </dev/null
 check 'help for an unknown subcommand' 2 '' some
 run plan $'\xff' </dev/null
 check 'an argument that is not UTF-8' 2 '' some
-for words in --help -h help 'help plan' 'plan --help' 'plan -h' 'help check' 'check --help' 'help replay' 'replay -h'; do
+for words in --help -h help 'help plan' 'plan --help' 'plan -h' 'help check' 'check --help' 'help deadlock' \
+    'deadlock --help' 'deadlock -h' 'help replay' 'replay -h'; do
     # Each word is an argument of its own.
     run $words </dev/null
     check "$words" 0 some ''

@@ -6,4 +6,5 @@ cd "$(dirname "$0")/.."
 rt ci
 bash tests/outlives.sh
 bash tests/program.sh
+bash tests/rows.sh
 bash tests/model.sh

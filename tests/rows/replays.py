@@ -1,0 +1,143 @@
+# The command `replay`: declarations, assignments and runs, and how each run ends.
+#
+# The rules are those of "Certificates", "Steps" and "The command `replay`" in docs/FORMAT.md, from
+# which each answer was worked out by hand.
+
+# A declaration of two groups.
+GROUPED = (
+    "item a / item b / item c / item d / ordered a d / ordered b c / flush a b / flush c d"
+)
+
+# A declaration, an assignment and a run, of which one is refused, and the answer.
+REFUSALS = [
+    (GROUPED, "wq 0 a d / wq 1 b / wq 2 c", "nope", "refused 42 line 3"),
+    (GROUPED, "wq 0 a d / wq 1 b", "nope", "refused 41 line 0"),
+    (GROUPED, "wq 1 a d", "nope", "refused 43 line 1"),
+    (GROUPED, "wq 0 a d / wq 1 b c", "nope", "refused 40 line 1"),
+    (GROUPED, "wq 0 a d / wq 1 b c", "", "refused 40 line 0"),
+    # The declaration before the assignment, and that before the run.
+    ("item a / item a", "nope", "nope", "refused 7 line 2"),
+    ("item a", "nope", "nope", "refused 41 line 0"),
+    ("item a", "wq 0 a / nope", "nope", "refused 40 line 2"),
+    ("item a", "wq 0 a", "nope", "refused 40 line 1"),
+    ("item a", "wq 0 a", "run 1 / start 4096 a", "refused 43 line 2"),
+    # Another first word ends the lines of an assignment.
+    ("item a / item b", "wq 0 a / nope", "run 0", "refused 41 line 0"),
+    ("item a / item b", "", "run 0", "refused 41 line 0"),
+    ("item a / item b", "circle 1", "run 0", "refused 41 line 0"),
+    ("", "circle 1", "run 0", "refused 40 line 1"),
+    ("item a", "wq 0 a / wq 1 a", "run 0", "refused 41 line 2"),
+    ("item a", "wq 0 a / wq 2", "run 0", "refused 43 line 2"),
+    ("item a", "wq 0 b", "run 0", "refused 40 line 1"),
+    ("item a", "wq 0 a / wq", "run 0", "refused 40 line 2"),
+    # All lines of a plan text must have their form.
+    ("item a", "plan 1 / wq 0 a", "run 0", "refused 40 line 0"),
+    ("item a", "plan 1 / wq 0 a / chain 0 / wq 1", "run 0", "refused 40 line 4"),
+    ("item a", "plan 2 / wq 0 a / chain 0", "run 0", "refused 40 line 3"),
+    ("item a", "plan 0 / chain 0", "run 0", "refused 41 line 0"),
+]
+
+# A declaration and an assignment, and runs of these, each with its answer.
+REPLAYS = [
+    ("item a / item b / item c / flush a b / flush b c", "wq 0 a c / wq 1 b", [
+        ("run 7 / queue a / queue b / queue c / start 0 a / wait 0 b / start 1 b / wait 1 c",
+         "deadlock"),
+        ("run 6 / queue a / queue b / queue c / start 0 a / wait 0 b / start 1 b", "open"),
+        ("run 1 / start 0 a", "not lawful 1"),
+        # It cancels.
+        ("run 9 / queue a / cancel a / queue a / queue b / queue c / start 0 a / wait 0 b / "
+         "start 1 b / wait 1 c",
+         "stuck"),
+        # It queues an item twice: the second time while it runs.
+        ("run 8 / queue a / queue b / queue c / start 0 a / wait 0 b / start 1 b / wait 1 c / "
+         "queue b",
+         "stuck"),
+    ]),
+    # A whole plan text, whose chain is none, is an assignment too.
+    ("item a / item b / item c / flush a b / flush b c",
+     "plan 2 / wq 0 a c / wq 1 b / chain 2 / arc c a", [
+        ("run 7 / queue a / queue b / queue c / start 0 a / wait 0 b / start 1 b / wait 1 c",
+         "deadlock"),
+    ]),
+    ("item a / item b / flush a a", "wq 0 a b", [
+        # It leaves an item out.
+        ("run 3 / queue a / start 0 a / wait 0 a", "stuck"),
+        ("run 4 / queue a / queue b / start 0 a / wait 0 a", "deadlock"),
+        ("run 4 / queue a / start 0 a / wait 0 a / queue b", "deadlock"),
+        # What is first on the list starts first.
+        ("run 3 / queue b / queue a / start 0 a", "not lawful 3"),
+        ("run 3 / queue b / queue a / start 0 b", "open"),
+        # What is cancelled leaves the list.
+        ("run 5 / queue b / queue a / cancel b / start 0 a / wait 0 a", "stuck"),
+    ]),
+    # An item is said to wait only for what was queued before it began to wait.
+    ("item a / item b / flush a b", "wq 0 b / wq 1 a", [
+        ("run 0", "open"),
+        ("run 1 / queue a", "open"),
+        ("run 2 / queue a / cancel a", "open"),
+        ("run 2 / queue a / start 1 a", "open"),
+        ("run 8 / queue a / queue b / start 1 a / wait 1 b / start 0 b / finish 0 b / over 1 b / "
+         "finish 1 a",
+         "open"),
+        ("run 5 / queue a / start 1 a / wait 1 b / queue b / over 1 b", "open"),
+        ("run 5 / queue a / queue b / start 1 a / wait 1 b / over 1 b", "not lawful 5"),
+        ("run 6 / queue a / queue b / start 1 a / wait 1 b / start 0 b / over 1 b", "not lawful 6"),
+        # Steps that may not be made, each where its rule says no.
+        ("run 2 / queue a / queue a", "not lawful 2"),
+        ("run 1 / cancel a", "not lawful 1"),
+        ("run 3 / queue a / start 1 a / cancel a", "not lawful 3"),
+        ("run 2 / queue a / start 0 a", "not lawful 2"),
+        ("run 2 / queue a / start 2 a", "not lawful 2"),
+        ("run 4 / queue a / start 1 a / queue a / start 1 a", "not lawful 4"),
+        ("run 2 / queue a / wait 1 b", "not lawful 2"),
+        ("run 3 / queue b / start 0 b / wait 0 a", "not lawful 3"),
+        ("run 4 / queue a / start 1 a / wait 1 b / wait 1 b", "not lawful 4"),
+        ("run 5 / queue a / start 1 a / wait 1 b / over 1 b / wait 1 b", "not lawful 5"),
+        ("run 3 / queue a / start 1 a / over 1 b", "not lawful 3"),
+        ("run 4 / queue a / start 1 a / wait 1 b / over 1 a", "not lawful 4"),
+        ("run 4 / queue a / start 1 a / wait 1 b / finish 1 a", "not lawful 4"),
+        ("run 3 / queue a / start 1 a / finish 1 b", "not lawful 3"),
+        # The first of two.
+        ("run 2 / start 0 b / cancel b", "not lawful 1"),
+        ("run 4 / queue b / cancel a / queue b / cancel a", "not lawful 2"),
+        # A run that is refused is not made.
+        ("", "refused 40 line 0"),
+        ("run 1", "refused 40 line 0"),
+        ("run", "refused 40 line 1"),
+        ("queue a", "refused 40 line 1"),
+        ("circle 1 / arc a b", "refused 40 line 1"),
+        ("run 1 / Queue a", "refused 40 line 2"),
+        ("run 1 / queue c", "refused 40 line 2"),
+        ("run 1 / finish a", "refused 40 line 2"),
+        ("run 1 / queue a / queue b", "refused 40 line 3"),
+        ("run 2 / start 0 a /  / nope", "refused 40 line 4"),
+    ]),
+    # Workqueues without items.
+    ("item a / item b / flush a b", "wq 0 b # x /  / wq 1 / wq 2 a", [
+        ("run 2 / queue a / start 2 a", "open"),
+        ("run 2 / queue a / start 1 a", "not lawful 2"),
+    ]),
+    # The flushes of an execution are those that are declared, in their order.
+    ("item a / item b / flush a b a", "wq 0 a / wq 1 b", [
+        ("run 8 / queue a / queue b / start 1 b / finish 1 b / start 0 a / wait 0 b / over 0 b / "
+         "wait 0 a",
+         "deadlock"),
+        ("run 6 / queue a / queue b / start 1 b / finish 1 b / start 0 a / wait 0 a", "stuck"),
+    ]),
+    # An execution that finishes made all of them.
+    ("item a / item b / item c / flush a a / flush b c",
+     "wq 0 a / wq 1 b / wq 2 c", [
+        ("run 9 / queue a / queue b / queue c / start 0 a / wait 0 a / start 2 c / finish 2 c / "
+         "start 1 b / finish 1 b",
+         "stuck"),
+        ("run 11 / queue a / queue b / queue c / start 0 a / wait 0 a / start 2 c / finish 2 c / "
+         "start 1 b / wait 1 c / over 1 c / finish 1 b",
+         "deadlock"),
+        # The other workqueues can go on.
+        ("run 5 / queue a / queue b / queue c / start 0 a / wait 0 a", "open"),
+    ]),
+    ("", "", [
+        ("run 0", "open"),
+        ("run 1", "refused 40 line 0"),
+    ]),
+]
