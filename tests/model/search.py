@@ -296,6 +296,9 @@ def main(arguments):
     seed = arguments[1] if len(arguments) > 1 else DEFAULT_SEED
     count = int(arguments[2]) if len(arguments) > 2 else DEFAULT_DECLARATIONS
     program = os.path.realpath(arguments[0])
+    if arguments[0] != "-" and (not os.access(program, os.X_OK) or os.path.isdir(program)):
+        print(f"search: there is nothing to run at {program}")
+        return 1
 
     looked = 0
     with tempfile.TemporaryDirectory(prefix="search_") as folder:
