@@ -21,7 +21,7 @@ from declaration import Refused, read_declaration  # noqa: E402
 from make_declarations import join  # noqa: E402
 
 DEFAULT_SEED = "1"
-DEFAULT_DECLARATIONS = 400
+DEFAULT_DECLARATIONS = 600
 
 # The numbers of items and of flushes of a declaration, each as often as it stands here. All states
 # of the larger ones take their time.
