@@ -1,6 +1,6 @@
-# Finds a circle among the groups, or among the workqueues, for the model in plan.py and deadlock.py:
-# docs/FORMAT.md, "Circle texts" and "Deadlocking runs". `where` is here, by the name of an item, the
-# number of its group or of its workqueue.
+# Finds a circle among the groups or among the workqueues, for the model in plan.py and deadlock.py:
+# docs/FORMAT.md, "Circle texts" and "Deadlocking runs". `where` has here, by the name of an item,
+# the number of its group or of its workqueue.
 
 
 def arcs_of(flushes, where, count):

@@ -4,8 +4,8 @@
 #
 # It makes up declarations, answers, assignments and runs, gives them to `PROGRAM plan` on standard
 # input, and as files to `PROGRAM check`, `PROGRAM replay` and `PROGRAM deadlock`, and compares the
-# bytes that are printed and the exit status with the model's. Of each command there are the cases at
-# the limits of docs/FORMAT.md and at each place of small texts, once each, and then CASES random
+# bytes that are printed and the exit status with the model's. Of each command there are the cases
+# at the limits of docs/FORMAT.md and at each place of small texts, once each, and then CASES random
 # ones. The same SEED makes the same cases. It fails where an answer differs, and where some kind of
 # answer never came, as may be with few CASES. Before all this the model must answer the worked
 # examples of the page (examples.py).
@@ -32,6 +32,7 @@ sys.dont_write_bytecode = True
 import check  # noqa: E402  (beside this file)
 import deadlock  # noqa: E402
 import examples  # noqa: E402
+import make_assignments  # noqa: E402
 import make_certificates  # noqa: E402
 import make_declarations  # noqa: E402
 import plan  # noqa: E402
@@ -84,8 +85,8 @@ COMMANDS = {
     ),
     "deadlock": (
         deadlock.answer,
-        make_certificates.limit_deadlock_cases,
-        make_certificates.random_deadlock_case,
+        make_assignments.limit_deadlock_cases,
+        make_assignments.random_deadlock_case,
         ["declaration", "assignment"],
         [("safe", 0, r"safe\n"), ("runs", 1, r"run N\nS+")] + CERTIFICATE_REFUSALS,
     ),

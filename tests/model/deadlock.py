@@ -1,6 +1,6 @@
-# A model of `wqplan deadlock DECL ASSIGN`. It says whether an assignment is safe, and prints the run
-# by which the items hang where it isn't, as docs/FORMAT.md asks for in "Deadlocking runs" and "The
-# command `deadlock`". See plan.py for what the model is.
+# A model of `wqplan deadlock DECL ASSIGN`. It says that an assignment is safe, or else prints the
+# run by which the items hang, as docs/FORMAT.md asks for in "Deadlocking runs" and "The command
+# `deadlock`". See plan.py for what the model is.
 
 import collections
 import heapq
@@ -51,8 +51,8 @@ def deadlocking_run(declared, assignment):
     for step in steps:
         state.make(step)
 
-    # A workqueue that can't make a step can't before the item finishes for which it waits, which was
-    # queued once. So it is looked at again only then: `able` has all that can make a step.
+    # A workqueue that can't make a step can't before the item for which it waits has finished. Only
+    # then it is looked at again. So `able` has all workqueues that can make a step.
     able = list(range(assignment.count))
     waiting = collections.defaultdict(list)  # by item, the other workqueues that wait for it
     while able:

@@ -5,8 +5,8 @@
 # unclear. It goes for plain reading, and not for speed. Each part names the section of
 # docs/FORMAT.md that it is from.
 #
-# declaration.py beside it reads declarations; check.py, replay.py and deadlock.py are the model of the
-# other commands. compare.py compares the program with them.
+# declaration.py beside it reads declarations; check.py, replay.py and deadlock.py are the model of
+# the other commands. compare.py compares the program with them.
 
 import sys
 
@@ -62,7 +62,7 @@ def plan_text(items, group_of, arcs):
 
 
 def circle_text(declaration, circle):
-    """Circle texts. `circle` has the arcs of the circle, in the order in which they are followed."""
+    """Circle texts. `circle` has the arcs of the circle in order."""
     lines = [b"circle %d" % len(circle)]
     lines += [b"arc %s %s" % (item, target) for item, target in circle]
     own = Assignment(declaration.group_of, len(declaration.groups))

@@ -5,9 +5,9 @@
 # It makes up small declarations, and for each one all assignments, up to the numbers of the
 # workqueues. Of each assignment it goes through all states that steps lead to, by the rules of
 # docs/FORMAT.md, "Steps", and knows nothing of circles. `PROGRAM deadlock` must answer `safe` where
-# no run ends stuck, and a run where one deadlocks; `PROGRAM plan` must have as many workqueues as the
-# smallest assignment by which no run ends stuck, and a circle where there is none. Where PROGRAM is
-# `-`, the model is asked in its place.
+# no run ends stuck, and where one deadlocks a run that does; `PROGRAM plan` must have as many
+# workqueues as the smallest assignment by which no run ends stuck, and a circle where there is
+# none. Where PROGRAM is `-`, the model is asked in its place.
 
 import os
 import random
@@ -16,27 +16,29 @@ import tempfile
 
 sys.dont_write_bytecode = True
 import compare  # noqa: E402  (beside this file)
-from declaration import read_declaration  # noqa: E402
+from certificate import read_run  # noqa: E402
+from declaration import Refused, read_declaration  # noqa: E402
 from make_declarations import join  # noqa: E402
 
 DEFAULT_SEED = "1"
-DEFAULT_DECLARATIONS = 300
+DEFAULT_DECLARATIONS = 600
 
 # The numbers of items and of flushes of a declaration, each as often as it stands here. All states
 # of the larger ones take their time.
-SIZES = [(1, 1), (1, 2), (2, 1), (2, 2), (2, 3), (3, 1), (3, 2), (3, 3), (4, 2), (4, 3)]
+SIZES = [(1, 1), (1, 2), (2, 1), (2, 2), (2, 3), (2, 4), (3, 1), (3, 2), (3, 3), (3, 4), (3, 4),
+         (4, 2), (4, 3), (4, 3), (4, 4), (4, 4)]
 
 
 # States ------------------------------------------------------------------------------------------
 # There is no end to the numbers of entries and marks, so they are left out of a state. The pending
 # entries of a workqueue stand in the order of their numbers anyway. An item has at most two
-# unfinished entries: one runs, and the one that is pending has the higher number. So all that a mark
+# unfinished entries: one runs, and one is pending, which has the higher number. So all that a mark
 # says of its target is how many of these have a number below it, and this is kept. An entry that is
-# queued later has a higher number than the mark, and doesn't count.
+# queued later has a number that isn't below the mark.
 #
-# A state has a pair for each workqueue: the items of its pending entries, and what runs or None. What
-# runs is the item, the count of its waits, and while it waits its target and how many unfinished
-# entries of the target it waits for; else None and 0.
+# A state has a pair for each workqueue: the items of its pending entries, and what runs, or None.
+# What runs is the item, the count of its waits, and while it waits its target and how many
+# unfinished entries of the target it waits for; else None and 0.
 
 
 def begin(count):
@@ -54,10 +56,9 @@ def runs(state, workqueue, item):
 
 
 def without_one(state, item, count):
-    """The state with an entry of `item` less for each wait for `count` or more of its entries.
+    """The state in which each wait for `count` or more entries of the item is for one less.
 
-    This is what becomes of the waits where one of the item's unfinished entries is gone: the one that
-    runs, for which each of them waits that waits for any, or the last one of `count`.
+    So it is where one of them is gone: the first one, with 1 for `count`, or the last of `count`.
     """
     for workqueue, (pending, running) in enumerate(state):
         if running is not None and running[2] == item and running[3] >= count:
@@ -128,7 +129,7 @@ class Steps:
 
 
 def has_stuck_run(steps, count):
-    """Whether some run ends stuck: items are queued and cancelled at any time, as often as may be."""
+    """Whether some run ends stuck. Items are queued and cancelled at any time, however often."""
     first = begin(count)
     seen = {first}
     left = [first]
@@ -148,7 +149,7 @@ def has_stuck_run(steps, count):
 def is_as_declared(steps, state, step):
     """Whether a run in which each execution flushes as declared makes this step."""
     word, workqueue, name = step
-    if word in (b"start", b"over"):
+    if word not in (b"wait", b"finish"):
         return True
     item, waits, _, _ = state[workqueue][1]
     targets = steps.targets[item]
@@ -177,6 +178,19 @@ def has_deadlock(steps, count):
     return False
 
 
+def is_deadlock(steps, count, run):
+    """Whether this run deadlocks: whether it is one of those that has_deadlock looks for."""
+    state = begin(count)
+    for step in run:
+        behind = dict(steps.all_steps(state))
+        if step not in behind or not is_as_declared(steps, state, step):
+            return False
+        state = behind[step]
+    queued = [name for word, _, name in run if word == b"queue"]
+    once = sorted(queued) == sorted(steps.targets) and all(word != b"cancel" for word, _, _ in run)
+    return once and state != begin(count) and not list(steps.executions(state))
+
+
 # Declarations and assignments --------------------------------------------------------------------
 
 
@@ -187,7 +201,7 @@ def make_declaration(choose):
     lines = [b"item " + name for name in names]
     choose.shuffle(lines)
 
-    left = choose.sample(names, choose.choice([0, 0, count, choose.randint(0, count)]))
+    left = choose.sample(names, choose.choice([0, 0, 0, count, choose.randint(0, count)]))
     while left:
         size = choose.randint(1, len(left))
         lines.append(b"ordered " + b" ".join(left[:size]))
@@ -226,6 +240,13 @@ def assignment_text(declared, parts):
 # The comparison ----------------------------------------------------------------------------------
 
 
+def printed_run_deadlocks(declared, steps, count, printed):
+    try:
+        return is_deadlock(steps, count, read_run(printed, declared))
+    except Refused:
+        return False
+
+
 def look_at_assignment(ask, text, declared, parts):
     """Whether no run ends stuck, and what is wrong with the answer of `deadlock`, or None."""
     count = max(parts, default=-1) + 1
@@ -235,7 +256,7 @@ def look_at_assignment(ask, text, declared, parts):
     assignment = assignment_text(declared, parts)
     printed, status = ask("deadlock", [text, assignment])
     is_safe = (printed, status) == (b"safe\n", 0)
-    is_run = printed.startswith(b"run ") and status == 1
+    is_run = status == 1 and printed_run_deadlocks(declared, steps, count, printed)
     if is_safe != (not stuck) or is_run != deadlocks:
         return not stuck, (
             f"deadlock, {assignment!r}: some run ends stuck: {stuck}, some run deadlocks: "
@@ -264,6 +285,10 @@ def look_at_declaration(ask, text):
     return looked, wrong
 
 
+def ask_model(command, texts):
+    return compare.COMMANDS[command][0](*texts)
+
+
 def main(arguments):
     if not 1 <= len(arguments) <= 3 or not all(word.isdecimal() for word in arguments[2:]):
         print("usage: search.py PROGRAM [SEED] [DECLARATIONS]", file=sys.stderr)
@@ -271,13 +296,16 @@ def main(arguments):
     seed = arguments[1] if len(arguments) > 1 else DEFAULT_SEED
     count = int(arguments[2]) if len(arguments) > 2 else DEFAULT_DECLARATIONS
     program = os.path.realpath(arguments[0])
+    if arguments[0] != "-" and (not os.access(program, os.X_OK) or os.path.isdir(program)):
+        print(f"search: there is nothing to run at {program}")
+        return 1
 
     looked = 0
     with tempfile.TemporaryDirectory(prefix="search_") as folder:
 
         def ask(command, texts):
             if arguments[0] == "-":
-                return compare.COMMANDS[command][0](*texts)
+                return ask_model(command, texts)
             return compare.ask(program, command, texts, folder, 0)[0]
 
         for number in range(count):
