@@ -9,7 +9,7 @@
 # - something to read, which is skipped: the word behind the backticks is `c` or `text`.
 # A page is played in a folder of its own, from top to bottom. Those in examples/ find the files of examples/ there.
 set -u
-program=$(realpath -- "${1:-$(dirname "$0")/../crates/wqplan/out/wqplan}")
+program=$(realpath -m -- "${1:-$(dirname "$0")/../crates/wqplan/out/wqplan}")
 cd -- "$(dirname "$0")/.." || exit 1
 root=$PWD
 if [ ! -x "$program" ]; then
