@@ -46,7 +46,7 @@ play() {
 
 # commands LINE..: plays the commands of a block, each with the lines below it.
 commands() {
-    local line command= wanted=
+    local line command='' wanted=''
     for line; do
         if [ "${line:0:2}" != '$ ' ]; then
             wanted+=$line$'\n'
