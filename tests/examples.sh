@@ -5,7 +5,7 @@
 # are asked: `check` says yes to each plan and circle, `replay` says deadlock of each run.
 # Run it once the gate or `rt run` has built the program. The argument, if there is one, names another program.
 set -u
-program=$(realpath -- "${1:-$(dirname "$0")/../crates/wqplan/out/wqplan}")
+program=$(realpath -m -- "${1:-$(dirname "$0")/../crates/wqplan/out/wqplan}")
 examples=$(realpath -- "$(dirname "$0")/../examples")
 if [ ! -x "$program" ]; then
     echo "examples: there is nothing to run at $program (cd crates/wqplan && rt run builds it)"

@@ -9,7 +9,7 @@
 # - something to read, which is skipped: the word behind the backticks is `c` or `text`.
 # A page is played in a folder of its own, from top to bottom. Those in examples/ find the files of examples/ there.
 set -u
-program=$(realpath -- "${1:-$(dirname "$0")/../crates/wqplan/out/wqplan}")
+program=$(realpath -m -- "${1:-$(dirname "$0")/../crates/wqplan/out/wqplan}")
 cd -- "$(dirname "$0")/.." || exit 1
 root=$PWD
 if [ ! -x "$program" ]; then
@@ -46,7 +46,7 @@ play() {
 
 # commands LINE..: plays the commands of a block, each with the lines below it.
 commands() {
-    local line command= wanted=
+    local line command='' wanted=''
     for line; do
         if [ "${line:0:2}" != '$ ' ]; then
             wanted+=$line$'\n'
