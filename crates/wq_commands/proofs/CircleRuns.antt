@@ -1,4 +1,4 @@
--- The run behind a printed circle: there is one and no other, it deadlocks, and its steps fit the printer.
+-- The run behind a printed circle: there is one, it deadlocks, and its steps fit the printer.
 use Rattle.std.proofs.Common.{◌≡◌, ℕ, ◌<◌, ◌≤◌, false, List, length, refl, sym, subst, arith}
 use Rattle.std.specs.Prelude.{nat_lt}
 use Rattle.std.specs.List.{All}
