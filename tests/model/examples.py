@@ -69,6 +69,9 @@ PLANS = [
     (text("item a / item b / item c / flush a c b / flush b a"),
      "circle 2 / arc a b / arc b a / run 11 / queue a / queue b / queue c / start 0 a / wait 0 c"
      " / start 1 b / wait 1 a / start 2 c / finish 2 c / over 0 c / wait 0 b"),
+    (text("item a / item b / item c / flush a c b / flush b a / flush c a"),
+     "circle 2 / arc a c / arc c a / run 9 / queue a / queue c / queue b / start 0 a / wait 0 c"
+     " / start 1 b / wait 1 a / start 2 c / wait 2 a"),
     (text("item a / item b / item c / flush a b / flush b c / flush c b"),
      "circle 2 / arc b c / arc c b / run 9 / queue b / queue c / queue a / start 0 a / wait 0 b"
      " / start 1 b / wait 1 c / start 2 c / wait 2 b"),
@@ -106,6 +109,7 @@ R = "item a / item b / item c / flush a b / flush b c"
 S = "item a / flush a a"
 T = ITEMS + " / ordered a d / ordered b c / flush a b / flush c d"
 U = ITEMS + " / flush a b / flush c d"
+V = "item z / item a / item b / flush a z b / flush b a"
 TWO = "plan 2 / wq 0 b / wq 1 a / chain 2"
 RUN = "queue a / queue b / queue c / start 0 a / wait 0 b / start 1 b"
 
@@ -152,6 +156,9 @@ DEADLOCKS = [
      "run 8 / queue a / queue c / queue b / queue d / start 0 a / wait 0 b / start 1 c / wait 1 d"),
     (U, "wq 0 b d / wq 1 a c", "safe"),
     (R, "wq 0 a c / wq 1 b", f"run 7 / {RUN} / wait 1 c"),
+    (V, "wq 0 / wq 1 b / wq 2 a / wq 3 z",
+     "run 11 / queue b / queue a / queue z / start 1 b / wait 1 a / start 2 a / wait 2 z / start 3 z"
+     " / finish 3 z / over 2 z / wait 2 b"),
     (T, "wq 0 a d / wq 1 b / wq 2 c", "refused 42 line 3"),
     (T, "wq 0 a d / wq 1 b", "refused 41 line 0"),
     (T, "wq 1 a d", "refused 43 line 1"),
