@@ -22,8 +22,8 @@ use wq_meter::{Fault, Metered, read_text, write_text};
 /// Reads a declaration and then an assignment to their ends, and writes whether the assignment is safe: `safe`, or else the
 /// text of a run by which it deadlocks, or the refusal of the first of the two that is refused.
 ///
-/// At most 1,048,577 bytes of the declaration and 8,388,609 of the assignment are read, in at most as many calls, and of the
-/// assignment nothing before the declaration was given. The errors are `Fault::Read`, where a read failed,
+/// At most 1,048,577 bytes of the declaration and 8,388,609 of the assignment are read, in at most as many calls; the
+/// assignment is untouched until the declaration has been read to its end. The errors are `Fault::Read`, where a read failed,
 /// `Fault::Memory`, and `Fault::Write`, where a write failed or took no byte; after the last one a front of the answer is
 /// written, and after the others nothing.
 pub fn deadlock_cmd<D: Read, S: Read, W: Write, A: Allocator + Copy>(

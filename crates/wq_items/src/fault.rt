@@ -1,7 +1,7 @@
 //! Why directives make no table.
 //!
-//! The faults are those of the pass over the items in the table of refusals in docs/FORMAT.md; the rules that they break
-//! stand in its "Items" and "Limits". Each answer takes constant time.
+//! The faults are those of the pass over the items in the table of refusals in docs/FORMAT.md; the rules that they
+//! break stand in its "Items and groups" and "Limits". Each answer takes constant time.
 
 ghost use Rattle.std.specs.Prelude.{◌≡◌};
 ghost use Rattle.wq_items.specs.Building.{item_refusal};

@@ -1,8 +1,8 @@
 //! The items of a declaration and the flushes that they declare: the third pass.
 //!
 //! What the layer above relies on: items and waits are those that the directives declare, or else the answer is the
-//! first fault; and what holds of every table, its limits above all (`IsTable`). The rules are those of "Items" in
-//! docs/FORMAT.md. An item stands for a `struct work_struct`, a flush for `flush_work` in its function
+//! first fault; and what holds of every table, its limits above all (`IsTable`). The rules are those of "Items
+//! and groups" in docs/FORMAT.md. An item stands for a `struct work_struct`, a flush for `flush_work` in its function
 //! (Documentation/core-api/workqueue.rst; kernel/workqueue.c). Of the items that share one ordered workqueue only the
 //! names are looked up here.
 #![tactic(auto)]

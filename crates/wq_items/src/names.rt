@@ -1,7 +1,7 @@
 //! Names, each with its number.
 //!
-//! No name is declared twice, by "Items" in docs/FORMAT.md. A name is found in constant time on average, by its hash;
-//! the names themselves stay in the text.
+//! No name is declared twice, by "Items and groups" in docs/FORMAT.md. A name is found in constant time on average, by
+//! its hash; the names themselves stay in the text.
 
 ghost use Rattle.std.specs.Prelude.{◌≡◌, ◌<◌, ◌+◌, ◌++◌, ◌∷◌, [], List, ℕ, length, None, Some, slice_get, OnOk, OnErr, IfSome};
 ghost use Rattle.wq_items.specs.Table.{item_named};

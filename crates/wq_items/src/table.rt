@@ -1,7 +1,7 @@
 //! The table of items: names, where they stand, and what each item flushes.
 //!
-//! The rules are those of "Items" in docs/FORMAT.md. Of an `ordered` line only the names are looked up here; it changes
-//! nothing in the table.
+//! The rules are those of "Items and groups" in docs/FORMAT.md. Of an `ordered` line only the names are looked up here;
+//! it changes nothing in the table.
 //!
 //! Reading takes time in the number of the words of the declaration, and memory in the number of items and flushes.
 //! Afterwards each question is answered in constant time, but for `find`, which takes the time to hash a name.

@@ -1,7 +1,7 @@
 //! An item by its number, and an item whose flush another one declares.
 //!
-//! The numbers of items and the places of flushes are those of "Items" in docs/FORMAT.md. An item stands for a
-//! `struct work_struct`. Each answer takes constant time.
+//! The numbers of items and the places of flushes are those of "Items and groups" in docs/FORMAT.md. An item stands for
+//! a `struct work_struct`. Each answer takes constant time.
 
 ghost use Rattle.std.specs.Prelude.{◌≡◌, ℕ};
 

@@ -1,7 +1,7 @@
 //! The targets of each item, in order of place.
 //!
-//! They are the waits of "Items" in docs/FORMAT.md. An item without a flush takes no memory for its targets. Each call
-//! takes constant time, a push on average.
+//! They are the waits of "Items and groups" in docs/FORMAT.md. An item without a flush takes no memory for its targets.
+//! Each call takes constant time, a push on average.
 
 ghost use Rattle.std.specs.Prelude.{◌≡◌, ◌<◌, ◌++◌, ◌∷◌, [], List, ℕ, length, slice_set, OnOk, OnErr};
 ghost use Rattle.wq_items.specs.declared.target.Target.{Target};

@@ -47,7 +47,7 @@ fn raise_round<A: Allocator + Copy>(graph: &WaitGraph<A>, ranks: &mut [u16], rou
 
 /// Raises the ranks until each is that of its vertex, or answers `false` where vertices remain: the ranks of these are
 /// then as high as there are vertices.
-pub fn settle<A: Allocator + Copy>(graph: &WaitGraph<A>, ranks: &mut [u16]) -> bool
+pub(crate) fn settle<A: Allocator + Copy>(graph: &WaitGraph<A>, ranks: &mut [u16]) -> bool
     requires one_each { length ranks.old ≡ length graph.now }
     requires lowest { All (λ r. r ≡ 0) ranks.old }
     ensures { MatchBool result (AreRanks graph.now ranks.new) (MarkRemaining graph.now ranks.new) }

@@ -45,7 +45,7 @@ fn way_on<A: Allocator + Copy>(graph: &WaitGraph<A>, ranks: &[u16], vertex: u16)
 }
 
 /// The circle, where ranks as high as there are vertices tell which vertices remain.
-pub fn walk_circle<A: Allocator + Copy>(
+pub(crate) fn walk_circle<A: Allocator + Copy>(
     alloc: A,
     graph: &WaitGraph<A>,
     ranks: &[u16],
