@@ -1,9 +1,15 @@
 #!/usr/bin/env bash
 # Compares the program with the model of it in tests/model, which was written from docs/FORMAT.md
-# alone. Run it once the gate or `rt run` has built the program. Arguments, if there are any, are a
-# seed, the number of random cases of each command, and `--only COMMAND,..`: the commands for which
-# the program is asked.
+# alone, and then with a search over all runs of small declarations. Run it once the gate or
+# `rt run` has built the program. Arguments, if there are any, are a seed, the number of random
+# cases of each command, and `--only COMMAND,..`: the commands for which the program is asked. With
+# --only there is no search.
 set -eu
 cd "$(dirname "$0")/.."
+program=crates/wqplan/out/wqplan
 python3 tests/model/properties.py
-exec python3 tests/model/compare.py crates/wqplan/out/wqplan "$@"
+python3 tests/model/compare.py "$program" "$@"
+case " $* " in
+*" --only "*) ;;
+*) python3 tests/model/search.py "$program" "${1:-1}" ;;
+esac

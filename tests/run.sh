@@ -7,4 +7,6 @@ rt ci
 bash tests/outlives.sh
 bash tests/program.sh
 bash tests/rows.sh
+bash tests/examples.sh
+bash tests/guide.sh
 bash tests/model.sh

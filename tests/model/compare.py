@@ -1,14 +1,18 @@
-# Compares the program with the model of it in plan.py, check.py and replay.py:
+# Compares the program with the model of it in plan.py, check.py, replay.py and deadlock.py:
 #
 #     compare.py PROGRAM [SEED] [CASES] [--only COMMAND,..]
 #
 # It makes up declarations, answers, assignments and runs, gives them to `PROGRAM plan` on standard
-# input, and as files to `PROGRAM check` and `PROGRAM replay`, and compares the bytes that are
-# printed and the exit status with the model's. Of each command there are the cases at the limits of
-# docs/FORMAT.md and at each place of small texts, once each, and then CASES random ones. The same
-# SEED makes the same cases. It fails where an answer differs, and where some kind of answer never
-# came, as may be with few CASES. Before all this the model must answer the worked examples of the
-# page (examples.py).
+# input, and as files to `PROGRAM check`, `PROGRAM replay` and `PROGRAM deadlock`, and compares the
+# bytes that are printed and the exit status with the model's. Of each command there are the cases
+# at the limits of docs/FORMAT.md and at each place of small texts, once each, and then CASES random
+# ones. The same SEED makes the same cases. It fails where an answer differs, and where some kind of
+# answer never came, as may be with few CASES. Before all this the model must answer the worked
+# examples of the page (examples.py).
+#
+# What the program prints is then given back to it: the plans and circles to `PROGRAM check`, the
+# plans as assignments to `PROGRAM deadlock`, and the runs, those behind circles too, to `PROGRAM
+# replay`. It must stand by its answers: `yes`, `safe` and `deadlock`.
 #
 # With --only the program is asked for these commands alone; with `--only none` it isn't run at all.
 # The cases of the other commands are made all the same, and the model's answers must have one of
@@ -16,6 +20,7 @@
 
 import collections
 import concurrent.futures
+import dataclasses
 import os
 import re
 import subprocess
@@ -25,11 +30,14 @@ import traceback
 
 sys.dont_write_bytecode = True
 import check  # noqa: E402  (beside this file)
+import deadlock  # noqa: E402
 import examples  # noqa: E402
+import make_assignments  # noqa: E402
 import make_certificates  # noqa: E402
 import make_declarations  # noqa: E402
 import plan  # noqa: E402
 import replay  # noqa: E402
+from declaration import read_declaration  # noqa: E402
 
 DEFAULT_SEED = "1"
 DEFAULT_CASES = 2_000
@@ -39,7 +47,7 @@ SECONDS_PER_RUN = 30
 
 # Of each command: the model, the cases at the limits, the random cases, the names of the texts, and
 # the kinds of answer, each with its exit status and its form. In a form N is a number, Z one or
-# more names, and A is an `arc` line.
+# more names, A is an `arc` line, and S is a step of a run that is printed.
 DECLARATION_REFUSALS = [
     (f"refusals {code}", 2, rf"refused {code} line N\n") for code in range(1, 13)
 ]
@@ -52,7 +60,8 @@ COMMANDS = {
         lambda: [(what, [text]) for what, text in make_declarations.limit_cases()],
         lambda seed, number: [make_declarations.random_case(seed, number)],
         ["declaration"],
-        [("plans", 0, r"plan N\n(wq N Z\n)*chain N\nA*"), ("circles", 1, r"circle N\nA+")]
+        [("plans", 0, r"plan N\n(wq N Z\n)*chain N\nA*"),
+         ("circles", 1, r"circle N\nA+run N\nS+")]
         + DECLARATION_REFUSALS,
     ),
     "check": (
@@ -74,10 +83,18 @@ COMMANDS = {
          ("not lawful", 1, r"not lawful N\n")]
         + CERTIFICATE_REFUSALS,
     ),
+    "deadlock": (
+        deadlock.answer,
+        make_assignments.limit_deadlock_cases,
+        make_assignments.random_deadlock_case,
+        ["declaration", "assignment"],
+        [("safe", 0, r"safe\n"), ("runs", 1, r"run N\nS+")] + CERTIFICATE_REFUSALS,
+    ),
 }
 
 
 def form(pattern):
+    pattern = pattern.replace("S", r"(queue Z\n|(start|wait|over|finish) N Z\n)")
     pattern = pattern.replace("A", r"(arc Z\n)").replace("N", r"(0|[1-9][0-9]*)")
     return re.compile(pattern.replace("Z", r"[A-Za-z0-9_.-]+( [A-Za-z0-9_.-]+)*").encode())
 
@@ -120,22 +137,67 @@ def ask(program, command, texts, folder, number):
             os.remove(place)
 
 
-def compare(program, command, what, texts, folder, number):
-    """The kind of the model's answer, and where the program's differs, both of them.
+def questions(command, texts, printed):
+    """What the program is asked about its own answer.
 
-    `program` is None where the program isn't asked for this command.
+    Each question is a command, the texts for it, and the answer that must come.
+    """
+    head = printed.split(b"\n", 1)[0]
+    if command == "plan" and head.startswith(b"plan "):
+        yield "check", [texts[0], printed], (head.replace(b"plan", b"yes") + b"\n", 0)
+        yield "deadlock", [texts[0], printed], (b"safe\n", 0)
+    if command == "plan" and head.startswith(b"circle "):
+        yield "check", [texts[0], printed], (b"yes " + head + b"\n", 0)
+        own = [b"wq %d %s\n" % (number, b" ".join(members))
+               for number, members in enumerate(read_declaration(texts[0]).groups)]
+        run = printed[printed.index(b"\nrun ") + 1:]
+        yield "replay", [texts[0], b"".join(own), run], (b"deadlock\n", 1)
+    if command == "deadlock" and head.startswith(b"run "):
+        yield "replay", [*texts, printed], (b"deadlock\n", 1)
+
+
+@dataclasses.dataclass
+class Difference:
+    """Where two answers differ, or there is none."""
+
+    what: str
+    command: str
+    texts: list
+    wanted: tuple = (b"", None)
+    found: tuple = (b"", None)
+    errors: bytes = b""
+
+
+def compare(program, asked, command, what, texts, folder, number):
+    """The kind of the model's answer, how often the program stood by its own, and a Difference.
+
+    The program is asked for the commands in `asked`.
     """
     try:
         wanted = COMMANDS[command][0](*texts)
     except Exception:
-        return None, (what, texts, (b"", None), (b"", None), traceback.format_exc().encode())
+        errors = traceback.format_exc().encode()
+        return None, 0, Difference(what, command, texts, errors=errors)
     kind = kind_of(command, wanted)
     if kind is None:
-        return None, (what, texts, wanted, (b"", None), b"(the model's answer has no form)")
-    if program is None:
-        return kind, None
+        errors = b"(the model's answer has no form)"
+        return None, 0, Difference(what, command, texts, wanted, errors=errors)
+    if command not in asked:
+        return kind, 0, None
     found, errors = ask(program, command, texts, folder, number)
-    return kind, None if found == wanted else (what, texts, wanted, found, errors)
+    if found != wanted:
+        return kind, 0, Difference(what, command, texts, wanted, found, errors)
+
+    stood = 0
+    for question, asked_texts, wanted in questions(command, texts, found[0]):
+        if question in asked:
+            found, errors = ask(program, question, asked_texts, folder, number)
+            if found != wanted:
+                what = f"what {command} answers to {what}"
+                difference = Difference(what, question, asked_texts, wanted, found, errors)
+                return kind, stood, difference
+            stood += 1
+    return kind, stood, None
 
 
 def show_bytes(text, folder, name):
@@ -147,21 +209,27 @@ def show_bytes(text, folder, name):
     return f"{len(text)} bytes, in {place}"
 
 
-def show_difference(seed, command, number, difference, folder):
-    what, texts, (printed, status), (found, found_status), errors = difference
-    print(f"FAILED  {command}, {what} (seed {seed})")
-    for name, text in zip(COMMANDS[command][3], texts):
+def show_difference(seed, number, difference, folder):
+    command = difference.command
+    print(f"FAILED  {command}, {difference.what} (seed {seed})")
+    for name, text in zip(COMMANDS[command][3], difference.texts):
         print(f"    {name}: {show_bytes(text, folder, f'{command}{number}.{name}')}")
-    place = show_bytes(printed, folder, f"{command}{number}.model")
-    print(f"    model:   status {status}, {place}")
-    place = show_bytes(found, folder, f"{command}{number}.program")
-    print(f"    program: status {found_status}, {place}")
-    if errors:
-        print(f"    standard error: {errors.decode(errors='backslashreplace')[-2_000:]}")
+    printed, status = difference.wanted
+    place = show_bytes(printed, folder, f"{command}{number}.wanted")
+    print(f"    wanted:  status {status}, {place}")
+    printed, status = difference.found
+    place = show_bytes(printed, folder, f"{command}{number}.program")
+    print(f"    program: status {status}, {place}")
+    if difference.errors:
+        errors = difference.errors.decode(errors="backslashreplace")
+        print(f"    standard error: {errors[-2_000:]}")
 
 
-def compare_all(program, command, seed, random_count, folder):
-    """Counts the kinds of answer. Returns None where too many answers differ."""
+def compare_all(program, asked, command, seed, random_count, folder):
+    """Counts the kinds of answer, and how often the program stood by its own.
+
+    Returns None where answers differ.
+    """
     _, limit_cases, random_case, _, _ = COMMANDS[command]
     limits = limit_cases()
     numbers = range(len(limits) + random_count)
@@ -172,17 +240,20 @@ def compare_all(program, command, seed, random_count, folder):
             what = f"case {number}: {what}"
         else:
             what, texts = f"case {number}", random_case(seed, number - len(limits))
-        return compare(program, command, what, texts, scratch, number)
+        return compare(program, asked, command, what, texts, scratch, number)
 
     kinds = collections.Counter()
+    stood = 0
     differences = 0
     with tempfile.TemporaryDirectory(prefix="model_") as scratch:
         pool = concurrent.futures.ThreadPoolExecutor(WORKERS)
-        for number, (kind, difference) in zip(numbers, pool.map(compare_case, numbers)):
+        for number, compared in zip(numbers, pool.map(compare_case, numbers)):
+            kind, stood_here, difference = compared
             kinds[kind] += 1
+            stood += stood_here
             if difference is not None:
                 differences += 1
-                show_difference(seed, command, number, difference, folder)
+                show_difference(seed, number, difference, folder)
                 if differences == DIFFERENCES_SHOWN:
                     break
         pool.shutdown(cancel_futures=True)
@@ -190,12 +261,14 @@ def compare_all(program, command, seed, random_count, folder):
         compared = sum(kinds.values())
         print(f"model: {command}: {differences} of the first {compared} cases differ (seed {seed})")
         return None
-    return kinds
+    return kinds, stood
 
 
-def show_counts(command, kinds):
+def show_counts(command, kinds, stood):
     counts = ", ".join(f"{kind}: {kinds[kind]}" for kind, _, _ in KINDS[command])
     print(f"model: {command}: {counts}")
+    if stood:
+        print(f"model: {command}: {stood} times the program stood by its answer")
 
 
 def options(arguments):
@@ -241,13 +314,13 @@ def main(arguments):
     never = []
     different = False
     for command in COMMANDS:
-        asks = command in asked
-        kinds = compare_all(program if asks else None, command, seed, random_count, folder)
-        if kinds is None:
+        compared = compare_all(program, asked, command, seed, random_count, folder)
+        if compared is None:
             different = True
             continue
-        show_counts(command, kinds)
-        agreed += sum(kinds.values()) if asks else 0
+        kinds, stood = compared
+        show_counts(command, kinds, stood)
+        agreed += sum(kinds.values()) if command in asked else 0
         never += [f"{command}: {kind}" for kind, _, _ in KINDS[command] if kinds[kind] == 0]
     if different:
         print("model: FAILED")

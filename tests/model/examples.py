@@ -8,17 +8,30 @@ import sys
 
 sys.dont_write_bytecode = True
 import check  # noqa: E402  (beside this file)
+import deadlock  # noqa: E402
 import plan  # noqa: E402
 import replay  # noqa: E402
 
 
+def join(*lines):
+    return b"".join(line.encode() + b"\n" for line in lines)
+
+
 def text(lines):
     """The bytes of lines that ` / ` parts. None of them may be empty."""
-    return b"".join(line.encode() + b"\n" for line in lines.split(" / ") if line)
+    return join(*(line for line in lines.split(" / ") if line))
 
 
 ITEMS = "item a / item b / item c / item d"
 EMPTY = "plan 0 / chain 0"
+CIRCLE_A = "circle 1 / arc a a / run 3 / queue a / start 0 a / wait 0 a"
+
+# The largest chain, one item too many, and the most flushes.
+MANY_ITEMS = ["item i%04d" % number for number in range(4_097)]
+CHAIN = ["flush i%04d i%04d" % (number, number + 1) for number in range(4_095)]
+CHAIN_WQS = ["wq %d i%04d" % (number, 4_095 - number) for number in range(4_096)]
+CHAIN_ARCS = [line.replace("flush", "arc") for line in CHAIN]
+MANY_FLUSHES = ["flush a" + " a" * 1_024] * 16
 
 # Worked examples: the declaration as bytes, and the answer.
 PLANS = [
@@ -47,14 +60,29 @@ PLANS = [
      "plan 2 / wq 0 a / wq 1 b c d / chain 2 / arc d a"),
     (text(ITEMS + " / flush b d / flush a c d / ordered a b"),
      "plan 2 / wq 0 c d / wq 1 a b / chain 2 / arc b d"),
-    (text("item a / flush a a"), "circle 1 / arc a a"),
-    (text("item a / item b / flush a b / flush b a"), "circle 2 / arc a b / arc b a"),
-    (text("item a / item b / ordered a b / flush a b"), "circle 1 / arc a b"),
-    (text("item a / item b / item c / flush a c b / flush b a"), "circle 2 / arc a b / arc b a"),
+    (text("item a / flush a a"), CIRCLE_A),
+    (text("item a / item b / flush a b / flush b a"),
+     "circle 2 / arc a b / arc b a / run 6 / queue a / queue b / start 0 a / wait 0 b / start 1 b"
+     " / wait 1 a"),
+    (text("item a / item b / ordered a b / flush a b"),
+     "circle 1 / arc a b / run 4 / queue a / queue b / start 0 a / wait 0 b"),
+    (text("item a / item b / item c / flush a c b / flush b a"),
+     "circle 2 / arc a b / arc b a / run 11 / queue a / queue b / queue c / start 0 a / wait 0 c"
+     " / start 1 b / wait 1 a / start 2 c / finish 2 c / over 0 c / wait 0 b"),
+    (text("item a / item b / item c / flush a c b / flush b a / flush c a"),
+     "circle 2 / arc a c / arc c a / run 9 / queue a / queue c / queue b / start 0 a / wait 0 c"
+     " / start 1 b / wait 1 a / start 2 c / wait 2 a"),
     (text("item a / item b / item c / flush a b / flush b c / flush c b"),
-     "circle 2 / arc b c / arc c b"),
+     "circle 2 / arc b c / arc c b / run 9 / queue b / queue c / queue a / start 0 a / wait 0 b"
+     " / start 1 b / wait 1 c / start 2 c / wait 2 b"),
     (text(ITEMS + " / ordered a d / ordered b c / flush a b / flush c d"),
-     "circle 2 / arc a b / arc c d"),
+     "circle 2 / arc a b / arc c d / run 8 / queue a / queue c / queue b / queue d / start 0 a"
+     " / wait 0 b / start 1 c / wait 1 d"),
+    (join(*MANY_ITEMS[:-1], *CHAIN),
+     f"plan 4096 / {' / '.join(CHAIN_WQS)} / chain 4096 / {' / '.join(CHAIN_ARCS)}"),
+    (join(*MANY_ITEMS), "refused 9 line 4097"),
+    (join("item a", *MANY_FLUSHES), CIRCLE_A),
+    (join("item a", *MANY_FLUSHES)[:-1] + b" a\n", "refused 10 line 17"),
     (text("item a / flush a b / item b"), "refused 8 line 2"),
     (text("item a / flush a zz / items b"), "refused 4 line 3"),
     (text("item a / item b / ordered a b / ordered b"), "refused 11 line 4"),
@@ -80,6 +108,8 @@ Q = ITEMS + " / flush a b / flush b c"
 R = "item a / item b / item c / flush a b / flush b c"
 S = "item a / flush a a"
 T = ITEMS + " / ordered a d / ordered b c / flush a b / flush c d"
+U = ITEMS + " / flush a b / flush c d"
+V = "item z / item a / item b / flush a z b / flush b a"
 TWO = "plan 2 / wq 0 b / wq 1 a / chain 2"
 RUN = "queue a / queue b / queue c / start 0 a / wait 0 b / start 1 b"
 
@@ -92,7 +122,7 @@ CHECKS = [
     (P, "circle 1 / arc a b", "no 53 1"),
     (Q, "plan 3 / wq 0 c d / wq 1 b / wq 2 a / chain 3 / arc a b / arc a b", "no 51 2"),
     ("", "plan 1 / wq 0 / chain 1", "no 51 0"),
-    (S, "circle 1 / arc a a / run 3 / queue a / start 0 a / wait 0 a", "yes circle 1"),
+    (S, CIRCLE_A, "yes circle 1"),
     (S, "circle 1 / arc a a / run 2 / queue a / start 0 a", "no 54"),
     (T, "circle 2 / arc a b / arc c d", "yes circle 2"),
     # What stands between the tables.
@@ -120,8 +150,22 @@ REPLAYS = [
     (P, "wq 0 a b / chain 1", "run 0", "refused 40 line 2"),
 ]
 
-STATUSES = {"plan": 0, "yes": 0, "open": 0, "circle": 1, "no": 1, "not": 1, "deadlock": 1,
-            "stuck": 1, "refused": 2}
+# The declaration, the assignment and the answer.
+DEADLOCKS = [
+    (U, "wq 0 a d / wq 1 b c",
+     "run 8 / queue a / queue c / queue b / queue d / start 0 a / wait 0 b / start 1 c / wait 1 d"),
+    (U, "wq 0 b d / wq 1 a c", "safe"),
+    (R, "wq 0 a c / wq 1 b", f"run 7 / {RUN} / wait 1 c"),
+    (V, "wq 0 / wq 1 b / wq 2 a / wq 3 z",
+     "run 11 / queue b / queue a / queue z / start 1 b / wait 1 a / start 2 a / wait 2 z / start 3 z"
+     " / finish 3 z / over 2 z / wait 2 b"),
+    (T, "wq 0 a d / wq 1 b / wq 2 c", "refused 42 line 3"),
+    (T, "wq 0 a d / wq 1 b", "refused 41 line 0"),
+    (T, "wq 1 a d", "refused 43 line 1"),
+]
+
+STATUSES = {"plan": 0, "yes": 0, "open": 0, "safe": 0, "circle": 1, "no": 1, "not": 1,
+            "deadlock": 1, "stuck": 1, "run": 1, "refused": 2}
 
 
 def wanted(answer):
@@ -135,6 +179,8 @@ def failures():
         answers.append((texts, check.answer(*map(text, texts)), wanted(answer)))
     for *texts, answer in REPLAYS:
         answers.append((texts, replay.answer(*map(text, texts)), wanted(answer)))
+    for *texts, answer in DEADLOCKS:
+        answers.append((texts, deadlock.answer(*map(text, texts)), wanted(answer)))
     return [
         f"{what}: the page has {page}, the model has {model}"
         for what, model, page in answers if model != page
@@ -142,7 +188,7 @@ def failures():
 
 
 def count():
-    return len(PLANS) + len(CHECKS) + len(REPLAYS)
+    return len(PLANS) + len(CHECKS) + len(REPLAYS) + len(DEADLOCKS)
 
 
 if __name__ == "__main__":

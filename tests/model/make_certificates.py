@@ -1,15 +1,16 @@
 # Makes up answers, assignments and runs for compare.py and properties.py, each with the declaration
 # that it is for: those at the limits of docs/FORMAT.md, and random ones. The same seed makes the
-# same ones. Most begin with what the model answers or plays, and then something is changed.
+# same ones. Most begin with what the model answers or plays, and then something is changed. The
+# assignments for `deadlock` are in make_assignments.py.
 
 import random
 
 import plan
-from certificate import ARC_LIMIT, LINE_LIMIT, TEXT_LIMIT, WORKQUEUE_LIMIT, Assignment
+from certificate import LINE_LIMIT, TEXT_LIMIT, Assignment
+from deadlock import deadlocking_run
 from declaration import ITEM_LIMIT, read_declaration, split_words
 from make_declarations import (
-    BAD_BYTES, Line, blanks, item_count_of, join, make_lines, make_names, numbered_items,
-    put_faults, spell,
+    BAD_BYTES, Line, item_count_of, join, make_lines, numbered_items, put_faults, spell,
 )
 from steps import State
 
@@ -80,6 +81,12 @@ def any_assignment(choose, declared):
 
 def own_assignment(declared):
     return [list(members) for members in declared.groups]
+
+
+def assignment_of(wqs):
+    """The assignment as the model has it."""
+    workqueue_of = {name: number for number, names in enumerate(wqs) for name in names}
+    return Assignment(workqueue_of, len(wqs))
 
 
 def parts_of(choose, declared, names):
@@ -320,8 +327,7 @@ def near_step(choose, declared, wqs, state):
 
 def play(choose, declared, wqs, first):
     """The steps of a random player, who queues the items in `first` before others."""
-    workqueue_of = {name: number for number, names in enumerate(wqs) for name in names}
-    state = State(declared, Assignment(workqueue_of, len(wqs)))
+    state = State(declared, assignment_of(wqs))
     others = [item for item in declared.items if item not in first]
     choose.shuffle(others)
     left = first + others
@@ -403,7 +409,10 @@ def change_steps(choose, declared, wqs, steps):
 
 
 def make_run_lines(choose, declared, wqs, first):
-    steps = play(choose, declared, wqs, first)
+    """A run: the deadlocking one, or that of a random player, with changes or without."""
+    steps = deadlocking_run(declared, assignment_of(wqs)) if choose.random() < 0.3 else []
+    if not steps:
+        steps = play(choose, declared, wqs, first)
     if declared.items and choose.random() < 0.25:
         change_steps(choose, declared, wqs, steps)
     return [numbered(b"run", len(steps))] + [spelled_step(step) for step in steps]
@@ -415,7 +424,7 @@ def make_run_lines(choose, declared, wqs, first):
 def make_circle_lines(choose, declared, answer):
     """A circle text, with a run behind it or without, with changes or without."""
     if answer[0][0] == b"circle":
-        arcs = [tuple(words[1:]) for words in answer[1:]]
+        arcs = [tuple(words[1:]) for words in answer if words[0] == b"arc"]
     else:
         arcs = [any_arc(choose, declared) for _ in range(choose.choice([0, 1, 1, 2, 3]))]
     # Who begins with the items of the circle comes to a deadlock.
@@ -610,7 +619,7 @@ def random_replay_case(seed, number):
         wqs = any_assignment(choose, declared)
     first = []
     if answer[0][0] == b"circle" and choose.random() < 0.5:
-        first = list(dict.fromkeys(words[1] for words in answer[1:]))
+        first = list(dict.fromkeys(words[1] for words in answer if words[0] == b"arc"))
     run = make_run_lines(choose, declared, wqs, first)
     assignment = make_assignment_lines(choose, declared, wqs)
     return [text, spelled(choose, declared, assignment, 0.15), spelled(choose, declared, run, 0.15)]
@@ -645,6 +654,22 @@ def faults_everywhere(certificate):
                 yield f"{what} is {other!r}", text(front, [before + [other] + behind], back)
 
 
+# Workqueues with several faults on one line, and on two.
+GROUPED = join(b"item a", b"item b", b"item c", b"item d", b"ordered a d", b"ordered b c")
+SEVERAL_FAULTS = [front + text + b"\n" for text in [
+    b"wq 2 zz", b"wq 007 a", b"wq 2 d", b"wq 2 b b", b"wq 1 zz b b", b"wq 1 zz d", b"wq 1 a d",
+    b"wq 1 d a", b"wq 1 d b b", b"wq 1 b c d", b"wq 1 b b", b"wq 2 a", b"wq 1 b c", b"wq 1 b",
+    b"wq 1 b\nwq 2 c", b"wq 1 b\nwq 3 c", b"wq 1 b\nwq 2 zz", b"wq 1 b\nwq 2 b c", b"wq 1 d\nx",
+    b"wq 1 b\nx", b"wq 1 b c\nx", b"wq 1 b c\nwq 3", b"wq 1 b\nwq 2", b"wq 1 b\nchain 4097",
+    b"wq 1 b c\nchain 4097 4097", b"wq 1 b c\nchain 4097\nx", b"chain 4097",
+] for front in (b"wq 0 a\n", b"wq 0 a d\n")]
+
+
+def arcs_alone(printed):
+    """A circle text without its run."""
+    return printed[:printed.index(b"\nrun ") + 1]
+
+
 def limit_check_cases():
     """The cases at the limits: what each is, the declaration and the certificate."""
     cases = []
@@ -660,29 +685,18 @@ def limit_check_cases():
 
     two = join(b"item a", b"item b", b"flush a b")
     round_two = join(b"item a", b"item b", b"flush a b", b"flush b a")
-    run = join(b"run 6", b"queue a", b"queue b", b"start 0 a", b"wait 0 b", b"start 1 b",
-               b"wait 1 a")
     for what, declaration, certificate in [
         ("a plan", two, plan.answer(two)[0]),
-        ("a circle", round_two, plan.answer(round_two)[0] + run),
+        ("a circle", round_two, plan.answer(round_two)[0]),
     ]:
         for fault, text in faults_everywhere(certificate):
             add(f"{what}, {fault}", declaration, text)
 
-    # Several faults on one line, and on two.
-    grouped = join(b"item a", b"item b", b"item c", b"item d", b"ordered a d", b"ordered b c")
-    for text in [
-        b"wq 2 zz", b"wq 007 a", b"wq 2 d", b"wq 2 b b", b"wq 1 zz b b", b"wq 1 zz d", b"wq 1 a d",
-        b"wq 1 d a", b"wq 1 d b b", b"wq 1 b c d", b"wq 1 b b", b"wq 2 a", b"wq 1 b c", b"wq 1 b",
-        b"wq 1 b\nwq 2 c", b"wq 1 b\nwq 3 c", b"wq 1 b\nwq 2 zz", b"wq 1 b\nwq 2 b c", b"wq 1 d\nx",
-        b"wq 1 b\nx", b"wq 1 b c\nx", b"wq 1 b c\nwq 3", b"wq 1 b\nwq 2", b"wq 1 b\nchain 4097",
-        b"wq 1 b c\nchain 4097 4097", b"wq 1 b c\nchain 4097\nx", b"chain 4097",
-    ]:
-        for front in b"wq 0 a\n", b"wq 0 a d\n":
-            for count in 1, 2, 3, 4_097:
-                add(f"{(front + text).decode()!r} in a plan of {count}", grouped,
-                    b"plan %d\n" % count + front + text + b"\n")
-    add("a circle with a run of no step", round_two, plan.answer(round_two)[0] + b"run 0\n")
+    for text in SEVERAL_FAULTS:
+        for count in 1, 2, 3, 4_097:
+            add(f"{text.decode()!r} in a plan of {count}", GROUPED, b"plan %d\n" % count + text)
+    add("a circle with a run of no step", round_two, arcs_alone(plan.answer(round_two)[0])
+        + b"run 0\n")
 
     # K, N, and the empty certificate.
     add("no line", none, none)
@@ -729,10 +743,14 @@ def limit_check_cases():
     steps += [b"start %d %s" % pair for pair in enumerate(names)]
     steps += [b"wait %d %s" % pair for pair in enumerate(names[1:] + names[:1])]
     run = join(b"run %d" % len(steps), *steps)
-    add("a circle of 4,096", circle, answer)
-    add("a circle of 4,096 with its run", circle, answer + run)
-    add("a circle of 4,096, one step less", circle, answer + run[:-13].replace(b"12288", b"12287"))
-    add("a circle of 4,096, the arcs turned", circle, join(*answer.splitlines()[::-1]))
+    alone = arcs_alone(answer)
+    add("a circle of 4,096 with its run", circle, answer)
+    add("a circle of 4,096 without its run", circle, alone)
+    add("a circle of 4,096 with another run", circle, alone + run)
+    add("a circle of 4,096, one step less", circle, alone + run[:-13].replace(b"12288", b"12287"))
+    turned = alone.splitlines()
+    add("a circle of 4,096, the arcs turned", circle, join(turned[0], *turned[:0:-1]))
+    add("a circle of 4,096, the last line first", circle, join(*alone.splitlines()[::-1]))
 
     # All items on one line, and many flushes between them.
     line = b"wq 0 " + b" ".join(names)
@@ -806,10 +824,8 @@ def limit_replay_cases():
         for fault, text in faults_everywhere(assignment):
             add(f"an assignment, {fault}", two, text, join(b"run 10", *run))
 
-    for what, (declaration, certificate) in limit_check_cases():
-        if "in a plan of 4097" in what:
-            text = certificate.split(b"\n", 1)[1]
-            add(f"{text.decode()!r} as an assignment", declaration, text, no_steps)
+    for text in SEVERAL_FAULTS:
+        add(f"{text.decode()!r} as an assignment", GROUPED, text, no_steps)
 
     # Workqueues.
     for count in 4_095, 4_096, 4_097:

@@ -6,7 +6,7 @@ import dataclasses
 import random
 import string
 
-from declaration import FLUSH_LIMIT, ITEM_LIMIT, TEXT_LIMIT
+from declaration import FLUSH_LIMIT, ITEM_LIMIT, LINE_LIMIT, NAME_LIMIT, TEXT_LIMIT
 
 NAME_LETTERS = (string.ascii_letters + string.digits + "_-.").encode()
 OTHER_LETTERS = bytes(byte for byte in range(0x21, 0x7F) if byte not in NAME_LETTERS + b"#")
@@ -510,6 +510,34 @@ def numbered_items(count):
     return [b"item i%d" % number for number in range(count)]
 
 
+def flush_lines(item, targets):
+    """As many `flush` lines as the targets need, since a line has its limit."""
+    size = (LINE_LIMIT - len(b"flush " + item)) // max(len(b" " + target) for target in targets)
+    return [b" ".join([b"flush", item] + targets[at:at + size])
+            for at in range(0, len(targets), size)]
+
+
+def longest_run(names, flush_count):
+    """The first item flushes all others in turn, and at last itself: all others finish."""
+    others = names[1:] * (flush_count // (len(names) - 1) + 1)
+    targets = others[:flush_count - 1] + names[:1]
+    return join(*[b"item " + name for name in names], *flush_lines(names[0], targets))
+
+
+def long_names(count):
+    return [b"n" * (NAME_LIMIT - 4) + b"%04d" % number for number in range(count)]
+
+
+def circle_beside_chains(names):
+    """The first two items wait for each other. Each other one waits for the four behind it."""
+    lines = [b"item " + name for name in names]
+    lines += [b"flush %s %s" % (names[0], names[1]), b"flush %s %s" % (names[1], names[0])]
+    for at in range(2, len(names)):
+        for target in names[at + 1:at + 5]:
+            lines.append(b"flush %s %s" % (names[at], target))
+    return join(*lines)
+
+
 def limit_cases():
     """The cases at the limits: pairs of what it is and the declaration."""
     cases = []
@@ -593,4 +621,12 @@ def limit_cases():
     add("512 groups with 16,384 flushes", join(*items[:4_096], *ordered, *flushes))
     flushes[-1] = b"flush i4095 i100"
     add("512 groups with 16,384 flushes, a circle", join(*items[:4_096], *flushes, *ordered))
+
+    # Long runs, and the longest text of one.
+    names = [line[5:] for line in items[:4_096]]
+    add("a run of 45,054 steps", longest_run(names, FLUSH_LIMIT))
+    add("a run of 45,054 steps, the other way", longest_run(names[::-1], FLUSH_LIMIT))
+    add("a run of long names", longest_run(long_names(4_096), 11_500))
+    add("a circle beside chains", circle_beside_chains(names))
+    add("a circle beside chains, the other way", circle_beside_chains(names[::-1]))
     return cases

@@ -5,13 +5,16 @@
 # unclear. It goes for plain reading, and not for speed. Each part names the section of
 # docs/FORMAT.md that it is from.
 #
-# declaration.py beside it reads declarations; check.py and replay.py are the model of the other
-# commands. compare.py compares the program with them.
+# declaration.py beside it reads declarations; check.py, replay.py and deadlock.py are the model of
+# the other commands. compare.py compares the program with them.
 
 import sys
 
 sys.dont_write_bytecode = True
-from declaration import TEXT_LIMIT, Refused, read_declaration  # noqa: E402  (beside this file)
+from certificate import Assignment  # noqa: E402  (beside this file)
+from circle import arcs_of, find_circle  # noqa: E402
+from deadlock import deadlocking_run, run_text  # noqa: E402
+from declaration import TEXT_LIMIT, Refused, read_declaration  # noqa: E402
 
 
 def chain_lengths(waits_for):
@@ -33,19 +36,9 @@ def chain_lengths(waits_for):
     return lengths
 
 
-def what_remains(waits_for):
-    """Circle texts: What remains. The set of the groups that can't be taken off."""
-    remaining = set(range(len(waits_for)))
-    while True:
-        taken_off = [group for group in remaining if waits_for[group].isdisjoint(remaining)]
-        if not taken_off:
-            return remaining
-        remaining.difference_update(taken_off)
-
-
-def plan_text(items, group_of, arcs, waits_for):
+def plan_text(items, group_of, arcs):
     """Plan texts. `arcs` has, for each group, its flushes in order of place."""
-    lengths = chain_lengths(waits_for)
+    lengths = chain_lengths([{group_of[target] for _, target in of_group} for of_group in arcs])
     workqueue = {group: length - 1 for group, length in lengths.items()}
     count = max(workqueue.values(), default=-1) + 1
     names = [[] for _ in range(count)]
@@ -68,22 +61,12 @@ def plan_text(items, group_of, arcs, waits_for):
     return lines
 
 
-def circle_text(group_of, arcs, remaining):
-    """Circle texts: The circle."""
-    group = min(remaining)
-    visited = []
-    followed = []
-    while group not in visited:
-        visited.append(group)
-        item, target = next(
-            (item, target) for item, target in arcs[group] if group_of[target] in remaining
-        )
-        followed.append((item, target))
-        group = group_of[target]
-    circle = followed[visited.index(group):]
+def circle_text(declaration, circle):
+    """Circle texts. `circle` has the arcs of the circle in order."""
     lines = [b"circle %d" % len(circle)]
     lines += [b"arc %s %s" % (item, target) for item, target in circle]
-    return lines
+    own = Assignment(declaration.group_of, len(declaration.groups))
+    return lines + run_text(deadlocking_run(declaration, own))
 
 
 def answer(text):
@@ -92,19 +75,13 @@ def answer(text):
         declaration = read_declaration(text)
     except Refused as refused:
         return refused.answer()
-    items, group_of = declaration.items, declaration.group_of
-
-    # Items and groups: Arcs.
-    arcs = [[] for _ in declaration.groups]
-    for item, target in declaration.flushes:
-        arcs[group_of[item]].append((item, target))
-    waits_for = [{group_of[target] for _, target in arcs_of_group} for arcs_of_group in arcs]
-
-    remaining = what_remains(waits_for)
-    if remaining:
-        lines, status = circle_text(group_of, arcs, remaining), 1
+    group_of = declaration.group_of
+    arcs = arcs_of(declaration.flushes, group_of, len(declaration.groups))
+    circle = find_circle(arcs, group_of)
+    if circle:
+        lines, status = circle_text(declaration, circle), 1
     else:
-        lines, status = plan_text(items, group_of, arcs, waits_for), 0
+        lines, status = plan_text(declaration.items, group_of, arcs), 0
     return b"".join(line + b"\n" for line in lines), status
 
 

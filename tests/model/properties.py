@@ -4,21 +4,28 @@
 #
 # It makes up the same cases as compare.py, and looks at the model's answers with other means: with
 # a second reading of certificates that is one pattern for each kind of text, with a second reading
-# of the steps that keeps no state and looks at all steps before, and with laws that docs/FORMAT.md
-# implies. It stops at the first case that breaks one.
+# of the steps that keeps no state and looks at all steps before, with a second reading of circles
+# and of deadlocking runs, and with laws that docs/FORMAT.md implies. It stops at the first case
+# that breaks one. Then the states of search.py must allow the same steps as those of the model, and
+# what that search finds must be what the model answers.
 
 import collections
+import random
 import re
 import sys
 
 sys.dont_write_bytecode = True
 import certificate  # noqa: E402  (beside this file)
 import check  # noqa: E402
+import deadlock  # noqa: E402
+import make_assignments  # noqa: E402
 import make_certificates  # noqa: E402
 import make_declarations  # noqa: E402
 import plan  # noqa: E402
 import replay  # noqa: E402
+import search  # noqa: E402
 from declaration import Refused, read_declaration  # noqa: E402
+from steps import State  # noqa: E402
 
 DEFAULT_SEED = "1"
 DEFAULT_CASES = 500
@@ -227,6 +234,63 @@ def second_end(declared, assignment, steps):
     return b"deadlock\n" if past.is_as_declared() else b"stuck\n"
 
 
+# A second reading of deadlocking runs ------------------------------------------------------------
+
+
+def is_safe(declared, assignment):
+    """Whether the workqueues wait in no circle. Those for which none waits are taken off first."""
+    arcs = {(assignment.workqueue_of[item], assignment.workqueue_of[target])
+            for item, target in declared.flushes}
+    while arcs:
+        waited_for = {to for _, to in arcs}
+        left = {(number, to) for number, to in arcs if number in waited_for}
+        if left == arcs:
+            return False
+        arcs = left
+    return True
+
+
+def second_circle(declared, assignment):
+    """The arcs of the circle, with their workqueues. There is one."""
+
+    workqueue_of = assignment.workqueue_of
+    reached = {number: {workqueue_of[target] for item, target in declared.flushes
+                        if workqueue_of[item] == number} for number in workqueue_of.values()}
+    for _ in reached:
+        for number in reached:
+            reached[number] = reached[number].union(*(reached[to] for to in reached[number]))
+    # Those remain from which one comes to a workqueue that waits, over others or not, for itself.
+    remaining = [number for number in sorted(reached)
+                 if any(to in reached[to] for to in reached[number])]
+    walk = [next((item, target) for item, target in declared.flushes
+                 if workqueue_of[item] == remaining[0] and workqueue_of[target] in remaining)]
+    while True:
+        for at, (item, _) in enumerate(walk):
+            if workqueue_of[item] == workqueue_of[walk[-1][1]]:
+                return walk[at:]
+        walk.append(next((item, target) for item, target in declared.flushes
+                         if workqueue_of[item] == workqueue_of[walk[-1][1]]
+                         and workqueue_of[target] in remaining))
+
+
+def second_run(declared, assignment):
+    """The deadlocking run. All workqueues are looked at before each step. There is a circle."""
+    first = [item for item, _ in second_circle(declared, assignment)]
+    steps = [(b"queue", None, item) for item in first]
+    steps += [(b"queue", None, item) for item in declared.items if item not in first]
+    state = State(declared, assignment)
+    for step in steps:
+        demand(state.may(step), "each item may be queued")
+        state.make(step)
+    while True:
+        may = [step for step in state.rescuer_steps()
+               if make_certificates.is_faithful(state, step)]
+        if not may:
+            return steps
+        steps.append(min(may, key=lambda step: step[1]))
+        state.make(steps[-1])
+
+
 # Laws --------------------------------------------------------------------------------------------
 
 
@@ -239,6 +303,11 @@ def demand(holds, law):
         raise AssertionError(law)
 
 
+def wqs_text(wqs):
+    """The text of an assignment: the names on each workqueue."""
+    return joined(b" ".join([b"wq %d" % number, *names]) for number, names in enumerate(wqs))
+
+
 def look_at_plan(text):
     """What the model's plan answers is true, and a smaller plan isn't."""
     printed, status = plan.answer(text)
@@ -249,6 +318,19 @@ def look_at_plan(text):
     demand(check.answer(text, printed) == (head + b"\n", 0), "what plan answers is true")
     spelled = b"#\n" + printed.replace(b" ", b" \t ").replace(b"\n", b" #\xff\r\n \n")
     demand(check.answer(text, spelled) == (head + b"\n", 0), "blanks mean nothing")
+
+    declared = read_declaration(text)
+    own = wqs_text(declared.groups)
+    if status == 0:
+        demand(deadlock.answer(text, printed) == (b"safe\n", 0), "a plan text is safe")
+        demand(deadlock.answer(text, own) == (b"safe\n", 0),
+               "where there is a plan, each group alone is safe")
+    else:
+        at = printed.index(b"\nrun ") + 1
+        demand(check.answer(text, printed[:at]) == (head + b"\n", 0), "so it is without its run")
+        demand(deadlock.answer(text, own) == (printed[at:], 1),
+               "the run of a circle is that of each group alone")
+        demand(replay.answer(text, own, printed[at:]) == (b"deadlock\n", 1), "and it deadlocks")
 
 
 def look_at_refusal(answer, text, told):
@@ -330,6 +412,7 @@ def look_at_replay(declaration_text, assignment_text, run_text):
                 for item, target in declared.flushes)
     stuck = printed in (b"stuck\n", b"deadlock\n")
     demand(not (falls and stuck), "where the numbers fall no run ends stuck")
+    demand(not (stuck and is_safe(declared, assignment)), "no run of a safe assignment ends stuck")
 
     # The fronts of the run.
     lines = tidy(run_text).split(b"\n")[1:-1]
@@ -350,6 +433,109 @@ def look_at_replay(declaration_text, assignment_text, run_text):
                         and printed == b"deadlock\n"), "no front of a deadlock is one")
 
 
+def look_at_deadlock(declaration_text, assignment_text):
+    printed, status = deadlock.answer(declaration_text, assignment_text)
+    try:
+        declared = read_declaration(declaration_text)
+    except Refused as refused:
+        demand((printed, status) == refused.answer(), "its refusal comes first")
+        return
+    fits = good("assignment", assignment_text, declared)
+    demand((status != 2) == fits, "both readings are the same")
+    if status == 2:
+        look_at_refusal(lambda other: deadlock.answer(declaration_text, other), assignment_text,
+                        printed)
+        return
+
+    assignment = certificate.read_assignment(assignment_text, declared)
+    demand((status == 0) == is_safe(declared, assignment), "both readings of safe are the same")
+    wqs = [[] for _ in range(assignment.count)]
+    for item in declared.items:
+        wqs[assignment.workqueue_of[item]].append(item)
+    look_at_changed_wqs(declaration_text, wqs, (printed, status))
+    if status == 1:
+        look_at_deadlocking_run(declaration_text, assignment_text, printed)
+
+
+def look_at_changed_wqs(text, wqs, answer):
+    """What becomes of the answer where the workqueues are changed. Names on each are in order."""
+    plain = wqs_text(wqs)
+    demand(deadlock.answer(text, plain) == answer, "the order of names means nothing")
+    whole = joined([b"plan %d" % len(wqs)]) + plain + joined([b"chain 0"])
+    demand(deadlock.answer(text, whole) == answer, "a plan text is the assignment of its lines")
+    if len(wqs) < 4_096:
+        demand(deadlock.answer(text, wqs_text(wqs + [[]])) == answer,
+               "an empty workqueue behind all others means nothing")
+        printed, status = deadlock.answer(text, wqs_text([[]] + wqs))
+        lines = [re.sub(rb"(?<= )[0-9]+(?= )", lambda word: b"%d" % (int(word[0]) - 1), line)
+                 for line in printed.splitlines()]
+        demand((joined(lines), status) == answer, "one before them moves their numbers alone")
+    demand(deadlock.answer(text, wqs_text(wqs[::-1]))[1] == answer[1],
+           "how workqueues are numbered doesn't change what is safe")
+    if answer[1] == 1 and len(wqs) > 1:
+        for at in range(min(len(wqs) - 1, 5)):
+            fewer = wqs[:at] + [wqs[at] + wqs[at + 1]] + wqs[at + 2:]
+            demand(deadlock.answer(text, wqs_text(fewer))[1] == 1,
+                   "two workqueues made one don't make an assignment safe")
+
+
+def look_at_deadlocking_run(declaration_text, assignment_text, printed):
+    """It deadlocks, and is the run that the second reading finds."""
+    declared = read_declaration(declaration_text)
+    assignment = certificate.read_assignment(assignment_text, declared)
+    demand(good("run", printed, declared), "what is printed is a run text")
+    demand(replay.answer(declaration_text, assignment_text, printed) == (b"deadlock\n", 1),
+           "what is printed deadlocks")
+    steps = certificate.read_run(printed, declared)
+    queued = [name for word, _, name in steps if word == b"queue"]
+    demand(sorted(queued) == sorted(declared.items), "each item is queued once")
+    demand(all(word == b"queue" for word, _, _ in steps[:len(queued)]), "they are queued first")
+    # At least one item begins, comes to a flush, and waits for ever.
+    most = 3 * len(declared.items) + 2 * len(declared.flushes) - 2
+    demand(len(steps) <= most, "a run has at most so many steps")
+    demand(printed.splitlines()[0] == b"run %d" % len(steps), "the head says how many")
+    for count in [*range(0, len(steps), len(steps) // 5 + 1), len(steps) - 1]:
+        front = joined([b"run %d" % count] + printed.splitlines()[1:count + 1])
+        end = replay.answer(declaration_text, assignment_text, front)
+        demand(end == (b"open\n", 0), "no front of the run ends stuck")
+    if len(declared.items) <= 200:
+        demand(steps == second_run(declared, assignment), "both readings of the run are the same")
+        end = look_at_run(declared, assignment.workqueue_of, printed)
+        demand(end in (None, b"deadlock\n"), "both readings of the steps say that it deadlocks")
+
+
+def look_at_search(choose):
+    """The states of search.py allow the same steps as those of the model, on a random way."""
+    declared = read_declaration(search.make_declaration(choose))
+    parts = choose.choice(list(search.partitions(len(declared.groups))))
+    count = max(parts, default=-1) + 1
+    workqueue_of = {name: parts[group] for name, group in declared.group_of.items()}
+    state = State(declared, certificate.Assignment(workqueue_of, count))
+    steps, found = search.Steps(declared, workqueue_of), search.begin(count)
+    all_steps = [(word, None, name) for word in (b"queue", b"cancel") for name in declared.items]
+    all_steps += [(word, number, name) for word in (b"start", b"wait", b"over", b"finish")
+                  for number in range(count) for name in declared.items]
+    for _ in range(60):
+        behind = dict(steps.all_steps(found))
+        may = [step for step in all_steps if state.may(step)]
+        demand(sorted(map(repr, may)) == sorted(map(repr, behind)), "both allow the same steps")
+        demand(state.is_stuck() == (not list(steps.executions(found))
+                                    and found != search.begin(count)), "both are stuck")
+        step = choose.choice(may)
+        state.make(step)
+        found = behind[step]
+
+
+def look_at_searches(seed, walks, declarations):
+    """Walks through the states of search.py, and its searches, where the model is asked."""
+    for number in range(walks):
+        look_at_search(random.Random(f"{seed} walk {number}"))
+    for number in range(declarations):
+        text = search.make_declaration(random.Random(f"{seed} model {number}"))
+        _, wrong = search.look_at_declaration(search.ask_model, text)
+        demand(not wrong, f"the search finds what the model answers: {text!r}: {wrong}")
+
+
 def main(arguments):
     if len(arguments) > 2 or not all(word.isdecimal() for word in arguments[1:]):
         print("usage: properties.py [SEED] [CASES]", file=sys.stderr)
@@ -360,11 +546,13 @@ def main(arguments):
         ("plan", look_at_plan, lambda *case: [make_declarations.random_case(*case)]),
         ("check", look_at_check, make_certificates.random_check_case),
         ("replay", look_at_replay, make_certificates.random_replay_case),
+        ("deadlock", look_at_deadlock, make_assignments.random_deadlock_case),
     ]
     limits = {
         "plan": [],
         "check": make_certificates.limit_check_cases(),
         "replay": make_certificates.limit_replay_cases(),
+        "deadlock": make_assignments.limit_deadlock_cases(),
     }
     looked = 0
     for command, look_at, random_case in parts:
@@ -378,6 +566,11 @@ def main(arguments):
                 print(f"FAILED  {command}, case {number} (seed {seed}): {error}")
                 print("\n".join(f"    {text[:2_000]!r}" for text in texts))
                 return 1
+    try:
+        look_at_searches(seed, count // 2, count // 10)
+    except AssertionError as error:
+        print(f"FAILED  search (seed {seed}): {error}")
+        return 1
     print(f"model: the laws hold of {looked} cases")
     return 0
 

@@ -1,4 +1,5 @@
-# Makes the steps of a run, for the model in check.py and replay.py: docs/FORMAT.md, "Steps".
+# Makes the steps of a run, for the model in check.py, replay.py and deadlock.py: docs/FORMAT.md,
+# "Steps".
 
 import collections
 import dataclasses
@@ -20,28 +21,26 @@ class State:
         self.targets = {item: [] for item in declaration.items}
         for item, target in declaration.flushes:
             self.targets[item].append(target)
+        self.flushes = set(declaration.flushes)
         self.workqueue_of = assignment.workqueue_of
         self.next_number = 0
         self.pending = collections.defaultdict(list)  # by workqueue
+        self.pending_of = {}  # by item, its pending entry: there is never more than one
         self.running = {}  # by workqueue, where an entry runs
 
-    def pending_entry(self, item):
-        """The pending entry of the item, or None. There is never more than one."""
-        pending = self.pending[self.workqueue_of[item]]
-        return next((entry for entry in pending if entry.item == item), None)
-
-    def unfinished(self, workqueue):
-        """The entries of the workqueue that are pending or run."""
-        running = [self.running[workqueue]] if workqueue in self.running else []
-        return running + self.pending[workqueue]
+    def unfinished(self, item):
+        """The entries of the item that are pending or run. It runs on its own workqueue alone."""
+        running = self.running.get(self.workqueue_of[item])
+        entries = [running] if running is not None and running.item == item else []
+        return entries + ([self.pending_of[item]] if item in self.pending_of else [])
 
     def may(self, step):
         """May be made where."""
         word, workqueue, name = step
         if word == b"queue":
-            return self.pending_entry(name) is None
+            return name not in self.pending_of
         if word == b"cancel":
-            return self.pending_entry(name) is not None
+            return name in self.pending_of
         entry = self.running.get(workqueue)
         if word == b"start":
             pending = self.pending[workqueue]
@@ -49,12 +48,11 @@ class State:
         if entry is None:
             return False
         if word == b"wait":
-            targets = self.targets[entry.item]
-            return entry.target is None and name in targets and entry.waits < len(targets)
+            declared = (entry.item, name) in self.flushes
+            return entry.target is None and declared and entry.waits < len(self.targets[entry.item])
         if word == b"over":
-            return entry.target == name and not any(
-                other.item == name and other.number < entry.mark
-                for other in self.unfinished(self.workqueue_of[name])
+            return entry.target == name and all(
+                other.number >= entry.mark for other in self.unfinished(name)
             )
         return entry.target is None and entry.item == name  # finish
 
@@ -62,12 +60,14 @@ class State:
         """What it does. The step may be made."""
         word, workqueue, name = step
         if word == b"queue":
-            self.pending[self.workqueue_of[name]].append(Entry(name, self.next_number))
+            self.pending_of[name] = Entry(name, self.next_number)
+            self.pending[self.workqueue_of[name]].append(self.pending_of[name])
             self.next_number += 1
         elif word == b"cancel":
-            self.pending[self.workqueue_of[name]].remove(self.pending_entry(name))
+            self.pending[self.workqueue_of[name]].remove(self.pending_of.pop(name))
         elif word == b"start":
             self.running[workqueue] = self.pending[workqueue].pop(0)
+            del self.pending_of[name]
         elif word == b"wait":
             entry = self.running[workqueue]
             entry.target, entry.mark = name, self.next_number
@@ -95,7 +95,7 @@ class State:
 
     def is_stuck(self):
         """An entry is unfinished, and no `start`, `wait`, `over` or `finish` may be made."""
-        unfinished = any(self.unfinished(workqueue) for workqueue in self.workqueue_of.values())
+        unfinished = any(self.unfinished(item) for item in self.targets)
         return unfinished and next(self.rescuer_steps(), None) is None
 
 

@@ -1,58 +1,27 @@
 -- Forms: a number by its one spelling, and names one after the other.
-use Rattle.std.proofs.Common.{◌≡◌, ℕ, ◌^◌, Bool, true, false, ◌&&◌, cond, ltb, List, [], ◌∷◌, ◌++◌, Option, Some, None, refl, sym, ap, ap₂, ◌∙◌, arith, append_assoc, append-nil, lt-ltb, ltb-true}
-use Rattle.std.specs.Prelude.{IfSome, IfNone, option_map, bytes_eq, decimal}
+use Rattle.std.proofs.Common.{◌≡◌, ℕ, List, [], ◌∷◌, ◌++◌, Option, Some, None, refl, sym, ap, ◌∙◌, append_assoc, append-nil}
+use Rattle.std.specs.Prelude.{IfSome, IfNone, option_map}
 use Rattle.std.specs.Option.{option_zip}
-use Rattle.std.specs.Str.Parse.{digits_value, AllDigits}
-use Rattle.std.proofs.lemmas.Bool.{cond-false, false_from_ne_true}
-use Rattle.std.proofs.lemmas.Fmt.{digits_value-decimal}
-use Rattle.std.proofs.lemmas.Str.Parse.{IsNumeralModel, numerals_by_value, tells_digits}
 use Rattle.wq_text.specs.Numbers.{Spells}
 use Rattle.wq_text.specs.Words.{WordView}
 use Rattle.wq_items.specs.Table.{item_named}
-use Rattle.wq_groups.proofs.Among.{same_name, bytes_eq-same}
 use Rattle.wq_cert.specs.Lines.{bytes_of}
 use Rattle.wq_cert.specs.Forms.{number_of, items_of}
+use Rattle.wq_cert.proofs.SpelledNumbers.{Spells-number_of, number_of-Spells}
 
 -- ---- numbers
 
-own : IsNumeralModel (AllDigits 10) (digits_value 10)
-own = numerals_by_value _ tells_digits
-
--- a word and a value that may be its number
-is_spelling : List ℕ → ℕ → Bool
-is_spelling word n = bytes_eq word (decimal n) && ltb n (2 ^ 32)
-
-is_spelling-true : (word : List ℕ) (n : ℕ) → Spells word n → is_spelling word n ≡ true
-unfolding is_spelling
-is_spelling-true word n s = ap₂ (λ (a b : Bool). a && b) (bytes_eq-same word (decimal n) s.digits) (lt-ltb n (2 ^ 32) s.fits)
-
-both : (a b : Bool) → (a && b) ≡ true → (a ≡ true) × (b ≡ true)
-both true true e = (refl, refl)
-both true false e = absurd cc
-both false b e = absurd cc
-
-spelled : (word : List ℕ) (n : ℕ) → is_spelling word n ≡ true → Spells word n
-unfolding is_spelling
-spelled word n e =
-    let p = both (bytes_eq word (decimal n)) (ltb n (2 ^ 32)) e in
-    record { fits = ltb-true n (2 ^ 32) p.1; digits = same_name word (decimal n) p.0 }
-
-number_of-spelled : (word : List ℕ) (n : ℕ) → Spells word n → Some n ≡ number_of word
-unfolding is_spelling
-number_of-spelled word n s =
-    let value : digits_value 10 word ≡ n = ap (digits_value 10) s.digits ∙ digits_value-decimal own n (omega (arith, s.fits)) in
-    sym (ap (λ (m : ℕ). cond (is_spelling word m) (Some m) None) value ∙ ap (λ (b : Bool). cond b (Some n) None) (is_spelling-true word n s))
-
 number_of-none : (word : List ℕ) → ((n : ℕ) → Spells word n → ⊥) → None ≡ number_of word
-unfolding is_spelling
-number_of-none word none =
-    let n = digits_value 10 word in
-    sym (cond-false (is_spelling word n) (Some n) None (false_from_ne_true (is_spelling word n) (λ e. none n (spelled word n e))))
+number_of-none word none = of (number_of word) refl
+  where
+    of : (o : Option ℕ) → number_of word ≡ o → None ≡ number_of word
+    of None e = sym e
+    of (Some n) e = absurd (none n (Spells-number_of word n e))
 
 -- what is read of a word is its number
 pub number_of-is : (word : List ℕ) (o : Option ℕ) → IfSome o (λ n. Spells word n) → IfNone o ((n : ℕ) → Spells word n → ⊥) → o ≡ number_of word
 number_of-is word None some none = number_of-none word none
-number_of-is word (Some n) some none = number_of-spelled word n some
+number_of-is word (Some n) some none = sym (number_of-Spells word n some)
 
 -- ---- names
 

@@ -13,7 +13,7 @@ pub mod PrintedPlans
 pub mod PrintedQueues
 pub mod PrintedRuns
 pub mod PrintedWords
-pub mod ReadLines
+pub mod PrintedArcs
 pub mod TextLength
 pub mod SpelledNumbers
 pub mod SpelledForms

@@ -1,24 +1,23 @@
 -- Printed lines, read back: each is a line of the text, and its words are those that were printed.
-use Rattle.std.proofs.Common.{◌≡◌, ◌≢◌, ℕ, zero, suc, ◌+◌, ◌-◌, ◌*◌, ◌<◌, ◌≤◌, true, false, not, eqb, List, [], ◌∷◌, ◌++◌, length, get_or, refl, sym, ap, subst, ◌∙◌, arith, inl, append_assoc, length-append, Option, Result}
+use Rattle.std.proofs.Common.{◌≡◌, ◌≢◌, ℕ, zero, suc, ◌+◌, ◌-◌, ◌*◌, ◌<◌, ◌≤◌, true, false, not, eqb, List, [], ◌∷◌, ◌++◌, length, get_or, refl, sym, ap, subst, ◌∙◌, arith, inl, append_assoc, length-append}
 use Rattle.std.specs.Prelude.{flat_map}
 use Rattle.std.specs.List.{All, AllByRecursion}
 use Rattle.std.specs.Str.Lines.{strip_carriage_return}
 use Rattle.std.proofs.lemmas.Bool.{ne_eqb}
 use Rattle.std.proofs.lemmas.List.Elements.{All-nil, All-cons}
 use Rattle.wq_text.specs.Comments.{before_comment}
-use Rattle.wq_text.specs.declared.text.TextError.{TextError}
 use Rattle.wq_text.specs.Lines.{LineView, lines_from, lines_of, pieces}
 use Rattle.wq_text.specs.Words.{WordView, words_from, words_of, is_blank, NoBlank, EndsAWord}
 use Rattle.wq_text.proofs.CommentLemmas.{before_comment-IsBeforeComment}
-use Rattle.wq_text.proofs.LimitLaws.{IsShort, limit_fault-fits}
+use Rattle.wq_text.proofs.LimitLaws.{IsShort}
 use Rattle.wq_text.proofs.LineLemmas.{length-line_bytes-le}
 use Rattle.wq_text.proofs.PieceLemmas.{NoFeed, pieces-feed}
 use Rattle.wq_text.proofs.WordLemmas.{words_from-filled}
-use Rattle.wq_cert.specs.declared.fault.CertError.{CertError}
 use Rattle.wq_cert.specs.LineText.{spaced, line_text}
-use Rattle.wq_cert.specs.Lines.{CertLine, bytes_of, holds_word, cert_line, cert_lines}
+use Rattle.wq_cert.specs.Lines.{bytes_of, holds_word, cert_line, cert_lines}
 use Rattle.wq_cert.proofs.ListLemmas.{AllByRecursion-append, AllByRecursion-weaker}
-use Rattle.wq_cert.specs.Texts.{max_text, max_line, by_limits, text_reading}
+use Rattle.wq_cert.specs.Spelled.{words_in, words_of_text, KeepsLimits}
+use Rattle.wq_cert.specs.Texts.{max_text}
 
 -- ---- what can be printed
 
@@ -143,26 +142,21 @@ pieces-line words text h =
     ap (λ (l : List ℕ). pieces (l ++ text)) (line_text-body words) ∙ ap pieces (append_assoc (line_body words) (10 ∷ []) text)
     ∙ pieces-feed (line_body words) text (NoFeed-printed (line_body words) (printed-body words h))
 
--- lines of these words, numbered from here on
-abbrev pub numbered : ℕ → List (List (List ℕ)) → List CertLine
-numbered n [] = []
-numbered n (words ∷ lines) = record { no = n; words = words } ∷ numbered (n + 1) lines
-
-lines_from-printed : (n start : ℕ) (lines : List (List (List ℕ))) → AllByRecursion IsPrintableLine lines → cert_lines (lines_from n start (pieces (flat_map line_text lines))) ≡ numbered n lines
+lines_from-printed : (n start : ℕ) (lines : List (List (List ℕ))) → AllByRecursion IsPrintableLine lines → words_in (cert_lines (lines_from n start (pieces (flat_map line_text lines)))) ≡ lines
 lines_from-printed n start [] h = refl
 lines_from-printed n start (words ∷ lines) h =
     let text = flat_map line_text lines in
     let behind = start + (length (line_body words) + 1) in
     let line = printed_line n start words in
     let same = bytes_of-printed_line n start words h.0 in
-    ap (λ ps. cert_lines (lines_from n start ps)) (pieces-line words text h.0)
-    ∙ cert_lines-cons line (lines_from (n + 1) behind (pieces text)) (some_word (words_of line) words h.0 same)
-    ∙ ap (λ (ws : List (List ℕ)). record { no = n; words = ws } ∷ cert_lines (lines_from (n + 1) behind (pieces text))) same
-    ∙ ap (λ (ls : List CertLine). record { no = n; words = words } ∷ ls) (lines_from-printed (n + 1) behind lines h.1)
+    ap (λ ps. words_in (cert_lines (lines_from n start ps))) (pieces-line words text h.0)
+    ∙ ap words_in (cert_lines-cons line (lines_from (n + 1) behind (pieces text)) (some_word (words_of line) words h.0 same))
+    ∙ ap (λ (ws : List (List ℕ)). ws ∷ words_in (cert_lines (lines_from (n + 1) behind (pieces text)))) same
+    ∙ ap (λ (ls : List (List (List ℕ))). words ∷ ls) (lines_from-printed (n + 1) behind lines h.1)
 
--- the lines of a printed text, as they are read
-pub cert_lines-printed : (lines : List (List (List ℕ))) → AllByRecursion IsPrintableLine lines → cert_lines (lines_of (flat_map line_text lines)) ≡ numbered 1 lines
-cert_lines-printed lines h = lines_from-printed 1 0 lines h
+-- the words of a printed text are those that were printed
+pub words_of_text-printed : (lines : List (List (List ℕ))) → AllByRecursion IsPrintableLine lines → words_of_text (flat_map line_text lines) ≡ lines
+words_of_text-printed lines h = lines_from-printed 1 0 lines h
 
 -- ---- limits
 
@@ -201,13 +195,9 @@ IsShort-printed lines h = short-from 1 0 lines h
 
 -- ---- texts
 
--- what is read in a printed text that isn't too long is what is read in the lines that were printed
-pub text_reading-printed : {V : Type 0} (read : List CertLine → Result V CertError) (lines : List (List (List ℕ))) → AllByRecursion IsPrintableLine lines
-    → length (flat_map line_text lines) ≤ max_text → text_reading read (flat_map line_text lines) ≡ read (numbered 1 lines)
-text_reading-printed {V} read lines h most =
-    let text = flat_map line_text lines in
-    ap (λ (fault : Option TextError). by_limits fault (read (cert_lines (lines_of text)))) (limit_fault-fits max_text max_line text (most, IsShort-printed lines h))
-    ∙ ap read (cert_lines-printed lines h)
+-- a printed text that isn't too long keeps the limits
+pub KeepsLimits-printed : (lines : List (List (List ℕ))) → AllByRecursion IsPrintableLine lines → length (flat_map line_text lines) ≤ max_text → KeepsLimits (flat_map line_text lines)
+KeepsLimits-printed lines h most = record { text_fits = most; lines_fit = IsShort-printed lines h }
 
 -- no more lines than bytes
 pub length-lines-le : (lines : List (List (List ℕ))) → length lines ≤ length (flat_map line_text lines)
@@ -215,11 +205,3 @@ length-lines-le [] = omega arith
 length-lines-le (words ∷ lines) =
     let rest : length lines ≤ length (flat_map line_text lines) = length-lines-le lines in
     omega (arith, length-append (line_text words) (flat_map line_text lines), ap length (line_text-body words), length-append (line_body words) (10 ∷ []))
-
--- ---- lines one after the other
-
-pub numbered-append : (n : ℕ) (lines more : List (List (List ℕ))) → numbered n (lines ++ more) ≡ numbered n lines ++ numbered (n + length lines) more
-numbered-append n [] more = ap (λ (k : ℕ). numbered k more) (omega arith)
-numbered-append n (words ∷ lines) more =
-    ap (λ (ls : List CertLine). record { no = n; words = words } ∷ ls) (numbered-append (n + 1) lines more
-    ∙ ap (λ (k : ℕ). numbered (n + 1) lines ++ numbered k more) (omega arith))

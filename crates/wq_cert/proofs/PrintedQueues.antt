@@ -1,25 +1,22 @@
--- Workqueues as they are printed, read back.
-use Rattle.std.proofs.Common.{◌≡◌, ◌≢◌, ℕ, zero, suc, ◌+◌, ◌<◌, ◌≤◌, Bool, true, false, cond, not, eqb, leb, ◌||◌, List, [], ◌∷◌, ◌++◌, length, map, get_or, Option, Some, Result, Ok, Err, refl, sym, ap, ap₂, ◌∙◌, arith, inl, inr}
-use Rattle.std.specs.Prelude.{codes, ok_or, position, slice_index, unwrap_or}
-use Rattle.std.specs.List.{AllByRecursion, concat, list_any, range_with_len}
-use Rattle.std.specs.Option.{option_zip}
-use Rattle.std.proofs.lemmas.Bool.{cases_lt, eqb-true, eq-eqb, ne_eqb, lt-leb, or_from, not_from_true}
+-- Workqueues as they are printed: each item stands on one, and they are the assignment's.
+use Rattle.std.proofs.Common.{◌≡◌, ◌≢◌, ℕ, zero, suc, ◌+◌, ◌<◌, ◌≤◌, Bool, true, false, eqb, List, [], ◌∷◌, ◌++◌, length, map, get_or, Option, Some, refl, sym, ap, ap₂, subst, ◌∙◌, arith, inl, inr}
+use Rattle.std.specs.Prelude.{codes, position, slice_index, unwrap_or}
+use Rattle.std.specs.List.{AllByRecursion, concat, enumerate_from, list_any, range_with_len}
+use Rattle.std.proofs.lemmas.Bool.{cases_lt, eqb-true, eq-eqb, ne_eqb}
 use Rattle.std.proofs.lemmas.List.{get_or-map, get_or_default, length-map}
+use Rattle.std.proofs.lemmas.List.Elements.{All-from_recursion}
 use Rattle.std.proofs.lemmas.List.FromFn.{length-range_with_len, get_or-range_with_len, length-map-range_with_len, map-range_with_len_more, fill_by_all}
 use Rattle.wq_items.specs.Table.{Table, IsTable}
 use Rattle.wq_items.proofs.FoundNames.{position-map}
 use Rattle.wq_groups.specs.Partition.{Partition, IsPartition}
 use Rattle.wq_groups.specs.Assignment.{Assignment, IsAssignment, lane_of}
-use Rattle.wq_cert.proofs.QueueTurns.{wq_reading-turn}
-use Rattle.wq_cert.specs.declared.fault.CertError.{CertError}
-use Rattle.wq_cert.specs.declared.fault.CertError.TheVariants.{BadCertLine, NotAllItems, GroupSplit, NumberOutOfRange}
-use Rattle.wq_cert.specs.Forms.{items_of}
-use Rattle.wq_cert.specs.Lines.{CertLine}
 use Rattle.wq_cert.specs.PlanText.{name_of, item_lanes, items_on, wq_line}
-use Rattle.wq_cert.specs.Reading.{Read, and_then, and_read, stands_in, has_stood, splits_group, wq_reading, next_queues, hold_all, queue_of_group, assignment_of, whole_assignment}
+use Rattle.wq_cert.specs.Reading.{stands_in, has_stood, splits_group, hold_all, queue_of_group, assignment_of}
+use Rattle.wq_cert.specs.Spelled.{AreQueues, queue_line, queue_lines}
 use Rattle.wq_cert.proofs.ListLemmas.{AllByRecursion-append, AllByRecursion-weaker, AllByRecursion-filter, AllByRecursion-range_with_len, list_any-none, list_any-apart, list_any-at, list_all-each, length-filter-le, position-first, stands_in-range_with_len, stands_in-filter, stands_in-left, stands_in-right, IsRisingFrom-filter, has_stood-rising}
-use Rattle.wq_cert.proofs.PrintedLines.{IsPrintableLine, numbered}
-use Rattle.wq_cert.proofs.PrintedWords.{number_of-decimal, items_of-names_of, IsPrintable-decimal, IsPrintable-keyword, IsPrintable-names_of}
+use Rattle.wq_cert.proofs.PrintedLines.{IsPrintableLine}
+use Rattle.wq_cert.proofs.PrintedWords.{IsPrintable-decimal, IsPrintable-keyword, IsPrintable-names_of}
+use Rattle.wq_cert.proofs.QueueLists.{AreGrown, AreGrown-none, AreGrown-push, IsNextQueue, AreQueues-grown}
 
 -- ---- the items on workqueues
 
@@ -101,49 +98,34 @@ module _ (lane : List ℕ) where
     IsPrintableLine-wqs a zero few = tt
     IsPrintableLine-wqs a (suc n) few = (IsPrintableLine-wq a (omega arith), IsPrintableLine-wqs (a + 1) n (omega arith))
 
-  -- ---- a line, as it is read
+  -- ---- lines
 
-  module _ (t : Table) (table : IsTable t) (long : length lane ≡ length t.names) (group_of : List ℕ) (follows : FollowsGroups group_of) where
-    wq_reading-printed : (q n : ℕ) → q < 4096 → wq_reading t.names group_of (map (items_on lane) (range_with_len 0 q)) (record { no = n; words = wq_line t.names lane q }) ≡ Ok (items_on lane q)
-    wq_reading-printed q n few =
-        let queues = map (items_on lane) (range_with_len 0 q) in
-        let items = items_on lane q in
-        let count : length queues ≡ q = length-map-range_with_len (items_on lane) 0 q in
-        let judged : ℕ × List ℕ → Result (List ℕ) CertError = λ p.
-        cond (not (eqb p.0 (length queues)) || leb 4096 (length queues)) (Err (NumberOutOfRange n))
-        (cond (has_stood (concat queues) p.1) (Err (NotAllItems n)) (cond (splits_group group_of (concat queues) p.1) (Err (GroupSplit n)) (Ok p.1))) in
-        let near : (not (eqb q (length queues)) || leb 4096 (length queues)) ≡ false = or_from _ _ (not_from_true _ (eq-eqb q (length queues) (sym count))) (lt-leb 4096 (length queues) (omega arith)) in
-        wq_reading-turn t.names group_of queues (record { no = n; words = wq_line t.names lane q })
-        ∙ ap (λ (o : Option ℕ). and_then judged (ok_or (option_zip o (items_of t.names (map (name_of t.names) items))) (BadCertLine n))) (number_of-decimal q (omega arith))
-        ∙ ap (λ (o : Option (List ℕ)). and_then judged (ok_or (option_zip (Some q) o) (BadCertLine n))) (items_of-names_of t.names table.distinct items (named t table long q))
-        ∙ ap (λ (b : Bool). cond b (Err (NumberOutOfRange n)) (cond (has_stood (concat queues) items) (Err (NotAllItems n)) (cond (splits_group group_of (concat queues) items) (Err (GroupSplit n)) (Ok items)))) near
-        ∙ ap (λ (b : Bool). cond b (Err (NotAllItems n)) (cond (splits_group group_of (concat queues) items) (Err (GroupSplit n)) (Ok items))) (has_stood-items_on q)
-        ∙ ap (λ (b : Bool). cond b (Err (GroupSplit n)) (Ok items)) (splits_group-items_on group_of follows q)
+  -- they are those of the workqueues with these items
+  queue_lines-from : (names : List (List ℕ)) (a n : ℕ) → map (queue_line names) (enumerate_from a (map (items_on lane) (range_with_len a n))) ≡ map (wq_line names lane) (range_with_len a n)
+  queue_lines-from names a zero = refl
+  queue_lines-from names a (suc n) = ap (λ (ls : List (List (List ℕ))). wq_line names lane a ∷ ls) (queue_lines-from names (a + 1) n)
 
-    -- ---- lines
+  pub queue_lines-printed : (names : List (List ℕ)) (lanes : ℕ) → queue_lines names (map (items_on lane) (range_with_len 0 lanes)) ≡ map (wq_line names lane) (range_with_len 0 lanes)
+  queue_lines-printed names lanes = queue_lines-from names 0 lanes
 
-    -- n more workqueues behind the first q, and the lines that follow theirs
-    abbrev read_on : ℕ → ℕ → List (List (List ℕ)) → Read (List (List ℕ))
-    read_on q k more = Ok (map (items_on lane) (range_with_len 0 q), numbered k more)
+  -- ---- workqueues, one more at a time
 
-    pub next_queues-printed : (n q k : ℕ) (more : List (List (List ℕ))) → q + n ≤ 4096
-        → next_queues t.names group_of n (map (items_on lane) (range_with_len 0 q)) (numbered k (map (wq_line t.names lane) (range_with_len q n) ++ more)) ≡ read_on (q + n) (k + n) more
-    next_queues-printed zero q k more few =
-        let queues : q ≡ q + 0 = omega arith in
-        let lines : k ≡ k + 0 = omega arith in
-        ap₂ (λ (r m : ℕ). read_on r m more) queues lines
-    next_queues-printed (suc n) q k more few =
-        let queues = map (items_on lane) (range_with_len 0 q) in
-        let behind = numbered (k + 1) (map (wq_line t.names lane) (range_with_len (q + 1) n) ++ more) in
-        let next : List ℕ → List CertLine → Read (List (List ℕ)) = λ items rest. next_queues t.names group_of n (queues ++ (items ∷ [])) rest in
-        let tail : Result (List ℕ) CertError → Read (List ℕ) = λ r. and_then (λ items. Ok (items, behind)) r in
-        let grown : queues ++ (items_on lane q ∷ []) ≡ map (items_on lane) (range_with_len 0 (q + 1)) = sym (map-range_with_len_more (items_on lane) 0 q q (omega arith)) in
-        let sum : (q + 1) + n ≡ q + suc n = omega arith in
-        let lines : (k + 1) + n ≡ k + suc n = omega arith in
-        ap (λ (r : Result (List ℕ) CertError). and_read next (tail r)) (wq_reading-printed q k (omega arith))
-        ∙ ap (λ (qs : List (List ℕ)). next_queues t.names group_of n qs behind) grown
-        ∙ next_queues-printed n (q + 1) (k + 1) more (omega arith)
-        ∙ ap₂ (λ (r m : ℕ). read_on r m more) sum lines
+  module _ (items : ℕ) (long : length lane ≡ items) (group_of : List ℕ) (follows : FollowsGroups group_of) where
+    IsNextQueue-printed : (q : ℕ) → q < 4096 → IsNextQueue items group_of (map (items_on lane) (range_with_len 0 q)) (items_on lane q)
+    IsNextQueue-printed q few = record {
+      room = omega (arith, length-map-range_with_len (items_on lane) 0 q);
+      known = All-from_recursion (λ i. i < items) (items_on lane q) (AllByRecursion-weaker (IsOn q) (λ i. i < items) (λ i on. omega (arith, on.0)) (items_on lane q) (IsOn-items_on q));
+      fresh = has_stood-items_on q;
+      apart = splits_group-items_on group_of follows q;
+    }
+
+    pub AreGrown-printed : (lanes : ℕ) → lanes ≤ 4096 → AreGrown items group_of (map (items_on lane) (range_with_len 0 lanes))
+    AreGrown-printed zero few = AreGrown-none items group_of
+    AreGrown-printed (suc q) few =
+        let more : map (items_on lane) (range_with_len 0 (suc q)) ≡ map (items_on lane) (range_with_len 0 q) ++ (items_on lane q ∷ []) =
+        ap (λ (n : ℕ). map (items_on lane) (range_with_len 0 n)) (let e : suc q ≡ q + 1 = omega arith in e) ∙ map-range_with_len_more (items_on lane) 0 q q (omega arith) in
+        subst (AreGrown items group_of) (sym more)
+        (AreGrown-push items group_of (map (items_on lane) (range_with_len 0 q)) (items_on lane q) (AreGrown-printed q (omega arith)) (IsNextQueue-printed q (omega arith)))
 
   -- ---- the assignment
 
@@ -170,7 +152,7 @@ module _ (p : Partition) (a : Assignment) (is : IsPartition p) (assigned : IsAss
   lane-within : (g : ℕ) → g < p.groups → lane_of a g < a.lanes
   lane-within g within = assigned.within g 0 (omega (arith, assigned.one_each))
 
-  pub follows_groups : FollowsGroups lanes_of_items p.group_of
+  follows_groups : FollowsGroups lanes_of_items p.group_of
   follows_groups i j i_in j_in same =
       lane-at i (omega (arith, length-lanes)) ∙ ap (lane_of a) same ∙ sym (lane-at j (omega (arith, length-lanes)))
 
@@ -210,14 +192,14 @@ module _ (p : Partition) (a : Assignment) (is : IsPartition p) (assigned : IsAss
       (ap (serves g) here ∙ serves-own g within) in
       ap (λ (o : Option ℕ). unwrap_or o 0) (position-map (λ (items : List ℕ). list_any (λ i. eqb (slice_index p.group_of i) g) items) (items_on lanes_of_items) lanes ∙ first)
 
-  assignment_of-queues : assignment_of p queues_of_items ≡ a
+  pub assignment_of-queues : assignment_of p queues_of_items ≡ a
   assignment_of-queues =
       let lanes : length queues_of_items ≡ a.lanes = length-map-range_with_len (items_on lanes_of_items) 0 a.lanes in
       let groups : a.lane_of_group ≡ map (queue_of_group p.group_of queues_of_items) (range_with_len 0 p.groups) =
       fill_by_all (queue_of_group p.group_of queues_of_items) a.lane_of_group p.groups 0 assigned.one_each (λ g within. sym (queue_of_group-own g within)) in
       ap₂ (λ (n : ℕ) (ls : List ℕ). record { lanes = n; lane_of_group = ls }) lanes (sym groups)
 
-  pub whole_assignment-queues : whole_assignment p queues_of_items ≡ Ok a
-  whole_assignment-queues =
-      ap (λ (b : Bool). cond b (Ok (assignment_of p queues_of_items)) (Err (NotAllItems 0))) (hold_all-queues lanes_of_items a.lanes item-within (length p.group_of) (sym length-lanes))
-      ∙ ap (λ (b : Assignment). Ok b) assignment_of-queues
+  pub AreQueues-printed : a.lanes ≤ 4096 → (items : ℕ) → length p.group_of ≡ items → AreQueues items p.group_of queues_of_items
+  AreQueues-printed few items same =
+      AreQueues-grown items p.group_of queues_of_items (AreGrown-printed lanes_of_items items (length-lanes ∙ same) p.group_of follows_groups a.lanes few)
+      (hold_all-queues lanes_of_items a.lanes item-within items (sym (length-lanes ∙ same)))

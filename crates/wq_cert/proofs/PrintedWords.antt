@@ -1,37 +1,18 @@
--- Words as they are printed, read back: numbers, names and keywords.
-use Rattle.std.proofs.Common.{◌≡◌, ◌≢◌, ℕ, ◌<◌, ◌≤◌, ◌^◌, Bool, true, cond, ◌&&◌, ltb, nat_le, List, [], ◌∷◌, length, map, get_or, Option, Some, None, refl, sym, ap, ◌∙◌, arith, IsTrue, option_map}
-use Rattle.std.specs.Prelude.{AllPairs, bytes_eq}
+-- Words that are read as they are printed: numbers, names and keywords.
+use Rattle.std.proofs.Common.{◌≡◌, ◌≢◌, ℕ, ◌<◌, ◌≤◌, ◌^◌, true, ◌&&◌, ltb, nat_le, List, [], ◌∷◌, length, map, ap, arith, IsTrue}
 use Rattle.std.specs.Fmt.{decimal}
 use Rattle.std.specs.List.{All, AllByRecursion, list_all}
-use Rattle.std.specs.Option.{option_zip}
-use Rattle.std.specs.Str.Parse.{AllDigits, digits_value}
-use Rattle.std.proofs.lemmas.Bool.{lt-ltb, ltb-true, leb-true, and_parts}
+use Rattle.std.specs.Str.Parse.{AllDigits}
+use Rattle.std.proofs.lemmas.Bool.{ltb-true, leb-true, and_parts}
 use Rattle.std.proofs.lemmas.Bool.Decides.{nat_tests}
-use Rattle.std.proofs.lemmas.Fmt.{decimal_nonempty, digits_decimal, digits_value-decimal, length-decimal-le}
-use Rattle.std.proofs.lemmas.Slice.Eq.{bytes_eq-Decides}
-use Rattle.std.proofs.lemmas.Str.Parse.{IsNumeralModel, numerals_by_value, tells_digits, digit_at}
+use Rattle.std.proofs.lemmas.Fmt.{decimal_nonempty, digits_decimal, length-decimal-le}
+use Rattle.std.proofs.lemmas.Str.Parse.{digit_at}
 use Rattle.wq_items.specs.Names.{is_name, is_name_byte}
-use Rattle.wq_text.proofs.PieceLemmas.{is_false}
-use Rattle.wq_items.specs.Table.{item_named}
-use Rattle.wq_cert.specs.Forms.{number_of, items_of, count_form}
 use Rattle.wq_cert.specs.PlanText.{name_of}
-use Rattle.wq_cert.proofs.ListLemmas.{position-first}
 use Rattle.wq_cert.proofs.PrintedLines.{IsPlain, IsPrintable, IsPrintableLine}
-
-pub bytes_eq-same : (bytes : List ℕ) → bytes_eq bytes bytes ≡ true
-bytes_eq-same bytes = (bytes_eq-Decides bytes bytes).1 refl
+use Rattle.wq_cert.proofs.SpelledNumbers.{decimals}
 
 -- ---- numbers
-
-own : IsNumeralModel (AllDigits 10) (digits_value 10)
-own = numerals_by_value _ tells_digits
-
-pub number_of-decimal : (n : ℕ) → n < 2 ^ 32 → number_of (decimal n) ≡ Some n
-number_of-decimal n small =
-    let value : digits_value 10 (decimal n) ≡ n = digits_value-decimal own n (omega arith) in
-    ap (λ (m : ℕ). cond (bytes_eq (decimal n) (decimal m) && ltb m (2 ^ 32)) (Some m) None) value
-    ∙ ap (λ (b : Bool). cond (b && ltb n (2 ^ 32)) (Some n) None) (bytes_eq-same (decimal n))
-    ∙ ap (λ (b : Bool). cond b (Some n) None) (lt-ltb n (2 ^ 32) small)
 
 plain-digits : (ds : List ℕ) → AllDigits 10 ds → IsPlain ds
 plain-digits [] h = tt
@@ -40,13 +21,9 @@ plain-digits (d ∷ ds) h = let first = digit_at (d ∷ ds) 0 h (omega arith) in
 pub IsPrintable-decimal : (n : ℕ) → n < 2 ^ 32 → IsPrintable (decimal n)
 IsPrintable-decimal n small = record {
   filled = λ e. omega (arith, decimal_nonempty n (omega arith), ap length e);
-  plain = plain-digits (decimal n) (digits_decimal own n (omega arith));
+  plain = plain-digits (decimal n) (digits_decimal decimals n (omega arith));
   short = omega (arith, length-decimal-le 10 n (omega arith) (omega arith) (omega arith));
 }
-
--- `KEYWORD N`
-pub count_form-printed : (keyword : List ℕ) (n : ℕ) → n < 2 ^ 32 → count_form keyword (keyword ∷ decimal n ∷ []) ≡ Some n
-count_form-printed keyword n small = ap (λ (b : Bool). cond b (number_of (decimal n)) None) (bytes_eq-same keyword) ∙ number_of-decimal n small
 
 -- ---- keywords
 
@@ -90,18 +67,3 @@ module _ (names : List (List ℕ)) where
       → AllByRecursion IsPrintable (map (name_of names) is)
   IsPrintable-names_of named [] within = tt
   IsPrintable-names_of named (i ∷ is) within = (IsPrintable-name_of named i within.0, IsPrintable-names_of named is within.1)
-
-  module _ (differ : AllPairs (λ (a b : List ℕ). a ≢ b) names) where
-    pub item_named-name_of : (i : ℕ) → i < length names → item_named names (name_of names i) ≡ Some i
-    item_named-name_of i within =
-        let name = name_of names i in
-        position-first (bytes_eq name) names i [] within
-        (λ k lt. is_false (bytes_eq name (get_or names k [])) (λ e. differ k i [] lt within (sym ((bytes_eq-Decides name (get_or names k [])).0 e))))
-        (bytes_eq-same name)
-
-    pub items_of-names_of : (is : List ℕ) → AllByRecursion (λ i. i < length names) is → items_of names (map (name_of names) is) ≡ Some is
-    items_of-names_of [] within = refl
-    items_of-names_of (i ∷ is) within =
-        let join : ℕ × List ℕ → List ℕ = λ p. p.0 ∷ p.1 in
-        ap (λ (o : Option ℕ). option_map join (option_zip o (items_of names (map (name_of names) is)))) (item_named-name_of i within.0)
-        ∙ ap (λ (o : Option (List ℕ)). option_map join (option_zip (Some i) o)) (items_of-names_of is within.1)

@@ -1,11 +1,10 @@
 -- What is read is in range.
-use Rattle.std.proofs.Common.{◌≡◌, ℕ, suc, ◌+◌, ◌-◌, ◌<◌, ◌≤◌, ◌⊎◌, inl, inr, Bool, true, false, cond, eqb, List, [], ◌∷◌, ◌++◌, length, map, Option, Some, None, Result, Ok, Err, refl, sym, ap, subst, ◌∙◌, arith, length-append}
+use Rattle.std.proofs.Common.{◌≡◌, ℕ, suc, ◌+◌, ◌≤◌, ◌⊎◌, inl, inr, Bool, true, false, cond, eqb, List, [], ◌∷◌, length, map, Option, Some, None, Result, Ok, refl, sym, ap, subst, arith, length-append}
 use Rattle.std.specs.Prelude.{codes, filter}
-use Rattle.std.specs.List.{All}
 use Rattle.std.proofs.lemmas.List.{length-map}
 use Rattle.wq_text.specs.declared.text.TextError.{TextError}
 use Rattle.wq_text.specs.declared.text.TextError.TheVariants.{TextTooLong, LineTooLong}
-use Rattle.wq_text.specs.Lines.{LineView, Piece, pieces, in_front, lines_from, line_bytes, taken, lines_of}
+use Rattle.wq_text.specs.Lines.{Piece, pieces, in_front, lines_from, taken, lines_of}
 use Rattle.wq_text.specs.Limits.{limit_fault}
 use Rattle.wq_text.proofs.LimitLaws.{fits-limit_fault}
 use Rattle.wq_groups.specs.Partition.{Partition, IsPartition}
@@ -19,8 +18,9 @@ use Rattle.wq_cert.specs.PlanText.{arc_line}
 use Rattle.wq_cert.specs.RunText.{step_line}
 use Rattle.wq_cert.specs.Ranges.{IsAssignmentOf, IsRunOf, IsPlanOf, IsCircleOf, IsCertificateOf}
 use Rattle.wq_cert.specs.Reading.{and_then, plan_reading, circle_reading, run_reading, queues_reading, answer_reading, assignment_reading, assignment_of}
-use Rattle.wq_cert.specs.Spelled.{words_in, AreQueues, SpellsPlan, SpellsRun, SpellsRunBehind, SpellsCircle, SpellsQueues}
+use Rattle.wq_cert.specs.Spelled.{words_in, AreQueues, SpellsPlan, SpellsRun, SpellsRunBehind, SpellsCircle}
 use Rattle.wq_cert.specs.Texts.{max_text, max_line, by_limits, text_reading, answer_of, assignment_of_text, run_of}
+use Rattle.wq_cert.proofs.ListLemmas.{length-filter-le}
 use Rattle.wq_cert.proofs.SpelledLines.{Follows-and_then, same_ok}
 use Rattle.wq_cert.proofs.SpelledTexts.{SpellsRun-run_reading, SpellsCircle-circle_reading, SpellsQueues-queues_reading, SpellsPlan-plan_reading}
 use Rattle.wq_cert.proofs.QueueLanes.{IsAssignmentOf-queues}
@@ -44,20 +44,12 @@ length-lines_from : (n start : ℕ) (ps : List Piece) → length (lines_from n s
 length-lines_from n start [] = refl
 length-lines_from n start (p ∷ ps) = ap suc (length-lines_from (n + 1) (start + taken p) ps)
 
-length-filter : {X : Type 0} (test : X → Bool) (xs : List X) → length (filter test xs) ≤ length xs
-length-filter test [] = omega arith
-length-filter test (x ∷ xs) = chosen (test x) (length-filter test xs)
-  where
-    chosen : (b : Bool) → length (filter test xs) ≤ length xs → length (cond b (x ∷ filter test xs) (filter test xs)) ≤ length (x ∷ xs)
-    chosen true few = omega arith
-    chosen false few = omega arith
-
 pub length-cert_lines : (text : List ℕ) → length (cert_lines (lines_of text)) ≤ length text
 length-cert_lines text =
     omega (
       arith,
       length-map (filter holds_word (lines_of text)) cert_line,
-      length-filter holds_word (lines_of text),
+      length-filter-le holds_word (lines_of text),
       length-lines_from 1 0 (pieces text),
       length-pieces text,
     )

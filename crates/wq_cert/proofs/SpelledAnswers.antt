@@ -1,5 +1,5 @@
 -- Which texts are read as an answer, an assignment or a run.
-use Rattle.std.proofs.Common.{◌≡◌, ◌≢◌, ℕ, ◌≤◌, ◌⊎◌, inl, inr, Bool, true, false, cond, List, [], ◌∷◌, ◌++◌, length, map, get_or, Option, Some, None, Result, Ok, Err, refl, sym, ap, subst, ◌∙◌}
+use Rattle.std.proofs.Common.{◌≡◌, ◌≢◌, ℕ, inl, inr, Bool, false, cond, List, [], ◌∷◌, length, map, get_or, Option, None, Result, Ok, ap, ◌∙◌}
 use Rattle.std.specs.Prelude.{AllPairs, codes, decimal}
 use Rattle.wq_text.specs.declared.text.TextError.{TextError}
 use Rattle.wq_text.specs.Lines.{lines_of}
@@ -9,13 +9,13 @@ use Rattle.wq_groups.specs.Partition.{Partition}
 use Rattle.wq_groups.specs.Assignment.{Assignment}
 use Rattle.wq_core.specs.declared.step.Step.{Step}
 use Rattle.wq_cert.specs.declared.fault.CertError.{CertError}
-use Rattle.wq_cert.specs.Certificate.{PlanCertificate, CircleCertificate, Certificate, OfPlan, OfCircle}
+use Rattle.wq_cert.specs.Certificate.{CircleCertificate, Certificate, OfPlan, OfCircle}
 use Rattle.wq_cert.specs.Lines.{CertLine, cert_lines}
 use Rattle.wq_cert.specs.Forms.{begins_with}
 use Rattle.wq_cert.specs.PlanText.{plan_line}
 use Rattle.wq_cert.specs.CircleText.{circle_line}
 use Rattle.wq_cert.specs.Reading.{and_then, plan_reading, circle_reading, run_reading, queues_reading, answer_reading, assignment_reading}
-use Rattle.wq_cert.specs.Spelled.{words_in, words_of_text, queue_lines, SpellsPlan, SpellsCircle, SpellsRun, SpellsQueues, SpellsCertificate, SpellsAssignment, KeepsLimits}
+use Rattle.wq_cert.specs.Spelled.{words_in, words_of_text, queue_lines, SpellsCircle, SpellsRun, SpellsCertificate, SpellsAssignment, KeepsLimits}
 use Rattle.wq_cert.specs.Texts.{max_text, max_line, by_limits, text_reading, answer_of, assignment_of_text, run_of}
 use Rattle.wq_cert.proofs.SpelledTexts.{SpellsRun-run_reading, run_reading-SpellsRun, SpellsCircle-circle_reading, circle_reading-SpellsCircle, SpellsQueues-queues_reading, queues_reading-SpellsQueues, SpellsPlan-plan_reading, plan_reading-SpellsPlan}
 use Rattle.wq_cert.proofs.ReadRanges.{IsReadSo-text_reading, IsReadAs, IsReadAs-answer_reading, circle_answer, plan_answer, IsAssignedBy, IsAssignedBy-assignment_reading, of_plan}
@@ -35,6 +35,18 @@ module _ {V : Type 0} (read : List CertLine → Result V CertError) (text : List
       ap (λ (o : Option TextError). by_limits o (read (cert_lines (lines_of text)))) within ∙ e
 
 -- ---- lines
+
+-- a circle, whatever the groups: the first word decides that it is one
+pub answer_reading-circle : (names : List (List ℕ)) (p : Partition) → AllPairs (λ (a b : List ℕ). a ≢ b) names → (lines : List CertLine) (c : CircleCertificate) → SpellsCircle names (words_in lines) c
+    → answer_reading names p lines ≡ Ok (OfCircle c)
+answer_reading-circle names p differ [] c spells = absurd (let words = spells.words in cc)
+answer_reading-circle names p differ (line ∷ lines) c spells =
+    let words = spells.words in
+    let first : line.words ≡ circle_line c.arcs = cc in
+    let circle = and_then circle_answer (circle_reading names (line ∷ lines)) in
+    let plan = and_then plan_answer (plan_reading names p (line ∷ lines)) in
+    ap (λ (ws : List (List ℕ)). cond (begins_with (codes "circle") ws) circle plan) first
+    ∙ ap (and_then circle_answer) (circle_reading-SpellsCircle names differ (line ∷ lines) c spells)
 
 module _ (names : List (List ℕ)) (p : Partition) (one_group_each : length names ≡ length p.group_of) where
   SpellsCertificate-read : (lines : List CertLine) (c : Certificate) → IsReadAs names p lines c → SpellsCertificate names p (words_in lines) c
@@ -60,8 +72,8 @@ module _ (names : List (List ℕ)) (p : Partition) (one_group_each : length name
   module _ (differ : AllPairs (λ (a b : List ℕ). a ≢ b) names) where
     -- the first word decides what is read
     answer_reading-spelled : (lines : List CertLine) (c : Certificate) → SpellsCertificate names p (words_in lines) c → answer_reading names p lines ≡ Ok c
+    answer_reading-spelled lines (OfCircle c) spells = answer_reading-circle names p differ lines c spells
     answer_reading-spelled [] (OfPlan c) spells = absurd (let words = spells.words in cc)
-    answer_reading-spelled [] (OfCircle c) spells = absurd (let words = spells.words in cc)
     answer_reading-spelled (line ∷ lines) (OfPlan c) spells =
         let words = spells.words in
         let first : line.words ≡ plan_line (length spells.queues) = cc in
@@ -69,13 +81,6 @@ module _ (names : List (List ℕ)) (p : Partition) (one_group_each : length name
         let plan = and_then plan_answer (plan_reading names p (line ∷ lines)) in
         ap (λ (ws : List (List ℕ)). cond (begins_with (codes "circle") ws) circle plan) first
         ∙ ap (and_then plan_answer) (plan_reading-SpellsPlan names p one_group_each differ (line ∷ lines) c spells)
-    answer_reading-spelled (line ∷ lines) (OfCircle c) spells =
-        let words = spells.words in
-        let first : line.words ≡ circle_line c.arcs = cc in
-        let circle = and_then circle_answer (circle_reading names (line ∷ lines)) in
-        let plan = and_then plan_answer (plan_reading names p (line ∷ lines)) in
-        ap (λ (ws : List (List ℕ)). cond (begins_with (codes "circle") ws) circle plan) first
-        ∙ ap (and_then circle_answer) (circle_reading-SpellsCircle names differ (line ∷ lines) c spells)
 
     pub answer_of-spelled : (text : List ℕ) (c : Certificate) → KeepsLimits text × SpellsCertificate names p (words_of_text text) c → answer_of names p text ≡ Ok c
     answer_of-spelled text c h =

@@ -1,20 +1,19 @@
 -- What a line says: its words are those of the form.
-use Rattle.std.proofs.Common.{◌≡◌, ◌≢◌, ℕ, ◌<◌, ◌≤◌, ◌^◌, ◌⊎◌, inl, inr, Bool, true, false, cond, ltb, List, [], ◌∷◌, length, map, Option, Some, None, Result, Ok, Err, refl, sym, ap, ap₂, subst, ◌∙◌, arith}
-use Rattle.std.specs.Prelude.{AllPairs, bytes_eq, codes, decimal, ok_or}
+use Rattle.std.proofs.Common.{◌≡◌, ◌≢◌, ℕ, ◌<◌, ◌≤◌, ◌^◌, inl, inr, Bool, cond, List, [], ◌∷◌, length, map, Option, Some, None, refl, ap, ap₂, subst, ◌∙◌, arith}
+use Rattle.std.specs.Prelude.{AllPairs, bytes_eq, codes, decimal}
 use Rattle.std.specs.List.{AllByRecursion}
 use Rattle.std.specs.Option.{option_zip, option_and_then}
-use Rattle.std.proofs.lemmas.Bool.{le-ltb, ltb-false}
-use Rattle.wq_text.specs.Numbers.{Spells}
+use Rattle.std.proofs.lemmas.Bool.{ltb-false}
 use Rattle.wq_items.specs.Table.{item_named}
 use Rattle.wq_groups.proofs.Among.{same_name, bytes_eq-same}
 use Rattle.wq_core.specs.declared.step.Step.{Step}
 use Rattle.wq_core.specs.declared.step.Step.TheVariants.{Queue, Cancel, Start, Wait, Over, Finish}
 use Rattle.wq_cert.specs.Forms.{number_of, items_of, count_form, wq_form, arc_form, item_step, lane_step, step_form}
 use Rattle.wq_cert.specs.PlanText.{name_of, arc_line}
-use Rattle.wq_cert.specs.RunText.{step_line}
+use Rattle.wq_cert.specs.RunText.{item_in, step_line}
 use Rattle.wq_cert.specs.Ranges.{IsArcOf, IsStepOf}
 use Rattle.wq_cert.specs.Spelled.{queue_line}
-use Rattle.wq_cert.proofs.SpelledNumbers.{guarded, one_of, AreBoth, AreBoth-zip, zip-AreBoth, Spells-number_of, number_of-Spells, Names, Names-item_named, item_named-Names, AreNames, AreNames-items_of, items_of-AreNames}
+use Rattle.wq_cert.proofs.SpelledNumbers.{guarded, one_of, AreBoth-zip, zip-AreBoth, Spells-number_of, number_of-Spells, Names-item_named, item_named-name_of, AreNames-items_of, items_of-names_of}
 
 -- ---- counts
 
@@ -63,7 +62,7 @@ pub wq_form-IsQueueLine : (names words : List (List ℕ)) → AllPairs (λ (a b 
 wq_form-IsQueueLine names words differ queue line =
     ap (wq_form names) line.words_are ∙ zip-AreBoth (number_of (decimal queue.0)) (items_of names (map (name_of names) queue.1)) queue (record {
       left = number_of-Spells (decimal queue.0) queue.0 (record { fits = line.fits; digits = refl });
-      right = items_of-AreNames names differ queue.1 line.known;
+      right = items_of-names_of names differ queue.1 line.known;
     })
 
 -- ---- arcs
@@ -91,27 +90,18 @@ IsArcLine-arc_form names (word ∷ item ∷ target ∷ more ∷ words) arc e = a
 pub arc_form-IsArcLine : (names words : List (List ℕ)) → AllPairs (λ (a b : List ℕ). a ≢ b) names → (arc : ℕ × ℕ) → IsArcLine names words arc → arc_form names words ≡ Some arc
 arc_form-IsArcLine names words differ arc line =
     ap (arc_form names) line.words_are ∙ zip-AreBoth (item_named names (name_of names arc.0)) (item_named names (name_of names arc.1)) arc (record {
-      left = item_named-Names names differ (name_of names arc.0) arc.0 (record { known = line.known.0; name = refl });
-      right = item_named-Names names differ (name_of names arc.1) arc.1 (record { known = line.known.1; name = refl });
+      left = item_named-name_of names differ arc.0 line.known.0;
+      right = item_named-name_of names differ arc.1 line.known.1;
     })
 
 -- ---- steps
 
--- a step names an item that there is
-abbrev pub NamesItem : ℕ → Step → Type 0
-NamesItem items (Queue i) = i < items
-NamesItem items (Cancel i) = i < items
-NamesItem items (Start q i) = i < items
-NamesItem items (Wait q b) = b < items
-NamesItem items (Over q b) = b < items
-NamesItem items (Finish q i) = i < items
-
 -- the line of a step
 pub record IsStepLine (names words : List (List ℕ)) (step : Step) : Type 0 where
   pub words_are : words ≡ step_line names step
-  pub known : NamesItem (length names) step
+  pub known : item_in step < length names
 
-IsStepLine-at : (names words others : List (List ℕ)) (step other : Step) → words ≡ others → other ≡ step → others ≡ step_line names other → NamesItem (length names) other → IsStepLine names words step
+IsStepLine-at : (names words others : List (List ℕ)) (step other : Step) → words ≡ others → other ≡ step → others ≡ step_line names other → item_in other < length names → IsStepLine names words step
 IsStepLine-at names words others step other same is line known =
     subst (IsStepLine names words) is (record { words_are = same ∙ line; known = known })
 
@@ -175,20 +165,20 @@ IsStepLine-step_form names (word ∷ lane ∷ item ∷ more ∷ words) step e = 
 
 module _ (names : List (List ℕ)) (differ : AllPairs (λ (a b : List ℕ). a ≢ b) names) where
   item_said : (word : List ℕ) (i : ℕ) → i < length names → step_form names (word ∷ name_of names i ∷ []) ≡ item_step word i
-  item_said word i known = ap (option_and_then (item_step word)) (item_named-Names names differ (name_of names i) i (record { known = known; name = refl }))
+  item_said word i known = ap (option_and_then (item_step word)) (item_named-name_of names differ i known)
 
-  lane_said : (word : List ℕ) (q i : ℕ) → i < length names → q < 4096 → step_form names (word ∷ decimal q ∷ name_of names i ∷ []) ≡ lane_step word q i
+  lane_said : (word : List ℕ) (q i : ℕ) → i < length names → q ≤ 4095 → step_form names (word ∷ decimal q ∷ name_of names i ∷ []) ≡ lane_step word q i
   lane_said word q i known near =
       let step : ℕ × ℕ → Option Step = λ p. lane_step word p.0 p.1 in
       ap (λ (o : Option (ℕ × ℕ)). option_and_then step o) (zip-AreBoth (number_of (decimal q)) (item_named names (name_of names i)) (q, i) (record {
         left = number_of-Spells (decimal q) q (record { fits = omega arith; digits = refl });
-        right = item_named-Names names differ (name_of names i) i (record { known = known; name = refl });
+        right = item_named-name_of names differ i known;
       }))
 
   pub step_form-line : (step : Step) → IsStepOf (length names) step → step_form names (step_line names step) ≡ Some step
-  step_form-line (Queue i) h = item_said (codes "queue") i h
-  step_form-line (Cancel i) h = item_said (codes "cancel") i h
-  step_form-line (Start q i) h = lane_said (codes "start") q i h.0 h.1
-  step_form-line (Wait q b) h = lane_said (codes "wait") q b h.0 h.1
-  step_form-line (Over q b) h = lane_said (codes "over") q b h.0 h.1
-  step_form-line (Finish q i) h = lane_said (codes "finish") q i h.0 h.1
+  step_form-line (Queue i) h = item_said (codes "queue") i h.0
+  step_form-line (Cancel i) h = item_said (codes "cancel") i h.0
+  step_form-line (Start q i) h = lane_said (codes "start") q i h.0 (ltb-false 4095 q h.1)
+  step_form-line (Wait q b) h = lane_said (codes "wait") q b h.0 (ltb-false 4095 q h.1)
+  step_form-line (Over q b) h = lane_said (codes "over") q b h.0 (ltb-false 4095 q h.1)
+  step_form-line (Finish q i) h = lane_said (codes "finish") q i h.0 (ltb-false 4095 q h.1)

@@ -1,10 +1,9 @@
 -- Lines that are read one after the other, where each value has words of its own.
-use Rattle.std.proofs.Common.{◌≡◌, ◌≢◌, ℕ, zero, suc, ◌+◌, ◌<◌, ◌≤◌, ◌^◌, Bool, true, false, cond, ltb, eqb, List, [], ◌∷◌, ◌++◌, length, map, Option, Some, None, Result, Ok, Err, refl, sym, ap, ap₂, subst, ◌∙◌, arith}
+use Rattle.std.proofs.Common.{◌≡◌, ◌≢◌, ℕ, zero, suc, ◌<◌, ◌≤◌, ◌^◌, Bool, true, false, cond, ltb, eqb, List, [], ◌∷◌, ◌++◌, length, map, Option, Some, None, Result, Ok, Err, refl, sym, ap, ap₂, subst, ◌∙◌, arith}
 use Rattle.std.specs.Prelude.{AllPairs, codes, decimal, ok_or}
 use Rattle.std.specs.List.{AllByRecursion}
 use Rattle.std.proofs.lemmas.Bool.{le-ltb, ltb-false, eqb-false, ne_eqb}
 use Rattle.wq_core.specs.declared.step.Step.{Step}
-use Rattle.wq_core.specs.declared.step.Step.TheVariants.{Queue, Cancel, Start, Wait, Over, Finish}
 use Rattle.wq_cert.specs.declared.fault.CertError.{CertError}
 use Rattle.wq_cert.specs.declared.fault.CertError.TheVariants.{BadCertLine, NumberOutOfRange}
 use Rattle.wq_cert.specs.Lines.{CertLine}
@@ -14,7 +13,7 @@ use Rattle.wq_cert.specs.RunText.{step_line}
 use Rattle.wq_cert.specs.Ranges.{IsArcOf, IsStepOf}
 use Rattle.wq_cert.specs.Reading.{Read, and_then, and_read, next_line, next_lines, at_end, count_reading, circle_count_reading, arc_reading, names_far_lane, step_reading}
 use Rattle.wq_cert.specs.Spelled.{words_in}
-use Rattle.wq_cert.proofs.SpelledForms.{IsCountLine, IsCountLine-count_form, count_form-IsCountLine, IsArcLine-arc_form, arc_form-IsArcLine, NamesItem, IsStepLine-step_form, step_form-line}
+use Rattle.wq_cert.proofs.SpelledForms.{IsCountLine, IsCountLine-count_form, count_form-IsCountLine, IsArcLine-arc_form, arc_form-IsArcLine, IsStepLine-step_form, step_form-line}
 
 -- ---- what follows a value
 
@@ -233,22 +232,6 @@ IsReadBy-run = record {
 
 -- ---- arcs and steps
 
-NamesItem-near : (items : ℕ) (step : Step) → NamesItem items step → names_far_lane step ≡ false → IsStepOf items step
-NamesItem-near items (Queue i) h far = h
-NamesItem-near items (Cancel i) h far = h
-NamesItem-near items (Start q i) h far = (h, omega (arith, ltb-false 4095 q far))
-NamesItem-near items (Wait q b) h far = (h, omega (arith, ltb-false 4095 q far))
-NamesItem-near items (Over q b) h far = (h, omega (arith, ltb-false 4095 q far))
-NamesItem-near items (Finish q i) h far = (h, omega (arith, ltb-false 4095 q far))
-
-near-IsStepOf : (items : ℕ) (step : Step) → IsStepOf items step → names_far_lane step ≡ false
-near-IsStepOf items (Queue i) h = refl
-near-IsStepOf items (Cancel i) h = refl
-near-IsStepOf items (Start q i) h = le-ltb 4095 q (omega (arith, h.1))
-near-IsStepOf items (Wait q b) h = le-ltb 4095 q (omega (arith, h.1))
-near-IsStepOf items (Over q b) h = le-ltb 4095 q (omega (arith, h.1))
-near-IsStepOf items (Finish q i) h = le-ltb 4095 q (omega (arith, h.1))
-
 module _ (names : List (List ℕ)) where
   arc_found : (line : CertLine) (arc : ℕ × ℕ) → arc_reading names line ≡ Ok arc → arc_form names line.words ≡ Some arc
   arc_found line arc e = Some-ok_or (arc_form names line.words) (BadCertLine line.no) arc e
@@ -272,7 +255,7 @@ module _ (names : List (List ℕ)) where
   pub Shows-step : Shows (step_reading names) (step_line names) (IsStepOf (length names))
   Shows-step = record {
     words_are = λ line step e. (IsStepLine-step_form names line.words step (step_found line step e).0).words_are;
-    holds = λ line step e. NamesItem-near (length names) step (IsStepLine-step_form names line.words step (step_found line step e).0).known (step_found line step e).1;
+    holds = λ line step e. ((IsStepLine-step_form names line.words step (step_found line step e).0).known, (step_found line step e).1);
   }
 
   module _ (differ : AllPairs (λ (a b : List ℕ). a ≢ b) names) where
@@ -286,5 +269,5 @@ module _ (names : List (List ℕ)) where
     IsReadBy-step = record {
       said = λ line step words known.
           ap (λ (o : Option Step). and_then (near_step line.no) (ok_or o (BadCertLine line.no))) (ap (step_form names) words ∙ step_form-line names differ step known)
-          ∙ ap (λ (b : Bool). cond b (Err (NumberOutOfRange line.no)) (Ok step)) (near-IsStepOf (length names) step known);
+          ∙ ap (λ (b : Bool). cond b (Err (NumberOutOfRange line.no)) (Ok step)) known.1;
     }

@@ -1,19 +1,19 @@
 -- What a word says: a number by its one spelling, or an item by its name.
 use Rattle.std.proofs.Common.{◌≡◌, ◌≢◌, ℕ, ◌<◌, ◌^◌, ◌⊎◌, inl, inr, Bool, true, false, ◌&&◌, cond, ltb, List, [], ◌∷◌, length, map, get_or, Option, Some, None, refl, sym, ap, ap₂, subst, ◌∙◌, arith}
-use Rattle.std.specs.Prelude.{AllPairs, bytes_eq, decimal, option_map, position}
-use Rattle.std.specs.List.{AllByRecursion, position_or_len}
+use Rattle.std.specs.Prelude.{AllPairs, bytes_eq, decimal, option_map}
+use Rattle.std.specs.List.{AllByRecursion}
 use Rattle.std.specs.Option.{option_zip}
 use Rattle.std.specs.Str.Parse.{digits_value, AllDigits}
 use Rattle.std.proofs.lemmas.Bool.{and_parts, and_from, lt-ltb, ltb-true, false_from_ne_true}
 use Rattle.std.proofs.lemmas.Fmt.{digits_value-decimal}
 use Rattle.std.proofs.lemmas.List.Quantifiers.{position-Some}
-use Rattle.std.proofs.lemmas.List.Sums.{position_or_len_is}
 use Rattle.std.proofs.lemmas.Str.Parse.{IsNumeralModel, numerals_by_value, tells_digits}
 use Rattle.wq_text.specs.Numbers.{Spells}
 use Rattle.wq_items.specs.Table.{item_named}
 use Rattle.wq_groups.proofs.Among.{same_name, bytes_eq-same}
 use Rattle.wq_cert.specs.Forms.{number_of, items_of}
 use Rattle.wq_cert.specs.PlanText.{name_of}
+use Rattle.wq_cert.proofs.ListLemmas.{position-first}
 
 -- ---- options
 
@@ -44,8 +44,9 @@ zip-AreBoth a b p both = ap₂ (λ o q. option_zip o q) both.left both.right
 
 -- ---- numbers
 
-own : IsNumeralModel (AllDigits 10) (digits_value 10)
-own = numerals_by_value _ tells_digits
+-- decimal digits and their value
+pub decimals : IsNumeralModel (AllDigits 10) (digits_value 10)
+decimals = numerals_by_value _ tells_digits
 
 pub Spells-number_of : (word : List ℕ) (n : ℕ) → number_of word ≡ Some n → Spells word n
 Spells-number_of word n e =
@@ -57,7 +58,7 @@ Spells-number_of word n e =
 
 pub number_of-Spells : (word : List ℕ) (n : ℕ) → Spells word n → number_of word ≡ Some n
 number_of-Spells word n s =
-    let value : digits_value 10 word ≡ n = ap (digits_value 10) s.digits ∙ digits_value-decimal own n (omega (arith, s.fits)) in
+    let value : digits_value 10 word ≡ n = ap (digits_value 10) s.digits ∙ digits_value-decimal decimals n (omega (arith, s.fits)) in
     let passes : (bytes_eq word (decimal n) && ltb n (2 ^ 32)) ≡ true =
     and_from (bytes_eq word (decimal n)) (ltb n (2 ^ 32)) (bytes_eq-same word (decimal n) s.digits) (lt-ltb n (2 ^ 32) s.fits) in
     ap (λ (m : ℕ). cond (bytes_eq word (decimal m) && ltb m (2 ^ 32)) (Some m) None) value ∙ ap (λ (b : Bool). cond b (Some n) None) passes
@@ -74,12 +75,12 @@ Names-item_named names word i e =
     let found = position-Some (bytes_eq word) names i [] e in
     record { known = found.0; name = same_name word (get_or names i []) found.1 }
 
-pub item_named-Names : (names : List (List ℕ)) → AllPairs (λ (a b : List ℕ). a ≢ b) names → (word : List ℕ) (i : ℕ) → Names names word i → item_named names word ≡ Some i
-item_named-Names names differ word i h =
-    let other : (k : ℕ) → k < i → bytes_eq word (get_or names k []) ≡ false = λ k before.
-    false_from_ne_true (bytes_eq word (get_or names k [])) (λ same. differ k i [] before h.known (sym (same_name word (get_or names k []) same) ∙ h.name)) in
-    let place : position_or_len (bytes_eq word) names ≡ i = position_or_len_is (bytes_eq word) names i [] (omega (arith, h.known)) other (λ lt. bytes_eq-same word (get_or names i []) h.name) in
-    ap (λ (n : ℕ). cond (ltb n (length names)) (Some n) None) place ∙ ap (λ (b : Bool). cond b (Some i) None) (lt-ltb i (length names) h.known)
+pub item_named-name_of : (names : List (List ℕ)) → AllPairs (λ (a b : List ℕ). a ≢ b) names → (i : ℕ) → i < length names → item_named names (name_of names i) ≡ Some i
+item_named-name_of names differ i within =
+    let name = name_of names i in
+    position-first (bytes_eq name) names i [] within
+    (λ k before. false_from_ne_true (bytes_eq name (get_or names k [])) (λ same. differ k i [] before within (sym (same_name name (get_or names k []) same))))
+    (bytes_eq-same name name refl)
 
 -- the words are the names of these items
 pub record AreNames (names words : List (List ℕ)) (items : List ℕ) : Type 0 where
@@ -108,8 +109,8 @@ AreNames-items_of names (word ∷ words) items e =
     more_names names words word parts.0 parts.1 (Names-item_named names word parts.0 parts.3) (AreNames-items_of names words parts.1 parts.4)
     )
 
-pub items_of-AreNames : (names : List (List ℕ)) → AllPairs (λ (a b : List ℕ). a ≢ b) names → (items : List ℕ) → AllByRecursion (λ i. i < length names) items → items_of names (map (name_of names) items) ≡ Some items
-items_of-AreNames names differ [] h = refl
-items_of-AreNames names differ (i ∷ items) h =
+pub items_of-names_of : (names : List (List ℕ)) → AllPairs (λ (a b : List ℕ). a ≢ b) names → (items : List ℕ) → AllByRecursion (λ i. i < length names) items → items_of names (map (name_of names) items) ≡ Some items
+items_of-names_of names differ [] h = refl
+items_of-names_of names differ (i ∷ items) h =
     ap₂ (λ (o : Option ℕ) (q : Option (List ℕ)). option_map (λ (p : ℕ × List ℕ). p.0 ∷ p.1) (option_zip o q))
-    (item_named-Names names differ (name_of names i) i (record { known = h.0; name = refl })) (items_of-AreNames names differ items h.1)
+    (item_named-name_of names differ i h.0) (items_of-names_of names differ items h.1)

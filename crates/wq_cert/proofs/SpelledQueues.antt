@@ -1,7 +1,7 @@
 -- Workqueues that are read, line by line.
-use Rattle.std.proofs.Common.{◌≡◌, ◌≢◌, ℕ, zero, suc, ◌+◌, ◌<◌, ◌≤◌, ◌^◌, Bool, true, false, ◌||◌, not, cond, ltb, leb, eqb, List, [], ◌∷◌, ◌++◌, length, map, Option, Some, None, Result, Ok, Err, refl, sym, ap, ap₂, subst, ◌∙◌, arith, append_assoc, append-nil, length-append}
-use Rattle.std.specs.Prelude.{AllPairs, bytes_eq, codes, ok_or}
-use Rattle.std.specs.List.{All, AllByRecursion, concat, enumerate_from}
+use Rattle.std.proofs.Common.{◌≡◌, ◌≢◌, ℕ, zero, suc, ◌+◌, ◌<◌, Bool, true, false, ◌||◌, not, cond, leb, eqb, List, [], ◌∷◌, ◌++◌, length, map, Option, Some, Result, Ok, Err, refl, sym, ap, ap₂, subst, ◌∙◌, arith, append_assoc, append-nil, length-append}
+use Rattle.std.specs.Prelude.{AllPairs, codes, ok_or}
+use Rattle.std.specs.List.{All, concat, enumerate_from}
 use Rattle.std.proofs.lemmas.Bool.{or_parts, or_from, not-false, not_from_true, eqb-true, eq-eqb, leb-false, lt-leb}
 use Rattle.std.proofs.lemmas.List.Elements.{All-from_recursion, recursion_from_All}
 use Rattle.wq_cert.proofs.QueueTurns.{wq_reading-turn}
@@ -12,10 +12,10 @@ use Rattle.wq_groups.specs.Assignment.{Assignment}
 use Rattle.wq_cert.specs.Lines.{CertLine}
 use Rattle.wq_cert.specs.Forms.{wq_form, begins_with}
 use Rattle.wq_cert.specs.Reading.{Read, and_then, and_read, next_line, has_stood, splits_group, wq_reading, next_queues, all_queues, hold_all, assignment_of, whole_assignment}
-use Rattle.wq_cert.specs.Spelled.{words_in, AreQueues, queue_line, queue_lines}
-use Rattle.wq_cert.proofs.SpelledForms.{IsQueueLine, IsQueueLine-wq_form, wq_form-IsQueueLine}
-use Rattle.wq_cert.proofs.SpelledLines.{Follows-and_then, FollowsRead-and_read, and_read-Ok, same_ok, Some-ok_or, past, no_words, Begins}
-use Rattle.wq_cert.proofs.QueueLists.{AreGrown, IsNextQueue, AreGrown-push, AreGrown-front, AreGrown-none, AreGrown-queues, IsNextQueue-grown, AreQueues-grown, hold_all-Contains}
+use Rattle.wq_cert.specs.Spelled.{words_in, AreQueues, queue_line}
+use Rattle.wq_cert.proofs.SpelledForms.{IsQueueLine-wq_form, wq_form-IsQueueLine}
+use Rattle.wq_cert.proofs.SpelledLines.{Follows-and_then, FollowsRead-and_read, same_ok, Some-ok_or, past}
+use Rattle.wq_cert.proofs.QueueLists.{AreGrown, IsNextQueue, AreGrown-push, AreGrown-front, IsNextQueue-grown, AreQueues-grown, hold_all-Contains}
 
 module _ (names : List (List ℕ)) (group_of : List ℕ) where
   abbrev items : ℕ

@@ -1,7 +1,6 @@
 -- Which lines are read as a plan, a circle, a run or an assignment.
-use Rattle.std.proofs.Common.{◌≡◌, ◌≢◌, ℕ, zero, suc, ◌+◌, ◌-◌, ◌<◌, ◌≤◌, ◌^◌, List, [], ◌∷◌, ◌++◌, length, map, Option, Some, None, Result, Ok, Err, refl, sym, ap, ap₂, subst, ◌∙◌, arith, append-nil}
+use Rattle.std.proofs.Common.{◌≡◌, ◌≢◌, ℕ, ◌-◌, ◌<◌, ◌^◌, List, [], ◌∷◌, ◌++◌, length, map, Option, Some, None, Result, Ok, refl, sym, ap, ap₂, subst, ◌∙◌, arith, append-nil}
 use Rattle.std.specs.Prelude.{AllPairs, codes}
-use Rattle.std.specs.List.{All, AllByRecursion}
 use Rattle.std.proofs.lemmas.List.Elements.{All-from_recursion, recursion_from_All}
 use Rattle.wq_groups.specs.Partition.{Partition}
 use Rattle.wq_groups.specs.Assignment.{Assignment}
@@ -11,13 +10,13 @@ use Rattle.wq_cert.specs.declared.fault.CertError.{CertError}
 use Rattle.wq_cert.specs.Certificate.{PlanCertificate, CircleCertificate}
 use Rattle.wq_cert.specs.Lines.{CertLine}
 use Rattle.wq_cert.specs.PlanText.{arc_line}
-use Rattle.wq_cert.specs.RunText.{step_line, run_lines}
+use Rattle.wq_cert.specs.RunText.{step_line}
 use Rattle.wq_cert.specs.Ranges.{IsArcOf, IsStepOf}
-use Rattle.wq_cert.specs.Reading.{Read, and_then, and_read, next_line, next_lines, at_end, count_reading, circle_count_reading, arc_reading, step_reading, next_queues, all_queues, assignment_of, whole_assignment, plan_reading, run_reading, run_behind, circle_reading, queues_reading}
-use Rattle.wq_cert.specs.Spelled.{words_in, AreQueues, queue_lines, count_line, SpellsPlan, SpellsRun, SpellsRunBehind, SpellsCircle, SpellsQueues}
+use Rattle.wq_cert.specs.Reading.{and_then, and_read, next_line, next_lines, at_end, count_reading, circle_count_reading, arc_reading, step_reading, next_queues, all_queues, assignment_of, whole_assignment, plan_reading, run_reading, run_behind, circle_reading, queues_reading}
+use Rattle.wq_cert.specs.Spelled.{words_in, queue_lines, count_line, SpellsPlan, SpellsRun, SpellsRunBehind, SpellsCircle, SpellsQueues}
 use Rattle.wq_cert.proofs.SpelledLines.{Follows-and_then, FollowsRead-and_read, and_read-Ok, same_ok, at_end-Ok, no_words, shown_line, shown_lines, begun_line, begun_lines, count_words, IsCount, IsCircleCount, IsNumber, run_count, Shows-count, IsReadBy-count, Shows-circle, IsReadBy-circle, Shows-run, IsReadBy-run, Shows-arc, IsReadBy-arc, Shows-step, IsReadBy-step}
 use Rattle.wq_cert.proofs.QueueLists.{AreGrown-none, AreGrown-queues}
-use Rattle.wq_cert.proofs.SpelledQueues.{Grows-next_queues, Grows-all_queues, GrowsTo-lines, all_queues-lines, AreWhole, AreWhole-grown, whole_assignment-queues}
+use Rattle.wq_cert.proofs.SpelledQueues.{Grows-next_queues, Grows-all_queues, GrowsTo-lines, all_queues-lines, AreWhole-grown, whole_assignment-queues}
 
 -- what follows a value
 and_then-Ok : {V W : Type 0} (next : V → Result W CertError) (r : Result V CertError) (v : V) → r ≡ Ok v → and_then next r ≡ next v

@@ -18,7 +18,7 @@ use Rattle.wq_core.specs.declared.step.Step.TheVariants.{Queue, Cancel, Start, W
 use Rattle.wq_cert.specs.LineText.{spaced, line_text}
 use Rattle.wq_cert.specs.PlanText.{name_of, items_on, plan_line, wq_line, chain_line, arc_line, plan_text}
 use Rattle.wq_cert.specs.CircleText.{circle_line, circle_text}
-use Rattle.wq_cert.specs.Printable.{IsNamedStep}
+use Rattle.wq_cert.specs.Ranges.{IsStepOf}
 use Rattle.wq_cert.specs.Reading.{names_far_lane}
 use Rattle.wq_cert.specs.RunText.{run_line, step_line, run_lines, run_text}
 use Rattle.wq_cert.proofs.LineLemmas.{plan_text-parts}
@@ -160,25 +160,25 @@ module _ (names : List (List ℕ)) (named : All (λ (name : List ℕ). IsTrue (i
   length-step_line (Over q b) near = length-lane_step (codes "over") q b (omega arith) (ltb-false 4095 q near)
   length-step_line (Finish q i) near = length-lane_step (codes "finish") q i (omega arith) (ltb-false 4095 q near)
 
-  length-step_lines : (steps : List Step) → All (IsNamedStep names) steps → length (flat_map line_text (map (step_line names) steps)) ≤ 76 * length steps
+  length-step_lines : (steps : List Step) → All (IsStepOf (length names)) steps → length (flat_map line_text (map (step_line names) steps)) ≤ 76 * length steps
   length-step_lines [] each = omega arith
   length-step_lines (step ∷ steps) each =
-      let rest : length (flat_map line_text (map (step_line names) steps)) ≤ 76 * length steps = length-step_lines steps (All-tail (IsNamedStep names) step steps each) in
-      let first : length (line_text (step_line names step)) ≤ 76 = length-step_line step (All-head (IsNamedStep names) step steps each).1 in
+      let rest : length (flat_map line_text (map (step_line names) steps)) ≤ 76 * length steps = length-step_lines steps (All-tail (IsStepOf (length names)) step steps each) in
+      let first : length (line_text (step_line names step)) ≤ 76 = length-step_line step (All-head (IsStepOf (length names)) step steps each).1 in
       omega (arith, length-append (line_text (step_line names step)) (flat_map line_text (map (step_line names) steps)))
 
-  length-run_text-le : (steps : List Step) → All (IsNamedStep names) steps → length steps ≤ 65536 → length (run_text names steps) ≤ 10 + 76 * length steps
+  length-run_text-le : (steps : List Step) → All (IsStepOf (length names)) steps → length steps ≤ 65536 → length (run_text names steps) ≤ 10 + 76 * length steps
   length-run_text-le steps each few =
       omega (arith, length-append (line_text (run_line steps)) (flat_map line_text (map (step_line names) steps)), length-run steps few, length-step_lines steps each)
 
-  length-run_behind : (steps : Option (List Step)) → IfSome steps (All (IsNamedStep names)) → IfSome steps (λ run. length run ≤ 65536) → length (flat_map line_text (option_map_or (run_lines names) steps [])) ≤ 5000000
+  length-run_behind : (steps : Option (List Step)) → IfSome steps (All (IsStepOf (length names))) → IfSome steps (λ run. length run ≤ 65536) → length (flat_map line_text (option_map_or (run_lines names) steps [])) ≤ 5000000
   length-run_behind None each few = omega arith
   length-run_behind (Some run) each few = omega (arith, length-run_text-le run each few)
 
-  pub length-run_text : (steps : List Step) → All (IsNamedStep names) steps → length steps ≤ 65536 → length (run_text names steps) ≤ 8388608
+  pub length-run_text : (steps : List Step) → All (IsStepOf (length names)) steps → length steps ≤ 65536 → length (run_text names steps) ≤ 8388608
   length-run_text steps each few = omega (arith, length-run_text-le steps each few)
 
-  pub length-circle_text : (arcs : List (ℕ × ℕ)) (steps : Option (List Step)) → length arcs ≤ 4096 → IfSome steps (All (IsNamedStep names)) → IfSome steps (λ run. length run ≤ 65536)
+  pub length-circle_text : (arcs : List (ℕ × ℕ)) (steps : Option (List Step)) → length arcs ≤ 4096 → IfSome steps (All (IsStepOf (length names))) → IfSome steps (λ run. length run ≤ 65536)
       → length (circle_text names arcs steps) ≤ 8388608
   length-circle_text arcs steps few each few_steps =
       let lines = map (arc_line names) arcs in

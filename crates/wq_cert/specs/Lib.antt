@@ -12,6 +12,5 @@ pub mod LineText
 pub mod PlanText
 pub mod RunText
 pub mod CircleText
-pub mod Printable
 pub mod Ranges
 pub mod Spelled

@@ -24,7 +24,7 @@ plan_line lanes = codes "plan" ∷ decimal lanes ∷ []
 abbrev pub wq_line : List (List ℕ) → List ℕ → ℕ → List (List ℕ)
 wq_line names lane q = codes "wq" ∷ decimal q ∷ map (name_of names) (items_on lane q)
 
--- `chain N`: as many items as arcs and one more, none where there is no workqueue
+-- `chain N`: how many groups the chain has, one more than arcs, and 0 where there is no workqueue
 abbrev pub chain_line : ℕ → List (ℕ × ℕ) → List (List ℕ)
 chain_line lanes chain = codes "chain" ∷ decimal (if lanes == 0 then 0 else length chain + 1) ∷ []
 

@@ -1,10 +1,11 @@
 -- Ranges: what is known of every certificate, assignment and run that is read. Items are counted by their names.
-use Rattle.std.specs.Prelude.{◌≡◌, ℕ, ◌-◌, ◌<◌, ◌≤◌, List, length, Option, Some}
+use Rattle.std.specs.Prelude.{◌≡◌, ℕ, ◌-◌, ◌<◌, ◌≤◌, false, List, length, Some}
 use Rattle.std.specs.List.{All}
 use Rattle.wq_groups.specs.Assignment.{Assignment, IsAssignment}
 use Rattle.wq_core.specs.declared.step.Step.{Step}
-use Rattle.wq_core.specs.declared.step.Step.TheVariants.{Queue, Cancel, Start, Wait, Over, Finish}
 use Rattle.wq_cert.specs.Certificate.{PlanCertificate, CircleCertificate, Certificate, OfPlan, OfCircle}
+use Rattle.wq_cert.specs.Reading.{names_far_lane}
+use Rattle.wq_cert.specs.RunText.{item_in}
 
 -- the item and the target of an arc are two of so many items, or one of them twice
 abbrev pub IsArcOf : ℕ → ℕ × ℕ → Type 0
@@ -12,12 +13,7 @@ IsArcOf items arc = (arc.0 < items) × (arc.1 < items)
 
 -- a step names one of so many items, and a workqueue below 4,096 if it names one
 abbrev pub IsStepOf : ℕ → Step → Type 0
-IsStepOf items (Queue i) = i < items
-IsStepOf items (Cancel i) = i < items
-IsStepOf items (Start q i) = (i < items) × (q < 4096)
-IsStepOf items (Wait q b) = (b < items) × (q < 4096)
-IsStepOf items (Over q b) = (b < items) × (q < 4096)
-IsStepOf items (Finish q i) = (i < items) × (q < 4096)
+IsStepOf items step = (item_in step < items) × (names_far_lane step ≡ false)
 
 -- an assignment of so many groups to at most 4,096 workqueues
 pub record IsAssignmentOf (groups : ℕ) (a : Assignment) : Type 0 where

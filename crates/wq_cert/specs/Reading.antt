@@ -1,6 +1,6 @@
--- Reading: what the lines of a certificate say, or the first fault, in a line by the first row of the table of refusals
--- that it meets: the form (40), the numbers (43), items that stand twice (41), groups that are split (42). An item that
--- stands nowhere is a fault of no line (41), judged behind the last `wq` line.
+-- Reading: what the lines of a certificate say, or the first fault, in a line by the first row of "Refusals of
+-- certificates" in docs/FORMAT.md that it meets: the form (40), the numbers (43), items that stand twice (41), groups that
+-- are split (42). An item that stands nowhere is a fault of no line (41), judged behind the last `wq` line.
 use Rattle.std.specs.Prelude.{ℕ, zero, suc, ◌-◌, ◌==◌, ◌||◌, not, nat_le, nat_lt, if◌then◌else◌, Bool, false, List, [], ◌∷◌, ◌++◌, length, map, slice_index, unwrap_or, Option, Some, None, Result, Ok, Err, ok_or, codes}
 use Rattle.std.specs.List.{list_any, list_all, concat, position, range_with_len}
 use Rattle.wq_groups.specs.Partition.{Partition}

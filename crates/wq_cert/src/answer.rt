@@ -1,6 +1,6 @@
 //! What the text of an answer says.
 //!
-//! Nothing is computed here.
+//! It is what "Certificates" in docs/FORMAT.md calls an answer. Nothing is computed here.
 
 use std::alloc::Allocator;
 use wq_core::Step;
@@ -12,6 +12,7 @@ use wq_items::ItemId;
 pub enum CertAnswer<A: Allocator> {
     /// An assignment, and a chain that shows that no fewer workqueues are enough.
     Plan {
+        /// Which workqueue serves each group: at most 4,096 workqueues, some of which may be empty.
         assignment: Assignment<A>,
         /// How many groups the chain has, at most 4,096.
         length: u32,

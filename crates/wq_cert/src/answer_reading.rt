@@ -3,11 +3,13 @@
 //! The texts are those of "Certificates" in docs/FORMAT.md. Reading takes time in the length of the text and the number
 //! of items, and memory in the number of the items, arcs and steps and in the length of the longest line.
 
-ghost use Rattle.std.specs.Prelude.{◌≡◌, length, map, Ok, IfOk, IfErr};
+ghost use Rattle.std.specs.Prelude.{◌≡◌, length, map, Ok, Err, None, IfOk, IfErr};
+ghost use Rattle.wq_text.specs.Limits.{limit_fault};
 ghost use Rattle.wq_cert.specs.Certificate.{certificate};
 ghost use Rattle.wq_cert.specs.Lines.{cert_line};
 ghost use Rattle.wq_cert.specs.Reading.{plan_reading, answer_reading};
-ghost use Rattle.wq_cert.specs.Texts.{answer_of, IsCertFaultOf};
+ghost use Rattle.wq_cert.specs.Texts.{max_text, max_line, answer_of, IsCertFaultOf};
+ghost use Rattle.wq_cert.specs.declared.fault.CertError.TheVariants.{OutOfMemory};
 
 use crate::answer::CertAnswer;
 use crate::arc_reading::{read_chain, read_circle};
@@ -73,7 +75,7 @@ fn read_answer_lines<A: Allocator + Copy>(
 /// Else the answer is the first fault: `BadCertLine` (40) where the text or a line is too long, before all else; then in
 /// the first line that has one `BadCertLine` (40), `NumberOutOfRange` (43), `NotAllItems` (41) or `GroupSplit` (42), in
 /// this order in a line, with line 0 where the text ends too early (40) or an item stands on no workqueue (41); or
-/// `OutOfMemory` (20).
+/// `OutOfMemory` (20), where a growth was refused in a text within the limits.
 pub fn read_answer<A: Allocator + Copy>(
     alloc: A,
     text: &[u8],
@@ -83,6 +85,8 @@ pub fn read_answer<A: Allocator + Copy>(
     requires { length groups.now.group_of ≡ length table.now.names }
     ensures answer { IfOk result (λ c. answer_of table.now.names groups.now text.now ≡ Ok (certificate c)) }
     ensures fault { IfErr result (λ e. IsCertFaultOf e (answer_of table.now.names groups.now text.now)) }
+    // The limits are judged without memory.
+    ensures memory { result ≡ Err OutOfMemory → limit_fault max_text max_line text.now ≡ None }
 {
     let view = open(text)?;
     read_answer_lines(alloc, table, groups, &view)

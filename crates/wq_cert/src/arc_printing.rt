@@ -1,6 +1,7 @@
 //! Arcs as they are printed, in plan texts and in circle texts.
 //!
-//! The format is that of "Certificates" in docs/FORMAT.md. Takes time in what is printed.
+//! The format is that of "Plan texts" and "Circle texts" in docs/FORMAT.md. Printing takes time and memory in what is
+//! printed.
 
 ghost use Rattle.std.specs.Prelude.{◌≡◌, ◌<◌, ◌++◌, ℕ, length, OnOk};
 ghost use Rattle.wq_cert.specs.LineText.{line_text};

@@ -3,10 +3,12 @@
 //! The texts are those of "Certificates" in docs/FORMAT.md. Reading takes time in the length of the text and the number
 //! of items, and memory in the number of the items and arcs and in the length of the longest line.
 
-ghost use Rattle.std.specs.Prelude.{◌≡◌, length, map, Ok, IfOk, IfErr};
+ghost use Rattle.std.specs.Prelude.{◌≡◌, length, map, Ok, Err, None, IfOk, IfErr};
+ghost use Rattle.wq_text.specs.Limits.{limit_fault};
 ghost use Rattle.wq_cert.specs.Lines.{cert_line};
 ghost use Rattle.wq_cert.specs.Reading.{begins_plan, assignment_reading};
-ghost use Rattle.wq_cert.specs.Texts.{assignment_of_text, IsCertFaultOf};
+ghost use Rattle.wq_cert.specs.Texts.{max_text, max_line, assignment_of_text, IsCertFaultOf};
+ghost use Rattle.wq_cert.specs.declared.fault.CertError.TheVariants.{OutOfMemory};
 
 use crate::answer_reading::read_plan;
 use crate::fault::CertError;
@@ -60,6 +62,8 @@ pub fn read_assignment<A: Allocator + Copy>(
     requires { length groups.now.group_of ≡ length table.now.names }
     ensures assignment { IfOk result (λ a. assignment_of_text table.now.names groups.now text.now ≡ Ok a) }
     ensures fault { IfErr result (λ e. IsCertFaultOf e (assignment_of_text table.now.names groups.now text.now)) }
+    // The limits are judged without memory.
+    ensures memory { result ≡ Err OutOfMemory → limit_fault max_text max_line text.now ≡ None }
 {
     let view = open(text)?;
     read_assignment_lines(alloc, table, groups, &view)

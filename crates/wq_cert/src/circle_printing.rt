@@ -1,6 +1,6 @@
 //! Circle texts: the flushes along which groups wait in a circle, and a run that shows how they come to wait.
 //!
-//! The format is that of "Certificates" in docs/FORMAT.md. Takes time in the length of the text.
+//! The format is that of "Circle texts" in docs/FORMAT.md. Printing takes time and memory in the length of the text.
 
 ghost use Rattle.std.specs.Prelude.{◌≡◌, ◌<◌, ◌++◌, ◌^◌, ℕ, length, OnOk, IfOk, IfSome, option_copied};
 ghost use Rattle.std.specs.List.{All};
@@ -52,7 +52,7 @@ fn put_circle<A: Allocator + Copy>(
 /// run, where there is one.
 ///
 /// There are fewer than 4,294,967,296 arcs, each from an item of the table to one of it, and as many steps, each of an
-/// item of the table.
+/// item of the table. The only error is want of memory (20).
 pub fn circle_text<A: Allocator + Copy>(
     alloc: A,
     table: &ItemTable<'_, A>,

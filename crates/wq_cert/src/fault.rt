@@ -1,6 +1,6 @@
 //! Why a text is no certificate.
 //!
-//! The faults are those of certificates in the table of refusals in docs/FORMAT.md. Each answer takes constant time.
+//! The faults are those of "Refusals of certificates" in docs/FORMAT.md. Each answer takes constant time.
 
 ghost use Rattle.std.specs.Prelude.{◌≡◌};
 ghost use Rattle.wq_cert.specs.Texts.{cert_refusal};
@@ -9,7 +9,8 @@ ghost use Rattle.wq_cert.specs.declared.fault.CertError.TheVariants.{OutOfMemory
 use std::alloc::{AllocError, AllocFailed};
 use thiserror::Error;
 
-/// The first fault of a certificate, in a line by the rows of the table of refusals in docs/FORMAT.md, or want of memory.
+/// The first fault of a certificate, in a line by the rows of "Refusals of certificates" in docs/FORMAT.md, or want of
+/// memory.
 #[derive(Clone, Copy, Debug, PartialEq, Eq, Error)]
 pub enum CertError {
     /// The line isn't of the form that stands next, or is too long; line 0 where the text is too long or ends too

@@ -1,7 +1,7 @@
 //! One line of a certificate: what it says, or its first fault.
 //!
-//! The lines are those of "Certificates" in docs/FORMAT.md. Each function takes time in the length of the line, and no
-//! memory.
+//! The lines are those of "Certificates" and "Run texts" in docs/FORMAT.md. Each function takes time in the length of the
+//! line, and no memory.
 
 ghost use Rattle.std.specs.Prelude.{◌≡◌, nat_lt, if◌then◌else◌, Ok, Err, ok_or, codes};
 ghost use Rattle.wq_cert.specs.declared.fault.CertError.TheVariants.{BadCertLine, NumberOutOfRange};

@@ -1,13 +1,14 @@
 //! Lines as they are printed: words with one space between them, and a line feed.
 //!
-//! Each call takes time in what it adds.
+//! So each line of "Plan texts", "Circle texts" and "Run texts" in docs/FORMAT.md is printed, and what the commands answer.
+//! Each call takes time and memory in what it adds; where memory runs out, a part of that may stand there.
 
 ghost use Rattle.std.specs.Prelude.{◌≡◌, ◌++◌, ◌∷◌, [], OnOk, decimal};
 ghost use Rattle.wq_cert.specs.LineText.{spaced};
 
 use std::alloc::{AllocError, Allocator};
 
-/// Adds bytes.
+/// Adds bytes. The only error is want of memory (20).
 pub fn put<A: Allocator + Copy>(out: &mut Vec<u8, A>, bytes: &[u8]) -> Result<(), AllocError>
     ensures { OnOk result (out.new.items ≡ out.old.items ++ bytes.now) }
 {
@@ -15,7 +16,7 @@ pub fn put<A: Allocator + Copy>(out: &mut Vec<u8, A>, bytes: &[u8]) -> Result<()
     Ok(())
 }
 
-/// Adds a space and a word.
+/// Adds a space and a word. The only error is want of memory (20).
 pub fn put_word<A: Allocator + Copy>(out: &mut Vec<u8, A>, word: &[u8]) -> Result<(), AllocError>
     ensures { OnOk result (out.new.items ≡ out.old.items ++ spaced word.now) }
 {
@@ -24,7 +25,7 @@ pub fn put_word<A: Allocator + Copy>(out: &mut Vec<u8, A>, word: &[u8]) -> Resul
     Ok(())
 }
 
-/// Adds a space and a number.
+/// Adds a space and a number. The only error is want of memory (20).
 pub fn put_number<A: Allocator + Copy>(
     alloc: A,
     out: &mut Vec<u8, A>,
@@ -36,7 +37,7 @@ pub fn put_number<A: Allocator + Copy>(
     put_word(out, digits.as_bytes())
 }
 
-/// Ends a line.
+/// Ends a line. The only error is want of memory (20).
 pub fn put_end<A: Allocator + Copy>(out: &mut Vec<u8, A>) -> Result<(), AllocError>
     ensures { OnOk result (out.new.items ≡ out.old.items ++ (10 ∷ [])) }
 {

@@ -3,9 +3,11 @@
 //! The limits are those of "Certificates" in docs/FORMAT.md. Opening looks at each byte of the text once, and takes no
 //! memory.
 
-ghost use Rattle.std.specs.Prelude.{◌≡◌, Ok, Err, IfOk, IfErr, map};
+ghost use Rattle.std.specs.Prelude.{◌≡◌, ◌≢◌, Ok, Err, None, IfOk, IfErr, map};
+ghost use Rattle.wq_text.specs.Limits.{limit_fault};
 ghost use Rattle.wq_cert.specs.Lines.{cert_line};
-ghost use Rattle.wq_cert.specs.Texts.{text_reading};
+ghost use Rattle.wq_cert.specs.Texts.{max_text, max_line, text_reading};
+ghost use Rattle.wq_cert.specs.declared.fault.CertError.TheVariants.{OutOfMemory};
 
 use crate::fault::CertError;
 use crate::view::CertView;
@@ -22,6 +24,8 @@ const MAX_LINE: u32 = 524_288;
 pub(crate) fn open(text: &[u8]) -> Result<CertView<'_>, CertError>
     ensures lines { IfOk result (λ view. text_reading (λ lines. Ok lines) text.now ≡ Ok (map cert_line view)) }
     ensures fault { IfErr result (λ e. text_reading (λ lines. Ok lines) text.now ≡ Err e) }
+    ensures limits { IfOk result (λ view. limit_fault max_text max_line text.now ≡ None) }
+    ensures memory { result ≢ Err OutOfMemory }
 {
     match Text::new(text, MAX_TEXT, MAX_LINE) {
         Ok(text) => Ok(CertView::new(text)),

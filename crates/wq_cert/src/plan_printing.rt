@@ -1,7 +1,7 @@
 //! Plan texts: the workqueues with their items, and a longest waiting chain.
 //!
-//! The format is that of "Certificates" in docs/FORMAT.md. Printing takes time in the workqueues times the items, and
-//! in the length of the text.
+//! The format is that of "Plan texts" in docs/FORMAT.md. Printing takes time in the workqueues times the items, and in the
+//! length of the text, and memory in the number of items and the length of the text.
 
 ghost use Rattle.std.specs.Prelude.{◌≡◌, ◌<◌, ◌+◌, ◌++◌, ◌^◌, ℕ, length, OnOk, IfOk};
 ghost use Rattle.std.specs.List.{All};
@@ -58,13 +58,13 @@ fn put_chain_line<A: Allocator + Copy>(
     requires { length chain.now + 1 < 2 ^ 32 }
     ensures { OnOk result (out.new.items ≡ out.old.items ++ line_text (chain_line lanes chain.now)) }
 {
-    let items = if lanes == 0 {
+    let groups = if lanes == 0 {
         0
     } else {
         chain.len() as u32 + 1
     };
     put(out, b"chain")?;
-    put_number(alloc, out, items)?;
+    put_number(alloc, out, groups)?;
     put_end(out)
 }
 
@@ -90,7 +90,7 @@ fn item_lanes<A: Allocator + Copy>(
 /// The text of a plan: the number of the workqueues, the items of each, and the arcs of a waiting chain.
 ///
 /// The groups are those of the table's items, and each has a workqueue. The chain has fewer than 4,294,967,295 arcs, each from
-/// an item of the table to one of it.
+/// an item of the table to one of it. The only error is want of memory (20).
 pub fn plan_text<A: Allocator + Copy>(
     alloc: A,
     table: &ItemTable<'_, A>,

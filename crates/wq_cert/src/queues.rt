@@ -1,7 +1,8 @@
 //! The workqueues that are read so far: which items stand on one, and which workqueue serves each group.
 //!
-//! The rules are those of "Certificates" in docs/FORMAT.md. Adding a workqueue takes time in the number of its items; the
-//! other calls take time in the number of items, and memory too.
+//! The rules are those of "Certificates" in docs/FORMAT.md. Reading a workqueue takes time in the length of its line, and
+//! memory in the number of names on it until it is noted. To begin with none, and to make the assignment, takes time and
+//! memory in the number of items.
 
 ghost use Rattle.std.specs.Prelude.{◌≡◌, ◌<◌, ℕ, ◌∷◌, ◌++◌, [], true, false, not, List, length, map, Ok, Err, IfOk, IfErr, Option, Some, None, MatchOption, unwrap_or};
 ghost use Rattle.std.specs.List.{All, concat, list_all};

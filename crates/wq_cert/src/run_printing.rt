@@ -1,6 +1,6 @@
 //! Run texts: the steps of a run, one on each line.
 //!
-//! The format is that of "Certificates" in docs/FORMAT.md. Takes time in the length of the text.
+//! The format is that of "Run texts" in docs/FORMAT.md. Printing takes time and memory in the length of the text.
 
 ghost use Rattle.std.specs.Prelude.{◌≡◌, ◌<◌, ◌++◌, ◌∷◌, [], ◌^◌, ℕ, length, flat_map, decimal, OnOk, IfOk};
 ghost use Rattle.std.specs.List.{All};
@@ -103,7 +103,7 @@ pub(crate) fn put_run<A: Allocator + Copy>(
 
 /// The text of a run: how many steps it has, and these.
 ///
-/// There are fewer than 4,294,967,296 steps, each of an item of the table.
+/// There are fewer than 4,294,967,296 steps, each of an item of the table. The only error is want of memory (20).
 pub fn run_text<A: Allocator + Copy>(
     alloc: A,
     table: &ItemTable<'_, A>,

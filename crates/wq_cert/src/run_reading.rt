@@ -1,12 +1,14 @@
 //! Reading runs: how many steps there are, and each of them on a line of its own.
 //!
-//! The text is that of "Certificates" in docs/FORMAT.md. Reading takes time in the length of the text, and memory in the
+//! The text is that of "Run texts" and "Certificates" in docs/FORMAT.md. Reading takes time in the length of the text, and memory in the
 //! number of the steps that stand there, whatever number is said.
 
-ghost use Rattle.std.specs.Prelude.{◌≡◌, ◌∷◌, Ok, IfOk, IfErr, map, option_map};
+ghost use Rattle.std.specs.Prelude.{◌≡◌, ◌∷◌, Ok, Err, None, IfOk, IfErr, map, option_map};
+ghost use Rattle.wq_text.specs.Limits.{limit_fault};
 ghost use Rattle.wq_cert.specs.Lines.{cert_line};
 ghost use Rattle.wq_cert.specs.Reading.{next_lines, step_reading, run_reading, run_behind};
-ghost use Rattle.wq_cert.specs.Texts.{run_of, IsCertFaultOf};
+ghost use Rattle.wq_cert.specs.Texts.{max_text, max_line, run_of, IsCertFaultOf};
+ghost use Rattle.wq_cert.specs.declared.fault.CertError.TheVariants.{OutOfMemory};
 
 use crate::fault::CertError;
 use crate::line_reading::{read_any_count, read_step};
@@ -91,7 +93,8 @@ fn read_run_lines<A: Allocator + Copy>(
 ///
 /// Else the answer is the first fault: `BadCertLine` (40) where the text or a line is too long, or in the first line that
 /// isn't of the form that stands next, with line 0 where the text ends too early; `NumberOutOfRange` (43) in a line of
-/// that form whose workqueue is above 4,095; or `OutOfMemory` (20).
+/// that form whose workqueue is above 4,095; or `OutOfMemory` (20), where a growth was refused in a text within the
+/// limits.
 pub fn read_run<A: Allocator + Copy>(
     alloc: A,
     text: &[u8],
@@ -99,6 +102,8 @@ pub fn read_run<A: Allocator + Copy>(
 ) -> Result<Vec<Step, A>, CertError>
     ensures steps { IfOk result (λ steps. run_of table.now.names text.now ≡ Ok steps.items) }
     ensures fault { IfErr result (λ e. IsCertFaultOf e (run_of table.now.names text.now)) }
+    // The limits are judged without memory.
+    ensures memory { result ≡ Err OutOfMemory → limit_fault max_text max_line text.now ≡ None }
 {
     let view = open(text)?;
     read_run_lines(alloc, table, view.lines())

@@ -1,6 +1,7 @@
 //! The lines of a text that hold a word.
 //!
-//! Going over them looks at each byte of the text a fixed number of times, and takes no memory.
+//! All others are skipped, by "Certificates" in docs/FORMAT.md. Going over the lines looks at each byte of the text a fixed
+//! number of times, and takes no memory.
 
 ghost use Rattle.std.specs.Prelude.{◌≡◌};
 ghost use Rattle.std.specs.Iterator.{YieldsFirst, item_count};

@@ -1,4 +1,4 @@
--- What good certificates imply: safe assignments, and lanes that wait in a circle.
+-- What good certificates imply: safe assignments, lanes that wait in a circle, and runs that deadlock.
 use Rattle.std.proofs.Common.{◌≡◌, ℕ, ◌-◌, ◌<◌, List, [], ◌∷◌, length, None, Result, Ok, sym, subst, arith}
 use Rattle.std.specs.Prelude.{slice_index}
 use Rattle.std.proofs.lemmas.List.{get_or-map}
@@ -7,9 +7,11 @@ use Rattle.wq_items.specs.Chain.{Circle}
 use Rattle.wq_groups.specs.Declaration.{Declaration, IsDeclaration, GroupWaits}
 use Rattle.wq_groups.specs.Assignment.{Assignment, IsAssignment, lane_of as lane_of_group}
 use Rattle.wq_core.specs.Wiring.{LaneWaits, wiring, lane_of}
-use Rattle.wq_core.specs.Deadlock.{IsSafe}
+use Rattle.wq_core.specs.Deadlock.{IsSafe, Deadlocks, IsLeast}
+use Rattle.wq_core.proofs.CircleKnots.{Deadlocks-circle}
 use Rattle.wq_core.proofs.LaneCircles.{Circle-lanes, Circle-few_lanes}
 use Rattle.wq_core.proofs.Safety.{IsSafe-falls}
+use Rattle.wq_core.proofs.Wirings.{IsWiring-wiring}
 use Rattle.wq_cert.specs.Certificate.{PlanCertificate, CircleCertificate, Certificate, OfPlan, OfCircle}
 use Rattle.wq_checker.specs.declared.answer.Yes.{Yes}
 use Rattle.wq_checker.specs.declared.answer.Yes.TheVariants as yes
@@ -17,7 +19,7 @@ use Rattle.wq_checker.specs.declared.answer.No.{No}
 use Rattle.wq_checker.specs.Chains.{AllJoin, before_in_chain, before_in_circle}
 use Rattle.wq_checker.specs.Falling.{AllFall}
 use Rattle.wq_checker.specs.Answers.{IsGoodPlan, IsPlanAsked, IsCircleAsked, IsAsked, AnswersPlan, AnswersCircle, AnswersCertificate}
-use Rattle.wq_checker.specs.Implications.{YesIsSafe, FewerWaitInCircle, EachWaitsInCircle}
+use Rattle.wq_checker.specs.Implications.{YesIsSafe, FewerWaitInCircle, YesIsLeast, EachWaitsInCircle, EachDeadlocks}
 use Rattle.wq_checker.proofs.GroupChains.{waits-item, waits-target, chain_of_groups, circle_of_groups}
 
 module _ (d : Declaration) (is : IsDeclaration d) where
@@ -46,6 +48,13 @@ module _ (d : Declaration) (is : IsDeclaration d) where
   Circle-fewer c asked good b assignment fewer =
       circle_from_arcs c.length c.arcs good.joined asked.count (λ one none. good.has_group (one, none)) b assignment (omega (arith, fewer, good.long))
 
+  pub IsLeast-good : (c : PlanCertificate) → IsPlanAsked d c → IsGoodPlan d c → IsLeast d c.assignment
+  IsLeast-good c asked good = record {
+    assignment = asked.assignment;
+    safe = IsSafe-fall c.assignment good.falls;
+    fewer = λ b other fewer. Deadlocks-circle (wiring d b) (IsWiring-wiring d b is other) (Circle-fewer c asked good b other fewer);
+  }
+
   -- ---- circles
 
   circle_from_round : (arcs : List (ℕ × ℕ)) → 0 < length arcs → AllJoin d (before_in_circle arcs) arcs → Circle (GroupWaits d)
@@ -54,6 +63,9 @@ module _ (d : Declaration) (is : IsDeclaration d) where
 
   pub Circle-any : (c : CircleCertificate) → IsCircleAsked d c → AllJoin d (before_in_circle c.arcs) c.arcs → (b : Assignment) → Circle (LaneWaits (wiring d b))
   Circle-any c asked joined b = Circle-lanes d b (circle_from_round c.arcs asked.some joined)
+
+  pub Deadlocks-any : (c : CircleCertificate) → IsCircleAsked d c → AllJoin d (before_in_circle c.arcs) c.arcs → (b : Assignment) → IsAssignment d.groups b → Deadlocks (wiring d b)
+  Deadlocks-any c asked joined b assignment = Deadlocks-circle (wiring d b) (IsWiring-wiring d b is assignment) (Circle-any c asked joined b)
 
 -- ---- answers
 
@@ -69,8 +81,19 @@ module _ (d : Declaration) (is : IsDeclaration d) where
       Circle-fewer d is plan asked good.0 b assignment (omega (arith, fewer, good.1))
   FewerWaitInCircle-answer (OfCircle circle) answer asked answers number b says assignment fewer = absurd (subst (AnswersCircle d circle) says answers)
 
+  pub YesIsLeast-answer : (c : Certificate) (answer : Result Yes No) → IsAsked d c → AnswersCertificate d c answer → YesIsLeast d c answer
+  YesIsLeast-answer c answer asked answers plan number same says =
+      let good = subst (λ (x : Certificate). AnswersCertificate d x (Ok (yes.Plan number))) same (subst (AnswersCertificate d c) says answers) in
+      (sym good.1, IsLeast-good d is plan (subst (IsAsked d) same asked) good.0)
+
   pub EachWaitsInCircle-answer : (c : Certificate) (answer : Result Yes No) → IsAsked d c → AnswersCertificate d c answer → EachWaitsInCircle d answer
   EachWaitsInCircle-answer (OfPlan plan) answer asked answers n b says assignment = absurd (subst (AnswersPlan d plan) says answers)
   EachWaitsInCircle-answer (OfCircle circle) answer asked answers n b says assignment =
       let good = subst (AnswersCircle d circle) says answers in
       Circle-any d is circle asked good.0.joined b
+
+  pub EachDeadlocks-answer : (c : Certificate) (answer : Result Yes No) → IsAsked d c → AnswersCertificate d c answer → EachDeadlocks d answer
+  EachDeadlocks-answer (OfPlan plan) answer asked answers n b says assignment = absurd (subst (AnswersPlan d plan) says answers)
+  EachDeadlocks-answer (OfCircle circle) answer asked answers n b says assignment =
+      let good = subst (AnswersCircle d circle) says answers in
+      Deadlocks-any d is circle asked good.0.joined b assignment

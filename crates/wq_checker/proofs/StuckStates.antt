@@ -10,8 +10,9 @@ use Rattle.wq_core.specs.State.{Lane, State, idle_lane, IsUnfinishedOn, HasUnfin
 use Rattle.wq_core.specs.Rules.{Lawful}
 use Rattle.wq_core.specs.Runs.{IsRescuerStep}
 use Rattle.wq_core.specs.Deadlock.{IsStuck}
-use Rattle.wq_core.specs.Played.{IsStepOf, CanMove}
+use Rattle.wq_core.specs.Played.{CanMove}
 use Rattle.wq_core.proofs.LaneLemmas.{idle_lane-unfinished}
+use Rattle.wq_core.proofs.Plays.{IsRescuerStep-of_lane}
 use Rattle.wq_checker.proofs.Decided.{Decided}
 
 -- ---- some lane
@@ -53,14 +54,6 @@ CanMove-rescuer w s (Start q i) is lawful = (q, (Start q i, refl, lawful))
 CanMove-rescuer w s (Wait q b) is lawful = (q, (Wait q b, refl, lawful))
 CanMove-rescuer w s (Over q b) is lawful = (q, (Over q b, refl, lawful))
 CanMove-rescuer w s (Finish q i) is lawful = (q, (Finish q i, refl, lawful))
-
-IsRescuerStep-of_lane : (q : ℕ) (step : Step) → IsStepOf q step → IsRescuerStep step
-IsRescuerStep-of_lane q (Queue i) is = absurd is
-IsRescuerStep-of_lane q (Cancel i) is = absurd is
-IsRescuerStep-of_lane q (Start p i) is = tt
-IsRescuerStep-of_lane q (Wait p b) is = tt
-IsRescuerStep-of_lane q (Over p b) is = tt
-IsRescuerStep-of_lane q (Finish p i) is = tt
 
 -- ---- stuck
 

@@ -1,5 +1,5 @@
 -- Answers of the checker: what a certificate shows, or the first reason why it shows nothing.
-use Rattle.std.specs.Prelude.{◌≡◌, ◌≢◌, ℕ, ◌⊎◌, ◌-◌, ◌<◌, ◌≤◌, List, length, Option, Some, None, Result, Ok, Err}
+use Rattle.std.specs.Prelude.{◌≡◌, ◌≢◌, ℕ, ◌⊎◌, ◌-◌, ◌<◌, ◌≤◌, List, length, Option, Some, None, IsSome, Result, Ok, Err}
 use Rattle.std.specs.List.{All}
 use Rattle.wq_groups.specs.Declaration.{Declaration}
 use Rattle.wq_groups.specs.Assignment.{IsAssignment}
@@ -67,6 +67,11 @@ AnswersCircle d c (Err RunBroken) = AllJoin d (before_in_circle c.arcs) c.arcs �
 abbrev pub AnswersCertificate : Declaration → Certificate → Result Yes No → Type 0
 AnswersCertificate d (OfPlan c) answer = AnswersPlan d c answer
 AnswersCertificate d (OfCircle c) answer = AnswersCircle d c answer
+
+-- a run has to be made for the answer: the arcs of a circle go round, and steps stand behind them
+abbrev pub NeedsRun : Declaration → Certificate → Type 0
+NeedsRun d (OfPlan c) = ⊥
+NeedsRun d (OfCircle c) = AllJoin d (before_in_circle c.arcs) c.arcs × IsSome c.steps
 
 -- ---- certificates that can be asked about
 

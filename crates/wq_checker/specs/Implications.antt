@@ -1,10 +1,10 @@
--- What a yes implies, in words of lanes that wait and of runs.
+-- What a yes implies, in words of lanes that wait and of runs that end stuck.
 use Rattle.std.specs.Prelude.{◌≡◌, ℕ, ◌<◌, Result, Ok}
 use Rattle.wq_items.specs.Chain.{Circle}
 use Rattle.wq_groups.specs.Declaration.{Declaration}
 use Rattle.wq_groups.specs.Assignment.{Assignment, IsAssignment}
 use Rattle.wq_core.specs.Wiring.{LaneWaits, wiring}
-use Rattle.wq_core.specs.Deadlock.{IsSafe}
+use Rattle.wq_core.specs.Deadlock.{IsSafe, Deadlocks, IsLeast}
 use Rattle.wq_cert.specs.Certificate.{PlanCertificate, Certificate, OfPlan}
 use Rattle.wq_checker.specs.declared.answer.Yes.{Yes}
 use Rattle.wq_checker.specs.declared.answer.Yes.TheVariants as yes
@@ -19,6 +19,15 @@ YesIsSafe d certificate answer =
 abbrev pub FewerWaitInCircle : Declaration → Result Yes No → Type 0
 FewerWaitInCircle d answer = (number : ℕ) (b : Assignment) → answer ≡ Ok (yes.Plan number) → IsAssignment d.groups b → b.lanes < number → Circle (LaneWaits (wiring d b))
 
--- where it is yes to a circle, in every assignment they do
+-- and it is least: no run of it ends stuck, and every assignment to fewer deadlocks
+abbrev pub YesIsLeast : Declaration → Certificate → Result Yes No → Type 0
+YesIsLeast d certificate answer =
+    (plan : PlanCertificate) (number : ℕ) → certificate ≡ OfPlan plan → answer ≡ Ok (yes.Plan number) → (plan.assignment.lanes ≡ number) × IsLeast d plan.assignment
+
+-- where it is yes to a circle, in every assignment the lanes wait in a circle
 abbrev pub EachWaitsInCircle : Declaration → Result Yes No → Type 0
 EachWaitsInCircle d answer = (n : ℕ) (b : Assignment) → answer ≡ Ok (yes.Circle n) → IsAssignment d.groups b → Circle (LaneWaits (wiring d b))
+
+-- and every assignment deadlocks
+abbrev pub EachDeadlocks : Declaration → Result Yes No → Type 0
+EachDeadlocks d answer = (n : ℕ) (b : Assignment) → answer ≡ Ok (yes.Circle n) → IsAssignment d.groups b → Deadlocks (wiring d b)

@@ -1,6 +1,7 @@
 //! What is answered to a certificate.
 //!
-//! Nothing is computed here but numbers of refusals, in constant time.
+//! The answers are those of "The command `check`" in docs/FORMAT.md. Nothing is computed here but the numbers of the
+//! reasons, in constant time.
 
 ghost use Rattle.std.specs.Prelude.{◌≡◌};
 ghost use Rattle.wq_checker.specs.Codes.{no_code};

@@ -1,19 +1,19 @@
 //! Whether a certificate shows what it says.
 //!
 //! Of a plan: each declared flush goes to a workqueue with a lower number, so it is safe; and a chain of as many groups as
-//! there are workqueues shows that fewer make workqueues wait in a circle. Of a circle: its arcs go round groups, and its
+//! there are workqueues shows that fewer wait in a circle, and so deadlock. Of a circle: its arcs go round groups, and its
 //! run, where there is one, ends in a deadlock. The rules are those of "The command `check`" in docs/FORMAT.md. A plan
 //! takes time in the number of items and flushes, and for each arc of its chain in the flushes that the arc's item
 //! declares, and no memory. A circle takes that for its arcs, and for its run that of `check_run`.
 
-ghost use Rattle.std.specs.Prelude.{◌≡◌, ◌<◌, ◌≤◌, ◌↔◌, IsTrue, IfOk, IfSome, option_map, length};
+ghost use Rattle.std.specs.Prelude.{◌≡◌, ◌<◌, ◌≤◌, ◌↔◌, IsTrue, IsSome, IfOk, OnErr, IfSome, option_map, length};
 ghost use Rattle.wq_groups.specs.Declaration.{declaration_of};
 ghost use Rattle.wq_core.specs.Wiring.{wiring, own_lanes};
 ghost use Rattle.wq_core.specs.Deadlock.{DeadlocksBy};
-ghost use Rattle.wq_cert.specs.Certificate.{certificate};
+ghost use Rattle.wq_cert.specs.Certificate.{OfCircle, certificate};
 ghost use Rattle.wq_checker.specs.declared.run.RunEnd.TheVariants.{Deadlock};
-ghost use Rattle.wq_checker.specs.Answers.{IsAsked, IsPlanAsked, IsCircleAsked, AnswersPlan, AnswersCircle, AnswersCertificate, ShowsDeadlock};
-ghost use Rattle.wq_checker.specs.Implications.{YesIsSafe, FewerWaitInCircle, EachWaitsInCircle};
+ghost use Rattle.wq_checker.specs.Answers.{IsAsked, IsPlanAsked, IsCircleAsked, AnswersPlan, AnswersCircle, AnswersCertificate, ShowsDeadlock, NeedsRun};
+ghost use Rattle.wq_checker.specs.Implications.{YesIsSafe, FewerWaitInCircle, YesIsLeast, EachWaitsInCircle, EachDeadlocks};
 
 use crate::answer::{No, Yes};
 use crate::chains::first_break;
@@ -100,7 +100,8 @@ fn show_deadlock<A: Allocator + Copy>(
 ) -> Result<bool, AllocError>
     requires grouped { length groups.now.group_of ≡ length table.now.names }
     requires few { IfSome steps.now (λ s. length s.items < 4294967295) }
-    ensures { IfOk result (λ b. IsTrue b ↔ ShowsDeadlock (declaration_of table.now groups.now) (option_map (λ s. s.items) steps.now)) }
+    ensures shows { IfOk result (λ b. IsTrue b ↔ ShowsDeadlock (declaration_of table.now groups.now) (option_map (λ s. s.items) steps.now)) }
+    ensures memory { OnErr result (IsSome steps.now) }
 {
     match steps {
         Some(steps) => deadlocks(alloc, table, groups, steps.as_slice()),
@@ -118,7 +119,8 @@ fn check_circle<A: Allocator + Copy>(
 ) -> Result<Result<Yes, No>, AllocError>
     requires grouped { length groups.now.group_of ≡ length table.now.names }
     requires asked { IsCircleAsked (declaration_of table.now groups.now) (record { arcs = arcs.now; steps = option_map (λ s. s.items) steps.now }) }
-    ensures { IfOk result (λ answer. AnswersCircle (declaration_of table.now groups.now) (record { arcs = arcs.now; steps = option_map (λ s. s.items) steps.now }) answer) }
+    ensures answer { IfOk result (λ answer. AnswersCircle (declaration_of table.now groups.now) (record { arcs = arcs.now; steps = option_map (λ s. s.items) steps.now }) answer) }
+    ensures memory { OnErr result (NeedsRun (declaration_of table.now groups.now) (OfCircle (record { arcs = arcs.now; steps = option_map (λ s. s.items) steps.now }))) }
 {
     if let Some(at) = first_break(table, groups, arcs.last().copied(), arcs) {
         return Ok(Err(No::CircleBroken { at }));
@@ -141,7 +143,8 @@ fn check_certificate<A: Allocator + Copy>(
 ) -> Result<Result<Yes, No>, AllocError>
     requires grouped { length groups.now.group_of ≡ length table.now.names }
     requires asked { IsAsked (declaration_of table.now groups.now) (certificate answer.now) }
-    ensures { IfOk result (λ r. AnswersCertificate (declaration_of table.now groups.now) (certificate answer.now) r) }
+    ensures answer { IfOk result (λ r. AnswersCertificate (declaration_of table.now groups.now) (certificate answer.now) r) }
+    ensures memory { OnErr result (NeedsRun (declaration_of table.now groups.now) (certificate answer.now)) }
 {
     match answer {
         CertAnswer::Plan {
@@ -160,8 +163,9 @@ fn check_certificate<A: Allocator + Copy>(
 /// It is one of the declaration, as every certificate is that is read: its assignment has a lane for each group, its arcs
 /// are of items, and their number is one less than the length of the chain (none for 0), or from 1 to 4,096 in a circle;
 /// and it has fewer than 4,294,967,295 steps. A yes to a plan implies that it is safe, and that in every assignment to
-/// fewer workqueues these wait in a circle; a yes to a circle, that in every assignment they do. The only error is want of
-/// memory (20).
+/// fewer workqueues these wait in a circle, and some run deadlocks; a yes to a circle, that both are so in every assignment.
+/// The only error is want of memory (20), and it comes only where the arcs of a circle go round and steps stand behind
+/// them.
 pub fn check_answer<A: Allocator + Copy>(
     alloc: A,
     table: &ItemTable<'_, A>,
@@ -171,9 +175,15 @@ pub fn check_answer<A: Allocator + Copy>(
     requires grouped { length groups.now.group_of ≡ length table.now.names }
     requires asked { IsAsked (declaration_of table.now groups.now) (certificate answer.now) }
     ensures answer { IfOk result (λ r. AnswersCertificate (declaration_of table.now groups.now) (certificate answer.now) r) }
+    // What a yes to a plan implies.
     ensures safe { IfOk result (λ r. YesIsSafe (declaration_of table.now groups.now) (certificate answer.now) r) }
     ensures fewer { IfOk result (λ r. FewerWaitInCircle (declaration_of table.now groups.now) r) }
+    ensures least { IfOk result (λ r. YesIsLeast (declaration_of table.now groups.now) (certificate answer.now) r) }
+    // What a yes to a circle implies.
     ensures circle { IfOk result (λ r. EachWaitsInCircle (declaration_of table.now groups.now) r) }
+    ensures deadlocks { IfOk result (λ r. EachDeadlocks (declaration_of table.now groups.now) r) }
+    // Only a run takes memory.
+    ensures memory { OnErr result (NeedsRun (declaration_of table.now groups.now) (certificate answer.now)) }
 {
     let _items = table.len();
     let _groups = groups.len();

@@ -8,7 +8,7 @@ ghost use Rattle.wq_groups.specs.Declaration.{Declaration, IsDeclaration};
 ghost use Rattle.wq_groups.specs.Assignment.{Assignment, IsAssignment};
 ghost use Rattle.wq_core.specs.declared.step.Step.{Step};
 ghost use Rattle.wq_core.specs.Wiring.{Wiring, LaneWaits, wiring};
-ghost use Rattle.wq_core.specs.Deadlock.{IsSafe};
+ghost use Rattle.wq_core.specs.Deadlock.{IsSafe, Deadlocks, IsLeast};
 ghost use Rattle.wq_cert.specs.Certificate.{PlanCertificate, CircleCertificate, Certificate};
 ghost use Rattle.wq_checker.specs.declared.answer.Yes.{Yes};
 ghost use Rattle.wq_checker.specs.declared.answer.No.{No};
@@ -23,10 +23,21 @@ pub fn a_good_plan_is_safe_and_fewer_wait_in_a_circle()
         IsAssignment d.groups b → b.lanes < c.assignment.lanes → Circle (LaneWaits (wiring d b)) }
 {}
 
+/// The assignment of a good plan is least: no run of it ends stuck, and every assignment to fewer workqueues deadlocks.
+pub fn a_good_plan_is_least()
+    ensures { (d : Declaration) (c : PlanCertificate) → IsDeclaration d → IsPlanAsked d c → IsGoodPlan d c → IsLeast d c.assignment }
+{}
+
 /// Where a circle is good, the workqueues of every assignment wait in a circle.
 pub fn a_good_circle_is_one_in_every_assignment()
     ensures { (d : Declaration) (c : CircleCertificate) (b : Assignment) → IsDeclaration d → IsCircleAsked d c → IsGoodCircle d c →
         IsAssignment d.groups b → Circle (LaneWaits (wiring d b)) }
+{}
+
+/// Where a circle is good, every assignment deadlocks.
+pub fn a_good_circle_deadlocks_every_assignment()
+    ensures { (d : Declaration) (c : CircleCertificate) (b : Assignment) → IsDeclaration d → IsCircleAsked d c → IsGoodCircle d c →
+        IsAssignment d.groups b → Deadlocks (wiring d b) }
 {}
 
 /// A certificate has one answer, and no other.

@@ -1,7 +1,7 @@
 //! Whether each item is queued once, and none cancelled.
 //!
-//! The queueings of all items are counted in one pass. It takes time in the number of steps and of items, and memory in
-//! the number of items.
+//! That is asked of a run that deadlocks, by "Steps" in docs/FORMAT.md. The queueings of all items are counted in one pass.
+//! It takes time in the number of steps and of items, and memory in the number of items.
 
 ghost use Rattle.std.specs.Prelude.{◌≡◌, ◌<◌, ◌↔◌, ℕ, IsTrue, IfOk, length, slice_index};
 ghost use Rattle.std.specs.List.{All, count_by};

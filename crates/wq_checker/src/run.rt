@@ -1,6 +1,6 @@
 //! How a list of steps ends.
 //!
-//! Nothing is computed here.
+//! The ends are those of "The command `replay`" in docs/FORMAT.md. Nothing is computed here.
 
 /// How a list of steps ends, where it is made from the empty state on.
 #[derive(Clone, Copy, Debug, PartialEq, Eq)]

@@ -1,7 +1,8 @@
 //! How a list of steps ends.
 //!
-//! The steps are made on the core machine, from the empty state on, by its rules ("Rules" in the specs of wq_core). It takes
-//! time in the number of steps and of what each of them takes, and memory in the number of items, flushes and lanes.
+//! The ends are those of "The command `replay`" in docs/FORMAT.md. The steps are made on the core machine, from the empty
+//! state on, by the rules of "Steps". It takes time in the number of steps, and for each of them in the entries that are
+//! pending on a workqueue or the flushes of an item, and time and memory in the number of items, flushes and workqueues.
 
 ghost use Rattle.std.specs.Prelude.{◌≡◌, ◌<◌, ◌↔◌, IsTrue, IfOk, IfErr, length};
 ghost use Rattle.wq_groups.specs.Declaration.{declaration_of};

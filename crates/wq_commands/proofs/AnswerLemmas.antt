@@ -1,11 +1,10 @@
 -- What a text declares is a declaration, and its plan or its circle has a text.
-use Rattle.std.proofs.Common.{◌≡◌, ℕ, ◌+◌, ◌<◌, ◌≤◌, ◌^◌, List, length, map, Option, Some, None, Result, Ok, Err, refl, sym, ap, subst, ◌∙◌, arith, inl, inr}
+use Rattle.std.proofs.Common.{◌≡◌, ℕ, ◌+◌, ◌<◌, ◌≤◌, List, length, map, Option, Some, None, Result, Ok, Err, refl, sym, ap, subst, ◌∙◌, arith, inl, inr}
 use Rattle.std.proofs.lemmas.Bool.{cases_lt, lt-ltb}
 use Rattle.std.proofs.lemmas.List.{length-take, take_all, length-map}
 use Rattle.std.proofs.lemmas.List.Elements.{All-map, All-weaker}
-use Rattle.std.specs.Io.KnownBytes.{Consumes}
 use Rattle.std.specs.List.{All}
-use Rattle.std.specs.Prelude.{IfSome, MatchResult, take}
+use Rattle.std.specs.Prelude.{MatchResult, take}
 use Rattle.wq_text.specs.declared.text.TextError.{TextError}
 use Rattle.wq_text.specs.Lines.{lines_of}
 use Rattle.wq_text.specs.Limits.{limit_fault}
@@ -31,18 +30,16 @@ use Rattle.wq_graph.specs.Graph.{IsArc, group_graph}
 use Rattle.wq_graph.proofs.Arcs.{src-below}
 use Rattle.wq_levels.specs.Walks.{IsWalkedCircle}
 use Rattle.wq_plan.specs.LongestChain.{IsLongestChain}
-use Rattle.wq_plan.specs.Solve.{IsPlanned, IsCircled}
+use Rattle.wq_plan.specs.Plan.{IsPlan, chain_of}
+use Rattle.wq_plan.specs.Solve.{IsPlanned}
 use Rattle.wq_plan.proofs.LongestChain.{chain_of-longest}
 use Rattle.wq_plan.proofs.GroupCircles.{IsCircleOfGroups-walked}
 use Rattle.wq_levels.proofs.OneCircle.{IsWalkedCircle-few}
-use Rattle.wq_plan.proofs.Plans.{length-group_graph}
-use Rattle.wq_plan.proofs.Plans.{IsPlan-lanes}
+use Rattle.wq_plan.proofs.Plans.{length-group_graph, IsPlan-lanes}
 use Rattle.wq_commands.specs.declared.end.End.{End}
 use Rattle.wq_commands.specs.declared.end.End.TheVariants.{Refused}
 use Rattle.wq_commands.specs.Answer.{ends_of}
 use Rattle.wq_commands.specs.Answer.{Answers, AnswersDeclared, refusal_text, declared_waits}
-use Rattle.wq_meter.specs.Meter.{Meter, count_after}
-use Rattle.wq_commands.specs.Run.{IsInput, AnswersInput}
 use Rattle.wq_commands.specs.Declaration.{Declared, max_text, max_line, by_limits, by_directives, by_table, by_groups, declaration}
 
 past_limits : (fault : Option TextError) (rest : Result Declared Refusal) (s : Declared) → by_limits fault rest ≡ Ok s → rest ≡ Ok s
@@ -120,14 +117,18 @@ printable s arcs ends sound few are is =
     }
 
 -- so are those of a plan's chain
+pub ArePrintable-plan : (s : Declared) (a : Assignment) → IsSound s → IsPlan (declared_waits s) a → ArePrintable s.table (map ends_of (chain_of (group_graph (declared_waits s)) a.lane_of_group))
+ArePrintable-plan s a sound plan =
+    let d = declared_waits s in
+    let is = IsDeclaration-sound s sound in
+    let chain = chain_of (group_graph d) a.lane_of_group in
+    let longest : IsLongestChain d a chain = chain_of-longest d is a plan in
+    let few : a.lanes ≤ d.groups = IsPlan-lanes d is a plan in
+    printable s chain (map ends_of chain) sound (omega (arith, longest.count, few, is.partition.few_groups, is.partition.few_items)) (λ k x within. (longest.arcs k x within).declared) refl
+
 pub ArePrintable-planned : (s : Declared) (a : Assignment) (chain : List WaitArc) (ends : List (ℕ × ℕ)) → IsSound s → IsPlanned (declared_waits s) a chain
     → ends ≡ map ends_of chain → ArePrintable s.table ends
-ArePrintable-planned s a chain ends sound planned is =
-    let d = declared_waits s in
-    let declaration = IsDeclaration-sound s sound in
-    let longest : IsLongestChain d a chain = subst (IsLongestChain d a) (sym planned.longest) (chain_of-longest d declaration a planned.plan) in
-    let few : a.lanes ≤ d.groups = IsPlan-lanes d declaration a planned.plan in
-    printable s chain ends sound (omega (arith, longest.count, few, declaration.partition.few_groups, declaration.partition.few_items)) (λ k x within. (longest.arcs k x within).declared) is
+ArePrintable-planned s a chain ends sound planned is = subst (ArePrintable s.table) (sym (is ∙ ap (map ends_of) planned.longest)) (ArePrintable-plan s a sound planned.plan)
 
 -- and those of a circle
 pub IsWalkedCircle-short : (s : Declared) (circle : List WaitArc) → IsSound s → IsWalkedCircle (group_graph (declared_waits s)) circle → length circle ≤ 4096
@@ -137,10 +138,10 @@ IsWalkedCircle-short s circle sound walked =
     let few : length circle ≤ length (group_graph d) = IsWalkedCircle-few (group_graph d) circle walked in
     omega (arith, few, length-group_graph d, is.partition.few_groups, is.partition.few_items)
 
-pub ArePrintable-circled : (s : Declared) (circle : List WaitArc) (ends : List (ℕ × ℕ)) → IsSound s → IsCircled (declared_waits s) circle
+pub ArePrintable-walked : (s : Declared) (circle : List WaitArc) (ends : List (ℕ × ℕ)) → IsSound s → IsWalkedCircle (group_graph (declared_waits s)) circle
     → ends ≡ map ends_of circle → ArePrintable s.table ends
-ArePrintable-circled s circle ends sound circled is =
-    printable s circle ends sound (IsWalkedCircle-short s circle sound circled.walked) (IsCircleOfGroups-walked (declared_waits s) (IsDeclaration-sound s sound) circle circled.walked).declared is
+ArePrintable-walked s circle ends sound walked is =
+    printable s circle ends sound (IsWalkedCircle-short s circle sound walked) (IsCircleOfGroups-walked (declared_waits s) (IsDeclaration-sound s sound) circle walked).declared is
 
 -- ---- the text that was read, and the text that there was
 
@@ -154,37 +155,9 @@ declaration-take bytes = elim (cases_lt (max_text + 1) (length bytes)) [
   | inr whole ↦ ap declaration (take_all (max_text + 1) bytes whole)
 ]
 
--- the text that a reader had, where what was read is its front
-record HasRead (known : Option (List ℕ)) (read : List ℕ) : Type 0 where
-  text : List ℕ
-  input : IsInput known text
-  front : read ≡ take (max_text + 1) text
-
-HasRead-front : (known : Option (List ℕ)) (read : List ℕ) → IfSome known (λ bytes. read ≡ take (max_text + 1) bytes) → length read ≤ max_text + 1 → HasRead known read
-HasRead-front None read front within = record { text = read; input = tt; front = sym (take_all (max_text + 1) read within) }
-HasRead-front (Some bytes) read front within = record { text = bytes; input = refl; front = front }
-
-Answers-same : (read text : List ℕ) (end : End) (out : List ℕ) → declaration read ≡ declaration text → Answers read end out → Answers text end out
+pub Answers-same : (read text : List ℕ) (end : End) (out : List ℕ) → declaration read ≡ declaration text → Answers read end out → Answers text end out
 Answers-same read text end out same answers =
     subst (λ (d : Result Declared Refusal). MatchResult d (λ s. AnswersDeclared s end out) (λ r. (end ≡ Refused) × (out ≡ refusal_text r))) same answers
-
--- the answer to what was read is that to the text that there was
-pub AnswersInput-read : {R : Type 0} (remaining : R → Option (List ℕ)) (old new : Meter R) (read : List ℕ) (end : End) (out : List ℕ)
-    → IfSome (remaining old.device) (λ bytes. read ≡ take (max_text + 1) bytes) → length read ≤ max_text + 1
-    → Consumes (remaining old.device) (remaining new.device) read → new.bytes ≡ count_after old.bytes (length read) → new.calls ≤ old.calls + (length read + 1)
-    → Answers read end out → AnswersInput remaining old new end out
-AnswersInput-read remaining old new read end out front within consumed counted few_calls answers =
-    let had = HasRead-front (remaining old.device) read front within in
-    record {
-      text = had.text;
-      input = had.input;
-      taken = record {
-        consumed = subst (Consumes (remaining old.device) (remaining new.device)) had.front consumed;
-        counted = subst (λ (bytes : List ℕ). new.bytes ≡ count_after old.bytes (length bytes)) had.front counted;
-        few_calls = subst (λ (bytes : List ℕ). new.calls ≤ old.calls + (length bytes + 1)) had.front few_calls;
-      };
-      answer = Answers-same read had.text end out (ap declaration had.front ∙ declaration-take had.text) answers;
-    }
 
 -- an answer to what a text declares is one to the text
 pub Answers-declared : (text : List ℕ) (s : Declared) (end : End) (out : List ℕ) → declaration text ≡ Ok s → AnswersDeclared s end out → Answers text end out

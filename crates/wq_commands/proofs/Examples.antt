@@ -1,6 +1,6 @@
 -- Answers, computed.
-use Rattle.std.proofs.Common.{◌≡◌, ℕ, zero, suc, ◌<◌, ◌≤◌, List, [], ◌∷◌, codes, refl, sym, subst, ◌∙◌, ap, arith, Some, None}
-use Rattle.std.specs.Prelude.{slice_get, map}
+use Rattle.std.proofs.Common.{◌≡◌, ℕ, zero, suc, ◌<◌, ◌≤◌, List, [], ◌∷◌, codes, refl, sym, subst, ◌∙◌, ap, arith, Some, None, inl, inr, true, not}
+use Rattle.std.specs.Prelude.{slice_get, map, IsTrue}
 use Rattle.std.proofs.lemmas.Fmt.{decimal_digit, decimal-digits_of}
 use Rattle.std.proofs.lemmas.List.Elements.{All-from_recursion}
 use Rattle.wq_items.specs.declared.target.Target.{Target}
@@ -13,6 +13,16 @@ use Rattle.wq_graph.specs.declared.arc.WaitArc.{WaitArc}
 use Rattle.wq_graph.specs.Graph.{HasArc, group_graph}
 use Rattle.wq_levels.specs.Walks.{Remains, IsWalkedCircle}
 use Rattle.wq_plan.specs.Plan.{chain_of}
+use Rattle.wq_core.specs.declared.entry.Entry.{Entry}
+use Rattle.wq_core.specs.declared.entry.Flush.{Flush}
+use Rattle.wq_core.specs.declared.step.Step.{Step}
+use Rattle.wq_core.specs.declared.step.Step.TheVariants.{Queue, Start, Wait}
+use Rattle.wq_core.specs.Wiring.{Wiring, declared_by}
+use Rattle.wq_core.specs.State.{State, HasUnfinishedBelow}
+use Rattle.wq_core.specs.Rules.{effect}
+use Rattle.wq_core.specs.Played.{CanMove, CannotMove, IsPlayedFrom}
+use Rattle.wq_core.proofs.DeclaredSteps.{CanMove-waiting, CanMove-within, IsDeclaredStep-start, IsDeclaredStep-wait}
+use Rattle.wq_deadlock.specs.CircleRun.{IsCircleRun}
 use Rattle.wq_commands.specs.declared.end.End.TheVariants.{Good, Bad, Refused}
 use Rattle.wq_cert.specs.PlanText.{plan_text, item_lanes}
 use Rattle.wq_commands.specs.Answer.{ends_of}
@@ -66,21 +76,94 @@ module _ (arc : WaitArc) (own : arc.head ≡ 0) where
     once = λ i j d apart within. absurd (omega (arith, apart, within));
   }
 
-circle_of_a : codes "circle 1\narc a a\n" ≡ circle_text (codes "a" ∷ []) ((0, 0) ∷ []) None
-circle_of_a = rw (decimal_digit 1 (omega arith)) refl
+-- ---- one workqueue, whose first item waits for what is queued on it
 
-pub self_flush : Answers (codes "item a\nflush a a\n") Bad (codes "circle 1\narc a a\n")
+module _ (w : Wiring) (next : ℕ) (e : Entry) (behind : List Entry) (t : Target) (declares : slice_get (declared_by w e.item) 0 ≡ Some t) where
+  abbrev queued : State
+  queued = record { next = next; lanes = record { pending = e ∷ behind; running = None } ∷ [] }
+
+  abbrev started : State
+  started = effect w queued (Start 0 e.item)
+
+  abbrev waiting : State
+  waiting = effect w started (Wait 0 t.item)
+
+  -- what it waits for is unfinished
+  module _ (left : HasUnfinishedBelow waiting t.item next) where
+    stays : ¬ CanMove w waiting 0
+    stays can =
+        let flush : Flush = record { target = t.item; mark = next } in
+        let test = CanMove-waiting w waiting 0 (record { entry = e; made = 1; waiting = Some flush }) refl flush refl true ((λ _. left), (λ _. refl)) in
+        let never : IsTrue (not true) = test.1 can in
+        cc
+
+    hangs : (q : ℕ) → CannotMove w waiting q
+    hangs q step is =
+        let can : CanMove w waiting q = (step, is.of_lane, is.lawful) in
+        let only : q < 1 = CanMove-within w waiting q can in
+        stays (subst (λ (k : ℕ). CanMove w waiting k) (omega (arith, only)) can)
+
+    played : IsPlayedFrom w queued (Start 0 e.item ∷ Wait 0 t.item ∷ [])
+    played = (
+      (0, IsDeclaredStep-start w queued 0 refl e refl, λ p lower. absurd (omega (arith, lower))),
+      (
+        (0, IsDeclaredStep-wait w started 0 (record { entry = e; made = 0; waiting = None }) refl refl t declares, λ p lower. absurd (omega (arith, lower))),
+        hangs,
+      ),
+    )
+
+-- ---- an item that flushes itself
+
+abbrev self : Wiring
+self = record { waits = (record { item = 0; place = 0 } ∷ []) ∷ []; lane_of_item = 0 ∷ []; lanes = 1 }
+
+abbrev run_of_a : List Step
+run_of_a = Queue 0 ∷ Start 0 0 ∷ Wait 0 0 ∷ []
+
+hangs_itself : IsCircleRun self (record { src = 0; dst = 0; head = 0; place = 0 } ∷ []) run_of_a
+hangs_itself =
+    let e : Entry = record { number = 0; item = 0 } in
+    let t : Target = record { item = 0; place = 0 } in
+    record {
+      played = Start 0 0 ∷ Wait 0 0 ∷ [];
+      is_played = played self 1 e [] t refl (record { lane = 0; entry = e; unfinished = inr (record { entry = e; made = 1; waiting = Some (record { target = 0; mark = 1 }) }, refl, refl); of_item = refl; below = omega arith });
+      all = refl;
+    }
+
+circle_of_a : codes "circle 1\narc a a\nrun 3\nqueue a\nstart 0 a\nwait 0 a\n" ≡ circle_text (codes "a" ∷ []) ((0, 0) ∷ []) (Some run_of_a)
+circle_of_a = rw (decimal_digit 1 (omega arith), decimal_digit 3 (omega arith), decimal_digit 0 (omega arith)) refl
+
+pub self_flush : Answers (codes "item a\nflush a a\n") Bad (codes "circle 1\narc a a\nrun 3\nqueue a\nstart 0 a\nwait 0 a\n")
 self_flush =
     let arc : WaitArc = record { src = 0; dst = 0; head = 0; place = 0 } in
-    (arc ∷ [], round arc refl, circle_of_a)
+    record { circle = arc ∷ []; walked = round arc refl; steps = run_of_a; is_run = hangs_itself; text = circle_of_a }
 
-circle_of_ordered : codes "circle 1\narc a b\n" ≡ circle_text (codes "a" ∷ codes "b" ∷ []) ((0, 1) ∷ []) None
-circle_of_ordered = rw (decimal_digit 1 (omega arith)) refl
+-- ---- a flush within a group
 
-pub ordered_flush : Answers (codes "item a\nitem b\nordered a b\nflush a b\n") Bad (codes "circle 1\narc a b\n")
+abbrev pair : Wiring
+pair = record { waits = (record { item = 1; place = 0 } ∷ []) ∷ [] ∷ []; lane_of_item = 0 ∷ 0 ∷ []; lanes = 1 }
+
+abbrev run_of_pair : List Step
+run_of_pair = Queue 0 ∷ Queue 1 ∷ Start 0 0 ∷ Wait 0 1 ∷ []
+
+hangs_next : IsCircleRun pair (record { src = 0; dst = 1; head = 0; place = 0 } ∷ []) run_of_pair
+hangs_next =
+    let e : Entry = record { number = 0; item = 0 } in
+    let other : Entry = record { number = 1; item = 1 } in
+    let t : Target = record { item = 1; place = 0 } in
+    record {
+      played = Start 0 0 ∷ Wait 0 1 ∷ [];
+      is_played = played pair 2 e (other ∷ []) t refl (record { lane = 0; entry = other; unfinished = inl (0, omega arith, refl); of_item = refl; below = omega arith });
+      all = refl;
+    }
+
+circle_of_ordered : codes "circle 1\narc a b\nrun 4\nqueue a\nqueue b\nstart 0 a\nwait 0 b\n" ≡ circle_text (codes "a" ∷ codes "b" ∷ []) ((0, 1) ∷ []) (Some run_of_pair)
+circle_of_ordered = rw (decimal_digit 1 (omega arith), decimal_digit 4 (omega arith), decimal_digit 0 (omega arith)) refl
+
+pub ordered_flush : Answers (codes "item a\nitem b\nordered a b\nflush a b\n") Bad (codes "circle 1\narc a b\nrun 4\nqueue a\nqueue b\nstart 0 a\nwait 0 b\n")
 ordered_flush =
     let arc : WaitArc = record { src = 0; dst = 1; head = 0; place = 0 } in
-    (arc ∷ [], round arc refl, circle_of_ordered)
+    record { circle = arc ∷ []; walked = round arc refl; steps = run_of_pair; is_run = hangs_next; text = circle_of_ordered }
 
 -- ---- two items
 
@@ -129,8 +212,8 @@ printed : codes "plan 2\nwq 0 b\nwq 1 a\nchain 2\narc a b\n"
 printed = rw (decimal_digit 2 (omega arith), decimal_digit 0 (omega arith), decimal_digit 1 (omega arith)) refl
 
 pub two_items : Answers (codes "item a\nitem b\nflush a b\n") Good (codes "plan 2\nwq 0 b\nwq 1 a\nchain 2\narc a b\n")
-two_items = (lanes, record { one_each = refl; ranks = ranks; count = refl }, printed)
+two_items = record { assignment = lanes; plan = record { one_each = refl; ranks = ranks; count = refl }; text = printed }
 
 -- the same, with a comment, CR LF and TABs, and without the last LF
 pub two_items_spaced : Answers (codes "item a # x\r\n\titem\tb\r\nflush a b") Good (codes "plan 2\nwq 0 b\nwq 1 a\nchain 2\narc a b\n")
-two_items_spaced = (lanes, record { one_each = refl; ranks = ranks; count = refl }, printed)
+two_items_spaced = record { assignment = lanes; plan = record { one_each = refl; ranks = ranks; count = refl }; text = printed }

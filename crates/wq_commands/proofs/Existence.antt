@@ -13,9 +13,10 @@ use Rattle.wq_graph.specs.Graph.{group_graph}
 use Rattle.wq_levels.specs.Walks.{IsWalkedCircle}
 use Rattle.wq_commands.specs.declared.end.End.{End}
 use Rattle.wq_commands.specs.declared.end.End.TheVariants.{Good, Bad, Refused}
-use Rattle.wq_commands.specs.Answer.{Answers, AnswersDeclared, refusal_text, declared_waits, text_of_plan, text_of_circle}
+use Rattle.wq_commands.specs.Answer.{Answers, AnswersDeclared, PrintsCircle, refusal_text, declared_waits, text_of_plan, text_of_circle}
 use Rattle.wq_commands.specs.Declaration.{Declared, declaration}
 use Rattle.wq_commands.proofs.AnswerLemmas.{IsSound, IsSound-declaration, IsDeclaration-sound}
+use Rattle.wq_commands.proofs.CircleRuns.{IsCircleRun-own_lanes}
 
 IsPlan-or_walked_circle : (d : Declaration) → IsDeclaration d → ((a : Assignment) × IsPlan d a) ⊎ ((circle : List WaitArc) × IsWalkedCircle (group_graph d) circle)
 IsPlan-or_walked_circle d is = elim (AreRanks-or_walk (group_graph d) (IsGraph-group_graph d is)) [
@@ -23,10 +24,15 @@ IsPlan-or_walked_circle d is = elim (AreRanks-or_walk (group_graph d) (IsGraph-g
   | inr walk ↦ inr walk
 ]
 
+PrintsCircle-exists : (s : Declared) (circle : List WaitArc) → IsSound s → IsWalkedCircle (group_graph (declared_waits s)) circle → (out : List ℕ) × PrintsCircle s out
+PrintsCircle-exists s circle sound walked =
+    let run = IsCircleRun-own_lanes s sound circle walked in
+    (text_of_circle s circle run.0, record { circle = circle; walked = walked; steps = run.0; is_run = run.1; text = refl })
+
 AnswersDeclared-exist : (s : Declared) → IsSound s → (end : End) × (out : List ℕ) × AnswersDeclared s end out
 AnswersDeclared-exist s sound = elim (IsPlan-or_walked_circle (declared_waits s) (IsDeclaration-sound s sound)) [
-  | inl plan ↦ (Good, text_of_plan s plan.0, (plan.0, plan.1, refl))
-  | inr circle ↦ (Bad, text_of_circle s circle.0, (circle.0, circle.1, refl))
+  | inl plan ↦ (Good, text_of_plan s plan.0, record { assignment = plan.0; plan = plan.1; text = refl })
+  | inr circle ↦ let printed = PrintsCircle-exists s circle.0 sound circle.1 in (Bad, printed.0, printed.1)
 ]
 
 answers_exist : (declared : Result Declared Refusal) → ((s : Declared) → declared ≡ Ok s → IsSound s)

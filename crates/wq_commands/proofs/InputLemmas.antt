@@ -1,8 +1,9 @@
 -- The text that was read, and the text that there was: the answer to the front of a text is that to the text.
-use Rattle.std.proofs.Common.{◌≡◌, ℕ, ◌+◌, ◌≤◌, List, length, Option, Some, None, Result, Ok, Err, refl, sym, subst, arith}
+use Rattle.std.proofs.Common.{◌≡◌, ℕ, ◌+◌, ◌≤◌, List, length, Option, Some, None, Result, Ok, Err, refl, sym, ap, subst, ◌∙◌}
 use Rattle.std.proofs.lemmas.List.{take_all}
 use Rattle.std.specs.Io.KnownBytes.{Consumes}
 use Rattle.std.specs.Prelude.{IfSome, MatchResult, take}
+use Rattle.std.specs.Result.{IsErrAnd}
 use Rattle.wq_text.specs.Refusal.{Refusal}
 use Rattle.wq_groups.specs.Assignment.{Assignment}
 use Rattle.wq_core.specs.declared.step.Step.{Step}
@@ -10,24 +11,24 @@ use Rattle.wq_meter.specs.Meter.{Meter, count_after}
 use Rattle.wq_cert.specs.declared.fault.CertError.{CertError}
 use Rattle.wq_cert.specs.Certificate.{Certificate}
 use Rattle.wq_cert.specs.Reading.{answer_reading, assignment_reading, run_reading}
-use Rattle.wq_cert.specs.Texts.{answer_of, assignment_of_text, run_of, cert_refusal, max_text as max_certificate}
+use Rattle.wq_cert.specs.Texts.{assignment_of_text, cert_refusal, max_text as max_certificate}
 use Rattle.wq_cert.proofs.LongCertificates.{text_reading-take}
 use Rattle.wq_commands.specs.declared.end.End.{End}
-use Rattle.wq_commands.specs.Answer.{IsRefused}
+use Rattle.wq_commands.specs.Answer.{Answers, IsRefused}
 use Rattle.wq_commands.specs.Checking.{AnswersCheck, ChecksDeclared, Checks}
 use Rattle.wq_commands.specs.CheckInput.{ChecksInput, ReplaysInput}
 use Rattle.wq_commands.specs.Declaration.{Declared, declaration, max_text}
-use Rattle.wq_commands.specs.Input.{IsInput, Gives}
+use Rattle.wq_commands.specs.Input.{IsInput, HasGiven}
 use Rattle.wq_commands.specs.Replaying.{AnswersReplay, ReplaysAssigned, ReplaysDeclared, Replays}
-use Rattle.wq_commands.proofs.AnswerLemmas.{declaration-take}
+use Rattle.wq_commands.specs.Run.{AnswersInput}
+use Rattle.wq_commands.proofs.AnswerLemmas.{declaration-take, Answers-same}
 
 -- ---- what was read
 
--- a reader had a text, of which this is the front
+-- a reader has given a text, of which this is the front
 pub record IsFrontOf {R : Type 0} (remaining : R → Option (List ℕ)) (old new : Meter R) (limit : ℕ) (read : List ℕ) : Type 0 where
-  pub text : List ℕ
-  pub gives : Gives remaining old new limit text
-  pub front : read ≡ take (limit + 1) text
+  pub given : HasGiven remaining old new limit
+  pub front : read ≡ take (limit + 1) given.text
 
 record HasRead (known : Option (List ℕ)) (limit : ℕ) (read : List ℕ) : Type 0 where
   text : List ℕ
@@ -41,18 +42,21 @@ HasRead-front (Some bytes) limit read front within = record { text = bytes; inpu
 pub IsFrontOf-read : {R : Type 0} (remaining : R → Option (List ℕ)) (old new : Meter R) (limit : ℕ) (read : List ℕ)
     → IfSome (remaining old.device) (λ bytes. read ≡ take (limit + 1) bytes) → length read ≤ limit + 1
     → Consumes (remaining old.device) (remaining new.device) read → new.bytes ≡ count_after old.bytes (length read) → new.calls ≤ old.calls + (length read + 1)
-    → IsFrontOf remaining old new limit read
-IsFrontOf-read remaining old new limit read front within consumed counted few_calls =
+    → new.failures ≡ old.failures → IsFrontOf remaining old new limit read
+IsFrontOf-read remaining old new limit read front within consumed counted few_calls none_failed =
     let had = HasRead-front (remaining old.device) limit read front within in
     record {
-      text = had.text;
-      gives = record {
-        input = had.input;
-        taken = record {
-          consumed = subst (Consumes (remaining old.device) (remaining new.device)) had.front consumed;
-          counted = subst (λ (bytes : List ℕ). new.bytes ≡ count_after old.bytes (length bytes)) had.front counted;
-          few_calls = subst (λ (bytes : List ℕ). new.calls ≤ old.calls + (length bytes + 1)) had.front few_calls;
+      given = record {
+        text = had.text;
+        gives = record {
+          input = had.input;
+          taken = record {
+            consumed = subst (Consumes (remaining old.device) (remaining new.device)) had.front consumed;
+            counted = subst (λ (bytes : List ℕ). new.bytes ≡ count_after old.bytes (length bytes)) had.front counted;
+            few_calls = subst (λ (bytes : List ℕ). new.calls ≤ old.calls + (length bytes + 1)) had.front few_calls;
+          };
         };
+        none_failed = none_failed;
       };
       front = had.front;
     }
@@ -61,10 +65,15 @@ IsFrontOf-read remaining old new limit read front within consumed counted few_ca
 pub IsFrontOf-vec : {R : Type 0} (remaining : R → Option (List ℕ)) (old new : Meter R) (limit n : ℕ) (read : List ℕ) → n ≡ length read
     → IfSome (remaining old.device) (λ bytes. read ≡ take (limit + 1) bytes) → n ≤ limit + 1
     → Consumes (remaining old.device) (remaining new.device) read → new.bytes ≡ count_after old.bytes n → new.calls ≤ old.calls + (n + 1)
-    → IsFrontOf remaining old new limit read
-IsFrontOf-vec remaining old new limit n read same front within consumed counted few_calls =
+    → new.failures ≡ old.failures → IsFrontOf remaining old new limit read
+IsFrontOf-vec remaining old new limit n read same front within consumed counted few_calls none_failed =
     IsFrontOf-read remaining old new limit read front (subst (λ k. k ≤ limit + 1) same within) consumed
-    (subst (λ k. new.bytes ≡ count_after old.bytes k) same counted) (subst (λ k. new.calls ≤ old.calls + (k + 1)) same few_calls)
+    (subst (λ k. new.bytes ≡ count_after old.bytes k) same counted) (subst (λ k. new.calls ≤ old.calls + (k + 1)) same few_calls) none_failed
+
+-- the error that `?` returns is the one that it met
+pub Err-passed : {T E : Type 0} (r : Result T E) (met error : E) → IsErrAnd r (λ e. e ≡ met) → r ≡ Err error → met ≡ error
+Err-passed (Ok x) met error passed is = absurd passed
+Err-passed (Err e) met error passed is = sym passed ∙ cc
 
 -- ---- answers to fronts
 
@@ -102,31 +111,39 @@ module _ (end : End) (out : List ℕ) where
 
 -- ---- answers to what was read
 
+pub AnswersInput-read : {R : Type 0} (remaining : R → Option (List ℕ)) (old new : Meter R) (read : List ℕ) (end : End) (out : List ℕ)
+    → IsFrontOf remaining old new max_text read → Answers read end out → AnswersInput remaining old new end out
+AnswersInput-read remaining old new read end out front answers = record {
+  text = front.given.text;
+  given = front.given.gives;
+  answer = Answers-same read front.given.text end out (ap declaration front.front ∙ declaration-take front.given.text) answers;
+}
+
 pub ChecksInput-read : {D C : Type 0} (known : D → Option (List ℕ)) (certified : C → Option (List ℕ)) (old new : Meter D) (c_old c_new : Meter C) (end : End) (out text claim : List ℕ)
     → IsFrontOf known old new max_text text → IsFrontOf certified c_old c_new max_certificate claim → Checks text claim end out
     → ChecksInput known certified old new c_old c_new end out
 ChecksInput-read known certified old new c_old c_new end out text claim declared certificate checks = record {
-  text = declared.text;
-  declaration = declared.gives;
-  claim = certificate.text;
-  certificate = certificate.gives;
+  text = declared.given.text;
+  declaration = declared.given.gives;
+  claim = certificate.given.text;
+  certificate = certificate.given.gives;
   answer =
-      Checks-take end out declared.text certificate.text
-      (subst (λ (t : List ℕ). Checks t (take (max_certificate + 1) certificate.text) end out) declared.front (subst (λ (c : List ℕ). Checks text c end out) certificate.front checks));
+      Checks-take end out declared.given.text certificate.given.text
+      (subst (λ (t : List ℕ). Checks t (take (max_certificate + 1) certificate.given.text) end out) declared.front (subst (λ (c : List ℕ). Checks text c end out) certificate.front checks));
 }
 
 pub ReplaysInput-read : {D S R : Type 0} (known : D → Option (List ℕ)) (assigned : S → Option (List ℕ)) (listed : R → Option (List ℕ)) (old new : Meter D) (a_old a_new : Meter S) (r_old r_new : Meter R)
     (end : End) (out text lanes steps : List ℕ) → IsFrontOf known old new max_text text → IsFrontOf assigned a_old a_new max_certificate lanes → IsFrontOf listed r_old r_new max_certificate steps
     → Replays text lanes steps end out → ReplaysInput known assigned listed old new a_old a_new r_old r_new end out
 ReplaysInput-read known assigned listed old new a_old a_new r_old r_new end out text lanes steps declared assignment run replays = record {
-  text = declared.text;
-  declaration = declared.gives;
-  lanes = assignment.text;
-  assignment = assignment.gives;
-  steps = run.text;
-  run = run.gives;
+  text = declared.given.text;
+  declaration = declared.given.gives;
+  lanes = assignment.given.text;
+  assignment = assignment.given.gives;
+  steps = run.given.text;
+  run = run.given.gives;
   answer =
-      Replays-take end out declared.text assignment.text run.text
-      (subst (λ (t : List ℕ). Replays t (take (max_certificate + 1) assignment.text) (take (max_certificate + 1) run.text) end out) declared.front
-      (subst (λ (a : List ℕ). Replays text a (take (max_certificate + 1) run.text) end out) assignment.front (subst (λ (r : List ℕ). Replays text lanes r end out) run.front replays)));
+      Replays-take end out declared.given.text assignment.given.text run.given.text
+      (subst (λ (t : List ℕ). Replays t (take (max_certificate + 1) assignment.given.text) (take (max_certificate + 1) run.given.text) end out) declared.front
+      (subst (λ (a : List ℕ). Replays text a (take (max_certificate + 1) run.given.text) end out) assignment.front (subst (λ (r : List ℕ). Replays text lanes r end out) run.front replays)));
 }

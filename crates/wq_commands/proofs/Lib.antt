@@ -1,8 +1,14 @@
 pub mod AnswerLemmas
+pub mod CircleRuns
 pub mod Examples
 pub mod Existence
 pub mod TextLength
 pub mod Uniqueness
 pub mod CheckLemmas
 pub mod InputLemmas
+pub mod JudgeLemmas
+pub mod NamedSteps
 pub mod PromiseLemmas
+pub mod Refusals
+pub mod CheckAnswers
+pub mod ReplayAnswers

@@ -6,7 +6,7 @@ use Rattle.std.proofs.lemmas.Bool.{ne_eqb, cases_lt}
 use Rattle.std.proofs.lemmas.List.{length-map, get_or_past}
 use Rattle.std.proofs.lemmas.Option.{slice_get-map, slice_get_within, slice_get-get_or, get_or_from_slice_get}
 use Rattle.wq_text.specs.Refusal.{Refusal}
-use Rattle.wq_groups.specs.Assignment.{Assignment, IsAssignment}
+use Rattle.wq_groups.specs.Assignment.{Assignment}
 use Rattle.wq_graph.specs.declared.arc.WaitArc.{WaitArc}
 use Rattle.wq_graph.specs.Graph.{IsArc, group_graph}
 use Rattle.wq_levels.specs.Walks.{IsWalkedCircle}
@@ -16,8 +16,11 @@ use Rattle.wq_plan.specs.CircleOfGroups.{IsCircleOfGroups}
 use Rattle.wq_plan.proofs.LongestChain.{chain_of-longest}
 use Rattle.wq_plan.proofs.GroupCircles.{IsCircleOfGroups-walked}
 use Rattle.wq_plan.proofs.Plans.{IsPlan-lanes, IsPlan-falls, IsLeast-plan, IsCircled-from_walk}
-use Rattle.wq_cert.specs.Certificate.{PlanCertificate, CircleCertificate, OfPlan, OfCircle}
-use Rattle.wq_cert.specs.Texts.{answer_of, assignment_of_text}
+use Rattle.wq_core.specs.declared.step.Step.{Step}
+use Rattle.wq_core.specs.Wiring.{wiring, own_lanes}
+use Rattle.wq_deadlock.specs.CircleRun.{IsCircleRun}
+use Rattle.wq_cert.specs.Certificate.{OfPlan, OfCircle}
+use Rattle.wq_cert.specs.Texts.{answer_of}
 use Rattle.wq_cert.proofs.PrintedPlans.{answer_of-plan, assignment_of_text-plan}
 use Rattle.wq_cert.proofs.PrintedCircles.{answer_of-circle}
 use Rattle.wq_items.specs.declared.target.Target.{Target}
@@ -26,7 +29,6 @@ use Rattle.wq_items.proofs.Tables.{ItemWaits-below}
 use Rattle.wq_checker.specs.Chains.{Joins, AllJoin, before_from, before_in_chain, before_in_circle}
 use Rattle.wq_checker.specs.Falling.{AllFall}
 use Rattle.wq_checker.specs.declared.answer.Yes.TheVariants as yes
-use Rattle.wq_checker.specs.Answers.{IsGoodPlan, IsGoodCircle}
 use Rattle.wq_commands.specs.declared.end.End.{End}
 use Rattle.wq_commands.specs.declared.end.End.TheVariants.{Good, Bad, Refused}
 use Rattle.wq_commands.specs.Answer.{Answers, AnswersDeclared, ends_of, declared_waits, text_of_plan, text_of_circle, refusal_text}
@@ -37,7 +39,9 @@ use Rattle.wq_commands.specs.PrintedChecked.{ChecksYes, ChecksYesOf}
 use Rattle.wq_commands.proofs.CheckLemmas.{MatchResult-ok}
 use Rattle.wq_commands.specs.Promise.{KeepsPlan, KeepsCircle, KeepsDeclared, KeepsPromise}
 use Rattle.wq_commands.proofs.TextLength.{length-circled}
-use Rattle.wq_commands.proofs.AnswerLemmas.{IsSound, IsSound-declaration, IsDeclaration-sound, ArePrintable, printable, IsWalkedCircle-short}
+use Rattle.wq_commands.proofs.AnswerLemmas.{IsSound, IsSound-declaration, IsDeclaration-sound, ArePrintable, ArePrintable-plan, ArePrintable-walked}
+use Rattle.wq_commands.proofs.CircleRuns.{DeadlocksBy-own_lanes, IsAssignmentOf-own_lanes}
+use Rattle.wq_commands.proofs.NamedSteps.{IsStepOf-deadlock}
 
 some_same : (a b : ℕ × ℕ) → Some a ≡ Some b → a ≡ b
 some_same a b e = cc
@@ -137,8 +141,7 @@ module _ (s : Declared) (sound : IsSound s) where
       let longest : IsLongestChain d a chain = chain_of-longest d is a plan in
       let few : a.lanes ≤ d.groups = IsPlan-lanes d is a plan in
       let many : length arcs ≡ length chain = length-map chain ends_of in
-      let prints : ArePrintable s.table arcs =
-      printable s chain arcs sound (omega (arith, longest.count, few, is.partition.few_groups, is.partition.few_items)) (λ k x within. (longest.arcs k x within).declared) refl in
+      let prints : ArePrintable s.table arcs = ArePrintable-plan s a sound plan in
       let least = IsLeast-plan d a is plan in
       let short : length arcs ≤ 4095 = omega (arith, many, longest.count, few, is.partition.few_groups, is.partition.few_items) in
       let none : a.lanes ≡ 0 → arcs ≡ [] = λ zero_lanes. length_zero arcs (omega (arith, many, longest.count, zero_lanes)) in
@@ -157,28 +160,32 @@ module _ (s : Declared) (sound : IsSound s) where
         };
       }
 
-  KeepsCircle-printed : (circle : List WaitArc) → IsWalkedCircle (group_graph (declared_waits s)) circle → KeepsCircle s (text_of_circle s circle)
-  KeepsCircle-printed circle walked =
+  KeepsCircle-printed : (circle : List WaitArc) (steps : List Step) → IsWalkedCircle (group_graph (declared_waits s)) circle
+      → IsCircleRun (wiring (declared_waits s) (own_lanes s.partition.groups)) circle steps → KeepsCircle s (text_of_circle s circle steps)
+  KeepsCircle-printed circle steps walked is_run =
       let d = declared_waits s in
       let is = IsDeclaration-sound s sound in
       let arcs = map ends_of circle in
       let round : IsCircleOfGroups d circle = IsCircleOfGroups-walked d is circle walked in
-      let few : length circle ≤ 4096 = IsWalkedCircle-short s circle sound walked in
       let many : length arcs ≡ length circle = length-map circle ends_of in
-      let prints : ArePrintable s.table arcs = printable s circle arcs sound few round.declared refl in
+      let prints : ArePrintable s.table arcs = ArePrintable-walked s circle arcs sound walked refl in
       let some : 0 < length circle = slice_get_within circle 0 round.first round.begins in
+      let deadlocks = DeadlocksBy-own_lanes s sound circle steps walked is_run in
       record {
-        circle = record { arcs = arcs; steps = None };
-        read = answer_of-circle s.table sound.table s.partition arcs None (omega (arith, some, many)) (omega (arith, few, many)) prints.items tt (length-circled s circle sound walked);
-        good = record { joined = AllJoin-circle s circle round; deadlocks = tt };
+        circle = record { arcs = arcs; steps = Some steps };
+        read = answer_of-circle s.table sound.table s.partition arcs (Some steps) (omega (arith, some, many)) prints.few prints.items (IsStepOf-deadlock s sound (own_lanes s.partition.groups) (IsAssignmentOf-own_lanes s sound) steps deadlocks) (length-circled s sound circle steps walked is_run);
+        good = record { joined = AllJoin-circle s circle round; deadlocks = deadlocks };
+        steps = steps;
+        has_run = refl;
+        run_deadlocks = deadlocks;
         deadlocks = (IsCircled-from_walk d is circle walked).deadlocks;
       }
 
 -- ---- any answer
 
 KeepsPromise-declared : (s : Declared) (end : End) (out : List ℕ) → IsSound s → AnswersDeclared s end out → KeepsDeclared s end out
-KeepsPromise-declared s Good out sound (a, plan, is) = subst (KeepsPlan s) (sym is) (KeepsPlan-printed s sound a plan)
-KeepsPromise-declared s Bad out sound (circle, walked, is) = subst (KeepsCircle s) (sym is) (KeepsCircle-printed s sound circle walked)
+KeepsPromise-declared s Good out sound prints = subst (KeepsPlan s) (sym prints.text) (KeepsPlan-printed s sound prints.assignment prints.plan)
+KeepsPromise-declared s Bad out sound prints = subst (KeepsCircle s) (sym prints.text) (KeepsCircle-printed s sound prints.circle prints.steps prints.walked prints.is_run)
 KeepsPromise-declared s Refused out sound answers = absurd answers
 
 keeps : (declared : Result Declared Refusal) (end : End) (out : List ℕ) → ((s : Declared) → declared ≡ Ok s → IsSound s)

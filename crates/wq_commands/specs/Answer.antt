@@ -1,12 +1,15 @@
 -- The answer to a declaration text: what is printed, and how the run ends.
-use Rattle.std.specs.Prelude.{◌≡◌, ℕ, List, [], ◌∷◌, map, codes, decimal, MatchResult, None}
+use Rattle.std.specs.Prelude.{◌≡◌, ℕ, List, [], ◌∷◌, map, codes, decimal, MatchResult, Some}
 use Rattle.wq_text.specs.Refusal.{Refusal}
 use Rattle.wq_groups.specs.Declaration.{Declaration, declaration_of}
 use Rattle.wq_groups.specs.Assignment.{Assignment}
 use Rattle.wq_graph.specs.declared.arc.WaitArc.{WaitArc}
 use Rattle.wq_graph.specs.Graph.{group_graph}
 use Rattle.wq_levels.specs.Walks.{IsWalkedCircle}
+use Rattle.wq_core.specs.declared.step.Step.{Step}
+use Rattle.wq_core.specs.Wiring.{wiring, own_lanes}
 use Rattle.wq_plan.specs.Plan.{IsPlan, chain_of}
+use Rattle.wq_deadlock.specs.CircleRun.{IsCircleRun}
 use Rattle.wq_commands.specs.declared.end.End.{End}
 use Rattle.wq_commands.specs.declared.end.End.TheVariants.{Good, Bad, Refused}
 use Rattle.wq_cert.specs.LineText.{line_text}
@@ -35,14 +38,29 @@ abbrev pub text_of_plan : Declared → Assignment → List ℕ
 text_of_plan s a =
     plan_text s.table.names a.lanes (item_lanes a s.partition.group_of) (map ends_of (chain_of (group_graph (declared_waits s)) a.lane_of_group))
 
--- the text of a circle
-abbrev pub text_of_circle : Declared → List WaitArc → List ℕ
-text_of_circle s circle = circle_text s.table.names (map ends_of circle) None
+-- the text of a circle, with its run
+abbrev pub text_of_circle : Declared → List WaitArc → List Step → List ℕ
+text_of_circle s circle steps = circle_text s.table.names (map ends_of circle) (Some steps)
 
--- the answer to a declaration: the text of its plan, or that of the circle in which its groups wait
+-- the text of the plan is printed
+pub record PrintsPlan (s : Declared) (out : List ℕ) : Type 0 where
+  pub assignment : Assignment
+  pub plan : IsPlan (declared_waits s) assignment
+  pub text : out ≡ text_of_plan s assignment
+
+-- the text of the circle in which the groups wait is printed, with the run of this circle where each group has a workqueue of
+-- its own
+pub record PrintsCircle (s : Declared) (out : List ℕ) : Type 0 where
+  pub circle : List WaitArc
+  pub walked : IsWalkedCircle (group_graph (declared_waits s)) circle
+  pub steps : List Step
+  pub is_run : IsCircleRun (wiring (declared_waits s) (own_lanes s.partition.groups)) circle steps
+  pub text : out ≡ text_of_circle s circle steps
+
+-- the answer to a declaration: its plan, or the circle in which its groups wait
 abbrev pub AnswersDeclared : Declared → End → List ℕ → Type 0
-AnswersDeclared s Good out = (a : Assignment) × IsPlan (declared_waits s) a × (out ≡ text_of_plan s a)
-AnswersDeclared s Bad out = (circle : List WaitArc) × IsWalkedCircle (group_graph (declared_waits s)) circle × (out ≡ text_of_circle s circle)
+AnswersDeclared s Good out = PrintsPlan s out
+AnswersDeclared s Bad out = PrintsCircle s out
 AnswersDeclared s Refused out = ⊥
 
 -- the answer to a text: that to what it declares, or its refusal

@@ -13,6 +13,8 @@ pub mod PrintedChecked
 pub mod Checking
 pub mod CheckInput
 pub mod Replaying
+pub mod Deadlocking
+pub mod DeadlockInput
 pub mod Declaration
 pub mod End
 pub mod Run

@@ -1,5 +1,5 @@
 -- What `check` answers to what `plan` prints.
-use Rattle.std.specs.Prelude.{ℕ, List, Result, Ok, Err, MatchResult}
+use Rattle.std.specs.Prelude.{ℕ, List, Result, Ok, Err}
 use Rattle.wq_text.specs.Refusal.{Refusal}
 use Rattle.wq_cert.specs.LineText.{line_text}
 use Rattle.wq_checker.specs.declared.answer.Yes.TheVariants as yes
@@ -8,7 +8,7 @@ use Rattle.wq_commands.specs.declared.end.End.TheVariants.{Good, Bad, Refused}
 use Rattle.wq_commands.specs.Checking.{yes_words, ChecksDeclared}
 use Rattle.wq_commands.specs.Declaration.{Declared, declaration}
 
--- of a plan that is printed the answer is `yes K`, and of a circle `yes circle N`
+-- of a plan that is printed the answer is `yes K`, and of a circle with its run `yes circle N`
 abbrev pub ChecksYesDeclared : Declared → List ℕ → End → Type 0
 ChecksYesDeclared s out Good = (number : ℕ) × ChecksDeclared s out Good (line_text (yes_words (yes.Plan number)))
 ChecksYesDeclared s out Bad = (n : ℕ) × ChecksDeclared s out Good (line_text (yes_words (yes.Circle n)))

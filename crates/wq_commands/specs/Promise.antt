@@ -1,8 +1,9 @@
 -- What an answer promises, said of the bytes that are printed.
-use Rattle.std.specs.Prelude.{◌≡◌, ℕ, List, Ok, MatchResult}
+use Rattle.std.specs.Prelude.{◌≡◌, ℕ, List, Some, Ok, MatchResult}
 use Rattle.wq_groups.specs.Assignment.{Assignment, IsAssignment}
-use Rattle.wq_core.specs.Wiring.{wiring}
-use Rattle.wq_core.specs.Deadlock.{Deadlocks, IsLeast}
+use Rattle.wq_core.specs.declared.step.Step.{Step}
+use Rattle.wq_core.specs.Wiring.{wiring, own_lanes}
+use Rattle.wq_core.specs.Deadlock.{DeadlocksBy, Deadlocks, IsLeast}
 use Rattle.wq_cert.specs.Certificate.{PlanCertificate, CircleCertificate, OfPlan, OfCircle}
 use Rattle.wq_cert.specs.Texts.{answer_of, assignment_of_text}
 use Rattle.wq_checker.specs.Answers.{IsGoodPlan, IsGoodCircle}
@@ -21,11 +22,15 @@ pub record KeepsPlan (s : Declared) (out : List ℕ) : Type 0 where
   pub least : IsLeast (declared_waits s) plan.assignment
   pub good : IsGoodPlan (declared_waits s) plan
 
--- a circle is read from the bytes, its arcs go round groups, and every assignment has such a run
+-- a circle is read from the bytes, with a run behind it; its arcs go round groups (`good`); the run deadlocks where each group
+-- has a workqueue of its own; and every assignment has a run that deadlocks
 pub record KeepsCircle (s : Declared) (out : List ℕ) : Type 0 where
   pub circle : CircleCertificate
   pub read : answer_of s.table.names s.partition out ≡ Ok (OfCircle circle)
   pub good : IsGoodCircle (declared_waits s) circle
+  pub steps : List Step
+  pub has_run : circle.steps ≡ Some steps
+  pub run_deadlocks : DeadlocksBy (wiring (declared_waits s) (own_lanes s.partition.groups)) steps
   pub deadlocks : (a : Assignment) → IsAssignment s.partition.groups a → Deadlocks (wiring (declared_waits s) a)
 
 -- what is promised of the bytes that answer a declaration, by the end of the run

@@ -1,20 +1,16 @@
--- A run: a text is taken from a reader, and answered.
-use Rattle.std.specs.Prelude.{◌≡◌, ℕ, ◌+◌, List, IfSome, Option}
+-- A run of `plan`: a text is taken from a reader, and answered.
+use Rattle.std.specs.Prelude.{ℕ, List, Option}
 use Rattle.wq_commands.specs.declared.end.End.{End}
 use Rattle.wq_commands.specs.Answer.{Answers}
 use Rattle.wq_commands.specs.Declaration.{max_text}
+use Rattle.wq_commands.specs.Input.{IsInput, Gives}
 use Rattle.wq_commands.specs.Promise.{KeepsPromise}
-use Rattle.wq_meter.specs.Meter.{Meter, TakesFront}
-
--- the text is what a reader has left, where that is known
-abbrev pub IsInput : Option (List ℕ) → List ℕ → Type 0
-IsInput known text = IfSome known (λ bytes. text ≡ bytes)
+use Rattle.wq_meter.specs.Meter.{Meter}
 
 -- this is the answer to the text that a reader had; the reader gave it up to the first byte too many
 pub record AnswersInput {R : Type 0} (remaining : R → Option (List ℕ)) (old new : Meter R) (end : End) (out : List ℕ) : Type 0 where
   pub text : List ℕ
-  pub input : IsInput (remaining old.device) text
-  pub taken : TakesFront remaining old new (max_text + 1) text
+  pub given : Gives remaining old new max_text text
   pub answer : Answers text end out
 
 -- this answers the text that a reader had, and keeps what it promises

@@ -1,11 +1,15 @@
 //! The answer to a declaration text, made whole in memory.
 //!
-//! Takes time in the workqueues times the items and flushes, and memory in the length of the text.
+//! Takes time in the workqueues times the items and flushes, and behind a circle that of its run (`wq_deadlock`); and memory
+//! in the length of the text.
 
 ghost use Rattle.std.specs.Prelude.{◌≡◌, IfOk, length};
 ghost use Rattle.wq_groups.specs.Declaration.{declaration_of};
+ghost use Rattle.wq_core.specs.Wiring.{wiring, own_lanes};
+ghost use Rattle.wq_core.specs.Deadlock.{Deadlocks};
+ghost use Rattle.wq_deadlock.specs.Verdict.{IsDeadlock};
 ghost use Rattle.wq_plan.specs.Solve.{IsPlanned, IsCircled, Solves};
-ghost use Rattle.wq_commands.specs.Answer.{Answers, AnswersDeclared, text_of_plan, text_of_circle};
+ghost use Rattle.wq_commands.specs.Answer.{Answers, AnswersDeclared, PrintsCircle, text_of_plan};
 
 use crate::arc_ends::ends_of;
 use crate::declaration::{Stop, read_declaration};
@@ -13,6 +17,8 @@ use crate::end::End;
 use crate::refusal::refuse;
 use std::alloc::{AllocError, Allocator};
 use wq_cert::{circle_text, plan_text};
+use wq_core::Step;
+use wq_deadlock::circle_run;
 use wq_graph::WaitArc;
 use wq_groups::{Assignment, Groups};
 use wq_items::ItemTable;
@@ -37,7 +43,22 @@ fn text_of_plan<A: Allocator + Copy>(
     plan_text(alloc, table, groups, assignment, &chain)
 }
 
-/// The text of the circle in which the groups of a table's items wait.
+/// The run by which the items of a table hang though each group has a workqueue of its own. The groups wait in a circle.
+fn run_of_groups<A: Allocator + Copy>(
+    alloc: A,
+    table: &ItemTable<'_, A>,
+    groups: &Groups<A>,
+) -> Result<Vec<Step, A>, AllocError>
+    requires grouped { length groups.now.group_of ≡ length table.now.names }
+    requires unsafe_groups { Deadlocks (wiring (declaration_of table.now groups.now) (own_lanes groups.now.groups)) }
+    ensures { IfOk result (λ steps. IsDeadlock (declaration_of table.now groups.now) (own_lanes groups.now.groups) steps.items) }
+{
+    let run = circle_run(alloc, table, groups)?;
+    // `None` would say that these workqueues are safe.
+    Ok(run.unwrap())
+}
+
+/// The text of the circle in which the groups of a table's items wait, with its run.
 fn text_of_circle<A: Allocator + Copy>(
     alloc: A,
     table: &ItemTable<'_, A>,
@@ -46,12 +67,13 @@ fn text_of_circle<A: Allocator + Copy>(
 ) -> Result<Vec<u8, A>, AllocError>
     requires grouped { length groups.now.group_of ≡ length table.now.names }
     requires circled { IsCircled (declaration_of table.now groups.now) arcs.now }
-    ensures { IfOk result (λ text. text.items ≡ text_of_circle (record { table = table.now; partition = groups.now }) arcs.now) }
+    ensures { IfOk result (λ text. PrintsCircle (record { table = table.now; partition = groups.now }) text.items) }
 {
     let _items = table.len();
     let _groups = groups.len();
-    let arcs = ends_of(alloc, arcs)?;
-    circle_text(alloc, table, &arcs, None)
+    let ends = ends_of(alloc, arcs)?;
+    let steps = run_of_groups(alloc, table, groups)?;
+    circle_text(alloc, table, &ends, Some(steps.as_slice()))
 }
 
 /// How a run ends that has this answer to these groups, and what it prints.

@@ -1,12 +1,14 @@
 //! The command `check`: from the bytes of a declaration and a certificate to the bytes of the checker's answer.
 //!
-//! Both texts are read before one is judged, and the answer is made whole before the first byte is written.
+//! The declaration is read first and the certificate next, both before one is judged, and the answer is made whole before
+//! the first byte is written. Takes the time of reading the texts, of judging them and of writing the answer.
 
 ghost use Rattle.std.specs.Prelude.{◌≡◌, ◌≢◌, ◌≤◌, ◌+◌, ◌⊎◌, ℕ, List, Err, IfOk};
 ghost use Rattle.wq_meter.specs.Meter.{count_after, LosesFront, WritesFront, WritesWhole};
 ghost use Rattle.wq_cert.specs.Texts.{max_text as max_certificate};
 ghost use Rattle.wq_commands.specs.Declaration.{max_text};
 ghost use Rattle.wq_commands.specs.CheckInput.{ChecksInput};
+ghost use Rattle.wq_commands.specs.Input.{AfterGiven, HasFailed, HasGiven};
 ghost use Rattle.wq_commands.specs.declared.end.End.{End};
 
 use crate::checking::check;
@@ -22,9 +24,10 @@ pub(crate) const MAX_CERTIFICATE: u32 = 8_388_608;
 /// Reads a declaration and then a certificate to their ends, and writes what the checker answers: `yes K`, `yes circle N`
 /// or `no ..`, or the refusal of the first of the two that is refused.
 ///
-/// At most 1,048,577 bytes of the declaration and 8,388,609 of the certificate are read, in at most as many calls. The
-/// errors are `Fault::Read`, where a read failed, `Fault::Memory`, and `Fault::Write`, where a write failed or took no
-/// byte; after the last one a front of the answer is written, and after the others nothing.
+/// At most 1,048,577 bytes of the declaration and 8,388,609 of the certificate are read, in at most as many calls; the
+/// certificate is untouched until the declaration has been read to its end. The errors are `Fault::Read`, where a read
+/// failed, `Fault::Memory`, and `Fault::Write`, where a write failed or took no byte; after the last one a front of the
+/// answer is written, and after the others nothing.
 pub fn check_cmd<D: Read, C: Read, W: Write, A: Allocator + Copy>(
     alloc: A,
     declaration: &mut Metered<D>,
@@ -44,12 +47,16 @@ pub fn check_cmd<D: Read, C: Read, W: Write, A: Allocator + Copy>(
     ensures unwritten { result ≡ Err Fault.Read → writer.new ≡ writer.old }
 
     // What is asked of the readers, whatever the result.
+    ensures lost { LosesFront D.remaining declaration.old declaration.new (max_text + 1)
+        × LosesFront C.remaining certificate.old certificate.new (max_certificate + 1) }
+    ensures order { AfterGiven D.remaining declaration.old declaration.new max_text certificate.old certificate.new }
     ensures reads { (declaration.new.calls ≤ declaration.old.calls + (max_text + 1)) × (certificate.new.calls ≤ certificate.old.calls + (max_certificate + 1)) }
     ensures bytes_read { (declaration.new.bytes ≤ declaration.old.bytes + (max_text + 1)) × (certificate.new.bytes ≤ certificate.old.bytes + (max_certificate + 1)) }
 
-    // Which fault it is.
+    // Which fault it is, and of which reader.
     ensures read_failed { result ≡ Err Fault.Read →
-        (declaration.new.failures ≡ count_after declaration.old.failures 1) ⊎ (certificate.new.failures ≡ count_after certificate.old.failures 1) }
+        (HasFailed declaration.old declaration.new × (certificate.new ≡ certificate.old))
+        ⊎ (HasGiven D.remaining declaration.old declaration.new max_text × HasFailed certificate.old certificate.new) }
     ensures no_read_failed { result ≢ Err Fault.Read →
         (declaration.new.failures ≡ declaration.old.failures) × (certificate.new.failures ≡ certificate.old.failures) }
     ensures write_failed { result ≡ Err Fault.Write → writer.new.failures ≡ count_after writer.old.failures 1 }

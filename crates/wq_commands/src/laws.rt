@@ -3,14 +3,25 @@
 //! The examples are computed on the definitions, so that a reader can hold these against the format's own.
 
 ghost use Rattle.std.specs.Prelude.{◌≡◌, ℕ, ◌+◌, ◌<◌, ◌≤◌, List, length, take, codes, Ok, Err};
+ghost use Rattle.wq_groups.specs.Declaration.{IsDeclaration};
+ghost use Rattle.std.specs.List.{All};
+ghost use Rattle.wq_text.specs.Lines.{LineView, lines_of};
 ghost use Rattle.wq_groups.specs.Assignment.{Assignment};
+ghost use Rattle.wq_core.specs.declared.step.Step.{Step};
+ghost use Rattle.wq_core.specs.Wiring.{wiring, own_lanes};
 ghost use Rattle.wq_graph.specs.declared.arc.WaitArc.{WaitArc};
 ghost use Rattle.wq_graph.specs.Graph.{group_graph};
 ghost use Rattle.wq_levels.specs.Walks.{IsWalkedCircle};
 ghost use Rattle.wq_plan.specs.Plan.{IsPlan};
+ghost use Rattle.wq_cert.specs.LineText.{line_text};
+ghost use Rattle.wq_checker.specs.declared.run.RunEnd.TheVariants.{Deadlock};
+ghost use Rattle.wq_deadlock.specs.CircleRun.{IsCircleRun};
 ghost use Rattle.wq_commands.specs.Answer.{Answers, declared_waits, text_of_plan, text_of_circle};
 ghost use Rattle.wq_commands.specs.Promise.{KeepsPromise};
 ghost use Rattle.wq_commands.specs.PrintedChecked.{ChecksYes};
+ghost use Rattle.wq_commands.specs.Checking.{Checks};
+ghost use Rattle.wq_commands.specs.Replaying.{replay_words, Replays};
+ghost use Rattle.wq_commands.specs.Deadlocking.{Judges};
 ghost use Rattle.wq_commands.specs.Declaration.{Declared, declaration, max_text};
 ghost use Rattle.wq_commands.specs.declared.end.End.{End};
 ghost use Rattle.wq_commands.specs.declared.end.End.TheVariants.{Good, Bad, Refused};
@@ -23,13 +34,13 @@ pub fn a_text_has_one_answer()
 
 /// An answer keeps what it promises. Of a plan text: the assignment that is read from it lets no run end stuck, every
 /// assignment to fewer workqueues has a run that ends stuck, with each item queued once and flushing as declared, and the
-/// printed chain has as many groups as there are workqueues. Of a circle text: its arcs go round groups, and every
-/// assignment has such a run.
+/// printed chain has as many groups as there are workqueues. Of a circle text: its arcs go round groups, the run that is
+/// read from it is such a run where each group has a workqueue of its own, and every assignment has such a run.
 pub fn an_answer_keeps_its_promise()
     ensures { (text : List ℕ) (end : End) (out : List ℕ) → Answers text end out → KeepsPromise text end out }
 {}
 
-/// What `plan` prints is answered with yes: of a plan `check` prints `yes K`, and of a circle `yes circle N`.
+/// What `plan` prints is answered with yes: of a plan `check` prints `yes K`, and of a circle with its run `yes circle N`.
 pub fn a_printed_answer_is_checked_with_yes()
     ensures { (text out : List ℕ) (end : End) → Answers text end out → ChecksYes text out end }
 {}
@@ -46,16 +57,29 @@ pub fn a_long_text_is_refused_by_its_front()
     ensures front { (text : List ℕ) → declaration (take (max_text + 1) text) ≡ declaration text }
 {}
 
-/// The text of a plan has at most 8,388,608 bytes, so whoever reads it back can set a limit.
+/// The text of a plan has at most 8,388,608 bytes, and no line of it has more than 524,288, so whoever reads it back can
+/// set limits.
 pub fn a_plan_text_is_within_the_limits()
-    ensures { (text : List ℕ) (s : Declared) (a : Assignment) → declaration text ≡ Ok s → IsPlan (declared_waits s) a →
+    ensures text { (text : List ℕ) (s : Declared) (a : Assignment) → declaration text ≡ Ok s → IsPlan (declared_waits s) a →
         length (text_of_plan s a) ≤ 8388608 }
+    ensures lines { (text : List ℕ) (s : Declared) (a : Assignment) → declaration text ≡ Ok s → IsPlan (declared_waits s) a →
+        All (λ (line : LineView). length line.bytes ≤ 524288) (lines_of (text_of_plan s a)) }
 {}
 
-/// So has that of a circle.
+/// The text of a circle with its run is within the same limits: there are at most 4,096 arcs and 45,056 steps.
 pub fn a_circle_text_is_within_the_limits()
-    ensures { (text : List ℕ) (s : Declared) (circle : List WaitArc) → declaration text ≡ Ok s →
-        IsWalkedCircle (group_graph (declared_waits s)) circle → length (text_of_circle s circle) ≤ 8388608 }
+    ensures few { (text : List ℕ) (s : Declared) (circle : List WaitArc) (steps : List Step) → declaration text ≡ Ok s →
+        IsWalkedCircle (group_graph (declared_waits s)) circle →
+        IsCircleRun (wiring (declared_waits s) (own_lanes s.partition.groups)) circle steps →
+        (length circle ≤ 4096) × (length steps ≤ 45056) }
+    ensures text { (text : List ℕ) (s : Declared) (circle : List WaitArc) (steps : List Step) → declaration text ≡ Ok s →
+        IsWalkedCircle (group_graph (declared_waits s)) circle →
+        IsCircleRun (wiring (declared_waits s) (own_lanes s.partition.groups)) circle steps →
+        length (text_of_circle s circle steps) ≤ 8388608 }
+    ensures lines { (text : List ℕ) (s : Declared) (circle : List WaitArc) (steps : List Step) → declaration text ≡ Ok s →
+        IsWalkedCircle (group_graph (declared_waits s)) circle →
+        IsCircleRun (wiring (declared_waits s) (own_lanes s.partition.groups)) circle steps →
+        All (λ (line : LineView). length line.bytes ≤ 524288) (lines_of (text_of_circle s circle steps)) }
 {}
 
 /// Of two items the one that flushes the other is on the workqueue above it.
@@ -78,12 +102,59 @@ pub fn an_item_on_two_ordered_lines_is_refused()
     ensures { Answers (codes "item a\nitem b\nordered a b\nordered b\n") Refused (codes "refused 11 line 4\n") }
 {}
 
-/// The shortest circle has one item.
+/// The shortest circle has one item, which waits for itself while it runs.
 pub fn an_item_that_flushes_itself_is_a_circle()
-    ensures { Answers (codes "item a\nflush a a\n") Bad (codes "circle 1\narc a a\n") }
+    ensures { Answers (codes "item a\nflush a a\n") Bad
+        (codes "circle 1\narc a a\nrun 3\nqueue a\nstart 0 a\nwait 0 a\n") }
 {}
 
 /// So has a group in which one item flushes another: an ordered workqueue executes one item at a time.
 pub fn a_flush_within_an_ordered_line_is_a_circle()
-    ensures { Answers (codes "item a\nitem b\nordered a b\nflush a b\n") Bad (codes "circle 1\narc a b\n") }
+    ensures { Answers (codes "item a\nitem b\nordered a b\nflush a b\n") Bad
+        (codes "circle 1\narc a b\nrun 4\nqueue a\nqueue b\nstart 0 a\nwait 0 b\n") }
+{}
+
+/// A declaration and an assignment have one verdict, and no other: one end, and one text that is printed.
+pub fn an_assignment_has_one_verdict()
+    ensures one { (declared text : List ℕ) → (end : End) × (out : List ℕ) × Judges declared text end out }
+    ensures end { (declared text : List ℕ) (end other : End) (out printed : List ℕ) → Judges declared text end out → Judges declared text other printed → end ≡ other }
+    ensures out { (declared text : List ℕ) (end other : End) (out printed : List ℕ) → Judges declared text end out → Judges declared text other printed → out ≡ printed }
+{}
+
+/// The run that `deadlock` prints is read back: of the same declaration and the same assignment `replay` answers `deadlock`
+/// to it.
+pub fn a_printed_run_is_replayed_to_a_deadlock()
+    ensures { (declared text out : List ℕ) → Judges declared text Bad out → Replays declared text out Bad (line_text (replay_words Deadlock)) }
+{}
+
+/// A declaration and a certificate have one answer of `check` at most: one end, and one text that is printed.
+pub fn a_check_has_one_answer()
+    ensures end { (text claim : List ℕ) (end other : End) (out printed : List ℕ) →
+        Checks text claim end out → Checks text claim other printed → end ≡ other }
+    ensures out { (text claim : List ℕ) (end other : End) (out printed : List ℕ) →
+        Checks text claim end out → Checks text claim other printed → out ≡ printed }
+{}
+
+/// They have an answer.
+pub fn a_check_has_an_answer()
+    ensures { (text claim : List ℕ) → (end : End) × (out : List ℕ) × Checks text claim end out }
+{}
+
+/// A declaration, an assignment and a run have one answer of `replay` at most: one end, and one text that is printed.
+pub fn a_replay_has_one_answer()
+    ensures end { (text lanes steps : List ℕ) (end other : End) (out printed : List ℕ) →
+        Replays text lanes steps end out → Replays text lanes steps other printed → end ≡ other }
+    ensures out { (text lanes steps : List ℕ) (end other : End) (out printed : List ℕ) →
+        Replays text lanes steps end out → Replays text lanes steps other printed → out ≡ printed }
+{}
+
+/// They have an answer.
+pub fn a_replay_has_an_answer()
+    ensures { (text lanes steps : List ℕ) → (end : End) × (out : List ℕ) × Replays text lanes steps end out }
+{}
+
+/// What a text declares is a declaration: one list of flushes and one group for each item, and at most 16,384 flushes, each
+/// of an item and at a place of its own.
+pub fn what_a_text_declares_is_a_declaration()
+    ensures { (text : List ℕ) (s : Declared) → declaration text ≡ Ok s → IsDeclaration (declared_waits s) }
 {}

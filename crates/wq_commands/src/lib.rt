@@ -1,15 +1,18 @@
 //! The commands of the program, over any reader and any writer.
 //!
 //! What the program relies on: the bytes written are the answer text of the bytes read. The commands are those of
-//! docs/FORMAT.md; what a run reads and writes is bounded and counted.
+//! docs/FORMAT.md; what a run reads and writes is bounded and counted. A command takes the time of reading its texts, of
+//! answering them and of writing the answer.
 #![tactic(auto)]
 
 mod answer;
 mod arc_ends;
 mod check;
 mod checking;
+mod deadlock;
 mod declaration;
 mod end;
+mod judging;
 pub mod laws;
 mod plan;
 mod refusal;
@@ -17,6 +20,7 @@ mod replay;
 mod replaying;
 
 pub use check::check_cmd;
+pub use deadlock::deadlock_cmd;
 pub use declaration::{Declaration, Stop, read_declaration};
 pub use end::End;
 pub use plan::plan_cmd;

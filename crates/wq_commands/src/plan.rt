@@ -16,7 +16,7 @@ use std::io::{Read, Write};
 use wq_meter::{Fault, Metered, read_text, write_text};
 
 /// Reads a declaration to its end and writes its answer: the text of its plan, that of the circle in which its groups
-/// wait, or its refusal.
+/// wait, with a run that shows it, or its refusal.
 ///
 /// At most 1,048,577 bytes are read, in at most as many calls. The errors are `Fault::Read`, where a read failed,
 /// `Fault::Memory`, and `Fault::Write`, where a write failed or took no byte; after the last one a front of the answer
@@ -30,9 +30,10 @@ pub fn plan_cmd<R: Read, W: Write, A: Allocator + Copy>(
     ensures answered { IfOk result (λ end. (out : List ℕ) × AnswersInput R.remaining reader.old reader.new end out
         × WritesWhole W.contents writer.old writer.new out) }
 
-    // What is written is true. Of a plan: no run of the assignment that is read from it ends stuck, and every assignment to
-    // fewer workqueues has a run, with each item queued once and flushing as declared, that ends stuck. Of a circle: every
-    // assignment has such a run.
+    // What is written is true. For every declaration text that is answered, either the printed assignment lets no run of
+    // queueings, cancellations and rescuer steps end stuck, and every assignment to fewer workqueues has a run, with each
+    // item queued once and flushing as declared, that ends stuck; or a printed circle of groups is given and every
+    // assignment has such a run. The run behind the circle is that of one workqueue for each group.
     ensures promised { IfOk result (λ end. (out : List ℕ) × KeepsPromiseOfInput R.remaining reader.old end out
         × WritesWhole W.contents writer.old writer.new out) }
 

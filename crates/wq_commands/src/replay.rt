@@ -1,12 +1,15 @@
 //! The command `replay`: from the bytes of a declaration, an assignment and a run to how the run ends.
 //!
-//! All texts are read before one is judged, and the answer is made whole before the first byte is written.
+//! The declaration is read first, then the assignment and then the run, all before one is judged, and the answer is made
+//! whole before the first byte is written. Takes the time of reading the texts, of judging them and making the steps, and
+//! of writing the answer.
 
 ghost use Rattle.std.specs.Prelude.{◌≡◌, ◌≢◌, ◌≤◌, ◌+◌, ◌⊎◌, ℕ, List, Err, IfOk};
-ghost use Rattle.wq_meter.specs.Meter.{count_after, WritesFront, WritesWhole};
+ghost use Rattle.wq_meter.specs.Meter.{count_after, LosesFront, WritesFront, WritesWhole};
 ghost use Rattle.wq_cert.specs.Texts.{max_text as max_certificate};
 ghost use Rattle.wq_commands.specs.Declaration.{max_text};
 ghost use Rattle.wq_commands.specs.CheckInput.{ReplaysInput};
+ghost use Rattle.wq_commands.specs.Input.{AfterGiven, HasFailed, HasGiven};
 ghost use Rattle.wq_commands.specs.declared.end.End.{End};
 
 use crate::check::MAX_CERTIFICATE;
@@ -20,9 +23,10 @@ use wq_meter::{Fault, Metered, read_text, write_text};
 /// Reads a declaration, an assignment and a run to their ends, makes the steps of the run, and writes how that ends:
 /// `open`, `deadlock`, `stuck` or `not lawful N`, or the refusal of the first of the three that is refused.
 ///
-/// At most 1,048,577 bytes of the declaration and 8,388,609 of each of the others are read, in at most as many calls. The
-/// errors are `Fault::Read`, where a read failed, `Fault::Memory`, and `Fault::Write`, where a write failed or took no
-/// byte; after the last one a front of the answer is written, and after the others nothing.
+/// At most 1,048,577 bytes of the declaration and 8,388,609 of each of the others are read, in at most as many calls; each
+/// is untouched until those before it have been read to their ends. The errors are `Fault::Read`, where a read failed,
+/// `Fault::Memory`, and `Fault::Write`, where a write failed or took no byte; after the last one a front of the answer is
+/// written, and after the others nothing.
 pub fn replay_cmd<D: Read, S: Read, R: Read, W: Write, A: Allocator + Copy>(
     alloc: A,
     declaration: &mut Metered<D>,
@@ -43,14 +47,22 @@ pub fn replay_cmd<D: Read, S: Read, R: Read, W: Write, A: Allocator + Copy>(
     ensures unwritten { result ≡ Err Fault.Read → writer.new ≡ writer.old }
 
     // What is asked of the readers, whatever the result.
+    ensures lost { LosesFront D.remaining declaration.old declaration.new (max_text + 1)
+        × LosesFront S.remaining assignment.old assignment.new (max_certificate + 1)
+        × LosesFront R.remaining run.old run.new (max_certificate + 1) }
+    ensures order { AfterGiven D.remaining declaration.old declaration.new max_text assignment.old assignment.new
+        × AfterGiven D.remaining declaration.old declaration.new max_text run.old run.new
+        × AfterGiven S.remaining assignment.old assignment.new max_certificate run.old run.new }
     ensures reads { (declaration.new.calls ≤ declaration.old.calls + (max_text + 1))
         × (assignment.new.calls ≤ assignment.old.calls + (max_certificate + 1)) × (run.new.calls ≤ run.old.calls + (max_certificate + 1)) }
     ensures bytes_read { (declaration.new.bytes ≤ declaration.old.bytes + (max_text + 1))
         × (assignment.new.bytes ≤ assignment.old.bytes + (max_certificate + 1)) × (run.new.bytes ≤ run.old.bytes + (max_certificate + 1)) }
 
-    // Which fault it is.
-    ensures read_failed { result ≡ Err Fault.Read → (declaration.new.failures ≡ count_after declaration.old.failures 1)
-        ⊎ (assignment.new.failures ≡ count_after assignment.old.failures 1) ⊎ (run.new.failures ≡ count_after run.old.failures 1) }
+    // Which fault it is, and of which reader.
+    ensures read_failed { result ≡ Err Fault.Read →
+        (HasFailed declaration.old declaration.new × (assignment.new ≡ assignment.old) × (run.new ≡ run.old))
+        ⊎ (HasGiven D.remaining declaration.old declaration.new max_text × HasFailed assignment.old assignment.new × (run.new ≡ run.old))
+        ⊎ (HasGiven D.remaining declaration.old declaration.new max_text × HasGiven S.remaining assignment.old assignment.new max_certificate × HasFailed run.old run.new) }
     ensures no_read_failed { result ≢ Err Fault.Read → (declaration.new.failures ≡ declaration.old.failures)
         × (assignment.new.failures ≡ assignment.old.failures) × (run.new.failures ≡ run.old.failures) }
     ensures write_failed { result ≡ Err Fault.Write → writer.new.failures ≡ count_after writer.old.failures 1 }

@@ -18,6 +18,12 @@ ghost use Rattle.wq_core.specs.Played.{CanMove, IsDeclaredStep, IsPlayedFrom, qu
 ghost use Rattle.wq_core.specs.Knot.{IsKnot};
 ghost use Rattle.wq_core.specs.Work.{is_rescuer_step, work_left};
 
+/// What holds of every wiring holds of that of a declaration and an assignment of its groups: each item has one of the
+/// lanes, and each target is an item.
+pub fn wirings_are_sound()
+    ensures { (d : Declaration) (a : Assignment) → IsDeclaration d → IsAssignment d.groups a → IsWiring (wiring d a) }
+{}
+
 /// Where nothing more is queued, the rescuers make at most as many steps as there is work left, whatever the order and
 /// whatever is cancelled between.
 pub fn rescuer_steps_are_bounded()

@@ -4,6 +4,7 @@ pub mod Making
 pub mod OwnLanes
 pub mod Queueings
 pub mod CircleKnots
+pub mod CircleRuns
 pub mod Verdicts
 pub mod Renumbered
 pub mod OnlyRun

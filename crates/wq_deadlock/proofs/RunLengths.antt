@@ -10,14 +10,17 @@ use Rattle.std.proofs.lemmas.List.Folds.{sum_by-replicate}
 use Rattle.std.proofs.lemmas.List.Sums.{sum_by-cons, sum_by-append, sum_by-set, sum_by_more}
 use Rattle.wq_items.specs.declared.target.Target.{Target}
 use Rattle.wq_items.specs.Table.{flush_count}
+use Rattle.wq_groups.specs.Declaration.{Declaration, IsDeclaration}
+use Rattle.wq_groups.specs.Assignment.{Assignment}
 use Rattle.wq_core.specs.declared.entry.Entry.{Entry}
 use Rattle.wq_core.specs.declared.step.Step.{Step}
 use Rattle.wq_core.specs.declared.step.Step.TheVariants.{Queue, Cancel, Start, Wait, Over, Finish}
-use Rattle.wq_core.specs.Wiring.{Wiring, items, lane_of}
+use Rattle.wq_core.specs.Wiring.{Wiring, items, lane_of, wiring}
 use Rattle.wq_core.specs.State.{Lane, State, idle_lane, lane_at, empty_state}
 use Rattle.wq_core.specs.Rules.{Lawful, with_queued, effect}
 use Rattle.wq_core.specs.Runs.{IsRunFrom, IsRun, IsCancel, IsOnce, queues}
 use Rattle.wq_core.specs.Held.{IsSoundState}
+use Rattle.wq_core.specs.Deadlock.{DeadlocksBy}
 use Rattle.wq_core.specs.Work.{whole_work, lane_work, work_left}
 use Rattle.wq_core.proofs.Sound.{IsSoundState-effect, IsSoundState-empty}
 use Rattle.wq_core.proofs.WorkLemmas.{work_left-rescuer}
@@ -177,3 +180,9 @@ length-once w steps run once =
     let all = sum_upto-whole w (items w) (omega arith) in
     let whole = ap (λ (ts : List (List Target)). flush_count ts) (take_all (items w) w.waits (omega arith)) in
     omega (arith, most, none, by_item, each, all, whole)
+
+-- so a run by which an assignment deadlocks has 45,056 steps at most
+pub length-deadlocking : (d : Declaration) (a : Assignment) (steps : List Step) → IsDeclaration d → DeadlocksBy (wiring d a) steps → length steps ≤ 45056
+length-deadlocking d a steps declaration deadlocks =
+    let short : length steps ≤ 3 * length d.waits + 2 * flush_count d.waits = length-once (wiring d a) steps deadlocks.run deadlocks.once in
+    omega (arith, short, declaration.one_list_each, declaration.partition.few_items, declaration.few_flushes)

@@ -18,20 +18,14 @@ use Rattle.wq_levels.specs.Ranks.{AreRanks}
 use Rattle.wq_levels.specs.Walks.{IsWalkedCircle}
 use Rattle.wq_levels.proofs.Ranks.{AreRanks-fall}
 use Rattle.wq_levels.proofs.OneCircle.{HasCircle-walked, IsWalkedCircle-few}
-use Rattle.wq_levels.proofs.Walks.{LeadsRound-walked}
 use Rattle.wq_core.specs.declared.step.Step.{Step}
 use Rattle.wq_core.specs.Wiring.{LaneWaits, wiring, lane_of}
-use Rattle.wq_core.specs.Runs.{IsRun}
-use Rattle.wq_core.specs.Deadlock.{DeadlocksBy}
-use Rattle.wq_core.specs.Knot.{IsKnot}
 use Rattle.wq_core.specs.Played.{queue_order}
-use Rattle.wq_core.proofs.KnotRuns.{DeadlocksBy-knot, IsRun-queue_order}
 use Rattle.wq_core.proofs.LaneCircles.{Circle-map}
 use Rattle.wq_core.proofs.Safety.{IsSafe-falls}
-use Rattle.wq_core.proofs.Wirings.{IsWiring-wiring}
 use Rattle.wq_deadlock.specs.CircleRun.{first_items, IsCircleRun}
 use Rattle.wq_deadlock.specs.Verdict.{IsSafeByRanks, IsDeadlock}
-use Rattle.wq_deadlock.proofs.CircleKnots.{IsKnot-first_items}
+use Rattle.wq_deadlock.proofs.CircleRuns.{DeadlocksBy-circle_run}
 use Rattle.wq_deadlock.proofs.Queueings.{length-queue_order}
 
 -- what waits is an item
@@ -109,16 +103,9 @@ module _ (d : Declaration) (a : Assignment) (declaration : IsDeclaration d) (ass
     -- ---- circles
 
     module _ (circle : List WaitArc) (walked : IsWalkedCircle (lane_graph d a) circle) where
-      knot : IsKnot (wiring d a) (first_items circle)
-      knot = IsKnot-first_items d a declaration assignment circle (LeadsRound-walked (lane_graph d a) circle walked)
-
       pub lanes_wait : Circle (LaneWaits (wiring d a))
       lanes_wait =
           Circle-map (HasArc (lane_graph d a)) (LaneWaits (wiring d a)) (λ q. q) (λ p q arc. (LaneWaits-HasArc p q).1 arc) (HasCircle-walked (lane_graph d a) sound circle walked).0
-
-      -- its first items can be queued first, and then all others
-      pub IsRun-first_items : IsRun (wiring d a) (queue_order (wiring d a) (first_items circle))
-      IsRun-first_items = IsRun-queue_order (wiring d a) (first_items circle) (IsWiring-wiring d a declaration assignment) knot
 
       pub length-first_items : length (queue_order (wiring d a) (first_items circle)) ≤ 8192
       length-first_items =
@@ -133,7 +120,5 @@ module _ (d : Declaration) (a : Assignment) (declaration : IsDeclaration d) (ass
         circle = circle;
         walked = walked;
         is_run = is_run;
-        deadlocks =
-            subst (λ (all : List Step). DeadlocksBy (wiring d a) all) (sym is_run.all)
-            (DeadlocksBy-knot (wiring d a) (first_items circle) is_run.played (IsWiring-wiring d a declaration assignment) knot is_run.is_played);
+        deadlocks = DeadlocksBy-circle_run d a declaration assignment circle walked steps is_run;
       }

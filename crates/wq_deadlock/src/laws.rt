@@ -6,6 +6,7 @@ ghost use Rattle.wq_groups.specs.Declaration.{Declaration, IsDeclaration};
 ghost use Rattle.wq_groups.specs.Assignment.{Assignment, IsAssignment};
 ghost use Rattle.wq_graph.specs.declared.arc.WaitArc.{WaitArc};
 ghost use Rattle.wq_graph.specs.Graph.{group_graph, lane_graph, HasArc};
+ghost use Rattle.wq_levels.specs.Walks.{IsWalkedCircle};
 ghost use Rattle.wq_core.specs.declared.step.Step.{Step};
 ghost use Rattle.wq_core.specs.Wiring.{Wiring, LaneWaits, wiring, own_lanes};
 ghost use Rattle.wq_core.specs.State.{State};
@@ -33,6 +34,15 @@ pub fn unsafe_is_deadlocking()
     ensures not_both { (w : Wiring) → Deadlocks w → ¬ IsSafe w }
     ensures same { (d : Declaration) (a : Assignment) → IsDeclaration d → IsAssignment d.groups a →
         ((¬ IsSafe (wiring d a)) ↔ Deadlocks (wiring d a)) }
+{}
+
+/// A circle in which the lanes wait has a run, and by it the assignment deadlocks.
+pub fn a_circle_has_a_run()
+    ensures run { (d : Declaration) (a : Assignment) (circle : List WaitArc) → IsDeclaration d → IsAssignment d.groups a →
+        IsWalkedCircle (lane_graph d a) circle → (steps : List Step) × IsCircleRun (wiring d a) circle steps }
+    ensures deadlocks { (d : Declaration) (a : Assignment) (circle : List WaitArc) (steps : List Step) → IsDeclaration d →
+        IsAssignment d.groups a → IsWalkedCircle (lane_graph d a) circle → IsCircleRun (wiring d a) circle steps →
+        DeadlocksBy (wiring d a) steps }
 {}
 
 /// From a state one run is played, and no other; so a circle has one run.

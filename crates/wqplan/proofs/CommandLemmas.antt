@@ -3,13 +3,13 @@ use Rattle.std.proofs.Common.{refl, ap, ap₂, sym, subst, Result, Ok, Err, IsEr
 use Rattle.std.specs.Prelude.{option_map, unwrap_or}
 use Rattle.std.specs.Str.{bytes_eq}
 use Rattle.std.specs.Borrow.{Bor}
-use Rattle.clap.specs.Words.{Row, Text, first_of, first_value, is_simple, rows_of, subcommand_of, takes}
+use Rattle.clap.specs.Words.{Row, Text, first_of, first_value, is_simple, rows_of, takes}
 use Rattle.clap.specs.declared.parser.matches.Found.{Found}
 use Rattle.clap.proofs.WalkLemmas.{first_value-rows}
 use Rattle.clap.specs.Lexer.{long_of, short_of}
 use Rattle.clap.proofs.OnLiterals.{clap_on_literals}
 use Rattle.wqplan.specs.CommandLine.{wqplan, is_no_option, Asked, Asks, AsksFor, Calls, Gives, name_of}
-use Rattle.wqplan.specs.CommandLine.Asked.{plans, checks, replays}
+use Rattle.wqplan.specs.CommandLine.Asked.{plans, checks, judges, replays}
 
 -- where a part that is turned around is one of those that hold, it doesn't
 pub third_is_not : (x y z w : Bool) → x && (y && (not z && w)) ≡ true → z ≡ false
@@ -81,6 +81,21 @@ asks_check program declaration certificate p q =
     rw (bytes_eq-no_option declaration p, long_of-no_option declaration p, short_of-no_option declaration p)
     (rw (bytes_eq-no_option certificate q, long_of-no_option certificate q, short_of-no_option certificate q) (_, refl, (refl, refl)))
 
+-- `wqplan deadlock DECL ASSIGN` is taken, and gives both
+pub takes_deadlock : (program declaration assignment : Text) → is_no_option declaration ≡ true → is_no_option assignment ≡ true
+    → takes wqplan (program ∷ codes "deadlock" ∷ declaration ∷ assignment ∷ []) ≡ true
+unfolding clap_on_literals
+takes_deadlock program declaration assignment p q =
+    rw (bytes_eq-no_option declaration p, long_of-no_option declaration p, short_of-no_option declaration p)
+    (rw (bytes_eq-no_option assignment q, long_of-no_option assignment q, short_of-no_option assignment q) refl)
+
+pub asks_deadlock : (program declaration assignment : Text) → is_no_option declaration ≡ true → is_no_option assignment ≡ true
+    → Asks (program ∷ codes "deadlock" ∷ declaration ∷ assignment ∷ []) (judges declaration assignment)
+unfolding clap_on_literals
+asks_deadlock program declaration assignment p q =
+    rw (bytes_eq-no_option declaration p, long_of-no_option declaration p, short_of-no_option declaration p)
+    (rw (bytes_eq-no_option assignment q, long_of-no_option assignment q, short_of-no_option assignment q) (_, refl, (refl, refl)))
+
 -- `wqplan replay DECL ASSIGN RUN` is taken, and gives all three
 pub takes_replay : (program declaration assignment run : Text) → is_no_option declaration ≡ true → is_no_option assignment ≡ true → is_no_option run ≡ true
     → takes wqplan (program ∷ codes "replay" ∷ declaration ∷ assignment ∷ run ∷ []) ≡ true
@@ -103,12 +118,14 @@ pub takes_Calls : (words : List Text) (wanted : Asked) → Calls words wanted �
 takes_Calls words (plans None) (program, are) = ap (takes wqplan) are ∙ takes_plan program
 takes_Calls words (plans (Some file)) (program, are, p) = ap (takes wqplan) are ∙ takes_file program file p
 takes_Calls words (checks declaration certificate) (program, are, p, q) = ap (takes wqplan) are ∙ takes_check program declaration certificate p q
+takes_Calls words (judges declaration assignment) (program, are, p, q) = ap (takes wqplan) are ∙ takes_deadlock program declaration assignment p q
 takes_Calls words (replays declaration assignment run) (program, are, p, q, r) = ap (takes wqplan) are ∙ takes_replay program declaration assignment run p q r
 
 pub Asks_Calls : (words : List Text) (wanted : Asked) → Calls words wanted → Asks words wanted
 Asks_Calls words (plans None) (program, are) = subst (λ ws. Asks ws (plans None)) (sym are) (asks_plan program)
 Asks_Calls words (plans (Some file)) (program, are, p) = subst (λ ws. Asks ws (plans (Some file))) (sym are) (asks_file program file p)
 Asks_Calls words (checks declaration certificate) (program, are, p, q) = subst (λ ws. Asks ws (checks declaration certificate)) (sym are) (asks_check program declaration certificate p q)
+Asks_Calls words (judges declaration assignment) (program, are, p, q) = subst (λ ws. Asks ws (judges declaration assignment)) (sym are) (asks_deadlock program declaration assignment p q)
 Asks_Calls words (replays declaration assignment run) (program, are, p, q, r) = subst (λ ws. Asks ws (replays declaration assignment run)) (sym are) (asks_replay program declaration assignment run p q r)
 
 -- a value that a getter hands out is the first one of its rows, and where it hands out none there is none
@@ -141,12 +158,19 @@ met_is (Some p) name rows named held =
 pub Gives-unique : (rows : List Row) (a b : Asked) → name_of a ≡ name_of b → Gives rows a → Gives rows b → a ≡ b
 Gives-unique rows (plans f) (plans f2) names g h = ap plans (sym g ∙ h)
 Gives-unique rows (plans f) (checks d c) names g h = cc
+Gives-unique rows (plans f) (judges d a) names g h = cc
 Gives-unique rows (plans f) (replays d a r) names g h = cc
 Gives-unique rows (checks d c) (plans f) names g h = cc
 Gives-unique rows (checks d c) (checks d2 c2) names (gd, gc) (hd, hc) = ap₂ checks (same_value _ d d2 gd hd) (same_value _ c c2 gc hc)
+Gives-unique rows (checks d c) (judges d2 a) names g h = cc
 Gives-unique rows (checks d c) (replays d2 a r) names g h = cc
+Gives-unique rows (judges d a) (plans f) names g h = cc
+Gives-unique rows (judges d a) (checks d2 c) names g h = cc
+Gives-unique rows (judges d a) (judges d2 a2) names (gd, ga) (hd, ha) = ap₂ judges (same_value _ d d2 gd hd) (same_value _ a a2 ga ha)
+Gives-unique rows (judges d a) (replays d2 a2 r) names g h = cc
 Gives-unique rows (replays d a r) (plans f) names g h = cc
 Gives-unique rows (replays d a r) (checks d2 c) names g h = cc
+Gives-unique rows (replays d a r) (judges d2 a2) names g h = cc
 Gives-unique rows (replays d a r) (replays d2 a2 r2) names (gd, ga, gr) (hd, ha, hr) =
     rw (same_value _ d d2 gd hd, same_value _ a a2 ga ha, same_value _ r r2 gr hr) refl
 
@@ -173,4 +197,5 @@ replays_of met rows wanted is (others, also, given) =
     go : (w : Asked) → name_of w ≡ codes "replay" → Gives rows w → (d : Text) × (a : Text) × (r : Text) × Gives rows (replays d a r)
     go (plans f) name given = cc
     go (checks d c) name given = cc
+    go (judges d a) name given = cc
     go (replays d a r) name given = (d, a, r, given)

@@ -1,8 +1,8 @@
 -- The command line of the program, in the words of `clap`.
-use Rattle.std.specs.Prelude.{◌≡◌, ◌==◌, ℕ, Bool, not, [], ◌∷◌, List, Option, Some, None, codes, true, option_map}
+use Rattle.std.specs.Prelude.{◌≡◌, ◌==◌, Bool, not, [], ◌∷◌, List, Option, Some, None, codes, true, option_map}
 use Rattle.clap.specs.Words.{App, Row, Rule, Text, first_of, new_app, new_rule, subcommand_of, with_rule, with_subcommand}
 use Rattle.wqplan.specs.declared.command_line.Request.{Request}
-use Rattle.wqplan.specs.declared.command_line.Request.TheVariants.{Plan, Check, Replay}
+use Rattle.wqplan.specs.declared.command_line.Request.TheVariants.{Plan, Check, Deadlock, Replay}
 
 -- a positional argument that has to be given
 abbrev pub needed : Text → Rule
@@ -16,6 +16,10 @@ plan = with_rule (new_app (codes "plan")) (new_rule (codes "FILE"))
 abbrev pub check : App
 check = with_rule (with_rule (new_app (codes "check")) (needed (codes "DECL"))) (needed (codes "CERT"))
 
+-- `deadlock DECL ASSIGN`
+abbrev pub deadlock : App
+deadlock = with_rule (with_rule (new_app (codes "deadlock")) (needed (codes "DECL"))) (needed (codes "ASSIGN"))
+
 -- `replay DECL ASSIGN RUN`
 abbrev pub replay : App
 replay = with_rule (with_rule (with_rule (new_app (codes "replay")) (needed (codes "DECL"))) (needed (codes "ASSIGN"))) (needed (codes "RUN"))
@@ -25,30 +29,34 @@ abbrev pub wqplan : App
 wqplan =
     let start = new_app (codes "wqplan") in
     let bare = record start { top = record start.top { has_version = true; subcommand_required = true } } in
-    with_subcommand (with_subcommand (with_subcommand bare plan.top) check.top) replay.top
+    with_subcommand (with_subcommand (with_subcommand (with_subcommand bare plan.top) check.top) deadlock.top) replay.top
 
 -- a command and the paths of its files
 pub data Asked : Type 0 where
   plans : Option Text → Asked
   checks : Text → Text → Asked
+  judges : Text → Text → Asked
   replays : Text → Text → Text → Asked
 
 -- what a request asks for
 abbrev pub spelled : Request → Asked
 spelled (Plan file) = plans (option_map (λ s. s.now) file)
 spelled (Check declaration certificate) = checks declaration.now certificate.now
+spelled (Deadlock declaration assignment) = judges declaration.now assignment.now
 spelled (Replay declaration assignment run) = replays declaration.now assignment.now run.now
 
 -- the name of the command that is asked for
 abbrev pub name_of : Asked → Text
 name_of (plans file) = codes "plan"
 name_of (checks declaration certificate) = codes "check"
+name_of (judges declaration assignment) = codes "deadlock"
 name_of (replays declaration assignment run) = codes "replay"
 
 -- the matches of the command give it these files
 abbrev pub Gives : List Row → Asked → Type 0
 Gives rows (plans file) = first_of (codes "FILE") rows ≡ file
 Gives rows (checks declaration certificate) = (first_of (codes "DECL") rows ≡ Some declaration) × (first_of (codes "CERT") rows ≡ Some certificate)
+Gives rows (judges declaration assignment) = (first_of (codes "DECL") rows ≡ Some declaration) × (first_of (codes "ASSIGN") rows ≡ Some assignment)
 Gives rows (replays declaration assignment run) =
     (first_of (codes "DECL") rows ≡ Some declaration) × (first_of (codes "ASSIGN") rows ≡ Some assignment) × (first_of (codes "RUN") rows ≡ Some run)
 
@@ -71,5 +79,7 @@ Calls words (plans None) = (program : Text) × (words ≡ program ∷ codes "pla
 Calls words (plans (Some file)) = (program : Text) × (words ≡ program ∷ codes "plan" ∷ file ∷ []) × (is_no_option file ≡ true)
 Calls words (checks declaration certificate) = (program : Text) × (words ≡ program ∷ codes "check" ∷ declaration ∷ certificate ∷ [])
     × (is_no_option declaration ≡ true) × (is_no_option certificate ≡ true)
+Calls words (judges declaration assignment) = (program : Text) × (words ≡ program ∷ codes "deadlock" ∷ declaration ∷ assignment ∷ [])
+    × (is_no_option declaration ≡ true) × (is_no_option assignment ≡ true)
 Calls words (replays declaration assignment run) = (program : Text) × (words ≡ program ∷ codes "replay" ∷ declaration ∷ assignment ∷ run ∷ [])
     × (is_no_option declaration ≡ true) × (is_no_option assignment ≡ true) × (is_no_option run ≡ true)

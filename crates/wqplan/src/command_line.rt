@@ -5,7 +5,7 @@
 ghost use Rattle.std.specs.Prelude.{◌≡◌, ℕ, List, Some, codes, false, IfOk, IfSome, IsSome, MatchResult, map};
 ghost use Rattle.clap.specs.Words.{app_of, found_of, kind_of, rows_of, rule_of, subcommand_rows_of};
 ghost use Rattle.clap.specs.declared.error.kind.ErrorKind.TheVariants.{OutOfMemory};
-ghost use Rattle.wqplan.specs.CommandLine.{check, needed, plan, replay, spelled, wqplan, Asked, Asks, AsksFor, Calls, Gives, checks, replays};
+ghost use Rattle.wqplan.specs.CommandLine.{check, deadlock, needed, plan, replay, spelled, wqplan, Asked, Asks, AsksFor, Calls, Gives, checks, judges, replays};
 
 use crate::help;
 use clap::error::ErrorKind;
@@ -26,6 +26,11 @@ pub(crate) enum Request<'a> {
     Check {
         declaration: &'a str,
         certificate: &'a str,
+    },
+    /// The verdict on the assignment in the second file, of the declaration in the first.
+    Deadlock {
+        declaration: &'a str,
+        assignment: &'a str,
     },
     /// How the run in the third file ends, under the assignment in the second one, of the declaration in the first.
     Replay {
@@ -73,6 +78,19 @@ fn check<'a>(alloc: Global) -> Result<Command<'a>, AllocError>
         .arg(certificate)
 }
 
+/// The command `deadlock`.
+fn deadlock<'a>(alloc: Global) -> Result<Command<'a>, AllocError>
+    ensures { IfOk result (λ command. app_of command ≡ deadlock) }
+{
+    let declaration = file(alloc, "DECL", help::DECL);
+    let assignment = file(alloc, "ASSIGN", help::ASSIGN);
+    Command::new(alloc, "deadlock")
+        .about(help::DEADLOCK)
+        .after_help(help::STATUSES)
+        .arg(declaration)?
+        .arg(assignment)
+}
+
 /// The command `replay`.
 fn replay<'a>(alloc: Global) -> Result<Command<'a>, AllocError>
     ensures { IfOk result (λ command. app_of command ≡ replay) }
@@ -99,6 +117,7 @@ fn program<'a>(alloc: Global) -> Result<Command<'a>, AllocError>
         .subcommand_required(true)
         .subcommand(plan(alloc)?)?
         .subcommand(check(alloc)?)?
+        .subcommand(deadlock(alloc)?)?
         .subcommand(replay(alloc)?)
 }
 
@@ -112,6 +131,19 @@ fn check_request<'a>(given: &ArgMatches<'a>) -> Option<Request<'a>>
     Some(Request::Check {
         declaration,
         certificate,
+    })
+}
+
+/// What `deadlock` is asked for. Its two files are there in all matches that a parse gives.
+fn deadlock_request<'a>(given: &ArgMatches<'a>) -> Option<Request<'a>>
+    ensures asked { IfSome result (λ request. AsksFor (Some (codes "deadlock", rows_of (found_of given.now))) (spelled request)) }
+    ensures all { (declaration assignment : List ℕ) → Gives (rows_of (found_of given.now)) (judges declaration assignment) → IsSome result }
+{
+    let declaration = given.get_str("DECL")?;
+    let assignment = given.get_str("ASSIGN")?;
+    Some(Request::Deadlock {
+        declaration,
+        assignment,
     })
 }
 
@@ -142,6 +174,9 @@ fn entered<'a>(matches: &ArgMatches<'a>) -> Option<Request<'a>>
     }
     if let Some(given) = matches.subcommand_matches("check") {
         return check_request(given);
+    }
+    if let Some(given) = matches.subcommand_matches("deadlock") {
+        return deadlock_request(given);
     }
     replay_request(matches.subcommand_matches("replay")?)
 }

@@ -13,6 +13,10 @@ pub(crate) const PLAN: &str =
 pub(crate) const CHECK: &str =
     "Reads a declaration and an answer to it, and prints whether the answer is right";
 
+/// What `deadlock` reads and prints.
+pub(crate) const DEADLOCK: &str = "\
+Reads a declaration and which item is on which workqueue, and prints `safe`, or a run that deadlocks";
+
 /// What `replay` reads and prints.
 pub(crate) const REPLAY: &str = "\
 Reads a declaration, which item is on which workqueue, and a run, and prints how the run ends";
@@ -37,9 +41,10 @@ pub(crate) const STATUSES: &str = "\
 Each command prints one answer to standard output, or a line `refused CODE line N`.
 
 Exit status:
-  0  the answer is a plan, `yes ..` or `open`; or help or the version was printed
+  0  the answer is a plan, `yes ..`, `safe` or `open`; or help or the version was
+     printed
   1  the answer is a circle, where items wait for one another and there is no plan;
-     or it is `no ..`, `deadlock`, `stuck` or `not lawful N`
+     or it is `no ..`, a run that deadlocks, `deadlock`, `stuck` or `not lawful N`
   2  a refusal was printed: a text isn't of the form that it should have. Or the
      command line is wrong; then standard error says how, and nothing was read
   3  a fault: standard error has the line `fault memory`, `fault read` or `fault write`

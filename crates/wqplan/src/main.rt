@@ -7,6 +7,7 @@
 
 mod check;
 mod command_line;
+mod deadlock;
 mod ending;
 mod help;
 mod plan;
@@ -28,6 +29,10 @@ fn perform<R: Files + Input + Print + AllocGlobal>(
             declaration,
             certificate,
         } => check::check(rt, declaration, certificate),
+        Request::Deadlock {
+            declaration,
+            assignment,
+        } => deadlock::deadlock(rt, declaration, assignment),
         Request::Replay {
             declaration,
             assignment,

@@ -5,7 +5,7 @@
 
 ghost use Rattle.std.specs.Prelude.{ℕ, List, IfOk};
 ghost use Rattle.wq_commands.specs.Answer.{Answers};
-ghost use Rattle.wq_commands.specs.Run.{IsInput};
+ghost use Rattle.wq_commands.specs.Input.{IsInput};
 
 use std::io::{Read, Write};
 use std::rt::Files;

@@ -1,6 +1,9 @@
 use Rattle.wq_commands.proofs.AnswerLemmas.{IsSound-declaration}
-use Rattle.wq_commands.proofs.TextLength.{length-planned}
+use Rattle.wq_commands.proofs.TextLength.{length-planned, IsShort-planned}
 use Rattle.wq_commands.proofs.laws.a_plan_text_is_within_the_limits.Goals as goal
 
-pub returns : goal.returns
-returns c = λ text s a declared plan. length-planned s a (IsSound-declaration text s declared) plan
+pub returns-clause-text : goal.returns-clause-text
+returns-clause-text c = λ text s a declared plan. length-planned s (IsSound-declaration text s declared) a plan
+
+pub returns-clause-lines : goal.returns-clause-lines
+returns-clause-lines c = λ text s a declared plan. IsShort-planned s (IsSound-declaration text s declared) a plan

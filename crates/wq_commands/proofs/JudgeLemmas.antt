@@ -1,0 +1,197 @@
+-- Verdicts on assignments: a text has one, and a run that is printed is replayed to a deadlock.
+use Rattle.std.proofs.Common.{◌≡◌, ℕ, ◌+◌, ◌<◌, ◌≤◌, nat_lt, false, inl, inr, List, length, ◌++◌, Option, Result, Ok, Err, refl, sym, ap, subst, ◌∙◌, arith}
+use Rattle.std.specs.Prelude.{MatchResult, take}
+use Rattle.std.proofs.lemmas.Result.{MatchResult-weaker}
+use Rattle.wq_text.specs.Refusal.{Refusal}
+use Rattle.wq_groups.specs.Declaration.{IsDeclaration}
+use Rattle.wq_groups.specs.Assignment.{Assignment}
+use Rattle.wq_graph.specs.declared.arc.WaitArc.{WaitArc}
+use Rattle.wq_graph.specs.Graph.{lane_graph, IsGraph}
+use Rattle.wq_graph.proofs.Graphs.{IsGraph-lane_graph}
+use Rattle.wq_levels.specs.Walks.{IsWalkedCircle}
+use Rattle.wq_levels.proofs.Existence.{AreRanks-or_walk}
+use Rattle.wq_levels.proofs.OneCircle.{IsWalkedCircle-unique}
+use Rattle.wq_core.specs.declared.step.Step.{Step}
+use Rattle.wq_core.specs.Wiring.{wiring}
+use Rattle.wq_core.specs.Deadlock.{IsSafe, DeadlocksBy}
+use Rattle.wq_deadlock.specs.CircleRun.{IsCircleRun}
+use Rattle.wq_deadlock.specs.Verdict.{IsDeadlock}
+use Rattle.wq_deadlock.proofs.CircleRuns.{IsCircleRun-exists}
+use Rattle.wq_deadlock.proofs.OnlyRun.{same_circle_run}
+use Rattle.wq_deadlock.proofs.Renumbered.{not_safe-deadlocks}
+use Rattle.wq_deadlock.proofs.Verdicts.{IsSafeByRanks-ranks, IsDeadlock-walked}
+use Rattle.wq_meter.specs.Meter.{Meter}
+use Rattle.wq_cert.specs.declared.fault.CertError.{CertError}
+use Rattle.wq_cert.specs.LineText.{line_text}
+use Rattle.wq_cert.specs.Ranges.{IsAssignmentOf}
+use Rattle.wq_cert.specs.Reading.{assignment_reading}
+use Rattle.wq_cert.specs.RunText.{run_text}
+use Rattle.wq_cert.specs.Texts.{assignment_of_text, run_of, cert_refusal, max_text as max_certificate}
+use Rattle.wq_cert.proofs.LongCertificates.{text_reading-take}
+use Rattle.wq_cert.proofs.PrintedRuns.{run_of-printed}
+use Rattle.wq_cert.proofs.ReadRanges.{IsAssignmentOf-assignment_of_text}
+use Rattle.wq_cert.proofs.TextLength.{length-run_text}
+use Rattle.wq_checker.specs.declared.run.RunEnd.TheVariants.{Deadlock}
+use Rattle.wq_commands.specs.declared.end.End.{End}
+use Rattle.wq_commands.specs.declared.end.End.TheVariants.{Good, Bad, Refused}
+use Rattle.wq_commands.specs.Answer.{declared_waits, refusal_text, IsRefused}
+use Rattle.wq_commands.specs.Deadlocking.{safe_text, JudgesAssigned, JudgesDeclared, Judges}
+use Rattle.wq_commands.specs.DeadlockInput.{JudgesInput}
+use Rattle.wq_commands.specs.Declaration.{Declared, declaration, max_text}
+use Rattle.wq_commands.specs.Replaying.{replay_words, AnswersReplay, ReplaysAssigned, ReplaysDeclared, Replays}
+use Rattle.wq_commands.proofs.AnswerLemmas.{IsSound, IsSound-declaration, IsDeclaration-sound, declaration-take}
+use Rattle.wq_commands.proofs.CheckLemmas.{MatchResult-ok}
+use Rattle.wq_commands.proofs.InputLemmas.{IsFrontOf}
+use Rattle.wq_commands.proofs.NamedSteps.{IsStepOf-deadlock, length-deadlock}
+
+-- ---- a declaration and an assignment of it
+
+module _ (s : Declared) (sound : IsSound s) (a : Assignment) (assigned : IsAssignmentOf s.partition.groups a) where
+  is_declaration : IsDeclaration (declared_waits s)
+  is_declaration = IsDeclaration-sound s sound
+
+  graph : IsGraph (lane_graph (declared_waits s) a)
+  graph = IsGraph-lane_graph (declared_waits s) a is_declaration assigned.assignment assigned.few
+
+  -- ---- the run is printed and read back
+
+  -- so its text says them
+  run_of-deadlock : (steps : List Step) → DeadlocksBy (wiring (declared_waits s) a) steps → run_of s.table.names (run_text s.table.names steps) ≡ Ok steps
+  run_of-deadlock steps deadlocks =
+      let named = IsStepOf-deadlock s sound a assigned steps deadlocks in
+      let few : length steps ≤ 65536 = omega (arith, length-deadlock s sound a assigned steps deadlocks) in
+      run_of-printed s.table sound.table steps named (length-run_text s.table.names sound.table.named steps named few)
+
+  ReplaysAssigned-judged : (out : List ℕ) → JudgesAssigned s a Bad out → ReplaysAssigned s a out Bad (line_text (replay_words Deadlock))
+  ReplaysAssigned-judged out (steps, deadlock, is) =
+      MatchResult-ok (run_of s.table.names out) steps (λ made. AnswersReplay s a made Bad (line_text (replay_words Deadlock))) (λ fault. IsRefused (cert_refusal fault) Bad (line_text (replay_words Deadlock)))
+      (ap (run_of s.table.names) is ∙ run_of-deadlock steps deadlock.deadlocks) (record { run_end = Deadlock; ends = deadlock.deadlocks; status = refl; printed = refl })
+
+  -- ---- the one verdict
+
+  same_run : (one other : List Step) → IsDeadlock (declared_waits s) a one → IsDeadlock (declared_waits s) a other → one ≡ other
+  same_run one other first second =
+      let w = wiring (declared_waits s) a in
+      let same : first.circle ≡ second.circle = IsWalkedCircle-unique (lane_graph (declared_waits s) a) graph first.circle second.circle first.walked second.walked in
+      same_circle_run w second.circle one other (subst (λ (circle : List WaitArc). IsCircleRun w circle one) same first.is_run) second.is_run
+
+  not_both : (steps : List Step) → IsSafe (wiring (declared_waits s) a) → IsDeadlock (declared_waits s) a steps → ⊥
+  not_both steps safe deadlock = not_safe-deadlocks (wiring (declared_waits s) a) (steps, deadlock.deadlocks) safe
+
+  JudgesAssigned-unique : (end other : End) (out printed : List ℕ) → JudgesAssigned s a end out → JudgesAssigned s a other printed → (end ≡ other) × (out ≡ printed)
+  JudgesAssigned-unique Good Good out printed one two = (refl, one.1 ∙ sym two.1)
+  JudgesAssigned-unique Good Bad out printed one two = absurd (not_both two.0 one.0 two.1)
+  JudgesAssigned-unique Good Refused out printed one two = absurd two
+  JudgesAssigned-unique Bad Good out printed one two = absurd (not_both one.0 two.0 one.1)
+  JudgesAssigned-unique Bad Bad out printed one two = (refl, one.2 ∙ ap (run_text s.table.names) (same_run one.0 two.0 one.1 two.1) ∙ sym two.2)
+  JudgesAssigned-unique Bad Refused out printed one two = absurd two
+  JudgesAssigned-unique Refused other out printed one two = absurd one
+
+  IsDeadlock-exists : (circle : List WaitArc) → IsWalkedCircle (lane_graph (declared_waits s) a) circle → (steps : List Step) × IsDeadlock (declared_waits s) a steps
+  IsDeadlock-exists circle walked =
+      let run = IsCircleRun-exists (declared_waits s) a is_declaration assigned.assignment circle walked in
+      (run.0, IsDeadlock-walked (declared_waits s) a is_declaration assigned.assignment assigned.few circle walked run.0 run.1)
+
+  JudgesAssigned-exist : (end : End) × (out : List ℕ) × JudgesAssigned s a end out
+  JudgesAssigned-exist = elim (AreRanks-or_walk (lane_graph (declared_waits s) a) graph) [
+    | inl ranks ↦
+        let safe = IsSafeByRanks-ranks (declared_waits s) a is_declaration assigned.assignment assigned.few ranks.0 ranks.1 in
+        (Good, safe_text, (safe.safe, refl))
+    | inr walk ↦ let deadlock = IsDeadlock-exists walk.0 walk.1 in (Bad, run_text s.table.names deadlock.0, (deadlock.0, deadlock.1, refl))
+  ]
+
+-- ---- a text of an assignment
+
+module _ (s : Declared) (sound : IsSound s) where
+  -- what is read of it
+  abbrev IsKnown : Result Assignment CertError → Type 0
+  IsKnown r = (a : Assignment) → r ≡ Ok a → IsAssignmentOf s.partition.groups a
+
+  known : (text : List ℕ) → IsKnown (assignment_of_text s.table.names s.partition text)
+  known text a is = IsAssignmentOf-assignment_of_text s.table.names s.partition sound.partition (sym sound.one_group_each) text a is
+
+  judged_once : (r : Result Assignment CertError) → IsKnown r → (end other : End) (out printed : List ℕ)
+      → MatchResult r (λ a. JudgesAssigned s a end out) (λ fault. IsRefused (cert_refusal fault) end out)
+      → MatchResult r (λ a. JudgesAssigned s a other printed) (λ fault. IsRefused (cert_refusal fault) other printed) → (end ≡ other) × (out ≡ printed)
+  judged_once (Ok a) is end other out printed one two = JudgesAssigned-unique s sound a (is a refl) end other out printed one two
+  judged_once (Err fault) is end other out printed one two = (one.0 ∙ sym two.0, one.1 ∙ sym two.1)
+
+  JudgesDeclared-unique : (text : List ℕ) (end other : End) (out printed : List ℕ) → JudgesDeclared s text end out → JudgesDeclared s text other printed → (end ≡ other) × (out ≡ printed)
+  JudgesDeclared-unique text = judged_once (assignment_of_text s.table.names s.partition text) (known text)
+
+  judged : (r : Result Assignment CertError) → IsKnown r
+      → (end : End) × (out : List ℕ) × MatchResult r (λ a. JudgesAssigned s a end out) (λ fault. IsRefused (cert_refusal fault) end out)
+  judged (Ok a) is = JudgesAssigned-exist s sound a (is a refl)
+  judged (Err fault) is = (Refused, refusal_text (cert_refusal fault), (refl, refl))
+
+  JudgesDeclared-exist : (text : List ℕ) → (end : End) × (out : List ℕ) × JudgesDeclared s text end out
+  JudgesDeclared-exist text = judged (assignment_of_text s.table.names s.partition text) (known text)
+
+  replayed : (out said : List ℕ) (r : Result Assignment CertError) → ((a : Assignment) → r ≡ Ok a → JudgesAssigned s a Bad out → ReplaysAssigned s a out Bad said)
+      → MatchResult r (λ a. JudgesAssigned s a Bad out) (λ fault. IsRefused (cert_refusal fault) Bad out)
+      → MatchResult r (λ a. ReplaysAssigned s a out Bad said) (λ fault. IsRefused (cert_refusal fault) Bad said)
+  replayed out said (Ok a) replays judges = replays a refl judges
+  replayed out said (Err fault) replays refused = absurd cc
+
+  ReplaysDeclared-judged : (text out : List ℕ) → JudgesDeclared s text Bad out → ReplaysDeclared s text out Bad (line_text (replay_words Deadlock))
+  ReplaysDeclared-judged text out =
+      replayed out (line_text (replay_words Deadlock)) (assignment_of_text s.table.names s.partition text) (λ a is. ReplaysAssigned-judged s sound a (known text a is) out)
+
+-- ---- texts of a declaration and an assignment
+
+abbrev IsSoundly : Result Declared Refusal → Type 0
+IsSoundly r = (s : Declared) → r ≡ Ok s → IsSound s
+
+judges_once : (r : Result Declared Refusal) → IsSoundly r → (text : List ℕ) (end other : End) (out printed : List ℕ)
+    → MatchResult r (λ s. JudgesDeclared s text end out) (λ refusal. IsRefused refusal end out)
+    → MatchResult r (λ s. JudgesDeclared s text other printed) (λ refusal. IsRefused refusal other printed) → (end ≡ other) × (out ≡ printed)
+judges_once (Ok s) sound text end other out printed one two = JudgesDeclared-unique s (sound s refl) text end other out printed one two
+judges_once (Err refusal) sound text end other out printed one two = (one.0 ∙ sym two.0, one.1 ∙ sym two.1)
+
+pub Judges-unique : (declared text : List ℕ) (end other : End) (out printed : List ℕ) → Judges declared text end out → Judges declared text other printed → (end ≡ other) × (out ≡ printed)
+Judges-unique declared = judges_once (declaration declared) (IsSound-declaration declared)
+
+judges : (r : Result Declared Refusal) → IsSoundly r → (text : List ℕ)
+    → (end : End) × (out : List ℕ) × MatchResult r (λ s. JudgesDeclared s text end out) (λ refusal. IsRefused refusal end out)
+judges (Ok s) sound text = JudgesDeclared-exist s (sound s refl) text
+judges (Err refusal) sound text = (Refused, refusal_text refusal, (refl, refl))
+
+pub Judges-exist : (declared text : List ℕ) → (end : End) × (out : List ℕ) × Judges declared text end out
+Judges-exist declared = judges (declaration declared) (IsSound-declaration declared)
+
+replays : (r : Result Declared Refusal) → IsSoundly r → (text out : List ℕ)
+    → MatchResult r (λ s. JudgesDeclared s text Bad out) (λ refusal. IsRefused refusal Bad out)
+    → MatchResult r (λ s. ReplaysDeclared s text out Bad (line_text (replay_words Deadlock))) (λ refusal. IsRefused refusal Bad (line_text (replay_words Deadlock)))
+replays (Ok s) sound text out answer = ReplaysDeclared-judged s (sound s refl) text out answer
+replays (Err refusal) sound text out refused = absurd cc
+
+-- a run that is printed is answered with `deadlock`
+pub Replays-judged : (declared text out : List ℕ) → Judges declared text Bad out → Replays declared text out Bad (line_text (replay_words Deadlock))
+Replays-judged declared = replays (declaration declared) (IsSound-declaration declared)
+
+-- ---- verdicts on fronts
+
+module _ (end : End) (out : List ℕ) where
+  JudgesDeclared-take : (text : List ℕ) (s : Declared) → JudgesDeclared s (take (max_certificate + 1) text) end out → JudgesDeclared s text end out
+  JudgesDeclared-take text s answer =
+      subst (λ (r : Result Assignment CertError). MatchResult r (λ a. JudgesAssigned s a end out) (λ fault. IsRefused (cert_refusal fault) end out))
+      (text_reading-take (assignment_reading s.table.names s.partition) text) answer
+
+  Judges-take : (declared text : List ℕ) → Judges (take (max_text + 1) declared) (take (max_certificate + 1) text) end out → Judges declared text end out
+  Judges-take declared text answer =
+      MatchResult-weaker (declaration declared)
+      (subst (λ (d : Result Declared Refusal). MatchResult d (λ s. JudgesDeclared s (take (max_certificate + 1) text) end out) (λ r. IsRefused r end out)) (declaration-take declared) answer)
+      (JudgesDeclared-take text) (λ r refused. refused)
+
+pub JudgesInput-read : {D S : Type 0} (known : D → Option (List ℕ)) (assigned : S → Option (List ℕ)) (old new : Meter D) (a_old a_new : Meter S) (end : End) (out text lanes : List ℕ)
+    → IsFrontOf known old new max_text text → IsFrontOf assigned a_old a_new max_certificate lanes → Judges text lanes end out
+    → JudgesInput known assigned old new a_old a_new end out
+JudgesInput-read known assigned old new a_old a_new end out text lanes declared assignment answer = record {
+  text = declared.given.text;
+  declaration = declared.given.gives;
+  lanes = assignment.given.text;
+  assignment = assignment.given.gives;
+  answer =
+      Judges-take end out declared.given.text assignment.given.text
+      (subst (λ (t : List ℕ). Judges t (take (max_certificate + 1) assignment.given.text) end out) declared.front (subst (λ (l : List ℕ). Judges text l end out) assignment.front answer));
+}

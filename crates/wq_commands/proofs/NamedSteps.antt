@@ -1,0 +1,46 @@
+-- The steps of a run by which an assignment deadlocks: they are few, and each can be printed.
+use Rattle.std.proofs.Common.{◌≡◌, ℕ, ◌<◌, ◌≤◌, false, List, length, refl, subst, arith}
+use Rattle.std.specs.Prelude.{nat_lt}
+use Rattle.std.specs.List.{All}
+use Rattle.std.proofs.lemmas.Bool.{le-ltb}
+use Rattle.std.proofs.lemmas.List.Elements.{All-weaker}
+use Rattle.wq_groups.specs.Assignment.{Assignment}
+use Rattle.wq_core.specs.declared.step.Step.{Step}
+use Rattle.wq_core.specs.declared.step.Step.TheVariants.{Queue, Cancel, Start, Wait, Over, Finish}
+use Rattle.wq_core.specs.Wiring.{Wiring, items, wiring}
+use Rattle.wq_core.specs.Deadlock.{DeadlocksBy}
+use Rattle.wq_core.proofs.Wirings.{IsWiring-wiring}
+use Rattle.wq_cert.specs.Ranges.{IsStepOf, IsAssignmentOf}
+use Rattle.wq_cert.specs.RunText.{item_in}
+use Rattle.wq_deadlock.specs.Bounds.{IsNamed}
+use Rattle.wq_deadlock.proofs.Named.{IsNamed-run}
+use Rattle.wq_deadlock.proofs.RunLengths.{length-deadlocking}
+use Rattle.wq_commands.specs.Answer.{declared_waits}
+use Rattle.wq_commands.specs.Declaration.{Declared}
+use Rattle.wq_commands.proofs.AnswerLemmas.{IsSound, IsDeclaration-sound}
+
+near : (q lanes : ℕ) → q < lanes → lanes ≤ 4096 → nat_lt 4095 q ≡ false
+near q lanes within few = le-ltb 4095 q (omega (arith, within, few))
+
+-- a step that names an item and one of few workqueues can be printed
+IsStepOf-named : (w : Wiring) → w.lanes ≤ 4096 → (step : Step) → IsNamed w step → IsStepOf (items w) step
+IsStepOf-named w few (Queue i) named = (named, refl)
+IsStepOf-named w few (Cancel i) named = (named, refl)
+IsStepOf-named w few (Start q i) named = (named.1, near q w.lanes named.0 few)
+IsStepOf-named w few (Wait q b) named = (named.1, near q w.lanes named.0 few)
+IsStepOf-named w few (Over q b) named = (named.1, near q w.lanes named.0 few)
+IsStepOf-named w few (Finish q i) named = (named.1, near q w.lanes named.0 few)
+
+module _ (s : Declared) (sound : IsSound s) (a : Assignment) (assigned : IsAssignmentOf s.partition.groups a) (steps : List Step) (deadlocks : DeadlocksBy (wiring (declared_waits s) a) steps) where
+  pub length-deadlock : length steps ≤ 45056
+  length-deadlock = length-deadlocking (declared_waits s) a steps (IsDeclaration-sound s sound) deadlocks
+
+  pub IsStepOf-deadlock : All (IsStepOf (length s.table.names)) steps
+  IsStepOf-deadlock =
+      let w = wiring (declared_waits s) a in
+      subst (λ n. All (IsStepOf n) steps) sound.table.one_list_each (All-weaker (IsNamed w) (IsStepOf (items w)) (IsStepOf-named w assigned.few) steps
+      (IsNamed-run w steps (IsWiring-wiring (declared_waits s) a (IsDeclaration-sound s sound) assigned.assignment) deadlocks.run))
+
+  -- so the printer finds its item
+  pub item_in-deadlock : All (λ (step : Step). item_in step < length s.table.names) steps
+  item_in-deadlock = All-weaker (IsStepOf (length s.table.names)) (λ (step : Step). item_in step < length s.table.names) (λ step named. named.0) steps IsStepOf-deadlock

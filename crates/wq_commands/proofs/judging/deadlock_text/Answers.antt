@@ -1,0 +1,25 @@
+use Rattle.std.proofs.Common.{◌≤◌, length, arith}
+use Rattle.wq_cert.specs.Ranges.{IsAssignmentOf}
+use Rattle.wq_commands.specs.Declaration.{Declared}
+use Rattle.wq_commands.proofs.AnswerLemmas.{IsSound}
+use Rattle.wq_commands.proofs.NamedSteps.{item_in-deadlock, length-deadlock}
+use Rattle.wq_commands.proofs.judging.deadlock_text.Goals as goal
+
+pub run_text-requires-clause-few : goal.run_text-requires-clause-few
+run_text-requires-clause-few g c =
+    let s : Declared = record { table = c.args.table.now; partition = c.args.groups.now } in
+    let sound : IsSound s = record { table = c.len-items.ensures.table; partition = c.len-groups.ensures.partition; one_group_each = c.requires.grouped } in
+    let a = c.args.assignment.now in
+    let lanes : a.lanes ≤ 4096 = omega (arith, c.lanes-lanes.ensures.lanes, c.lanes-lanes.ensures.few) in
+    let assigned : IsAssignmentOf s.partition.groups a = record { assignment = record { one_each = c.requires.assigned; within = c.lanes-lanes.ensures.within }; few = lanes } in
+    let few : length c.args.steps.now ≤ 45056 = length-deadlock s sound a assigned c.args.steps.now c.requires.deadlock.deadlocks in
+    omega (arith, few)
+
+pub run_text-requires-clause-items : goal.run_text-requires-clause-items
+run_text-requires-clause-items g c =
+    let s : Declared = record { table = c.args.table.now; partition = c.args.groups.now } in
+    let sound : IsSound s = record { table = c.len-items.ensures.table; partition = c.len-groups.ensures.partition; one_group_each = c.requires.grouped } in
+    let a = c.args.assignment.now in
+    let lanes : a.lanes ≤ 4096 = omega (arith, c.lanes-lanes.ensures.lanes, c.lanes-lanes.ensures.few) in
+    let assigned : IsAssignmentOf s.partition.groups a = record { assignment = record { one_each = c.requires.assigned; within = c.lanes-lanes.ensures.within }; few = lanes } in
+    item_in-deadlock s sound a assigned c.args.steps.now c.requires.deadlock.deadlocks

@@ -1,0 +1,34 @@
+-- The answer to a declaration and an assignment: whether the assignment is safe, and else its deadlocking run.
+use Rattle.std.specs.Prelude.{◌≡◌, ℕ, List, [], ◌∷◌, codes, MatchResult}
+use Rattle.wq_groups.specs.Assignment.{Assignment}
+use Rattle.wq_core.specs.declared.step.Step.{Step}
+use Rattle.wq_core.specs.Wiring.{wiring}
+use Rattle.wq_core.specs.Deadlock.{IsSafe}
+use Rattle.wq_deadlock.specs.Verdict.{IsDeadlock}
+use Rattle.wq_cert.specs.LineText.{line_text}
+use Rattle.wq_cert.specs.RunText.{run_text}
+use Rattle.wq_cert.specs.Texts.{assignment_of_text, cert_refusal}
+use Rattle.wq_commands.specs.declared.end.End.{End}
+use Rattle.wq_commands.specs.declared.end.End.TheVariants.{Good, Bad, Refused}
+use Rattle.wq_commands.specs.Answer.{declared_waits, IsRefused}
+use Rattle.wq_commands.specs.Declaration.{Declared, declaration}
+
+-- `safe`
+abbrev pub safe_text : List ℕ
+safe_text = line_text (codes "safe" ∷ [])
+
+-- the verdict on an assignment of a declaration is printed: `safe` where no run ends stuck; else the deadlocking run, that of
+-- the circle in which the workqueues wait, which ends stuck with each item queued once and flushing as declared
+abbrev pub JudgesAssigned : Declared → Assignment → End → List ℕ → Type 0
+JudgesAssigned s a Good out = IsSafe (wiring (declared_waits s) a) × (out ≡ safe_text)
+JudgesAssigned s a Bad out = (steps : List Step) × IsDeadlock (declared_waits s) a steps × (out ≡ run_text s.table.names steps)
+JudgesAssigned s a Refused out = ⊥
+
+-- the verdict on the text of an assignment of a declaration, or its refusal
+abbrev pub JudgesDeclared : Declared → List ℕ → End → List ℕ → Type 0
+JudgesDeclared s text end out =
+    MatchResult (assignment_of_text s.table.names s.partition text) (λ a. JudgesAssigned s a end out) (λ fault. IsRefused (cert_refusal fault) end out)
+
+-- the verdict on the texts of a declaration and an assignment: a refusal of the declaration comes first
+abbrev pub Judges : List ℕ → List ℕ → End → List ℕ → Type 0
+Judges declared text end out = MatchResult (declaration declared) (λ s. JudgesDeclared s text end out) (λ r. IsRefused r end out)

@@ -1,0 +1,68 @@
+//! The command `deadlock`: from the bytes of a declaration and an assignment to the bytes of the verdict on it.
+//!
+//! The declaration is read first and the assignment next, both before one is judged, and the answer is made whole before
+//! the first byte is written. Takes the time of reading the texts, of the verdict and of writing the answer.
+
+ghost use Rattle.std.specs.Prelude.{◌≡◌, ◌≢◌, ◌≤◌, ◌+◌, ◌⊎◌, ℕ, List, Err, IfOk};
+ghost use Rattle.wq_meter.specs.Meter.{count_after, LosesFront, WritesFront, WritesWhole};
+ghost use Rattle.wq_cert.specs.Texts.{max_text as max_certificate};
+ghost use Rattle.wq_commands.specs.Declaration.{max_text};
+ghost use Rattle.wq_commands.specs.DeadlockInput.{JudgesInput};
+ghost use Rattle.wq_commands.specs.Input.{AfterGiven, HasFailed, HasGiven};
+ghost use Rattle.wq_commands.specs.declared.end.End.{End};
+
+use crate::check::MAX_CERTIFICATE;
+use crate::declaration::MAX_TEXT;
+use crate::end::End;
+use crate::judging::judge;
+use std::alloc::Allocator;
+use std::io::{Read, Write};
+use wq_meter::{Fault, Metered, read_text, write_text};
+
+/// Reads a declaration and then an assignment to their ends, and writes whether the assignment is safe: `safe`, or else the
+/// text of a run by which it deadlocks, or the refusal of the first of the two that is refused.
+///
+/// At most 1,048,577 bytes of the declaration and 8,388,609 of the assignment are read, in at most as many calls, and of the
+/// assignment nothing before the declaration was given. The errors are `Fault::Read`, where a read failed,
+/// `Fault::Memory`, and `Fault::Write`, where a write failed or took no byte; after the last one a front of the answer is
+/// written, and after the others nothing.
+pub fn deadlock_cmd<D: Read, S: Read, W: Write, A: Allocator + Copy>(
+    alloc: A,
+    declaration: &mut Metered<D>,
+    assignment: &mut Metered<S>,
+    writer: &mut Metered<W>,
+) -> Result<End, Fault>
+    // The answer to the texts that the readers had is written, and nothing else.
+    ensures answered { IfOk result (λ end. (out : List ℕ)
+        × JudgesInput D.remaining S.remaining declaration.old declaration.new assignment.old assignment.new end out
+        × WritesWhole W.contents writer.old writer.new out) }
+
+    // What a fault leaves.
+    ensures front { result ≡ Err Fault.Write → (end : End) × (out : List ℕ)
+        × JudgesInput D.remaining S.remaining declaration.old declaration.new assignment.old assignment.new end out
+        × WritesFront W.contents writer.old writer.new out }
+    ensures untouched { result ≡ Err Fault.Memory → writer.new ≡ writer.old }
+    ensures unwritten { result ≡ Err Fault.Read → writer.new ≡ writer.old }
+
+    // What is asked of the readers, whatever the result.
+    ensures lost { LosesFront D.remaining declaration.old declaration.new (max_text + 1)
+        × LosesFront S.remaining assignment.old assignment.new (max_certificate + 1) }
+    ensures order { AfterGiven D.remaining declaration.old declaration.new max_text assignment.old assignment.new }
+    ensures reads { (declaration.new.calls ≤ declaration.old.calls + (max_text + 1)) × (assignment.new.calls ≤ assignment.old.calls + (max_certificate + 1)) }
+    ensures bytes_read { (declaration.new.bytes ≤ declaration.old.bytes + (max_text + 1)) × (assignment.new.bytes ≤ assignment.old.bytes + (max_certificate + 1)) }
+
+    // Which fault it is, and of which reader.
+    ensures read_failed { result ≡ Err Fault.Read →
+        (HasFailed declaration.old declaration.new × (assignment.new ≡ assignment.old))
+        ⊎ (HasGiven D.remaining declaration.old declaration.new max_text × HasFailed assignment.old assignment.new) }
+    ensures no_read_failed { result ≢ Err Fault.Read →
+        (declaration.new.failures ≡ declaration.old.failures) × (assignment.new.failures ≡ assignment.old.failures) }
+    ensures write_failed { result ≡ Err Fault.Write → writer.new.failures ≡ count_after writer.old.failures 1 }
+    ensures no_write_failed { result ≢ Err Fault.Write → writer.new.failures ≡ writer.old.failures }
+{
+    let text = read_text(alloc, declaration, MAX_TEXT)?;
+    let lanes = read_text(alloc, assignment, MAX_CERTIFICATE)?;
+    let (end, answer) = judge(alloc, &text, &lanes)?;
+    write_text(writer, &answer)?;
+    Ok(end)
+}

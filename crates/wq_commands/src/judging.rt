@@ -1,0 +1,134 @@
+//! The answer to a declaration and an assignment, made whole in memory.
+//!
+//! The rule is that of "Deadlocking runs" in docs/FORMAT.md. Takes the time and the memory of reading the two and of the
+//! verdict, whose run has 45,056 steps at most.
+
+ghost use Rattle.std.specs.Prelude.{◌≡◌, IfOk, length};
+ghost use Rattle.wq_groups.specs.Declaration.{declaration_of};
+ghost use Rattle.wq_cert.specs.RunText.{run_text};
+ghost use Rattle.wq_deadlock.specs.Verdict.{IsDeadlock, IsVerdict};
+ghost use Rattle.wq_commands.specs.Deadlocking.{safe_text, JudgesAssigned, JudgesDeclared, Judges};
+
+use crate::declaration::{Stop, read_declaration};
+use crate::end::End;
+use crate::refusal::refuse;
+use std::alloc::{AllocError, Allocator};
+use wq_cert::lines::{put, put_end};
+use wq_cert::{CertError, read_assignment, run_text};
+use wq_core::Step;
+use wq_deadlock::{Verdict, verdict};
+use wq_groups::{Assignment, Groups};
+use wq_items::ItemTable;
+
+/// `safe`.
+fn safe_text<A: Allocator + Copy>(alloc: A) -> Result<Vec<u8, A>, AllocError>
+    ensures { IfOk result (λ text. text.items ≡ safe_text) }
+{
+    let mut out = Vec::new(alloc);
+    put(&mut out, b"safe")?;
+    put_end(&mut out)?;
+    Ok(out)
+}
+
+/// The text of the run by which an assignment deadlocks.
+fn deadlock_text<A: Allocator + Copy>(
+    alloc: A,
+    table: &ItemTable<'_, A>,
+    groups: &Groups<A>,
+    assignment: &Assignment<A>,
+    steps: &[Step],
+) -> Result<Vec<u8, A>, AllocError>
+    requires grouped { length groups.now.group_of ≡ length table.now.names }
+    requires assigned { length assignment.now.lane_of_group ≡ groups.now.groups }
+    requires deadlock { IsDeadlock (declaration_of table.now groups.now) assignment.now steps.now }
+    ensures { IfOk result (λ text. text.items ≡ run_text table.now.names steps.now) }
+{
+    // What holds of every table, of all groups and of every assignment.
+    let _items = table.len();
+    let _groups = groups.len();
+    let _lanes = assignment.lanes();
+    run_text(alloc, table, steps)
+}
+
+/// How a run of the program ends that has this verdict on an assignment, and what it prints.
+fn print_verdict<A: Allocator + Copy>(
+    alloc: A,
+    table: &ItemTable<'_, A>,
+    groups: &Groups<A>,
+    assignment: &Assignment<A>,
+    verdict: &Verdict<A>,
+) -> Result<(End, Vec<u8, A>), AllocError>
+    requires grouped { length groups.now.group_of ≡ length table.now.names }
+    requires assigned { length assignment.now.lane_of_group ≡ groups.now.groups }
+    requires judged { IsVerdict (declaration_of table.now groups.now) assignment.now verdict.now }
+    ensures { IfOk result (λ printed. JudgesAssigned (record { table = table.now; partition = groups.now }) assignment.now printed.0 printed.1.items) }
+{
+    match verdict {
+        Verdict::Safe(_) => {
+            let text = safe_text(alloc)?;
+            Ok((End::Good, text))
+        }
+        Verdict::Deadlock(steps) => {
+            let text = deadlock_text(alloc, table, groups, assignment, steps)?;
+            Ok((End::Bad, text))
+        }
+    }
+}
+
+/// How a run of the program ends that is given an assignment of these groups, and what it prints.
+fn judge_assigned<A: Allocator + Copy>(
+    alloc: A,
+    table: &ItemTable<'_, A>,
+    groups: &Groups<A>,
+    assignment: &Assignment<A>,
+) -> Result<(End, Vec<u8, A>), AllocError>
+    requires grouped { length groups.now.group_of ≡ length table.now.names }
+    requires assigned { length assignment.now.lane_of_group ≡ groups.now.groups }
+    ensures { IfOk result (λ printed. JudgesAssigned (record { table = table.now; partition = groups.now }) assignment.now printed.0 printed.1.items) }
+{
+    let verdict = verdict(alloc, table, groups, assignment)?;
+    print_verdict(alloc, table, groups, assignment, &verdict)
+}
+
+/// How a run of the program ends that is given the text of an assignment of these groups, and what it prints.
+fn judge_declared<A: Allocator + Copy>(
+    alloc: A,
+    table: &ItemTable<'_, A>,
+    groups: &Groups<A>,
+    text: &[u8],
+) -> Result<(End, Vec<u8, A>), AllocError>
+    requires { length groups.now.group_of ≡ length table.now.names }
+    ensures { IfOk result (λ printed. JudgesDeclared (record { table = table.now; partition = groups.now }) text.now printed.0 printed.1.items) }
+{
+    // What holds of all groups.
+    let _groups = groups.len();
+    match read_assignment(alloc, text, table, groups) {
+        Ok(assignment) => {
+            let answer = judge_assigned(alloc, table, groups, &assignment);
+            // Said as a call, so that the proof has one step for it.
+            drop(assignment);
+            answer
+        }
+        Err(CertError::OutOfMemory) => Err(AllocError),
+        Err(fault) => refuse(alloc, fault.code(), fault.line()),
+    }
+}
+
+/// How a run of the program ends that is given the texts of a declaration and an assignment, and what it prints.
+pub(crate) fn judge<A: Allocator + Copy>(
+    alloc: A,
+    text: &[u8],
+    assigned: &[u8],
+) -> Result<(End, Vec<u8, A>), AllocError>
+    ensures { IfOk result (λ printed. Judges text.now assigned.now printed.0 printed.1.items) }
+{
+    match read_declaration(alloc, text) {
+        Ok(declared) => {
+            let answer = judge_declared(alloc, &declared.table, &declared.groups, assigned);
+            drop(declared);
+            answer
+        }
+        Err(Stop::Refused { code, line }) => refuse(alloc, code, line),
+        Err(Stop::OutOfMemory) => Err(AllocError),
+    }
+}

@@ -1,0 +1,44 @@
+-- A circle in which the lanes wait has a run, by which the assignment deadlocks.
+use Rattle.std.proofs.Common.{List, ◌++◌, refl, sym, subst}
+use Rattle.wq_groups.specs.Declaration.{Declaration, IsDeclaration}
+use Rattle.wq_groups.specs.Assignment.{Assignment, IsAssignment}
+use Rattle.wq_graph.specs.declared.arc.WaitArc.{WaitArc}
+use Rattle.wq_graph.specs.Graph.{lane_graph}
+use Rattle.wq_levels.specs.Walks.{IsWalkedCircle}
+use Rattle.wq_levels.proofs.Walks.{LeadsRound-walked}
+use Rattle.wq_core.specs.declared.step.Step.{Step}
+use Rattle.wq_core.specs.Wiring.{Wiring, IsWiring, wiring}
+use Rattle.wq_core.specs.Runs.{end_of, IsRun}
+use Rattle.wq_core.specs.Deadlock.{DeadlocksBy}
+use Rattle.wq_core.specs.Knot.{IsKnot}
+use Rattle.wq_core.specs.Played.{queue_order}
+use Rattle.wq_core.proofs.KnotRuns.{DeadlocksBy-knot, IsRun-queue_order}
+use Rattle.wq_core.proofs.Playing.{IsPlayedFrom-exists}
+use Rattle.wq_core.proofs.Sound.{IsSoundState-end_of}
+use Rattle.wq_core.proofs.Wirings.{IsWiring-wiring}
+use Rattle.wq_deadlock.specs.CircleRun.{first_items, IsCircleRun}
+use Rattle.wq_deadlock.proofs.CircleKnots.{IsKnot-first_items}
+
+module _ (d : Declaration) (a : Assignment) (declaration : IsDeclaration d) (assignment : IsAssignment d.groups a) (circle : List WaitArc) (walked : IsWalkedCircle (lane_graph d a) circle) where
+  abbrev w : Wiring
+  w = wiring d a
+
+  sound : IsWiring w
+  sound = IsWiring-wiring d a declaration assignment
+
+  knot : IsKnot w (first_items circle)
+  knot = IsKnot-first_items d a declaration assignment circle (LeadsRound-walked (lane_graph d a) circle walked)
+
+  -- its first items can be queued first, and then all others
+  pub IsRun-first_items : IsRun w (queue_order w (first_items circle))
+  IsRun-first_items = IsRun-queue_order w (first_items circle) sound knot
+
+  pub IsCircleRun-exists : (steps : List Step) × IsCircleRun w circle steps
+  IsCircleRun-exists =
+      let start = queue_order w (first_items circle) in
+      let played = IsPlayedFrom-exists w (end_of w start) (IsSoundState-end_of w start IsRun-first_items) in
+      (start ++ played.0, record { played = played.0; is_played = played.1; all = refl })
+
+  pub DeadlocksBy-circle_run : (steps : List Step) → IsCircleRun w circle steps → DeadlocksBy w steps
+  DeadlocksBy-circle_run steps is_run =
+      subst (λ (all : List Step). DeadlocksBy w all) (sym is_run.all) (DeadlocksBy-knot w (first_items circle) is_run.played sound knot is_run.is_played)

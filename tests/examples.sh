@@ -1,0 +1,181 @@
+#!/usr/bin/env bash
+# Runs `plan`, `check`, `deadlock` and `replay` over the subsystems of Linux 6.1 in examples/. What is expected of each
+# (how many workqueues, which circle, whether the kernel's assignment is safe, how long the run is) was worked out by
+# hand from the kernel's sources, and stands in this script. Of all else that the program prints the program's own checkers
+# are asked: `check` says yes to each plan and circle, `replay` says deadlock of each run.
+# Run it once the gate or `rt run` has built the program. The argument, if there is one, names another program.
+set -u
+program=$(realpath -m -- "${1:-$(dirname "$0")/../crates/wqplan/out/wqplan}")
+examples=$(realpath -- "$(dirname "$0")/../examples")
+if [ ! -x "$program" ]; then
+    echo "examples: there is nothing to run at $program (cd crates/wqplan && rt run builds it)"
+    exit 1
+fi
+
+work=$(mktemp -d)
+trap 'rm -rf -- "$work"' EXIT
+cp -- "$examples"/*.wq "$examples"/*.assign "$work"
+cd -- "$work" || exit 1
+passed=0
+failed=0
+status=0
+
+# run ARGS..: runs the program, and keeps what it writes (in the file `out`) and its status.
+run() {
+    timeout 60 "$program" "$@" >out 2>err </dev/null
+    status=$?
+}
+
+# is NAME WANTED FOUND: counts whether the two are the same.
+is() {
+    if [ "$2" = "$3" ]; then
+        passed=$((passed + 1))
+        echo "ok      $1"
+    else
+        failed=$((failed + 1))
+        echo "FAILED  $1: wanted '$2', found '$3'"
+    fi
+}
+
+# ends NAME STATUS TEXT: counts whether the last run ended so, with just this text.
+ends() {
+    is "$1" "$2: $3" "$status: $(cat out err)"
+}
+
+# begins NAME STATUS LINE: counts whether the last run ended so, and wrote this line first.
+begins() {
+    is "$1" "$2: $3" "$status: $(head -n 1 out)"
+}
+
+# hangs NAME DECL ASSIGN [STEPS]: counts whether `deadlock` prints a run (of so many steps), and `replay` says that it
+# deadlocks, and that without its last step it doesn't.
+hangs() {
+    run deadlock "$2" "$3"
+    cp out hangs.run
+    local steps=${4:-$(($(wc -l <out) - 1))}
+    begins "$1: deadlock" 1 "run $steps"
+    run replay "$2" "$3" hangs.run
+    ends "$1: its run, replayed" 1 deadlock
+    sed "1s/.*/run $((steps - 1))/; \$d" hangs.run >shorter.run
+    run replay "$2" "$3" shorter.run
+    ends "$1: its run without the last step" 0 open
+}
+
+# answers NAME ANSWER ITEM..: counts whether `plan` answers so, with arcs from each ITEM to the next one, and
+# whether `check` says yes to it. ANSWER is `plan K` or `circle N`; the answer stays in the file NAME.answer.
+answers() {
+    local name=$1 answer=$2 wanted yes chain=${2/plan/chain}
+    shift 2
+    case $answer in
+        plan*) wanted=0 yes="yes ${answer#plan }" ;;
+        *) wanted=1 yes="yes $answer" ;;
+    esac
+    run plan "$name.wq"
+    cp out "$name.answer"
+    begins "$name: plan" "$wanted" "$answer"
+    local arcs=
+    while [ $# -gt 1 ]; do
+        arcs+="arc $1 $2 "
+        shift
+    done
+    is "$name: the arcs" "$chain $arcs" "$(grep -E '^(chain|circle|arc) ' "$name.answer" | tr '\n' ' ')"
+    run check "$name.wq" "$name.answer"
+    ends "$name: what plan prints, checked" 0 "$yes"
+}
+
+# counts NAME ITEMS FLUSHES GROUPS WORKQUEUES: counts whether the files declare so many, and the kernel uses so many.
+counts() {
+    is "$1: items, flushes, groups, workqueues in 6.1" "$2 $3 $4 $5" "$(awk '
+        { sub(/#.*/, "") }
+        FILENAME ~ /assign$/ { lanes += $1 == "wq"; next }
+        $1 == "item" { items++; groups++ }
+        $1 == "flush" { flushes += NF - 2 }
+        $1 == "ordered" { groups -= NF - 2 }
+        END { print items + 0, flushes + 0, groups + 0, lanes + 0 }' "$1.wq" "$1.assign")"
+}
+
+# without_cancel NAME K: counts whether there are K workqueues without the waits of cancel_work_sync.
+without_cancel() {
+    grep -v '# cancel' "$1.wq" >"$1.nocancel.wq"
+    run plan "$1.nocancel.wq"
+    begins "$1: plan, without cancel" 0 "plan $2"
+}
+
+# plan_is_least NAME: counts whether the printed plan is safe, and hangs as soon as any two of its workqueues become one.
+plan_is_least() {
+    local name=$1 lanes first second
+    lanes=$(grep -c '^wq ' "$name.answer")
+    run deadlock "$name.wq" "$name.answer"
+    ends "$name: the printed plan" 0 safe
+    for ((first = 0; first < lanes; first++)); do
+        for ((second = first + 1; second < lanes; second++)); do
+            awk -v first="$first" -v second="$second" '
+                $1 == "wq" { sub(/^wq [0-9]+ /, ""); names[NR - 2] = $0 }
+                END {
+                    names[first] = names[first] " " names[second]
+                    for (lane = 0; lane in names; lane++)
+                        if (lane != second) print "wq", next_lane++, names[lane]
+                }' "$name.answer" >joined.assign
+            hangs "$name: the printed plan with $first and $second as one" "$name.wq" joined.assign
+        done
+    done
+}
+
+# Each wait names its kind and its place in the kernel's sources.
+for file in *.wq; do
+    is "$file: each flush has a kind, a file, a line and a function" '' \
+        "$(grep '^flush' "$file" | grep -vE '# (flush|flushwq|done|cancel) [a-z0-9/_-]+\.c:[0-9].* [a-z_]+')"
+done
+
+# dm-snapshot: six workqueues, safe; with one kcopyd for all it hangs.
+counts dm-snapshot 6 3 6 6
+answers dm-snapshot 'plan 3' do_work.merging do_work.other do_metadata.other
+without_cancel dm-snapshot 3
+plan_is_least dm-snapshot
+run deadlock dm-snapshot.wq dm-snapshot.assign
+ends 'dm-snapshot: the kernel' 0 safe
+hangs 'dm-snapshot: one kcopyd' dm-snapshot.wq dm-snapshot.merged.assign 14
+
+# dm-integrity: six workqueues, safe; without dm-integrity-offload it hangs.
+counts dm-integrity 8 13 8 6
+answers dm-integrity 'plan 3' integrity_bio_wait.offload integrity_writer integrity_metadata
+without_cancel dm-integrity 3
+plan_is_least dm-integrity
+run deadlock dm-integrity.wq dm-integrity.assign
+ends 'dm-integrity: the kernel' 0 safe
+hangs 'dm-integrity: without dm-integrity-offload' dm-integrity.wq dm-integrity.merged.assign 20
+
+# nvmet-tcp: a circle, so that every assignment hangs: the kernel's, one workqueue for all, and one for each item. The
+# last is the one whose run stands behind the circle.
+counts nvmet-tcp 10 15 10 4
+answers nvmet-tcp 'circle 2' nvmet_tcp_io_work nvmet_tcp_release_queue_work nvmet_tcp_io_work
+without_cancel nvmet-tcp 3
+hangs 'nvmet-tcp: the kernel' nvmet-tcp.wq nvmet-tcp.assign
+hangs 'nvmet-tcp: the kernel, without cancel' nvmet-tcp.nocancel.wq nvmet-tcp.assign
+awk '$1 == "item" { all = all " " $2 } END { print "wq 0" all }' nvmet-tcp.wq >one.assign
+hangs 'nvmet-tcp: one workqueue' nvmet-tcp.wq one.assign
+awk '$1 == "item" { print "wq", lanes++, $2 }' nvmet-tcp.wq >own.assign
+hangs 'nvmet-tcp: a workqueue for each item' nvmet-tcp.wq own.assign
+is 'nvmet-tcp: the run behind the circle' "$(cat hangs.run)" "$(sed -n '/^run/,$p' nvmet-tcp.answer)"
+
+# rbd: two ordered groups, five workqueues, safe.
+counts rbd 11 19 6 5
+answers rbd 'plan 3' rbd_acquire_lock do_watch_notify ceph_con_workfn
+without_cancel rbd 3
+plan_is_least rbd
+run deadlock rbd.wq rbd.assign
+ends 'rbd: the kernel' 0 safe
+
+# xfs: eleven workqueues, safe; five are enough, and four without the two that have no rescuer.
+counts xfs 12 18 12 11
+answers xfs 'plan 5' xfs_flush_inodes_worker wb_workfn xfs_btree_split_worker xlog_cil_push_work xlog_ioend_work
+without_cancel xfs 5
+plan_is_least xfs
+run deadlock xfs.wq xfs.assign
+ends 'xfs: the kernel' 0 safe
+grep -vE '^[^#]*(xfs_flush_inodes_worker|xfs_log_worker|xlog_discard_endio_work)' xfs.wq >xfs.rescuers.wq
+run plan xfs.rescuers.wq
+begins 'xfs: plan, without xfs-sync and xfsdiscard' 0 'plan 4'
+
+echo "examples: $passed passed, $failed failed"
+[ "$failed" -eq 0 ]

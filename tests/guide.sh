@@ -1,0 +1,107 @@
+#!/usr/bin/env bash
+# Runs every command of docs/GUIDE.md and of the pages in examples/, and compares what it shows with what stands below it
+# on the page. Run it once the gate or `rt run` has built the program. The argument, if there is one, names another program.
+#
+# A fenced block of a page is one of these:
+# - a file: its first line is a comment that holds its name alone, as `# NAME` or `/* NAME */`. It is written as it stands;
+# - commands: its first line begins with `$ `. Each line that does is a command for bash, with `wqplan` on its path and
+#   nothing to read, and the lines below it are what it writes to both streams. `$?` is the status of the command before it;
+# - something to read, which is skipped: the word behind the backticks is `c` or `text`.
+# A page is played in a folder of its own, from top to bottom. Those in examples/ find the files of examples/ there.
+set -u
+program=$(realpath -m -- "${1:-$(dirname "$0")/../crates/wqplan/out/wqplan}")
+cd -- "$(dirname "$0")/.." || exit 1
+root=$PWD
+if [ ! -x "$program" ]; then
+    echo "guide: there is nothing to run at $program (cd crates/wqplan && rt run builds it)"
+    exit 1
+fi
+
+work=$(mktemp -d)
+trap 'rm -rf -- "$work"' EXIT
+mkdir "$work/bin"
+ln -s -- "$program" "$work/bin/wqplan"
+export PATH="$work/bin:$PATH"
+passed=0
+failed=0
+
+# fail TEXT..: counts a failure, and says which.
+fail() {
+    failed=$((failed + 1))
+    echo "FAILED  $*"
+}
+
+# play COMMAND WANTED: runs the command, and counts whether it shows just this. It keeps the status for the next command.
+play() {
+    timeout 60 bash -c "(exit $status)"$'\n'"$1" >"$work/shown" 2>&1 </dev/null
+    status=$?
+    if printf '%s' "$2" | cmp -s - "$work/shown"; then
+        passed=$((passed + 1))
+        echo "ok      $page: $1"
+    else
+        fail "$page: $1"
+        printf '%s' "$2" | diff - "$work/shown" | head -n 20
+    fi
+}
+
+# commands LINE..: plays the commands of a block, each with the lines below it.
+commands() {
+    local line command='' wanted=''
+    for line; do
+        if [ "${line:0:2}" != '$ ' ]; then
+            wanted+=$line$'\n'
+            continue
+        fi
+        [ -z "$command" ] || play "$command" "$wanted"
+        command=${line:2} wanted=
+    done
+    play "$command" "$wanted"
+}
+
+# block AT WORD LINE..: does what a block asks for, by its first line and the word behind its backticks. It begins at
+# line AT of the page.
+block() {
+    local at=$1 word=$2
+    shift 2
+    local first=${1-}
+    if [ "${first:0:2}" = '$ ' ]; then
+        commands "$@"
+    elif [[ $first =~ ^(#|/\*)\ ([A-Za-z0-9._-]+)(\ \*/)?$ ]]; then
+        printf '%s\n' "$@" >"${BASH_REMATCH[2]}"
+    elif [ "$word" != c ] && [ "$word" != text ]; then
+        fail "$page: the block at line $at is no file, no command and nothing to read"
+    fi
+}
+
+# pages NAME..: plays the pages, each in a folder of its own.
+pages() {
+    local line number at word inside before
+    local -a lines
+    for page; do
+        mkdir -p -- "$work/$page"
+        if [ "${page%/*}" = examples ]; then
+            cp -- "$root"/examples/*.wq "$root"/examples/*.assign "$work/$page"
+        fi
+        cd -- "$work/$page" || exit 1
+        status=0 number=0 inside=no before=$((passed + failed))
+        while IFS= read -r line; do
+            number=$((number + 1))
+            if [ "$inside" = yes ]; then
+                if [ "$line" = '```' ]; then
+                    inside=no
+                    block "$at" "$word" ${lines[@]+"${lines[@]}"}
+                else
+                    lines+=("$line")
+                fi
+            elif [ "${line:0:3}" = '```' ]; then
+                inside=yes at=$number word=${line:3} lines=()
+            fi
+        done <"$root/$page"
+        [ "$inside" = no ] || fail "$page: the block at line $at has no end"
+        [ $((passed + failed)) -gt "$before" ] || fail "$page: there is no command"
+    done
+}
+
+pages docs/GUIDE.md examples/*.md
+echo "guide: $passed passed, $failed failed"
+[ "$failed" -eq 0 ]

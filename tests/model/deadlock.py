@@ -1,0 +1,115 @@
+# A model of `wqplan deadlock DECL ASSIGN`. It says that an assignment is safe, or else prints the
+# run by which the items hang, as docs/FORMAT.md asks for in "Deadlocking runs" and "The command
+# `deadlock`". See plan.py for what the model is.
+
+import collections
+import heapq
+import sys
+
+sys.dont_write_bytecode = True
+import certificate  # noqa: E402  (beside this file)
+import declaration  # noqa: E402
+from circle import arcs_of, find_circle  # noqa: E402
+from declaration import Refused  # noqa: E402
+from steps import State  # noqa: E402
+
+
+def circle_of(declared, assignment):
+    """Deadlocking runs, 1: the arcs of the circle of workqueues. There is none where it is safe."""
+    arcs = arcs_of(declared.flushes, assignment.workqueue_of, assignment.count)
+    return find_circle(arcs, assignment.workqueue_of)
+
+
+def queued_first(declared, circle):
+    """Deadlocking runs, 2: the items in the order in which they are queued."""
+    first = dict.fromkeys(item for item, _ in circle)
+    return [*first, *(item for item in declared.items if item not in first)]
+
+
+def step_as_declared(state, workqueue):
+    """Deadlocking runs, 3: the step that the workqueue can make as declared, or None."""
+    entry = state.running.get(workqueue)
+    if entry is None:
+        pending = state.pending[workqueue]
+        return (b"start", workqueue, pending[0].item) if pending else None
+    if entry.target is not None:
+        step = (b"over", workqueue, entry.target)
+        return step if state.may(step) else None
+    targets = state.targets[entry.item]
+    if entry.waits < len(targets):
+        return b"wait", workqueue, targets[entry.waits]
+    return b"finish", workqueue, entry.item
+
+
+def deadlocking_run(declared, assignment):
+    """The steps of the deadlocking run. There is none where the assignment is safe."""
+    circle = circle_of(declared, assignment)
+    if not circle:
+        return []
+    state = State(declared, assignment)
+    steps = [(b"queue", None, item) for item in queued_first(declared, circle)]
+    for step in steps:
+        state.make(step)
+
+    # A workqueue that can't make a step can't before the item for which it waits has finished. Only
+    # then it is looked at again. So `able` has all workqueues that can make a step.
+    able = list(range(assignment.count))
+    waiting = collections.defaultdict(list)  # by item, the other workqueues that wait for it
+    while able:
+        workqueue = heapq.heappop(able)
+        step = step_as_declared(state, workqueue)
+        if step is None:
+            if workqueue in state.running:
+                waiting[state.running[workqueue].target].append(workqueue)
+            continue
+        state.make(step)
+        steps.append(step)
+        heapq.heappush(able, workqueue)
+        if step[0] == b"finish":
+            for other in waiting.pop(step[2], []):
+                heapq.heappush(able, other)
+    return steps
+
+
+def run_text(steps):
+    """Run texts. The lines of a run text that is printed."""
+    lines = [b"run %d" % len(steps)]
+    for word, workqueue, name in steps:
+        words = [word, name] if workqueue is None else [word, b"%d" % workqueue, name]
+        lines.append(b" ".join(words))
+    return lines
+
+
+def answer(declaration_text, assignment_text):
+    """The bytes of the answer, and the exit status (Faults and exit statuses)."""
+    try:
+        declared = declaration.read_declaration(declaration_text)
+        assignment = certificate.read_assignment(assignment_text, declared)
+    except Refused as refused:
+        return refused.answer()
+    steps = deadlocking_run(declared, assignment)
+    if not steps:
+        return b"safe\n", 0
+    return b"".join(line + b"\n" for line in run_text(steps)), 1
+
+
+def main(arguments):
+    """Faults and exit statuses. Of the faults of the system only `fault read` is here."""
+    if len(arguments) != 3 or arguments[0] != "deadlock":
+        print("usage: deadlock.py deadlock DECL ASSIGN", file=sys.stderr)
+        return 2
+    try:
+        texts = []
+        for place, limit in zip(arguments[1:], (declaration.TEXT_LIMIT, certificate.TEXT_LIMIT)):
+            with open(place, "rb") as file:
+                texts.append(file.read(limit + 1))
+    except OSError:
+        print("fault read", file=sys.stderr)
+        return 3
+    printed, status = answer(*texts)
+    sys.stdout.buffer.write(printed)
+    return status
+
+
+if __name__ == "__main__":
+    sys.exit(main(sys.argv[1:]))

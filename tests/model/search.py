@@ -1,0 +1,324 @@
+# Looks for runs that end stuck among all runs, and compares the program with what it finds:
+#
+#     search.py PROGRAM [SEED] [DECLARATIONS]
+#
+# It makes up small declarations, and for each one all assignments, up to the numbers of the
+# workqueues. Of each assignment it goes through all states that steps lead to, by the rules of
+# docs/FORMAT.md, "Steps", and knows nothing of circles. `PROGRAM deadlock` must answer `safe` where
+# no run ends stuck, and where one deadlocks a run that does; `PROGRAM plan` must have as many
+# workqueues as the smallest assignment by which no run ends stuck, and a circle where there is
+# none. Where PROGRAM is `-`, the model is asked in its place.
+
+import os
+import random
+import sys
+import tempfile
+
+sys.dont_write_bytecode = True
+import compare  # noqa: E402  (beside this file)
+from certificate import read_run  # noqa: E402
+from declaration import Refused, read_declaration  # noqa: E402
+from make_declarations import join  # noqa: E402
+
+DEFAULT_SEED = "1"
+DEFAULT_DECLARATIONS = 600
+
+# The numbers of items and of flushes of a declaration, each as often as it stands here. All states
+# of the larger ones take their time.
+SIZES = [(1, 1), (1, 2), (2, 1), (2, 2), (2, 3), (2, 4), (3, 1), (3, 2), (3, 3), (3, 4), (3, 4),
+         (4, 2), (4, 3), (4, 3), (4, 4), (4, 4)]
+
+
+# States ------------------------------------------------------------------------------------------
+# There is no end to the numbers of entries and marks, so they are left out of a state. The pending
+# entries of a workqueue stand in the order of their numbers anyway. An item has at most two
+# unfinished entries: one runs, and one is pending, which has the higher number. So all that a mark
+# says of its target is how many of these have a number below it, and this is kept. An entry that is
+# queued later has a number that isn't below the mark.
+#
+# A state has a pair for each workqueue: the items of its pending entries, and what runs, or None.
+# What runs is the item, the count of its waits, and while it waits its target and how many
+# unfinished entries of the target it waits for; else None and 0.
+
+
+def begin(count):
+    return (((), None),) * count
+
+
+def replaced(state, workqueue, pending, running):
+    return state[:workqueue] + ((pending, running),) + state[workqueue + 1:]
+
+
+def runs(state, workqueue, item):
+    """Whether the item is what runs on the workqueue."""
+    running = state[workqueue][1]
+    return running is not None and running[0] == item
+
+
+def without_one(state, item, count):
+    """The state in which each wait for `count` or more entries of the item is for one less.
+
+    So it is where one of them is gone: the first one, with 1 for `count`, or the last of `count`.
+    """
+    for workqueue, (pending, running) in enumerate(state):
+        if running is not None and running[2] == item and running[3] >= count:
+            item_of, waits, target, entries = running
+            state = replaced(state, workqueue, pending, (item_of, waits, target, entries - 1))
+    return state
+
+
+class Steps:
+    """The table of the steps, under an assignment."""
+
+    def __init__(self, declared, workqueue_of):
+        self.workqueue_of = workqueue_of
+        self.targets = {item: [] for item in declared.items}
+        for item, target in declared.flushes:
+            self.targets[item].append(target)
+
+    def unfinished(self, state, item):
+        """How many entries of the item are unfinished."""
+        workqueue = self.workqueue_of[item]
+        return (item in state[workqueue][0]) + runs(state, workqueue, item)
+
+    def queueings(self, state):
+        """Each `queue` that may be made, with the state behind it."""
+        for item, workqueue in self.workqueue_of.items():
+            pending, running = state[workqueue]
+            if item not in pending:
+                behind = replaced(state, workqueue, pending + (item,), running)
+                yield (b"queue", None, item), behind
+
+    def cancellations(self, state):
+        """Each `cancel` that may be made, with the state behind it."""
+        for item, workqueue in self.workqueue_of.items():
+            pending, running = state[workqueue]
+            if item in pending:
+                behind = without_one(state, item, self.unfinished(state, item))
+                left = tuple(other for other in pending if other != item)
+                yield (b"cancel", None, item), replaced(behind, workqueue, left,
+                                                        behind[workqueue][1])
+
+    def executions(self, state):
+        """Each `start`, `wait`, `over` and `finish` that may be made, with the state behind it."""
+        for workqueue, (pending, running) in enumerate(state):
+            if running is None:
+                if pending:
+                    starts = pending[0], 0, None, 0
+                    yield ((b"start", workqueue, pending[0]),
+                           replaced(state, workqueue, pending[1:], starts))
+                continue
+            item, waits, target, entries = running
+            if target is None:
+                behind = without_one(replaced(state, workqueue, pending, None), item, 1)
+                yield (b"finish", workqueue, item), behind
+                if waits < len(self.targets[item]):
+                    for other in set(self.targets[item]):
+                        waiting = item, waits + 1, other, self.unfinished(state, other)
+                        yield ((b"wait", workqueue, other),
+                               replaced(state, workqueue, pending, waiting))
+            elif entries == 0:
+                behind = replaced(state, workqueue, pending, (item, waits, None, 0))
+                yield (b"over", workqueue, target), behind
+
+    def all_steps(self, state):
+        return [*self.executions(state), *self.queueings(state), *self.cancellations(state)]
+
+
+# Searches ----------------------------------------------------------------------------------------
+
+
+def has_stuck_run(steps, count):
+    """Whether some run ends stuck. Items are queued and cancelled at any time, however often."""
+    first = begin(count)
+    seen = {first}
+    left = [first]
+    while left:
+        state = left.pop()
+        executions = [behind for _, behind in steps.executions(state)]
+        if not executions and state != first:
+            return True  # an entry is unfinished, since the state isn't the empty one
+        for _, behind in [*steps.queueings(state), *steps.cancellations(state)]:
+            executions.append(behind)
+        new = set(executions) - seen
+        seen |= new
+        left += new
+    return False
+
+
+def is_as_declared(steps, state, step):
+    """Whether a run in which each execution flushes as declared makes this step."""
+    word, workqueue, name = step
+    if word not in (b"wait", b"finish"):
+        return True
+    item, waits, _, _ = state[workqueue][1]
+    targets = steps.targets[item]
+    if word == b"wait":
+        return name == targets[waits]
+    return waits == len(targets)
+
+
+def has_deadlock(steps, count):
+    """Whether some run deadlocks: each item is queued once, and none is cancelled."""
+    first = begin(count), frozenset(steps.targets)
+    seen = {first}
+    left = [first]
+    while left:
+        state, not_queued = left.pop()
+        executions = list(steps.executions(state))
+        if not executions and not not_queued and state != begin(count):
+            return True
+        new = {(behind, not_queued) for step, behind in executions
+               if is_as_declared(steps, state, step)}
+        new |= {(behind, not_queued - {step[2]}) for step, behind in steps.queueings(state)
+                if step[2] in not_queued}
+        new -= seen
+        seen |= new
+        left += new
+    return False
+
+
+def is_deadlock(steps, count, run):
+    """Whether this run deadlocks: whether it is one of those that has_deadlock looks for."""
+    state = begin(count)
+    for step in run:
+        behind = dict(steps.all_steps(state))
+        if step not in behind or not is_as_declared(steps, state, step):
+            return False
+        state = behind[step]
+    queued = [name for word, _, name in run if word == b"queue"]
+    once = sorted(queued) == sorted(steps.targets) and all(word != b"cancel" for word, _, _ in run)
+    return once and state != begin(count) and not list(steps.executions(state))
+
+
+# Declarations and assignments --------------------------------------------------------------------
+
+
+def make_declaration(choose):
+    """The bytes of a small declaration."""
+    count, flush_count = choose.choice(SIZES)
+    names = [b"a", b"b", b"c", b"d"][:count]
+    lines = [b"item " + name for name in names]
+    choose.shuffle(lines)
+
+    left = choose.sample(names, choose.choice([0, 0, 0, count, choose.randint(0, count)]))
+    while left:
+        size = choose.randint(1, len(left))
+        lines.append(b"ordered " + b" ".join(left[:size]))
+        del left[:size]
+
+    downward = choose.random() < 0.7
+    for _ in range(flush_count):
+        item, target = choose.choice(names), choose.choice(names)
+        if downward and count > 1:
+            item, target = sorted(choose.sample(names, 2))
+        lines.append(b"flush %s %s" % (item, target))
+    return join(*lines)
+
+
+def partitions(count):
+    """Each partition of so many groups: by group, the number of its part.
+
+    The parts are numbered in the order of their first groups.
+    """
+    if count == 0:
+        yield []
+        return
+    for parts in partitions(count - 1):
+        for part in range(max(parts, default=-1) + 2):
+            yield parts + [part]
+
+
+def assignment_text(declared, parts):
+    """The text of the assignment by which each group is on the workqueue of its part."""
+    lines = [b"wq %d" % number for number in range(max(parts, default=-1) + 1)]
+    for members, part in zip(declared.groups, parts):
+        lines[part] += b"".join(b" " + name for name in members)
+    return join(*lines)
+
+
+# The comparison ----------------------------------------------------------------------------------
+
+
+def printed_run_deadlocks(declared, steps, count, printed):
+    try:
+        return is_deadlock(steps, count, read_run(printed, declared))
+    except Refused:
+        return False
+
+
+def look_at_assignment(ask, text, declared, parts):
+    """Whether no run ends stuck, and what is wrong with the answer of `deadlock`, or None."""
+    count = max(parts, default=-1) + 1
+    workqueue_of = {name: parts[group] for name, group in declared.group_of.items()}
+    steps = Steps(declared, workqueue_of)
+    stuck, deadlocks = has_stuck_run(steps, count), has_deadlock(steps, count)
+    assignment = assignment_text(declared, parts)
+    printed, status = ask("deadlock", [text, assignment])
+    is_safe = (printed, status) == (b"safe\n", 0)
+    is_run = status == 1 and printed_run_deadlocks(declared, steps, count, printed)
+    if is_safe != (not stuck) or is_run != deadlocks:
+        return not stuck, (
+            f"deadlock, {assignment!r}: some run ends stuck: {stuck}, some run deadlocks: "
+            f"{deadlocks}, the answer: {printed!r}, status {status}"
+        )
+    return not stuck, None
+
+
+def look_at_declaration(ask, text):
+    """How many assignments were looked at, and what is wrong with the answers."""
+    declared = read_declaration(text)
+    wrong = []
+    counts = []
+    looked = 0
+    for parts in partitions(len(declared.groups)):
+        looked += 1
+        is_safe, difference = look_at_assignment(ask, text, declared, parts)
+        if is_safe:
+            counts.append(max(parts, default=-1) + 1)
+        if difference:
+            wrong.append(difference)
+    printed, status = ask("plan", [text])
+    head = b"plan %d\n" % min(counts) if counts else b"circle "
+    if not printed.startswith(head) or status != (0 if counts else 1):
+        wrong.append(f"plan: {head!r} is wanted, the answer: {printed!r}, status {status}")
+    return looked, wrong
+
+
+def ask_model(command, texts):
+    return compare.COMMANDS[command][0](*texts)
+
+
+def main(arguments):
+    if not 1 <= len(arguments) <= 3 or not all(word.isdecimal() for word in arguments[2:]):
+        print("usage: search.py PROGRAM [SEED] [DECLARATIONS]", file=sys.stderr)
+        return 2
+    seed = arguments[1] if len(arguments) > 1 else DEFAULT_SEED
+    count = int(arguments[2]) if len(arguments) > 2 else DEFAULT_DECLARATIONS
+    program = os.path.realpath(arguments[0])
+    if arguments[0] != "-" and (not os.access(program, os.X_OK) or os.path.isdir(program)):
+        print(f"search: there is nothing to run at {program}")
+        return 1
+
+    looked = 0
+    with tempfile.TemporaryDirectory(prefix="search_") as folder:
+
+        def ask(command, texts):
+            if arguments[0] == "-":
+                return ask_model(command, texts)
+            return compare.ask(program, command, texts, folder, 0)[0]
+
+        for number in range(count):
+            text = make_declaration(random.Random(f"{seed} search {number}"))
+            assignments, wrong = look_at_declaration(ask, text)
+            looked += assignments
+            if wrong:
+                print(f"FAILED  search, declaration {number} (seed {seed}): {text!r}")
+                print("\n".join(f"    {line}" for line in wrong))
+                return 1
+    print(f"search: {count} declarations, {looked} assignments agree")
+    return 0
+
+
+if __name__ == "__main__":
+    sys.exit(main(sys.argv[1:]))
