@@ -4,13 +4,14 @@
 
 use std::alloc::Allocator;
 use std::io::{Read, Write};
-use wq_commands::{End, Fault, Metered, check_cmd, plan_cmd, replay_cmd};
+use wq_commands::{End, Fault, Metered, check_cmd, deadlock_cmd, plan_cmd, replay_cmd};
 
 /// A command.
 #[derive(Clone, Copy, Debug)]
 pub(crate) enum Command {
     Plan,
     Check,
+    Deadlock,
     Replay,
 }
 
@@ -48,6 +49,7 @@ pub(crate) fn run<A: Allocator + Copy, R: Read, W: Write>(
     match command {
         Command::Plan => plan_cmd(alloc, &mut readers.first, writer),
         Command::Check => check_cmd(alloc, &mut readers.first, &mut readers.second, writer),
+        Command::Deadlock => deadlock_cmd(alloc, &mut readers.first, &mut readers.second, writer),
         Command::Replay => replay_cmd(
             alloc,
             &mut readers.first,
@@ -63,8 +65,10 @@ const TWO: &[u8] = b"item a\nitem b\nflush a b\n";
 
 const PLAN_OF_TWO: &[u8] = b"plan 2\nwq 0 b\nwq 1 a\nchain 2\narc a b\n";
 
-/// An item that flushes itself.
+/// An item that flushes itself, and its answer.
 const ITSELF: &[u8] = b"item a\nflush a a\n";
+
+const CIRCLE: &[u8] = b"circle 1\narc a a\nrun 3\nqueue a\nstart 0 a\nwait 0 a\n";
 
 /// A chain of three items on two workqueues, and a run by which they hang.
 const CHAIN: &[u8] = b"item a\nitem b\nitem c\nflush a b\nflush b c\n";
@@ -95,21 +99,21 @@ pub(crate) const CASES: &[Case] = &[
         command: Command::Plan,
         texts: &[ITSELF],
         end: End::Bad,
-        answer: b"circle 1\narc a a\n",
+        answer: CIRCLE,
     },
     Case {
         name: "a circle of two items",
         command: Command::Plan,
         texts: &[b"item a\nitem b\nflush b a\nflush a b\n"],
         end: End::Bad,
-        answer: b"circle 2\narc a b\narc b a\n",
+        answer: b"circle 2\narc a b\narc b a\nrun 6\nqueue a\nqueue b\nstart 0 a\nwait 0 b\nstart 1 b\nwait 1 a\n",
     },
     Case {
         name: "a circle within a group",
         command: Command::Plan,
         texts: &[b"item a\nitem b\nitem c\nordered c b\nflush a c\nflush c b\n"],
         end: End::Bad,
-        answer: b"circle 1\narc c b\n",
+        answer: b"circle 1\narc c b\nrun 7\nqueue c\nqueue a\nqueue b\nstart 0 a\nwait 0 c\nstart 1 c\nwait 1 b\n",
     },
     Case {
         name: "a line that is none",
@@ -166,10 +170,7 @@ pub(crate) const CASES: &[Case] = &[
     Case {
         name: "a circle with its run",
         command: Command::Check,
-        texts: &[
-            ITSELF,
-            b"circle 1\narc a a\nrun 3\nqueue a\nstart 0 a\nwait 0 a\n",
-        ],
+        texts: &[ITSELF, CIRCLE],
         end: End::Good,
         answer: b"yes circle 1\n",
     },
@@ -194,6 +195,51 @@ pub(crate) const CASES: &[Case] = &[
         texts: &[b"nope\n", PLAN_OF_TWO],
         end: End::Refused,
         answer: b"refused 4 line 1\n",
+    },
+    Case {
+        name: "lanes that hang",
+        command: Command::Deadlock,
+        texts: &[CHAIN, LANES],
+        end: End::Bad,
+        answer: HANGS,
+    },
+    Case {
+        name: "two lanes that hang",
+        command: Command::Deadlock,
+        texts: &[
+            b"item a\nitem b\nitem c\nitem d\nflush a b\nflush c d\n",
+            b"wq 0 a d\nwq 1 b c\n",
+        ],
+        end: End::Bad,
+        answer: b"run 8\nqueue a\nqueue c\nqueue b\nqueue d\nstart 0 a\nwait 0 b\nstart 1 c\nwait 1 d\n",
+    },
+    Case {
+        name: "safe lanes",
+        command: Command::Deadlock,
+        texts: &[CHAIN, b"wq 0 b\nwq 1\nwq 2 a\nwq 3 c\n"],
+        end: End::Good,
+        answer: b"safe\n",
+    },
+    Case {
+        name: "lanes of a plan",
+        command: Command::Deadlock,
+        texts: &[TWO, PLAN_OF_TWO],
+        end: End::Good,
+        answer: b"safe\n",
+    },
+    Case {
+        name: "lanes without an item",
+        command: Command::Deadlock,
+        texts: &[TWO, b"wq 0 a\n"],
+        end: End::Refused,
+        answer: b"refused 41 line 0\n",
+    },
+    Case {
+        name: "a declaration and lanes that are none",
+        command: Command::Deadlock,
+        texts: &[b"item\n", b"nope\n"],
+        end: End::Refused,
+        answer: b"refused 5 line 1\n",
     },
     Case {
         name: "a run that hangs",

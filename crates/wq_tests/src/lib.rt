@@ -8,6 +8,8 @@
 #[cfg(test)]
 mod commands;
 #[cfg(test)]
+mod deadlocks;
+#[cfg(test)]
 mod declared;
 #[cfg(test)]
 mod devices;

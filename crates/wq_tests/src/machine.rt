@@ -16,7 +16,7 @@ use wq_items::ItemId;
 
 /// A step in the numbers of its lane and item.
 #[derive(Clone, Copy, Debug)]
-enum Made {
+pub(crate) enum Made {
     Queue(u16),
     Cancel(u16),
     Start(u16, u16),
@@ -314,7 +314,7 @@ const CASES: &[Case] = &[
 ];
 
 /// The step of these numbers.
-fn step_of(made: Made) -> Step {
+pub(crate) fn step_of(made: Made) -> Step {
     match made {
         Queue(i) => Step::Queue(ItemId::new(i)),
         Cancel(i) => Step::Cancel(ItemId::new(i)),
@@ -326,7 +326,7 @@ fn step_of(made: Made) -> Step {
 }
 
 /// The assignment of these lanes to as many groups.
-fn assigned<A: Allocator + Copy>(
+pub(crate) fn assigned<A: Allocator + Copy>(
     alloc: A,
     groups: u16,
     lanes: u16,
@@ -409,12 +409,12 @@ fn steps_give_their_numbers(rt: HostRuntime) -> Result<(), Fail> {
 }
 
 /// Two items that flush two others, each on the lane of the other's target.
-const CROSSED: &str = "item a\nitem b\nitem c\nitem d\nflush a b\nflush c d\n";
+pub(crate) const CROSSED: &str = "item a\nitem b\nitem c\nitem d\nflush a b\nflush c d\n";
 
-const CROSSED_LANES: &[u16] = &[0, 1, 1, 0];
+pub(crate) const CROSSED_LANES: &[u16] = &[0, 1, 1, 0];
 
 /// A run of them that ends stuck.
-const STUCK: &[Made] = &[
+pub(crate) const STUCK: &[Made] = &[
     Queue(0),
     Queue(2),
     Queue(1),
