@@ -87,6 +87,7 @@ def run(program, command, paths, status, answer):
 def all_within(program, cases, most_seconds, most_mib):
     """Runs each case RUNS times and prints the least time and the most memory. Says whether all kept within these."""
     kept = True
+    width = max(len(name) for name, *_ in cases)
     for name, command, paths, status, answer in cases:
         runs = [run(program, command, paths, status, answer.encode()) for _ in range(RUNS)]
         seconds = min(seconds for seconds, _, _ in runs)
@@ -96,5 +97,5 @@ def all_within(program, cases, most_seconds, most_mib):
         kept = kept and good
         first = answer.split("\n", 1)[0]
         remark = "" if good else "  FAILED" if answered else f"  FAILED: not {first}"
-        print(f"{name:50} {seconds:7.3f} s {mib:7.1f} MiB{remark}")
+        print(f"{name:{width}} {seconds:7.3f} s {mib:7.1f} MiB{remark}")
     return kept

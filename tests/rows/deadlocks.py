@@ -61,6 +61,12 @@ DEADLOCKS = [
         ("wq 0 b c / wq 1 a",
          "run 7 / queue b / queue a / queue c / start 0 b / wait 0 a / start 1 a / wait 1 c"),
     ]),
+    # The first workqueue is empty, and the last one has no flush.
+    ("item z / item a / item b / flush a z b / flush b a", [
+        ("wq 0 / wq 1 b / wq 2 a / wq 3 z",
+         "run 11 / queue b / queue a / queue z / start 1 b / wait 1 a / start 2 a / wait 2 z / start 3 z / "
+         "finish 3 z / over 2 z / wait 2 b"),
+    ]),
     # Two items that wait for each other, with flushes that are made twice, and others that come to
     # their ends.
     ("item a / item b / item c / item d / item e / flush a b / flush b a / flush c d d / flush d e", [

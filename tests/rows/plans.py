@@ -114,12 +114,17 @@ CIRCLES = [
     ("item a / item b / item c / item d / ordered a d / ordered b c / flush a b / flush c d",
      "circle 2 / arc a b / arc c d",
      "run 8 / queue a / queue c / queue b / queue d / start 0 a / wait 0 b / start 1 c / wait 1 d"),
-    # Arcs that lead to what is taken off are passed over: here to c, to b behind it, and to d. In the
-    # runs what is taken off comes to its end, and what waits for it goes on to its next flush.
+    # Arcs that lead to what is taken off are passed over: here to c where it has no flush, to b before
+    # c, and to d. In the runs what is taken off comes to its end, and what waits for it goes on to its
+    # next flush.
     ("item a / item b / item c / flush a c b / flush b a",
      "circle 2 / arc a b / arc b a",
      "run 11 / queue a / queue b / queue c / start 0 a / wait 0 c / start 1 b / wait 1 a / start 2 c / "
      "finish 2 c / over 0 c / wait 0 b"),
+    ("item a / item b / item c / flush a c b / flush b a / flush c a",
+     "circle 2 / arc a c / arc c a",
+     "run 9 / queue a / queue c / queue b / start 0 a / wait 0 c / start 1 b / wait 1 a / start 2 c / "
+     "wait 2 a"),
     ("item a / item b / item c / flush a b / flush b c / flush a a",
      "circle 1 / arc a a",
      "run 13 / queue a / queue b / queue c / start 0 a / wait 0 b / start 1 b / wait 1 c / start 2 c / "

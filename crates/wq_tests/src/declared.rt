@@ -4,7 +4,7 @@
 
 ghost use Rattle.std.specs.Prelude.{◌≡◌, length, IfOk};
 
-use std::alloc::Global;
+use std::alloc::Allocator;
 use std::test::Fail;
 use wq_commands::Declaration;
 use wq_decl::DeclView;
@@ -13,10 +13,13 @@ use wq_items::ItemTable;
 use wq_text::Text;
 
 /// The items that a text declares, and their groups.
-pub(crate) fn declared<'a>(alloc: Global, text: &'a [u8]) -> Result<Declaration<'a, Global>, Fail>
+pub(crate) fn declared<'a, A: Allocator + Copy>(
+    alloc: A,
+    text: &'a str,
+) -> Result<Declaration<'a, A>, Fail>
     ensures { IfOk result (λ d. length d.groups.group_of ≡ length d.table.names) }
 {
-    let text = Text::new(text, 4096, 4096)?;
+    let text = Text::new(text.as_bytes(), 4096, 4096)?;
     let view = DeclView::new(text)?;
     let table = ItemTable::read(alloc, &view)?;
     let groups = Groups::read(alloc, &view, &table)?;

@@ -1,21 +1,14 @@
 //! Tests of the libraries together: what no clause says, at values from outside.
 //!
-//! What they rely on: docs/FORMAT.md, from which each expected answer was worked out by hand. The running time is that
-//! of the longest declaration that is accepted.
+//! What they rely on: docs/FORMAT.md and docs/DEFINITIONS.md, from which each expected answer was worked out by hand. Here
+//! are readers, writers and heaps of the tests' own, and calls whose results no answer shows; texts and the answers to
+//! them are in tests/rows, for the program. Each test takes less than a second.
 #![tactic(auto)]
 
 #[cfg(test)]
-mod answers;
+mod commands;
 #[cfg(test)]
-mod bytes;
-#[cfg(test)]
-mod certificate_devices;
-#[cfg(test)]
-mod certificate_heaps;
-#[cfg(test)]
-mod certificate_limits;
-#[cfg(test)]
-mod checks;
+mod deadlocks;
 #[cfg(test)]
 mod declared;
 #[cfg(test)]
@@ -27,15 +20,9 @@ mod graphs;
 #[cfg(test)]
 mod groups;
 #[cfg(test)]
-mod limits;
+mod heaps;
 #[cfg(test)]
 mod machine;
-#[cfg(test)]
-mod replays;
-#[cfg(test)]
-mod rows;
-#[cfg(test)]
-mod small_heaps;
 #[cfg(test)]
 mod tables;
 #[cfg(test)]

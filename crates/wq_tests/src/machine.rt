@@ -5,20 +5,18 @@
 
 ghost use Rattle.std.specs.Prelude.{◌≡◌, length, IfOk};
 
-use crate::answers::lines_of;
+use crate::declared::declared;
 use linked_list_allocator::LocalHeap;
 use std::alloc::{AllocError, Allocator, Global};
 use std::process::Abort;
 use std::test::Fail;
 use wq_core::{Core, RunError, Step, StepError};
-use wq_decl::DeclView;
-use wq_groups::{Assignment, Groups, LaneId};
-use wq_items::{ItemId, ItemTable};
-use wq_text::Text;
+use wq_groups::{Assignment, LaneId};
+use wq_items::ItemId;
 
 /// A step in the numbers of its lane and item.
 #[derive(Clone, Copy, Debug)]
-enum Made {
+pub(crate) enum Made {
     Queue(u16),
     Cancel(u16),
     Start(u16, u16),
@@ -28,39 +26,40 @@ enum Made {
 }
 
 use Made::{Cancel, Finish, Over, Queue, Start, Wait};
+use StepError::NotLawful;
 
-/// A declaration whose lines all end, its number of lanes and the lane of each group; steps in turn, each with the number
-/// that it gives or that of its refusal, and the work that is left then; and the items that are pending at the end.
+/// A declaration, its number of lanes and the lane of each group; steps in turn, each with the number that it gives or its
+/// refusal, and the work that is left then; and the items that are pending at the end.
 struct Case {
-    row: &'static str,
+    text: &'static str,
     lanes: u16,
     lane_of_group: &'static [u16],
-    steps: &'static [(Made, Result<u32, u32>, u64)],
+    steps: &'static [(Made, Result<u32, StepError>, u64)],
     pending: &'static [u16],
 }
 
 const CASES: &[Case] = &[
     // An item that runs is queued again, and only what is pending is cancelled.
     Case {
-        row: "item a",
+        text: "item a\n",
         lanes: 1,
         lane_of_group: &[0],
         steps: &[
-            (Cancel(0), Err(30), 0),
-            (Start(0, 0), Err(30), 0),
-            (Finish(0, 0), Err(30), 0),
+            (Cancel(0), Err(NotLawful), 0),
+            (Start(0, 0), Err(NotLawful), 0),
+            (Finish(0, 0), Err(NotLawful), 0),
             (Queue(0), Ok(0), 2),
-            (Queue(0), Err(30), 2),
+            (Queue(0), Err(NotLawful), 2),
             (Cancel(0), Ok(0), 0),
             (Queue(0), Ok(1), 2),
             (Start(0, 0), Ok(1), 1),
-            (Cancel(0), Err(30), 1),
+            (Cancel(0), Err(NotLawful), 1),
             (Queue(0), Ok(2), 3),
-            (Start(0, 0), Err(30), 3),
+            (Start(0, 0), Err(NotLawful), 3),
             (Cancel(0), Ok(2), 1),
             (Queue(0), Ok(3), 3),
             (Finish(0, 0), Ok(1), 2),
-            (Finish(0, 0), Err(30), 2),
+            (Finish(0, 0), Err(NotLawful), 2),
             (Start(0, 0), Ok(3), 1),
             (Queue(0), Ok(4), 3),
             (Finish(0, 0), Ok(3), 2),
@@ -69,27 +68,27 @@ const CASES: &[Case] = &[
     },
     // An item that waits for itself waits for the entry that runs, whatever is queued and cancelled after it.
     Case {
-        row: "item a / flush a a",
+        text: "item a\nflush a a\n",
         lanes: 1,
         lane_of_group: &[0],
         steps: &[
             (Queue(0), Ok(0), 4),
             (Start(0, 0), Ok(0), 3),
             (Wait(0, 0), Ok(1), 2),
-            (Over(0, 0), Err(30), 2),
-            (Finish(0, 0), Err(30), 2),
-            (Wait(0, 0), Err(30), 2),
+            (Over(0, 0), Err(NotLawful), 2),
+            (Finish(0, 0), Err(NotLawful), 2),
+            (Wait(0, 0), Err(NotLawful), 2),
             (Queue(0), Ok(1), 6),
-            (Over(0, 0), Err(30), 6),
+            (Over(0, 0), Err(NotLawful), 6),
             (Cancel(0), Ok(1), 2),
-            (Over(0, 0), Err(30), 2),
-            (Start(0, 0), Err(30), 2),
+            (Over(0, 0), Err(NotLawful), 2),
+            (Start(0, 0), Err(NotLawful), 2),
         ],
         pending: &[],
     },
     // A wait is over when no entry below its mark is pending or runs. Later ones don't prolong it.
     Case {
-        row: "item a / item b / flush a b",
+        text: "item a\nitem b\nflush a b\n",
         lanes: 2,
         lane_of_group: &[1, 0],
         steps: &[
@@ -97,24 +96,24 @@ const CASES: &[Case] = &[
             (Queue(0), Ok(1), 6),
             (Start(1, 0), Ok(1), 5),
             (Wait(1, 1), Ok(2), 4),
-            (Over(1, 1), Err(30), 4),
-            (Over(1, 0), Err(30), 4),
-            (Over(0, 1), Err(30), 4),
+            (Over(1, 1), Err(NotLawful), 4),
+            (Over(1, 0), Err(NotLawful), 4),
+            (Over(0, 1), Err(NotLawful), 4),
             (Start(0, 1), Ok(0), 3),
-            (Over(1, 1), Err(30), 3),
+            (Over(1, 1), Err(NotLawful), 3),
             (Queue(1), Ok(2), 5),
-            (Over(1, 1), Err(30), 5),
+            (Over(1, 1), Err(NotLawful), 5),
             (Finish(0, 1), Ok(0), 4),
             (Over(1, 1), Ok(2), 3),
-            (Over(1, 1), Err(30), 3),
-            (Wait(1, 1), Err(30), 3),
+            (Over(1, 1), Err(NotLawful), 3),
+            (Wait(1, 1), Err(NotLawful), 3),
             (Finish(1, 0), Ok(1), 2),
         ],
         pending: &[1],
     },
     // A cancellation ends a wait, also one on the lane of what waits.
     Case {
-        row: "item a / item b / flush a b",
+        text: "item a\nitem b\nflush a b\n",
         lanes: 1,
         lane_of_group: &[0, 0],
         steps: &[
@@ -122,9 +121,9 @@ const CASES: &[Case] = &[
             (Queue(1), Ok(1), 6),
             (Start(0, 0), Ok(0), 5),
             (Wait(0, 1), Ok(2), 4),
-            (Over(0, 1), Err(30), 4),
-            (Start(0, 1), Err(30), 4),
-            (Finish(0, 0), Err(30), 4),
+            (Over(0, 1), Err(NotLawful), 4),
+            (Start(0, 1), Err(NotLawful), 4),
+            (Finish(0, 0), Err(NotLawful), 4),
             (Cancel(1), Ok(1), 2),
             (Over(0, 1), Ok(2), 1),
             (Finish(0, 0), Ok(0), 0),
@@ -133,7 +132,7 @@ const CASES: &[Case] = &[
     },
     // Two waits of one entry, in another order than declared, and the second one of an item that is idle.
     Case {
-        row: "item a / item b / item c / flush a b c",
+        text: "item a\nitem b\nitem c\nflush a b c\n",
         lanes: 3,
         lane_of_group: &[2, 1, 0],
         steps: &[
@@ -141,16 +140,16 @@ const CASES: &[Case] = &[
             (Queue(0), Ok(1), 8),
             (Start(2, 0), Ok(1), 7),
             (Wait(2, 2), Ok(2), 6),
-            (Wait(2, 1), Err(30), 6),
-            (Over(2, 2), Err(30), 6),
+            (Wait(2, 1), Err(NotLawful), 6),
+            (Over(2, 2), Err(NotLawful), 6),
             (Start(0, 2), Ok(0), 5),
             (Finish(0, 2), Ok(0), 4),
-            (Over(2, 1), Err(30), 4),
+            (Over(2, 1), Err(NotLawful), 4),
             (Over(2, 2), Ok(2), 3),
             (Queue(2), Ok(2), 5),
             (Wait(2, 1), Ok(3), 4),
             (Over(2, 1), Ok(3), 3),
-            (Wait(2, 2), Err(30), 3),
+            (Wait(2, 2), Err(NotLawful), 3),
             (Finish(2, 0), Ok(1), 2),
             (Cancel(2), Ok(2), 0),
         ],
@@ -158,7 +157,7 @@ const CASES: &[Case] = &[
     },
     // One item may be waited for twice, where two flushes are declared. The second wait has a mark of its own.
     Case {
-        row: "item a / item b / item c / flush a b c",
+        text: "item a\nitem b\nitem c\nflush a b c\n",
         lanes: 3,
         lane_of_group: &[2, 1, 0],
         steps: &[
@@ -168,74 +167,74 @@ const CASES: &[Case] = &[
             (Queue(1), Ok(1), 6),
             (Over(2, 1), Ok(1), 5),
             (Wait(2, 1), Ok(2), 4),
-            (Over(2, 1), Err(30), 4),
+            (Over(2, 1), Err(NotLawful), 4),
             (Start(1, 1), Ok(1), 3),
-            (Over(2, 1), Err(30), 3),
+            (Over(2, 1), Err(NotLawful), 3),
             (Finish(1, 1), Ok(1), 2),
             (Over(2, 1), Ok(2), 1),
-            (Wait(2, 1), Err(30), 1),
+            (Wait(2, 1), Err(NotLawful), 1),
             (Finish(2, 0), Ok(0), 0),
         ],
         pending: &[],
     },
     // An execution may finish early, and waits for nothing that its own item doesn't declare.
     Case {
-        row: "item a / item b / item c / flush a b b / flush c a",
+        text: "item a\nitem b\nitem c\nflush a b b\nflush c a\n",
         lanes: 3,
         lane_of_group: &[1, 0, 2],
         steps: &[
             (Queue(0), Ok(0), 6),
             (Start(1, 0), Ok(0), 5),
-            (Wait(1, 2), Err(30), 5),
-            (Wait(1, 0), Err(30), 5),
+            (Wait(1, 2), Err(NotLawful), 5),
+            (Wait(1, 0), Err(NotLawful), 5),
             (Wait(1, 1), Ok(1), 4),
             (Over(1, 1), Ok(1), 3),
             (Finish(1, 0), Ok(0), 0),
             (Queue(2), Ok(1), 4),
             (Start(2, 2), Ok(1), 3),
-            (Wait(2, 1), Err(30), 3),
+            (Wait(2, 1), Err(NotLawful), 3),
             (Finish(2, 2), Ok(1), 0),
         ],
         pending: &[],
     },
     // Lanes and items that aren't there, and others than those that run, wait or are waited for.
     Case {
-        row: "item a / item b / flush a b",
+        text: "item a\nitem b\nflush a b\n",
         lanes: 2,
         lane_of_group: &[0, 1],
         steps: &[
-            (Queue(2), Err(30), 0),
-            (Queue(65535), Err(30), 0),
-            (Cancel(2), Err(30), 0),
-            (Start(2, 0), Err(30), 0),
+            (Queue(2), Err(NotLawful), 0),
+            (Queue(65535), Err(NotLawful), 0),
+            (Cancel(2), Err(NotLawful), 0),
+            (Start(2, 0), Err(NotLawful), 0),
             (Queue(0), Ok(0), 4),
-            (Start(2, 0), Err(30), 4),
-            (Start(65535, 0), Err(30), 4),
-            (Start(1, 0), Err(30), 4),
-            (Start(0, 1), Err(30), 4),
-            (Start(0, 2), Err(30), 4),
-            (Wait(0, 1), Err(30), 4),
+            (Start(2, 0), Err(NotLawful), 4),
+            (Start(65535, 0), Err(NotLawful), 4),
+            (Start(1, 0), Err(NotLawful), 4),
+            (Start(0, 1), Err(NotLawful), 4),
+            (Start(0, 2), Err(NotLawful), 4),
+            (Wait(0, 1), Err(NotLawful), 4),
             (Start(0, 0), Ok(0), 3),
-            (Wait(2, 1), Err(30), 3),
-            (Wait(1, 1), Err(30), 3),
-            (Wait(0, 2), Err(30), 3),
-            (Over(0, 1), Err(30), 3),
+            (Wait(2, 1), Err(NotLawful), 3),
+            (Wait(1, 1), Err(NotLawful), 3),
+            (Wait(0, 2), Err(NotLawful), 3),
+            (Over(0, 1), Err(NotLawful), 3),
             (Wait(0, 1), Ok(1), 2),
-            (Over(2, 1), Err(30), 2),
-            (Over(0, 2), Err(30), 2),
+            (Over(2, 1), Err(NotLawful), 2),
+            (Over(0, 2), Err(NotLawful), 2),
             (Over(0, 1), Ok(1), 1),
-            (Finish(2, 0), Err(30), 1),
-            (Finish(1, 0), Err(30), 1),
-            (Finish(0, 1), Err(30), 1),
-            (Finish(0, 2), Err(30), 1),
-            (Cancel(65535), Err(30), 1),
+            (Finish(2, 0), Err(NotLawful), 1),
+            (Finish(1, 0), Err(NotLawful), 1),
+            (Finish(0, 1), Err(NotLawful), 1),
+            (Finish(0, 2), Err(NotLawful), 1),
+            (Cancel(65535), Err(NotLawful), 1),
             (Finish(0, 0), Ok(0), 0),
         ],
         pending: &[],
     },
     // A lane starts what was queued first, and a cancellation keeps the order of the others.
     Case {
-        row: "item a / item b / item c / item d",
+        text: "item a\nitem b\nitem c\nitem d\n",
         lanes: 1,
         lane_of_group: &[0, 0, 0, 0],
         steps: &[
@@ -243,16 +242,16 @@ const CASES: &[Case] = &[
             (Queue(0), Ok(1), 4),
             (Queue(2), Ok(2), 6),
             (Queue(3), Ok(3), 8),
-            (Start(0, 0), Err(30), 8),
+            (Start(0, 0), Err(NotLawful), 8),
             (Cancel(0), Ok(1), 6),
             (Queue(0), Ok(4), 8),
-            (Start(0, 2), Err(30), 8),
+            (Start(0, 2), Err(NotLawful), 8),
             (Start(0, 1), Ok(0), 7),
-            (Start(0, 2), Err(30), 7),
-            (Finish(0, 2), Err(30), 7),
+            (Start(0, 2), Err(NotLawful), 7),
+            (Finish(0, 2), Err(NotLawful), 7),
             (Finish(0, 1), Ok(0), 6),
-            (Start(0, 0), Err(30), 6),
-            (Start(0, 3), Err(30), 6),
+            (Start(0, 0), Err(NotLawful), 6),
+            (Start(0, 3), Err(NotLawful), 6),
             (Start(0, 2), Ok(2), 5),
             (Finish(0, 2), Ok(2), 4),
             (Start(0, 3), Ok(3), 3),
@@ -261,20 +260,20 @@ const CASES: &[Case] = &[
     },
     // Items of one group are on its lane, and a lane may be empty.
     Case {
-        row: "item a / item b / item c / ordered c a / flush b c",
+        text: "item a\nitem b\nitem c\nordered c a\nflush b c\n",
         lanes: 4,
         lane_of_group: &[3, 1],
         steps: &[
             (Queue(2), Ok(0), 2),
-            (Start(0, 2), Err(30), 2),
-            (Start(2, 2), Err(30), 2),
+            (Start(0, 2), Err(NotLawful), 2),
+            (Start(2, 2), Err(NotLawful), 2),
             (Start(3, 2), Ok(0), 1),
             (Queue(1), Ok(1), 5),
             (Queue(0), Ok(2), 7),
             (Start(1, 1), Ok(1), 6),
             (Wait(1, 2), Ok(3), 5),
-            (Start(3, 0), Err(30), 5),
-            (Over(1, 2), Err(30), 5),
+            (Start(3, 0), Err(NotLawful), 5),
+            (Over(1, 2), Err(NotLawful), 5),
             (Finish(3, 2), Ok(0), 4),
             (Over(1, 2), Ok(3), 3),
             (Finish(1, 1), Ok(1), 2),
@@ -283,7 +282,7 @@ const CASES: &[Case] = &[
     },
     // Two lanes wait for each other. Either wait began at the same mark, and neither is over.
     Case {
-        row: CROSSED,
+        text: CROSSED,
         lanes: 2,
         lane_of_group: CROSSED_LANES,
         steps: &[
@@ -295,27 +294,27 @@ const CASES: &[Case] = &[
             (Wait(0, 1), Ok(4), 10),
             (Start(1, 2), Ok(1), 9),
             (Wait(1, 3), Ok(4), 8),
-            (Over(0, 1), Err(30), 8),
-            (Over(1, 3), Err(30), 8),
+            (Over(0, 1), Err(NotLawful), 8),
+            (Over(1, 3), Err(NotLawful), 8),
         ],
         pending: &[1, 3],
     },
     // Nothing is declared.
     Case {
-        row: "",
+        text: "",
         lanes: 0,
         lane_of_group: &[],
         steps: &[
-            (Queue(0), Err(30), 0),
-            (Start(0, 0), Err(30), 0),
-            (Finish(0, 0), Err(30), 0),
+            (Queue(0), Err(NotLawful), 0),
+            (Start(0, 0), Err(NotLawful), 0),
+            (Finish(0, 0), Err(NotLawful), 0),
         ],
         pending: &[],
     },
 ];
 
 /// The step of these numbers.
-fn step_of(made: Made) -> Step {
+pub(crate) fn step_of(made: Made) -> Step {
     match made {
         Queue(i) => Step::Queue(ItemId::new(i)),
         Cancel(i) => Step::Cancel(ItemId::new(i)),
@@ -326,22 +325,8 @@ fn step_of(made: Made) -> Step {
     }
 }
 
-/// The items that a text declares, and their groups.
-fn declared<'a, A: Allocator + Copy>(
-    alloc: A,
-    text: &'a [u8],
-) -> Result<(ItemTable<'a, A>, Groups<A>), Fail>
-    ensures { IfOk result (λ (table, groups). length groups.group_of ≡ length table.names) }
-{
-    let text = Text::new(text, 4096, 4096)?;
-    let view = DeclView::new(text)?;
-    let table = ItemTable::read(alloc, &view)?;
-    let groups = Groups::read(alloc, &view, &table)?;
-    Ok((table, groups))
-}
-
 /// The assignment of these lanes to as many groups.
-fn assigned<A: Allocator + Copy>(
+pub(crate) fn assigned<A: Allocator + Copy>(
     alloc: A,
     groups: u16,
     lanes: u16,
@@ -364,25 +349,23 @@ fn assigned<A: Allocator + Copy>(
 fn core_in<A: Allocator + Copy>(
     parts: A,
     heap: A,
-    text: &[u8],
+    text: &str,
     lanes: u16,
     lane_of_group: &[u16],
 ) -> Result<Result<Core<A>, AllocError>, Fail> {
-    let (table, groups) = declared(parts, text)?;
-    let assignment = assigned(parts, groups.len(), lanes, lane_of_group)?;
-    Ok(Core::new(heap, &table, &groups, &assignment))
+    let declared = declared(parts, text)?;
+    let assignment = assigned(parts, declared.groups.len(), lanes, lane_of_group)?;
+    Ok(Core::new(heap, &declared.table, &declared.groups, &assignment))
 }
 
-/// The machine of a declaration whose lines all end and of the lane of each group.
+/// The machine of a declaration and of the lane of each group.
 fn core_of(
     alloc: Global,
-    row: &str,
+    text: &str,
     lanes: u16,
     lane_of_group: &[u16],
 ) -> Result<Core<Global>, Fail> {
-    let text = lines_of(alloc, row)?;
-    let core = core_in(alloc, alloc, &text, lanes, lane_of_group)?;
-    Ok(core?)
+    Ok(core_in(alloc, alloc, text, lanes, lane_of_group)??)
 }
 
 /// The outcome of a list of steps.
@@ -403,36 +386,35 @@ fn run_of<A: Allocator>(
 
 /// Asserts what a case gives step by step, and what is pending at its end.
 fn assert_case(rt: &impl Abort, mut core: Core<Global>, case: &Case) {
-    let row = case.row;
-    assert_eq!(rt; core.lanes(), usize::from(case.lanes), "{row}");
-    for (made, want, left) in case.steps {
-        let gives = core.step(step_of(*made)).map_err(|why| why.code());
-        assert_eq!(rt; gives, *want, "{row}: {made:?}");
-        assert_eq!(rt; core.work_left(), *left, "{row}: {made:?}");
-        assert_eq!(rt; core.is_idle(), *left == 0, "{row}: {made:?}");
+    let text = case.text;
+    assert_eq!(rt; (text, core.lanes()), (text, usize::from(case.lanes)));
+    for (at, (made, want, left)) in case.steps.iter().enumerate() {
+        let gives = core.step(step_of(*made));
+        let is = (text, at, gives, core.work_left(), core.is_idle());
+        assert_eq!(rt; is, (text, at, *want, *left, *left == 0));
     }
-    for item in 0..6u16 {
-        let pending = core.is_pending(ItemId::new(item));
-        assert_eq!(rt; pending, case.pending.contains(&item), "{row}: {item}");
+    for i in 0..6u16 {
+        let pending = core.is_pending(ItemId::new(i));
+        assert_eq!(rt; (text, i, pending), (text, i, case.pending.contains(&i)));
     }
 }
 
 #[test]
 fn steps_give_their_numbers(rt: HostRuntime) -> Result<(), Fail> {
     for case in CASES {
-        let core = core_of(rt.alloc(), case.row, case.lanes, case.lane_of_group)?;
+        let core = core_of(rt.alloc(), case.text, case.lanes, case.lane_of_group)?;
         assert_case(&rt, core, case);
     }
     Ok(())
 }
 
 /// Two items that flush two others, each on the lane of the other's target.
-const CROSSED: &str = "item a / item b / item c / item d / flush a b / flush c d";
+pub(crate) const CROSSED: &str = "item a\nitem b\nitem c\nitem d\nflush a b\nflush c d\n";
 
-const CROSSED_LANES: &[u16] = &[0, 1, 1, 0];
+pub(crate) const CROSSED_LANES: &[u16] = &[0, 1, 1, 0];
 
 /// A run of them that ends stuck.
-const STUCK: &[Made] = &[
+pub(crate) const STUCK: &[Made] = &[
     Queue(0),
     Queue(2),
     Queue(1),
@@ -443,17 +425,19 @@ const STUCK: &[Made] = &[
     Wait(1, 3),
 ];
 
-/// Asserts that this run can be made, and how it ends.
+/// Asserts that this run can be made, and that no lane can move then.
 fn assert_stuck<A: Allocator>(
     rt: &impl Abort,
     alloc: Global,
     core: &mut Core<A>,
 ) -> Result<(), Fail> {
-    assert_eq!(rt; run_of(alloc, core, STUCK)?, Ok(()));
-    assert_eq!(rt; core.work_left(), 8);
-    assert!(rt; !core.is_idle());
-    assert_eq!(rt; core.step(step_of(Over(0, 1))), Err(StepError::NotLawful));
-    assert_eq!(rt; core.work_left(), 8);
+    let outcome = run_of(alloc, core, STUCK)?;
+    let left = core.work_left();
+    let refused = core.step(step_of(Over(0, 1)));
+    assert_eq!(rt; (outcome, left, refused), (Ok(()), 8, Err(NotLawful)));
+    assert_eq!(rt; (core.work_left(), core.is_idle()), (8, false));
+    let declared = (core.declared(LaneId::new(0)), core.declared(LaneId::new(1)));
+    assert_eq!(rt; (core.enabled(), declared), (None, (None, None)));
     Ok(())
 }
 
@@ -481,26 +465,15 @@ const PLAYED: &[(Made, Option<u16>, Option<Made>, Option<Made>)] = &[
 
 #[test]
 fn lanes_move_as_declared(rt: HostRuntime) -> Result<(), Fail> {
-    let row = "item a / item b / flush a b";
-    let mut core = core_of(rt.alloc(), row, 2, &[1, 0])?;
-    for (made, enabled, first, second) in PLAYED {
-        assert!(rt; core.step(step_of(*made)).is_ok(), "{made:?}");
-        assert_eq!(rt; core.enabled(), enabled.map(LaneId::new), "{made:?}");
+    let mut core = core_of(rt.alloc(), "item a\nitem b\nflush a b\n", 2, &[1, 0])?;
+    for (at, (made, enabled, first, second)) in PLAYED.iter().enumerate() {
+        assert!(rt; core.step(step_of(*made)).is_ok());
+        assert_eq!(rt; (at, core.enabled()), (at, enabled.map(LaneId::new)));
         for (lane, step) in [(0, *first), (1, *second), (2, None)] {
             let declared = core.declared(LaneId::new(lane));
-            assert_eq!(rt; declared, step.map(step_of), "{made:?}: {lane}");
+            assert_eq!(rt; (at, lane, declared), (at, lane, step.map(step_of)));
         }
     }
-    Ok(())
-}
-
-#[test]
-fn stuck_lanes_cannot_move(rt: HostRuntime) -> Result<(), Fail> {
-    let mut core = core_of(rt.alloc(), CROSSED, 2, CROSSED_LANES)?;
-    assert_stuck(&rt, rt.alloc(), &mut core)?;
-    assert_eq!(rt; core.enabled(), None);
-    assert_eq!(rt; core.declared(LaneId::new(0)), None);
-    assert_eq!(rt; core.declared(LaneId::new(1)), None);
     Ok(())
 }
 
@@ -514,12 +487,14 @@ const REFUSED: &[(&[Made], u32, u64)] = &[
 
 #[test]
 fn runs_stop_at_the_first_refusal(rt: HostRuntime) -> Result<(), Fail> {
-    let why = StepError::NotLawful;
     for (list, at, left) in REFUSED {
         let mut core = core_of(rt.alloc(), CROSSED, 2, CROSSED_LANES)?;
         let outcome = run_of(rt.alloc(), &mut core, list)?;
-        assert_eq!(rt; outcome, Err(RunError { at: *at, why }), "{list:?}");
-        assert_eq!(rt; core.work_left(), *left, "{list:?}");
+        let error = RunError {
+            at: *at,
+            why: NotLawful,
+        };
+        assert_eq!(rt; (outcome, core.work_left()), (Err(error), *left));
     }
     Ok(())
 }
@@ -527,40 +502,46 @@ fn runs_stop_at_the_first_refusal(rt: HostRuntime) -> Result<(), Fail> {
 #[test]
 fn refusals_have_their_numbers_and_words(rt: HostRuntime) -> Result<(), Fail> {
     for (why, code, words) in [
-        (StepError::NotLawful, 30, "step 7: the step isn't lawful"),
+        (NotLawful, 30, "step 7: the step isn't lawful"),
         (
             StepError::NumbersUsedUp,
             31,
             "step 7: the numbers are used up",
         ),
     ] {
-        assert_eq!(rt; why.code(), code);
         let error = RunError { at: 7, why };
-        assert_eq!(rt; format!(in rt.alloc(); "{error}")?.as_str(), words);
+        let printed = format!(in rt.alloc(); "{error}")?;
+        assert_eq!(rt; (why.code(), printed.as_str()), (code, words));
     }
     Ok(())
 }
 
+/// Makes the machine of two lanes on a heap of so many bytes, if that is large enough, and asserts that its steps take
+/// nothing from it. Says whether the machine was made.
+fn makes_in(rt: &impl Abort, alloc: Global, large: &LocalHeap, size: usize) -> Result<bool, Fail> {
+    let heap = LocalHeap::new(alloc, size)?;
+    let core = core_in(large, &heap, CROSSED, 2, CROSSED_LANES)?;
+    let makes = core.is_ok();
+    if let Ok(mut core) = core {
+        let used = heap.used();
+        assert_stuck(rt, alloc, &mut core)?;
+        assert_eq!(rt; (size, heap.used()), (size, used));
+    }
+    assert_eq!(rt; (size, heap.used()), (size, 0));
+    Ok(makes)
+}
+
 #[test]
 fn machines_take_memory_only_when_they_are_made(rt: HostRuntime) -> Result<(), Fail> {
-    let alloc = rt.alloc();
-    let text = lines_of(alloc, CROSSED)?;
-    let large = LocalHeap::new(alloc, 65536)?;
+    let large = LocalHeap::new(rt.alloc(), 65536)?;
     let mut refused = false;
     let mut made = false;
     for size in (0..2048usize).step_by(16) {
-        let heap = LocalHeap::new(alloc, size)?;
-        if let Ok(mut core) = core_in(&large, &heap, &text, 2, CROSSED_LANES)? {
-            let used = heap.used();
-            assert_stuck(&rt, alloc, &mut core)?;
-            assert_eq!(rt; heap.used(), used, "a heap of {size} bytes");
-            made = true;
-        } else {
-            assert!(rt; !made, "a heap of {size} bytes");
-            refused = true;
-        }
-        assert_eq!(rt; heap.used(), 0, "a heap of {size} bytes");
+        let makes = makes_in(&rt, rt.alloc(), &large, size)?;
+        assert!(rt; makes || !made);
+        refused = refused || !makes;
+        made = makes;
     }
-    assert!(rt; refused && made, "refused {refused}, made {made}");
+    assert!(rt; refused && made);
     Ok(())
 }

@@ -7,7 +7,7 @@ use std::process::Abort;
 use std::test::Fail;
 use wq_commands::{Stop, read_declaration};
 use wq_groups::GroupError;
-use wq_items::{ItemError, ItemId, ItemTable, Target};
+use wq_items::{ItemError, ItemId, ItemTable};
 
 /// A declaration of three items.
 const TEXT: &[u8] = b"item c\nitem  a\n\nflush c a c\nitem b\nordered b a\nflush b a\nflush c a";
@@ -18,14 +18,6 @@ const ITEMS: &[(&[u8], (u32, u32), &[(u16, u32)])] = &[
     (b"a", (13, 14), &[]),
     (b"b", (33, 34), &[(1, 2)]),
 ];
-
-/// Asserts of flushes the target and the place of each.
-fn assert_waits(rt: &impl Abort, name: &[u8], waits: &[Target], want: &[(u16, u32)]) {
-    assert_eq!(rt; waits.len(), want.len(), "{name:?}");
-    for (target, numbers) in waits.iter().zip(want) {
-        assert_eq!(rt; (target.item.get(), target.place), *numbers, "{name:?}");
-    }
-}
 
 /// Asserts the name of an item, where it stands, and its flushes.
 fn assert_item(
@@ -38,18 +30,23 @@ fn assert_item(
 )
     requires { item < length table.now.names }
 {
-    assert_eq!(rt; table.find(name), Some(item), "{name:?}");
-    assert_eq!(rt; table.name(item), name, "{name:?}");
     let is = table.span(item);
-    assert_eq!(rt; (is.start, is.end), span, "{name:?}");
-    assert_waits(rt, name, table.waits(item), waits);
+    assert_eq!(rt;
+        (table.find(name), table.name(item), (is.start, is.end)),
+        (Some(item), name, span)
+    );
+    assert_eq!(rt; (name, table.waits(item).len()), (name, waits.len()));
+    for (target, numbers) in table.waits(item).iter().zip(waits) {
+        assert_eq!(rt; (name, (target.item.get(), target.place)), (name, *numbers));
+    }
 }
 
 /// Asserts the items of a table.
 fn assert_items(rt: &impl Abort, table: &ItemTable<'_, Global>) {
-    assert_eq!(rt; table.len(), 3);
-    assert!(rt; !table.is_empty());
-    assert_eq!(rt; table.flushes(), 4);
+    assert_eq!(rt;
+        (table.len(), table.is_empty(), table.flushes()),
+        (3, false, 4)
+    );
     let mut i = 0;
     for (name, span, waits) in ITEMS {
         assert!(rt; i < table.len());
@@ -57,7 +54,7 @@ fn assert_items(rt: &impl Abort, table: &ItemTable<'_, Global>) {
         i += 1;
     }
     for name in [b"d".as_slice(), b"", b"C", b"cc", b"item"] {
-        assert_eq!(rt; table.find(name), None, "{name:?}");
+        assert_eq!(rt; (name, table.find(name)), (name, None));
     }
 }
 
@@ -76,10 +73,12 @@ fn what_stops_a_reading_has_its_number(rt: HostRuntime) {
         (b"item a\n\nordered a a", 11, 3),
     ] {
         let stop = read_declaration(rt.alloc(), text).err();
-        assert_eq!(rt; stop, Some(Stop::Refused { code, line }), "{text:?}");
+        assert_eq!(rt; stop, Some(Stop::Refused { code, line }));
     }
     let memory = ItemError::OutOfMemory;
-    assert_eq!(rt; (memory.code(), memory.line()), (20, 0));
-    assert_eq!(rt; Stop::from(memory), Stop::OutOfMemory);
+    assert_eq!(rt;
+        (memory.code(), memory.line(), Stop::from(memory)),
+        (20, 0, Stop::OutOfMemory)
+    );
     assert_eq!(rt; Stop::from(GroupError::OutOfMemory), Stop::OutOfMemory);
 }

@@ -2,57 +2,37 @@
 
 use std::process::Abort;
 use std::test::Fail;
-use wq_text::{Line, Span, Text, TextError, number};
+use wq_text::{Text, TextError, number};
 
 /// The number of a line, where it begins and ends, and its bytes; or so of a word, with the number of its line.
 type Place<'a> = (u32, u32, u32, &'a [u8]);
 
-/// Asserts a place.
-fn assert_place(rt: &impl Abort, no: u32, span: Span, bytes: &[u8], want: &Place) {
-    assert_eq!(rt;
-        (no, span.start, span.end),
-        (want.0, want.1, want.2),
-        "{bytes:?}"
-    );
-    assert_eq!(rt; bytes, want.3);
-}
-
-/// Asserts that a text has these lines and no others.
-fn assert_lines(rt: &impl Abort, text: &Text, want: &[Place]) {
-    let mut want = want.iter();
+/// Asserts that a text has these lines, that each of these has those words in turn, and that there are no others.
+fn assert_lines(rt: &impl Abort, text: &Text, lines: &[Place], words: &[Place]) {
+    let mut lines = lines.iter();
+    let mut words = words.iter();
     for line in text.lines() {
-        let place = want.next().expect(rt, "a line too many");
-        assert_place(rt, line.no(), line.span(), line.bytes(), place);
+        let want = lines.next().expect(rt, "a line too many");
+        let span = line.span();
+        assert_eq!(rt; (line.no(), span.start, span.end, line.bytes()), *want);
+        for word in line.words().again() {
+            let want = words.next().expect(rt, "a word too many");
+            let span = word.span();
+            assert_eq!(rt;
+                (line.no(), span.start, span.end, word.again().bytes()),
+                *want
+            );
+        }
     }
-    assert!(rt; want.next().is_none(), "a line is missing");
+    assert!(rt; lines.next().is_none() && words.next().is_none());
 }
 
-/// Asserts that a line has these words and no others.
-fn assert_words(rt: &impl Abort, line: &Line, want: &[Place]) {
-    let mut want = want.iter();
-    for word in line.words().again() {
-        let place = want.next().expect(rt, "a word too many");
-        assert_place(rt, line.no(), word.span(), word.again().bytes(), place);
-    }
-    assert!(rt; want.next().is_none(), "a word is missing");
-}
-
-/// Asserts the words of each line of a text.
-fn assert_words_of_lines(rt: &impl Abort, text: &Text, want: &[&[Place]]) {
-    let mut want = want.iter();
-    for line in text.lines() {
-        let words = want.next().expect(rt, "a line too many");
-        assert_words(rt, &line, words);
-    }
-    assert!(rt; want.next().is_none(), "a line is missing");
-}
-
-/// Texts, their lines, and of each line its words.
-const TEXTS: &[(&[u8], &[Place], &[&[Place]])] = &[
+/// Texts, their lines, and the words of all lines.
+const TEXTS: &[(&[u8], &[Place], &[Place])] = &[
     (b"", &[], &[]),
-    (b"\n", &[(1, 0, 0, b"")], &[&[]]),
-    (b"ab", &[(1, 0, 2, b"ab")], &[&[(1, 0, 2, b"ab")]]),
-    (b"ab\n", &[(1, 0, 2, b"ab")], &[&[(1, 0, 2, b"ab")]]),
+    (b"\n", &[(1, 0, 0, b"")], &[]),
+    (b"ab", &[(1, 0, 2, b"ab")], &[(1, 0, 2, b"ab")]),
+    (b"ab\n", &[(1, 0, 2, b"ab")], &[(1, 0, 2, b"ab")]),
     (
         b"wq a\n\n\t two \tx\t\n \t",
         &[
@@ -62,10 +42,10 @@ const TEXTS: &[(&[u8], &[Place], &[&[Place]])] = &[
             (4, 16, 18, b" \t"),
         ],
         &[
-            &[(1, 0, 2, b"wq"), (1, 3, 4, b"a")],
-            &[],
-            &[(3, 8, 11, b"two"), (3, 13, 14, b"x")],
-            &[],
+            (1, 0, 2, b"wq"),
+            (1, 3, 4, b"a"),
+            (3, 8, 11, b"two"),
+            (3, 13, 14, b"x"),
         ],
     ),
     // No word stands in a comment.
@@ -77,9 +57,10 @@ const TEXTS: &[(&[u8], &[Place], &[&[Place]])] = &[
             (3, 17, 19, b"z\r"),
         ],
         &[
-            &[(1, 0, 2, b"wq"), (1, 3, 4, b"a")],
-            &[(2, 11, 12, b"x")],
-            &[(3, 17, 19, b"z\r")],
+            (1, 0, 2, b"wq"),
+            (1, 3, 4, b"a"),
+            (2, 11, 12, b"x"),
+            (3, 17, 19, b"z\r"),
         ],
     ),
 ];
@@ -88,8 +69,7 @@ const TEXTS: &[(&[u8], &[Place], &[&[Place]])] = &[
 fn lines_and_words_stand_in_their_text(rt: HostRuntime) -> Result<(), Fail> {
     for (bytes, lines, words) in TEXTS {
         let text = Text::new(bytes, 99, 99)?;
-        assert_lines(&rt, &text, lines);
-        assert_words_of_lines(&rt, &text, words);
+        assert_lines(&rt, &text, lines, words);
     }
     Ok(())
 }
@@ -131,8 +111,10 @@ const LONG: &[u8] = b"abc\nabcd\nabcde";
 fn limits_refuse_the_first_fault(rt: HostRuntime) {
     for (text, max_text, max_line, fault, code, no) in FAULTS {
         let is = Text::new(text, *max_text, *max_line).err();
-        assert_eq!(rt; is, Some(*fault), "limits {max_text} and {max_line}");
-        assert_eq!(rt; (fault.code(), fault.line()), (*code, *no), "{fault:?}");
+        assert_eq!(rt;
+            (is, fault.code(), fault.line()),
+            (Some(*fault), *code, *no)
+        );
     }
 }
 
@@ -167,6 +149,6 @@ const NUMBERS: &[(&[u8], Option<u32>)] = &[
 #[test]
 fn numbers_have_one_spelling(rt: HostRuntime) {
     for (bytes, want) in NUMBERS {
-        assert_eq!(rt; number(bytes), *want, "{bytes:?}");
+        assert_eq!(rt; (*bytes, number(bytes)), (*bytes, *want));
     }
 }

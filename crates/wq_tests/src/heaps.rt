@@ -1,0 +1,68 @@
+//! Commands with heaps that are too small, at each size up to one that is large enough.
+//!
+//! Takes time in the number of the sizes and the cases.
+
+use crate::commands::{CASES, Case, Readers, run};
+use linked_list_allocator::LocalHeap;
+use std::alloc::{AllocError, Global};
+use std::process::Abort;
+use std::test::Fail;
+use wq_commands::{End, Fault, Metered};
+
+/// How a run with a heap of so many bytes ends, what it writes, and how many bytes of the heap it leaves in use.
+fn run_in(
+    alloc: Global,
+    size: usize,
+    case: &Case,
+) -> Result<(Result<End, Fault>, Vec<u8>, usize), AllocError> {
+    let heap = LocalHeap::new(alloc, size)?;
+    let mut readers = Readers {
+        first: Metered::new(case.text(0)),
+        second: Metered::new(case.text(1)),
+        third: Metered::new(case.text(2)),
+    };
+    let mut writer = Metered::new(Vec::new(alloc));
+    let end = run(&heap, case.command, &mut readers, &mut writer);
+    Ok((end, writer.into_inner(), heap.used()))
+}
+
+/// Asserts that a run with a heap of so many bytes leaves none in use, and answers or is refused memory. Says which.
+fn answers_in(
+    rt: &impl Abort,
+    alloc: Global,
+    size: usize,
+    case: &Case,
+) -> Result<bool, AllocError> {
+    let (end, written, left) = run_in(alloc, size, case)?;
+    let answers = end != Err(Fault::Memory);
+    let (wanted, answer) = if answers {
+        (Ok(case.end), case.answer)
+    } else {
+        (Err(Fault::Memory), b"".as_slice())
+    };
+    assert_eq!(rt; (case.name, size, end, left), (case.name, size, wanted, 0));
+    assert_eq!(rt; written.as_slice(), answer);
+    Ok(answers)
+}
+
+/// Asserts that a run is refused memory up to some size of the heap, and answers from there on.
+fn assert_sizes(rt: &impl Abort, alloc: Global, case: &Case) -> Result<(), AllocError> {
+    let mut refused = false;
+    let mut answered = false;
+    for size in (0..16384usize).step_by(16) {
+        let answers = answers_in(rt, alloc, size, case)?;
+        assert!(rt; answers || !answered);
+        refused = refused || !answers;
+        answered = answers;
+    }
+    assert_eq!(rt; (case.name, refused, answered), (case.name, true, true));
+    Ok(())
+}
+
+#[test]
+fn want_of_memory_changes_no_answer(rt: HostRuntime) -> Result<(), Fail> {
+    for case in CASES {
+        assert_sizes(&rt, rt.alloc(), case)?;
+    }
+    Ok(())
+}
