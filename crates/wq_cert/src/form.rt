@@ -1,8 +1,8 @@
 //! What the words of one line say, if they have the form that is asked for.
 //!
-//! The forms are those of "Certificates" and "Run texts" in docs/FORMAT.md. A byte that no line may hold stands in no keyword, number or
-//! name, so a line with such a byte before its comment has no form. Each function takes time in the length of the words,
-//! and `items_of` and `wq_form` take memory in the number of the items.
+//! The forms are those of "Certificates" and "Run texts" in docs/FORMAT.md. A byte that no line may hold stands in no
+//! keyword, number or name, so a line with such a byte before its comment has no form. Each function takes time in the
+//! length of the words, and `items_of` and `wq_form` take memory in the number of the items.
 
 ghost use Rattle.std.specs.Prelude.{◌≡◌, IfOk, option_map};
 ghost use Rattle.wq_cert.specs.Forms.{number_of, items_of, begins_with, count_form, wq_form, arc_form};

@@ -1,7 +1,7 @@
 //! Reading runs: how many steps there are, and each of them on a line of its own.
 //!
-//! The text is that of "Run texts" and "Certificates" in docs/FORMAT.md. Reading takes time in the length of the text, and memory in the
-//! number of the steps that stand there, whatever number is said.
+//! The text is that of "Run texts" and "Certificates" in docs/FORMAT.md. Reading takes time in the length of the text, and
+//! memory in the number of the steps that stand there, whatever number is said.
 
 ghost use Rattle.std.specs.Prelude.{◌≡◌, ◌∷◌, Ok, Err, None, IfOk, IfErr, map, option_map};
 ghost use Rattle.wq_text.specs.Limits.{limit_fault};

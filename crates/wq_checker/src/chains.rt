@@ -1,7 +1,7 @@
 //! Arcs that join: each is a declared flush, and begins in the group in which the one before it ends.
 //!
-//! The rules are those of "The command `check`" in docs/FORMAT.md. The search takes time in the number of arcs and of the flushes
-//! that their items declare, and no memory.
+//! The rules are those of "The command `check`" in docs/FORMAT.md. The search takes time in the number of arcs and of the
+//! flushes that their items declare, and no memory.
 
 ghost use Rattle.std.specs.Prelude.{◌≡◌, ◌<◌, ◌≤◌, ◌↔◌, IsTrue, IfSome, IfNone, length};
 ghost use Rattle.std.specs.List.{Any, All};
