@@ -2,7 +2,8 @@
 //!
 //! What the layer above relies on: a step is done exactly where it is lawful, with its effect. Each lane is a workqueue
 //! with WQ_MEM_RECLAIM and one execution context, its rescuer (Documentation/core-api/workqueue.rst, "WQ_MEM_RECLAIM").
-//! The machine knows lists of steps only: no graph, no rank and no chain.
+//! The machine knows lists of steps only: no graph, no rank and no chain. A step takes time in the entries that are pending
+//! on a lane, or in the flushes of an item; questions about all lanes take time in these.
 #![tactic(auto)]
 
 mod building;

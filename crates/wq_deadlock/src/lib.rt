@@ -4,7 +4,8 @@
 //! that fall along every declared flush; of any other the answer is a run that ends stuck, with each item queued once and
 //! flushing as declared. Here arcs and steps meet: ranks and circles are those of the wait graph of the lanes, and runs are
 //! those of the machine. The rule behind both is that of Documentation/core-api/workqueue.rst, "Guidelines": work items
-//! that are used during reclaim and depend on one another belong on separate workqueues with WQ_MEM_RECLAIM.
+//! that are used during reclaim and depend on one another belong on separate workqueues with WQ_MEM_RECLAIM. A verdict
+//! takes the time of the wait graph and its ranks, and where there is a circle that of its run.
 #![tactic(auto)]
 
 mod circles;

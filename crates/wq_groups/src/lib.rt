@@ -4,7 +4,8 @@
 //! What the layer above relies on: the groups are the partition of the items that the directives name, numbered by
 //! first-declared members, or else the answer is the first fault; an assignment gives each group one of its workqueues.
 //! The rules are those of "Items and groups" in docs/FORMAT.md. A group stands for the work items of one ordered workqueue
-//! (`alloc_ordered_workqueue` in include/linux/workqueue.h).
+//! (`alloc_ordered_workqueue` in include/linux/workqueue.h). Reading groups takes time in the length of the text, on
+//! average; what is asked of groups or an assignment takes constant time.
 #![tactic(auto)]
 
 mod assignment;

@@ -4,7 +4,8 @@
 //! first fault; and what holds of every table, its limits above all (`IsTable`). The rules are those of "Items
 //! and groups" in docs/FORMAT.md. An item stands for a `struct work_struct`, a flush for `flush_work` in its function
 //! (Documentation/core-api/workqueue.rst; kernel/workqueue.c). Of the items that share one ordered workqueue only the
-//! names are looked up here.
+//! names are looked up here. Reading a table takes time in the length of the text, on average; what is asked of it
+//! takes constant time.
 #![tactic(auto)]
 
 pub mod chain_laws;

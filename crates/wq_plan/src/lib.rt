@@ -5,7 +5,8 @@
 //! the groups wait in the circle that is answered, and every assignment deadlocks. The planner's code knows arcs and
 //! numbers, no steps: what it says of runs rests on laws of `wq_core`. The rules are those of
 //! "Plan texts" and "Circle texts" in docs/FORMAT.md; the reason is that of Documentation/core-api/workqueue.rst,
-//! "Guidelines": work items that depend on one another belong on separate workqueues with WQ_MEM_RECLAIM.
+//! "Guidelines": work items that depend on one another belong on separate workqueues with WQ_MEM_RECLAIM. A plan takes
+//! the time of its wait graph and of the ranks.
 #![tactic(auto)]
 
 mod answer;

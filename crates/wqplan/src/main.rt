@@ -2,7 +2,8 @@
 //!
 //! What this crate adds is the command line, the files and the exit status; what is read and what is answered stand
 //! in `wq_commands`. The formats and the statuses are those of docs/FORMAT.md. The status is returned from `main` as
-//! a number and never as an error, since the status of an error is 1, which means an answer that is bad.
+//! a number and never as an error, since the status of an error is 1, which means an answer that is bad. The time is that
+//! of the command.
 #![tactic(auto)]
 
 mod check;
