@@ -3,6 +3,8 @@
 //! The examples are computed on the definitions, so that a reader can hold these against the format's own.
 
 ghost use Rattle.std.specs.Prelude.{◌≡◌, ℕ, ◌+◌, ◌<◌, ◌≤◌, List, length, take, codes, Ok, Err};
+ghost use Rattle.wq_items.specs.Table.{IsTable};
+ghost use Rattle.wq_groups.specs.Partition.{IsPartition};
 ghost use Rattle.wq_groups.specs.Declaration.{IsDeclaration};
 ghost use Rattle.std.specs.List.{All};
 ghost use Rattle.wq_text.specs.Lines.{LineView, lines_of};
@@ -154,7 +156,12 @@ pub fn a_replay_has_an_answer()
 {}
 
 /// What a text declares is a declaration: one list of flushes and one group for each item, and at most 16,384 flushes, each
-/// of an item and at a place of its own.
+/// of an item and at a place of its own. Its table and its groups are what the laws on tables and groups ask for, with a group
+/// for each item of the table.
 pub fn what_a_text_declares_is_a_declaration()
-    ensures { (text : List ℕ) (s : Declared) → declaration text ≡ Ok s → IsDeclaration (declared_waits s) }
+    ensures declared { (text : List ℕ) (s : Declared) → declaration text ≡ Ok s → IsDeclaration (declared_waits s) }
+    ensures table { (text : List ℕ) (s : Declared) → declaration text ≡ Ok s → IsTable s.table }
+    ensures partition { (text : List ℕ) (s : Declared) → declaration text ≡ Ok s → IsPartition s.partition }
+    ensures one_group_each { (text : List ℕ) (s : Declared) → declaration text ≡ Ok s →
+        length s.partition.group_of ≡ length s.table.names }
 {}
