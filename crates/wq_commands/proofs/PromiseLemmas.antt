@@ -19,7 +19,7 @@ use Rattle.wq_plan.proofs.Plans.{IsPlan-lanes, IsPlan-falls, IsLeast-plan, IsCir
 use Rattle.wq_core.specs.declared.step.Step.{Step}
 use Rattle.wq_core.specs.Wiring.{wiring, own_lanes}
 use Rattle.wq_deadlock.specs.CircleRun.{IsCircleRun}
-use Rattle.wq_cert.specs.Certificate.{OfPlan, OfCircle}
+use Rattle.wq_cert.specs.Certificate.{PlanCertificate, CircleCertificate, OfPlan, OfCircle}
 use Rattle.wq_cert.specs.Texts.{answer_of}
 use Rattle.wq_cert.proofs.PrintedPlans.{answer_of-plan, assignment_of_text-plan}
 use Rattle.wq_cert.proofs.PrintedCircles.{answer_of-circle}
@@ -29,14 +29,16 @@ use Rattle.wq_items.proofs.Tables.{ItemWaits-below}
 use Rattle.wq_checker.specs.Chains.{Joins, AllJoin, before_from, before_in_chain, before_in_circle}
 use Rattle.wq_checker.specs.Falling.{AllFall}
 use Rattle.wq_checker.specs.declared.answer.Yes.TheVariants as yes
+use Rattle.wq_checker.specs.Answers.{IsGoodPlan}
+use Rattle.wq_checker.proofs.GoodAnswers.{IsChainAlong-good, IsCircleAlong-good}
 use Rattle.wq_commands.specs.declared.end.End.{End}
 use Rattle.wq_commands.specs.declared.end.End.TheVariants.{Good, Bad, Refused}
 use Rattle.wq_commands.specs.Answer.{Answers, AnswersDeclared, ends_of, declared_waits, text_of_plan, text_of_circle, refusal_text}
 use Rattle.wq_commands.specs.Declaration.{Declared, declaration}
 use Rattle.wq_cert.specs.LineText.{line_text}
 use Rattle.wq_commands.specs.Checking.{yes_words, ChecksDeclared}
-use Rattle.wq_commands.specs.PrintedChecked.{ChecksYes, ChecksYesOf}
-use Rattle.wq_commands.proofs.CheckLemmas.{MatchResult-ok}
+use Rattle.wq_commands.specs.PrintedChecked.{ChecksYesPlan, ChecksYesCircle, ChecksYesOf, ChecksYes}
+use Rattle.wq_commands.proofs.CheckLemmas.{MatchResult-ok, IsAsked-read}
 use Rattle.wq_commands.specs.Promise.{KeepsPlan, KeepsCircle, KeepsDeclared, KeepsPromise}
 use Rattle.wq_commands.proofs.TextLength.{length-circled}
 use Rattle.wq_commands.proofs.AnswerLemmas.{IsSound, IsSound-declaration, IsDeclaration-sound, ArePrintable, ArePrintable-plan, ArePrintable-walked}
@@ -147,17 +149,24 @@ module _ (s : Declared) (sound : IsSound s) where
       let none : a.lanes ≡ 0 → arcs ≡ [] = λ zero_lanes. length_zero arcs (omega (arith, many, longest.count, zero_lanes)) in
       let long : (if a.lanes == 0 then 0 else length arcs + 1) ≡ a.lanes = chain_length a.lanes (length arcs) (omega (arith, many, longest.count)) in
       let lanes : a.lanes ≤ 4096 = omega (arith, few, is.partition.few_groups, is.partition.few_items) in
+      let said : PlanCertificate = record { assignment = a; length = if a.lanes == 0 then 0 else length arcs + 1; arcs = arcs } in
+      let read = answer_of-plan s.table s.partition a arcs sound.table sound.partition sound.one_group_each least.assignment lanes prints.items short none in
+      let good : IsGoodPlan d said = record {
+        falls = AllFall-plan s sound a plan;
+        long = long;
+        has_group = λ lacks. absurd (omega (arith, long, few, lacks.0, lacks.1));
+        joined = AllJoin-chain s a chain longest;
+      } in
+      let along = IsChainAlong-good d is said (IsAsked-read s (text_of_plan s a) (OfPlan said) sound read) good in
       record {
-        plan = record { assignment = a; length = if a.lanes == 0 then 0 else length arcs + 1; arcs = arcs };
-        read = answer_of-plan s.table s.partition a arcs sound.table sound.partition sound.one_group_each least.assignment lanes prints.items short none;
+        plan = said;
+        read = read;
         assignment = assignment_of_text-plan s.table s.partition a arcs sound.table sound.partition sound.one_group_each least.assignment lanes prints.items short none;
         least = least;
-        good = record {
-          falls = AllFall-plan s sound a plan;
-          long = long;
-          has_group = λ lacks. absurd (omega (arith, long, few, lacks.0, lacks.1));
-          joined = AllJoin-chain s a chain longest;
-        };
+        good = good;
+        chain = along.0;
+        is_chain = along.1;
+        long = along.2;
       }
 
   KeepsCircle-printed : (circle : List WaitArc) (steps : List Step) → IsWalkedCircle (group_graph (declared_waits s)) circle
@@ -171,10 +180,14 @@ module _ (s : Declared) (sound : IsSound s) where
       let prints : ArePrintable s.table arcs = ArePrintable-walked s circle arcs sound walked refl in
       let some : 0 < length circle = slice_get_within circle 0 round.first round.begins in
       let deadlocks = DeadlocksBy-own_lanes s sound circle steps walked is_run in
+      let said : CircleCertificate = record { arcs = arcs; steps = Some steps } in
+      let read = answer_of-circle s.table sound.table s.partition arcs (Some steps) (omega (arith, some, many)) prints.few prints.items (IsStepOf-deadlock s sound (own_lanes s.partition.groups) (IsAssignmentOf-own_lanes s sound) steps deadlocks) (length-circled s sound circle steps walked is_run) in
+      let joined = AllJoin-circle s circle round in
       record {
-        circle = record { arcs = arcs; steps = Some steps };
-        read = answer_of-circle s.table sound.table s.partition arcs (Some steps) (omega (arith, some, many)) prints.few prints.items (IsStepOf-deadlock s sound (own_lanes s.partition.groups) (IsAssignmentOf-own_lanes s sound) steps deadlocks) (length-circled s sound circle steps walked is_run);
-        good = record { joined = AllJoin-circle s circle round; deadlocks = deadlocks };
+        circle = said;
+        read = read;
+        good = record { joined = joined; deadlocks = deadlocks };
+        goes_round = IsCircleAlong-good d is said (IsAsked-read s (text_of_circle s circle steps) (OfCircle said) sound read) joined;
         steps = steps;
         has_run = refl;
         run_deadlocks = deadlocks;
@@ -203,17 +216,20 @@ KeepsPromise-answers text end out answers = keeps (declaration text) end out (Is
 pub Checks-answers : (text out : List ℕ) (end : End) → Answers text end out → ChecksYes text out end
 Checks-answers text out end answers = checked (declaration text) end (keeps (declaration text) end out (IsSound-declaration text) answers)
   where
-    plan_checked : (s : Declared) → KeepsPlan s out → (n : ℕ) × ChecksDeclared s out Good (line_text (yes_words (yes.Plan n)))
-    plan_checked s kept = (
-      kept.plan.assignment.lanes,
-      MatchResult-ok (answer_of s.table.names s.partition out) (OfPlan kept.plan) _ _ kept.read (Ok (yes.Plan kept.plan.assignment.lanes), (kept.good, refl), (refl, refl)),
-    )
+    plan_checked : (s : Declared) → KeepsPlan s out → ChecksYesPlan s out
+    plan_checked s kept = record {
+      plan = kept.plan;
+      read = kept.read;
+      assignment = kept.assignment;
+      checked = MatchResult-ok (answer_of s.table.names s.partition out) (OfPlan kept.plan) _ _ kept.read (Ok (yes.Plan kept.plan.assignment.lanes), (kept.good, refl), (refl, refl));
+    }
 
-    circle_checked : (s : Declared) → KeepsCircle s out → (n : ℕ) × ChecksDeclared s out Good (line_text (yes_words (yes.Circle n)))
-    circle_checked s kept = (
-      length kept.circle.arcs,
-      MatchResult-ok (answer_of s.table.names s.partition out) (OfCircle kept.circle) _ _ kept.read (Ok (yes.Circle (length kept.circle.arcs)), (kept.good, refl), (refl, refl)),
-    )
+    circle_checked : (s : Declared) → KeepsCircle s out → ChecksYesCircle s out
+    circle_checked s kept = record {
+      circle = kept.circle;
+      read = kept.read;
+      checked = MatchResult-ok (answer_of s.table.names s.partition out) (OfCircle kept.circle) _ _ kept.read (Ok (yes.Circle (length kept.circle.arcs)), (kept.good, refl), (refl, refl));
+    }
 
     checked : (declared : Result Declared Refusal) (end : End) → MatchResult declared (λ s. KeepsDeclared s end out) (λ r. end ≡ Refused) → ChecksYesOf declared out end
     checked (Ok s) Good kept = plan_checked s kept

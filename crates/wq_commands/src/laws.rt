@@ -36,13 +36,15 @@ pub fn a_text_has_one_answer()
 
 /// An answer keeps what it promises. Of a plan text: the assignment that is read from it lets no run end stuck, every
 /// assignment to fewer workqueues has a run that ends stuck, with each item queued once and flushing as declared, and the
-/// printed chain has as many groups as there are workqueues. Of a circle text: its arcs go round groups, the run that is
-/// read from it is such a run where each group has a workqueue of its own, and every assignment has such a run.
+/// printed arcs are those of a chain of as many groups as there are workqueues. Of a circle text: its arcs go round groups,
+/// the run that is read from it is such a run where each group has a workqueue of its own, and every assignment has such a
+/// run.
 pub fn an_answer_keeps_its_promise()
     ensures { (text : List ℕ) (end : End) (out : List ℕ) → Answers text end out → KeepsPromise text end out }
 {}
 
-/// What `plan` prints is answered with yes: of a plan `check` prints `yes K`, and of a circle with its run `yes circle N`.
+/// What `plan` prints is answered with yes: of a plan of K workqueues `check` prints `yes K`, and of a circle of N arcs with
+/// its run `yes circle N`.
 pub fn a_printed_answer_is_checked_with_yes()
     ensures { (text out : List ℕ) (end : End) → Answers text end out → ChecksYes text out end }
 {}
