@@ -22,6 +22,7 @@ ghost use Rattle.wq_commands.specs.Answer.{Answers, declared_waits, text_of_plan
 ghost use Rattle.wq_commands.specs.Promise.{KeepsPromise};
 ghost use Rattle.wq_commands.specs.PrintedChecked.{ChecksYes};
 ghost use Rattle.wq_commands.specs.Checking.{Checks};
+ghost use Rattle.wq_commands.specs.YesIsTrue.{YesIsTrue};
 ghost use Rattle.wq_commands.specs.Replaying.{replay_words, Replays};
 ghost use Rattle.wq_commands.specs.Deadlocking.{Judges};
 ghost use Rattle.wq_commands.specs.Declaration.{Declared, declaration, max_text};
@@ -47,6 +48,14 @@ pub fn an_answer_keeps_its_promise()
 /// its run `yes circle N`.
 pub fn a_printed_answer_is_checked_with_yes()
     ensures { (text out : List ℕ) (end : End) → Answers text end out → ChecksYes text out end }
+{}
+
+/// A yes that `check` prints is true. To a plan it is `yes K`, with K the workqueues of the assignment that is read from the
+/// certificate: no run of this one ends stuck, and every assignment to fewer workqueues has a run that ends stuck, with each
+/// item queued once and flushing as declared. To a circle it is `yes circle N`, with N the arcs that are read: they go round
+/// groups, and every assignment has such a run.
+pub fn a_printed_yes_is_true()
+    ensures { (text claim out : List ℕ) → Checks text claim Good out → YesIsTrue text claim out }
 {}
 
 /// A text has an answer.
