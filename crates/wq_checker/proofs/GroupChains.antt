@@ -80,13 +80,13 @@ module _ (d : Declaration) where
     heads-within g (arc ∷ arcs) linked =
         All-cons (λ h. h < d.groups) (group d arc.1) (heads d arcs) (group-within arc.1 (waits-target arc.0 arc.1 linked.0)) (heads-within (group d arc.1) arcs linked.2)
 
-    -- each arc leads from its group to the next
+    -- each arc is declared, and leads from its group to the next
     along-linked : (g : ℕ) (arcs : List (ℕ × ℕ)) → Linked d g arcs → (k : ℕ) (arc : ℕ × ℕ) → slice_get arcs k ≡ Some arc
-        → (slice_get (g ∷ heads d arcs) k ≡ Some (group d arc.0)) × (slice_get (heads d arcs) k ≡ Some (group d arc.1))
+        → ItemWaits d.waits arc.0 arc.1 × (slice_get (g ∷ heads d arcs) k ≡ Some (group d arc.0)) × (slice_get (heads d arcs) k ≡ Some (group d arc.1))
     along-linked g [] linked k arc stands = absurd (omega (arith, slice_get_within [] k arc stands))
     along-linked g (first ∷ arcs) linked zero arc stands =
         let same : first ≡ arc = cc in
-        (ap (λ (h : ℕ). Some h) (sym linked.1 ∙ ap (λ (a : ℕ × ℕ). group d a.0) same), ap (λ (a : ℕ × ℕ). Some (group d a.1)) same)
+        (subst (λ (a : ℕ × ℕ). ItemWaits d.waits a.0 a.1) same linked.0, ap (λ (h : ℕ). Some h) (sym linked.1 ∙ ap (λ (a : ℕ × ℕ). group d a.0) same), ap (λ (a : ℕ × ℕ). Some (group d a.1)) same)
     along-linked g (first ∷ arcs) linked (suc k) arc stands = along-linked (group d first.1) arcs linked.2 k arc stands
 
     -- arcs that join are a chain of one group more
@@ -103,7 +103,7 @@ module _ (d : Declaration) where
           along = λ k other stands.
               let leads = along-linked g (arc ∷ arcs) linked k other stands in
               let next : k + 1 ≡ suc k = omega arith in
-              (leads.0, ap (slice_get (g ∷ heads d (arc ∷ arcs))) next ∙ leads.1);
+              (leads.0, leads.1, ap (slice_get (g ∷ heads d (arc ∷ arcs))) next ∙ leads.2);
         }
 
     -- a chain of one group, which is there, or of none
@@ -151,6 +151,7 @@ module _ (d : Declaration) where
         let closed : group d last.1 ≡ group d arc.0 = (subst (λ (o : Option (ℕ × ℕ)). Joins d o arc) at_end (joined 0 arc refl)).1 in
         let chain : IsChain (GroupWaits d) (group d arc.0 ∷ heads d circle) = IsChain-linked (group d arc.0) circle linked in
         record {
+          joined = joined;
           circle = record {
             first = group d arc.1;
             others = heads d arcs;
