@@ -1,10 +1,9 @@
 -- What good certificates imply: safe assignments, lanes that wait in a circle, and runs that deadlock.
-use Rattle.std.proofs.Common.{◌≡◌, ℕ, ◌-◌, ◌<◌, List, [], ◌∷◌, length, None, Result, Ok, sym, subst, arith}
+use Rattle.std.proofs.Common.{◌≡◌, ℕ, ◌<◌, List, length, Result, Ok, sym, subst, ◌∙◌, arith}
 use Rattle.std.specs.Prelude.{slice_index}
 use Rattle.std.proofs.lemmas.List.{get_or-map}
-use Rattle.std.proofs.lemmas.List.Elements.{All-cons, All-nil}
 use Rattle.wq_items.specs.Chain.{Circle}
-use Rattle.wq_groups.specs.Declaration.{Declaration, IsDeclaration, GroupWaits}
+use Rattle.wq_groups.specs.Declaration.{Declaration, IsDeclaration}
 use Rattle.wq_groups.specs.Assignment.{Assignment, IsAssignment, lane_of as lane_of_group}
 use Rattle.wq_core.specs.Wiring.{LaneWaits, wiring, lane_of}
 use Rattle.wq_core.specs.Deadlock.{IsSafe, Deadlocks, IsLeast}
@@ -16,7 +15,7 @@ use Rattle.wq_cert.specs.Certificate.{PlanCertificate, CircleCertificate, Certif
 use Rattle.wq_checker.specs.declared.answer.Yes.{Yes}
 use Rattle.wq_checker.specs.declared.answer.Yes.TheVariants as yes
 use Rattle.wq_checker.specs.declared.answer.No.{No}
-use Rattle.wq_checker.specs.Chains.{AllJoin, before_in_chain, before_in_circle}
+use Rattle.wq_checker.specs.Chains.{AllJoin, before_in_circle, IsChainAlong, IsCircleAlong}
 use Rattle.wq_checker.specs.Falling.{AllFall}
 use Rattle.wq_checker.specs.Answers.{IsGoodPlan, IsPlanAsked, IsCircleAsked, IsAsked, AnswersPlan, AnswersCircle, AnswersCertificate}
 use Rattle.wq_checker.specs.Implications.{YesIsSafe, FewerWaitInCircle, YesIsLeast, EachWaitsInCircle, EachDeadlocks}
@@ -34,19 +33,17 @@ module _ (d : Declaration) (is : IsDeclaration d) where
       omega (arith, one, other, falls i j waits)
       )
 
-  -- the chain is longer than the number of lanes
-  circle_from_arcs : (n : ℕ) (arcs : List (ℕ × ℕ)) → AllJoin d (before_in_chain arcs) arcs → length arcs ≡ n - 1 → (n ≡ 1 → ¬ (d.groups ≡ 0)) → (b : Assignment) → IsAssignment d.groups b → b.lanes < n → Circle (LaneWaits (wiring d b))
-  circle_from_arcs n [] joined count some b assignment fewer =
-      let alone : n ≡ 1 = omega (arith, count, fewer) in
-      let group : 0 < d.groups = omega (arith, some alone) in
-      Circle-few_lanes d b (0 ∷ []) assignment tt (All-cons (λ g. g < d.groups) 0 [] group (All-nil (λ g. g < d.groups))) (omega (arith, fewer, alone))
-  circle_from_arcs n (arc ∷ arcs) joined count some b assignment fewer =
-      let chain = chain_of_groups d is None arc arcs joined in
-      Circle-few_lanes d b chain.0 assignment chain.1 chain.2 (omega (arith, chain.3, count, fewer))
+  -- the chain is one of as many groups as there are lanes
+  pub IsChainAlong-good : (c : PlanCertificate) → IsPlanAsked d c → IsGoodPlan d c → (groups : List ℕ) × IsChainAlong d c.arcs groups × (length groups ≡ c.assignment.lanes)
+  IsChainAlong-good c asked good =
+      let chain = chain_of_groups d is c.length c.arcs good.joined asked.count (λ one none. good.has_group (one, none)) in
+      (chain.0, chain.1, chain.2 ∙ good.long)
 
+  -- so it is longer than the number of lanes of an assignment to fewer
   pub Circle-fewer : (c : PlanCertificate) → IsPlanAsked d c → IsGoodPlan d c → (b : Assignment) → IsAssignment d.groups b → b.lanes < c.assignment.lanes → Circle (LaneWaits (wiring d b))
   Circle-fewer c asked good b assignment fewer =
-      circle_from_arcs c.length c.arcs good.joined asked.count (λ one none. good.has_group (one, none)) b assignment (omega (arith, fewer, good.long))
+      let chain = IsChainAlong-good c asked good in
+      Circle-few_lanes d b chain.0 assignment chain.1.chain chain.1.within (omega (arith, fewer, chain.2))
 
   pub IsLeast-good : (c : PlanCertificate) → IsPlanAsked d c → IsGoodPlan d c → IsLeast d c.assignment
   IsLeast-good c asked good = record {
@@ -57,12 +54,11 @@ module _ (d : Declaration) (is : IsDeclaration d) where
 
   -- ---- circles
 
-  circle_from_round : (arcs : List (ℕ × ℕ)) → 0 < length arcs → AllJoin d (before_in_circle arcs) arcs → Circle (GroupWaits d)
-  circle_from_round [] some joined = absurd (omega arith)
-  circle_from_round (arc ∷ arcs) some joined = circle_of_groups d is arc arcs joined
+  pub IsCircleAlong-good : (c : CircleCertificate) → IsCircleAsked d c → AllJoin d (before_in_circle c.arcs) c.arcs → IsCircleAlong d c.arcs
+  IsCircleAlong-good c asked joined = circle_of_groups d is c.arcs asked.some joined
 
   pub Circle-any : (c : CircleCertificate) → IsCircleAsked d c → AllJoin d (before_in_circle c.arcs) c.arcs → (b : Assignment) → Circle (LaneWaits (wiring d b))
-  Circle-any c asked joined b = Circle-lanes d b (circle_from_round c.arcs asked.some joined)
+  Circle-any c asked joined b = Circle-lanes d b (IsCircleAlong-good c asked joined).circle
 
   pub Deadlocks-any : (c : CircleCertificate) → IsCircleAsked d c → AllJoin d (before_in_circle c.arcs) c.arcs → (b : Assignment) → IsAssignment d.groups b → Deadlocks (wiring d b)
   Deadlocks-any c asked joined b assignment = Deadlocks-circle (wiring d b) (IsWiring-wiring d b is assignment) (Circle-any c asked joined b)

@@ -1,25 +1,21 @@
 -- Arcs that join, as chains and circles of groups.
-use Rattle.std.proofs.Common.{◌≡◌, ℕ, zero, suc, ◌+◌, ◌-◌, ◌<◌, List, [], ◌∷◌, length, map, get_or, eqb, Option, Some, None, refl, sym, ap, subst, ◌∙◌, arith}
+use Rattle.std.proofs.Common.{◌≡◌, ℕ, zero, suc, ◌+◌, ◌-◌, ◌<◌, ◌≤◌, List, [], ◌∷◌, length, get_or, eqb, Option, Some, None, refl, sym, ap, subst, ◌∙◌, arith}
 use Rattle.std.specs.Prelude.{slice_get, slice_index}
 use Rattle.std.specs.List.{All}
 use Rattle.std.proofs.lemmas.Bool.{cond-false, ne_eqb}
 use Rattle.std.proofs.lemmas.List.{length-map}
 use Rattle.std.proofs.lemmas.List.Elements.{All-cons, All-nil}
-use Rattle.std.proofs.lemmas.Option.{slice_get-get_or}
-use Rattle.wq_items.specs.Chain.{IsChain, last_of, Circle}
+use Rattle.std.proofs.lemmas.Option.{slice_get-get_or, slice_get_within}
+use Rattle.wq_items.specs.Chain.{IsChain, last_of}
 use Rattle.wq_items.specs.Table.{ItemWaits}
 use Rattle.wq_items.proofs.Tables.{ItemWaits-below}
 use Rattle.wq_groups.specs.Declaration.{Declaration, IsDeclaration, GroupWaits}
-use Rattle.wq_checker.specs.Chains.{Joins, AllJoin, before_from, before_in_circle}
+use Rattle.wq_checker.specs.Chains.{Joins, AllJoin, before_from, before_in_circle, before_in_chain, IsChainAlong, heads, IsCircleAlong}
 use Rattle.wq_checker.proofs.FallingLemmas.{Declares-within, Declares-waits}
 
 -- the group of item i
 abbrev group : Declaration → ℕ → ℕ
 group d i = slice_index d.group_of i
-
--- the groups in which the arcs end
-abbrev heads : Declaration → List (ℕ × ℕ) → List ℕ
-heads d arcs = map (λ (arc : ℕ × ℕ). group d arc.1) arcs
 
 -- each arc is declared, and begins in the group in which the one before it ends, the first in group g
 abbrev Linked : Declaration → ℕ → List (ℕ × ℕ) → Type 0
@@ -84,17 +80,58 @@ module _ (d : Declaration) where
     heads-within g (arc ∷ arcs) linked =
         All-cons (λ h. h < d.groups) (group d arc.1) (heads d arcs) (group-within arc.1 (waits-target arc.0 arc.1 linked.0)) (heads-within (group d arc.1) arcs linked.2)
 
+    -- each arc is declared, and leads from its group to the next
+    along-linked : (g : ℕ) (arcs : List (ℕ × ℕ)) → Linked d g arcs → (k : ℕ) (arc : ℕ × ℕ) → slice_get arcs k ≡ Some arc
+        → ItemWaits d.waits arc.0 arc.1 × (slice_get (g ∷ heads d arcs) k ≡ Some (group d arc.0)) × (slice_get (heads d arcs) k ≡ Some (group d arc.1))
+    along-linked g [] linked k arc stands = absurd (omega (arith, slice_get_within [] k arc stands))
+    along-linked g (first ∷ arcs) linked zero arc stands =
+        let same : first ≡ arc = cc in
+        (subst (λ (a : ℕ × ℕ). ItemWaits d.waits a.0 a.1) same linked.0, ap (λ (h : ℕ). Some h) (sym linked.1 ∙ ap (λ (a : ℕ × ℕ). group d a.0) same), ap (λ (a : ℕ × ℕ). Some (group d a.1)) same)
+    along-linked g (first ∷ arcs) linked (suc k) arc stands = along-linked (group d first.1) arcs linked.2 k arc stands
+
     -- arcs that join are a chain of one group more
-    pub chain_of_groups : (first : Option (ℕ × ℕ)) (arc : ℕ × ℕ) (arcs : List (ℕ × ℕ)) → AllJoin d (before_from first (arc ∷ arcs)) (arc ∷ arcs)
-        → (groups : List ℕ) × IsChain (GroupWaits d) groups × All (λ g. g < d.groups) groups × (length groups ≡ length (arc ∷ arcs) + 1)
-    chain_of_groups first arc arcs joined =
+    IsChainAlong-joined : (first : Option (ℕ × ℕ)) (arc : ℕ × ℕ) (arcs : List (ℕ × ℕ)) → AllJoin d (before_from first (arc ∷ arcs)) (arc ∷ arcs)
+        → IsChainAlong d (arc ∷ arcs) (group d arc.0 ∷ heads d (arc ∷ arcs))
+    IsChainAlong-joined first arc arcs joined =
         let linked = Linked-from_first first arc arcs joined in
-        let g : ℕ = group d arc.0 in (
-          g ∷ heads d (arc ∷ arcs),
-          IsChain-linked g (arc ∷ arcs) linked,
-          All-cons (λ h. h < d.groups) g (heads d (arc ∷ arcs)) (group-within arc.0 (waits-item arc.0 arc.1 linked.0)) (heads-within g (arc ∷ arcs) linked),
-          omega (arith, length-map (arc ∷ arcs) (λ (a : ℕ × ℕ). group d a.1)),
+        let g : ℕ = group d arc.0 in
+        let long : length (heads d (arc ∷ arcs)) ≡ length (arc ∷ arcs) = length-map (arc ∷ arcs) (λ (a : ℕ × ℕ). group d a.1) in
+        record {
+          chain = IsChain-linked g (arc ∷ arcs) linked;
+          within = All-cons (λ h. h < d.groups) g (heads d (arc ∷ arcs)) (group-within arc.0 (waits-item arc.0 arc.1 linked.0)) (heads-within g (arc ∷ arcs) linked);
+          count = omega (arith, long);
+          along = λ k other stands.
+              let leads = along-linked g (arc ∷ arcs) linked k other stands in
+              let next : k + 1 ≡ suc k = omega arith in
+              (leads.0, leads.1, ap (slice_get (g ∷ heads d (arc ∷ arcs))) next ∙ leads.2);
+        }
+
+    -- a chain of one group, which is there, or of none
+    chain_alone : (n : ℕ) → n ≤ 1 → (n ≡ 1 → ¬ (d.groups ≡ 0)) → (groups : List ℕ) × IsChainAlong d [] groups × (length groups ≡ n)
+    chain_alone zero few some = (
+      [],
+      record { chain = tt; within = All-nil (λ h. h < d.groups); count = omega arith; along = λ k arc stands. absurd (omega (arith, slice_get_within [] k arc stands)) },
+      refl,
+    )
+    chain_alone (suc n) few some =
+        let some_group : 0 < d.groups = omega (arith, some (omega (arith, few))) in (
+          0 ∷ [],
+          record {
+            chain = tt;
+            within = All-cons (λ h. h < d.groups) 0 [] some_group (All-nil (λ h. h < d.groups));
+            count = omega arith;
+            along = λ k arc stands. absurd (omega (arith, slice_get_within [] k arc stands));
+          },
+          omega (arith, few),
         )
+
+    -- arcs that join are a chain of n groups, where there is one arc fewer
+    pub chain_of_groups : (n : ℕ) (arcs : List (ℕ × ℕ)) → AllJoin d (before_in_chain arcs) arcs → length arcs ≡ n - 1 → (n ≡ 1 → ¬ (d.groups ≡ 0))
+        → (groups : List ℕ) × IsChainAlong d arcs groups × (length groups ≡ n)
+    chain_of_groups n [] joined count some = chain_alone n (omega (arith, count)) some
+    chain_of_groups n (arc ∷ arcs) joined count some =
+        let long : length (heads d (arc ∷ arcs)) ≡ length (arc ∷ arcs) = length-map (arc ∷ arcs) (λ (a : ℕ × ℕ). group d a.1) in
+        (group d arc.0 ∷ heads d (arc ∷ arcs), IsChainAlong-joined None arc arcs joined, omega (arith, long, count))
 
     -- ---- circles
 
@@ -103,8 +140,8 @@ module _ (d : Declaration) where
     last_of-heads arc (next ∷ arcs) last stands = last_of-heads next arcs last stands
 
     -- arcs that join, the first the last, are a circle
-    pub circle_of_groups : (arc : ℕ × ℕ) (arcs : List (ℕ × ℕ)) → AllJoin d (before_in_circle (arc ∷ arcs)) (arc ∷ arcs) → Circle (GroupWaits d)
-    circle_of_groups arc arcs joined =
+    IsCircleAlong-joined : (arc : ℕ × ℕ) (arcs : List (ℕ × ℕ)) → AllJoin d (before_in_circle (arc ∷ arcs)) (arc ∷ arcs) → IsCircleAlong d (arc ∷ arcs)
+    IsCircleAlong-joined arc arcs joined =
         let circle : List (ℕ × ℕ) = arc ∷ arcs in
         let end : ℕ = length arcs in
         let last : ℕ × ℕ = get_or circle end arc in
@@ -114,8 +151,17 @@ module _ (d : Declaration) where
         let closed : group d last.1 ≡ group d arc.0 = (subst (λ (o : Option (ℕ × ℕ)). Joins d o arc) at_end (joined 0 arc refl)).1 in
         let chain : IsChain (GroupWaits d) (group d arc.0 ∷ heads d circle) = IsChain-linked (group d arc.0) circle linked in
         record {
-          first = group d arc.1;
-          others = heads d arcs;
-          chain = chain.1;
-          closes = subst (λ (g : ℕ). GroupWaits d g (group d arc.1)) (sym (last_of-heads arc arcs last stands ∙ closed)) chain.0;
+          joined = joined;
+          circle = record {
+            first = group d arc.1;
+            others = heads d arcs;
+            chain = chain.1;
+            closes = subst (λ (g : ℕ). GroupWaits d g (group d arc.1)) (sym (last_of-heads arc arcs last stands ∙ closed)) chain.0;
+          };
+          within = heads-within (group d arc.0) circle linked;
+          along = refl;
         }
+
+    pub circle_of_groups : (arcs : List (ℕ × ℕ)) → 0 < length arcs → AllJoin d (before_in_circle arcs) arcs → IsCircleAlong d arcs
+    circle_of_groups [] some joined = absurd (omega arith)
+    circle_of_groups (arc ∷ arcs) some joined = IsCircleAlong-joined arc arcs joined

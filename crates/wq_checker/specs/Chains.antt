@@ -1,7 +1,9 @@
 -- Chains and circles of arcs, where an arc is an item and the target of its flush: they join by group.
-use Rattle.std.specs.Prelude.{◌≡◌, ℕ, ◌-◌, ◌<◌, ◌==◌, if◌then◌else◌, List, length, slice_index, slice_get, Option, Some, None}
+use Rattle.std.specs.Prelude.{◌≡◌, ℕ, ◌+◌, ◌-◌, ◌<◌, ◌==◌, if◌then◌else◌, List, ◌∷◌, length, map, slice_index, slice_get, Option, Some, None}
+use Rattle.std.specs.List.{All}
+use Rattle.wq_items.specs.Chain.{IsChain, Circle}
 use Rattle.wq_items.specs.Table.{ItemWaits}
-use Rattle.wq_groups.specs.Declaration.{Declaration}
+use Rattle.wq_groups.specs.Declaration.{Declaration, GroupWaits}
 
 -- two items are in one group
 abbrev pub ShareGroup : Declaration → ℕ → ℕ → Type 0
@@ -35,3 +37,27 @@ pub record IsFirstBreak (d : Declaration) (before : ℕ → Option (ℕ × ℕ))
   pub stands : slice_get arcs (at - 1) ≡ Some arc
   pub breaks : ¬ Joins d (before (at - 1)) arc
   pub first : (k : ℕ) (other : ℕ × ℕ) → k < at - 1 → slice_get arcs k ≡ Some other → Joins d (before k) other
+
+-- ---- in words of groups
+
+-- these groups are a chain along the arcs: each waits for the next; there is one arc fewer than there are groups, none where
+-- there is no group; and each arc is a declared flush from its group to the next, its item in the one and its target in the
+-- other
+pub record IsChainAlong (d : Declaration) (arcs : List (ℕ × ℕ)) (groups : List ℕ) : Type 0 where
+  pub chain : IsChain (GroupWaits d) groups
+  pub within : All (λ g. g < d.groups) groups
+  pub count : length arcs ≡ length groups - 1
+  pub along : (k : ℕ) (arc : ℕ × ℕ) → slice_get arcs k ≡ Some arc
+      → ItemWaits d.waits arc.0 arc.1 × (slice_get groups k ≡ Some (slice_index d.group_of arc.0)) × (slice_get groups (k + 1) ≡ Some (slice_index d.group_of arc.1))
+
+-- the groups of the targets of the arcs
+abbrev pub heads : Declaration → List (ℕ × ℕ) → List ℕ
+heads d arcs = map (λ (arc : ℕ × ℕ). slice_index d.group_of arc.1) arcs
+
+-- groups wait for each other in a circle along the arcs: each arc is a declared flush, whose item is in the group where the one
+-- before it leads; and the groups where they lead, one for each arc, wait each for the next, and the last for the first
+pub record IsCircleAlong (d : Declaration) (arcs : List (ℕ × ℕ)) : Type 0 where
+  pub joined : AllJoin d (before_in_circle arcs) arcs
+  pub circle : Circle (GroupWaits d)
+  pub within : All (λ g. g < d.groups) (circle.first ∷ circle.others)
+  pub along : circle.first ∷ circle.others ≡ heads d arcs

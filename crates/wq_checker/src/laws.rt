@@ -2,7 +2,7 @@
 //!
 //! They are said of declarations, certificates and lists of steps alone, whatever code checks them.
 
-ghost use Rattle.std.specs.Prelude.{◌≡◌, ◌<◌, List, Result};
+ghost use Rattle.std.specs.Prelude.{◌≡◌, ℕ, ◌<◌, List, length, Result};
 ghost use Rattle.wq_items.specs.Chain.{Circle};
 ghost use Rattle.wq_groups.specs.Declaration.{Declaration, IsDeclaration};
 ghost use Rattle.wq_groups.specs.Assignment.{Assignment, IsAssignment};
@@ -13,6 +13,7 @@ ghost use Rattle.wq_cert.specs.Certificate.{PlanCertificate, CircleCertificate, 
 ghost use Rattle.wq_checker.specs.declared.answer.Yes.{Yes};
 ghost use Rattle.wq_checker.specs.declared.answer.No.{No};
 ghost use Rattle.wq_checker.specs.declared.run.RunEnd.{RunEnd};
+ghost use Rattle.wq_checker.specs.Chains.{IsChainAlong, IsCircleAlong};
 ghost use Rattle.wq_checker.specs.Answers.{IsGoodPlan, IsGoodCircle, IsPlanAsked, IsCircleAsked, IsAsked, AnswersCertificate};
 ghost use Rattle.wq_checker.specs.RunEnds.{EndsAs};
 
@@ -26,6 +27,18 @@ pub fn a_good_plan_is_safe_and_fewer_wait_in_a_circle()
 /// The assignment of a good plan is least: no run of it ends stuck, and every assignment to fewer workqueues deadlocks.
 pub fn a_good_plan_is_least()
     ensures { (d : Declaration) (c : PlanCertificate) → IsDeclaration d → IsPlanAsked d c → IsGoodPlan d c → IsLeast d c.assignment }
+{}
+
+/// The chain of a good plan is one of groups: as many as there are workqueues, each of which waits for the next, and the arcs
+/// lead from each to the next.
+pub fn a_good_plan_has_a_chain_of_groups()
+    ensures { (d : Declaration) (c : PlanCertificate) → IsDeclaration d → IsPlanAsked d c → IsGoodPlan d c →
+        (groups : List ℕ) × IsChainAlong d c.arcs groups × (length groups ≡ c.assignment.lanes) }
+{}
+
+/// A good circle goes round groups, one for each of its arcs: each waits for the next, and the last for the first.
+pub fn a_good_circle_goes_round_groups()
+    ensures { (d : Declaration) (c : CircleCertificate) → IsDeclaration d → IsCircleAsked d c → IsGoodCircle d c → IsCircleAlong d c.arcs }
 {}
 
 /// Where a circle is good, the workqueues of every assignment wait in a circle.

@@ -1,5 +1,5 @@
 -- Verdicts on assignments: a text has one, and a run that is printed is replayed to a deadlock.
-use Rattle.std.proofs.Common.{◌≡◌, ℕ, ◌+◌, ◌<◌, ◌≤◌, nat_lt, false, inl, inr, List, length, ◌++◌, Option, Result, Ok, Err, refl, sym, ap, subst, ◌∙◌, arith}
+use Rattle.std.proofs.Common.{◌≡◌, ℕ, ◌+◌, ◌≤◌, inl, inr, List, length, Option, Result, Ok, Err, refl, sym, ap, subst, ◌∙◌, arith}
 use Rattle.std.specs.Prelude.{MatchResult, take}
 use Rattle.std.proofs.lemmas.Result.{MatchResult-weaker}
 use Rattle.wq_text.specs.Refusal.{Refusal}
@@ -79,10 +79,10 @@ module _ (s : Declared) (sound : IsSound s) (a : Assignment) (assigned : IsAssig
   not_both steps safe deadlock = not_safe-deadlocks (wiring (declared_waits s) a) (steps, deadlock.deadlocks) safe
 
   JudgesAssigned-unique : (end other : End) (out printed : List ℕ) → JudgesAssigned s a end out → JudgesAssigned s a other printed → (end ≡ other) × (out ≡ printed)
-  JudgesAssigned-unique Good Good out printed one two = (refl, one.1 ∙ sym two.1)
-  JudgesAssigned-unique Good Bad out printed one two = absurd (not_both two.0 one.0 two.1)
+  JudgesAssigned-unique Good Good out printed one two = (refl, one.2 ∙ sym two.2)
+  JudgesAssigned-unique Good Bad out printed one two = absurd (not_both two.0 one.1 two.1)
   JudgesAssigned-unique Good Refused out printed one two = absurd two
-  JudgesAssigned-unique Bad Good out printed one two = absurd (not_both one.0 two.0 one.1)
+  JudgesAssigned-unique Bad Good out printed one two = absurd (not_both one.0 two.1 one.1)
   JudgesAssigned-unique Bad Bad out printed one two = (refl, one.2 ∙ ap (run_text s.table.names) (same_run one.0 two.0 one.1 two.1) ∙ sym two.2)
   JudgesAssigned-unique Bad Refused out printed one two = absurd two
   JudgesAssigned-unique Refused other out printed one two = absurd one
@@ -96,7 +96,7 @@ module _ (s : Declared) (sound : IsSound s) (a : Assignment) (assigned : IsAssig
   JudgesAssigned-exist = elim (AreRanks-or_walk (lane_graph (declared_waits s) a) graph) [
     | inl ranks ↦
         let safe = IsSafeByRanks-ranks (declared_waits s) a is_declaration assigned.assignment assigned.few ranks.0 ranks.1 in
-        (Good, safe_text, (safe.safe, refl))
+        (Good, safe_text, (safe.assignment, safe.safe, refl))
     | inr walk ↦ let deadlock = IsDeadlock-exists walk.0 walk.1 in (Bad, run_text s.table.names deadlock.0, (deadlock.0, deadlock.1, refl))
   ]
 

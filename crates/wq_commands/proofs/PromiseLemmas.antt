@@ -1,6 +1,6 @@
 -- Answers keep what they promise: what is printed is read back, and it is true.
 use Rattle.std.proofs.Common.{◌≡◌, ℕ, zero, suc, ◌+◌, ◌-◌, ◌<◌, ◌≤◌, ◌==◌, Bool, cond, inl, inr, List, [], ◌∷◌, length, map, get_or, Option, Some, None, Result, Ok, Err, refl, sym, ap, subst, ◌∙◌, arith}
-use Rattle.std.specs.Prelude.{MatchResult, slice_index, slice_get, option_map, if◌then◌else◌}
+use Rattle.std.specs.Prelude.{MatchResult, slice_index, slice_get, option_map, if◌then◌else◌, ◌⊎◌}
 use Rattle.std.specs.List.{All, AllAdjacentBelow}
 use Rattle.std.proofs.lemmas.Bool.{ne_eqb, cases_lt}
 use Rattle.std.proofs.lemmas.List.{length-map, get_or_past}
@@ -19,8 +19,9 @@ use Rattle.wq_plan.proofs.Plans.{IsPlan-lanes, IsPlan-falls, IsLeast-plan, IsCir
 use Rattle.wq_core.specs.declared.step.Step.{Step}
 use Rattle.wq_core.specs.Wiring.{wiring, own_lanes}
 use Rattle.wq_deadlock.specs.CircleRun.{IsCircleRun}
-use Rattle.wq_cert.specs.Certificate.{OfPlan, OfCircle}
-use Rattle.wq_cert.specs.Texts.{answer_of}
+use Rattle.wq_cert.specs.declared.fault.CertError.{CertError}
+use Rattle.wq_cert.specs.Certificate.{Certificate, PlanCertificate, CircleCertificate, OfPlan, OfCircle}
+use Rattle.wq_cert.specs.Texts.{answer_of, cert_refusal}
 use Rattle.wq_cert.proofs.PrintedPlans.{answer_of-plan, assignment_of_text-plan}
 use Rattle.wq_cert.proofs.PrintedCircles.{answer_of-circle}
 use Rattle.wq_items.specs.declared.target.Target.{Target}
@@ -28,16 +29,21 @@ use Rattle.wq_items.specs.Table.{ItemWaits, targets_of}
 use Rattle.wq_items.proofs.Tables.{ItemWaits-below}
 use Rattle.wq_checker.specs.Chains.{Joins, AllJoin, before_from, before_in_chain, before_in_circle}
 use Rattle.wq_checker.specs.Falling.{AllFall}
+use Rattle.wq_checker.specs.declared.answer.Yes.{Yes}
 use Rattle.wq_checker.specs.declared.answer.Yes.TheVariants as yes
+use Rattle.wq_checker.specs.declared.answer.No.{No}
+use Rattle.wq_checker.specs.Answers.{IsGoodPlan, AnswersPlan, AnswersCircle}
+use Rattle.wq_checker.proofs.GoodAnswers.{IsChainAlong-good, IsLeast-good, IsCircleAlong-good, Deadlocks-any}
 use Rattle.wq_commands.specs.declared.end.End.{End}
 use Rattle.wq_commands.specs.declared.end.End.TheVariants.{Good, Bad, Refused}
-use Rattle.wq_commands.specs.Answer.{Answers, AnswersDeclared, ends_of, declared_waits, text_of_plan, text_of_circle, refusal_text}
+use Rattle.wq_commands.specs.Answer.{Answers, AnswersDeclared, ends_of, declared_waits, text_of_plan, text_of_circle, refusal_text, IsRefused}
 use Rattle.wq_commands.specs.Declaration.{Declared, declaration}
 use Rattle.wq_cert.specs.LineText.{line_text}
-use Rattle.wq_commands.specs.Checking.{yes_words, ChecksDeclared}
-use Rattle.wq_commands.specs.PrintedChecked.{ChecksYes, ChecksYesOf}
-use Rattle.wq_commands.proofs.CheckLemmas.{MatchResult-ok}
+use Rattle.wq_commands.specs.Checking.{yes_words, PrintsCheck, AnswersCheck, ChecksDeclared, Checks}
+use Rattle.wq_commands.specs.PrintedChecked.{ChecksYesPlan, ChecksYesCircle, ChecksYesOf, ChecksYes}
+use Rattle.wq_commands.proofs.CheckLemmas.{MatchResult-ok, IsAsked-read}
 use Rattle.wq_commands.specs.Promise.{KeepsPlan, KeepsCircle, KeepsDeclared, KeepsPromise}
+use Rattle.wq_commands.specs.YesIsTrue.{IsTrueOfPlan, IsTrueOfCircle, YesIsTrue}
 use Rattle.wq_commands.proofs.TextLength.{length-circled}
 use Rattle.wq_commands.proofs.AnswerLemmas.{IsSound, IsSound-declaration, IsDeclaration-sound, ArePrintable, ArePrintable-plan, ArePrintable-walked}
 use Rattle.wq_commands.proofs.CircleRuns.{DeadlocksBy-own_lanes, IsAssignmentOf-own_lanes}
@@ -147,17 +153,24 @@ module _ (s : Declared) (sound : IsSound s) where
       let none : a.lanes ≡ 0 → arcs ≡ [] = λ zero_lanes. length_zero arcs (omega (arith, many, longest.count, zero_lanes)) in
       let long : (if a.lanes == 0 then 0 else length arcs + 1) ≡ a.lanes = chain_length a.lanes (length arcs) (omega (arith, many, longest.count)) in
       let lanes : a.lanes ≤ 4096 = omega (arith, few, is.partition.few_groups, is.partition.few_items) in
+      let said : PlanCertificate = record { assignment = a; length = if a.lanes == 0 then 0 else length arcs + 1; arcs = arcs } in
+      let read = answer_of-plan s.table s.partition a arcs sound.table sound.partition sound.one_group_each least.assignment lanes prints.items short none in
+      let good : IsGoodPlan d said = record {
+        falls = AllFall-plan s sound a plan;
+        long = long;
+        has_group = λ lacks. absurd (omega (arith, long, few, lacks.0, lacks.1));
+        joined = AllJoin-chain s a chain longest;
+      } in
+      let along = IsChainAlong-good d is said (IsAsked-read s (text_of_plan s a) (OfPlan said) sound read) good in
       record {
-        plan = record { assignment = a; length = if a.lanes == 0 then 0 else length arcs + 1; arcs = arcs };
-        read = answer_of-plan s.table s.partition a arcs sound.table sound.partition sound.one_group_each least.assignment lanes prints.items short none;
+        plan = said;
+        read = read;
         assignment = assignment_of_text-plan s.table s.partition a arcs sound.table sound.partition sound.one_group_each least.assignment lanes prints.items short none;
         least = least;
-        good = record {
-          falls = AllFall-plan s sound a plan;
-          long = long;
-          has_group = λ lacks. absurd (omega (arith, long, few, lacks.0, lacks.1));
-          joined = AllJoin-chain s a chain longest;
-        };
+        good = good;
+        chain = along.0;
+        is_chain = along.1;
+        long = along.2;
       }
 
   KeepsCircle-printed : (circle : List WaitArc) (steps : List Step) → IsWalkedCircle (group_graph (declared_waits s)) circle
@@ -171,10 +184,14 @@ module _ (s : Declared) (sound : IsSound s) where
       let prints : ArePrintable s.table arcs = ArePrintable-walked s circle arcs sound walked refl in
       let some : 0 < length circle = slice_get_within circle 0 round.first round.begins in
       let deadlocks = DeadlocksBy-own_lanes s sound circle steps walked is_run in
+      let said : CircleCertificate = record { arcs = arcs; steps = Some steps } in
+      let read = answer_of-circle s.table sound.table s.partition arcs (Some steps) (omega (arith, some, many)) prints.few prints.items (IsStepOf-deadlock s sound (own_lanes s.partition.groups) (IsAssignmentOf-own_lanes s sound) steps deadlocks) (length-circled s sound circle steps walked is_run) in
+      let joined = AllJoin-circle s circle round in
       record {
-        circle = record { arcs = arcs; steps = Some steps };
-        read = answer_of-circle s.table sound.table s.partition arcs (Some steps) (omega (arith, some, many)) prints.few prints.items (IsStepOf-deadlock s sound (own_lanes s.partition.groups) (IsAssignmentOf-own_lanes s sound) steps deadlocks) (length-circled s sound circle steps walked is_run);
-        good = record { joined = AllJoin-circle s circle round; deadlocks = deadlocks };
+        circle = said;
+        read = read;
+        good = record { joined = joined; deadlocks = deadlocks };
+        goes_round = IsCircleAlong-good d is said (IsAsked-read s (text_of_circle s circle steps) (OfCircle said) sound read) joined;
         steps = steps;
         has_run = refl;
         run_deadlocks = deadlocks;
@@ -203,17 +220,20 @@ KeepsPromise-answers text end out answers = keeps (declaration text) end out (Is
 pub Checks-answers : (text out : List ℕ) (end : End) → Answers text end out → ChecksYes text out end
 Checks-answers text out end answers = checked (declaration text) end (keeps (declaration text) end out (IsSound-declaration text) answers)
   where
-    plan_checked : (s : Declared) → KeepsPlan s out → (n : ℕ) × ChecksDeclared s out Good (line_text (yes_words (yes.Plan n)))
-    plan_checked s kept = (
-      kept.plan.assignment.lanes,
-      MatchResult-ok (answer_of s.table.names s.partition out) (OfPlan kept.plan) _ _ kept.read (Ok (yes.Plan kept.plan.assignment.lanes), (kept.good, refl), (refl, refl)),
-    )
+    plan_checked : (s : Declared) → KeepsPlan s out → ChecksYesPlan s out
+    plan_checked s kept = record {
+      plan = kept.plan;
+      read = kept.read;
+      assignment = kept.assignment;
+      checked = MatchResult-ok (answer_of s.table.names s.partition out) (OfPlan kept.plan) _ _ kept.read (Ok (yes.Plan kept.plan.assignment.lanes), (kept.good, refl), (refl, refl));
+    }
 
-    circle_checked : (s : Declared) → KeepsCircle s out → (n : ℕ) × ChecksDeclared s out Good (line_text (yes_words (yes.Circle n)))
-    circle_checked s kept = (
-      length kept.circle.arcs,
-      MatchResult-ok (answer_of s.table.names s.partition out) (OfCircle kept.circle) _ _ kept.read (Ok (yes.Circle (length kept.circle.arcs)), (kept.good, refl), (refl, refl)),
-    )
+    circle_checked : (s : Declared) → KeepsCircle s out → ChecksYesCircle s out
+    circle_checked s kept = record {
+      circle = kept.circle;
+      read = kept.read;
+      checked = MatchResult-ok (answer_of s.table.names s.partition out) (OfCircle kept.circle) _ _ kept.read (Ok (yes.Circle (length kept.circle.arcs)), (kept.good, refl), (refl, refl));
+    }
 
     checked : (declared : Result Declared Refusal) (end : End) → MatchResult declared (λ s. KeepsDeclared s end out) (λ r. end ≡ Refused) → ChecksYesOf declared out end
     checked (Ok s) Good kept = plan_checked s kept
@@ -222,3 +242,63 @@ Checks-answers text out end answers = checked (declaration text) end (keeps (dec
     checked (Err r) Good kept = absurd cc
     checked (Err r) Bad kept = absurd cc
     checked (Err r) Refused kept = tt
+
+-- ---- a yes is true
+
+module _ (s : Declared) (sound : IsSound s) (claim out : List ℕ) where
+  -- of a plan that is read
+  yes_to_plan : (plan : PlanCertificate) → answer_of s.table.names s.partition claim ≡ Ok (OfPlan plan) → (answer : Result Yes No)
+      → AnswersPlan (declared_waits s) plan answer → PrintsCheck s.table.names answer Good out → IsTrueOfPlan s claim out
+  yes_to_plan plan read (Ok (yes.Plan number)) answers prints =
+      let d = declared_waits s in
+      let is = IsDeclaration-sound s sound in
+      let asked = IsAsked-read s claim (OfPlan plan) sound read in
+      let along = IsChainAlong-good d is plan asked answers.0 in
+      record {
+        plan = plan;
+        read = read;
+        printed = prints.1 ∙ ap (λ n. line_text (yes_words (yes.Plan n))) answers.1;
+        least = IsLeast-good d is plan asked answers.0;
+        chain = along.0;
+        is_chain = along.1;
+        long = along.2;
+      }
+  yes_to_plan plan read (Ok (yes.Circle n)) answers prints = absurd answers
+  yes_to_plan plan read (Err reason) answers prints = absurd cc
+
+  -- of a circle that is read
+  yes_to_circle : (circle : CircleCertificate) → answer_of s.table.names s.partition claim ≡ Ok (OfCircle circle) → (answer : Result Yes No)
+      → AnswersCircle (declared_waits s) circle answer → PrintsCheck s.table.names answer Good out → IsTrueOfCircle s claim out
+  yes_to_circle circle read (Ok (yes.Plan number)) answers prints = absurd answers
+  yes_to_circle circle read (Ok (yes.Circle n)) answers prints =
+      let d = declared_waits s in
+      let is = IsDeclaration-sound s sound in
+      let asked = IsAsked-read s claim (OfCircle circle) sound read in
+      let joined = answers.0.joined in
+      record {
+        circle = circle;
+        read = read;
+        printed = prints.1 ∙ ap (λ m. line_text (yes_words (yes.Circle m))) answers.1;
+        goes_round = IsCircleAlong-good d is circle asked joined;
+        deadlocks = Deadlocks-any d is circle asked joined;
+      }
+  yes_to_circle circle read (Err reason) answers prints = absurd cc
+
+  yes_to_certificate : (c : Certificate) → answer_of s.table.names s.partition claim ≡ Ok c → AnswersCheck s c Good out → IsTrueOfPlan s claim out ⊎ IsTrueOfCircle s claim out
+  yes_to_certificate (OfPlan plan) read checks = inl (yes_to_plan plan read checks.0 checks.1 checks.2)
+  yes_to_certificate (OfCircle circle) read checks = inr (yes_to_circle circle read checks.0 checks.1 checks.2)
+
+  yes_to_claim : (r : Result Certificate CertError) → answer_of s.table.names s.partition claim ≡ r
+      → MatchResult r (λ c. AnswersCheck s c Good out) (λ fault. IsRefused (cert_refusal fault) Good out) → IsTrueOfPlan s claim out ⊎ IsTrueOfCircle s claim out
+  yes_to_claim (Ok c) read checks = yes_to_certificate c read checks
+  yes_to_claim (Err fault) read refused = absurd cc
+
+yes_to_declared : (declared : Result Declared Refusal) (claim out : List ℕ) → ((s : Declared) → declared ≡ Ok s → IsSound s)
+    → MatchResult declared (λ s. ChecksDeclared s claim Good out) (λ r. IsRefused r Good out)
+    → MatchResult declared (λ s. IsTrueOfPlan s claim out ⊎ IsTrueOfCircle s claim out) (λ r. ⊥)
+yes_to_declared (Ok s) claim out sound checks = yes_to_claim s (sound s refl) claim out (answer_of s.table.names s.partition claim) refl checks
+yes_to_declared (Err r) claim out sound refused = absurd cc
+
+-- a yes that is printed is true
+pub YesIsTrue-checks : (text claim out : List ℕ) → Checks text claim Good out → YesIsTrue text claim out
+YesIsTrue-checks text claim out checks = yes_to_declared (declaration text) claim out (IsSound-declaration text) checks

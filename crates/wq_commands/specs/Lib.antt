@@ -11,6 +11,7 @@ pub mod Input
 pub mod Promise
 pub mod PrintedChecked
 pub mod Checking
+pub mod YesIsTrue
 pub mod CheckInput
 pub mod Replaying
 pub mod Deadlocking

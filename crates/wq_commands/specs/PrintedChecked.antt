@@ -1,17 +1,32 @@
 -- What `check` answers to what `plan` prints.
-use Rattle.std.specs.Prelude.{ℕ, List, Result, Ok, Err}
+use Rattle.std.specs.Prelude.{◌≡◌, ℕ, List, length, Result, Ok, Err}
 use Rattle.wq_text.specs.Refusal.{Refusal}
+use Rattle.wq_cert.specs.Certificate.{PlanCertificate, CircleCertificate, OfPlan, OfCircle}
 use Rattle.wq_cert.specs.LineText.{line_text}
+use Rattle.wq_cert.specs.Texts.{answer_of, assignment_of_text}
 use Rattle.wq_checker.specs.declared.answer.Yes.TheVariants as yes
 use Rattle.wq_commands.specs.declared.end.End.{End}
 use Rattle.wq_commands.specs.declared.end.End.TheVariants.{Good, Bad, Refused}
 use Rattle.wq_commands.specs.Checking.{yes_words, ChecksDeclared}
 use Rattle.wq_commands.specs.Declaration.{Declared, declaration}
 
+-- a plan is read from the bytes, and the answer to them is `yes K`, with K the number of its workqueues
+pub record ChecksYesPlan (s : Declared) (out : List ℕ) : Type 0 where
+  pub plan : PlanCertificate
+  pub read : answer_of s.table.names s.partition out ≡ Ok (OfPlan plan)
+  pub assignment : assignment_of_text s.table.names s.partition out ≡ Ok plan.assignment
+  pub checked : ChecksDeclared s out Good (line_text (yes_words (yes.Plan plan.assignment.lanes)))
+
+-- a circle is read from the bytes, and the answer to them is `yes circle N`, with N the number of its arcs
+pub record ChecksYesCircle (s : Declared) (out : List ℕ) : Type 0 where
+  pub circle : CircleCertificate
+  pub read : answer_of s.table.names s.partition out ≡ Ok (OfCircle circle)
+  pub checked : ChecksDeclared s out Good (line_text (yes_words (yes.Circle (length circle.arcs))))
+
 -- of a plan that is printed the answer is `yes K`, and of a circle with its run `yes circle N`
 abbrev pub ChecksYesDeclared : Declared → List ℕ → End → Type 0
-ChecksYesDeclared s out Good = (number : ℕ) × ChecksDeclared s out Good (line_text (yes_words (yes.Plan number)))
-ChecksYesDeclared s out Bad = (n : ℕ) × ChecksDeclared s out Good (line_text (yes_words (yes.Circle n)))
+ChecksYesDeclared s out Good = ChecksYesPlan s out
+ChecksYesDeclared s out Bad = ChecksYesCircle s out
 ChecksYesDeclared s out Refused = ⊥
 
 -- the same of what a text declares; nothing is said of a text that is refused

@@ -1,5 +1,5 @@
 -- What an answer promises, said of the bytes that are printed.
-use Rattle.std.specs.Prelude.{◌≡◌, ℕ, List, Some, Ok, MatchResult}
+use Rattle.std.specs.Prelude.{◌≡◌, ℕ, List, length, Some, Ok, MatchResult}
 use Rattle.wq_groups.specs.Assignment.{Assignment, IsAssignment}
 use Rattle.wq_core.specs.declared.step.Step.{Step}
 use Rattle.wq_core.specs.Wiring.{wiring, own_lanes}
@@ -7,27 +7,33 @@ use Rattle.wq_core.specs.Deadlock.{DeadlocksBy, Deadlocks, IsLeast}
 use Rattle.wq_cert.specs.Certificate.{PlanCertificate, CircleCertificate, OfPlan, OfCircle}
 use Rattle.wq_cert.specs.Texts.{answer_of, assignment_of_text}
 use Rattle.wq_checker.specs.Answers.{IsGoodPlan, IsGoodCircle}
+use Rattle.wq_checker.specs.Chains.{IsChainAlong, IsCircleAlong}
 use Rattle.wq_commands.specs.declared.end.End.{End}
 use Rattle.wq_commands.specs.declared.end.End.TheVariants.{Good, Bad, Refused}
 use Rattle.wq_commands.specs.Answer.{declared_waits}
 use Rattle.wq_commands.specs.Declaration.{Declared, declaration}
 
 -- a plan is read from the bytes; its assignment lets no run end stuck, and every assignment to fewer workqueues has a run
--- that ends stuck, with each item queued once and flushing as declared; the chain has as many groups as there are workqueues
--- (`long` of `good`), each of which waits for the next
+-- that ends stuck, with each item queued once and flushing as declared; the checker calls it good; and the printed arcs are
+-- those of a chain of as many groups as there are workqueues, each of which waits for the next
 pub record KeepsPlan (s : Declared) (out : List ℕ) : Type 0 where
   pub plan : PlanCertificate
   pub read : answer_of s.table.names s.partition out ≡ Ok (OfPlan plan)
   pub assignment : assignment_of_text s.table.names s.partition out ≡ Ok plan.assignment
   pub least : IsLeast (declared_waits s) plan.assignment
   pub good : IsGoodPlan (declared_waits s) plan
+  pub chain : List ℕ
+  pub is_chain : IsChainAlong (declared_waits s) plan.arcs chain
+  pub long : length chain ≡ plan.assignment.lanes
 
--- a circle is read from the bytes, with a run behind it; its arcs go round groups (`good`); the run deadlocks where each group
--- has a workqueue of its own; and every assignment has a run that deadlocks
+-- a circle is read from the bytes, with a run behind it; the checker calls it good; the printed arcs go round groups, one for
+-- each arc, each of which waits for the next; the run deadlocks where each group has a workqueue of its own; and every
+-- assignment has a run that deadlocks
 pub record KeepsCircle (s : Declared) (out : List ℕ) : Type 0 where
   pub circle : CircleCertificate
   pub read : answer_of s.table.names s.partition out ≡ Ok (OfCircle circle)
   pub good : IsGoodCircle (declared_waits s) circle
+  pub goes_round : IsCircleAlong (declared_waits s) circle.arcs
   pub steps : List Step
   pub has_run : circle.steps ≡ Some steps
   pub run_deadlocks : DeadlocksBy (wiring (declared_waits s) (own_lanes s.partition.groups)) steps

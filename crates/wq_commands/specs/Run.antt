@@ -3,7 +3,7 @@ use Rattle.std.specs.Prelude.{ℕ, List, Option}
 use Rattle.wq_commands.specs.declared.end.End.{End}
 use Rattle.wq_commands.specs.Answer.{Answers}
 use Rattle.wq_commands.specs.Declaration.{max_text}
-use Rattle.wq_commands.specs.Input.{IsInput, Gives}
+use Rattle.wq_commands.specs.Input.{Gives}
 use Rattle.wq_commands.specs.Promise.{KeepsPromise}
 use Rattle.wq_meter.specs.Meter.{Meter}
 
@@ -13,8 +13,7 @@ pub record AnswersInput {R : Type 0} (remaining : R → Option (List ℕ)) (old 
   pub given : Gives remaining old new max_text text
   pub answer : Answers text end out
 
--- this answers the text that a reader had, and keeps what it promises
-pub record KeepsPromiseOfInput {R : Type 0} (remaining : R → Option (List ℕ)) (old : Meter R) (end : End) (out : List ℕ) : Type 0 where
-  pub text : List ℕ
-  pub input : IsInput (remaining old.device) text
-  pub promise : KeepsPromise text end out
+-- this is the answer to the text that a reader had, and it keeps what is promised of the answer to that text
+pub record KeepsPromiseOfInput {R : Type 0} (remaining : R → Option (List ℕ)) (old new : Meter R) (end : End) (out : List ℕ) : Type 0 where
+  pub answered : AnswersInput remaining old new end out
+  pub promise : KeepsPromise answered.text end out

@@ -7,7 +7,7 @@ ghost use Rattle.std.specs.Prelude.{◌≡◌, ◌≢◌, ◌≤◌, ◌+◌, �
 ghost use Rattle.wq_meter.specs.Meter.{count_after, LosesFront, WritesFront, WritesWhole};
 ghost use Rattle.wq_cert.specs.Texts.{max_text as max_certificate};
 ghost use Rattle.wq_commands.specs.Declaration.{max_text};
-ghost use Rattle.wq_commands.specs.CheckInput.{ChecksInput};
+ghost use Rattle.wq_commands.specs.CheckInput.{ChecksInput, KeepsYesOfInput};
 ghost use Rattle.wq_commands.specs.Input.{AfterGiven, HasFailed, HasGiven};
 ghost use Rattle.wq_commands.specs.declared.end.End.{End};
 
@@ -37,6 +37,14 @@ pub fn check_cmd<D: Read, C: Read, W: Write, A: Allocator + Copy>(
     // The answer to the texts that the readers had is written, and nothing else.
     ensures answered { IfOk result (λ end. (out : List ℕ)
         × ChecksInput D.remaining C.remaining declaration.old declaration.new certificate.old certificate.new end out
+        × WritesWhole W.contents writer.old writer.new out) }
+
+    // This answer is true where it is a yes. To a plan it is `yes K`: its assignment has K workqueues and lets no run of
+    // queueings, cancellations and rescuer steps end stuck, and every assignment to fewer workqueues has a run, with each
+    // item queued once and flushing as declared, that ends stuck. To a circle it is `yes circle N`: its N arcs go round
+    // groups, and every assignment has such a run.
+    ensures promised { IfOk result (λ end. (out : List ℕ)
+        × KeepsYesOfInput D.remaining C.remaining declaration.old declaration.new certificate.old certificate.new end out
         × WritesWhole W.contents writer.old writer.new out) }
 
     // What a fault leaves.

@@ -3,6 +3,8 @@
 //! The examples are computed on the definitions, so that a reader can hold these against the format's own.
 
 ghost use Rattle.std.specs.Prelude.{◌≡◌, ℕ, ◌+◌, ◌<◌, ◌≤◌, List, length, take, codes, Ok, Err};
+ghost use Rattle.wq_items.specs.Table.{IsTable};
+ghost use Rattle.wq_groups.specs.Partition.{IsPartition};
 ghost use Rattle.wq_groups.specs.Declaration.{IsDeclaration};
 ghost use Rattle.std.specs.List.{All};
 ghost use Rattle.wq_text.specs.Lines.{LineView, lines_of};
@@ -20,6 +22,7 @@ ghost use Rattle.wq_commands.specs.Answer.{Answers, declared_waits, text_of_plan
 ghost use Rattle.wq_commands.specs.Promise.{KeepsPromise};
 ghost use Rattle.wq_commands.specs.PrintedChecked.{ChecksYes};
 ghost use Rattle.wq_commands.specs.Checking.{Checks};
+ghost use Rattle.wq_commands.specs.YesIsTrue.{YesIsTrue};
 ghost use Rattle.wq_commands.specs.Replaying.{replay_words, Replays};
 ghost use Rattle.wq_commands.specs.Deadlocking.{Judges};
 ghost use Rattle.wq_commands.specs.Declaration.{Declared, declaration, max_text};
@@ -34,15 +37,25 @@ pub fn a_text_has_one_answer()
 
 /// An answer keeps what it promises. Of a plan text: the assignment that is read from it lets no run end stuck, every
 /// assignment to fewer workqueues has a run that ends stuck, with each item queued once and flushing as declared, and the
-/// printed chain has as many groups as there are workqueues. Of a circle text: its arcs go round groups, the run that is
-/// read from it is such a run where each group has a workqueue of its own, and every assignment has such a run.
+/// printed arcs are those of a chain of as many groups as there are workqueues. Of a circle text: its arcs go round groups,
+/// the run that is read from it is such a run where each group has a workqueue of its own, and every assignment has such a
+/// run.
 pub fn an_answer_keeps_its_promise()
     ensures { (text : List ℕ) (end : End) (out : List ℕ) → Answers text end out → KeepsPromise text end out }
 {}
 
-/// What `plan` prints is answered with yes: of a plan `check` prints `yes K`, and of a circle with its run `yes circle N`.
+/// What `plan` prints is answered with yes: of a plan of K workqueues `check` prints `yes K`, and of a circle of N arcs with
+/// its run `yes circle N`.
 pub fn a_printed_answer_is_checked_with_yes()
     ensures { (text out : List ℕ) (end : End) → Answers text end out → ChecksYes text out end }
+{}
+
+/// A yes that `check` prints is true. To a plan it is `yes K`, with K the workqueues of the assignment that is read from the
+/// certificate: no run of this one ends stuck, and every assignment to fewer workqueues has a run that ends stuck, with each
+/// item queued once and flushing as declared. To a circle it is `yes circle N`, with N the arcs that are read: they go round
+/// groups, and every assignment has such a run.
+pub fn a_printed_yes_is_true()
+    ensures { (text claim out : List ℕ) → Checks text claim Good out → YesIsTrue text claim out }
 {}
 
 /// A text has an answer.
@@ -154,7 +167,12 @@ pub fn a_replay_has_an_answer()
 {}
 
 /// What a text declares is a declaration: one list of flushes and one group for each item, and at most 16,384 flushes, each
-/// of an item and at a place of its own.
+/// of an item and at a place of its own. Its table and its groups are what the laws on tables and groups ask for, with a group
+/// for each item of the table.
 pub fn what_a_text_declares_is_a_declaration()
-    ensures { (text : List ℕ) (s : Declared) → declaration text ≡ Ok s → IsDeclaration (declared_waits s) }
+    ensures declared { (text : List ℕ) (s : Declared) → declaration text ≡ Ok s → IsDeclaration (declared_waits s) }
+    ensures table { (text : List ℕ) (s : Declared) → declaration text ≡ Ok s → IsTable s.table }
+    ensures partition { (text : List ℕ) (s : Declared) → declaration text ≡ Ok s → IsPartition s.partition }
+    ensures one_group_each { (text : List ℕ) (s : Declared) → declaration text ≡ Ok s →
+        length s.partition.group_of ≡ length s.table.names }
 {}

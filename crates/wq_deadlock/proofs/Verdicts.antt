@@ -90,6 +90,7 @@ module _ (d : Declaration) (a : Assignment) (declaration : IsDeclaration d) (ass
 
       pub IsSafeByRanks-ranks : IsSafeByRanks d a ranks
       IsSafeByRanks-ranks = record {
+        assignment = assignment;
         safe = IsSafe-falls (wiring d a) (slice_index ranks) fall;
         one_each = are.one_each ∙ long;
         are_ranks = are;
@@ -116,6 +117,7 @@ module _ (d : Declaration) (a : Assignment) (declaration : IsDeclaration d) (ass
 
       pub IsDeadlock-walked : (steps : List Step) → IsCircleRun (wiring d a) circle steps → IsDeadlock d a steps
       IsDeadlock-walked steps is_run = record {
+        assignment = assignment;
         lanes_wait = lanes_wait;
         circle = circle;
         walked = walked;

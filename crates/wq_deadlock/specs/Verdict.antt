@@ -3,7 +3,7 @@ use Rattle.std.specs.Prelude.{◌≡◌, ℕ, ◌<◌, List, length, slice_index
 use Rattle.wq_items.specs.Chain.{Circle}
 use Rattle.wq_items.specs.Table.{ItemWaits}
 use Rattle.wq_groups.specs.Declaration.{Declaration}
-use Rattle.wq_groups.specs.Assignment.{Assignment, lane_of_item}
+use Rattle.wq_groups.specs.Assignment.{Assignment, IsAssignment, lane_of_item}
 use Rattle.wq_graph.specs.declared.arc.WaitArc.{WaitArc}
 use Rattle.wq_graph.specs.Graph.{lane_graph}
 use Rattle.wq_levels.specs.Ranks.{AreRanks}
@@ -15,17 +15,19 @@ use Rattle.wq_deadlock.specs.declared.outcome.Verdict.{Verdict}
 use Rattle.wq_deadlock.specs.declared.outcome.Verdict.TheVariants as verdict
 use Rattle.wq_deadlock.specs.CircleRun.{IsCircleRun}
 
--- no run ends stuck; each lane has its rank in the wait graph of the lanes; and these fall along every declared flush, from
--- the lane of the item to that of its target
+-- an assignment of the declaration's groups, no run of which ends stuck; each lane has its rank in the wait graph of the
+-- lanes; and these fall along every declared flush, from the lane of the item to that of its target
 pub record IsSafeByRanks (d : Declaration) (a : Assignment) (ranks : List ℕ) : Type 0 where
+  pub assignment : IsAssignment d.groups a
   pub safe : IsSafe (wiring d a)
   pub one_each : length ranks ≡ a.lanes
   pub are_ranks : AreRanks (lane_graph d a) ranks
   pub fall : (i j : ℕ) → ItemWaits d.waits i j → slice_index ranks (lane_of_item a d.group_of j) < slice_index ranks (lane_of_item a d.group_of i)
 
--- the lanes wait in a circle, the walked one; the steps are the run of this circle; and they are a run that ends stuck, with
--- each item queued once and flushing as declared
+-- an assignment of the declaration's groups, whose lanes wait in a circle, the walked one; the steps are the run of this
+-- circle; and they are a run that ends stuck, with each item queued once and flushing as declared
 pub record IsDeadlock (d : Declaration) (a : Assignment) (steps : List Step) : Type 0 where
+  pub assignment : IsAssignment d.groups a
   pub lanes_wait : Circle (LaneWaits (wiring d a))
   pub circle : List WaitArc
   pub walked : IsWalkedCircle (lane_graph d a) circle

@@ -40,6 +40,6 @@ returns-clause-promised g c =
     AnswersInput-read g.R.Read.remaining c.args.reader.now c.read_text.new.reader text.items c.in_ok-end.end c.in_ok-end.answer.items front
     (subst (λ (bytes : List ℕ). Answers bytes c.in_ok-end.end c.in_ok-end.answer.items) c.deref.ensures.value c.in_ok-end.ensures) in (
       c.in_ok-end.answer.items,
-      record { text = answered.text; input = answered.given.input; promise = KeepsPromise-answers answered.text c.in_ok-end.end c.in_ok-end.answer.items answered.answer },
+      record { answered = answered; promise = KeepsPromise-answers answered.text c.in_ok-end.end c.in_ok-end.answer.items answered.answer },
       subst (λ (bytes : List ℕ). WritesWhole g.W.Write.contents c.args.writer.now c.write_text.new.writer bytes) c.deref-2.ensures.value c.in_ok-write_text.ensures.whole,
     )
