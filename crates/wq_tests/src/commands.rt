@@ -19,15 +19,15 @@ pub(crate) enum Command {
 pub(crate) struct Case {
     pub(crate) name: &'static str,
     pub(crate) command: Command,
-    pub(crate) texts: &'static [&'static [u8]],
+    pub(crate) texts: &'static [&'static str],
     pub(crate) end: End,
-    pub(crate) answer: &'static [u8],
+    pub(crate) answer: &'static str,
 }
 
 impl Case {
     /// A text of the command, or none.
     pub(crate) fn text(&self, at: usize) -> &'static [u8] {
-        self.texts.get(at).copied().unwrap_or_default()
+        self.texts.get(at).copied().unwrap_or_default().as_bytes()
     }
 }
 
@@ -61,25 +61,24 @@ pub(crate) fn run<A: Allocator + Copy, R: Read, W: Write>(
 }
 
 /// One item that flushes another, and its answer.
-const TWO: &[u8] = b"item a\nitem b\nflush a b\n";
+const TWO: &str = "item a\nitem b\nflush a b\n";
 
-const PLAN_OF_TWO: &[u8] = b"plan 2\nwq 0 b\nwq 1 a\nchain 2\narc a b\n";
+const PLAN_OF_TWO: &str = "plan 2\nwq 0 b\nwq 1 a\nchain 2\narc a b\n";
 
 /// An item that flushes itself, and its answer.
-const ITSELF: &[u8] = b"item a\nflush a a\n";
+const ITSELF: &str = "item a\nflush a a\n";
 
-const CIRCLE: &[u8] = b"circle 1\narc a a\nrun 3\nqueue a\nstart 0 a\nwait 0 a\n";
+const CIRCLE: &str = "circle 1\narc a a\nrun 3\nqueue a\nstart 0 a\nwait 0 a\n";
 
 /// A chain of three items on two workqueues, and a run by which they hang.
-const CHAIN: &[u8] = b"item a\nitem b\nitem c\nflush a b\nflush b c\n";
+const CHAIN: &str = "item a\nitem b\nitem c\nflush a b\nflush b c\n";
 
-const LANES: &[u8] = b"wq 0 a c\nwq 1 b\n";
+const LANES: &str = "wq 0 a c\nwq 1 b\n";
 
-const HANGS: &[u8] =
-    b"run 7\nqueue a\nqueue b\nqueue c\nstart 0 a\nwait 0 b\nstart 1 b\nwait 1 c\n";
+const HANGS: &str = "run 7\nqueue a\nqueue b\nqueue c\nstart 0 a\nwait 0 b\nstart 1 b\nwait 1 c\n";
 
-/// One case of each kind of answer.
-pub(crate) const CASES: &[Case] = &[
+/// One case of each kind of answer, at least.
+const CASES: &[Case] = &[
     Case {
         name: "a plan",
         command: Command::Plan,
@@ -90,9 +89,9 @@ pub(crate) const CASES: &[Case] = &[
     Case {
         name: "a plan of groups",
         command: Command::Plan,
-        texts: &[b"item a\nitem b\nitem c\nitem d\nordered b c\nflush a b\nflush c d\n"],
+        texts: &["item a\nitem b\nitem c\nitem d\nordered b c\nflush a b\nflush c d\n"],
         end: End::Good,
-        answer: b"plan 3\nwq 0 d\nwq 1 b c\nwq 2 a\nchain 3\narc a b\narc c d\n",
+        answer: "plan 3\nwq 0 d\nwq 1 b c\nwq 2 a\nchain 3\narc a b\narc c d\n",
     },
     Case {
         name: "a circle",
@@ -104,97 +103,97 @@ pub(crate) const CASES: &[Case] = &[
     Case {
         name: "a circle of two items",
         command: Command::Plan,
-        texts: &[b"item a\nitem b\nflush b a\nflush a b\n"],
+        texts: &["item a\nitem b\nflush b a\nflush a b\n"],
         end: End::Bad,
-        answer: b"circle 2\narc a b\narc b a\nrun 6\nqueue a\nqueue b\nstart 0 a\nwait 0 b\nstart 1 b\nwait 1 a\n",
+        answer: "circle 2\narc a b\narc b a\nrun 6\nqueue a\nqueue b\nstart 0 a\nwait 0 b\nstart 1 b\nwait 1 a\n",
     },
     Case {
         name: "a circle within a group",
         command: Command::Plan,
-        texts: &[b"item a\nitem b\nitem c\nordered c b\nflush a c\nflush c b\n"],
+        texts: &["item a\nitem b\nitem c\nordered c b\nflush a c\nflush c b\n"],
         end: End::Bad,
-        answer: b"circle 1\narc c b\nrun 7\nqueue c\nqueue a\nqueue b\nstart 0 a\nwait 0 c\nstart 1 c\nwait 1 b\n",
+        answer: "circle 1\narc c b\nrun 7\nqueue c\nqueue a\nqueue b\nstart 0 a\nwait 0 c\nstart 1 c\nwait 1 b\n",
     },
     Case {
         name: "a line that is none",
         command: Command::Plan,
-        texts: &[b"item a\nitems b\n"],
+        texts: &["item a\nitems b\n"],
         end: End::Refused,
-        answer: b"refused 4 line 2\n",
+        answer: "refused 4 line 2\n",
     },
     Case {
         name: "an item twice",
         command: Command::Plan,
-        texts: &[b"item a\nitem a\n"],
+        texts: &["item a\nitem a\n"],
         end: End::Refused,
-        answer: b"refused 7 line 2\n",
+        answer: "refused 7 line 2\n",
     },
     Case {
         name: "an item that isn't there",
         command: Command::Plan,
-        texts: &[b"item a\nitem b\nflush a b\nflush b c\n"],
+        texts: &["item a\nitem b\nflush a b\nflush b c\n"],
         end: End::Refused,
-        answer: b"refused 8 line 4\n",
+        answer: "refused 8 line 4\n",
     },
     Case {
         name: "an item in two groups",
         command: Command::Plan,
-        texts: &[b"item a\nitem b\nordered a b\nordered b\n"],
+        texts: &["item a\nitem b\nordered a b\nordered b\n"],
         end: End::Refused,
-        answer: b"refused 11 line 4\n",
+        answer: "refused 11 line 4\n",
     },
     Case {
         name: "a good plan",
         command: Command::Check,
         texts: &[TWO, PLAN_OF_TWO],
         end: End::Good,
-        answer: b"yes 2\n",
+        answer: "yes 2\n",
     },
     Case {
         name: "a plan of one workqueue",
         command: Command::Check,
-        texts: &[TWO, b"plan 1\nwq 0 a b\nchain 1\n"],
+        texts: &[TWO, "plan 1\nwq 0 a b\nchain 1\n"],
         end: End::Bad,
-        answer: b"no 50 a b\n",
+        answer: "no 50 a b\n",
     },
     Case {
         name: "a chain that breaks",
         command: Command::Check,
         texts: &[
-            b"item a\nitem b\nitem c\nitem d\nflush a b\nflush b c\n",
-            b"plan 3\nwq 0 c d\nwq 1 b\nwq 2 a\nchain 3\narc a b\narc a b\n",
+            "item a\nitem b\nitem c\nitem d\nflush a b\nflush b c\n",
+            "plan 3\nwq 0 c d\nwq 1 b\nwq 2 a\nchain 3\narc a b\narc a b\n",
         ],
         end: End::Bad,
-        answer: b"no 51 2\n",
+        answer: "no 51 2\n",
     },
     Case {
         name: "a circle with its run",
         command: Command::Check,
         texts: &[ITSELF, CIRCLE],
         end: End::Good,
-        answer: b"yes circle 1\n",
+        answer: "yes circle 1\n",
     },
     Case {
         name: "a circle with a run that goes on",
         command: Command::Check,
-        texts: &[ITSELF, b"circle 1\narc a a\nrun 2\nqueue a\nstart 0 a\n"],
+        texts: &[ITSELF, "circle 1\narc a a\nrun 2\nqueue a\nstart 0 a\n"],
         end: End::Bad,
-        answer: b"no 54\n",
+        answer: "no 54\n",
     },
     Case {
         name: "a certificate that is none",
         command: Command::Check,
-        texts: &[TWO, b"plan 2\nwq 0 b\nwq 1 a\nchain 2\nnope\n"],
+        texts: &[TWO, "plan 2\nwq 0 b\nwq 1 a\nchain 2\nnope\n"],
         end: End::Refused,
-        answer: b"refused 40 line 5\n",
+        answer: "refused 40 line 5\n",
     },
     // A declaration that is refused isn't answered before the certificate is read.
     Case {
         name: "a declaration that is none",
         command: Command::Check,
-        texts: &[b"nope\n", PLAN_OF_TWO],
+        texts: &["nope\n", PLAN_OF_TWO],
         end: End::Refused,
-        answer: b"refused 4 line 1\n",
+        answer: "refused 4 line 1\n",
     },
     Case {
         name: "lanes that hang",
@@ -207,84 +206,89 @@ pub(crate) const CASES: &[Case] = &[
         name: "two lanes that hang",
         command: Command::Deadlock,
         texts: &[
-            b"item a\nitem b\nitem c\nitem d\nflush a b\nflush c d\n",
-            b"wq 0 a d\nwq 1 b c\n",
+            "item a\nitem b\nitem c\nitem d\nflush a b\nflush c d\n",
+            "wq 0 a d\nwq 1 b c\n",
         ],
         end: End::Bad,
-        answer: b"run 8\nqueue a\nqueue c\nqueue b\nqueue d\nstart 0 a\nwait 0 b\nstart 1 c\nwait 1 d\n",
+        answer: "run 8\nqueue a\nqueue c\nqueue b\nqueue d\nstart 0 a\nwait 0 b\nstart 1 c\nwait 1 d\n",
     },
     Case {
         name: "safe lanes",
         command: Command::Deadlock,
-        texts: &[CHAIN, b"wq 0 b\nwq 1\nwq 2 a\nwq 3 c\n"],
+        texts: &[CHAIN, "wq 0 b\nwq 1\nwq 2 a\nwq 3 c\n"],
         end: End::Good,
-        answer: b"safe\n",
+        answer: "safe\n",
     },
     Case {
         name: "lanes of a plan",
         command: Command::Deadlock,
         texts: &[TWO, PLAN_OF_TWO],
         end: End::Good,
-        answer: b"safe\n",
+        answer: "safe\n",
     },
     Case {
         name: "lanes without an item",
         command: Command::Deadlock,
-        texts: &[TWO, b"wq 0 a\n"],
+        texts: &[TWO, "wq 0 a\n"],
         end: End::Refused,
-        answer: b"refused 41 line 0\n",
+        answer: "refused 41 line 0\n",
     },
     Case {
         name: "a declaration and lanes that are none",
         command: Command::Deadlock,
-        texts: &[b"item\n", b"nope\n"],
+        texts: &["item\n", "nope\n"],
         end: End::Refused,
-        answer: b"refused 5 line 1\n",
+        answer: "refused 5 line 1\n",
     },
     Case {
         name: "a run that hangs",
         command: Command::Replay,
         texts: &[CHAIN, LANES, HANGS],
         end: End::Bad,
-        answer: b"deadlock\n",
+        answer: "deadlock\n",
     },
     Case {
         name: "a run within a workqueue that hangs",
         command: Command::Replay,
         texts: &[
             TWO,
-            b"wq 0 a b\n",
-            b"run 4\nqueue a\nqueue b\nstart 0 a\nwait 0 b\n",
+            "wq 0 a b\n",
+            "run 4\nqueue a\nqueue b\nstart 0 a\nwait 0 b\n",
         ],
         end: End::Bad,
-        answer: b"deadlock\n",
+        answer: "deadlock\n",
     },
     Case {
         name: "a run that goes on",
         command: Command::Replay,
-        texts: &[TWO, b"wq 0 a b\n", b"run 2\nqueue a\nstart 0 a\n"],
+        texts: &[TWO, "wq 0 a b\n", "run 2\nqueue a\nstart 0 a\n"],
         end: End::Good,
-        answer: b"open\n",
+        answer: "open\n",
     },
     Case {
         name: "a step that isn't lawful",
         command: Command::Replay,
-        texts: &[TWO, b"wq 0 a b\n", b"run 1\nstart 0 a\n"],
+        texts: &[TWO, "wq 0 a b\n", "run 1\nstart 0 a\n"],
         end: End::Bad,
-        answer: b"not lawful 1\n",
+        answer: "not lawful 1\n",
     },
     Case {
         name: "an assignment that is none",
         command: Command::Replay,
-        texts: &[TWO, b"wq 0 a\n", b"run 0\n"],
+        texts: &[TWO, "wq 0 a\n", "run 0\n"],
         end: End::Refused,
-        answer: b"refused 41 line 0\n",
+        answer: "refused 41 line 0\n",
     },
     Case {
         name: "a run that is none",
         command: Command::Replay,
-        texts: &[TWO, b"wq 0 a b\n", b"run 1\nnope\n"],
+        texts: &[TWO, "wq 0 a b\n", "run 1\nnope\n"],
         end: End::Refused,
-        answer: b"refused 40 line 2\n",
+        answer: "refused 40 line 2\n",
     },
 ];
+
+/// The cases. Each is to answer so over any devices and with any heap that is large enough.
+pub(crate) fn cases() -> &'static [Case] {
+    CASES
+}

@@ -2,7 +2,7 @@
 //!
 //! Takes time in the number of the calls of devices.
 
-use crate::commands::{CASES, Case, Command, Readers, run};
+use crate::commands::{Case, Command, Readers, cases, run};
 use crate::fakes::{Endless, Fake};
 use std::alloc::{AllocError, Global};
 use std::io::ErrorKind;
@@ -64,12 +64,12 @@ fn assert_pieces(rt: &impl Abort, alloc: Global, case: &Case, reads: usize, writ
         (case.name, reads, writes, outcome.end),
         (case.name, reads, writes, Ok(case.end))
     );
-    assert_eq!(rt; outcome.written.as_slice(), case.answer);
+    assert_eq!(rt; outcome.written.as_slice(), case.answer.as_bytes());
 }
 
 #[test]
 fn pieces_change_no_answer(rt: HostRuntime) {
-    for case in CASES {
+    for case in cases() {
         for (reads, writes) in [(1, 1), (1, 5), (5, 1), (7, 9), (24, 38)] {
             assert_pieces(&rt, rt.alloc(), case, reads, writes);
         }
@@ -137,7 +137,7 @@ fn assert_failed_reads(
 
 #[test]
 fn each_failed_read_is_a_fault(rt: HostRuntime) -> Result<(), Fail> {
-    for case in CASES {
+    for case in cases() {
         for at in 0..case.texts.len() {
             for kind in [ErrorKind::Interrupted, ErrorKind::Other] {
                 assert_failed_reads(&rt, rt.alloc(), case, at, kind)?;
@@ -159,13 +159,20 @@ fn assert_failed_write(rt: &impl Abort, alloc: Global, case: &Case, successes: u
     assert_eq!(rt; outcome.written.as_slice(), front);
 }
 
+/// Asserts so of each write of a case: the answer is taken byte by byte.
+fn assert_failed_writes(rt: &impl Abort, alloc: Global, case: &Case) -> Result<(), Fail> {
+    let answer = case.answer.as_bytes();
+    for taken in 0..answer.len() {
+        let successes = u32::try_from(taken)?;
+        assert_failed_write(rt, alloc, case, successes, &answer[..taken]);
+    }
+    Ok(())
+}
+
 #[test]
 fn each_failed_write_is_a_fault(rt: HostRuntime) -> Result<(), Fail> {
-    for case in CASES {
-        for taken in 0..case.answer.len() {
-            let successes = u32::try_from(taken)?;
-            assert_failed_write(&rt, rt.alloc(), case, successes, &case.answer[..taken]);
-        }
+    for case in cases() {
+        assert_failed_writes(&rt, rt.alloc(), case)?;
     }
     Ok(())
 }

@@ -2,14 +2,11 @@
 //!
 //! Takes time in the lengths of the texts.
 
-ghost use Rattle.std.specs.Prelude.{◌≡◌, length};
-
 use crate::declared::declared;
 use crate::groups::assert_lanes;
 use std::alloc::Global;
 use std::process::Abort;
 use std::test::Fail;
-use wq_commands::Declaration;
 use wq_graph::{WaitArc, WaitGraph};
 use wq_levels::{Ranked, rank};
 use wq_plan::{Answer, solve};
@@ -62,11 +59,16 @@ fn assert_graph(rt: &impl Abort, text: &str, graph: &WaitGraph<Global>, want: &[
     }
 }
 
+/// The wait graph of the groups that a text declares.
+fn graph_of(alloc: Global, text: &str) -> Result<WaitGraph<Global>, Fail> {
+    let declared = declared(alloc, text)?;
+    Ok(WaitGraph::of_groups(alloc, &declared.table, &declared.groups)?)
+}
+
 #[test]
 fn graphs_have_their_arcs(rt: HostRuntime) -> Result<(), Fail> {
     for (text, want) in GRAPHS {
-        let declared = declared(rt.alloc(), text)?;
-        let graph = WaitGraph::of_groups(rt.alloc(), &declared.table, &declared.groups)?;
+        let graph = graph_of(rt.alloc(), text)?;
         assert_graph(&rt, text, &graph, want);
     }
     Ok(())
@@ -143,30 +145,25 @@ fn assert_solved(
     }
 }
 
-/// Asserts both of what a text declares.
-fn assert_both(
-    rt: &impl Abort,
-    alloc: Global,
-    text: &str,
-    declared: &Declaration<'_, Global>,
-    ranks: &[u16],
-    arcs: &[Numbers],
-) -> Result<(), Fail>
-    requires { length declared.now.groups.group_of ≡ length declared.now.table.names }
-{
-    let graph = WaitGraph::of_groups(alloc, &declared.table, &declared.groups)?;
-    let ranked = rank(alloc, &graph)?;
-    let answer = solve(alloc, &declared.table, &declared.groups)?;
-    assert_ranked(rt, text, &ranked, ranks, arcs);
-    assert_solved(rt, text, &answer, ranks, arcs);
-    Ok(())
+/// The ranks or the circle of what a text declares.
+fn ranked_of(alloc: Global, text: &str) -> Result<Ranked<Global>, Fail> {
+    let graph = graph_of(alloc, text)?;
+    Ok(rank(alloc, &graph)?)
+}
+
+/// The plan or the circle of what a text declares.
+fn solved_of(alloc: Global, text: &str) -> Result<Answer<Global>, Fail> {
+    let declared = declared(alloc, text)?;
+    Ok(solve(alloc, &declared.table, &declared.groups)?)
 }
 
 #[test]
 fn graphs_have_ranks_or_a_circle(rt: HostRuntime) -> Result<(), Fail> {
     for (text, ranks, arcs) in SOLVED {
-        let declared = declared(rt.alloc(), text)?;
-        assert_both(&rt, rt.alloc(), text, &declared, ranks, arcs)?;
+        let ranked = ranked_of(rt.alloc(), text)?;
+        assert_ranked(&rt, text, &ranked, ranks, arcs);
+        let answer = solved_of(rt.alloc(), text)?;
+        assert_solved(&rt, text, &answer, ranks, arcs);
     }
     Ok(())
 }

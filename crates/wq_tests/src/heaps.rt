@@ -2,7 +2,7 @@
 //!
 //! Takes time in the number of the sizes and the cases.
 
-use crate::commands::{CASES, Case, Readers, run};
+use crate::commands::{Case, Readers, cases, run};
 use linked_list_allocator::LocalHeap;
 use std::alloc::{AllocError, Global};
 use std::process::Abort;
@@ -38,10 +38,10 @@ fn answers_in(
     let (wanted, answer) = if answers {
         (Ok(case.end), case.answer)
     } else {
-        (Err(Fault::Memory), b"".as_slice())
+        (Err(Fault::Memory), "")
     };
     assert_eq!(rt; (case.name, size, end, left), (case.name, size, wanted, 0));
-    assert_eq!(rt; written.as_slice(), answer);
+    assert_eq!(rt; written.as_slice(), answer.as_bytes());
     Ok(answers)
 }
 
@@ -61,7 +61,7 @@ fn assert_sizes(rt: &impl Abort, alloc: Global, case: &Case) -> Result<(), Alloc
 
 #[test]
 fn want_of_memory_changes_no_answer(rt: HostRuntime) -> Result<(), Fail> {
-    for case in CASES {
+    for case in cases() {
         assert_sizes(&rt, rt.alloc(), case)?;
     }
     Ok(())
