@@ -27,3 +27,6 @@ pub mod LongCertificates
 pub mod SpelledAnswers
 pub mod QueueTurns
 pub mod PlanTurns
+pub mod FirstLines
+pub mod FirstReaders
+pub mod FirstTexts

@@ -14,3 +14,4 @@ pub mod RunText
 pub mod CircleText
 pub mod Ranges
 pub mod Spelled
+pub mod FirstFaults

@@ -16,7 +16,9 @@ ghost use Rattle.wq_cert.specs.CircleText.{circle_text};
 ghost use Rattle.wq_cert.specs.PlanText.{item_lanes, plan_text};
 ghost use Rattle.wq_cert.specs.RunText.{run_text};
 ghost use Rattle.wq_cert.specs.Texts.{max_text, max_line, answer_of, assignment_of_text, run_of};
+ghost use Rattle.wq_cert.specs.declared.fault.CertError.{CertError};
 ghost use Rattle.wq_cert.specs.declared.fault.CertError.TheVariants.{BadCertLine};
+ghost use Rattle.wq_cert.specs.FirstFaults.{line_of, IsOfTheFirstLine};
 ghost use Rattle.wq_cert.specs.Forms.{number_of};
 ghost use Rattle.wq_cert.specs.Ranges.{IsArcOf, IsStepOf, IsAssignmentOf, IsRunOf, IsCertificateOf};
 ghost use Rattle.wq_cert.specs.Lines.{CertLine};
@@ -80,6 +82,18 @@ pub fn texts_are_read_where_they_spell()
         (assignment_of_text names p text ≡ Ok a) ↔ (KeepsLimits text × SpellsAssignment names p (words_of_text text) a) }
     ensures run { (names : List (List ℕ)) (text : List ℕ) (steps : List Step) → AllPairs (λ (a b : List ℕ). a ≢ b) names →
         (run_of names text ≡ Ok steps) ↔ (KeepsLimits text × SpellsRun names (words_of_text text) steps) }
+{}
+
+/// Where a text within the limits is refused at a line, that is the first line at fault: the text has the line, whatever
+/// stands behind it changes nothing, and a text of fewer of its lines is read, or refused at no line.
+pub fn a_refusal_is_of_the_first_line_at_fault()
+    ensures answer { (names : List (List ℕ)) (p : Partition) (text : List ℕ) (fault : CertError) → KeepsLimits text →
+        answer_of names p text ≡ Err fault → 0 < line_of fault → IsOfTheFirstLine (answer_of names p) text fault }
+    ensures assignment { (names : List (List ℕ)) (p : Partition) (text : List ℕ) (fault : CertError) → KeepsLimits text →
+        assignment_of_text names p text ≡ Err fault → 0 < line_of fault →
+        IsOfTheFirstLine (assignment_of_text names p) text fault }
+    ensures run { (names : List (List ℕ)) (text : List ℕ) (fault : CertError) → KeepsLimits text →
+        run_of names text ≡ Err fault → 0 < line_of fault → IsOfTheFirstLine (run_of names) text fault }
 {}
 
 /// The workqueue of an item is the one on whose line it stands.

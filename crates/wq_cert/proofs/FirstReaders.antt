@@ -1,0 +1,285 @@
+-- Each reader of certificates reads in order: a fault of a line is settled by the lines up to it.
+use Rattle.std.proofs.Common.{◌≡◌, ℕ, zero, suc, ◌-◌, ◌<◌, Bool, true, false, cond, List, [], ◌∷◌, ◌++◌, length, Option, Some, Result, Ok, Err, refl, sym, ap, subst, ◌∙◌, arith}
+use Rattle.std.specs.Prelude.{codes, ok_or, nat_lt, nat_le, ◌==◌, ◌||◌, not}
+use Rattle.std.specs.List.{concat}
+use Rattle.wq_core.specs.declared.step.Step.{Step}
+use Rattle.wq_groups.specs.Assignment.{Assignment}
+use Rattle.wq_groups.specs.Partition.{Partition}
+use Rattle.wq_cert.proofs.FirstLines.{IsAt, IsAt-Err, IsAt-ok_or, IsAt-and_then, IsAt-cond, IsSettled, Settles, ReadsInOrder, Settles-and_read, ReadsInOrder-and_read, ReadsInOrder-of_no_line, ReadsInOrder-next_line, ReadsInOrder-next_lines, Settles-at_end, Settles-and_then}
+use Rattle.wq_cert.specs.Certificate.{PlanCertificate, CircleCertificate, Certificate, OfPlan, OfCircle}
+use Rattle.wq_cert.specs.declared.fault.CertError.{CertError}
+use Rattle.wq_cert.specs.declared.fault.CertError.TheVariants.{BadCertLine, NotAllItems, GroupSplit, NumberOutOfRange}
+use Rattle.wq_cert.specs.FirstFaults.{line_of, NoLineIsAtFault}
+use Rattle.wq_cert.specs.Forms.{begins_with, count_form, wq_form, arc_form, step_form}
+use Rattle.wq_cert.specs.Lines.{CertLine}
+use Rattle.wq_cert.specs.Reading.{and_then, and_read, next_line, next_lines, at_end, count_reading, circle_count_reading, arc_reading, names_far_lane, step_reading, has_stood, splits_group, fresh_items, wq_items, wq_reading, next_queues, all_queues, hold_all, assignment_of, whole_assignment, chain_reading, counted_assignment, plan_reading, run_reading, run_behind, circle_reading, answer_reading, queues_reading, assignment_reading}
+
+-- ---- lines
+
+at-count : (keyword : List ℕ) (line : CertLine) → IsAt line.no (count_reading keyword line)
+at-count keyword line =
+    IsAt-and_then line.no (λ n. cond (nat_lt 4096 n) (Err (NumberOutOfRange line.no)) (Ok n)) (ok_or (count_form keyword line.words) (BadCertLine line.no))
+    (IsAt-ok_or line.no (count_form keyword line.words))
+    (λ n. IsAt-cond line.no (nat_lt 4096 n) (NumberOutOfRange line.no) (Ok n) refl tt)
+
+at-circle : (line : CertLine) → IsAt line.no (circle_count_reading line)
+at-circle line =
+    IsAt-and_then line.no (λ n. cond (n == 0) (Err (NumberOutOfRange line.no)) (Ok n)) (count_reading (codes "circle") line) (at-count (codes "circle") line)
+    (λ n. IsAt-cond line.no (n == 0) (NumberOutOfRange line.no) (Ok n) refl tt)
+
+at-run : (line : CertLine) → IsAt line.no (ok_or (count_form (codes "run") line.words) (BadCertLine line.no))
+at-run line = IsAt-ok_or line.no (count_form (codes "run") line.words)
+
+module _ (names : List (List ℕ)) where
+  at-arc : (line : CertLine) → IsAt line.no (arc_reading names line)
+  at-arc line = IsAt-ok_or line.no (arc_form names line.words)
+
+  at-step : (line : CertLine) → IsAt line.no (step_reading names line)
+  at-step line =
+      IsAt-and_then line.no (λ found. cond (names_far_lane found) (Err (NumberOutOfRange line.no)) (Ok found)) (ok_or (step_form names line.words) (BadCertLine line.no))
+      (IsAt-ok_or line.no (step_form names line.words))
+      (λ found. IsAt-cond line.no (names_far_lane found) (NumberOutOfRange line.no) (Ok found) refl tt)
+
+  at-wq_items : (place : ℕ) (line : CertLine) → IsAt line.no (wq_items names place line)
+  at-wq_items place line =
+      IsAt-and_then line.no (λ (p : ℕ × List ℕ). cond (not (p.0 == place) || nat_le 4096 place) (Err (NumberOutOfRange line.no)) (Ok p.1)) (ok_or (wq_form names line.words) (BadCertLine line.no))
+      (IsAt-ok_or line.no (wq_form names line.words))
+      (λ p. IsAt-cond line.no (not (p.0 == place) || nat_le 4096 place) (NumberOutOfRange line.no) (Ok p.1) refl tt)
+
+  at-wq : (group_of : List ℕ) (queues : List (List ℕ)) (line : CertLine) → IsAt line.no (wq_reading names group_of queues line)
+  at-wq group_of queues line =
+      IsAt-and_then line.no (λ items. fresh_items group_of (concat queues) line.no items) (wq_items names (length queues) line) (at-wq_items (length queues) line)
+      (λ items. IsAt-cond line.no (has_stood (concat queues) items) (NotAllItems line.no) (cond (splits_group group_of (concat queues) items) (Err (GroupSplit line.no)) (Ok items)) refl
+      (IsAt-cond line.no (splits_group group_of (concat queues) items) (GroupSplit line.no) (Ok items) refl tt))
+
+-- ---- what the first line decides
+
+-- two readers that agree behind this line, the first of which has no fault of a line where nothing stands
+pub IsSettled-first : {V : Type 0} (read other : List CertLine → Result V CertError) (line : CertLine) (lines : List CertLine) (fault : CertError)
+    → ((rest : List CertLine) → other (line ∷ rest) ≡ read (line ∷ rest)) → IsSettled read (line ∷ lines) fault → IsSettled other (line ∷ lines) fault
+IsSettled-first read other line lines fault same h = placed h.before h.lines_are h.settled
+  where
+    placed : (before : List CertLine) → line ∷ lines ≡ before ++ (h.line ∷ h.behind) → ((others : List CertLine) → read (before ++ (h.line ∷ others)) ≡ Err fault) → IsSettled other (line ∷ lines) fault
+    placed [] are settled =
+        let first : line ≡ h.line = cc in
+        record {
+          before = [];
+          line = h.line;
+          behind = h.behind;
+          lines_are = are;
+          number = h.number;
+          settled = λ others. subst (λ (l : CertLine). other (l ∷ others) ≡ read (l ∷ others)) first (same others) ∙ settled others;
+        }
+    placed (front ∷ before) are settled =
+        let first : line ≡ front = cc in
+        record {
+          before = front ∷ before;
+          line = h.line;
+          behind = h.behind;
+          lines_are = are;
+          number = h.number;
+          settled = λ others. subst (λ (l : CertLine). other (l ∷ before ++ (h.line ∷ others)) ≡ read (l ∷ before ++ (h.line ∷ others))) first (same (before ++ (h.line ∷ others))) ∙ settled others;
+        }
+
+-- ---- runs and circles
+
+module _ (names : List (List ℕ)) where
+  pub Settles-run_reading : Settles (run_reading names)
+  Settles-run_reading =
+      Settles-and_read (next_line (λ line. ok_or (count_form (codes "run") line.words) (BadCertLine line.no)))
+      (λ m behind_run. and_read (λ steps rest. at_end steps rest) (next_lines (step_reading names) m behind_run))
+      (ReadsInOrder-next_line (λ line. ok_or (count_form (codes "run") line.words) (BadCertLine line.no)) at-run)
+      (λ m. Settles-and_read (next_lines (step_reading names) m) (λ steps rest. at_end steps rest) (ReadsInOrder-next_lines (step_reading names) (at-step names) m) Settles-at_end)
+
+  run_if_some : List CertLine → Result (Option (List Step)) CertError
+  run_if_some lines = and_then (λ steps. Ok (Some steps)) (run_reading names lines)
+
+  Settles-run_behind : Settles (run_behind names)
+  unfolding run_if_some
+  Settles-run_behind = record { refuses = refused }
+    where
+      refused : (lines : List CertLine) (fault : CertError) → run_behind names lines ≡ Err fault → 0 < line_of fault → IsSettled (run_behind names) lines fault
+      refused [] fault e some = absurd cc
+      refused (line ∷ lines) fault e some =
+          IsSettled-first run_if_some (run_behind names) line lines fault (λ rest. refl)
+          ((Settles-and_then (run_reading names) (λ (steps : List Step). Some steps) Settles-run_reading).refuses (line ∷ lines) fault e some)
+
+  circle_made : List (ℕ × ℕ) → Option (List Step) → CircleCertificate
+  circle_made arcs steps = record { arcs = arcs; steps = steps }
+
+  pub Settles-circle_reading : Settles (circle_reading names)
+  unfolding circle_made
+  Settles-circle_reading =
+      Settles-and_read (next_line circle_count_reading)
+      (λ n behind_circle. and_read (λ arcs rest. and_then (λ steps. Ok (circle_made arcs steps)) (run_behind names rest)) (next_lines (arc_reading names) n behind_circle))
+      (ReadsInOrder-next_line circle_count_reading at-circle)
+      (λ n. Settles-and_read (next_lines (arc_reading names) n) (λ arcs rest. and_then (λ steps. Ok (circle_made arcs steps)) (run_behind names rest))
+      (ReadsInOrder-next_lines (arc_reading names) (at-arc names) n)
+      (λ arcs. Settles-and_then (run_behind names) (circle_made arcs) Settles-run_behind))
+
+-- ---- workqueues
+
+module _ (p : Partition) (queues : List (List ℕ)) where
+  whole-no_line : NoLineIsAtFault (whole_assignment p queues)
+  whole-no_line = whole_or (hold_all (length p.group_of) queues)
+    where
+      whole_or : (b : Bool) → NoLineIsAtFault (cond b (Ok (assignment_of p queues)) (Err (NotAllItems 0)))
+      whole_or true = tt
+      whole_or false = refl
+
+module _ (names : List (List ℕ)) (p : Partition) where
+  ReadsInOrder-next_queues : (n : ℕ) (queues : List (List ℕ)) → ReadsInOrder (next_queues names p.group_of n queues)
+  ReadsInOrder-next_queues zero queues = ReadsInOrder-of_no_line {V = List (List ℕ)} (Ok queues) tt
+  ReadsInOrder-next_queues (suc n) queues =
+      ReadsInOrder-and_read (next_line (wq_reading names p.group_of queues)) (λ items rest. next_queues names p.group_of n (queues ++ (items ∷ [])) rest)
+      (ReadsInOrder-next_line (wq_reading names p.group_of queues) (at-wq names p.group_of queues))
+      (λ items. ReadsInOrder-next_queues n (queues ++ (items ∷ [])))
+
+  ReadsInOrder-counted : (lanes : ℕ) → ReadsInOrder (counted_assignment names p lanes)
+  ReadsInOrder-counted lanes =
+      ReadsInOrder-and_read (next_queues names p.group_of lanes []) (λ queues rest. and_then (λ a. Ok (a, rest)) (whole_assignment p queues)) (ReadsInOrder-next_queues lanes [])
+      (λ queues. ReadsInOrder-of_no_line (whole_assignment p queues) (whole-no_line p queues))
+
+  -- ---- plans
+
+  Settles-chain_reading : Settles (chain_reading names)
+  Settles-chain_reading =
+      Settles-and_read (next_line (count_reading (codes "chain")))
+      (λ n behind_chain. and_read (λ arcs rest. at_end (n, arcs) rest) (next_lines (arc_reading names) (n - 1) behind_chain))
+      (ReadsInOrder-next_line (count_reading (codes "chain")) (at-count (codes "chain")))
+      (λ n. Settles-and_read (next_lines (arc_reading names) (n - 1)) (λ arcs rest. at_end (n, arcs) rest) (ReadsInOrder-next_lines (arc_reading names) (at-arc names) (n - 1))
+      (λ arcs. Settles-at_end {V = ℕ × List (ℕ × ℕ)} (n, arcs)))
+
+  plan_made : Assignment → ℕ × List (ℕ × ℕ) → PlanCertificate
+  plan_made assignment chain = record { assignment = assignment; length = chain.0; arcs = chain.1 }
+
+  pub Settles-plan_reading : Settles (plan_reading names p)
+  unfolding plan_made
+  Settles-plan_reading =
+      Settles-and_read (next_line (count_reading (codes "plan")))
+      (λ lanes behind_plan. and_read (λ assignment behind_queues. and_then (λ chain. Ok (plan_made assignment chain)) (chain_reading names behind_queues)) (counted_assignment names p lanes behind_plan))
+      (ReadsInOrder-next_line (count_reading (codes "plan")) (at-count (codes "plan")))
+      (λ lanes. Settles-and_read (counted_assignment names p lanes) (λ assignment behind_queues. and_then (λ chain. Ok (plan_made assignment chain)) (chain_reading names behind_queues)) (ReadsInOrder-counted lanes)
+      (λ assignment. Settles-and_then (chain_reading names) (plan_made assignment) Settles-chain_reading))
+
+  -- ---- workqueues alone
+
+  abbrev assigned : List (List ℕ) → List CertLine → Result Assignment CertError
+  assigned queues rest = and_then (λ assignment. at_end assignment rest) (whole_assignment p queues)
+
+  abbrev queues_behind : List (List ℕ) → List CertLine → Result Assignment CertError
+  queues_behind queues lines = and_read assigned (all_queues names p.group_of queues lines)
+
+  ended : (queues : List (List ℕ)) (line : CertLine) (lines : List CertLine) (fault : CertError) → begins_with (codes "wq") line.words ≡ false → (r : Result Assignment CertError) → whole_assignment p queues ≡ r → NoLineIsAtFault r
+      → and_then (λ assignment. at_end assignment (line ∷ lines)) r ≡ Err fault → 0 < line_of fault → IsSettled (queues_behind queues) (line ∷ lines) fault
+  ended queues line lines fault other (Err found) is none e some =
+      let same : found ≡ fault = cc in
+      let zero_is : line_of fault ≡ 0 = ap line_of (sym same) ∙ none in
+      absurd (omega (arith, some, zero_is))
+  ended queues line lines fault other (Ok a) is none e some =
+      let same : BadCertLine line.no ≡ fault = cc in
+      record {
+        before = [];
+        line = line;
+        behind = lines;
+        lines_are = refl;
+        number = ap line_of same;
+        settled = λ others.
+            ap (λ (b : Bool). and_read assigned (cond b (and_then (λ items. all_queues names p.group_of (queues ++ (items ∷ [])) others) (wq_reading names p.group_of queues line)) (Ok (queues, line ∷ others)))) other
+            ∙ ap (and_then (λ assignment. at_end assignment (line ∷ others))) is
+            ∙ ap (λ (x : CertError). Err x) same;
+      }
+
+  -- the reader of one line more, where it is of a workqueue
+  abbrev one_more : List (List ℕ) → List CertLine → Result (List ℕ) CertError → Result Assignment CertError
+  one_more queues lines r = and_read assigned (and_then (λ items. all_queues names p.group_of (queues ++ (items ∷ [])) lines) r)
+
+  abbrev by_word : List (List ℕ) → CertLine → List CertLine → Bool → Result Assignment CertError
+  by_word queues line lines b = and_read assigned (cond b (and_then (λ items. all_queues names p.group_of (queues ++ (items ∷ [])) lines) (wq_reading names p.group_of queues line)) (Ok (queues, line ∷ lines)))
+
+  refused-line : (line : CertLine) (lines : List CertLine) (queues : List (List ℕ)) (fault : CertError)
+      → ((more : List (List ℕ)) → queues_behind more lines ≡ Err fault → IsSettled (queues_behind more) lines fault) → begins_with (codes "wq") line.words ≡ true
+      → (r : Result (List ℕ) CertError) → wq_reading names p.group_of queues line ≡ r → one_more queues lines r ≡ Err fault → IsSettled (queues_behind queues) (line ∷ lines) fault
+  refused-line line lines queues fault others is_wq (Err found) is e =
+      let same : found ≡ fault = cc in
+      let refused : wq_reading names p.group_of queues line ≡ Err fault = is ∙ ap (λ (x : CertError). Err x) same in
+      record {
+        before = [];
+        line = line;
+        behind = lines;
+        lines_are = refl;
+        number = sym (IsAt-Err line.no (wq_reading names p.group_of queues line) fault (at-wq names p.group_of queues line) refused);
+        settled = λ others. ap (by_word queues line others) is_wq ∙ ap (one_more queues others) refused;
+      }
+  refused-line line lines queues fault others is_wq (Ok items) is e =
+      let h = others (queues ++ (items ∷ [])) e in
+      record {
+        before = line ∷ h.before;
+        line = h.line;
+        behind = h.behind;
+        lines_are = ap (λ (ls : List CertLine). line ∷ ls) h.lines_are;
+        number = h.number;
+        settled = λ rest. ap (by_word queues line (h.before ++ (h.line ∷ rest))) is_wq ∙ ap (one_more queues (h.before ++ (h.line ∷ rest))) is ∙ h.settled rest;
+      }
+
+  refused-word : (line : CertLine) (lines : List CertLine) (queues : List (List ℕ)) (fault : CertError)
+      → ((more : List (List ℕ)) → queues_behind more lines ≡ Err fault → IsSettled (queues_behind more) lines fault)
+      → (b : Bool) → begins_with (codes "wq") line.words ≡ b → by_word queues line lines b ≡ Err fault → 0 < line_of fault → IsSettled (queues_behind queues) (line ∷ lines) fault
+  refused-word line lines queues fault others true is e some = refused-line line lines queues fault others is (wq_reading names p.group_of queues line) refl e
+  refused-word line lines queues fault others false is e some = ended queues line lines fault is (whole_assignment p queues) refl (whole-no_line p queues) e some
+
+  nothing_behind : (queues : List (List ℕ)) (fault : CertError) (r : Result Assignment CertError) → NoLineIsAtFault r → and_then (λ assignment. at_end assignment []) r ≡ Err fault → 0 < line_of fault → ⊥
+  nothing_behind queues fault (Ok a) none e some = absurd cc
+  nothing_behind queues fault (Err found) none e some =
+      let same : found ≡ fault = cc in
+      let zero_is : line_of fault ≡ 0 = ap line_of (sym same) ∙ none in
+      absurd (omega (arith, some, zero_is))
+
+  refused-queues : (lines : List CertLine) (queues : List (List ℕ)) (fault : CertError) → queues_behind queues lines ≡ Err fault → 0 < line_of fault → IsSettled (queues_behind queues) lines fault
+  refused-queues [] queues fault e some = absurd (nothing_behind queues fault (whole_assignment p queues) (whole-no_line p queues) e some)
+  refused-queues (line ∷ lines) queues fault e some =
+      refused-word line lines queues fault (λ more again. refused-queues lines more fault again some) (begins_with (codes "wq") line.words) refl e some
+
+  pub Settles-queues_reading : Settles (queues_reading names p)
+  Settles-queues_reading = record { refuses = λ lines fault e some. refused-queues lines [] fault e some }
+
+  -- ---- whole texts, by their first word
+
+  abbrev plan_or : List CertLine → Bool → Result Certificate CertError
+  plan_or lines b = cond b (and_then (λ circle. Ok (OfCircle circle)) (circle_reading names lines)) (and_then (λ plan. Ok (OfPlan plan)) (plan_reading names p lines))
+
+  answer_by : (line : CertLine) (lines : List CertLine) (fault : CertError) (b : Bool) → begins_with (codes "circle") line.words ≡ b → plan_or (line ∷ lines) b ≡ Err fault → 0 < line_of fault → IsSettled (answer_reading names p) (line ∷ lines) fault
+  answer_by line lines fault true is e some =
+      IsSettled-first (λ ls. and_then (λ circle. Ok (OfCircle circle)) (circle_reading names ls)) (answer_reading names p) line lines fault (λ rest. ap (plan_or (line ∷ rest)) is)
+      ((Settles-and_then (circle_reading names) (λ circle. OfCircle circle) (Settles-circle_reading names)).refuses (line ∷ lines) fault e some)
+  answer_by line lines fault false is e some =
+      IsSettled-first (λ ls. and_then (λ plan. Ok (OfPlan plan)) (plan_reading names p ls)) (answer_reading names p) line lines fault (λ rest. ap (plan_or (line ∷ rest)) is)
+      ((Settles-and_then (plan_reading names p) (λ plan. OfPlan plan) Settles-plan_reading).refuses (line ∷ lines) fault e some)
+
+  pub Settles-answer_reading : Settles (answer_reading names p)
+  Settles-answer_reading = record { refuses = refused }
+    where
+      refused : (lines : List CertLine) (fault : CertError) → answer_reading names p lines ≡ Err fault → 0 < line_of fault → IsSettled (answer_reading names p) lines fault
+      refused [] fault e some =
+          let same : BadCertLine 0 ≡ fault = cc in
+          let zero_is : line_of fault ≡ 0 = ap line_of (sym same) in
+          absurd (omega (arith, some, zero_is))
+      refused (line ∷ lines) fault e some = answer_by line lines fault (begins_with (codes "circle") line.words) refl e some
+
+  abbrev queues_or : List CertLine → Bool → Result Assignment CertError
+  queues_or lines b = cond b (and_then (λ (plan : PlanCertificate). Ok plan.assignment) (plan_reading names p lines)) (queues_reading names p lines)
+
+  assignment_by : (line : CertLine) (lines : List CertLine) (fault : CertError) (b : Bool) → begins_with (codes "plan") line.words ≡ b → queues_or (line ∷ lines) b ≡ Err fault → 0 < line_of fault → IsSettled (assignment_reading names p) (line ∷ lines) fault
+  assignment_by line lines fault true is e some =
+      IsSettled-first (λ ls. and_then (λ (plan : PlanCertificate). Ok plan.assignment) (plan_reading names p ls)) (assignment_reading names p) line lines fault (λ rest. ap (queues_or (line ∷ rest)) is)
+      ((Settles-and_then (plan_reading names p) (λ (plan : PlanCertificate). plan.assignment) Settles-plan_reading).refuses (line ∷ lines) fault e some)
+  assignment_by line lines fault false is e some =
+      IsSettled-first (queues_reading names p) (assignment_reading names p) line lines fault (λ rest. ap (queues_or (line ∷ rest)) is)
+      (refused-queues (line ∷ lines) [] fault e some)
+
+  pub Settles-assignment_reading : Settles (assignment_reading names p)
+  Settles-assignment_reading = record { refuses = refused }
+    where
+      refused : (lines : List CertLine) (fault : CertError) → assignment_reading names p lines ≡ Err fault → 0 < line_of fault → IsSettled (assignment_reading names p) lines fault
+      refused [] fault e some = absurd (nothing_behind [] fault (whole_assignment p []) (whole-no_line p []) e some)
+      refused (line ∷ lines) fault e some = assignment_by line lines fault (begins_with (codes "plan") line.words) refl e some
