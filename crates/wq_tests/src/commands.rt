@@ -1,13 +1,14 @@
 //! The commands, each on a few texts, for devices and heaps of the tests' own.
 //!
-//! Each answer was worked out by hand from docs/FORMAT.md. There are many more cases in tests/rows, for the program.
+//! Each answer was worked out by hand from docs/FORMAT.md. There are many more cases in tests/rows, for the program. A run
+//! takes time in the length of its texts.
 
 use std::alloc::Allocator;
 use std::io::{Read, Write};
 use wq_commands::{End, Fault, Metered, check_cmd, deadlock_cmd, plan_cmd, replay_cmd};
 
 /// A command.
-#[derive(Clone, Copy, Debug)]
+#[derive(Clone, Copy)]
 pub(crate) enum Command {
     Plan,
     Check,

@@ -61,10 +61,21 @@ fn assert_pieces(rt: &impl Abort, alloc: Global, case: &Case, reads: usize, writ
     let writer = Fake::in_pieces(Vec::new(alloc), writes);
     let outcome = run_over(case.command, alloc, in_pieces(case, reads), writer);
     assert_eq!(rt;
-        (case.name, reads, writes, outcome.end),
-        (case.name, reads, writes, Ok(case.end))
+        (
+            case.name,
+            reads,
+            writes,
+            outcome.end,
+            outcome.written.as_slice()
+        ),
+        (
+            case.name,
+            reads,
+            writes,
+            Ok(case.end),
+            case.answer.as_bytes()
+        )
     );
-    assert_eq!(rt; outcome.written.as_slice(), case.answer.as_bytes());
 }
 
 #[test]
@@ -153,10 +164,14 @@ fn assert_failed_write(rt: &impl Abort, alloc: Global, case: &Case, successes: u
     let outcome = run_over(case.command, alloc, in_pieces(case, 4096), writer);
     let before = u64::from(successes);
     assert_eq!(rt;
-        (case.name, outcome.end, outcome.writes),
-        (case.name, Err(Fault::Write), (before + 1, before, 1))
+        (
+            case.name,
+            outcome.end,
+            outcome.writes,
+            outcome.written.as_slice()
+        ),
+        (case.name, Err(Fault::Write), (before + 1, before, 1), front)
     );
-    assert_eq!(rt; outcome.written.as_slice(), front);
 }
 
 /// Asserts so of each write of a case: the answer is taken byte by byte.
@@ -201,8 +216,7 @@ fn a_reader_without_end_is_left(rt: HostRuntime) -> Result<(), Fail> {
         let mut writer = Metered::new(Vec::new(rt.alloc()));
         let end = plan_cmd(rt.alloc(), &mut reader, &mut writer);
         let written = writer.into_inner();
-        assert_eq!(rt; (at_most, end), (at_most, want));
-        assert_eq!(rt; written.as_slice(), answer);
+        assert_eq!(rt; (at_most, end, written.as_slice()), (at_most, want, answer));
         assert!(rt; reader.bytes() <= 1_048_577 && reader.calls() <= 1_048_577);
     }
     Ok(())

@@ -40,8 +40,10 @@ fn answers_in(
     } else {
         (Err(Fault::Memory), "")
     };
-    assert_eq!(rt; (case.name, size, end, left), (case.name, size, wanted, 0));
-    assert_eq!(rt; written.as_slice(), answer.as_bytes());
+    assert_eq!(rt;
+        (case.name, size, end, left, written.as_slice()),
+        (case.name, size, wanted, 0, answer.as_bytes())
+    );
     Ok(answers)
 }
 

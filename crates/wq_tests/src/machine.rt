@@ -15,7 +15,7 @@ use wq_groups::{Assignment, LaneId};
 use wq_items::ItemId;
 
 /// A step in the numbers of its lane and item.
-#[derive(Clone, Copy, Debug)]
+#[derive(Clone, Copy)]
 pub(crate) enum Made {
     Queue(u16),
     Cancel(u16),
