@@ -30,3 +30,4 @@ pub mod PlanTurns
 pub mod FirstLines
 pub mod FirstReaders
 pub mod FirstTexts
+pub mod QueueRows

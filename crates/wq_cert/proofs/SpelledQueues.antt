@@ -166,10 +166,10 @@ module _ (names : List (List ℕ)) (group_of : List ℕ) where
   -- ---- the other way
 
   module _ (differ : AllPairs (λ (a b : List ℕ). a ≢ b) names) where
-    first_grown : (queues more : List (List ℕ)) (queue : List ℕ) → AreGrown items group_of (queues ++ (queue ∷ more)) → AreGrown items group_of ((queues ++ (queue ∷ [])) ++ more)
+    pub first_grown : (queues more : List (List ℕ)) (queue : List ℕ) → AreGrown items group_of (queues ++ (queue ∷ more)) → AreGrown items group_of ((queues ++ (queue ∷ [])) ++ more)
     first_grown queues more queue grown = subst (AreGrown items group_of) (sym (append_assoc queues (queue ∷ []) more)) grown
 
-    said_next : (queues more : List (List ℕ)) (queue : List ℕ) (line : CertLine) → AreGrown items group_of (queues ++ (queue ∷ more)) → line.words ≡ queue_line names (length queues, queue)
+    pub said_next : (queues more : List (List ℕ)) (queue : List ℕ) (line : CertLine) → AreGrown items group_of (queues ++ (queue ∷ more)) → line.words ≡ queue_line names (length queues, queue)
         → wq_reading names group_of queues line ≡ Ok queue
     said_next queues more queue line grown words =
         wq_reading-SaysQueue queues differ line queue (record {

@@ -3,7 +3,7 @@
 //!
 //! They are said of the definitions of what is printed and of what is read, whatever code prints and reads.
 
-ghost use Rattle.std.specs.Prelude.{◌≡◌, ℕ, ◌+◌, ◌<◌, ◌≤◌, ◌==◌, if◌then◌else◌, List, [], length, Option, IfSome, Ok, ◌≢◌, ◌↔◌, take, AllPairs, Some, Err};
+ghost use Rattle.std.specs.Prelude.{◌≡◌, ℕ, ◌+◌, ◌<◌, ◌≤◌, ◌==◌, if◌then◌else◌, List, [], ◌∷◌, ◌++◌, length, Option, IfSome, Ok, ◌≢◌, ◌↔◌, take, AllPairs, Some, Err, codes, true};
 ghost use Rattle.std.specs.List.{All};
 ghost use Rattle.wq_text.specs.Lines.{LineView, lines_of};
 ghost use Rattle.wq_text.specs.Numbers.{Spells};
@@ -13,17 +13,18 @@ ghost use Rattle.wq_groups.specs.Assignment.{Assignment, IsAssignment, lane_of_i
 ghost use Rattle.wq_core.specs.declared.step.Step.{Step};
 ghost use Rattle.wq_cert.specs.Certificate.{OfPlan, OfCircle, PlanCertificate, CircleCertificate, Certificate};
 ghost use Rattle.wq_cert.specs.CircleText.{circle_text};
-ghost use Rattle.wq_cert.specs.PlanText.{item_lanes, plan_text};
+ghost use Rattle.wq_cert.specs.PlanText.{item_lanes, plan_line, plan_text};
 ghost use Rattle.wq_cert.specs.RunText.{run_text};
 ghost use Rattle.wq_cert.specs.Texts.{max_text, max_line, answer_of, assignment_of_text, run_of};
 ghost use Rattle.wq_cert.specs.declared.fault.CertError.{CertError};
 ghost use Rattle.wq_cert.specs.declared.fault.CertError.TheVariants.{BadCertLine};
 ghost use Rattle.wq_cert.specs.FirstFaults.{line_of, IsOfTheFirstLine};
-ghost use Rattle.wq_cert.specs.Forms.{number_of};
+ghost use Rattle.wq_cert.specs.Forms.{number_of, begins_with};
 ghost use Rattle.wq_cert.specs.Ranges.{IsArcOf, IsStepOf, IsAssignmentOf, IsRunOf, IsCertificateOf};
 ghost use Rattle.wq_cert.specs.Lines.{CertLine};
 ghost use Rattle.wq_cert.specs.Reading.{assignment_of, plan_reading, circle_reading, run_reading, queues_reading};
-ghost use Rattle.wq_cert.specs.Spelled.{words_in, words_of_text, IsOnQueue, AreQueues, SpellsPlan, SpellsCircle, SpellsRun, SpellsQueues, SpellsCertificate, SpellsAssignment, KeepsLimits};
+ghost use Rattle.wq_cert.specs.QueueRows.{AreFirstQueues, BreaksRow};
+ghost use Rattle.wq_cert.specs.Spelled.{words_in, words_of_text, queue_lines, IsOnQueue, AreQueues, SpellsPlan, SpellsCircle, SpellsRun, SpellsQueues, SpellsCertificate, SpellsAssignment, KeepsLimits};
 
 /// What is read is in range: items that are declared, groups on at most 4,096 workqueues, as many arcs as the text says,
 /// and fewer steps than there are numbers.
@@ -94,6 +95,21 @@ pub fn a_refusal_is_of_the_first_line_at_fault()
         IsOfTheFirstLine (assignment_of_text names p) text fault }
     ensures run { (names : List (List ℕ)) (text : List ℕ) (fault : CertError) → KeepsLimits text →
         run_of names text ≡ Err fault → 0 < line_of fault → IsOfTheFirstLine (run_of names) text fault }
+{}
+
+/// Behind the lines of workqueues a line that isn't that of the next one is refused by the first row that it breaks: its
+/// form (40), its number (43), an item that stands already (41), a group that is split (42), whatever stands behind it.
+pub fn the_line_of_a_workqueue_is_refused_by_its_first_row()
+    ensures plan { (names : List (List ℕ)) (p : Partition) (k : ℕ) (queues : List (List ℕ)) (before : List CertLine)
+        (line : CertLine) (behind : List CertLine) (fault : CertError) → AllPairs (λ (a b : List ℕ). a ≢ b) names →
+        k ≤ 4096 → length queues < k → words_in before ≡ plan_line k ∷ queue_lines names queues →
+        AreFirstQueues (length names) p.group_of queues → BreaksRow names p.group_of queues line fault →
+        plan_reading names p (before ++ (line ∷ behind)) ≡ Err fault }
+    ensures queues { (names : List (List ℕ)) (p : Partition) (queues : List (List ℕ)) (before : List CertLine)
+        (line : CertLine) (behind : List CertLine) (fault : CertError) → AllPairs (λ (a b : List ℕ). a ≢ b) names →
+        words_in before ≡ queue_lines names queues → begins_with (codes "wq") line.words ≡ true →
+        AreFirstQueues (length names) p.group_of queues → BreaksRow names p.group_of queues line fault →
+        queues_reading names p (before ++ (line ∷ behind)) ≡ Err fault }
 {}
 
 /// The workqueue of an item is the one on whose line it stands.
