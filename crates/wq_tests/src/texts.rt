@@ -7,14 +7,18 @@ use wq_text::{Text, TextError, number};
 /// The number of a line, where it begins and ends, and its bytes; or so of a word, with the number of its line.
 type Place<'a> = (u32, u32, u32, &'a [u8]);
 
+/// The place of a line, and what of it stands in no comment.
+type LinePlace<'a> = (Place<'a>, &'a [u8]);
+
 /// Asserts that a text has these lines, that each of these has those words in turn, and that there are no others.
-fn assert_lines(rt: &impl Abort, text: &Text, lines: &[Place], words: &[Place]) {
+fn assert_lines(rt: &impl Abort, text: &Text, lines: &[LinePlace], words: &[Place]) {
     let mut lines = lines.iter();
     let mut words = words.iter();
     for line in text.lines() {
         let want = lines.next().expect(rt, "a line too many");
         let span = line.span();
-        assert_eq!(rt; (line.no(), span.start, span.end, line.bytes()), *want);
+        let place = (line.no(), span.start, span.end, line.bytes());
+        assert_eq!(rt; (place, line.content()), *want);
         for word in line.words().again() {
             let want = words.next().expect(rt, "a word too many");
             let span = word.span();
@@ -28,18 +32,18 @@ fn assert_lines(rt: &impl Abort, text: &Text, lines: &[Place], words: &[Place]) 
 }
 
 /// Texts, their lines, and the words of all lines.
-const TEXTS: &[(&[u8], &[Place], &[Place])] = &[
+const TEXTS: &[(&[u8], &[LinePlace], &[Place])] = &[
     (b"", &[], &[]),
-    (b"\n", &[(1, 0, 0, b"")], &[]),
-    (b"ab", &[(1, 0, 2, b"ab")], &[(1, 0, 2, b"ab")]),
-    (b"ab\n", &[(1, 0, 2, b"ab")], &[(1, 0, 2, b"ab")]),
+    (b"\n", &[((1, 0, 0, b""), b"")], &[]),
+    (b"ab", &[((1, 0, 2, b"ab"), b"ab")], &[(1, 0, 2, b"ab")]),
+    (b"ab\n", &[((1, 0, 2, b"ab"), b"ab")], &[(1, 0, 2, b"ab")]),
     (
         b"wq a\n\n\t two \tx\t\n \t",
         &[
-            (1, 0, 4, b"wq a"),
-            (2, 5, 5, b""),
-            (3, 6, 15, b"\t two \tx\t"),
-            (4, 16, 18, b" \t"),
+            ((1, 0, 4, b"wq a"), b"wq a"),
+            ((2, 5, 5, b""), b""),
+            ((3, 6, 15, b"\t two \tx\t"), b"\t two \tx\t"),
+            ((4, 16, 18, b" \t"), b" \t"),
         ],
         &[
             (1, 0, 2, b"wq"),
@@ -50,11 +54,11 @@ const TEXTS: &[(&[u8], &[Place], &[Place])] = &[
     ),
     // No word stands in a comment.
     (
-        COMMENTS,
+        b"wq a # b\r\n\tx#y\r\r\nz\r",
         &[
-            (1, 0, 8, b"wq a # b"),
-            (2, 10, 15, b"\tx#y\r"),
-            (3, 17, 19, b"z\r"),
+            ((1, 0, 8, b"wq a # b"), b"wq a "),
+            ((2, 10, 15, b"\tx#y\r"), b"\tx"),
+            ((3, 17, 19, b"z\r"), b"z\r"),
         ],
         &[
             (1, 0, 2, b"wq"),
@@ -70,19 +74,6 @@ fn lines_and_words_stand_in_their_text(rt: HostRuntime) -> Result<(), Fail> {
     for (bytes, lines, words) in TEXTS {
         let text = Text::new(bytes, 99, 99)?;
         assert_lines(&rt, &text, lines, words);
-    }
-    Ok(())
-}
-
-/// A text with comments and carriage returns.
-const COMMENTS: &[u8] = b"wq a # b\r\n\tx#y\r\r\nz\r";
-
-#[test]
-fn comments_stand_in_no_content(rt: HostRuntime) -> Result<(), Fail> {
-    let text = Text::new(COMMENTS, 99, 99)?;
-    let contents = [b"wq a ".as_slice(), b"\tx", b"z\r"];
-    for (line, content) in text.lines().zip(contents) {
-        assert_eq!(rt; line.content(), content);
     }
     Ok(())
 }
