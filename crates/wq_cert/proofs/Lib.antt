@@ -32,3 +32,4 @@ pub mod FirstReaders
 pub mod FirstTexts
 pub mod QueueRows
 pub mod MissingItems
+pub mod LinesBehind

@@ -3,7 +3,7 @@
 //!
 //! They are said of the definitions of what is printed and of what is read, whatever code prints and reads.
 
-ghost use Rattle.std.specs.Prelude.{◌≡◌, ℕ, ◌+◌, ◌<◌, ◌≤◌, ◌==◌, if◌then◌else◌, List, [], ◌∷◌, ◌++◌, length, Option, IfSome, Ok, ◌≢◌, ◌↔◌, take, AllPairs, Some, Err, codes, true, false};
+ghost use Rattle.std.specs.Prelude.{◌≡◌, ℕ, ◌+◌, ◌<◌, ◌≤◌, ◌==◌, if◌then◌else◌, List, [], ◌∷◌, ◌++◌, length, Option, IfSome, Ok, ◌≢◌, ◌↔◌, take, AllPairs, Some, None, Err, codes, true, false};
 ghost use Rattle.std.specs.List.{All};
 ghost use Rattle.wq_text.specs.Lines.{LineView, lines_of};
 ghost use Rattle.wq_text.specs.Numbers.{Spells};
@@ -130,6 +130,19 @@ pub fn missing_items_are_answered_behind_the_workqueues()
         length names ≡ length p.group_of → words_in before ≡ queue_lines names queues →
         begins_with (codes "wq") line.words ≡ false → AreQueues (length names) p.group_of queues →
         queues_reading names p (before ++ (line ∷ behind)) ≡ Err (BadCertLine line.no) }
+{}
+
+/// A line behind the end of a plan, of a run, or of a circle with a run is refused (40).
+pub fn a_line_behind_the_end_is_refused()
+    ensures plan { (names : List (List ℕ)) (p : Partition) (lines : List CertLine) (c : PlanCertificate) (line : CertLine)
+        (behind : List CertLine) → plan_reading names p lines ≡ Ok c →
+        plan_reading names p (lines ++ (line ∷ behind)) ≡ Err (BadCertLine line.no) }
+    ensures circle { (names : List (List ℕ)) (lines : List CertLine) (c : CircleCertificate) (line : CertLine)
+        (behind : List CertLine) → circle_reading names lines ≡ Ok c → c.steps ≢ None →
+        circle_reading names (lines ++ (line ∷ behind)) ≡ Err (BadCertLine line.no) }
+    ensures run { (names : List (List ℕ)) (lines : List CertLine) (steps : List Step) (line : CertLine)
+        (behind : List CertLine) → run_reading names lines ≡ Ok steps →
+        run_reading names (lines ++ (line ∷ behind)) ≡ Err (BadCertLine line.no) }
 {}
 
 /// The workqueue of an item is the one on whose line it stands.
