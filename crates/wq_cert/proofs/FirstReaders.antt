@@ -16,25 +16,25 @@ use Rattle.wq_cert.specs.Reading.{and_then, and_read, next_line, next_lines, at_
 
 -- ---- lines
 
-at-count : (keyword : List ℕ) (line : CertLine) → IsAt line.no (count_reading keyword line)
+pub at-count : (keyword : List ℕ) (line : CertLine) → IsAt line.no (count_reading keyword line)
 at-count keyword line =
     IsAt-and_then line.no (λ n. cond (nat_lt 4096 n) (Err (NumberOutOfRange line.no)) (Ok n)) (ok_or (count_form keyword line.words) (BadCertLine line.no))
     (IsAt-ok_or line.no (count_form keyword line.words))
     (λ n. IsAt-cond line.no (nat_lt 4096 n) (NumberOutOfRange line.no) (Ok n) refl tt)
 
-at-circle : (line : CertLine) → IsAt line.no (circle_count_reading line)
+pub at-circle : (line : CertLine) → IsAt line.no (circle_count_reading line)
 at-circle line =
     IsAt-and_then line.no (λ n. cond (n == 0) (Err (NumberOutOfRange line.no)) (Ok n)) (count_reading (codes "circle") line) (at-count (codes "circle") line)
     (λ n. IsAt-cond line.no (n == 0) (NumberOutOfRange line.no) (Ok n) refl tt)
 
-at-run : (line : CertLine) → IsAt line.no (ok_or (count_form (codes "run") line.words) (BadCertLine line.no))
+pub at-run : (line : CertLine) → IsAt line.no (ok_or (count_form (codes "run") line.words) (BadCertLine line.no))
 at-run line = IsAt-ok_or line.no (count_form (codes "run") line.words)
 
 module _ (names : List (List ℕ)) where
-  at-arc : (line : CertLine) → IsAt line.no (arc_reading names line)
+  pub at-arc : (line : CertLine) → IsAt line.no (arc_reading names line)
   at-arc line = IsAt-ok_or line.no (arc_form names line.words)
 
-  at-step : (line : CertLine) → IsAt line.no (step_reading names line)
+  pub at-step : (line : CertLine) → IsAt line.no (step_reading names line)
   at-step line =
       IsAt-and_then line.no (λ found. cond (names_far_lane found) (Err (NumberOutOfRange line.no)) (Ok found)) (ok_or (step_form names line.words) (BadCertLine line.no))
       (IsAt-ok_or line.no (step_form names line.words))
@@ -135,7 +135,7 @@ module _ (names : List (List ℕ)) (p : Partition) where
       (ReadsInOrder-next_line (wq_reading names p.group_of queues) (at-wq names p.group_of queues))
       (λ items. ReadsInOrder-next_queues n (queues ++ (items ∷ [])))
 
-  ReadsInOrder-counted : (lanes : ℕ) → ReadsInOrder (counted_assignment names p lanes)
+  pub ReadsInOrder-counted : (lanes : ℕ) → ReadsInOrder (counted_assignment names p lanes)
   ReadsInOrder-counted lanes =
       ReadsInOrder-and_read (next_queues names p.group_of lanes []) (λ queues rest. and_then (λ a. Ok (a, rest)) (whole_assignment p queues)) (ReadsInOrder-next_queues lanes [])
       (λ queues. ReadsInOrder-of_no_line (whole_assignment p queues) (whole-no_line p queues))

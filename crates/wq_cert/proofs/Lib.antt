@@ -31,3 +31,5 @@ pub mod FirstLines
 pub mod FirstReaders
 pub mod FirstTexts
 pub mod QueueRows
+pub mod MissingItems
+pub mod LinesBehind

@@ -1,9 +1,9 @@
-//! Laws of certificates, as contracts of functions with empty bodies: what is read is in range, what is printed is read
-//! back, and what is printed is within the limits of what is read.
+//! Laws of certificates, as contracts of functions with empty bodies: what is read is in range, which fault is answered,
+//! what is printed is read back, and what is printed is within the limits of what is read.
 //!
 //! They are said of the definitions of what is printed and of what is read, whatever code prints and reads.
 
-ghost use Rattle.std.specs.Prelude.{◌≡◌, ℕ, ◌+◌, ◌<◌, ◌≤◌, ◌==◌, if◌then◌else◌, List, [], ◌∷◌, ◌++◌, length, Option, IfSome, Ok, ◌≢◌, ◌↔◌, take, AllPairs, Some, Err, codes, true};
+ghost use Rattle.std.specs.Prelude.{◌≡◌, ℕ, ◌+◌, ◌<◌, ◌≤◌, ◌==◌, if◌then◌else◌, List, [], ◌∷◌, ◌++◌, length, Option, IfSome, Ok, ◌≢◌, ◌↔◌, take, AllPairs, Some, None, Err, codes, true, false};
 ghost use Rattle.std.specs.List.{All};
 ghost use Rattle.wq_text.specs.Lines.{LineView, lines_of};
 ghost use Rattle.wq_text.specs.Numbers.{Spells};
@@ -17,13 +17,13 @@ ghost use Rattle.wq_cert.specs.PlanText.{item_lanes, plan_line, plan_text};
 ghost use Rattle.wq_cert.specs.RunText.{run_text};
 ghost use Rattle.wq_cert.specs.Texts.{max_text, max_line, answer_of, assignment_of_text, run_of};
 ghost use Rattle.wq_cert.specs.declared.fault.CertError.{CertError};
-ghost use Rattle.wq_cert.specs.declared.fault.CertError.TheVariants.{BadCertLine};
+ghost use Rattle.wq_cert.specs.declared.fault.CertError.TheVariants.{BadCertLine, NotAllItems};
 ghost use Rattle.wq_cert.specs.FirstFaults.{line_of, IsOfTheFirstLine};
 ghost use Rattle.wq_cert.specs.Forms.{number_of, begins_with};
 ghost use Rattle.wq_cert.specs.Ranges.{IsArcOf, IsStepOf, IsAssignmentOf, IsRunOf, IsCertificateOf};
 ghost use Rattle.wq_cert.specs.Lines.{CertLine};
 ghost use Rattle.wq_cert.specs.Reading.{assignment_of, plan_reading, circle_reading, run_reading, queues_reading};
-ghost use Rattle.wq_cert.specs.QueueRows.{AreFirstQueues, BreaksRow};
+ghost use Rattle.wq_cert.specs.QueueRows.{AreFirstQueues, BreaksRow, AllStand, begins_queue};
 ghost use Rattle.wq_cert.specs.Spelled.{words_in, words_of_text, queue_lines, IsOnQueue, AreQueues, SpellsPlan, SpellsCircle, SpellsRun, SpellsQueues, SpellsCertificate, SpellsAssignment, KeepsLimits};
 
 /// What is read is in range: items that are declared, groups on at most 4,096 workqueues, as many arcs as the text says,
@@ -110,6 +110,39 @@ pub fn the_line_of_a_workqueue_is_refused_by_its_first_row()
         words_in before ≡ queue_lines names queues → begins_with (codes "wq") line.words ≡ true →
         AreFirstQueues (length names) p.group_of queues → BreaksRow names p.group_of queues line fault →
         queues_reading names p (before ++ (line ∷ behind)) ≡ Err fault }
+{}
+
+/// Behind the lines of the workqueues an item that stands on none is answered first (41, of no line), whatever stands
+/// there. In an assignment by `wq` lines alone a line with another first word is refused there (40) where no item is missing.
+pub fn missing_items_are_answered_behind_the_workqueues()
+    ensures plan { (names : List (List ℕ)) (p : Partition) (queues : List (List ℕ)) (lines : List CertLine)
+        (behind : List (List (List ℕ))) → AllPairs (λ (a b : List ℕ). a ≢ b) names → length names ≡ length p.group_of →
+        words_in lines ≡ plan_line (length queues) ∷ (queue_lines names queues ++ behind) →
+        AreFirstQueues (length names) p.group_of queues → ¬ (AllStand (length names) queues) →
+        plan_reading names p lines ≡ Err (NotAllItems 0) }
+    ensures queues { (names : List (List ℕ)) (p : Partition) (queues : List (List ℕ)) (before behind : List CertLine) →
+        AllPairs (λ (a b : List ℕ). a ≢ b) names → length names ≡ length p.group_of →
+        words_in before ≡ queue_lines names queues → begins_queue behind ≡ false →
+        AreFirstQueues (length names) p.group_of queues → ¬ (AllStand (length names) queues) →
+        queues_reading names p (before ++ behind) ≡ Err (NotAllItems 0) }
+    ensures other { (names : List (List ℕ)) (p : Partition) (queues : List (List ℕ)) (before : List CertLine)
+        (line : CertLine) (behind : List CertLine) → AllPairs (λ (a b : List ℕ). a ≢ b) names →
+        length names ≡ length p.group_of → words_in before ≡ queue_lines names queues →
+        begins_with (codes "wq") line.words ≡ false → AreQueues (length names) p.group_of queues →
+        queues_reading names p (before ++ (line ∷ behind)) ≡ Err (BadCertLine line.no) }
+{}
+
+/// A line behind the end of a plan, of a run, or of a circle with a run is refused (40).
+pub fn a_line_behind_the_end_is_refused()
+    ensures plan { (names : List (List ℕ)) (p : Partition) (lines : List CertLine) (c : PlanCertificate) (line : CertLine)
+        (behind : List CertLine) → plan_reading names p lines ≡ Ok c →
+        plan_reading names p (lines ++ (line ∷ behind)) ≡ Err (BadCertLine line.no) }
+    ensures circle { (names : List (List ℕ)) (lines : List CertLine) (c : CircleCertificate) (line : CertLine)
+        (behind : List CertLine) → circle_reading names lines ≡ Ok c → c.steps ≢ None →
+        circle_reading names (lines ++ (line ∷ behind)) ≡ Err (BadCertLine line.no) }
+    ensures run { (names : List (List ℕ)) (lines : List CertLine) (steps : List Step) (line : CertLine)
+        (behind : List CertLine) → run_reading names lines ≡ Ok steps →
+        run_reading names (lines ++ (line ∷ behind)) ≡ Err (BadCertLine line.no) }
 {}
 
 /// The workqueue of an item is the one on whose line it stands.
