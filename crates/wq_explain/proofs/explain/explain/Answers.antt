@@ -1,5 +1,5 @@
 use Rattle.std.proofs.Common.{rules, ◌≡◌, ◌∙◌, None, Some, ap, map, sym}
-use Rattle.wq_explain.specs.Explaining.{explanation_in, known_or_not, row_of, text_or_titles}
+use Rattle.wq_explain.specs.Explaining.{known_or_not, row_of, text_or_titles}
 use Rattle.wq_explain.proofs.TableLemmas.{explanation_in-found, explanation_in-none}
 use Rattle.wq_explain.proofs.explain.explain.Goals as goal
 

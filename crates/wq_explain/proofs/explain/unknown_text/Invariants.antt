@@ -1,5 +1,5 @@
 -- The first line and the titles of the rows so far stand there.
-use Rattle.std.proofs.Common.{◌≡◌, ◌++◌, map, take, codes}
+use Rattle.std.proofs.Common.{◌≡◌, map, take}
 use Rattle.wq_explain.specs.Explaining.{row_of, unknown_text}
 use Rattle.wq_explain.proofs.explain.unknown_text.Given as goal
 
