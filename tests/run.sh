@@ -9,4 +9,5 @@ bash tests/program.sh
 bash tests/rows.sh
 bash tests/examples.sh
 bash tests/guide.sh
+bash tests/explain.sh
 bash tests/model.sh

@@ -1,12 +1,18 @@
 -- The command line of the program, in the words of `clap`.
-use Rattle.std.specs.Prelude.{◌≡◌, ◌==◌, Bool, not, [], ◌∷◌, List, Option, Some, None, codes, true, option_map}
-use Rattle.clap.specs.Words.{App, Row, Rule, Text, first_of, new_app, new_rule, subcommand_of, with_rule, with_subcommand}
+use Rattle.std.specs.Prelude.{◌≡◌, ◌==◌, ◌<◌, ◌^◌, ℕ, Bool, not, [], ◌∷◌, List, Option, Some, None, codes, decimal, true, option_map}
+use Rattle.std.specs.Str.Parse.{IsNumeral, digits_value, without_leading_plus}
+use Rattle.clap.specs.Words.{App, Row, Rule, Text, first_of, one_of, new_app, new_rule, subcommand_of, with_rule, with_subcommand}
+use Rattle.clap.specs.declared.builder.value_parser.ValueParser.TheVariants.{Unsigned}
 use Rattle.wqplan.specs.declared.command_line.Request.{Request}
-use Rattle.wqplan.specs.declared.command_line.Request.TheVariants.{Plan, Check, Deadlock, Replay}
+use Rattle.wqplan.specs.declared.command_line.Request.TheVariants.{Plan, Check, Deadlock, Replay, Explain}
 
 -- a positional argument that has to be given
 abbrev pub needed : Text → Rule
 needed name = record (new_rule name) { required = true }
+
+-- a positional argument that has to be given, and to be a number of 32 bits
+abbrev pub needed_number : Text → Rule
+needed_number name = record (needed name) { parser = Some (Unsigned 0 4294967295) }
 
 -- `plan [FILE]`
 abbrev pub plan : App
@@ -24,19 +30,24 @@ deadlock = with_rule (with_rule (new_app (codes "deadlock")) (needed (codes "DEC
 abbrev pub replay : App
 replay = with_rule (with_rule (with_rule (new_app (codes "replay")) (needed (codes "DECL"))) (needed (codes "ASSIGN"))) (needed (codes "RUN"))
 
+-- `explain CODE`
+abbrev pub explain : App
+explain = with_rule (new_app (codes "explain")) (needed_number (codes "CODE"))
+
 -- the program: it has a version, and one of its commands must be given
 abbrev pub wqplan : App
 wqplan =
     let start = new_app (codes "wqplan") in
     let bare = record start { top = record start.top { has_version = true; subcommand_required = true } } in
-    with_subcommand (with_subcommand (with_subcommand (with_subcommand bare plan.top) check.top) deadlock.top) replay.top
+    with_subcommand (with_subcommand (with_subcommand (with_subcommand (with_subcommand bare plan.top) check.top) deadlock.top) replay.top) explain.top
 
--- a command and the paths of its files
+-- a command and the paths of its files, or its number
 pub data Asked : Type 0 where
   plans : Option Text → Asked
   checks : Text → Text → Asked
   judges : Text → Text → Asked
   replays : Text → Text → Text → Asked
+  explains : ℕ → Asked
 
 -- what a request asks for
 abbrev pub spelled : Request → Asked
@@ -44,6 +55,7 @@ spelled (Plan file) = plans (option_map (λ s. s.now) file)
 spelled (Check declaration certificate) = checks declaration.now certificate.now
 spelled (Deadlock declaration assignment) = judges declaration.now assignment.now
 spelled (Replay declaration assignment run) = replays declaration.now assignment.now run.now
+spelled (Explain code) = explains code
 
 -- the name of the command that is asked for
 abbrev pub name_of : Asked → Text
@@ -51,14 +63,22 @@ name_of (plans file) = codes "plan"
 name_of (checks declaration certificate) = codes "check"
 name_of (judges declaration assignment) = codes "deadlock"
 name_of (replays declaration assignment run) = codes "replay"
+name_of (explains code) = codes "explain"
 
--- the matches of the command give it these files
+-- the word is this number of 32 bits, in digits; a plus may stand before them
+abbrev pub IsNumber : Text → ℕ → Type 0
+IsNumber word code =
+    let digits = without_leading_plus word in
+    IsNumeral 10 digits × (digits_value 10 digits < 2 ^ 32) × (code ≡ digits_value 10 digits)
+
+-- the matches of the command give it these files, or this number
 abbrev pub Gives : List Row → Asked → Type 0
 Gives rows (plans file) = first_of (codes "FILE") rows ≡ file
 Gives rows (checks declaration certificate) = (first_of (codes "DECL") rows ≡ Some declaration) × (first_of (codes "CERT") rows ≡ Some certificate)
 Gives rows (judges declaration assignment) = (first_of (codes "DECL") rows ≡ Some declaration) × (first_of (codes "ASSIGN") rows ≡ Some assignment)
 Gives rows (replays declaration assignment run) =
     (first_of (codes "DECL") rows ≡ Some declaration) × (first_of (codes "ASSIGN") rows ≡ Some assignment) × (first_of (codes "RUN") rows ≡ Some run)
+Gives rows (explains code) = (word : Text) × (one_of (codes "CODE") rows ≡ Some word) × IsNumber word code
 
 -- a command that was met, with its matches, asks for this
 abbrev pub AsksFor : Option (Text × List Row) → Asked → Type 0
@@ -73,7 +93,7 @@ abbrev pub is_no_option : Text → Bool
 is_no_option [] = true
 is_no_option (x ∷ xs) = not (x == 45)
 
--- the words are the program's name and a command, and behind them its files, of which no path looks like an option
+-- the words are the program's name and a command, and behind them its files, of which no path looks like an option, or its number
 abbrev pub Calls : List Text → Asked → Type 0
 Calls words (plans None) = (program : Text) × (words ≡ program ∷ codes "plan" ∷ [])
 Calls words (plans (Some file)) = (program : Text) × (words ≡ program ∷ codes "plan" ∷ file ∷ []) × (is_no_option file ≡ true)
@@ -83,3 +103,4 @@ Calls words (judges declaration assignment) = (program : Text) × (words ≡ pro
     × (is_no_option declaration ≡ true) × (is_no_option assignment ≡ true)
 Calls words (replays declaration assignment run) = (program : Text) × (words ≡ program ∷ codes "replay" ∷ declaration ∷ assignment ∷ run ∷ [])
     × (is_no_option declaration ≡ true) × (is_no_option assignment ≡ true) × (is_no_option run ≡ true)
+Calls words (explains code) = (program : Text) × (words ≡ program ∷ codes "explain" ∷ decimal code ∷ []) × (code < 2 ^ 32)

@@ -5,9 +5,10 @@
 ghost use Rattle.std.specs.Prelude.{◌≡◌, ℕ, List, Some, codes, false, IfOk, IfSome, IsSome, MatchResult, map};
 ghost use Rattle.clap.specs.Words.{app_of, found_of, kind_of, rows_of, rule_of, subcommand_rows_of};
 ghost use Rattle.clap.specs.declared.error.kind.ErrorKind.TheVariants.{OutOfMemory};
-ghost use Rattle.wqplan.specs.CommandLine.{check, deadlock, needed, plan, replay, spelled, wqplan, Asked, Asks, AsksFor, Calls, Gives, checks, judges, replays};
+ghost use Rattle.wqplan.specs.CommandLine.{check, deadlock, explain, needed, needed_number, plan, replay, spelled, wqplan, Asked, Asks, AsksFor, Calls, Gives, checks, explains, judges, replays};
 
 use crate::help;
+use clap::builder::ValueParser;
 use clap::error::ErrorKind;
 use clap::{Arg, ArgMatches, Command, Error};
 use std::alloc::{AllocError, Global};
@@ -38,6 +39,10 @@ pub(crate) enum Request<'a> {
         assignment: &'a str,
         run: &'a str,
     },
+    /// What this number means.
+    Explain {
+        code: u32,
+    },
 }
 
 /// The words of the command line. The first is the program's name.
@@ -52,6 +57,14 @@ fn file<'a>(alloc: Global, name: &'a str, help: &'a str) -> Arg<'a>
     ensures own { result.global ≡ false }
 {
     Arg::new(alloc, name).help(help).required(true)
+}
+
+/// A number of 32 bits that a command has to be given.
+fn number<'a>(alloc: Global, name: &'a str, help: &'a str) -> Arg<'a>
+    ensures rule { rule_of result ≡ needed_number name.entry.now }
+    ensures own { result.global ≡ false }
+{
+    file(alloc, name, help).value_parser(ValueParser::unsigned(0, u64::from(u32::MAX)))
 }
 
 /// The command `plan`.
@@ -106,6 +119,17 @@ fn replay<'a>(alloc: Global) -> Result<Command<'a>, AllocError>
         .arg(run)
 }
 
+/// The command `explain`.
+fn explain<'a>(alloc: Global) -> Result<Command<'a>, AllocError>
+    ensures { IfOk result (λ command. app_of command ≡ explain) }
+{
+    let code = number(alloc, "CODE", help::CODE);
+    Command::new(alloc, "explain")
+        .about(help::EXPLAIN)
+        .after_help(help::STATUSES)
+        .arg(code)
+}
+
 /// The program with its commands, as it is read and as help shows it.
 fn program<'a>(alloc: Global) -> Result<Command<'a>, AllocError>
     ensures { IfOk result (λ command. app_of command ≡ wqplan) }
@@ -118,7 +142,8 @@ fn program<'a>(alloc: Global) -> Result<Command<'a>, AllocError>
         .subcommand(plan(alloc)?)?
         .subcommand(check(alloc)?)?
         .subcommand(deadlock(alloc)?)?
-        .subcommand(replay(alloc)?)
+        .subcommand(replay(alloc)?)?
+        .subcommand(explain(alloc)?)
 }
 
 /// What `check` is asked for. Its two files are there in all matches that a parse gives.
@@ -162,6 +187,15 @@ fn replay_request<'a>(given: &ArgMatches<'a>) -> Option<Request<'a>>
     })
 }
 
+/// What `explain` is asked for. Its number is there in all matches that a parse gives.
+fn explain_request<'a>(given: &ArgMatches<'a>) -> Option<Request<'a>>
+    ensures asked { IfSome result (λ request. AsksFor (Some (codes "explain", rows_of (found_of given.now))) (spelled request)) }
+    ensures all { (code : ℕ) → Gives (rows_of (found_of given.now)) (explains code) → IsSome result }
+{
+    let code = given.get_one("CODE")?;
+    Some(Request::Explain { code })
+}
+
 /// What the command that a parse entered is asked for. There is none where `help` was entered.
 fn entered<'a>(matches: &ArgMatches<'a>) -> Option<Request<'a>>
     ensures asked { IfSome result (λ request. AsksFor (subcommand_rows_of matches.now) (spelled request)) }
@@ -177,6 +211,9 @@ fn entered<'a>(matches: &ArgMatches<'a>) -> Option<Request<'a>>
     }
     if let Some(given) = matches.subcommand_matches("deadlock") {
         return deadlock_request(given);
+    }
+    if let Some(given) = matches.subcommand_matches("explain") {
+        return explain_request(given);
     }
     replay_request(matches.subcommand_matches("replay")?)
 }

@@ -21,6 +21,10 @@ Reads a declaration and which item is on which workqueue, and prints `safe`, or 
 pub(crate) const REPLAY: &str = "\
 Reads a declaration, which item is on which workqueue, and a run, and prints how the run ends";
 
+/// What `explain` prints.
+pub(crate) const EXPLAIN: &str = "\
+Prints what the number of a refusal or of a `no` means, an example, and how to mend it";
+
 /// What FILE is.
 pub(crate) const FILE: &str = "The declaration. Without FILE it is read from standard input";
 
@@ -36,17 +40,21 @@ pub(crate) const ASSIGN: &str = "A plan of the declaration, or its `wq` lines al
 /// What RUN is.
 pub(crate) const RUN: &str = "The steps of a run";
 
+/// What CODE is.
+pub(crate) const CODE: &str = "The number, as in `refused CODE line N` or `no CODE ..`";
+
 /// What is printed and returned, and where the formats are described.
 pub(crate) const STATUSES: &str = "\
 Each command prints one answer to standard output, or a line `refused CODE line N`.
 
 Exit status:
-  0  the answer is a plan, `yes ..`, `safe` or `open`; or help or the version was
-     printed
+  0  the answer is a plan, `yes ..`, `safe`, `open` or an explanation; or help or
+     the version was printed
   1  the answer is a circle, where items wait for one another and there is no plan;
      or it is `no ..`, a run that deadlocks, `deadlock`, `stuck` or `not lawful N`
-  2  a refusal was printed: a text isn't of the form that it should have. Or the
-     command line is wrong; then standard error says how, and nothing was read
+  2  a refusal was printed: a text isn't of the form that it should have; or the
+     number to explain is none that is printed. Or the command line is wrong; then
+     standard error says how, and nothing was read
   3  a fault: standard error has the line `fault memory`, `fault read` or `fault write`
 
-docs/FORMAT.md describes the texts, the answers, and what each refusal's CODE means.";
+docs/FORMAT.md describes the texts and the answers, `wqplan explain CODE` each refusal.";

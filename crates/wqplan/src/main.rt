@@ -1,7 +1,7 @@
-//! `wqplan`: the commands of `wq_commands`, over the files and standard streams of a process.
+//! `wqplan`: the commands of `wq_commands` and `wq_explain`, over the files and standard streams of a process.
 //!
 //! What this crate adds is the command line, the files and the exit status; what is read and what is answered stand
-//! in `wq_commands`. The formats and the statuses are those of docs/FORMAT.md. The status is returned from `main` as
+//! in those crates. The formats and the statuses are those of docs/FORMAT.md. The status is returned from `main` as
 //! a number and never as an error, since the status of an error is 1, which means an answer that is bad. The time is that
 //! of the command.
 #![tactic(auto)]
@@ -10,6 +10,7 @@ mod check;
 mod command_line;
 mod deadlock;
 mod ending;
+mod explain;
 mod help;
 mod plan;
 mod replay;
@@ -39,6 +40,7 @@ fn perform<R: Files + Input + Print + AllocGlobal>(
             assignment,
             run,
         } => replay::replay(rt, declaration, assignment, run),
+        Request::Explain { code } => explain::explain(rt, code),
     }
 }
 

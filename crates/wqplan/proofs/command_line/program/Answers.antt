@@ -1,7 +1,7 @@
 use Rattle.std.proofs.Common.{rules, ap, ap₂, codes, true, ◌≡◌, ◌∙◌}
 use Rattle.std.proofs.lemmas.Result.{IfOk-weaker}
 use Rattle.clap.specs.Words.{App, app_of, new_app, with_subcommand}
-use Rattle.wqplan.specs.CommandLine.{plan, check, deadlock}
+use Rattle.wqplan.specs.CommandLine.{plan, check, deadlock, replay}
 use Rattle.wqplan.proofs.CommandLemmas.{third_is_not}
 use Rattle.wqplan.proofs.command_line.program.Goals as goal
 
@@ -17,4 +17,6 @@ returns c =
     c.in_ok-subcommand-2.ensures.shape (third_is_not _ _ _ _ (ap (λ (a : App). a.top.is_plain) c.in_ok-check.ensures)) ∙ ap₂ with_subcommand one (ap (λ (a : App). a.top) c.in_ok-check.ensures) in
     let three : app_of c.in_ok-subcommand-3.field-0 ≡ with_subcommand (with_subcommand (with_subcommand bare plan.top) check.top) deadlock.top =
     c.in_ok-subcommand-3.ensures.shape (third_is_not _ _ _ _ (ap (λ (a : App). a.top.is_plain) c.in_ok-deadlock.ensures)) ∙ ap₂ with_subcommand two (ap (λ (a : App). a.top) c.in_ok-deadlock.ensures) in
-    IfOk-weaker c.subcommand-4.result _ _ (λ r added. added.shape (third_is_not _ _ _ _ (ap (λ (a : App). a.top.is_plain) c.in_ok-replay.ensures)) ∙ ap₂ with_subcommand three (ap (λ (a : App). a.top) c.in_ok-replay.ensures)) c.subcommand-4.ensures
+    let four : app_of c.in_ok-subcommand-4.field-0 ≡ with_subcommand (with_subcommand (with_subcommand (with_subcommand bare plan.top) check.top) deadlock.top) replay.top =
+    c.in_ok-subcommand-4.ensures.shape (third_is_not _ _ _ _ (ap (λ (a : App). a.top.is_plain) c.in_ok-replay.ensures)) ∙ ap₂ with_subcommand three (ap (λ (a : App). a.top) c.in_ok-replay.ensures) in
+    IfOk-weaker c.subcommand-5.result _ _ (λ r added. added.shape (third_is_not _ _ _ _ (ap (λ (a : App). a.top.is_plain) c.in_ok-explain.ensures)) ∙ ap₂ with_subcommand four (ap (λ (a : App). a.top) c.in_ok-explain.ensures)) c.subcommand-5.ensures

@@ -1,0 +1,447 @@
+//! The explanations: one for each number that the program prints.
+//!
+//! docs/FORMAT.md has the rules. tests/explain.sh runs each example. A search takes time in the number of rows.
+
+ghost use Rattle.std.specs.Prelude.{◌≡◌, ◌==◌, find, option_map};
+
+/// A number that the program prints; a line with the number and its name; and what it means. That is what was found, the
+/// section of docs/FORMAT.md in which the rule stands, shell commands of which the last one is answered with the number,
+/// and how to mend it.
+pub type Explanation = (u32, &'static str, &'static str);
+
+const TEXT_TOO_LONG: Explanation = (
+    1,
+    "1 TextTooLong\n",
+    "\
+`refused 1 line 0`: the declaration has more than 1,048,576 bytes. Comments and
+blanks count.
+
+The rule: docs/FORMAT.md, \"Limits\"
+
+To see it:
+    head -c 1048577 /dev/zero | wqplan plan
+
+To mend it:
+Take out comments and blanks. Or declare parts that have no flush and no
+`ordered` line in common in files of their own.
+",
+);
+
+const LINE_TOO_LONG: Explanation = (
+    2,
+    "2 LineTooLong\n",
+    "\
+`refused 2 line N`: line N of the declaration has more than 4,096 bytes. Its
+comment and its blanks count, its line feed doesn't.
+
+The rule: docs/FORMAT.md, \"Limits\"
+
+To see it:
+    head -c 4097 /dev/zero | wqplan plan
+
+To mend it:
+Write a long `flush` line as several lines with the same item: their targets add
+up. Put a long comment on lines of its own. The items of an `ordered` line have
+to stand on one line: give them shorter names.
+",
+);
+
+const BAD_BYTE: Explanation = (
+    3,
+    "3 BadByte\n",
+    "\
+`refused 3 line N`: before the comment of line N stands a byte that is neither a
+tab nor one of 0x20 to 0x7E: a part of a character that isn't ASCII, a control
+character, or a carriage return that isn't directly before the line feed.
+
+The rule: docs/FORMAT.md, \"Directives\"
+
+To see it:
+    printf 'item caf\\303\\251\\n' | wqplan plan
+
+To mend it:
+Write names in ASCII, and blanks as spaces or tabs. Behind a `#` any byte may
+stand.
+",
+);
+
+const UNKNOWN_WORD: Explanation = (
+    4,
+    "4 UnknownWord\n",
+    "\
+`refused 4 line N`: the first word of line N is none of `item`, `flush` and
+`ordered`. `Item` isn't `item`.
+
+The rule: docs/FORMAT.md, \"Directives\"
+
+To see it:
+    printf 'Item a\\n' | wqplan plan
+
+To mend it:
+Begin the line with one of the three words, in lower case. Put a `#` before it
+if it is a comment.
+",
+);
+
+const MISSING_NAME: Explanation = (
+    5,
+    "5 MissingName\n",
+    "\
+`refused 5 line N`: line N has too few words. `item` and `ordered` want at least
+one name, `flush` wants an item and at least one target.
+
+The rule: docs/FORMAT.md, \"Directives\"
+
+To see it:
+    printf 'item\\n' | wqplan plan
+
+To mend it:
+Add the name, or take out the line. An item that flushes nothing has no `flush`
+line. What stands behind a `#` is a comment, and no name.
+",
+);
+
+const BAD_NAME: Explanation = (
+    6,
+    "6 BadName\n",
+    "\
+`refused 6 line N`: a word of line N, behind the first one, is no name. A name
+is 1 to 63 ASCII letters, digits, `_`, `-` and `.`.
+
+The rule: docs/FORMAT.md, \"Names\"
+
+To see it:
+    printf 'item a!\\n' | wqplan plan
+
+To mend it:
+Write `_` or `-` in place of other characters, and shorten a name of more than
+63. Names are parted by spaces or tabs, not by commas.
+",
+);
+
+const ITEM_TWICE: Explanation = (
+    7,
+    "7 ItemTwice\n",
+    "\
+`refused 7 line N`: line N declares an item of a name that an `item` line above
+it declares too.
+
+The rule: docs/FORMAT.md, \"Items and groups\"
+
+To see it:
+    printf 'item a\\nitem a\\n' | wqplan plan
+
+To mend it:
+Take out one of the two lines, or rename one of the items.
+",
+);
+
+const UNKNOWN_ITEM: Explanation = (
+    8,
+    "8 UnknownItem\n",
+    "\
+`refused 8 line N`: line N, a `flush` or `ordered` line, has a name that no
+`item` line above it declares. An `item` line below it doesn't count.
+
+The rule: docs/FORMAT.md, \"Items and groups\"
+
+To see it:
+    printf 'item a\\nflush a b\\n' | wqplan plan
+
+To mend it:
+Move all `item` lines to the top, add the one that is missing, or correct the
+name. Upper and lower case differ.
+",
+);
+
+const TOO_MANY_ITEMS: Explanation = (
+    9,
+    "9 TooManyItems\n",
+    "\
+`refused 9 line N`: line N declares one more item than the 4,096 that there may
+be.
+
+The rule: docs/FORMAT.md, \"Limits\"
+
+To see it:
+    seq -f 'item i%g' 4097 | wqplan plan
+
+To mend it:
+Declare parts that have no flush and no `ordered` line in common in files of
+their own. An item that no such line names may go on any workqueue.
+",
+);
+
+const TOO_MANY_FLUSHES: Explanation = (
+    10,
+    "10 TooManyFlushes\n",
+    "\
+`refused 10 line N`: with those of line N there are more than 16,384 flushes.
+Each target of each `flush` line is one.
+
+The rule: docs/FORMAT.md, \"Limits\"
+
+To see it:
+    (echo 'item a'; yes 'flush a a' | head -n 16385) | wqplan plan
+
+To mend it:
+Take out targets that an item has twice: the workqueues stay the same. Or
+declare parts that have no flush and no `ordered` line in common in files of
+their own.
+",
+);
+
+const GROUPED_TWICE: Explanation = (
+    11,
+    "11 GroupedTwice\n",
+    "\
+`refused 11 line N`: line N, an `ordered` line, has a name twice, or one that an
+`ordered` line above it has.
+
+The rule: docs/FORMAT.md, \"Items and groups\"
+
+To see it:
+    printf 'item a\\nordered a a\\n' | wqplan plan
+
+To mend it:
+Name each item once. Two `ordered` lines that have an item in common are one
+ordered workqueue: write them as one line.
+",
+);
+
+const EXTRA_WORD: Explanation = (
+    12,
+    "12 ExtraWord\n",
+    "\
+`refused 12 line N`: line N, an `item` line, has more than one word behind
+`item`.
+
+The rule: docs/FORMAT.md, \"Directives\"
+
+To see it:
+    printf 'item a b\\n' | wqplan plan
+
+To mend it:
+Write an `item` line for each item. A comment begins with `#`.
+",
+);
+
+const BAD_CERT_LINE: Explanation = (
+    40,
+    "40 BadCertLine\n",
+    "\
+`refused 40 line N`: line N of a plan, a circle, an assignment or a run isn't of
+the form that stands next: another first word, too few or too many words, no
+number where one belongs, a name that the declaration doesn't have, a line
+behind the end, or a line that is too long. With line 0 the text is too long, or
+ends too early.
+
+The rule: docs/FORMAT.md, \"Certificates\"
+
+To see it:
+    printf 'item a\\n' > decl
+    printf 'plan one\\n' > cert
+    wqplan check decl cert
+
+To mend it:
+Compare the line with its form. Numbers have no sign and no leading zero, and
+those of `plan`, `chain`, `circle` and `run` say how many lines follow. See that
+the text was made for this declaration.
+",
+);
+
+const NOT_ALL_ITEMS: Explanation = (
+    41,
+    "41 NotAllItems\n",
+    "\
+`refused 41 line N`: line N, a `wq` line, has an item twice, or one that a `wq`
+line above it has. With line 0 an item stands on no `wq` line.
+
+The rule: docs/FORMAT.md, \"Certificates\"
+
+To see it:
+    printf 'item a\\n' > decl
+    printf 'wq 0\\n' > assign
+    wqplan deadlock decl assign
+
+To mend it:
+Put each item of the declaration on just one `wq` line. Those of a plan end
+where its K says so.
+",
+);
+
+const GROUP_SPLIT: Explanation = (
+    42,
+    "42 GroupSplit\n",
+    "\
+`refused 42 line N`: line N, a `wq` line, has an item that shares an `ordered`
+line with one that stands on a `wq` line above.
+
+The rule: docs/FORMAT.md, \"Certificates\"
+
+To see it:
+    printf 'item a\\nitem b\\nordered a b\\n' > decl
+    printf 'wq 0 a\\nwq 1 b\\n' > assign
+    wqplan deadlock decl assign
+
+To mend it:
+Put all items of the `ordered` line on one `wq` line. If they may stand on
+different workqueues, take them off the `ordered` line.
+",
+);
+
+const NUMBER_OUT_OF_RANGE: Explanation = (
+    43,
+    "43 NumberOutOfRange\n",
+    "\
+`refused 43 line N`: a number of line N is none that may stand there. The `wq`
+lines are numbered 0, 1, 2 and so on; `plan`, `chain` and `circle` have at most
+4,096, `circle` at least 1; and no step is on a workqueue above 4,095.
+
+The rule: docs/FORMAT.md, \"Certificates\"
+
+To see it:
+    printf 'item a\\n' > decl
+    printf 'wq 1 a\\n' > assign
+    wqplan deadlock decl assign
+
+To mend it:
+Number the workqueues from 0 on, in order. Write a `wq` line without names for
+one that is empty.
+",
+);
+
+const NOT_FALLING: Explanation = (
+    50,
+    "50 NotFalling\n",
+    "\
+`no 50 ITEM TARGET`: ITEM flushes TARGET, and its workqueue isn't above that of
+TARGET. A plan is only taken where each flush leads to a lower workqueue.
+
+The rule: docs/FORMAT.md, \"The command `check`\"
+
+To see it:
+    printf 'item a\\nitem b\\nflush a b\\n' > decl
+    printf 'plan 1\\nwq 0 a b\\nchain 1\\n' > cert
+    wqplan check decl cert
+
+To mend it:
+Put ITEM on a workqueue with a higher number than that of TARGET. `wqplan plan`
+prints such a plan; `wqplan deadlock` says whether an assignment is safe however
+its workqueues are numbered.
+",
+);
+
+const CHAIN_BROKEN: Explanation = (
+    51,
+    "51 ChainBroken\n",
+    "\
+`no 51 AT`: arc AT of the chain, counted from 1, is no declared flush, or its
+item isn't in the group of the target of the arc before it. With AT 0 the chain
+is one group, and the declaration has none.
+
+The rule: docs/FORMAT.md, \"The command `check`\"
+
+To see it:
+    printf 'item a\\nitem b\\nflush a b\\n' > decl
+    printf 'plan 2\\nwq 0 b\\nwq 1 a\\nchain 2\\narc b a\\n' > cert
+    wqplan check decl cert
+
+To mend it:
+Write the arcs in the order in which the items wait: first the item that waits,
+then the one that it flushes. `wqplan plan` prints such a chain.
+",
+);
+
+const LENGTH_DIFFERS: Explanation = (
+    52,
+    "52 LengthDiffers\n",
+    "\
+`no 52`: the chain hasn't as many groups as there are workqueues, so it doesn't
+show that fewer workqueues aren't enough.
+
+The rule: docs/FORMAT.md, \"The command `check`\"
+
+To see it:
+    printf 'item a\\n' > decl
+    printf 'plan 2\\nwq 0\\nwq 1 a\\nchain 1\\n' > cert
+    wqplan check decl cert
+
+To mend it:
+Use as many workqueues as a longest waiting chain has groups, and give that
+chain. `wqplan plan` prints both.
+",
+);
+
+const CIRCLE_BROKEN: Explanation = (
+    53,
+    "53 CircleBroken\n",
+    "\
+`no 53 AT`: arc AT of the circle, counted from 1, is no declared flush, or its
+item isn't in the group of the target of the arc before it. The arc before the
+first one is the last.
+
+The rule: docs/FORMAT.md, \"The command `check`\"
+
+To see it:
+    printf 'item a\\n' > decl
+    printf 'circle 1\\narc a a\\n' > cert
+    wqplan check decl cert
+
+To mend it:
+Write declared flushes that go round, each from the group that the one before it
+leads to. `wqplan plan` prints a circle where there is one.
+",
+);
+
+const RUN_BROKEN: Explanation = (
+    54,
+    "54 RunBroken\n",
+    "\
+`no 54`: the circle goes round, but the run behind it doesn't deadlock where
+each group has a workqueue of its own, numbered as the groups are.
+
+The rule: docs/FORMAT.md, \"The command `check`\"
+
+To see it:
+    printf 'item a\\nflush a a\\n' > decl
+    printf 'circle 1\\narc a a\\nrun 0\\n' > cert
+    wqplan check decl cert
+
+To mend it:
+Leave the run out: the circle alone is enough. Or take the run that `wqplan
+plan` prints. `wqplan replay` says how a run ends.
+",
+);
+
+/// All explanations, by number.
+pub static EXPLANATIONS: [Explanation; 21] = [
+    TEXT_TOO_LONG,
+    LINE_TOO_LONG,
+    BAD_BYTE,
+    UNKNOWN_WORD,
+    MISSING_NAME,
+    BAD_NAME,
+    ITEM_TWICE,
+    UNKNOWN_ITEM,
+    TOO_MANY_ITEMS,
+    TOO_MANY_FLUSHES,
+    GROUPED_TWICE,
+    EXTRA_WORD,
+    BAD_CERT_LINE,
+    NOT_ALL_ITEMS,
+    GROUP_SPLIT,
+    NUMBER_OUT_OF_RANGE,
+    NOT_FALLING,
+    CHAIN_BROKEN,
+    LENGTH_DIFFERS,
+    CIRCLE_BROKEN,
+    RUN_BROKEN,
+];
+
+/// The first of these explanations that has this number, if there is one.
+pub(crate) fn with_number(rows: &[Explanation], code: u32) -> Option<&Explanation>
+    ensures { option_map (λ row. row.now) result ≡ find (λ row. row.0 == code) rows.now }
+{
+    rows.iter().find(|row| row.0 == code)
+}

@@ -1,0 +1,22 @@
+//! The command `explain` over standard output.
+//!
+//! Nothing is read. Standard output has no buffer, as in `plan`.
+
+ghost use Rattle.std.specs.Prelude.{◌≡◌, IfOk};
+ghost use Rattle.wq_explain.specs.Explaining.{explained_end};
+ghost use Rattle.wqplan.specs.Status.{explain_end};
+
+use std::io;
+use wq_commands::{End, Fault, Metered};
+use wq_explain::{Explained, explain_cmd};
+
+/// Prints what a number means. A number without an explanation ends as a text that is refused.
+pub(crate) fn explain<R: Print + AllocGlobal>(rt: &R, code: u32) -> Result<End, Fault>
+    ensures { IfOk result (λ end. end ≡ explain_end (explained_end code)) }
+{
+    let mut writer = Metered::new(io::writer(rt));
+    match explain_cmd(rt.alloc(), code, &mut writer)? {
+        Explained::Known => Ok(End::Good),
+        Explained::Unknown => Ok(End::Refused),
+    }
+}

@@ -1,0 +1,103 @@
+#!/usr/bin/env bash
+# Runs `wqplan explain` for each number, and the example that it prints, whose answer has to be that number.
+# Run it once the gate or `rt run` has built the program. The argument, if there is one, names another program.
+set -u
+program=$(realpath -- "${1:-$(dirname "$0")/../crates/wqplan/out/wqplan}")
+format=$(realpath -- "$(dirname "$0")/../docs/FORMAT.md")
+if [ ! -x "$program" ]; then
+    echo "explain: there is nothing to run at $program (cd crates/wqplan && rt run builds it)"
+    exit 1
+fi
+
+work=$(mktemp -d)
+trap 'rm -rf -- "$work"' EXIT
+cd -- "$work" || exit 1
+mkdir bin
+ln -s -- "$program" bin/wqplan
+passed=0
+failed=0
+status=0
+
+# run ARGS..: runs the program, and keeps what it writes and its status.
+run() {
+    timeout 60 "$program" "$@" >out 2>err </dev/null
+    status=$?
+}
+
+# is NAME WANTED FOUND: counts whether the two are the same.
+is() {
+    if [ "$2" = "$3" ]; then
+        passed=$((passed + 1))
+        echo "ok      $1"
+    else
+        failed=$((failed + 1))
+        echo "FAILED  $1: wanted '$2', found '$3'"
+    fi
+}
+
+# has NAME PATTERN TEXT: counts whether the pattern fits the text.
+has() {
+    if [[ $3 =~ $2 ]]; then
+        passed=$((passed + 1))
+        echo "ok      $1"
+    else
+        failed=$((failed + 1))
+        echo "FAILED  $1: wanted '$2', found '$3'"
+    fi
+}
+
+# below HEADING: the lines of `out` behind this line, up to an empty one.
+below() {
+    awk -v heading="$1" '$0 == heading { on = 1; next } on && $0 == "" { exit } on' out
+}
+
+# explained NUMBER NAME STATUS ANSWER: whether the number is explained, and its example ends with this status and answer.
+explained() {
+    run explain "$1"
+    is "explain $1" "0: $1 $2" "$status: $(head -n 1 out)"
+    is "explain $1: nothing on standard error" '' "$(cat err)"
+    is "explain $1: no line of more than 80 bytes" '' "$(LC_ALL=C grep -E '.{81}' out)"
+    local section
+    section=$(sed -n 's/^The rule: docs\/FORMAT\.md, "\(.*\)"$/\1/p' out)
+    is "explain $1: the section is there" "## $section" "$(grep -Fx -- "## $section" "$format")"
+    has "explain $1: how to mend it" . "$(below 'To mend it:')"
+    mkdir "example$1"
+    below 'To see it:' >"example$1/commands"
+    local answer
+    answer=$(cd "example$1" && PATH=$work/bin:$PATH timeout 60 bash commands 2>&1)
+    has "explain $1: the example" "^$3: $4\$" "$?: $answer"
+}
+
+while read -r number name; do
+    explained "$number" "$name" 2 "refused $number line [0-9]+"
+done < <(sed -nE 's/^\| ([0-9]+) \| ([A-Za-z]+) \|.*/\1 \2/p' "$format")
+while read -r number name; do
+    explained "$number" "$name" 1 "no $number( .*)?"
+done < <(sed -nE 's/^\| `no (5[0-9])[^|]*` \| ([A-Za-z]+) \|.*/\1 \2/p' "$format")
+
+# A number that is never printed: those that are, with their names.
+{
+    sed -nE 's/^\| ([0-9]+) \| ([A-Za-z]+) \|.*/\1 \2/p' "$format"
+    sed -nE 's/^\| `no (5[0-9])[^|]*` \| ([A-Za-z]+) \|.*/\1 \2/p' "$format"
+} | sort -n >numbers
+is 'docs/FORMAT.md has 21 numbers' 21 "$(wc -l <numbers)"
+for number in 0 13 20 44 4294967295; do
+    run explain "$number"
+    is "explain $number" "2: $(cat numbers)" "$status: $(tail -n +2 out)"
+done
+
+# What is no number of 32 bits is a mistake on the command line.
+for word in x -1 4294967296 1x ''; do
+    run explain "$word"
+    is "explain '$word'" '2:' "$status:$(cat out)"
+    has "explain '$word': standard error" . "$(cat err)"
+done
+run explain
+is 'explain without a number' '2:' "$status:$(cat out)"
+run explain 1 2
+is 'explain with two numbers' '2:' "$status:$(cat out)"
+timeout 60 "$program" explain 1 >/dev/full 2>err
+is 'a full device' '3: fault write' "$?: $(cat err)"
+
+echo "explain: $passed passed, $failed failed"
+[ "$failed" -eq 0 ]
