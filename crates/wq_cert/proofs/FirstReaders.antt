@@ -46,7 +46,7 @@ module _ (names : List (List ℕ)) where
       (IsAt-ok_or line.no (wq_form names line.words))
       (λ p. IsAt-cond line.no (not (p.0 == place) || nat_le 4096 place) (NumberOutOfRange line.no) (Ok p.1) refl tt)
 
-  at-wq : (group_of : List ℕ) (queues : List (List ℕ)) (line : CertLine) → IsAt line.no (wq_reading names group_of queues line)
+  pub at-wq : (group_of : List ℕ) (queues : List (List ℕ)) (line : CertLine) → IsAt line.no (wq_reading names group_of queues line)
   at-wq group_of queues line =
       IsAt-and_then line.no (λ items. fresh_items group_of (concat queues) line.no items) (wq_items names (length queues) line) (at-wq_items (length queues) line)
       (λ items. IsAt-cond line.no (has_stood (concat queues) items) (NotAllItems line.no) (cond (splits_group group_of (concat queues) items) (Err (GroupSplit line.no)) (Ok items)) refl
@@ -128,7 +128,7 @@ module _ (p : Partition) (queues : List (List ℕ)) where
       whole_or false = refl
 
 module _ (names : List (List ℕ)) (p : Partition) where
-  ReadsInOrder-next_queues : (n : ℕ) (queues : List (List ℕ)) → ReadsInOrder (next_queues names p.group_of n queues)
+  pub ReadsInOrder-next_queues : (n : ℕ) (queues : List (List ℕ)) → ReadsInOrder (next_queues names p.group_of n queues)
   ReadsInOrder-next_queues zero queues = ReadsInOrder-of_no_line {V = List (List ℕ)} (Ok queues) tt
   ReadsInOrder-next_queues (suc n) queues =
       ReadsInOrder-and_read (next_line (wq_reading names p.group_of queues)) (λ items rest. next_queues names p.group_of n (queues ++ (items ∷ [])) rest)

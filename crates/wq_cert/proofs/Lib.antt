@@ -33,3 +33,4 @@ pub mod FirstTexts
 pub mod QueueRows
 pub mod MissingItems
 pub mod LinesBehind
+pub mod CutShort

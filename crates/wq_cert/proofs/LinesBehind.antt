@@ -52,7 +52,7 @@ Ends-and_then {V} {W} P Q read made holds_of ends = record { refused = λ lines 
 
 -- ---- plans, runs and circles
 
-abbrev plan_made : Assignment → ℕ × List (ℕ × ℕ) → PlanCertificate
+abbrev pub plan_made : Assignment → ℕ × List (ℕ × ℕ) → PlanCertificate
 plan_made assignment chain = record { assignment = assignment; length = chain.0; arcs = chain.1 }
 
 abbrev circle_made : List (ℕ × ℕ) → Option (List Step) → CircleCertificate

@@ -145,6 +145,14 @@ pub fn a_line_behind_the_end_is_refused()
         run_reading names (lines ++ (line ∷ behind)) ≡ Err (BadCertLine line.no) }
 {}
 
+/// A plan or a run that is cut before its last line ends too early (40, of no line).
+pub fn a_certificate_cut_short_ends_too_early()
+    ensures plan { (names : List (List ℕ)) (p : Partition) (lines cut : List CertLine) (c : PlanCertificate) → cut ≢ [] →
+        plan_reading names p (lines ++ cut) ≡ Ok c → plan_reading names p lines ≡ Err (BadCertLine 0) }
+    ensures run { (names : List (List ℕ)) (lines cut : List CertLine) (steps : List Step) → cut ≢ [] →
+        run_reading names (lines ++ cut) ≡ Ok steps → run_reading names lines ≡ Err (BadCertLine 0) }
+{}
+
 /// The workqueue of an item is the one on whose line it stands.
 pub fn an_item_is_on_the_workqueue_of_its_line()
     ensures { (p : Partition) (queues : List (List ℕ)) (i q : ℕ) → IsPartition p → AreQueues (length p.group_of) p.group_of queues →
