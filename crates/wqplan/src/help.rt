@@ -11,7 +11,7 @@ pub(crate) const PLAN: &str =
 
 /// What `check` reads and prints.
 pub(crate) const CHECK: &str =
-    "Reads a declaration and an answer to it, and prints whether the answer is right";
+    "Reads a declaration and an answer to it, and prints whether the answer shows what it claims";
 
 /// What `deadlock` reads and prints.
 pub(crate) const DEADLOCK: &str = "\
@@ -32,10 +32,11 @@ pub(crate) const FILE: &str = "The declaration. Without FILE it is read from sta
 pub(crate) const DECL: &str = "The declaration";
 
 /// What CERT is.
-pub(crate) const CERT: &str = "A plan or a circle of the declaration, as `plan` prints it";
+pub(crate) const CERT: &str = "A plan or a circle, in the form in which `plan` prints it";
 
 /// What ASSIGN is.
-pub(crate) const ASSIGN: &str = "A plan of the declaration, or its `wq` lines alone";
+pub(crate) const ASSIGN: &str =
+    "Which item is on which workqueue: `wq` lines alone, or a whole plan";
 
 /// What RUN is.
 pub(crate) const RUN: &str = "The steps of a run";
