@@ -4,7 +4,7 @@ use Rattle.std.specs.Prelude.{codes, ok_or}
 use Rattle.wq_core.specs.declared.step.Step.{Step}
 use Rattle.wq_groups.specs.Partition.{Partition}
 use Rattle.wq_cert.proofs.FirstLines.{ReadsInOrder, read_and, of_no_line, ReadsInOrder-next_line, ReadsInOrder-next_lines}
-use Rattle.wq_cert.proofs.FirstReaders.{at-count, at-run, at-arc, at-step, at-wq, ReadsInOrder-next_queues, ReadsInOrder-counted}
+use Rattle.wq_cert.proofs.FirstReaders.{at-count, at-run, at-arc, at-step, at-wq, ReadsInOrder-next_workqueues, ReadsInOrder-counted}
 use Rattle.wq_cert.proofs.LinesBehind.{plan_made}
 use Rattle.wq_cert.proofs.SpelledLines.{Follows-and_then, FollowsRead-and_read, at_end-Ok}
 use Rattle.wq_cert.specs.Certificate.{PlanCertificate}
@@ -12,7 +12,7 @@ use Rattle.wq_cert.specs.declared.fault.CertError.{CertError}
 use Rattle.wq_cert.specs.declared.fault.CertError.TheVariants.{BadCertLine}
 use Rattle.wq_cert.specs.Forms.{count_form}
 use Rattle.wq_cert.specs.Lines.{CertLine}
-use Rattle.wq_cert.specs.Reading.{Read, and_then, and_read, next_line, next_lines, at_end, count_reading, arc_reading, step_reading, wq_reading, next_queues, whole_assignment, chain_reading, counted_assignment, plan_reading, run_reading}
+use Rattle.wq_cert.specs.Reading.{Read, and_then, and_read, next_line, next_lines, at_end, count_reading, arc_reading, step_reading, wq_reading, next_workqueues, whole_assignment, chain_reading, counted_assignment, plan_reading, run_reading}
 
 -- ---- what may be cut
 
@@ -118,23 +118,23 @@ module _ (names : List (List ℕ)) where
       (λ arcs rest. at_end (n, arcs) rest) (λ arcs. EndsEarly-at_end {V = ℕ × List (ℕ × ℕ)} (n, arcs)))
 
 module _ (names : List (List ℕ)) (p : Partition) where
-  MayBeShort-next_queues : (n : ℕ) (queues : List (List ℕ)) → MayBeShort (next_queues names p.group_of n queues)
-  MayBeShort-next_queues zero queues = MayBeShort-of_no_line {V = List (List ℕ)} (Ok queues)
-  MayBeShort-next_queues (suc n) queues =
-      MayBeShort-and_read (next_line (wq_reading names p.group_of queues)) (ReadsInOrder-next_line (wq_reading names p.group_of queues) (at-wq names p.group_of queues)) (MayBeShort-next_line (wq_reading names p.group_of queues))
-      (λ items rest. next_queues names p.group_of n (queues ++ (items ∷ [])) rest) (λ items. MayBeShort-next_queues n (queues ++ (items ∷ [])))
+  MayBeShort-next_workqueues : (n : ℕ) (workqueues : List (List ℕ)) → MayBeShort (next_workqueues names p.group_of n workqueues)
+  MayBeShort-next_workqueues zero workqueues = MayBeShort-of_no_line {V = List (List ℕ)} (Ok workqueues)
+  MayBeShort-next_workqueues (suc n) workqueues =
+      MayBeShort-and_read (next_line (wq_reading names p.group_of workqueues)) (ReadsInOrder-next_line (wq_reading names p.group_of workqueues) (at-wq names p.group_of workqueues)) (MayBeShort-next_line (wq_reading names p.group_of workqueues))
+      (λ items rest. next_workqueues names p.group_of n (workqueues ++ (items ∷ [])) rest) (λ items. MayBeShort-next_workqueues n (workqueues ++ (items ∷ [])))
 
   MayBeShort-counted : (lanes : ℕ) → MayBeShort (counted_assignment names p lanes)
   MayBeShort-counted lanes =
-      MayBeShort-and_read (next_queues names p.group_of lanes []) (ReadsInOrder-next_queues names p lanes []) (MayBeShort-next_queues lanes [])
-      (λ queues rest. and_then (λ a. Ok (a, rest)) (whole_assignment p queues)) (λ queues. MayBeShort-of_no_line (whole_assignment p queues))
+      MayBeShort-and_read (next_workqueues names p.group_of lanes []) (ReadsInOrder-next_workqueues names p lanes []) (MayBeShort-next_workqueues lanes [])
+      (λ workqueues rest. and_then (λ a. Ok (a, rest)) (whole_assignment p workqueues)) (λ workqueues. MayBeShort-of_no_line (whole_assignment p workqueues))
 
   EndsEarly-plan_reading : EndsEarly (plan_reading names p)
   EndsEarly-plan_reading =
       EndsEarly-and_read (next_line (count_reading (codes "plan"))) (ReadsInOrder-next_line (count_reading (codes "plan")) (at-count (codes "plan"))) (MayBeShort-next_line (count_reading (codes "plan")))
-      (λ lanes behind_plan. and_read (λ assignment behind_queues. and_then (λ chain. Ok (plan_made assignment chain)) (chain_reading names behind_queues)) (counted_assignment names p lanes behind_plan))
+      (λ lanes behind_plan. and_read (λ assignment behind_workqueues. and_then (λ chain. Ok (plan_made assignment chain)) (chain_reading names behind_workqueues)) (counted_assignment names p lanes behind_plan))
       (λ lanes. EndsEarly-and_read (counted_assignment names p lanes) (ReadsInOrder-counted names p lanes) (MayBeShort-counted lanes)
-      (λ assignment behind_queues. and_then (λ chain. Ok (plan_made assignment chain)) (chain_reading names behind_queues))
+      (λ assignment behind_workqueues. and_then (λ chain. Ok (plan_made assignment chain)) (chain_reading names behind_workqueues))
       (λ assignment. EndsEarly-and_then (chain_reading names) (plan_made assignment) (EndsEarly-chain_reading names)))
 
   pub plan_reading-cut : (lines more : List CertLine) (c : PlanCertificate) → more ≢ [] → plan_reading names p (lines ++ more) ≡ Ok c → plan_reading names p lines ≡ Err (BadCertLine 0)

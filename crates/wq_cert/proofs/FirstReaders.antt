@@ -12,7 +12,7 @@ use Rattle.wq_cert.specs.declared.fault.CertError.TheVariants.{BadCertLine, NotA
 use Rattle.wq_cert.specs.FirstFaults.{line_of, NoLineIsAtFault}
 use Rattle.wq_cert.specs.Forms.{begins_with, count_form, wq_form, arc_form, step_form}
 use Rattle.wq_cert.specs.Lines.{CertLine}
-use Rattle.wq_cert.specs.Reading.{and_then, and_read, next_line, next_lines, at_end, count_reading, circle_count_reading, arc_reading, names_far_lane, step_reading, has_stood, splits_group, fresh_items, wq_items, wq_reading, next_queues, all_queues, hold_all, assignment_of, whole_assignment, chain_reading, counted_assignment, plan_reading, run_reading, run_behind, circle_reading, answer_reading, queues_reading, assignment_reading}
+use Rattle.wq_cert.specs.Reading.{and_then, and_read, next_line, next_lines, at_end, count_reading, circle_count_reading, arc_reading, names_far_lane, step_reading, has_stood, splits_group, fresh_items, wq_items, wq_reading, next_workqueues, all_workqueues, hold_all, assignment_of, whole_assignment, chain_reading, counted_assignment, plan_reading, run_reading, run_behind, circle_reading, answer_reading, workqueues_reading, assignment_reading}
 
 -- ---- lines
 
@@ -46,11 +46,11 @@ module _ (names : List (List ℕ)) where
       (IsAt-ok_or line.no (wq_form names line.words))
       (λ p. IsAt-cond line.no (not (p.0 == place) || nat_le 4096 place) (NumberOutOfRange line.no) (Ok p.1) refl tt)
 
-  pub at-wq : (group_of : List ℕ) (queues : List (List ℕ)) (line : CertLine) → IsAt line.no (wq_reading names group_of queues line)
-  at-wq group_of queues line =
-      IsAt-and_then line.no (λ items. fresh_items group_of (concat queues) line.no items) (wq_items names (length queues) line) (at-wq_items (length queues) line)
-      (λ items. IsAt-cond line.no (has_stood (concat queues) items) (NotAllItems line.no) (cond (splits_group group_of (concat queues) items) (Err (GroupSplit line.no)) (Ok items)) refl
-      (IsAt-cond line.no (splits_group group_of (concat queues) items) (GroupSplit line.no) (Ok items) refl tt))
+  pub at-wq : (group_of : List ℕ) (workqueues : List (List ℕ)) (line : CertLine) → IsAt line.no (wq_reading names group_of workqueues line)
+  at-wq group_of workqueues line =
+      IsAt-and_then line.no (λ items. fresh_items group_of (concat workqueues) line.no items) (wq_items names (length workqueues) line) (at-wq_items (length workqueues) line)
+      (λ items. IsAt-cond line.no (has_stood (concat workqueues) items) (NotAllItems line.no) (cond (splits_group group_of (concat workqueues) items) (Err (GroupSplit line.no)) (Ok items)) refl
+      (IsAt-cond line.no (splits_group group_of (concat workqueues) items) (GroupSplit line.no) (Ok items) refl tt))
 
 -- ---- what the first line decides
 
@@ -119,26 +119,26 @@ module _ (names : List (List ℕ)) where
 
 -- ---- workqueues
 
-module _ (p : Partition) (queues : List (List ℕ)) where
-  whole-no_line : NoLineIsAtFault (whole_assignment p queues)
-  whole-no_line = whole_or (hold_all (length p.group_of) queues)
+module _ (p : Partition) (workqueues : List (List ℕ)) where
+  whole-no_line : NoLineIsAtFault (whole_assignment p workqueues)
+  whole-no_line = whole_or (hold_all (length p.group_of) workqueues)
     where
-      whole_or : (b : Bool) → NoLineIsAtFault (cond b (Ok (assignment_of p queues)) (Err (NotAllItems 0)))
+      whole_or : (b : Bool) → NoLineIsAtFault (cond b (Ok (assignment_of p workqueues)) (Err (NotAllItems 0)))
       whole_or true = tt
       whole_or false = refl
 
 module _ (names : List (List ℕ)) (p : Partition) where
-  pub ReadsInOrder-next_queues : (n : ℕ) (queues : List (List ℕ)) → ReadsInOrder (next_queues names p.group_of n queues)
-  ReadsInOrder-next_queues zero queues = ReadsInOrder-of_no_line {V = List (List ℕ)} (Ok queues) tt
-  ReadsInOrder-next_queues (suc n) queues =
-      ReadsInOrder-and_read (next_line (wq_reading names p.group_of queues)) (λ items rest. next_queues names p.group_of n (queues ++ (items ∷ [])) rest)
-      (ReadsInOrder-next_line (wq_reading names p.group_of queues) (at-wq names p.group_of queues))
-      (λ items. ReadsInOrder-next_queues n (queues ++ (items ∷ [])))
+  pub ReadsInOrder-next_workqueues : (n : ℕ) (workqueues : List (List ℕ)) → ReadsInOrder (next_workqueues names p.group_of n workqueues)
+  ReadsInOrder-next_workqueues zero workqueues = ReadsInOrder-of_no_line {V = List (List ℕ)} (Ok workqueues) tt
+  ReadsInOrder-next_workqueues (suc n) workqueues =
+      ReadsInOrder-and_read (next_line (wq_reading names p.group_of workqueues)) (λ items rest. next_workqueues names p.group_of n (workqueues ++ (items ∷ [])) rest)
+      (ReadsInOrder-next_line (wq_reading names p.group_of workqueues) (at-wq names p.group_of workqueues))
+      (λ items. ReadsInOrder-next_workqueues n (workqueues ++ (items ∷ [])))
 
   pub ReadsInOrder-counted : (lanes : ℕ) → ReadsInOrder (counted_assignment names p lanes)
   ReadsInOrder-counted lanes =
-      ReadsInOrder-and_read (next_queues names p.group_of lanes []) (λ queues rest. and_then (λ a. Ok (a, rest)) (whole_assignment p queues)) (ReadsInOrder-next_queues lanes [])
-      (λ queues. ReadsInOrder-of_no_line (whole_assignment p queues) (whole-no_line p queues))
+      ReadsInOrder-and_read (next_workqueues names p.group_of lanes []) (λ workqueues rest. and_then (λ a. Ok (a, rest)) (whole_assignment p workqueues)) (ReadsInOrder-next_workqueues lanes [])
+      (λ workqueues. ReadsInOrder-of_no_line (whole_assignment p workqueues) (whole-no_line p workqueues))
 
   -- ---- plans
 
@@ -157,26 +157,26 @@ module _ (names : List (List ℕ)) (p : Partition) where
   unfolding plan_made
   Settles-plan_reading =
       Settles-and_read (next_line (count_reading (codes "plan")))
-      (λ lanes behind_plan. and_read (λ assignment behind_queues. and_then (λ chain. Ok (plan_made assignment chain)) (chain_reading names behind_queues)) (counted_assignment names p lanes behind_plan))
+      (λ lanes behind_plan. and_read (λ assignment behind_workqueues. and_then (λ chain. Ok (plan_made assignment chain)) (chain_reading names behind_workqueues)) (counted_assignment names p lanes behind_plan))
       (ReadsInOrder-next_line (count_reading (codes "plan")) (at-count (codes "plan")))
-      (λ lanes. Settles-and_read (counted_assignment names p lanes) (λ assignment behind_queues. and_then (λ chain. Ok (plan_made assignment chain)) (chain_reading names behind_queues)) (ReadsInOrder-counted lanes)
+      (λ lanes. Settles-and_read (counted_assignment names p lanes) (λ assignment behind_workqueues. and_then (λ chain. Ok (plan_made assignment chain)) (chain_reading names behind_workqueues)) (ReadsInOrder-counted lanes)
       (λ assignment. Settles-and_then (chain_reading names) (plan_made assignment) Settles-chain_reading))
 
   -- ---- workqueues alone
 
   abbrev assigned : List (List ℕ) → List CertLine → Result Assignment CertError
-  assigned queues rest = and_then (λ assignment. at_end assignment rest) (whole_assignment p queues)
+  assigned workqueues rest = and_then (λ assignment. at_end assignment rest) (whole_assignment p workqueues)
 
-  abbrev queues_behind : List (List ℕ) → List CertLine → Result Assignment CertError
-  queues_behind queues lines = and_read assigned (all_queues names p.group_of queues lines)
+  abbrev workqueues_behind : List (List ℕ) → List CertLine → Result Assignment CertError
+  workqueues_behind workqueues lines = and_read assigned (all_workqueues names p.group_of workqueues lines)
 
-  ended : (queues : List (List ℕ)) (line : CertLine) (lines : List CertLine) (fault : CertError) → begins_with (codes "wq") line.words ≡ false → (r : Result Assignment CertError) → whole_assignment p queues ≡ r → NoLineIsAtFault r
-      → and_then (λ assignment. at_end assignment (line ∷ lines)) r ≡ Err fault → 0 < line_of fault → IsSettled (queues_behind queues) (line ∷ lines) fault
-  ended queues line lines fault other (Err found) is none e some =
+  ended : (workqueues : List (List ℕ)) (line : CertLine) (lines : List CertLine) (fault : CertError) → begins_with (codes "wq") line.words ≡ false → (r : Result Assignment CertError) → whole_assignment p workqueues ≡ r → NoLineIsAtFault r
+      → and_then (λ assignment. at_end assignment (line ∷ lines)) r ≡ Err fault → 0 < line_of fault → IsSettled (workqueues_behind workqueues) (line ∷ lines) fault
+  ended workqueues line lines fault other (Err found) is none e some =
       let same : found ≡ fault = cc in
       let zero_is : line_of fault ≡ 0 = ap line_of (sym same) ∙ none in
       absurd (omega (arith, some, zero_is))
-  ended queues line lines fault other (Ok a) is none e some =
+  ended workqueues line lines fault other (Ok a) is none e some =
       let same : BadCertLine line.no ≡ fault = cc in
       record {
         before = [];
@@ -185,63 +185,63 @@ module _ (names : List (List ℕ)) (p : Partition) where
         lines_are = refl;
         number = ap line_of same;
         settled = λ others.
-            ap (λ (b : Bool). and_read assigned (cond b (and_then (λ items. all_queues names p.group_of (queues ++ (items ∷ [])) others) (wq_reading names p.group_of queues line)) (Ok (queues, line ∷ others)))) other
+            ap (λ (b : Bool). and_read assigned (cond b (and_then (λ items. all_workqueues names p.group_of (workqueues ++ (items ∷ [])) others) (wq_reading names p.group_of workqueues line)) (Ok (workqueues, line ∷ others)))) other
             ∙ ap (and_then (λ assignment. at_end assignment (line ∷ others))) is
             ∙ ap (λ (x : CertError). Err x) same;
       }
 
   -- the reader of one line more, where it is of a workqueue
   abbrev one_more : List (List ℕ) → List CertLine → Result (List ℕ) CertError → Result Assignment CertError
-  one_more queues lines r = and_read assigned (and_then (λ items. all_queues names p.group_of (queues ++ (items ∷ [])) lines) r)
+  one_more workqueues lines r = and_read assigned (and_then (λ items. all_workqueues names p.group_of (workqueues ++ (items ∷ [])) lines) r)
 
   abbrev by_word : List (List ℕ) → CertLine → List CertLine → Bool → Result Assignment CertError
-  by_word queues line lines b = and_read assigned (cond b (and_then (λ items. all_queues names p.group_of (queues ++ (items ∷ [])) lines) (wq_reading names p.group_of queues line)) (Ok (queues, line ∷ lines)))
+  by_word workqueues line lines b = and_read assigned (cond b (and_then (λ items. all_workqueues names p.group_of (workqueues ++ (items ∷ [])) lines) (wq_reading names p.group_of workqueues line)) (Ok (workqueues, line ∷ lines)))
 
-  refused-line : (line : CertLine) (lines : List CertLine) (queues : List (List ℕ)) (fault : CertError)
-      → ((more : List (List ℕ)) → queues_behind more lines ≡ Err fault → IsSettled (queues_behind more) lines fault) → begins_with (codes "wq") line.words ≡ true
-      → (r : Result (List ℕ) CertError) → wq_reading names p.group_of queues line ≡ r → one_more queues lines r ≡ Err fault → IsSettled (queues_behind queues) (line ∷ lines) fault
-  refused-line line lines queues fault others is_wq (Err found) is e =
+  refused-line : (line : CertLine) (lines : List CertLine) (workqueues : List (List ℕ)) (fault : CertError)
+      → ((more : List (List ℕ)) → workqueues_behind more lines ≡ Err fault → IsSettled (workqueues_behind more) lines fault) → begins_with (codes "wq") line.words ≡ true
+      → (r : Result (List ℕ) CertError) → wq_reading names p.group_of workqueues line ≡ r → one_more workqueues lines r ≡ Err fault → IsSettled (workqueues_behind workqueues) (line ∷ lines) fault
+  refused-line line lines workqueues fault others is_wq (Err found) is e =
       let same : found ≡ fault = cc in
-      let refused : wq_reading names p.group_of queues line ≡ Err fault = is ∙ ap (λ (x : CertError). Err x) same in
+      let refused : wq_reading names p.group_of workqueues line ≡ Err fault = is ∙ ap (λ (x : CertError). Err x) same in
       record {
         before = [];
         line = line;
         behind = lines;
         lines_are = refl;
-        number = sym (IsAt-Err line.no (wq_reading names p.group_of queues line) fault (at-wq names p.group_of queues line) refused);
-        settled = λ others. ap (by_word queues line others) is_wq ∙ ap (one_more queues others) refused;
+        number = sym (IsAt-Err line.no (wq_reading names p.group_of workqueues line) fault (at-wq names p.group_of workqueues line) refused);
+        settled = λ others. ap (by_word workqueues line others) is_wq ∙ ap (one_more workqueues others) refused;
       }
-  refused-line line lines queues fault others is_wq (Ok items) is e =
-      let h = others (queues ++ (items ∷ [])) e in
+  refused-line line lines workqueues fault others is_wq (Ok items) is e =
+      let h = others (workqueues ++ (items ∷ [])) e in
       record {
         before = line ∷ h.before;
         line = h.line;
         behind = h.behind;
         lines_are = ap (λ (ls : List CertLine). line ∷ ls) h.lines_are;
         number = h.number;
-        settled = λ rest. ap (by_word queues line (h.before ++ (h.line ∷ rest))) is_wq ∙ ap (one_more queues (h.before ++ (h.line ∷ rest))) is ∙ h.settled rest;
+        settled = λ rest. ap (by_word workqueues line (h.before ++ (h.line ∷ rest))) is_wq ∙ ap (one_more workqueues (h.before ++ (h.line ∷ rest))) is ∙ h.settled rest;
       }
 
-  refused-word : (line : CertLine) (lines : List CertLine) (queues : List (List ℕ)) (fault : CertError)
-      → ((more : List (List ℕ)) → queues_behind more lines ≡ Err fault → IsSettled (queues_behind more) lines fault)
-      → (b : Bool) → begins_with (codes "wq") line.words ≡ b → by_word queues line lines b ≡ Err fault → 0 < line_of fault → IsSettled (queues_behind queues) (line ∷ lines) fault
-  refused-word line lines queues fault others true is e some = refused-line line lines queues fault others is (wq_reading names p.group_of queues line) refl e
-  refused-word line lines queues fault others false is e some = ended queues line lines fault is (whole_assignment p queues) refl (whole-no_line p queues) e some
+  refused-word : (line : CertLine) (lines : List CertLine) (workqueues : List (List ℕ)) (fault : CertError)
+      → ((more : List (List ℕ)) → workqueues_behind more lines ≡ Err fault → IsSettled (workqueues_behind more) lines fault)
+      → (b : Bool) → begins_with (codes "wq") line.words ≡ b → by_word workqueues line lines b ≡ Err fault → 0 < line_of fault → IsSettled (workqueues_behind workqueues) (line ∷ lines) fault
+  refused-word line lines workqueues fault others true is e some = refused-line line lines workqueues fault others is (wq_reading names p.group_of workqueues line) refl e
+  refused-word line lines workqueues fault others false is e some = ended workqueues line lines fault is (whole_assignment p workqueues) refl (whole-no_line p workqueues) e some
 
-  nothing_behind : (queues : List (List ℕ)) (fault : CertError) (r : Result Assignment CertError) → NoLineIsAtFault r → and_then (λ assignment. at_end assignment []) r ≡ Err fault → 0 < line_of fault → ⊥
-  nothing_behind queues fault (Ok a) none e some = absurd cc
-  nothing_behind queues fault (Err found) none e some =
+  nothing_behind : (workqueues : List (List ℕ)) (fault : CertError) (r : Result Assignment CertError) → NoLineIsAtFault r → and_then (λ assignment. at_end assignment []) r ≡ Err fault → 0 < line_of fault → ⊥
+  nothing_behind workqueues fault (Ok a) none e some = absurd cc
+  nothing_behind workqueues fault (Err found) none e some =
       let same : found ≡ fault = cc in
       let zero_is : line_of fault ≡ 0 = ap line_of (sym same) ∙ none in
       absurd (omega (arith, some, zero_is))
 
-  refused-queues : (lines : List CertLine) (queues : List (List ℕ)) (fault : CertError) → queues_behind queues lines ≡ Err fault → 0 < line_of fault → IsSettled (queues_behind queues) lines fault
-  refused-queues [] queues fault e some = absurd (nothing_behind queues fault (whole_assignment p queues) (whole-no_line p queues) e some)
-  refused-queues (line ∷ lines) queues fault e some =
-      refused-word line lines queues fault (λ more again. refused-queues lines more fault again some) (begins_with (codes "wq") line.words) refl e some
+  refused-workqueues : (lines : List CertLine) (workqueues : List (List ℕ)) (fault : CertError) → workqueues_behind workqueues lines ≡ Err fault → 0 < line_of fault → IsSettled (workqueues_behind workqueues) lines fault
+  refused-workqueues [] workqueues fault e some = absurd (nothing_behind workqueues fault (whole_assignment p workqueues) (whole-no_line p workqueues) e some)
+  refused-workqueues (line ∷ lines) workqueues fault e some =
+      refused-word line lines workqueues fault (λ more again. refused-workqueues lines more fault again some) (begins_with (codes "wq") line.words) refl e some
 
-  pub Settles-queues_reading : Settles (queues_reading names p)
-  Settles-queues_reading = record { refuses = λ lines fault e some. refused-queues lines [] fault e some }
+  pub Settles-workqueues_reading : Settles (workqueues_reading names p)
+  Settles-workqueues_reading = record { refuses = λ lines fault e some. refused-workqueues lines [] fault e some }
 
   -- ---- whole texts, by their first word
 
@@ -266,16 +266,16 @@ module _ (names : List (List ℕ)) (p : Partition) where
           absurd (omega (arith, some, zero_is))
       refused (line ∷ lines) fault e some = answer_by line lines fault (begins_with (codes "circle") line.words) refl e some
 
-  abbrev queues_or : List CertLine → Bool → Result Assignment CertError
-  queues_or lines b = cond b (and_then (λ (plan : PlanCertificate). Ok plan.assignment) (plan_reading names p lines)) (queues_reading names p lines)
+  abbrev workqueues_or : List CertLine → Bool → Result Assignment CertError
+  workqueues_or lines b = cond b (and_then (λ (plan : PlanCertificate). Ok plan.assignment) (plan_reading names p lines)) (workqueues_reading names p lines)
 
-  assignment_by : (line : CertLine) (lines : List CertLine) (fault : CertError) (b : Bool) → begins_with (codes "plan") line.words ≡ b → queues_or (line ∷ lines) b ≡ Err fault → 0 < line_of fault → IsSettled (assignment_reading names p) (line ∷ lines) fault
+  assignment_by : (line : CertLine) (lines : List CertLine) (fault : CertError) (b : Bool) → begins_with (codes "plan") line.words ≡ b → workqueues_or (line ∷ lines) b ≡ Err fault → 0 < line_of fault → IsSettled (assignment_reading names p) (line ∷ lines) fault
   assignment_by line lines fault true is e some =
-      IsSettled-first (λ ls. and_then (λ (plan : PlanCertificate). Ok plan.assignment) (plan_reading names p ls)) (assignment_reading names p) line lines fault (λ rest. ap (queues_or (line ∷ rest)) is)
+      IsSettled-first (λ ls. and_then (λ (plan : PlanCertificate). Ok plan.assignment) (plan_reading names p ls)) (assignment_reading names p) line lines fault (λ rest. ap (workqueues_or (line ∷ rest)) is)
       ((Settles-and_then (plan_reading names p) (λ (plan : PlanCertificate). plan.assignment) Settles-plan_reading).refuses (line ∷ lines) fault e some)
   assignment_by line lines fault false is e some =
-      IsSettled-first (queues_reading names p) (assignment_reading names p) line lines fault (λ rest. ap (queues_or (line ∷ rest)) is)
-      (refused-queues (line ∷ lines) [] fault e some)
+      IsSettled-first (workqueues_reading names p) (assignment_reading names p) line lines fault (λ rest. ap (workqueues_or (line ∷ rest)) is)
+      (refused-workqueues (line ∷ lines) [] fault e some)
 
   pub Settles-assignment_reading : Settles (assignment_reading names p)
   Settles-assignment_reading = record { refuses = refused }

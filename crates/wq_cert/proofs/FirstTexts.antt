@@ -13,7 +13,7 @@ use Rattle.wq_cert.specs.declared.fault.CertError.{CertError}
 use Rattle.wq_cert.specs.FirstFaults.{line_of, line_texts, first_lines, NoLineIsAtFault, IsOfTheFirstLine}
 use Rattle.wq_cert.specs.Lines.{CertLine, bytes_of, holds_word, filled, cert_line, cert_lines}
 use Rattle.wq_cert.specs.Spelled.{KeepsLimits}
-use Rattle.wq_cert.specs.Texts.{max_text, max_line, by_limits, text_reading}
+use Rattle.wq_cert.specs.Texts.{max_certificate, max_certificate_line, unless_too_long, text_reading}
 
 -- ---- the words of a line stand in its bytes, wherever it begins
 
@@ -168,8 +168,8 @@ same_fault found fault e = cc
 module _ {V : Type 0} (read : List CertLine → Result V CertError) where
   text_reading-kept : (text : List ℕ) → KeepsLimits text → text_reading read text ≡ read (numbered 1 (line_texts text))
   text_reading-kept text keeps =
-      let within : limit_fault max_text max_line text ≡ None = limit_fault-fits max_text max_line text (keeps.text_fits, keeps.lines_fit) in
-      ap (λ (o : Option TextError). by_limits o (read (cert_lines (lines_of text)))) within
+      let within : limit_fault max_certificate max_certificate_line text ≡ None = limit_fault-fits max_certificate max_certificate_line text (keeps.text_fits, keeps.lines_fit) in
+      ap (λ (o : Option TextError). unless_too_long o (read (cert_lines (lines_of text)))) within
       ∙ ap read (cert_lines-numbered (pieces text) 1 0)
 
   -- the line of a fault is one of the text, and those up to it settle the fault

@@ -3,7 +3,7 @@ use Rattle.std.proofs.Common.{◌≡◌, ◌<◌, ℕ, ◌+◌, List, [], ◌∷
 use Rattle.std.specs.Prelude.{slice_get}
 use Rattle.std.proofs.lemmas.List.{take_more, map-append}
 use Rattle.std.proofs.lemmas.Option.{get_or_from_slice_get}
-use Rattle.wq_groups.specs.Assignment.{Assignment, lane_of}
+use Rattle.wq_groups.specs.Assignment.{Assignment, group_lane}
 use Rattle.wq_cert.specs.PlanText.{item_lanes}
 
 -- the workqueue of one item more, where lane is that of its group
@@ -12,4 +12,4 @@ pub item_lanes-more : (a : Assignment) (group_of : List ℕ) (i g lane : ℕ) �
 item_lanes-more a group_of i g lane within group is =
     let more : take (i + 1) group_of ≡ take i group_of ++ (g ∷ []) =
     take_more group_of i 0 within ∙ ap (λ (k : ℕ). take i group_of ++ (k ∷ [])) (get_or_from_slice_get group_of i g 0 group) in
-    ap (item_lanes a) more ∙ map-append (lane_of a) (take i group_of) (g ∷ []) ∙ ap (λ (l : ℕ). item_lanes a (take i group_of) ++ (l ∷ [])) (get_or_from_slice_get a.lane_of_group g lane 0 is)
+    ap (item_lanes a) more ∙ map-append (group_lane a) (take i group_of) (g ∷ []) ∙ ap (λ (l : ℕ). item_lanes a (take i group_of) ++ (l ∷ [])) (get_or_from_slice_get a.lane_of_group g lane 0 is)

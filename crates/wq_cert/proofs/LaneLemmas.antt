@@ -9,7 +9,7 @@ use Rattle.std.proofs.lemmas.List.FromFn.{length-map-range_with_len, get_or-map-
 use Rattle.std.proofs.lemmas.List.Sums.{fails_before_first, passes_at_first, prefix_len-le-length}
 use Rattle.std.proofs.lemmas.Option.{get_or_from_slice_get}
 use Rattle.wq_groups.specs.Partition.{Partition}
-use Rattle.wq_cert.specs.Reading.{holds_member, splits_group, queue_with}
+use Rattle.wq_cert.specs.Reading.{holds_member, splits_group, workqueue_with}
 use Rattle.wq_cert.specs.Noted.{lanes_with, is_other}
 use Rattle.wq_cert.proofs.StoodLemmas.{take_one, any_push, or_true, or_false}
 
@@ -76,45 +76,45 @@ any_concat : (q : ℕ → Bool) (xss : List (List ℕ)) → list_any q (concat x
 any_concat q [] = refl
 any_concat q (xs ∷ xss) = list_any-append q xs (concat xss) ∙ ap (λ b. list_any q xs || b) (any_concat q xss)
 
-module _ (group_of : List ℕ) (queues : List (List ℕ)) (g : ℕ) where
+module _ (group_of : List ℕ) (workqueues : List (List ℕ)) (g : ℕ) where
   holds : List ℕ → Bool
   holds items = holds_member group_of items g
 
-  any_holds : (b : Bool) → holds_member group_of (concat queues) g ≡ b → list_any (λ items. holds_member group_of items g) queues ≡ b
-  any_holds b is = sym (any_concat (λ i. get_or group_of i 0 == g) queues) ∙ is
+  any_holds : (b : Bool) → holds_member group_of (concat workqueues) g ≡ b → list_any (λ items. holds_member group_of items g) workqueues ≡ b
+  any_holds b is = sym (any_concat (λ i. get_or group_of i 0 == g) workqueues) ∙ is
 
   -- it is one of those that hold a member, where one does
-  pub record HasQueue : Type 0 where
-    pub queue : ℕ
-    pub below : queue < length queues
-    pub is : queue_with group_of queues g ≡ Some queue
+  pub record HasWorkqueue : Type 0 where
+    pub workqueue : ℕ
+    pub below : workqueue < length workqueues
+    pub is : workqueue_with group_of workqueues g ≡ Some workqueue
 
-  pub HasQueue-held : holds_member group_of (concat queues) g ≡ true → HasQueue
-  HasQueue-held held = record {
-    queue = position_or_len (λ items. holds_member group_of items g) queues;
-    below = position-below (λ items. holds_member group_of items g) queues (any_holds true held);
-    is = position-any (λ items. holds_member group_of items g) queues (any_holds true held);
+  pub HasWorkqueue-held : holds_member group_of (concat workqueues) g ≡ true → HasWorkqueue
+  HasWorkqueue-held held = record {
+    workqueue = position_or_len (λ items. holds_member group_of items g) workqueues;
+    below = position-below (λ items. holds_member group_of items g) workqueues (any_holds true held);
+    is = position-any (λ items. holds_member group_of items g) workqueues (any_holds true held);
   }
 
-  push_held : (front : List ℕ) → holds_member group_of (concat queues) g ≡ true → queue_with group_of (queues ++ (front ∷ [])) g ≡ queue_with group_of queues g
-  push_held front held = position-push_any (λ items. holds_member group_of items g) queues front (any_holds true held)
+  push_held : (front : List ℕ) → holds_member group_of (concat workqueues) g ≡ true → workqueue_with group_of (workqueues ++ (front ∷ [])) g ≡ workqueue_with group_of workqueues g
+  push_held front held = position-push_any (λ items. holds_member group_of items g) workqueues front (any_holds true held)
 
-  push_here : (front : List ℕ) → holds_member group_of (concat queues) g ≡ false → holds_member group_of front g ≡ true → queue_with group_of (queues ++ (front ∷ [])) g ≡ Some (length queues)
-  push_here front free here = position-push_here (λ items. holds_member group_of items g) queues front (any_holds false free) here
+  push_here : (front : List ℕ) → holds_member group_of (concat workqueues) g ≡ false → holds_member group_of front g ≡ true → workqueue_with group_of (workqueues ++ (front ∷ [])) g ≡ Some (length workqueues)
+  push_here front free here = position-push_here (λ items. holds_member group_of items g) workqueues front (any_holds false free) here
 
-  push_none : (front : List ℕ) → holds_member group_of (concat queues) g ≡ false → holds_member group_of front g ≡ false → queue_with group_of (queues ++ (front ∷ [])) g ≡ None
-  push_none front free not_here = position-push_none (λ items. holds_member group_of items g) queues front (any_holds false free) not_here
+  push_none : (front : List ℕ) → holds_member group_of (concat workqueues) g ≡ false → holds_member group_of front g ≡ false → workqueue_with group_of (workqueues ++ (front ∷ [])) g ≡ None
+  push_none front free not_here = position-push_none (λ items. holds_member group_of items g) workqueues front (any_holds false free) not_here
 
   -- an empty workqueue more changes nothing
-  push_nothing : queue_with group_of (queues ++ ([] ∷ [])) g ≡ queue_with group_of queues g
-  push_nothing = elim (cases_Bool (holds_member group_of (concat queues) g)) [
+  push_nothing : workqueue_with group_of (workqueues ++ ([] ∷ [])) g ≡ workqueue_with group_of workqueues g
+  push_nothing = elim (cases_Bool (holds_member group_of (concat workqueues) g)) [
     | inl held ↦ push_held [] held
-    | inr free ↦ push_none [] free refl ∙ sym (position-none (λ items. holds_member group_of items g) queues (any_holds false free))
+    | inr free ↦ push_none [] free refl ∙ sym (position-none (λ items. holds_member group_of items g) workqueues (any_holds false free))
   ]
 
   -- nor does a member of another group
-  push_alike : (front others : List ℕ) → holds_member group_of front g ≡ holds_member group_of others g → queue_with group_of (queues ++ (front ∷ [])) g ≡ queue_with group_of (queues ++ (others ∷ [])) g
-  push_alike front others alike = elim (cases_Bool (holds_member group_of (concat queues) g)) [
+  push_alike : (front others : List ℕ) → holds_member group_of front g ≡ holds_member group_of others g → workqueue_with group_of (workqueues ++ (front ∷ [])) g ≡ workqueue_with group_of (workqueues ++ (others ∷ [])) g
+  push_alike front others alike = elim (cases_Bool (holds_member group_of (concat workqueues) g)) [
     | inl held ↦ push_held front held ∙ sym (push_held others held)
     | inr free ↦
         elim (cases_Bool (holds_member group_of front g)) [
@@ -124,20 +124,20 @@ module _ (group_of : List ℕ) (queues : List (List ℕ)) (g : ℕ) where
   ]
 
   -- whether the group is on another workqueue than the next
-  other_held : (front : List ℕ) → holds_member group_of (concat queues) g ≡ true → is_other (queue_with group_of (queues ++ (front ∷ [])) g) (length queues) ≡ true
+  other_held : (front : List ℕ) → holds_member group_of (concat workqueues) g ≡ true → is_other (workqueue_with group_of (workqueues ++ (front ∷ [])) g) (length workqueues) ≡ true
   other_held front held =
-      let q = HasQueue-held held in
-      let differ : q.queue ≢ length queues = λ e. omega (arith, e, q.below) in
-      ap (λ o. is_other o (length queues)) (push_held front held ∙ q.is) ∙ ap not (ne_eqb q.queue (length queues) differ)
+      let q = HasWorkqueue-held held in
+      let differ : q.workqueue ≢ length workqueues = λ e. omega (arith, e, q.below) in
+      ap (λ o. is_other o (length workqueues)) (push_held front held ∙ q.is) ∙ ap not (ne_eqb q.workqueue (length workqueues) differ)
 
-  other_free : (front : List ℕ) → holds_member group_of (concat queues) g ≡ false → is_other (queue_with group_of (queues ++ (front ∷ [])) g) (length queues) ≡ false
+  other_free : (front : List ℕ) → holds_member group_of (concat workqueues) g ≡ false → is_other (workqueue_with group_of (workqueues ++ (front ∷ [])) g) (length workqueues) ≡ false
   other_free front free = elim (cases_Bool (holds_member group_of front g)) [
-    | inl here ↦ ap (λ o. is_other o (length queues)) (push_here front free here) ∙ ap not (eq-eqb (length queues) (length queues) refl)
-    | inr not_here ↦ ap (λ o. is_other o (length queues)) (push_none front free not_here)
+    | inl here ↦ ap (λ o. is_other o (length workqueues)) (push_here front free here) ∙ ap not (eq-eqb (length workqueues) (length workqueues) refl)
+    | inr not_here ↦ ap (λ o. is_other o (length workqueues)) (push_none front free not_here)
   ]
 
-  pub other_is : (front : List ℕ) → is_other (queue_with group_of (queues ++ (front ∷ [])) g) (length queues) ≡ holds_member group_of (concat queues) g
-  other_is front = elim (cases_Bool (holds_member group_of (concat queues) g)) [
+  pub other_is : (front : List ℕ) → is_other (workqueue_with group_of (workqueues ++ (front ∷ [])) g) (length workqueues) ≡ holds_member group_of (concat workqueues) g
+  other_is front = elim (cases_Bool (holds_member group_of (concat workqueues) g)) [
     | inl held ↦ other_held front held ∙ sym held
     | inr free ↦ other_free front free ∙ sym free
   ]
@@ -147,22 +147,22 @@ module _ (group_of : List ℕ) (queues : List (List ℕ)) (g : ℕ) where
 -- the groups of the first k items are on the next workqueue, and on none before it
 pub record Settled (p : Partition) (lane : ℕ) (old new : List (Option ℕ)) (items : List ℕ) (k : ℕ) : Type 0 where
   pub long : length new ≡ length old
-  pub lanes : (queues : List (List ℕ)) → lane ≡ length queues → old ≡ lanes_with p queues → new ≡ lanes_with p (queues ++ (take k items ∷ []))
-  pub apart : (queues : List (List ℕ)) → lane ≡ length queues → old ≡ lanes_with p queues → splits_group p.group_of (concat queues) (take k items) ≡ false
+  pub lanes : (workqueues : List (List ℕ)) → lane ≡ length workqueues → old ≡ lanes_with p workqueues → new ≡ lanes_with p (workqueues ++ (take k items ∷ []))
+  pub apart : (workqueues : List (List ℕ)) → lane ≡ length workqueues → old ≡ lanes_with p workqueues → splits_group p.group_of (concat workqueues) (take k items) ≡ false
 
-pub length-lanes_with : (p : Partition) (queues : List (List ℕ)) → length (lanes_with p queues) ≡ p.groups
-length-lanes_with p queues = length-map-range_with_len (queue_with p.group_of queues) 0 p.groups
+pub length-lanes_with : (p : Partition) (workqueues : List (List ℕ)) → length (lanes_with p workqueues) ≡ p.groups
+length-lanes_with p workqueues = length-map-range_with_len (workqueue_with p.group_of workqueues) 0 p.groups
 
-get_or-lanes_with : (p : Partition) (queues : List (List ℕ)) (g : ℕ) (d : Option ℕ) → g < p.groups → get_or (lanes_with p queues) g d ≡ queue_with p.group_of queues g
-get_or-lanes_with p queues g d lt = get_or-map-range_with_len (queue_with p.group_of queues) 0 p.groups g g d lt (omega arith)
+get_or-lanes_with : (p : Partition) (workqueues : List (List ℕ)) (g : ℕ) (d : Option ℕ) → g < p.groups → get_or (lanes_with p workqueues) g d ≡ workqueue_with p.group_of workqueues g
+get_or-lanes_with p workqueues g d lt = get_or-map-range_with_len (workqueue_with p.group_of workqueues) 0 p.groups g g d lt (omega arith)
 
 pub Settled-none : (p : Partition) (lane : ℕ) (lanes : List (Option ℕ)) (items : List ℕ) → Settled p lane lanes lanes items 0
 Settled-none p lane lanes items = record {
   long = refl;
-  lanes = λ queues here is. is
-      ∙ fill_by_all (queue_with p.group_of (queues ++ ([] ∷ []))) (lanes_with p queues) p.groups None (length-lanes_with p queues)
-      (λ g lt. get_or-lanes_with p queues g None lt ∙ sym (push_nothing p.group_of queues g));
-  apart = λ queues here is. refl;
+  lanes = λ workqueues here is. is
+      ∙ fill_by_all (workqueue_with p.group_of (workqueues ++ ([] ∷ []))) (lanes_with p workqueues) p.groups None (length-lanes_with p workqueues)
+      (λ g lt. get_or-lanes_with p workqueues g None lt ∙ sym (push_nothing p.group_of workqueues g));
+  apart = λ workqueues here is. refl;
 }
 
 -- item x of group g is the next
@@ -179,64 +179,64 @@ NextMember-read p lane new items k x group g held within item of few same found 
     record { within = within; item = item; group = get_or_from_slice_get p.group_of x group 0 of ∙ sym same; few = omega (arith, few, same); found = found }
 
 module _ (p : Partition) (lane : ℕ) (old new : List (Option ℕ)) (items : List ℕ) (k x g : ℕ) (held : Option ℕ) (next : NextMember p lane new items k x g held) (h : Settled p lane old new items k) where
-  module _ (queues : List (List ℕ)) (here : lane ≡ length queues) (is : old ≡ lanes_with p queues) where
+  module _ (workqueues : List (List ℕ)) (here : lane ≡ length workqueues) (is : old ≡ lanes_with p workqueues) where
     G : List ℕ
     G = p.group_of
 
-    held_is : held ≡ queue_with p.group_of (queues ++ (take k items ∷ [])) g
-    held_is = next.found ∙ ap (λ (ls : List (Option ℕ)). get_or ls g held) (h.lanes queues here is) ∙ get_or-lanes_with p (queues ++ (take k items ∷ [])) g held next.few
+    held_is : held ≡ workqueue_with p.group_of (workqueues ++ (take k items ∷ [])) g
+    held_is = next.found ∙ ap (λ (ls : List (Option ℕ)). get_or ls g held) (h.lanes workqueues here is) ∙ get_or-lanes_with p (workqueues ++ (take k items ∷ [])) g held next.few
 
-    other : is_other held lane ≡ holds_member p.group_of (concat queues) g
-    other = ap₂ (λ (o : Option ℕ) (l : ℕ). is_other o l) held_is here ∙ other_is p.group_of queues g (take k items)
+    other : is_other held lane ≡ holds_member p.group_of (concat workqueues) g
+    other = ap₂ (λ (o : Option ℕ) (l : ℕ). is_other o l) held_is here ∙ other_is p.group_of workqueues g (take k items)
 
     -- whether the next item splits its group
-    splits : holds_member p.group_of (concat queues) (get_or p.group_of (get_or items k x) 0) ≡ is_other held lane
-    splits = ap (λ i. holds_member p.group_of (concat queues) (get_or p.group_of i 0)) (sym next.item) ∙ ap (holds_member p.group_of (concat queues)) next.group ∙ sym other
+    splits : holds_member p.group_of (concat workqueues) (get_or p.group_of (get_or items k x) 0) ≡ is_other held lane
+    splits = ap (λ i. holds_member p.group_of (concat workqueues) (get_or p.group_of i 0)) (sym next.item) ∙ ap (holds_member p.group_of (concat workqueues)) next.group ∙ sym other
 
-    more_lanes : is_other held lane ≡ false → set new g (Some lane) ≡ lanes_with p (queues ++ (take (k + 1) items ∷ []))
+    more_lanes : is_other held lane ≡ false → set new g (Some lane) ≡ lanes_with p (workqueues ++ (take (k + 1) items ∷ []))
     more_lanes same =
-        fill_by_all (queue_with p.group_of (queues ++ (take (k + 1) items ∷ []))) (set new g (Some lane)) p.groups None
-        (length-set new g (Some lane) ∙ ap length (h.lanes queues here is) ∙ length-lanes_with p (queues ++ (take k items ∷ []))) at
+        fill_by_all (workqueue_with p.group_of (workqueues ++ (take (k + 1) items ∷ []))) (set new g (Some lane)) p.groups None
+        (length-set new g (Some lane) ∙ ap length (h.lanes workqueues here is) ∙ length-lanes_with p (workqueues ++ (take k items ∷ []))) at
       where
         members : (j : ℕ) → holds_member p.group_of (take (k + 1) items) j ≡ (holds_member p.group_of (take k items) j || (g == j))
         members j =
             ap (λ (is : List ℕ). holds_member p.group_of is j) (take_one items k x next.within next.item) ∙ any_push (λ i. get_or p.group_of i 0 == j) (take k items) x
             ∙ ap (λ i. holds_member p.group_of (take k items) j || (i == j)) next.group
 
-        at : (j : ℕ) → j < p.groups → get_or (set new g (Some lane)) j None ≡ queue_with p.group_of (queues ++ (take (k + 1) items ∷ [])) j
+        at : (j : ℕ) → j < p.groups → get_or (set new g (Some lane)) j None ≡ workqueue_with p.group_of (workqueues ++ (take (k + 1) items ∷ [])) j
         at j lt = elim (cases_eq j g) [
           | inl own ↦
               ap (λ i. get_or (set new g (Some lane)) i None) own
-              ∙ get_or-set_same new g (Some lane) None (omega (arith, next.few, ap length (h.lanes queues here is), length-lanes_with p (queues ++ (take k items ∷ []))))
+              ∙ get_or-set_same new g (Some lane) None (omega (arith, next.few, ap length (h.lanes workqueues here is), length-lanes_with p (workqueues ++ (take k items ∷ []))))
               ∙ ap (λ l. Some l) here
-              ∙ sym (ap (queue_with p.group_of (queues ++ (take (k + 1) items ∷ []))) own
-              ∙ push_here p.group_of queues g (take (k + 1) items) (sym other ∙ same)
+              ∙ sym (ap (workqueue_with p.group_of (workqueues ++ (take (k + 1) items ∷ []))) own
+              ∙ push_here p.group_of workqueues g (take (k + 1) items) (sym other ∙ same)
               (members g ∙ ap (λ b. holds_member p.group_of (take k items) g || b) (eq-eqb g g refl) ∙ or_true (holds_member p.group_of (take k items) g)))
           | inr differs ↦
-              get_or-set_other new g j (Some lane) None differs ∙ ap (λ (ls : List (Option ℕ)). get_or ls j None) (h.lanes queues here is)
-              ∙ get_or-lanes_with p (queues ++ (take k items ∷ [])) j None lt
-              ∙ push_alike p.group_of queues j (take k items) (take (k + 1) items)
+              get_or-set_other new g j (Some lane) None differs ∙ ap (λ (ls : List (Option ℕ)). get_or ls j None) (h.lanes workqueues here is)
+              ∙ get_or-lanes_with p (workqueues ++ (take k items ∷ [])) j None lt
+              ∙ push_alike p.group_of workqueues j (take k items) (take (k + 1) items)
               (sym (members j ∙ ap (λ b. holds_member p.group_of (take k items) j || b) (ne_eqb g j (λ e. differs (sym e))) ∙ or_false (holds_member p.group_of (take k items) j)))
         ]
 
-    more_apart : is_other held lane ≡ false → splits_group p.group_of (concat queues) (take (k + 1) items) ≡ false
+    more_apart : is_other held lane ≡ false → splits_group p.group_of (concat workqueues) (take (k + 1) items) ≡ false
     more_apart same =
-        list_any_more (λ i. holds_member p.group_of (concat queues) (get_or p.group_of i 0)) items k x next.within ∙ ap₂ (λ (a b : Bool). a || b) (h.apart queues here is) (splits ∙ same)
+        list_any_more (λ i. holds_member p.group_of (concat workqueues) (get_or p.group_of i 0)) items k x next.within ∙ ap₂ (λ (a b : Bool). a || b) (h.apart workqueues here is) (splits ∙ same)
 
-  pub Settled-split : is_other held lane ≡ true → (queues : List (List ℕ)) → lane ≡ length queues → old ≡ lanes_with p queues → splits_group p.group_of (concat queues) items ≡ true
-  Settled-split split queues here is =
-      list_any_at (λ i. holds_member p.group_of (concat queues) (get_or p.group_of i 0)) items k x next.within (splits queues here is ∙ split)
+  pub Settled-split : is_other held lane ≡ true → (workqueues : List (List ℕ)) → lane ≡ length workqueues → old ≡ lanes_with p workqueues → splits_group p.group_of (concat workqueues) items ≡ true
+  Settled-split split workqueues here is =
+      list_any_at (λ i. holds_member p.group_of (concat workqueues) (get_or p.group_of i 0)) items k x next.within (splits workqueues here is ∙ split)
 
   pub Settled-more : is_other held lane ≡ false → Settled p lane old (set new g (Some lane)) items (k + 1)
   Settled-more same = record {
     long = length-set new g (Some lane) ∙ h.long;
-    lanes = λ queues here is. more_lanes queues here is same;
-    apart = λ queues here is. more_apart queues here is same;
+    lanes = λ workqueues here is. more_lanes workqueues here is same;
+    apart = λ workqueues here is. more_apart workqueues here is same;
   }
 
-module _ (p : Partition) (lane : ℕ) (old new : List (Option ℕ)) (items : List ℕ) (k : ℕ) (all : length items ≤ k) (h : Settled p lane old new items k) (queues : List (List ℕ)) (here : lane ≡ length queues) (is : old ≡ lanes_with p queues) where
-  pub Settled-apart : splits_group p.group_of (concat queues) items ≡ false
-  Settled-apart = ap (splits_group p.group_of (concat queues)) (sym (take_all k items all)) ∙ h.apart queues here is
+module _ (p : Partition) (lane : ℕ) (old new : List (Option ℕ)) (items : List ℕ) (k : ℕ) (all : length items ≤ k) (h : Settled p lane old new items k) (workqueues : List (List ℕ)) (here : lane ≡ length workqueues) (is : old ≡ lanes_with p workqueues) where
+  pub Settled-apart : splits_group p.group_of (concat workqueues) items ≡ false
+  Settled-apart = ap (splits_group p.group_of (concat workqueues)) (sym (take_all k items all)) ∙ h.apart workqueues here is
 
-  pub Settled-all : new ≡ lanes_with p (queues ++ (items ∷ []))
-  Settled-all = h.lanes queues here is ∙ ap (λ (front : List ℕ). lanes_with p (queues ++ (front ∷ []))) (take_all k items all)
+  pub Settled-all : new ≡ lanes_with p (workqueues ++ (items ∷ []))
+  Settled-all = h.lanes workqueues here is ∙ ap (λ (front : List ℕ). lanes_with p (workqueues ++ (front ∷ []))) (take_all k items all)

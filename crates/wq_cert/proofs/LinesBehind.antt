@@ -70,9 +70,9 @@ module _ (names : List (List ℕ)) (p : Partition) where
   Ends-plan_reading : Ends AnyValue (plan_reading names p)
   Ends-plan_reading =
       Ends-and_read AnyValue (next_line (count_reading (codes "plan")))
-      (λ lanes behind_plan. and_read (λ assignment behind_queues. and_then (λ chain. Ok (plan_made assignment chain)) (chain_reading names behind_queues)) (counted_assignment names p lanes behind_plan))
+      (λ lanes behind_plan. and_read (λ assignment behind_workqueues. and_then (λ chain. Ok (plan_made assignment chain)) (chain_reading names behind_workqueues)) (counted_assignment names p lanes behind_plan))
       (ReadsInOrder-next_line (count_reading (codes "plan")) (at-count (codes "plan")))
-      (λ lanes. Ends-and_read AnyValue (counted_assignment names p lanes) (λ assignment behind_queues. and_then (λ chain. Ok (plan_made assignment chain)) (chain_reading names behind_queues)) (ReadsInOrder-counted names p lanes)
+      (λ lanes. Ends-and_read AnyValue (counted_assignment names p lanes) (λ assignment behind_workqueues. and_then (λ chain. Ok (plan_made assignment chain)) (chain_reading names behind_workqueues)) (ReadsInOrder-counted names p lanes)
       (λ assignment. Ends-and_then AnyValue AnyValue (chain_reading names) (plan_made assignment) (λ chain holds. tt) Ends-chain_reading))
 
   pub plan_reading-behind : (lines : List CertLine) (c : PlanCertificate) (line : CertLine) (behind : List CertLine) → plan_reading names p lines ≡ Ok c → plan_reading names p (lines ++ (line ∷ behind)) ≡ Err (BadCertLine line.no)

@@ -5,14 +5,14 @@ use Rattle.std.proofs.lemmas.List.{length-take, take_all}
 use Rattle.wq_cert.specs.declared.fault.CertError.{CertError}
 use Rattle.wq_cert.specs.declared.fault.CertError.TheVariants.{BadCertLine}
 use Rattle.wq_cert.specs.Lines.{CertLine}
-use Rattle.wq_cert.specs.Texts.{max_text, text_reading}
+use Rattle.wq_cert.specs.Texts.{max_certificate, text_reading}
 
 module _ {V : Type 0} (read : List CertLine → Result V CertError) where
-  pub text_reading-long : (text : List ℕ) → max_text < length text → text_reading read text ≡ Err (BadCertLine 0)
-  text_reading-long text long = rw (lt-ltb max_text (length text) long) refl
+  pub text_reading-long : (text : List ℕ) → max_certificate < length text → text_reading read text ≡ Err (BadCertLine 0)
+  text_reading-long text long = rw (lt-ltb max_certificate (length text) long) refl
 
-  pub text_reading-take : (text : List ℕ) → text_reading read (take (max_text + 1) text) ≡ text_reading read text
-  text_reading-take text = elim (cases_lt (max_text + 1) (length text)) [
-    | inl long ↦ text_reading-long (take (max_text + 1) text) (omega (arith, length-take (max_text + 1) text)) ∙ sym (text_reading-long text (omega arith))
-    | inr whole ↦ ap (text_reading read) (take_all (max_text + 1) text whole)
+  pub text_reading-take : (text : List ℕ) → text_reading read (take (max_certificate + 1) text) ≡ text_reading read text
+  text_reading-take text = elim (cases_lt (max_certificate + 1) (length text)) [
+    | inl long ↦ text_reading-long (take (max_certificate + 1) text) (omega (arith, length-take (max_certificate + 1) text)) ∙ sym (text_reading-long text (omega arith))
+    | inr whole ↦ ap (text_reading read) (take_all (max_certificate + 1) text whole)
   ]

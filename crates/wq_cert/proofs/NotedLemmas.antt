@@ -14,7 +14,7 @@ use Rattle.wq_cert.specs.declared.fault.CertError.{CertError}
 use Rattle.wq_cert.specs.declared.fault.CertError.TheVariants.{BadCertLine, NotAllItems, GroupSplit, NumberOutOfRange}
 use Rattle.wq_cert.specs.Lines.{CertLine, cert_line}
 use Rattle.wq_cert.specs.Forms.{begins_with, number_of, wq_form, items_of}
-use Rattle.wq_cert.specs.Reading.{Read, and_then, and_read, has_stood, splits_group, wq_items, fresh_items, wq_reading, next_queues, all_queues}
+use Rattle.wq_cert.specs.Reading.{Read, and_then, and_read, has_stood, splits_group, wq_items, fresh_items, wq_reading, next_workqueues, all_workqueues}
 use Rattle.wq_cert.specs.Noted.{marks, lanes_with, AreNoted, IsNextNoted, AreRead, AreAllRead}
 use Rattle.wq_cert.specs.Texts.{IsCertFaultOf}
 use Rattle.wq_cert.proofs.ReadLemmas.{IsCertFaultOf-then}
@@ -38,16 +38,16 @@ AreNoted-none p n stood lanes all unmarked free = record {
 pub fresh_items-fresh : (group_of before items : List ℕ) (n : ℕ) → has_stood before items ≡ false → splits_group group_of before items ≡ false → fresh_items group_of before n items ≡ Ok items
 fresh_items-fresh group_of before items n once apart = ap₂ (λ a b. cond a (Err (NotAllItems n)) (cond b (Err (GroupSplit n)) (Ok items))) once apart
 
-concat-push : (queues : List (List ℕ)) (items : List ℕ) → concat (queues ++ (items ∷ [])) ≡ concat queues ++ items
+concat-push : (workqueues : List (List ℕ)) (items : List ℕ) → concat (workqueues ++ (items ∷ [])) ≡ concat workqueues ++ items
 concat-push [] items = append-nil items
-concat-push (front ∷ queues) items = ap (λ (is : List ℕ). front ++ is) (concat-push queues items) ∙ sym (append_assoc front (concat queues) items)
+concat-push (front ∷ workqueues) items = ap (λ (is : List ℕ). front ++ is) (concat-push workqueues items) ∙ sym (append_assoc front (concat workqueues) items)
 
-pub AreNoted-more : (p : Partition) (queues : List (List ℕ)) (count : ℕ) (stood more_stood : List Bool) (lanes more_lanes : List (Option ℕ)) (items : List ℕ) → count < 4096 → AreNoted p queues count stood lanes
-    → more_stood ≡ marks (length p.group_of) (concat queues ++ items) → more_lanes ≡ lanes_with p (queues ++ (items ∷ [])) → AreNoted p (queues ++ (items ∷ [])) (count + 1) more_stood more_lanes
-AreNoted-more p queues count stood more_stood lanes more_lanes items room noted marked settled = record {
-  number = omega (arith, noted.number, length-append queues (items ∷ []));
+pub AreNoted-more : (p : Partition) (workqueues : List (List ℕ)) (count : ℕ) (stood more_stood : List Bool) (lanes more_lanes : List (Option ℕ)) (items : List ℕ) → count < 4096 → AreNoted p workqueues count stood lanes
+    → more_stood ≡ marks (length p.group_of) (concat workqueues ++ items) → more_lanes ≡ lanes_with p (workqueues ++ (items ∷ [])) → AreNoted p (workqueues ++ (items ∷ [])) (count + 1) more_stood more_lanes
+AreNoted-more p workqueues count stood more_stood lanes more_lanes items room noted marked settled = record {
+  number = omega (arith, noted.number, length-append workqueues (items ∷ []));
   few = omega (arith, room);
-  items = marked ∙ ap (marks (length p.group_of)) (sym (concat-push queues items));
+  items = marked ∙ ap (marks (length p.group_of)) (sym (concat-push workqueues items));
   groups = settled;
 }
 
@@ -110,112 +110,112 @@ wq_items-near names place line items e = (numbered (wq_form names line.words) pl
 
 -- after some of n workqueues so many are left, from the lines of `rest` on
 pub record ReadSome (names : List (List ℕ)) (p : Partition) (n : ℕ) (lines : List CertLine) (count : ℕ) (stood : List Bool) (lanes : List (Option ℕ)) (left : ℕ) (rest : List CertLine) : Type 0 where
-  pub queues : List (List ℕ)
-  pub noted : AreNoted p queues count stood lanes
-  pub goes_on : next_queues names p.group_of n [] lines ≡ next_queues names p.group_of left queues rest
+  pub workqueues : List (List ℕ)
+  pub noted : AreNoted p workqueues count stood lanes
+  pub goes_on : next_workqueues names p.group_of n [] lines ≡ next_workqueues names p.group_of left workqueues rest
 
 pub ReadSome-none : (names : List (List ℕ)) (p : Partition) (n : ℕ) (lines : List CertLine) (count : ℕ) (stood : List Bool) (lanes : List (Option ℕ)) → AreNoted p [] count stood lanes → ReadSome names p n lines count stood lanes n lines
-ReadSome-none names p n lines count stood lanes noted = record { queues = []; noted = noted; goes_on = refl }
+ReadSome-none names p n lines count stood lanes noted = record { workqueues = []; noted = noted; goes_on = refl }
 
 -- what the next workqueue gives
-next_queue : List (List ℕ) → Partition → ℕ → List (List ℕ) → List CertLine → Result (List ℕ) CertError → Read (List (List ℕ))
-next_queue names p m queues rest r = and_read (λ items behind. next_queues names p.group_of m (queues ++ (items ∷ [])) behind) (and_then (λ (v : List ℕ). Ok (v, rest)) r)
+next_workqueue : List (List ℕ) → Partition → ℕ → List (List ℕ) → List CertLine → Result (List ℕ) CertError → Read (List (List ℕ))
+next_workqueue names p m workqueues rest r = and_read (λ items behind. next_workqueues names p.group_of m (workqueues ++ (items ∷ [])) behind) (and_then (λ (v : List ℕ). Ok (v, rest)) r)
 
-next_queue-then : (names : List (List ℕ)) (p : Partition) (m : ℕ) (queues : List (List ℕ)) (rest : List CertLine) (r : Result (List ℕ) CertError)
-    → next_queue names p m queues rest r ≡ and_then (λ (items : List ℕ). next_queues names p.group_of m (queues ++ (items ∷ [])) rest) r
-unfolding next_queue
-next_queue-then names p m queues rest (Ok items) = refl
-next_queue-then names p m queues rest (Err e) = refl
+next_workqueue-then : (names : List (List ℕ)) (p : Partition) (m : ℕ) (workqueues : List (List ℕ)) (rest : List CertLine) (r : Result (List ℕ) CertError)
+    → next_workqueue names p m workqueues rest r ≡ and_then (λ (items : List ℕ). next_workqueues names p.group_of m (workqueues ++ (items ∷ [])) rest) r
+unfolding next_workqueue
+next_workqueue-then names p m workqueues rest (Ok items) = refl
+next_workqueue-then names p m workqueues rest (Err e) = refl
 
 module _ (names : List (List ℕ)) (p : Partition) (n i : ℕ) (lines : List CertLine) (count : ℕ) (stood : List Bool) (lanes : List (Option ℕ)) (left : List LineView) (h : ReadSome names p n lines count stood lanes (n - i) (map cert_line left)) where
-  next_goes_on : i < n → (views : List LineView) → left ≡ views → next_queues names p.group_of n [] lines ≡ next_queues names p.group_of (suc (n - (i + 1))) h.queues (map cert_line views)
+  next_goes_on : i < n → (views : List LineView) → left ≡ views → next_workqueues names p.group_of n [] lines ≡ next_workqueues names p.group_of (suc (n - (i + 1))) h.workqueues (map cert_line views)
   next_goes_on lt views is =
       let fewer : n - i ≡ suc (n - (i + 1)) = omega arith in
-      subst₂ (λ (m : ℕ) (ls : List LineView). next_queues names p.group_of n [] lines ≡ next_queues names p.group_of m h.queues (map cert_line ls)) fewer is h.goes_on
+      subst₂ (λ (m : ℕ) (ls : List LineView). next_workqueues names p.group_of n [] lines ≡ next_workqueues names p.group_of m h.workqueues (map cert_line ls)) fewer is h.goes_on
 
   pub ReadSome-more : (line : LineView) (rest : List LineView) (more_count : ℕ) (more_stood : List Bool) (more_lanes : List (Option ℕ)) → i < n → left ≡ line ∷ rest
-      → IsNextNoted names p h.queues (cert_line line) more_count more_stood more_lanes → ReadSome names p n lines more_count more_stood more_lanes (n - (i + 1)) (map cert_line rest)
-  unfolding next_queue
+      → IsNextNoted names p h.workqueues (cert_line line) more_count more_stood more_lanes → ReadSome names p n lines more_count more_stood more_lanes (n - (i + 1)) (map cert_line rest)
+  unfolding next_workqueue
   ReadSome-more line rest more_count more_stood more_lanes lt first next = record {
-    queues = h.queues ++ (next.items ∷ []);
+    workqueues = h.workqueues ++ (next.items ∷ []);
     noted = next.noted;
-    goes_on = next_goes_on lt (line ∷ rest) first ∙ ap (next_queue names p (n - (i + 1)) h.queues (map cert_line rest)) next.read;
+    goes_on = next_goes_on lt (line ∷ rest) first ∙ ap (next_workqueue names p (n - (i + 1)) h.workqueues (map cert_line rest)) next.read;
   }
 
-  fault_goes_on : (line : LineView) (rest : List LineView) → i < n → left ≡ line ∷ rest → next_queues names p.group_of n [] lines ≡ next_queue names p (n - (i + 1)) h.queues (map cert_line rest) (wq_reading names p.group_of h.queues (cert_line line))
-  unfolding next_queue
+  fault_goes_on : (line : LineView) (rest : List LineView) → i < n → left ≡ line ∷ rest → next_workqueues names p.group_of n [] lines ≡ next_workqueue names p (n - (i + 1)) h.workqueues (map cert_line rest) (wq_reading names p.group_of h.workqueues (cert_line line))
+  unfolding next_workqueue
   fault_goes_on line rest lt first = next_goes_on lt (line ∷ rest) first
 
-  pub ReadSome-fault : (line : LineView) (rest : List LineView) (e : CertError) → i < n → left ≡ line ∷ rest → IsCertFaultOf e (wq_reading names p.group_of h.queues (cert_line line))
-      → IsCertFaultOf e (next_queues names p.group_of n [] lines)
+  pub ReadSome-fault : (line : LineView) (rest : List LineView) (e : CertError) → i < n → left ≡ line ∷ rest → IsCertFaultOf e (wq_reading names p.group_of h.workqueues (cert_line line))
+      → IsCertFaultOf e (next_workqueues names p.group_of n [] lines)
   ReadSome-fault line rest e lt first fault =
       let all : List CertLine = map cert_line rest in
-      IsCertFaultOf-then (λ (items : List ℕ). next_queues names p.group_of (n - (i + 1)) (h.queues ++ (items ∷ [])) all) e (wq_reading names p.group_of h.queues (cert_line line)) (next_queues names p.group_of n [] lines)
-      (fault_goes_on line rest lt first ∙ next_queue-then names p (n - (i + 1)) h.queues (map cert_line rest) (wq_reading names p.group_of h.queues (cert_line line))) fault
+      IsCertFaultOf-then (λ (items : List ℕ). next_workqueues names p.group_of (n - (i + 1)) (h.workqueues ++ (items ∷ [])) all) e (wq_reading names p.group_of h.workqueues (cert_line line)) (next_workqueues names p.group_of n [] lines)
+      (fault_goes_on line rest lt first ∙ next_workqueue-then names p (n - (i + 1)) h.workqueues (map cert_line rest) (wq_reading names p.group_of h.workqueues (cert_line line))) fault
 
-  pub ReadSome-short : i < n → left ≡ [] → next_queues names p.group_of n [] lines ≡ Err (BadCertLine 0)
+  pub ReadSome-short : i < n → left ≡ [] → next_workqueues names p.group_of n [] lines ≡ Err (BadCertLine 0)
   ReadSome-short lt none = next_goes_on lt [] none
 
   pub ReadSome-all : n ≤ i → AreRead names p n lines count stood lanes (map cert_line left)
   ReadSome-all le =
       let nothing : n - i ≡ zero = omega arith in
       record {
-        queues = h.queues;
+        workqueues = h.workqueues;
         noted = h.noted;
-        read = h.goes_on ∙ ap (λ m. next_queues names p.group_of m h.queues (map cert_line left)) nothing;
+        read = h.goes_on ∙ ap (λ m. next_workqueues names p.group_of m h.workqueues (map cert_line left)) nothing;
       }
 
 -- ---- all workqueues
 
 -- after some of the lines `rest` is left
 pub record ReadSoFar (names : List (List ℕ)) (p : Partition) (lines : List CertLine) (count : ℕ) (stood : List Bool) (lanes : List (Option ℕ)) (rest : List CertLine) : Type 0 where
-  pub queues : List (List ℕ)
-  pub noted : AreNoted p queues count stood lanes
-  pub goes_on : all_queues names p.group_of [] lines ≡ all_queues names p.group_of queues rest
+  pub workqueues : List (List ℕ)
+  pub noted : AreNoted p workqueues count stood lanes
+  pub goes_on : all_workqueues names p.group_of [] lines ≡ all_workqueues names p.group_of workqueues rest
 
 pub ReadSoFar-none : (names : List (List ℕ)) (p : Partition) (lines : List CertLine) (count : ℕ) (stood : List Bool) (lanes : List (Option ℕ)) → AreNoted p [] count stood lanes → ReadSoFar names p lines count stood lanes lines
-ReadSoFar-none names p lines count stood lanes noted = record { queues = []; noted = noted; goes_on = refl }
+ReadSoFar-none names p lines count stood lanes noted = record { workqueues = []; noted = noted; goes_on = refl }
 
 module _ (names : List (List ℕ)) (p : Partition) (lines : List CertLine) (count : ℕ) (stood : List Bool) (lanes : List (Option ℕ)) (left : List LineView) (h : ReadSoFar names p lines count stood lanes (map cert_line left)) where
   step : List CertLine → CertLine → Bool → Result (List ℕ) CertError → Read (List (List ℕ))
-  step rest line is_wq r = cond is_wq (and_then (λ items. all_queues names p.group_of (h.queues ++ (items ∷ [])) rest) r) (Ok (h.queues, line ∷ rest))
+  step rest line is_wq r = cond is_wq (and_then (λ items. all_workqueues names p.group_of (h.workqueues ++ (items ∷ [])) rest) r) (Ok (h.workqueues, line ∷ rest))
 
   steps : (line : LineView) (rest : List LineView) → left ≡ line ∷ rest
-      → all_queues names p.group_of [] lines ≡ step (map cert_line rest) (cert_line line) (begins_with (codes "wq") (cert_line line).words) (wq_reading names p.group_of h.queues (cert_line line))
+      → all_workqueues names p.group_of [] lines ≡ step (map cert_line rest) (cert_line line) (begins_with (codes "wq") (cert_line line).words) (wq_reading names p.group_of h.workqueues (cert_line line))
   unfolding step
-  steps line rest first = h.goes_on ∙ ap (λ (ls : List LineView). all_queues names p.group_of h.queues (map cert_line ls)) first
+  steps line rest first = h.goes_on ∙ ap (λ (ls : List LineView). all_workqueues names p.group_of h.workqueues (map cert_line ls)) first
 
   pub ReadSoFar-more : (line : LineView) (rest : List LineView) (more_count : ℕ) (more_stood : List Bool) (more_lanes : List (Option ℕ)) → left ≡ line ∷ rest → begins_with (codes "wq") (cert_line line).words ≡ true
-      → IsNextNoted names p h.queues (cert_line line) more_count more_stood more_lanes → ReadSoFar names p lines more_count more_stood more_lanes (map cert_line rest)
+      → IsNextNoted names p h.workqueues (cert_line line) more_count more_stood more_lanes → ReadSoFar names p lines more_count more_stood more_lanes (map cert_line rest)
   unfolding step
   ReadSoFar-more line rest more_count more_stood more_lanes first is_wq next = record {
-    queues = h.queues ++ (next.items ∷ []);
+    workqueues = h.workqueues ++ (next.items ∷ []);
     noted = next.noted;
     goes_on = steps line rest first ∙ ap₂ (step (map cert_line rest) (cert_line line)) is_wq next.read;
   }
 
-  pub ReadSoFar-fault : (line : LineView) (rest : List LineView) (e : CertError) → left ≡ line ∷ rest → begins_with (codes "wq") (cert_line line).words ≡ true → IsCertFaultOf e (wq_reading names p.group_of h.queues (cert_line line))
-      → IsCertFaultOf e (all_queues names p.group_of [] lines)
+  pub ReadSoFar-fault : (line : LineView) (rest : List LineView) (e : CertError) → left ≡ line ∷ rest → begins_with (codes "wq") (cert_line line).words ≡ true → IsCertFaultOf e (wq_reading names p.group_of h.workqueues (cert_line line))
+      → IsCertFaultOf e (all_workqueues names p.group_of [] lines)
   unfolding step
   ReadSoFar-fault line rest e first is_wq fault =
-      IsCertFaultOf-then (λ (items : List ℕ). all_queues names p.group_of (h.queues ++ (items ∷ [])) (map cert_line rest)) e (wq_reading names p.group_of h.queues (cert_line line)) (all_queues names p.group_of [] lines)
-      (steps line rest first ∙ ap (λ b. step (map cert_line rest) (cert_line line) b (wq_reading names p.group_of h.queues (cert_line line))) is_wq) fault
+      IsCertFaultOf-then (λ (items : List ℕ). all_workqueues names p.group_of (h.workqueues ++ (items ∷ [])) (map cert_line rest)) e (wq_reading names p.group_of h.workqueues (cert_line line)) (all_workqueues names p.group_of [] lines)
+      (steps line rest first ∙ ap (λ b. step (map cert_line rest) (cert_line line) b (wq_reading names p.group_of h.workqueues (cert_line line))) is_wq) fault
 
   pub ReadSoFar-stop : (line : LineView) (rest : List LineView) (at : ℕ) → left ≡ line ∷ rest → begins_with (codes "wq") (cert_line line).words ≡ false → at ≡ line.no → AreAllRead names p lines count stood lanes (Some at)
   unfolding step
   ReadSoFar-stop line rest at first other number = record {
-    queues = h.queues;
+    workqueues = h.workqueues;
     rest = cert_line line ∷ map cert_line rest;
     noted = h.noted;
-    read = steps line rest first ∙ ap (λ b. step (map cert_line rest) (cert_line line) b (wq_reading names p.group_of h.queues (cert_line line))) other;
+    read = steps line rest first ∙ ap (λ b. step (map cert_line rest) (cert_line line) b (wq_reading names p.group_of h.workqueues (cert_line line))) other;
     line = ap (λ (n : ℕ). Some n) number;
   }
 
   pub ReadSoFar-all : left ≡ [] → AreAllRead names p lines count stood lanes None
   ReadSoFar-all none = record {
-    queues = h.queues;
+    workqueues = h.workqueues;
     rest = [];
     noted = h.noted;
-    read = h.goes_on ∙ ap (λ (ls : List LineView). all_queues names p.group_of h.queues (map cert_line ls)) none;
+    read = h.goes_on ∙ ap (λ (ls : List LineView). all_workqueues names p.group_of h.workqueues (map cert_line ls)) none;
     line = refl;
   }

@@ -6,7 +6,7 @@ use Rattle.wq_groups.specs.Partition.{Partition}
 use Rattle.wq_cert.specs.declared.fault.CertError.{CertError}
 use Rattle.wq_cert.specs.Certificate.{PlanCertificate}
 use Rattle.wq_cert.specs.Lines.{CertLine}
-use Rattle.wq_cert.specs.Reading.{Read, and_then, and_read, next_line, next_lines, at_end, count_reading, arc_reading, next_queues, whole_assignment, chain_reading, plan_reading}
+use Rattle.wq_cert.specs.Reading.{Read, and_then, and_read, next_line, next_lines, at_end, count_reading, arc_reading, next_workqueues, whole_assignment, chain_reading, plan_reading}
 
 -- ---- what follows is the same
 
@@ -58,17 +58,17 @@ module _ (names : List (List ℕ)) (a : Assignment) where
 -- ---- the whole
 
 module _ (names : List (List ℕ)) (p : Partition) where
-  abbrev pub behind_queues : List CertLine → Assignment → Result PlanCertificate CertError
-  behind_queues rest a = and_read (λ n behind. and_read (last_arc names a n) (next_lines (arc_reading names) (n - 1) behind)) (next_line (count_reading (codes "chain")) rest)
+  abbrev pub behind_workqueues : List CertLine → Assignment → Result PlanCertificate CertError
+  behind_workqueues rest a = and_read (λ n behind. and_read (last_arc names a n) (next_lines (arc_reading names) (n - 1) behind)) (next_line (count_reading (codes "chain")) rest)
 
   abbrev pub behind_plan : ℕ → List CertLine → Result PlanCertificate CertError
-  behind_plan lanes lines = and_read (λ queues rest. and_then (behind_queues rest) (whole_assignment p queues)) (next_queues names p.group_of lanes [] lines)
+  behind_plan lanes lines = and_read (λ workqueues rest. and_then (behind_workqueues rest) (whole_assignment p workqueues)) (next_workqueues names p.group_of lanes [] lines)
 
   pub plan_reading-turn : (lines : List CertLine) → plan_reading names p lines ≡ and_read behind_plan (next_line (count_reading (codes "plan")) lines)
   plan_reading-turn lines =
       and_read-same _ behind_plan
       (λ lanes behind.
-      in_one_turn (λ a rest. and_then (plan_with_chain names a) (chain_reading names rest)) (whole_assignment p) (next_queues names p.group_of lanes [] behind)
-      ∙ and_read-same _ (λ queues rest. and_then (behind_queues rest) (whole_assignment p queues))
-      (λ queues rest. and_then-same _ (behind_queues rest) (λ a. chain_reading-plan names a rest) (whole_assignment p queues)) (next_queues names p.group_of lanes [] behind))
+      in_one_turn (λ a rest. and_then (plan_with_chain names a) (chain_reading names rest)) (whole_assignment p) (next_workqueues names p.group_of lanes [] behind)
+      ∙ and_read-same _ (λ workqueues rest. and_then (behind_workqueues rest) (whole_assignment p workqueues))
+      (λ workqueues rest. and_then-same _ (behind_workqueues rest) (λ a. chain_reading-plan names a rest) (whole_assignment p workqueues)) (next_workqueues names p.group_of lanes [] behind))
       (next_line (count_reading (codes "plan")) lines)

@@ -17,7 +17,7 @@ use Rattle.wq_cert.specs.Ranges.{IsArcOf, IsStepOf}
 use Rattle.wq_cert.specs.Reading.{answer_reading}
 use Rattle.wq_cert.specs.RunText.{run_lines, step_line}
 use Rattle.wq_cert.specs.Spelled.{SpellsCircle, SpellsRunBehind}
-use Rattle.wq_cert.specs.Texts.{max_text, answer_of}
+use Rattle.wq_cert.specs.Texts.{max_certificate, answer_of}
 use Rattle.wq_cert.proofs.ListLemmas.{AllByRecursion-append}
 use Rattle.wq_cert.proofs.PrintedArcs.{IsPrintableLine-arcs}
 use Rattle.wq_cert.proofs.PrintedLines.{IsPrintableLine, IsShort-printed, words_of_text-printed, KeepsLimits-printed, length-lines-le}
@@ -47,19 +47,19 @@ module _ (t : Table) (table : IsTable t) where
   )
 
   -- a text that isn't too long has few steps
-  few_steps-text : (arcs : List (ℕ × ℕ)) (steps : Option (List Step)) → length (circle_text t.names arcs steps) ≤ max_text → IfSome steps (λ run. length run < 2 ^ 32)
+  few_steps-text : (arcs : List (ℕ × ℕ)) (steps : Option (List Step)) → length (circle_text t.names arcs steps) ≤ max_certificate → IfSome steps (λ run. length run < 2 ^ 32)
   few_steps-text arcs None most = tt
   few_steps-text arcs (Some run) most =
       omega (arith, length-lines-le (circle_lines t.names arcs (Some run)), length-append (map (arc_line t.names) arcs) (run_lines t.names run), length-map run (step_line t.names))
 
   -- the lines of a text that isn't too long are short enough
   pub IsShort-circle : (arcs : List (ℕ × ℕ)) (steps : Option (List Step)) → length arcs ≤ 4096 → All (IsArcOf (length t.names)) arcs
-      → IfSome steps (All (IsStepOf (length t.names))) → length (circle_text t.names arcs steps) ≤ max_text → All (IsShort 524288) (lines_of (circle_text t.names arcs steps))
+      → IfSome steps (All (IsStepOf (length t.names))) → length (circle_text t.names arcs steps) ≤ max_certificate → All (IsShort 524288) (lines_of (circle_text t.names arcs steps))
   IsShort-circle arcs steps few named steps_named most =
       IsShort-printed (circle_lines t.names arcs steps) (IsPrintableLine-circle arcs steps few named steps_named (few_steps-text arcs steps most))
 
   pub answer_of-circle : (p : Partition) (arcs : List (ℕ × ℕ)) (steps : Option (List Step)) → 0 < length arcs → length arcs ≤ 4096 → All (IsArcOf (length t.names)) arcs
-      → IfSome steps (All (IsStepOf (length t.names))) → length (circle_text t.names arcs steps) ≤ max_text
+      → IfSome steps (All (IsStepOf (length t.names))) → length (circle_text t.names arcs steps) ≤ max_certificate
       → answer_of t.names p (circle_text t.names arcs steps) ≡ Ok (OfCircle (record { arcs = arcs; steps = steps }))
   answer_of-circle p arcs steps some few named steps_named most =
       let few_steps = few_steps-text arcs steps most in

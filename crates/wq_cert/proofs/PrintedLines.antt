@@ -17,7 +17,7 @@ use Rattle.wq_cert.specs.LineText.{spaced, line_text}
 use Rattle.wq_cert.specs.Lines.{bytes_of, holds_word, cert_line, cert_lines}
 use Rattle.wq_cert.proofs.ListLemmas.{AllByRecursion-append, AllByRecursion-weaker}
 use Rattle.wq_cert.specs.Spelled.{words_in, words_of_text, KeepsLimits}
-use Rattle.wq_cert.specs.Texts.{max_text}
+use Rattle.wq_cert.specs.Texts.{max_certificate}
 
 -- ---- what can be printed
 
@@ -196,7 +196,7 @@ IsShort-printed lines h = short-from 1 0 lines h
 -- ---- texts
 
 -- a printed text that isn't too long keeps the limits
-pub KeepsLimits-printed : (lines : List (List (List ℕ))) → AllByRecursion IsPrintableLine lines → length (flat_map line_text lines) ≤ max_text → KeepsLimits (flat_map line_text lines)
+pub KeepsLimits-printed : (lines : List (List (List ℕ))) → AllByRecursion IsPrintableLine lines → length (flat_map line_text lines) ≤ max_certificate → KeepsLimits (flat_map line_text lines)
 KeepsLimits-printed lines h most = record { text_fits = most; lines_fit = IsShort-printed lines h }
 
 -- no more lines than bytes

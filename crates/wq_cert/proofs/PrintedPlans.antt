@@ -9,16 +9,16 @@ use Rattle.wq_text.specs.Lines.{lines_of}
 use Rattle.wq_text.proofs.LimitLaws.{IsShort}
 use Rattle.wq_items.specs.Table.{Table, IsTable}
 use Rattle.wq_groups.specs.Partition.{Partition, IsPartition}
-use Rattle.wq_groups.specs.Assignment.{Assignment, IsAssignment, lane_of}
+use Rattle.wq_groups.specs.Assignment.{Assignment, IsAssignment, group_lane}
 use Rattle.wq_cert.specs.Certificate.{PlanCertificate, OfPlan}
 use Rattle.wq_cert.specs.PlanText.{item_lanes, items_on, plan_line, wq_line, chain_line, arc_line, plan_lines, plan_text}
 use Rattle.wq_cert.specs.Ranges.{IsArcOf}
 use Rattle.wq_cert.specs.Spelled.{words_of_text, SpellsPlan, KeepsLimits}
-use Rattle.wq_cert.specs.Texts.{max_text, answer_of, assignment_of_text}
+use Rattle.wq_cert.specs.Texts.{max_certificate, answer_of, assignment_of_text}
 use Rattle.wq_cert.proofs.ListLemmas.{AllByRecursion-append}
 use Rattle.wq_cert.proofs.PrintedArcs.{IsPrintableLine-arcs}
 use Rattle.wq_cert.proofs.PrintedLines.{IsPrintableLine, IsShort-printed, words_of_text-printed, KeepsLimits-printed}
-use Rattle.wq_cert.proofs.PrintedQueues.{IsPrintableLine-wqs, queue_lines-printed, assignment_of-queues, AreQueues-printed}
+use Rattle.wq_cert.proofs.PrintedWorkqueues.{IsPrintableLine-wqs, workqueue_lines-printed, assignment_of-workqueues, AreWorkqueues-printed}
 use Rattle.wq_cert.proofs.PrintedWords.{IsPrintable-keyword, IsPrintableLine-count}
 use Rattle.wq_cert.proofs.SpelledAnswers.{answer_of-spelled, assignment_of_text-spelled}
 use Rattle.wq_cert.proofs.TextLength.{length-plan_text}
@@ -59,7 +59,7 @@ module _ (t : Table) (p : Partition) (a : Assignment) (chain : List (ℕ × ℕ)
   lane = item_lanes a p.group_of
 
   length-lane : length lane ≡ length t.names
-  length-lane = length-map p.group_of (lane_of a) ∙ long
+  length-lane = length-map p.group_of (group_lane a) ∙ long
 
   arcs-left : chain_length a.lanes chain - 1 ≡ length chain
   arcs-left = chosen (eqb a.lanes 0) refl
@@ -68,8 +68,8 @@ module _ (t : Table) (p : Partition) (a : Assignment) (chain : List (ℕ × ℕ)
       chosen true e = omega (arith, ap length (none (eqb-true a.lanes 0 e)))
       chosen false e = omega arith
 
-  abbrev queues : List (List ℕ)
-  queues = map (items_on lane) (range_with_len 0 a.lanes)
+  abbrev workqueues : List (List ℕ)
+  workqueues = map (items_on lane) (range_with_len 0 a.lanes)
 
   abbrev plan : PlanCertificate
   plan = record { assignment = a; length = chain_length a.lanes chain; arcs = chain }
@@ -78,13 +78,13 @@ module _ (t : Table) (p : Partition) (a : Assignment) (chain : List (ℕ × ℕ)
   SpellsPlan-printed : SpellsPlan t.names p (plan_lines t.names a.lanes lane chain) plan
   SpellsPlan-printed =
       let arc_lines = map (arc_line t.names) chain in
-      let count : a.lanes ≡ length queues = sym (length-map-range_with_len (items_on lane) 0 a.lanes) in
+      let count : a.lanes ≡ length workqueues = sym (length-map-range_with_len (items_on lane) 0 a.lanes) in
       record {
-        queues = queues;
+        workqueues = workqueues;
         words =
-            ap₂ (λ (n : ℕ) (ls : List (List (List ℕ))). plan_line n ∷ (ls ++ (chain_line a.lanes chain ∷ arc_lines))) count (sym (queue_lines-printed lane t.names a.lanes));
-        are = AreQueues-printed p a is assigned few (length t.names) long;
-        assignment = sym (assignment_of-queues p a is assigned);
+            ap₂ (λ (n : ℕ) (ls : List (List (List ℕ))). plan_line n ∷ (ls ++ (chain_line a.lanes chain ∷ arc_lines))) count (sym (workqueue_lines-printed lane t.names a.lanes));
+        are = AreWorkqueues-printed p a is assigned few (length t.names) long;
+        assignment = sym (assignment_of-workqueues p a is assigned);
         few = chain_length-most a.lanes 4095 chain short;
         count = sym arcs-left;
         known = arcs;
@@ -95,7 +95,7 @@ module _ (t : Table) (p : Partition) (a : Assignment) (chain : List (ℕ × ℕ)
   printable : AllByRecursion IsPrintableLine (plan_lines t.names a.lanes lane chain)
   printable = IsPrintableLine-plan t table a.lanes lane chain length-lane few (omega arith) arcs
 
-  most : length (plan_text t.names a.lanes lane chain) ≤ max_text
+  most : length (plan_text t.names a.lanes lane chain) ≤ max_certificate
   most = length-plan_text-most t table a.lanes lane chain length-lane few (omega arith)
 
   abbrev lines : List (List (List ℕ))

@@ -13,7 +13,7 @@ use Rattle.wq_cert.specs.PlanText.{name_of}
 use Rattle.wq_cert.specs.Ranges.{IsStepOf}
 use Rattle.wq_cert.specs.RunText.{step_line, run_lines, run_text}
 use Rattle.wq_cert.specs.Spelled.{SpellsRun}
-use Rattle.wq_cert.specs.Texts.{max_text, run_of}
+use Rattle.wq_cert.specs.Texts.{max_certificate, run_of}
 use Rattle.wq_cert.proofs.PrintedLines.{IsPrintable, IsPrintableLine, words_of_text-printed, KeepsLimits-printed, length-lines-le}
 use Rattle.wq_cert.proofs.PrintedWords.{IsPrintable-decimal, IsPrintable-keyword, IsPrintable-name_of, IsPrintableLine-count}
 use Rattle.wq_cert.proofs.SpelledAnswers.{run_of-spelled}
@@ -44,10 +44,10 @@ module _ (t : Table) (table : IsTable t) where
       (IsPrintableLine-count (codes "run") (length steps) (IsPrintable-keyword (codes "run") refl (omega arith) (omega arith)) few, IsPrintableLine-steps steps h)
 
   -- a text that isn't too long has few steps
-  few_steps : (steps : List Step) → length (run_text t.names steps) ≤ max_text → length steps < 2 ^ 32
+  few_steps : (steps : List Step) → length (run_text t.names steps) ≤ max_certificate → length steps < 2 ^ 32
   few_steps steps most = omega (arith, length-lines-le (run_lines t.names steps), length-map steps (step_line t.names))
 
-  pub run_of-printed : (steps : List Step) → All (IsStepOf (length t.names)) steps → length (run_text t.names steps) ≤ max_text → run_of t.names (run_text t.names steps) ≡ Ok steps
+  pub run_of-printed : (steps : List Step) → All (IsStepOf (length t.names)) steps → length (run_text t.names steps) ≤ max_certificate → run_of t.names (run_text t.names steps) ≡ Ok steps
   run_of-printed steps h most =
       let few = few_steps steps most in
       let lines = run_lines t.names steps in

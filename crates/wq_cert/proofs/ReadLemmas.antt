@@ -8,7 +8,7 @@ use Rattle.wq_cert.specs.declared.fault.CertError.{CertError}
 use Rattle.wq_cert.specs.declared.fault.CertError.TheVariants.{BadCertLine, NotAllItems, GroupSplit, NumberOutOfRange, OutOfMemory}
 use Rattle.wq_cert.specs.Lines.{CertLine, cert_line, cert_lines}
 use Rattle.wq_cert.specs.Reading.{Read, and_then, and_read, next_lines}
-use Rattle.wq_cert.specs.Texts.{max_text, max_line, by_limits, text_reading, IsCertFaultOf}
+use Rattle.wq_cert.specs.Texts.{max_certificate, max_certificate_line, unless_too_long, text_reading, IsCertFaultOf}
 
 -- ---- faults
 
@@ -108,9 +108,9 @@ module _ {V : Type 0} (read : CertLine → Result V CertError) (n i : ℕ) (line
 -- ---- texts
 
 pub text_reading-by : {V : Type 0} (read : List CertLine → Result V CertError) (text : List ℕ) → text_reading read text ≡ and_then read (text_reading (λ lines. Ok lines) text)
-text_reading-by {V} read text = chosen (limit_fault max_text max_line text)
+text_reading-by {V} read text = chosen (limit_fault max_certificate max_certificate_line text)
   where
-    chosen : (o : Option TextError) → by_limits o (read (cert_lines (lines_of text))) ≡ and_then read (by_limits o (Ok (cert_lines (lines_of text))))
+    chosen : (o : Option TextError) → unless_too_long o (read (cert_lines (lines_of text))) ≡ and_then read (unless_too_long o (Ok (cert_lines (lines_of text))))
     chosen None = refl
     chosen (Some TextTooLong) = refl
     chosen (Some (LineTooLong line)) = refl

@@ -17,13 +17,13 @@ use Rattle.wq_cert.specs.Forms.{begins_with}
 use Rattle.wq_cert.specs.PlanText.{arc_line}
 use Rattle.wq_cert.specs.RunText.{step_line}
 use Rattle.wq_cert.specs.Ranges.{IsAssignmentOf, IsRunOf, IsPlanOf, IsCircleOf, IsCertificateOf}
-use Rattle.wq_cert.specs.Reading.{and_then, plan_reading, circle_reading, run_reading, queues_reading, answer_reading, assignment_reading, assignment_of}
-use Rattle.wq_cert.specs.Spelled.{words_in, AreQueues, SpellsPlan, SpellsRun, SpellsRunBehind, SpellsCircle}
-use Rattle.wq_cert.specs.Texts.{max_text, max_line, by_limits, text_reading, answer_of, assignment_of_text, run_of}
+use Rattle.wq_cert.specs.Reading.{and_then, plan_reading, circle_reading, run_reading, workqueues_reading, answer_reading, assignment_reading, assignment_of}
+use Rattle.wq_cert.specs.Spelled.{words_in, AreWorkqueues, SpellsPlan, SpellsRun, SpellsRunBehind, SpellsCircle}
+use Rattle.wq_cert.specs.Texts.{max_certificate, max_certificate_line, unless_too_long, text_reading, answer_of, assignment_of_text, run_of}
 use Rattle.wq_cert.proofs.ListLemmas.{length-filter-le}
 use Rattle.wq_cert.proofs.SpelledLines.{Follows-and_then, same_ok}
-use Rattle.wq_cert.proofs.SpelledTexts.{SpellsRun-run_reading, SpellsCircle-circle_reading, SpellsQueues-queues_reading, SpellsPlan-plan_reading}
-use Rattle.wq_cert.proofs.QueueLanes.{IsAssignmentOf-queues}
+use Rattle.wq_cert.proofs.SpelledTexts.{SpellsRun-run_reading, SpellsCircle-circle_reading, SpellsWorkqueues-workqueues_reading, SpellsPlan-plan_reading}
+use Rattle.wq_cert.proofs.WorkqueueLanes.{IsAssignmentOf-workqueues}
 
 -- ---- lines
 
@@ -61,20 +61,20 @@ length-words_in lines = length-map lines (λ (line : CertLine). line.words)
 
 -- the text keeps the limits, and its lines are read so
 pub record IsReadSo {V : Type 0} (read : List CertLine → Result V CertError) (text : List ℕ) (v : V) : Type 0 where
-  pub within : limit_fault max_text max_line text ≡ None
+  pub within : limit_fault max_certificate max_certificate_line text ≡ None
   pub is_read : read (cert_lines (lines_of text)) ≡ Ok v
 
 pub IsReadSo-text_reading : {V : Type 0} (read : List CertLine → Result V CertError) (text : List ℕ) (v : V) → text_reading read text ≡ Ok v → IsReadSo read text v
-IsReadSo-text_reading {V} read text v e = chosen (limit_fault max_text max_line text) refl e
+IsReadSo-text_reading {V} read text v e = chosen (limit_fault max_certificate max_certificate_line text) refl e
   where
-    chosen : (o : Option TextError) → limit_fault max_text max_line text ≡ o → by_limits o (read (cert_lines (lines_of text))) ≡ Ok v → IsReadSo read text v
+    chosen : (o : Option TextError) → limit_fault max_certificate max_certificate_line text ≡ o → unless_too_long o (read (cert_lines (lines_of text))) ≡ Ok v → IsReadSo read text v
     chosen None within e = record { within = within; is_read = e }
     chosen (Some TextTooLong) within e = absurd cc
     chosen (Some (LineTooLong line)) within e = absurd cc
 
-few_lines : (text : List ℕ) → limit_fault max_text max_line text ≡ None → length (cert_lines (lines_of text)) ≤ 8388608
+few_lines : (text : List ℕ) → limit_fault max_certificate max_certificate_line text ≡ None → length (cert_lines (lines_of text)) ≤ 8388608
 few_lines text within =
-    let fits : length text ≤ 8388608 = (fits-limit_fault max_text max_line text within).0 in
+    let fits : length text ≤ 8388608 = (fits-limit_fault max_certificate max_certificate_line text within).0 in
     omega (arith, fits, length-cert_lines text)
 
 -- ---- the text of an answer
@@ -106,7 +106,7 @@ IsReadAs-answer_reading names p (line ∷ lines) c e = chosen (begins_with (code
 
 -- the lines are `wq` lines alone, or those of a plan
 abbrev pub IsAssignedBy : List (List ℕ) → Partition → List CertLine → Assignment → Type 0
-IsAssignedBy names p lines a = (queues_reading names p lines ≡ Ok a) ⊎ ((c : PlanCertificate) × (plan_reading names p lines ≡ Ok c) × (c.assignment ≡ a))
+IsAssignedBy names p lines a = (workqueues_reading names p lines ≡ Ok a) ⊎ ((c : PlanCertificate) × (plan_reading names p lines ≡ Ok c) × (c.assignment ≡ a))
 
 abbrev pub of_plan : PlanCertificate → Result Assignment CertError
 of_plan plan = Ok plan.assignment
@@ -115,7 +115,7 @@ pub IsAssignedBy-assignment_reading : (names : List (List ℕ)) (p : Partition) 
 IsAssignedBy-assignment_reading names p [] a e = inl e
 IsAssignedBy-assignment_reading names p (line ∷ lines) a e = chosen (begins_with (codes "plan") line.words) e
   where
-    chosen : (b : Bool) → cond b (and_then of_plan (plan_reading names p (line ∷ lines))) (queues_reading names p (line ∷ lines)) ≡ Ok a → IsAssignedBy names p (line ∷ lines) a
+    chosen : (b : Bool) → cond b (and_then of_plan (plan_reading names p (line ∷ lines))) (workqueues_reading names p (line ∷ lines)) ≡ Ok a → IsAssignedBy names p (line ∷ lines) a
     chosen true e =
         let found = Follows-and_then of_plan (plan_reading names p (line ∷ lines)) a e in
         inr (found.value, found.first, same_ok found.value.assignment a found.then)
@@ -131,13 +131,13 @@ IsRunOf-spelled names lines steps few spells = record {
 }
 
 module _ (names : List (List ℕ)) (p : Partition) (partition : IsPartition p) (one_group_each : length names ≡ length p.group_of) where
-  IsAssignmentOf-spelled : (queues : List (List ℕ)) (a : Assignment) → AreQueues (length names) p.group_of queues → a ≡ assignment_of p queues → IsAssignmentOf p.groups a
-  IsAssignmentOf-spelled queues a are is =
-      subst (IsAssignmentOf p.groups) (sym is) (IsAssignmentOf-queues p queues partition (subst (λ (n : ℕ). AreQueues n p.group_of queues) one_group_each are))
+  IsAssignmentOf-spelled : (workqueues : List (List ℕ)) (a : Assignment) → AreWorkqueues (length names) p.group_of workqueues → a ≡ assignment_of p workqueues → IsAssignmentOf p.groups a
+  IsAssignmentOf-spelled workqueues a are is =
+      subst (IsAssignmentOf p.groups) (sym is) (IsAssignmentOf-workqueues p workqueues partition (subst (λ (n : ℕ). AreWorkqueues n p.group_of workqueues) one_group_each are))
 
   IsPlanOf-spelled : (lines : List (List (List ℕ))) (c : PlanCertificate) → SpellsPlan names p lines c → IsPlanOf (length names) p.groups c
   IsPlanOf-spelled lines c spells = record {
-    assignment = IsAssignmentOf-spelled spells.queues c.assignment spells.are spells.assignment;
+    assignment = IsAssignmentOf-spelled spells.workqueues c.assignment spells.are spells.assignment;
     few = spells.few;
     count = spells.count;
     arcs = spells.known;
@@ -167,8 +167,8 @@ module _ (names : List (List ℕ)) (p : Partition) (partition : IsPartition p) (
 
   IsAssignmentOf-read : (lines : List CertLine) (a : Assignment) → IsAssignedBy names p lines a → IsAssignmentOf p.groups a
   IsAssignmentOf-read lines a (inl e) =
-      let spells = SpellsQueues-queues_reading names p one_group_each lines a e in
-      IsAssignmentOf-spelled spells.queues a spells.are spells.assignment
+      let spells = SpellsWorkqueues-workqueues_reading names p one_group_each lines a e in
+      IsAssignmentOf-spelled spells.workqueues a spells.are spells.assignment
   IsAssignmentOf-read lines a (inr (c, e, is)) =
       subst (IsAssignmentOf p.groups) is (IsPlanOf-spelled (words_in lines) c (SpellsPlan-plan_reading names p one_group_each lines c e)).assignment
 

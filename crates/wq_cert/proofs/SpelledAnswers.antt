@@ -14,10 +14,10 @@ use Rattle.wq_cert.specs.Lines.{CertLine, cert_lines}
 use Rattle.wq_cert.specs.Forms.{begins_with}
 use Rattle.wq_cert.specs.PlanText.{plan_line}
 use Rattle.wq_cert.specs.CircleText.{circle_line}
-use Rattle.wq_cert.specs.Reading.{and_then, plan_reading, circle_reading, run_reading, queues_reading, answer_reading, assignment_reading}
-use Rattle.wq_cert.specs.Spelled.{words_in, words_of_text, queue_lines, SpellsCircle, SpellsRun, SpellsCertificate, SpellsAssignment, KeepsLimits}
-use Rattle.wq_cert.specs.Texts.{max_text, max_line, by_limits, text_reading, answer_of, assignment_of_text, run_of}
-use Rattle.wq_cert.proofs.SpelledTexts.{SpellsRun-run_reading, run_reading-SpellsRun, SpellsCircle-circle_reading, circle_reading-SpellsCircle, SpellsQueues-queues_reading, queues_reading-SpellsQueues, SpellsPlan-plan_reading, plan_reading-SpellsPlan}
+use Rattle.wq_cert.specs.Reading.{and_then, plan_reading, circle_reading, run_reading, workqueues_reading, answer_reading, assignment_reading}
+use Rattle.wq_cert.specs.Spelled.{words_in, words_of_text, workqueue_lines, SpellsCircle, SpellsRun, SpellsCertificate, SpellsAssignment, KeepsLimits}
+use Rattle.wq_cert.specs.Texts.{max_certificate, max_certificate_line, unless_too_long, text_reading, answer_of, assignment_of_text, run_of}
+use Rattle.wq_cert.proofs.SpelledTexts.{SpellsRun-run_reading, run_reading-SpellsRun, SpellsCircle-circle_reading, circle_reading-SpellsCircle, SpellsWorkqueues-workqueues_reading, workqueues_reading-SpellsWorkqueues, SpellsPlan-plan_reading, plan_reading-SpellsPlan}
 use Rattle.wq_cert.proofs.ReadRanges.{IsReadSo-text_reading, IsReadAs, IsReadAs-answer_reading, circle_answer, plan_answer, IsAssignedBy, IsAssignedBy-assignment_reading, of_plan}
 
 -- ---- limits
@@ -26,13 +26,13 @@ module _ {V : Type 0} (read : List CertLine → Result V CertError) (text : List
   pub KeepsLimits-text_reading : text_reading read text ≡ Ok v → KeepsLimits text × (read (cert_lines (lines_of text)) ≡ Ok v)
   KeepsLimits-text_reading e =
       let found = IsReadSo-text_reading read text v e in
-      let fits = fits-limit_fault max_text max_line text found.within in
+      let fits = fits-limit_fault max_certificate max_certificate_line text found.within in
       (record { text_fits = fits.0; lines_fit = fits.1 }, found.is_read)
 
   pub text_reading-KeepsLimits : KeepsLimits text → read (cert_lines (lines_of text)) ≡ Ok v → text_reading read text ≡ Ok v
   text_reading-KeepsLimits keeps e =
-      let within : limit_fault max_text max_line text ≡ None = limit_fault-fits max_text max_line text (keeps.text_fits, keeps.lines_fit) in
-      ap (λ (o : Option TextError). by_limits o (read (cert_lines (lines_of text)))) within ∙ e
+      let within : limit_fault max_certificate max_certificate_line text ≡ None = limit_fault-fits max_certificate max_certificate_line text (keeps.text_fits, keeps.lines_fit) in
+      ap (λ (o : Option TextError). unless_too_long o (read (cert_lines (lines_of text)))) within ∙ e
 
 -- ---- lines
 
@@ -60,7 +60,7 @@ module _ (names : List (List ℕ)) (p : Partition) (one_group_each : length name
       (found.0, SpellsCertificate-read lines c (IsReadAs-answer_reading names p lines c found.1))
 
   SpellsAssignment-read : (lines : List CertLine) (a : Assignment) → IsAssignedBy names p lines a → SpellsAssignment names p (words_in lines) a
-  SpellsAssignment-read lines a (inl e) = inl (SpellsQueues-queues_reading names p one_group_each lines a e)
+  SpellsAssignment-read lines a (inl e) = inl (SpellsWorkqueues-workqueues_reading names p one_group_each lines a e)
   SpellsAssignment-read lines a (inr (c, e, is)) = inr (c, SpellsPlan-plan_reading names p one_group_each lines c e, is)
 
   pub SpellsAssignment-assignment_of_text : (text : List ℕ) (a : Assignment) → assignment_of_text names p text ≡ Ok a → KeepsLimits text × SpellsAssignment names p (words_of_text text) a
@@ -76,7 +76,7 @@ module _ (names : List (List ℕ)) (p : Partition) (one_group_each : length name
     answer_reading-spelled [] (OfPlan c) spells = absurd (let words = spells.words in cc)
     answer_reading-spelled (line ∷ lines) (OfPlan c) spells =
         let words = spells.words in
-        let first : line.words ≡ plan_line (length spells.queues) = cc in
+        let first : line.words ≡ plan_line (length spells.workqueues) = cc in
         let circle = and_then circle_answer (circle_reading names (line ∷ lines)) in
         let plan = and_then plan_answer (plan_reading names p (line ∷ lines)) in
         ap (λ (ws : List (List ℕ)). cond (begins_with (codes "circle") ws) circle plan) first
@@ -86,26 +86,26 @@ module _ (names : List (List ℕ)) (p : Partition) (one_group_each : length name
     answer_of-spelled text c h =
         text_reading-KeepsLimits (answer_reading names p) text c h.0 (answer_reading-spelled (cert_lines (lines_of text)) c h.1)
 
-    no_plan : (queues : List (List ℕ)) (line : CertLine) (lines : List CertLine) → words_in (line ∷ lines) ≡ queue_lines names queues → begins_with (codes "plan") line.words ≡ false
+    no_plan : (workqueues : List (List ℕ)) (line : CertLine) (lines : List CertLine) → words_in (line ∷ lines) ≡ workqueue_lines names workqueues → begins_with (codes "plan") line.words ≡ false
     no_plan [] line lines e = absurd cc
-    no_plan (queue ∷ more) line lines e =
-        let first : line.words ≡ codes "wq" ∷ decimal 0 ∷ map (λ (i : ℕ). get_or names i []) queue = cc in
+    no_plan (workqueue ∷ more) line lines e =
+        let first : line.words ≡ codes "wq" ∷ decimal 0 ∷ map (λ (i : ℕ). get_or names i []) workqueue = cc in
         ap (begins_with (codes "plan")) first
 
     assignment_reading-spelled : (lines : List CertLine) (a : Assignment) → SpellsAssignment names p (words_in lines) a → assignment_reading names p lines ≡ Ok a
-    assignment_reading-spelled [] a (inl spells) = queues_reading-SpellsQueues names p one_group_each differ [] a spells
+    assignment_reading-spelled [] a (inl spells) = workqueues_reading-SpellsWorkqueues names p one_group_each differ [] a spells
     assignment_reading-spelled [] a (inr (c, spells, is)) = absurd (let words = spells.words in cc)
     assignment_reading-spelled (line ∷ lines) a (inl spells) =
         let plan = and_then of_plan (plan_reading names p (line ∷ lines)) in
-        let queues = queues_reading names p (line ∷ lines) in
-        ap (λ (b : Bool). cond b plan queues) (no_plan spells.queues line lines spells.words)
-        ∙ queues_reading-SpellsQueues names p one_group_each differ (line ∷ lines) a spells
+        let workqueues = workqueues_reading names p (line ∷ lines) in
+        ap (λ (b : Bool). cond b plan workqueues) (no_plan spells.workqueues line lines spells.words)
+        ∙ workqueues_reading-SpellsWorkqueues names p one_group_each differ (line ∷ lines) a spells
     assignment_reading-spelled (line ∷ lines) a (inr (c, spells, is)) =
         let words = spells.words in
-        let first : line.words ≡ plan_line (length spells.queues) = cc in
+        let first : line.words ≡ plan_line (length spells.workqueues) = cc in
         let plan = and_then of_plan (plan_reading names p (line ∷ lines)) in
-        let queues = queues_reading names p (line ∷ lines) in
-        ap (λ (ws : List (List ℕ)). cond (begins_with (codes "plan") ws) plan queues) first
+        let workqueues = workqueues_reading names p (line ∷ lines) in
+        ap (λ (ws : List (List ℕ)). cond (begins_with (codes "plan") ws) plan workqueues) first
         ∙ ap (and_then of_plan) (plan_reading-SpellsPlan names p one_group_each differ (line ∷ lines) c spells)
         ∙ ap (λ (b : Assignment). Ok b) is
 

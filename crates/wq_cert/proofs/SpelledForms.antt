@@ -12,7 +12,7 @@ use Rattle.wq_cert.specs.Forms.{number_of, items_of, count_form, wq_form, arc_fo
 use Rattle.wq_cert.specs.PlanText.{name_of, arc_line}
 use Rattle.wq_cert.specs.RunText.{item_in, step_line}
 use Rattle.wq_cert.specs.Ranges.{IsArcOf, IsStepOf}
-use Rattle.wq_cert.specs.Spelled.{queue_line}
+use Rattle.wq_cert.specs.Spelled.{workqueue_line}
 use Rattle.wq_cert.proofs.SpelledNumbers.{guarded, one_of, AreBoth-zip, zip-AreBoth, Spells-number_of, number_of-Spells, Names-item_named, item_named-name_of, AreNames-items_of, items_of-names_of}
 
 -- ---- counts
@@ -39,30 +39,30 @@ count_form-IsCountLine keyword words n line =
 -- ---- workqueues
 
 -- `wq Q NAME..`
-pub record IsQueueLine (names words : List (List ℕ)) (queue : ℕ × List ℕ) : Type 0 where
-  pub words_are : words ≡ queue_line names queue
-  pub fits : queue.0 < 2 ^ 32
-  pub known : AllByRecursion (λ i. i < length names) queue.1
+pub record IsWorkqueueLine (names words : List (List ℕ)) (workqueue : ℕ × List ℕ) : Type 0 where
+  pub words_are : words ≡ workqueue_line names workqueue
+  pub fits : workqueue.0 < 2 ^ 32
+  pub known : AllByRecursion (λ i. i < length names) workqueue.1
 
-pub IsQueueLine-wq_form : (names words : List (List ℕ)) (queue : ℕ × List ℕ) → wq_form names words ≡ Some queue → IsQueueLine names words queue
-IsQueueLine-wq_form names [] queue e = absurd cc
-IsQueueLine-wq_form names (word ∷ []) queue e = absurd cc
-IsQueueLine-wq_form names (word ∷ number ∷ items) queue e =
-    let found = guarded (bytes_eq word (codes "wq")) (option_zip (number_of number) (items_of names items)) queue e in
-    let both = AreBoth-zip (number_of number) (items_of names items) queue found.1 in
-    let spelled = Spells-number_of number queue.0 both.left in
-    let named = AreNames-items_of names items queue.1 both.right in
+pub IsWorkqueueLine-wq_form : (names words : List (List ℕ)) (workqueue : ℕ × List ℕ) → wq_form names words ≡ Some workqueue → IsWorkqueueLine names words workqueue
+IsWorkqueueLine-wq_form names [] workqueue e = absurd cc
+IsWorkqueueLine-wq_form names (word ∷ []) workqueue e = absurd cc
+IsWorkqueueLine-wq_form names (word ∷ number ∷ items) workqueue e =
+    let found = guarded (bytes_eq word (codes "wq")) (option_zip (number_of number) (items_of names items)) workqueue e in
+    let both = AreBoth-zip (number_of number) (items_of names items) workqueue found.1 in
+    let spelled = Spells-number_of number workqueue.0 both.left in
+    let named = AreNames-items_of names items workqueue.1 both.right in
     record {
-      words_are = ap₂ (λ (w m : List ℕ). w ∷ m ∷ items) (same_name word (codes "wq") found.0) spelled.digits ∙ ap (λ (ws : List (List ℕ)). codes "wq" ∷ decimal queue.0 ∷ ws) named.words_are;
+      words_are = ap₂ (λ (w m : List ℕ). w ∷ m ∷ items) (same_name word (codes "wq") found.0) spelled.digits ∙ ap (λ (ws : List (List ℕ)). codes "wq" ∷ decimal workqueue.0 ∷ ws) named.words_are;
       fits = spelled.fits;
       known = named.known;
     }
 
-pub wq_form-IsQueueLine : (names words : List (List ℕ)) → AllPairs (λ (a b : List ℕ). a ≢ b) names → (queue : ℕ × List ℕ) → IsQueueLine names words queue → wq_form names words ≡ Some queue
-wq_form-IsQueueLine names words differ queue line =
-    ap (wq_form names) line.words_are ∙ zip-AreBoth (number_of (decimal queue.0)) (items_of names (map (name_of names) queue.1)) queue (record {
-      left = number_of-Spells (decimal queue.0) queue.0 (record { fits = line.fits; digits = refl });
-      right = items_of-names_of names differ queue.1 line.known;
+pub wq_form-IsWorkqueueLine : (names words : List (List ℕ)) → AllPairs (λ (a b : List ℕ). a ≢ b) names → (workqueue : ℕ × List ℕ) → IsWorkqueueLine names words workqueue → wq_form names words ≡ Some workqueue
+wq_form-IsWorkqueueLine names words differ workqueue line =
+    ap (wq_form names) line.words_are ∙ zip-AreBoth (number_of (decimal workqueue.0)) (items_of names (map (name_of names) workqueue.1)) workqueue (record {
+      left = number_of-Spells (decimal workqueue.0) workqueue.0 (record { fits = line.fits; digits = refl });
+      right = items_of-names_of names differ workqueue.1 line.known;
     })
 
 -- ---- arcs

@@ -12,11 +12,11 @@ use Rattle.wq_cert.specs.Lines.{CertLine}
 use Rattle.wq_cert.specs.PlanText.{arc_line}
 use Rattle.wq_cert.specs.RunText.{step_line}
 use Rattle.wq_cert.specs.Ranges.{IsArcOf, IsStepOf}
-use Rattle.wq_cert.specs.Reading.{and_then, and_read, next_line, next_lines, at_end, count_reading, circle_count_reading, arc_reading, step_reading, next_queues, all_queues, assignment_of, whole_assignment, plan_reading, run_reading, run_behind, circle_reading, queues_reading}
-use Rattle.wq_cert.specs.Spelled.{words_in, queue_lines, count_line, SpellsPlan, SpellsRun, SpellsRunBehind, SpellsCircle, SpellsQueues}
+use Rattle.wq_cert.specs.Reading.{and_then, and_read, next_line, next_lines, at_end, count_reading, circle_count_reading, arc_reading, step_reading, next_workqueues, all_workqueues, assignment_of, whole_assignment, plan_reading, run_reading, run_behind, circle_reading, workqueues_reading}
+use Rattle.wq_cert.specs.Spelled.{words_in, workqueue_lines, count_line, SpellsPlan, SpellsRun, SpellsRunBehind, SpellsCircle, SpellsWorkqueues}
 use Rattle.wq_cert.proofs.SpelledLines.{Follows-and_then, FollowsRead-and_read, and_read-Ok, same_ok, at_end-Ok, no_words, shown_line, shown_lines, begun_line, begun_lines, count_words, IsCount, IsCircleCount, IsNumber, run_count, Shows-count, IsReadBy-count, Shows-circle, IsReadBy-circle, Shows-run, IsReadBy-run, Shows-arc, IsReadBy-arc, Shows-step, IsReadBy-step}
-use Rattle.wq_cert.proofs.QueueLists.{AreGrown-none, AreGrown-queues}
-use Rattle.wq_cert.proofs.SpelledQueues.{Grows-next_queues, Grows-all_queues, GrowsTo-lines, all_queues-lines, AreWhole-grown, whole_assignment-queues}
+use Rattle.wq_cert.proofs.WorkqueueLists.{AreGrown-none, AreGrown-workqueues}
+use Rattle.wq_cert.proofs.SpelledWorkqueues.{Grows-next_workqueues, Grows-all_workqueues, GrowsTo-lines, all_workqueues-lines, AreWhole-grown, whole_assignment-workqueues}
 
 -- what follows a value
 and_then-Ok : {V W : Type 0} (next : V → Result W CertError) (r : Result V CertError) (v : V) → r ≡ Ok v → and_then next r ≡ next v
@@ -121,20 +121,20 @@ module _ (names : List (List ℕ)) (p : Partition) (one_group_each : length name
   ended rest a = at_end a rest
 
   abbrev assigned : List (List ℕ) → List CertLine → Result Assignment CertError
-  assigned queues rest = and_then (ended rest) (whole_assignment p queues)
+  assigned workqueues rest = and_then (ended rest) (whole_assignment p workqueues)
 
-  pub SpellsQueues-queues_reading : (lines : List CertLine) (a : Assignment) → queues_reading names p lines ≡ Ok a → SpellsQueues names p (words_in lines) a
-  SpellsQueues-queues_reading lines a e =
-      let found = FollowsRead-and_read assigned (all_queues names p.group_of [] lines) a e in
+  pub SpellsWorkqueues-workqueues_reading : (lines : List CertLine) (a : Assignment) → workqueues_reading names p lines ≡ Ok a → SpellsWorkqueues names p (words_in lines) a
+  SpellsWorkqueues-workqueues_reading lines a e =
+      let found = FollowsRead-and_read assigned (all_workqueues names p.group_of [] lines) a e in
       let made = Follows-and_then (ended found.rest) (whole_assignment p found.value) a found.then in
       let ends = at_end-Ok made.value a found.rest made.then in
-      let grows = Grows-all_queues names p.group_of lines [] found.value found.rest (AreGrown-none (length names) p.group_of) found.first in
+      let grows = Grows-all_workqueues names p.group_of lines [] found.value found.rest (AreGrown-none (length names) p.group_of) found.first in
       let whole = AreWhole-grown names p one_group_each found.value made.value grows.grown made.first in
       record {
-        queues = found.value;
+        workqueues = found.value;
         words =
-            grows.words_are ∙ ap₂ (λ (qs : List (List ℕ)) (ls : List CertLine). queue_lines names qs ++ words_in ls) (sym grows.whole) ends.0
-            ∙ append-nil (queue_lines names found.value);
+            grows.words_are ∙ ap₂ (λ (qs : List (List ℕ)) (ls : List CertLine). workqueue_lines names qs ++ words_in ls) (sym grows.whole) ends.0
+            ∙ append-nil (workqueue_lines names found.value);
         are = whole.are;
         assignment = sym ends.1 ∙ whole.assignment;
       }
@@ -149,35 +149,35 @@ module _ (names : List (List ℕ)) (p : Partition) (one_group_each : length name
   chain_behind behind a = and_read (chain_of a) (next_line (count_reading (codes "chain")) behind)
 
   abbrev plan_with : List (List ℕ) → List CertLine → Result PlanCertificate CertError
-  plan_with queues behind = and_then (chain_behind behind) (whole_assignment p queues)
+  plan_with workqueues behind = and_then (chain_behind behind) (whole_assignment p workqueues)
 
   abbrev plan_of : ℕ → List CertLine → Result PlanCertificate CertError
-  plan_of lanes behind = and_read plan_with (next_queues names p.group_of lanes [] behind)
+  plan_of lanes behind = and_read plan_with (next_workqueues names p.group_of lanes [] behind)
 
   pub SpellsPlan-plan_reading : (lines : List CertLine) (c : PlanCertificate) → plan_reading names p lines ≡ Ok c → SpellsPlan names p (words_in lines) c
   SpellsPlan-plan_reading lines c e =
       let lanes = FollowsRead-and_read plan_of (next_line (count_reading (codes "plan")) lines) c (sym (plan_reading-turn names p lines) ∙ e) in
-      let queues = FollowsRead-and_read plan_with (next_queues names p.group_of lanes.value [] lanes.rest) c lanes.then in
-      let made = Follows-and_then (chain_behind queues.rest) (whole_assignment p queues.value) c queues.then in
-      let count = FollowsRead-and_read (chain_of made.value) (next_line (count_reading (codes "chain")) queues.rest) c made.then in
+      let workqueues = FollowsRead-and_read plan_with (next_workqueues names p.group_of lanes.value [] lanes.rest) c lanes.then in
+      let made = Follows-and_then (chain_behind workqueues.rest) (whole_assignment p workqueues.value) c workqueues.then in
+      let count = FollowsRead-and_read (chain_of made.value) (next_line (count_reading (codes "chain")) workqueues.rest) c made.then in
       let said = FollowsRead-and_read (last_arc made.value count.value) (next_lines (arc_reading names) (count.value - 1) count.rest) c count.then in
       let plan : PlanCertificate = record { assignment = made.value; length = count.value; arcs = said.value } in
       let ends = at_end-Ok plan c said.rest said.then in
       let first = shown_line (count_reading (codes "plan")) (count_words (codes "plan")) IsCount (Shows-count (codes "plan")) lines lanes.rest lanes.value lanes.first in
-      let grows = Grows-next_queues names p.group_of lanes.value [] queues.value lanes.rest queues.rest (AreGrown-none (length names) p.group_of) queues.first in
-      let whole = AreWhole-grown names p one_group_each queues.value made.value grows.0.grown made.first in
-      let chain = shown_line (count_reading (codes "chain")) (count_words (codes "chain")) IsCount (Shows-count (codes "chain")) queues.rest count.rest count.value count.first in
+      let grows = Grows-next_workqueues names p.group_of lanes.value [] workqueues.value lanes.rest workqueues.rest (AreGrown-none (length names) p.group_of) workqueues.first in
+      let whole = AreWhole-grown names p one_group_each workqueues.value made.value grows.0.grown made.first in
+      let chain = shown_line (count_reading (codes "chain")) (count_words (codes "chain")) IsCount (Shows-count (codes "chain")) workqueues.rest count.rest count.value count.first in
       let others = shown_lines (arc_reading names) (arc_line names) (IsArcOf (length names)) (Shows-arc names) (count.value - 1) count.rest said.rest said.value said.first in
-      let lanes_are : lanes.value ≡ length queues.value = omega (arith, grows.1) in
+      let lanes_are : lanes.value ≡ length workqueues.value = omega (arith, grows.1) in
       let arcs_are : words_in count.rest ≡ map (arc_line names) said.value =
       others.words_are ∙ ap (λ (ls : List CertLine). map (arc_line names) said.value ++ words_in ls) ends.0 ∙ append-nil (map (arc_line names) said.value) in
-      let chain_are : words_in queues.rest ≡ count_line count.value ∷ map (arc_line names) said.value =
+      let chain_are : words_in workqueues.rest ≡ count_line count.value ∷ map (arc_line names) said.value =
       chain.0 ∙ ap (λ (ws : List (List (List ℕ))). count_line count.value ∷ ws) arcs_are in
-      let queues_are : words_in lanes.rest ≡ queue_lines names queues.value ++ (count_line count.value ∷ map (arc_line names) said.value) =
-      grows.0.words_are ∙ ap₂ (λ (qs : List (List ℕ)) (ws : List (List (List ℕ))). queue_lines names qs ++ ws) (sym grows.0.whole) chain_are in
+      let workqueues_are : words_in lanes.rest ≡ workqueue_lines names workqueues.value ++ (count_line count.value ∷ map (arc_line names) said.value) =
+      grows.0.words_are ∙ ap₂ (λ (qs : List (List ℕ)) (ws : List (List (List ℕ))). workqueue_lines names qs ++ ws) (sym grows.0.whole) chain_are in
       subst (SpellsPlan names p (words_in lines)) ends.1 (record {
-        queues = queues.value;
-        words = first.0 ∙ ap₂ (λ (n : ℕ) (ws : List (List (List ℕ))). count_words (codes "plan") n ∷ ws) lanes_are queues_are;
+        workqueues = workqueues.value;
+        words = first.0 ∙ ap₂ (λ (n : ℕ) (ws : List (List (List ℕ))). count_words (codes "plan") n ∷ ws) lanes_are workqueues_are;
         are = whole.are;
         assignment = whole.assignment;
         few = chain.1;
@@ -186,33 +186,33 @@ module _ (names : List (List ℕ)) (p : Partition) (one_group_each : length name
       })
 
   module _ (differ : AllPairs (λ (a b : List ℕ). a ≢ b) names) where
-    pub queues_reading-SpellsQueues : (lines : List CertLine) (a : Assignment) → SpellsQueues names p (words_in lines) a → queues_reading names p lines ≡ Ok a
-    queues_reading-SpellsQueues lines a spells =
+    pub workqueues_reading-SpellsWorkqueues : (lines : List CertLine) (a : Assignment) → SpellsWorkqueues names p (words_in lines) a → workqueues_reading names p lines ≡ Ok a
+    workqueues_reading-SpellsWorkqueues lines a spells =
         let none : List CertLine = [] in
-        and_read-Ok assigned (all_queues names p.group_of [] lines) spells.queues []
-        (all_queues-lines names p.group_of differ spells.queues [] lines (AreGrown-queues (length names) p.group_of spells.queues spells.are) spells.words)
-        ∙ ap (and_then (ended none)) (whole_assignment-queues names p one_group_each spells.queues spells.are)
+        and_read-Ok assigned (all_workqueues names p.group_of [] lines) spells.workqueues []
+        (all_workqueues-lines names p.group_of differ spells.workqueues [] lines (AreGrown-workqueues (length names) p.group_of spells.workqueues spells.are) spells.words)
+        ∙ ap (and_then (ended none)) (whole_assignment-workqueues names p one_group_each spells.workqueues spells.are)
         ∙ ap (λ (b : Assignment). Ok b) (sym spells.assignment)
 
     pub plan_reading-SpellsPlan : (lines : List CertLine) (c : PlanCertificate) → SpellsPlan names p (words_in lines) c → plan_reading names p lines ≡ Ok c
     plan_reading-SpellsPlan lines c spells =
-        let k = length spells.queues in
+        let k = length spells.workqueues in
         let arc_lines = map (arc_line names) c.arcs in
-        let a = assignment_of p spells.queues in
+        let a = assignment_of p spells.workqueues in
         let lanes = begun_line (count_reading (codes "plan")) (count_words (codes "plan")) IsCount (IsReadBy-count (codes "plan")) lines k
-        (queue_lines names spells.queues ++ (count_line c.length ∷ arc_lines)) spells.words spells.are.few in
-        let queues = GrowsTo-lines names p.group_of differ spells.queues [] lanes.rest (count_line c.length ∷ arc_lines)
-        (AreGrown-queues (length names) p.group_of spells.queues spells.are) lanes.behind in
-        let count = begun_line (count_reading (codes "chain")) (count_words (codes "chain")) IsCount (IsReadBy-count (codes "chain")) queues.rest c.length arc_lines queues.behind spells.few in
+        (workqueue_lines names spells.workqueues ++ (count_line c.length ∷ arc_lines)) spells.words spells.are.few in
+        let workqueues = GrowsTo-lines names p.group_of differ spells.workqueues [] lanes.rest (count_line c.length ∷ arc_lines)
+        (AreGrown-workqueues (length names) p.group_of spells.workqueues spells.are) lanes.behind in
+        let count = begun_line (count_reading (codes "chain")) (count_words (codes "chain")) IsCount (IsReadBy-count (codes "chain")) workqueues.rest c.length arc_lines workqueues.behind spells.few in
         let said = begun_lines (arc_reading names) (arc_line names) (IsArcOf (length names)) (IsReadBy-arc names differ) c.arcs count.rest []
         (count.behind ∙ sym (append-nil arc_lines)) (recursion_from_All (IsArcOf (length names)) c.arcs spells.known) in
         let arcs : next_lines (arc_reading names) (c.length - 1) count.rest ≡ Ok (c.arcs, said.rest) =
         ap (λ (n : ℕ). next_lines (arc_reading names) n count.rest) (sym spells.count) ∙ said.is_read in
         plan_reading-turn names p lines
         ∙ and_read-Ok plan_of (next_line (count_reading (codes "plan")) lines) k lanes.rest lanes.is_read
-        ∙ and_read-Ok plan_with (next_queues names p.group_of k [] lanes.rest) spells.queues queues.rest queues.is_read
-        ∙ and_then-Ok (chain_behind queues.rest) (whole_assignment p spells.queues) a (whole_assignment-queues names p one_group_each spells.queues spells.are)
-        ∙ and_read-Ok (chain_of a) (next_line (count_reading (codes "chain")) queues.rest) c.length count.rest count.is_read
+        ∙ and_read-Ok plan_with (next_workqueues names p.group_of k [] lanes.rest) spells.workqueues workqueues.rest workqueues.is_read
+        ∙ and_then-Ok (chain_behind workqueues.rest) (whole_assignment p spells.workqueues) a (whole_assignment-workqueues names p one_group_each spells.workqueues spells.are)
+        ∙ and_read-Ok (chain_of a) (next_line (count_reading (codes "chain")) workqueues.rest) c.length count.rest count.is_read
         ∙ and_read-Ok (last_arc a c.length) (next_lines (arc_reading names) (c.length - 1) count.rest) c.arcs said.rest arcs
         ∙ ap (last_arc a c.length c.arcs) (no_words said.rest said.behind)
         ∙ ap (λ (b : Assignment). Ok (record { assignment = b; length = c.length; arcs = c.arcs })) (sym spells.assignment)

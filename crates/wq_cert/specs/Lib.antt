@@ -15,4 +15,4 @@ pub mod CircleText
 pub mod Ranges
 pub mod Spelled
 pub mod FirstFaults
-pub mod QueueRows
+pub mod WorkqueueRows

@@ -3,7 +3,7 @@ use Rattle.std.specs.Prelude.{◌≡◌, ℕ, ◌≤◌, ◌==◌, not, Bool, fa
 use Rattle.std.specs.List.{concat, range_with_len}
 use Rattle.wq_groups.specs.Partition.{Partition}
 use Rattle.wq_cert.specs.Lines.{CertLine}
-use Rattle.wq_cert.specs.Reading.{stands_in, queue_with, wq_reading, next_queues, all_queues}
+use Rattle.wq_cert.specs.Reading.{stands_in, workqueue_with, wq_reading, next_workqueues, all_workqueues}
 
 -- of each of n items whether it stands in the list
 abbrev pub marks : ℕ → List ℕ → List Bool
@@ -11,15 +11,15 @@ marks n items = map (stands_in items) (range_with_len 0 n)
 
 -- of each group in turn the first workqueue that holds a member of it, if one does
 abbrev pub lanes_with : Partition → List (List ℕ) → List (Option ℕ)
-lanes_with p queues = map (queue_with p.group_of queues) (range_with_len 0 p.groups)
+lanes_with p workqueues = map (workqueue_with p.group_of workqueues) (range_with_len 0 p.groups)
 
 -- what is noted after these workqueues: how many they are, at most 4,096; of each item whether it stands on one; and of
 -- each group the workqueue that holds a member of it
-pub record AreNoted (p : Partition) (queues : List (List ℕ)) (count : ℕ) (stood : List Bool) (lanes : List (Option ℕ)) : Type 0 where
-  pub number : count ≡ length queues
+pub record AreNoted (p : Partition) (workqueues : List (List ℕ)) (count : ℕ) (stood : List Bool) (lanes : List (Option ℕ)) : Type 0 where
+  pub number : count ≡ length workqueues
   pub few : count ≤ 4096
-  pub items : stood ≡ marks (length p.group_of) (concat queues)
-  pub groups : lanes ≡ lanes_with p queues
+  pub items : stood ≡ marks (length p.group_of) (concat workqueues)
+  pub groups : lanes ≡ lanes_with p workqueues
 
 -- a group is on another workqueue than this one
 abbrev pub is_other : Option ℕ → ℕ → Bool
@@ -27,16 +27,16 @@ is_other None lane = false
 is_other (Some other) lane = not (other == lane)
 
 -- the next workqueue is read of this line, and this is noted with it
-pub record IsNextNoted (names : List (List ℕ)) (p : Partition) (queues : List (List ℕ)) (line : CertLine) (count : ℕ) (stood : List Bool) (lanes : List (Option ℕ)) : Type 0 where
+pub record IsNextNoted (names : List (List ℕ)) (p : Partition) (workqueues : List (List ℕ)) (line : CertLine) (count : ℕ) (stood : List Bool) (lanes : List (Option ℕ)) : Type 0 where
   pub items : List ℕ
-  pub read : wq_reading names p.group_of queues line ≡ Ok items
-  pub noted : AreNoted p (queues ++ (items ∷ [])) count stood lanes
+  pub read : wq_reading names p.group_of workqueues line ≡ Ok items
+  pub noted : AreNoted p (workqueues ++ (items ∷ [])) count stood lanes
 
 -- n workqueues are read of these lines up to `rest`, and this is noted of them
 pub record AreRead (names : List (List ℕ)) (p : Partition) (n : ℕ) (lines : List CertLine) (count : ℕ) (stood : List Bool) (lanes : List (Option ℕ)) (rest : List CertLine) : Type 0 where
-  pub queues : List (List ℕ)
-  pub noted : AreNoted p queues count stood lanes
-  pub read : next_queues names p.group_of n [] lines ≡ Ok (queues, rest)
+  pub workqueues : List (List ℕ)
+  pub noted : AreNoted p workqueues count stood lanes
+  pub read : next_workqueues names p.group_of n [] lines ≡ Ok (workqueues, rest)
 
 -- the number of the first line, if there is one
 abbrev pub first_number : List CertLine → Option ℕ
@@ -45,8 +45,8 @@ first_number (line ∷ lines) = Some line.no
 
 -- all workqueues are read of these lines, and this is noted of them; `behind` is the number of the line behind them
 pub record AreAllRead (names : List (List ℕ)) (p : Partition) (lines : List CertLine) (count : ℕ) (stood : List Bool) (lanes : List (Option ℕ)) (behind : Option ℕ) : Type 0 where
-  pub queues : List (List ℕ)
+  pub workqueues : List (List ℕ)
   pub rest : List CertLine
-  pub noted : AreNoted p queues count stood lanes
-  pub read : all_queues names p.group_of [] lines ≡ Ok (queues, rest)
+  pub noted : AreNoted p workqueues count stood lanes
+  pub read : all_workqueues names p.group_of [] lines ≡ Ok (workqueues, rest)
   pub line : behind ≡ first_number rest

@@ -1,7 +1,7 @@
 -- Plan texts: the workqueues with their items, and a longest waiting chain.
 use Rattle.std.specs.Prelude.{ℕ, ◌+◌, ◌==◌, List, [], ◌∷◌, ◌++◌, length, map, filter, flat_map, slice_index, slice_index_or, codes, decimal, if◌then◌else◌}
 use Rattle.std.specs.List.{range_with_len}
-use Rattle.wq_groups.specs.Assignment.{Assignment, lane_of}
+use Rattle.wq_groups.specs.Assignment.{Assignment, group_lane}
 use Rattle.wq_cert.specs.LineText.{line_text}
 
 -- the name of an item
@@ -10,7 +10,7 @@ name_of names i = slice_index_or names i []
 
 -- of each item in turn the workqueue of its group
 abbrev pub item_lanes : Assignment → List ℕ → List ℕ
-item_lanes a group_of = map (lane_of a) group_of
+item_lanes a group_of = map (group_lane a) group_of
 
 -- the items on workqueue q, in declaration order
 abbrev pub items_on : List ℕ → ℕ → List ℕ

@@ -105,41 +105,41 @@ fresh_items group_of before n items =
 -- the items on the next workqueue, where these are those on the workqueues before it: of a line its form is judged, then
 -- its number, which is that of its place and below 4,096, then items that stand again, then groups that are split
 abbrev pub wq_reading : List (List ℕ) → List ℕ → List (List ℕ) → CertLine → Result (List ℕ) CertError
-wq_reading names group_of queues line = and_then (λ items. fresh_items group_of (concat queues) line.no items) (wq_items names (length queues) line)
+wq_reading names group_of workqueues line = and_then (λ items. fresh_items group_of (concat workqueues) line.no items) (wq_items names (length workqueues) line)
 
 -- so many workqueues behind these
-abbrev pub next_queues : List (List ℕ) → List ℕ → ℕ → List (List ℕ) → List CertLine → Read (List (List ℕ))
-next_queues names group_of zero queues lines = Ok (queues, lines)
-next_queues names group_of (suc n) queues lines =
-    and_read (λ items rest. next_queues names group_of n (queues ++ (items ∷ [])) rest) (next_line (wq_reading names group_of queues) lines)
+abbrev pub next_workqueues : List (List ℕ) → List ℕ → ℕ → List (List ℕ) → List CertLine → Read (List (List ℕ))
+next_workqueues names group_of zero workqueues lines = Ok (workqueues, lines)
+next_workqueues names group_of (suc n) workqueues lines =
+    and_read (λ items rest. next_workqueues names group_of n (workqueues ++ (items ∷ [])) rest) (next_line (wq_reading names group_of workqueues) lines)
 
 -- all workqueues behind these: they end before the first line with another first word
-abbrev pub all_queues : List (List ℕ) → List ℕ → List (List ℕ) → List CertLine → Read (List (List ℕ))
-all_queues names group_of queues [] = Ok (queues, [])
-all_queues names group_of queues (line ∷ lines) =
+abbrev pub all_workqueues : List (List ℕ) → List ℕ → List (List ℕ) → List CertLine → Read (List (List ℕ))
+all_workqueues names group_of workqueues [] = Ok (workqueues, [])
+all_workqueues names group_of workqueues (line ∷ lines) =
     if begins_with (codes "wq") line.words
-    then and_then (λ items. all_queues names group_of (queues ++ (items ∷ [])) lines) (wq_reading names group_of queues line)
-    else Ok (queues, line ∷ lines)
+    then and_then (λ items. all_workqueues names group_of (workqueues ++ (items ∷ [])) lines) (wq_reading names group_of workqueues line)
+    else Ok (workqueues, line ∷ lines)
 
 -- each of so many items stands on a workqueue
 abbrev pub hold_all : ℕ → List (List ℕ) → Bool
-hold_all items queues = list_all (stands_in (concat queues)) (range_with_len 0 items)
+hold_all items workqueues = list_all (stands_in (concat workqueues)) (range_with_len 0 items)
 
 -- the first workqueue that holds a member of group g, if one does
-abbrev pub queue_with : List ℕ → List (List ℕ) → ℕ → Option ℕ
-queue_with group_of queues g = position (λ items. holds_member group_of items g) queues
+abbrev pub workqueue_with : List ℕ → List (List ℕ) → ℕ → Option ℕ
+workqueue_with group_of workqueues g = position (λ items. holds_member group_of items g) workqueues
 
 -- the workqueue of a group that has a member: the one that holds a member of it
-abbrev pub queue_of_group : List ℕ → List (List ℕ) → ℕ → ℕ
-queue_of_group group_of queues g = unwrap_or (queue_with group_of queues g) 0
+abbrev pub workqueue_of_group : List ℕ → List (List ℕ) → ℕ → ℕ
+workqueue_of_group group_of workqueues g = unwrap_or (workqueue_with group_of workqueues g) 0
 
 -- the assignment that the workqueues are
 abbrev pub assignment_of : Partition → List (List ℕ) → Assignment
-assignment_of p queues = record { lanes = length queues; lane_of_group = map (queue_of_group p.group_of queues) (range_with_len 0 p.groups) }
+assignment_of p workqueues = record { lanes = length workqueues; lane_of_group = map (workqueue_of_group p.group_of workqueues) (range_with_len 0 p.groups) }
 
 -- the assignment, where each item stands on a workqueue: one that stands on none is a fault of no line
 abbrev pub whole_assignment : Partition → List (List ℕ) → Result Assignment CertError
-whole_assignment p queues = if hold_all (length p.group_of) queues then Ok (assignment_of p queues) else Err (NotAllItems 0)
+whole_assignment p workqueues = if hold_all (length p.group_of) workqueues then Ok (assignment_of p workqueues) else Err (NotAllItems 0)
 
 -- ---- texts
 
@@ -152,15 +152,15 @@ chain_reading names lines =
 -- so many workqueues as an assignment
 abbrev pub counted_assignment : List (List ℕ) → Partition → ℕ → List CertLine → Read Assignment
 counted_assignment names p lanes lines =
-    and_read (λ queues rest. and_then (λ assignment. Ok (assignment, rest)) (whole_assignment p queues)) (next_queues names p.group_of lanes [] lines)
+    and_read (λ workqueues rest. and_then (λ assignment. Ok (assignment, rest)) (whole_assignment p workqueues)) (next_workqueues names p.group_of lanes [] lines)
 
 -- `plan K`, K workqueues, and a chain
 abbrev pub plan_reading : List (List ℕ) → Partition → List CertLine → Result PlanCertificate CertError
 plan_reading names p lines =
     and_read (λ lanes behind_plan.
-    and_read (λ assignment behind_queues.
+    and_read (λ assignment behind_workqueues.
     and_then (λ (chain : ℕ × List (ℕ × ℕ)). Ok (record { assignment = assignment; length = chain.0; arcs = chain.1 }))
-    (chain_reading names behind_queues))
+    (chain_reading names behind_workqueues))
     (counted_assignment names p lanes behind_plan))
     (next_line (count_reading (codes "plan")) lines)
 
@@ -197,10 +197,10 @@ answer_reading names p (line ∷ lines) =
     else and_then (λ plan. Ok (OfPlan plan)) (plan_reading names p (line ∷ lines))
 
 -- an assignment by `wq` lines alone
-abbrev pub queues_reading : List (List ℕ) → Partition → List CertLine → Result Assignment CertError
-queues_reading names p lines =
-    and_read (λ queues rest. and_then (λ assignment. at_end assignment rest) (whole_assignment p queues))
-    (all_queues names p.group_of [] lines)
+abbrev pub workqueues_reading : List (List ℕ) → Partition → List CertLine → Result Assignment CertError
+workqueues_reading names p lines =
+    and_read (λ workqueues rest. and_then (λ assignment. at_end assignment rest) (whole_assignment p workqueues))
+    (all_workqueues names p.group_of [] lines)
 
 -- whether the first word of all is `plan`
 abbrev pub begins_plan : List CertLine → Bool
@@ -211,4 +211,4 @@ begins_plan (line ∷ lines) = begins_with (codes "plan") line.words
 abbrev pub assignment_reading : List (List ℕ) → Partition → List CertLine → Result Assignment CertError
 assignment_reading names p lines =
     if begins_plan lines then and_then (λ (plan : PlanCertificate). Ok plan.assignment) (plan_reading names p lines)
-    else queues_reading names p lines
+    else workqueues_reading names p lines

@@ -12,7 +12,7 @@ use Rattle.wq_cert.specs.Reading.{assignment_of}
 use Rattle.wq_cert.specs.PlanText.{name_of, plan_line, arc_line}
 use Rattle.wq_cert.specs.RunText.{run_lines}
 use Rattle.wq_cert.specs.CircleText.{circle_line}
-use Rattle.wq_cert.specs.Texts.{max_text, max_line}
+use Rattle.wq_cert.specs.Texts.{max_certificate, max_certificate_line}
 
 -- the words of each line
 abbrev pub words_in : List CertLine → List (List (List ℕ))
@@ -21,38 +21,38 @@ words_in lines = map (λ (line : CertLine). line.words) lines
 -- ---- workqueues
 
 -- item i is on workqueue q
-abbrev pub IsOnQueue : List (List ℕ) → ℕ → ℕ → Type 0
-IsOnQueue queues q i = Contains (slice_index_or queues q []) i
+abbrev pub IsOnWorkqueue : List (List ℕ) → ℕ → ℕ → Type 0
+IsOnWorkqueue workqueues q i = Contains (slice_index_or workqueues q []) i
 
 -- two items of one group are on one workqueue
 abbrev pub GroupsAreWhole : List ℕ → List (List ℕ) → Type 0
-GroupsAreWhole group_of queues =
-    (q r i j : ℕ) → IsOnQueue queues q i → IsOnQueue queues r j → slice_index group_of i ≡ slice_index group_of j → q ≡ r
+GroupsAreWhole group_of workqueues =
+    (q r i j : ℕ) → IsOnWorkqueue workqueues q i → IsOnWorkqueue workqueues r j → slice_index group_of i ≡ slice_index group_of j → q ≡ r
 
 -- at most 4,096 workqueues with these items, each on one of them and only once, and each group on one workqueue
-pub record AreQueues (items : ℕ) (group_of : List ℕ) (queues : List (List ℕ)) : Type 0 where
-  pub few : length queues ≤ 4096
-  pub known : All (λ i. i < items) (concat queues)
-  pub all : (i : ℕ) → i < items → Contains (concat queues) i
-  pub once : AllPairs (λ (i j : ℕ). i ≢ j) (concat queues)
-  pub whole : GroupsAreWhole group_of queues
+pub record AreWorkqueues (items : ℕ) (group_of : List ℕ) (workqueues : List (List ℕ)) : Type 0 where
+  pub few : length workqueues ≤ 4096
+  pub known : All (λ i. i < items) (concat workqueues)
+  pub all : (i : ℕ) → i < items → Contains (concat workqueues) i
+  pub once : AllPairs (λ (i j : ℕ). i ≢ j) (concat workqueues)
+  pub whole : GroupsAreWhole group_of workqueues
 
 -- `wq Q NAME..`
-abbrev pub queue_line : List (List ℕ) → ℕ × List ℕ → List (List ℕ)
-queue_line names queue = codes "wq" ∷ decimal queue.0 ∷ map (name_of names) queue.1
+abbrev pub workqueue_line : List (List ℕ) → ℕ × List ℕ → List (List ℕ)
+workqueue_line names workqueue = codes "wq" ∷ decimal workqueue.0 ∷ map (name_of names) workqueue.1
 
 -- the lines of the workqueues, which are numbered from 0, with their items in any order
-abbrev pub queue_lines : List (List ℕ) → List (List ℕ) → List (List (List ℕ))
-queue_lines names queues = map (queue_line names) (enumerate_from 0 queues)
+abbrev pub workqueue_lines : List (List ℕ) → List (List ℕ) → List (List (List ℕ))
+workqueue_lines names workqueues = map (workqueue_line names) (enumerate_from 0 workqueues)
 
 -- ---- lines
 
 -- an assignment by `wq` lines alone
-pub record SpellsQueues (names : List (List ℕ)) (p : Partition) (lines : List (List (List ℕ))) (a : Assignment) : Type 0 where
-  pub queues : List (List ℕ)
-  pub words : lines ≡ queue_lines names queues
-  pub are : AreQueues (length names) p.group_of queues
-  pub assignment : a ≡ assignment_of p queues
+pub record SpellsWorkqueues (names : List (List ℕ)) (p : Partition) (lines : List (List (List ℕ))) (a : Assignment) : Type 0 where
+  pub workqueues : List (List ℕ)
+  pub words : lines ≡ workqueue_lines names workqueues
+  pub are : AreWorkqueues (length names) p.group_of workqueues
+  pub assignment : a ≡ assignment_of p workqueues
 
 -- `chain N`
 abbrev pub count_line : ℕ → List (List ℕ)
@@ -60,10 +60,10 @@ count_line n = codes "chain" ∷ decimal n ∷ []
 
 -- a plan: `plan K`, the workqueues, `chain N`, and the arcs
 pub record SpellsPlan (names : List (List ℕ)) (p : Partition) (lines : List (List (List ℕ))) (c : PlanCertificate) : Type 0 where
-  pub queues : List (List ℕ)
-  pub words : lines ≡ plan_line (length queues) ∷ (queue_lines names queues ++ (count_line c.length ∷ map (arc_line names) c.arcs))
-  pub are : AreQueues (length names) p.group_of queues
-  pub assignment : c.assignment ≡ assignment_of p queues
+  pub workqueues : List (List ℕ)
+  pub words : lines ≡ plan_line (length workqueues) ∷ (workqueue_lines names workqueues ++ (count_line c.length ∷ map (arc_line names) c.arcs))
+  pub are : AreWorkqueues (length names) p.group_of workqueues
+  pub assignment : c.assignment ≡ assignment_of p workqueues
   pub few : c.length ≤ 4096
   pub count : length c.arcs ≡ c.length - 1
   pub known : All (IsArcOf (length names)) c.arcs
@@ -95,14 +95,14 @@ SpellsCertificate names p lines (OfCircle c) = SpellsCircle names lines c
 
 -- an assignment: `wq` lines alone, or a plan
 abbrev pub SpellsAssignment : List (List ℕ) → Partition → List (List (List ℕ)) → Assignment → Type 0
-SpellsAssignment names p lines a = SpellsQueues names p lines a ⊎ ((c : PlanCertificate) × SpellsPlan names p lines c × (c.assignment ≡ a))
+SpellsAssignment names p lines a = SpellsWorkqueues names p lines a ⊎ ((c : PlanCertificate) × SpellsPlan names p lines c × (c.assignment ≡ a))
 
 -- ---- texts
 
 -- neither the text nor a line of it is too long
 pub record KeepsLimits (text : List ℕ) : Type 0 where
-  pub text_fits : length text ≤ max_text
-  pub lines_fit : All (λ (line : LineView). length line.bytes ≤ max_line) (lines_of text)
+  pub text_fits : length text ≤ max_certificate
+  pub lines_fit : All (λ (line : LineView). length line.bytes ≤ max_certificate_line) (lines_of text)
 
 -- the words of each line that holds one
 abbrev pub words_of_text : List ℕ → List (List (List ℕ))

@@ -15,22 +15,22 @@ use Rattle.wq_cert.specs.Lines.{CertLine, cert_lines}
 use Rattle.wq_cert.specs.Reading.{answer_reading, assignment_reading, run_reading}
 
 -- how many bytes a certificate may have
-abbrev pub max_text : ℕ
-max_text = 8388608
+abbrev pub max_certificate : ℕ
+max_certificate = 8388608
 
 -- how many bytes a line of it may have
-abbrev pub max_line : ℕ
-max_line = 524288
+abbrev pub max_certificate_line : ℕ
+max_certificate_line = 524288
 
 -- the fault of a text or a line above its limit is one of form: of no line, or of the first that is too long
-abbrev pub by_limits : {V : Type 0} → Option TextError → Result V CertError → Result V CertError
-by_limits None rest = rest
-by_limits (Some TextTooLong) rest = Err (BadCertLine 0)
-by_limits (Some (LineTooLong line)) rest = Err (BadCertLine line)
+abbrev pub unless_too_long : {V : Type 0} → Option TextError → Result V CertError → Result V CertError
+unless_too_long None rest = rest
+unless_too_long (Some TextTooLong) rest = Err (BadCertLine 0)
+unless_too_long (Some (LineTooLong line)) rest = Err (BadCertLine line)
 
 -- the limits are judged before all else, for lines without words too
 abbrev pub text_reading : {V : Type 0} → (List CertLine → Result V CertError) → List ℕ → Result V CertError
-text_reading read text = by_limits (limit_fault max_text max_line text) (read (cert_lines (lines_of text)))
+text_reading read text = unless_too_long (limit_fault max_certificate max_certificate_line text) (read (cert_lines (lines_of text)))
 
 -- what the text of an answer says, for items of these names in these groups
 abbrev pub answer_of : List (List ℕ) → Partition → List ℕ → Result Certificate CertError

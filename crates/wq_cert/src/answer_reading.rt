@@ -8,7 +8,7 @@ ghost use Rattle.wq_text.specs.Limits.{limit_fault};
 ghost use Rattle.wq_cert.specs.Certificate.{certificate};
 ghost use Rattle.wq_cert.specs.Lines.{cert_line};
 ghost use Rattle.wq_cert.specs.Reading.{plan_reading, answer_reading};
-ghost use Rattle.wq_cert.specs.Texts.{max_text, max_line, answer_of, IsCertFaultOf};
+ghost use Rattle.wq_cert.specs.Texts.{max_certificate, max_certificate_line, answer_of, IsCertFaultOf};
 ghost use Rattle.wq_cert.specs.declared.fault.CertError.TheVariants.{OutOfMemory};
 
 use crate::answer::CertAnswer;
@@ -17,8 +17,8 @@ use crate::fault::CertError;
 use crate::form::begins_with;
 use crate::line_reading::read_count;
 use crate::opening::open;
-use crate::queue_reading::read_counted;
 use crate::view::{CertLines, CertView};
+use crate::workqueue_reading::read_counted;
 use std::alloc::Allocator;
 use wq_groups::{Assignment, Groups};
 use wq_items::{ItemId, ItemTable};
@@ -86,7 +86,7 @@ pub fn read_answer<A: Allocator + Copy>(
     ensures answer { IfOk result (λ c. answer_of table.now.names groups.now text.now ≡ Ok (certificate c)) }
     ensures fault { IfErr result (λ e. IsCertFaultOf e (answer_of table.now.names groups.now text.now)) }
     // The limits are judged without memory.
-    ensures memory { result ≡ Err OutOfMemory → limit_fault max_text max_line text.now ≡ None }
+    ensures memory { result ≡ Err OutOfMemory → limit_fault max_certificate max_certificate_line text.now ≡ None }
 {
     let view = open(text)?;
     read_answer_lines(alloc, table, groups, &view)

@@ -7,15 +7,15 @@ ghost use Rattle.std.specs.Prelude.{◌≡◌, length, map, Ok, Err, None, IfOk,
 ghost use Rattle.wq_text.specs.Limits.{limit_fault};
 ghost use Rattle.wq_cert.specs.Lines.{cert_line};
 ghost use Rattle.wq_cert.specs.Reading.{begins_plan, assignment_reading};
-ghost use Rattle.wq_cert.specs.Texts.{max_text, max_line, assignment_of_text, IsCertFaultOf};
+ghost use Rattle.wq_cert.specs.Texts.{max_certificate, max_certificate_line, assignment_of_text, IsCertFaultOf};
 ghost use Rattle.wq_cert.specs.declared.fault.CertError.TheVariants.{OutOfMemory};
 
 use crate::answer_reading::read_plan;
 use crate::fault::CertError;
 use crate::form::begins_with;
 use crate::opening::open;
-use crate::queue_reading::read_queue_lines;
 use crate::view::CertView;
+use crate::workqueue_reading::read_workqueue_lines;
 use std::alloc::Allocator;
 use wq_groups::{Assignment, Groups};
 use wq_items::ItemTable;
@@ -45,7 +45,7 @@ fn read_assignment_lines<A: Allocator + Copy>(
         let (assignment, _, _) = read_plan(alloc, table, groups, view.lines())?;
         Ok(assignment)
     } else {
-        read_queue_lines(alloc, table, groups, view.lines())
+        read_workqueue_lines(alloc, table, groups, view.lines())
     }
 }
 
@@ -63,7 +63,7 @@ pub fn read_assignment<A: Allocator + Copy>(
     ensures assignment { IfOk result (λ a. assignment_of_text table.now.names groups.now text.now ≡ Ok a) }
     ensures fault { IfErr result (λ e. IsCertFaultOf e (assignment_of_text table.now.names groups.now text.now)) }
     // The limits are judged without memory.
-    ensures memory { result ≡ Err OutOfMemory → limit_fault max_text max_line text.now ≡ None }
+    ensures memory { result ≡ Err OutOfMemory → limit_fault max_certificate max_certificate_line text.now ≡ None }
 {
     let view = open(text)?;
     read_assignment_lines(alloc, table, groups, &view)

@@ -65,7 +65,7 @@ pub(crate) fn wq_form<A: Allocator + Copy>(
     table: &ItemTable<'_, A>,
     mut words: Words<'_>,
 ) -> Result<Option<(u32, Vec<ItemId, A>)>, AllocError>
-    ensures { IfOk result (λ queue. option_map (λ q. (q.0, q.1.items)) queue ≡ wq_form table.now.names (bytes_of words.entry)) }
+    ensures { IfOk result (λ workqueue. option_map (λ q. (q.0, q.1.items)) workqueue ≡ wq_form table.now.names (bytes_of words.entry)) }
 {
     let Some(word) = words.next() else {
         return Ok(None);

@@ -9,22 +9,22 @@ ghost use Rattle.wq_text.specs.Lines.{LineView, lines_of};
 ghost use Rattle.wq_text.specs.Numbers.{Spells};
 ghost use Rattle.wq_items.specs.Table.{Table, IsTable};
 ghost use Rattle.wq_groups.specs.Partition.{Partition, IsPartition};
-ghost use Rattle.wq_groups.specs.Assignment.{Assignment, IsAssignment, lane_of_item};
+ghost use Rattle.wq_groups.specs.Assignment.{Assignment, IsAssignment, item_lane};
 ghost use Rattle.wq_core.specs.declared.step.Step.{Step};
 ghost use Rattle.wq_cert.specs.Certificate.{OfPlan, OfCircle, PlanCertificate, CircleCertificate, Certificate};
 ghost use Rattle.wq_cert.specs.CircleText.{circle_text};
 ghost use Rattle.wq_cert.specs.PlanText.{item_lanes, plan_line, plan_text};
 ghost use Rattle.wq_cert.specs.RunText.{run_text};
-ghost use Rattle.wq_cert.specs.Texts.{max_text, max_line, answer_of, assignment_of_text, run_of};
+ghost use Rattle.wq_cert.specs.Texts.{max_certificate, max_certificate_line, answer_of, assignment_of_text, run_of};
 ghost use Rattle.wq_cert.specs.declared.fault.CertError.{CertError};
 ghost use Rattle.wq_cert.specs.declared.fault.CertError.TheVariants.{BadCertLine, NotAllItems};
 ghost use Rattle.wq_cert.specs.FirstFaults.{line_of, IsOfTheFirstLine};
 ghost use Rattle.wq_cert.specs.Forms.{number_of, begins_with};
 ghost use Rattle.wq_cert.specs.Ranges.{IsArcOf, IsStepOf, IsAssignmentOf, IsRunOf, IsCertificateOf};
 ghost use Rattle.wq_cert.specs.Lines.{CertLine};
-ghost use Rattle.wq_cert.specs.Reading.{assignment_of, plan_reading, circle_reading, run_reading, queues_reading};
-ghost use Rattle.wq_cert.specs.QueueRows.{AreFirstQueues, BreaksRow, AllStand, begins_queue};
-ghost use Rattle.wq_cert.specs.Spelled.{words_in, words_of_text, queue_lines, IsOnQueue, AreQueues, SpellsPlan, SpellsCircle, SpellsRun, SpellsQueues, SpellsCertificate, SpellsAssignment, KeepsLimits};
+ghost use Rattle.wq_cert.specs.Reading.{assignment_of, plan_reading, circle_reading, run_reading, workqueues_reading};
+ghost use Rattle.wq_cert.specs.WorkqueueRows.{AreFirstWorkqueues, BreaksRow, AllStand, begins_workqueue};
+ghost use Rattle.wq_cert.specs.Spelled.{words_in, words_of_text, workqueue_lines, IsOnWorkqueue, AreWorkqueues, SpellsPlan, SpellsCircle, SpellsRun, SpellsWorkqueues, SpellsCertificate, SpellsAssignment, KeepsLimits};
 
 /// What is read is in range: items that are declared, groups on at most 4,096 workqueues, as many arcs as the text says,
 /// and fewer steps than there are numbers.
@@ -40,16 +40,16 @@ pub fn what_is_read_is_in_range()
 /// Certificates that are too long are all refused alike, and the bytes up to the first one too many show it: what comes
 /// after them changes nothing that is read.
 pub fn a_long_certificate_is_refused_by_its_front()
-    ensures answer { (names : List (List ℕ)) (p : Partition) (text : List ℕ) → max_text < length text →
+    ensures answer { (names : List (List ℕ)) (p : Partition) (text : List ℕ) → max_certificate < length text →
         answer_of names p text ≡ Err (BadCertLine 0) }
-    ensures assignment { (names : List (List ℕ)) (p : Partition) (text : List ℕ) → max_text < length text →
+    ensures assignment { (names : List (List ℕ)) (p : Partition) (text : List ℕ) → max_certificate < length text →
         assignment_of_text names p text ≡ Err (BadCertLine 0) }
-    ensures run { (names : List (List ℕ)) (text : List ℕ) → max_text < length text → run_of names text ≡ Err (BadCertLine 0) }
+    ensures run { (names : List (List ℕ)) (text : List ℕ) → max_certificate < length text → run_of names text ≡ Err (BadCertLine 0) }
     ensures front_of_answer { (names : List (List ℕ)) (p : Partition) (text : List ℕ) →
-        answer_of names p (take (max_text + 1) text) ≡ answer_of names p text }
+        answer_of names p (take (max_certificate + 1) text) ≡ answer_of names p text }
     ensures front_of_assignment { (names : List (List ℕ)) (p : Partition) (text : List ℕ) →
-        assignment_of_text names p (take (max_text + 1) text) ≡ assignment_of_text names p text }
-    ensures front_of_run { (names : List (List ℕ)) (text : List ℕ) → run_of names (take (max_text + 1) text) ≡ run_of names text }
+        assignment_of_text names p (take (max_certificate + 1) text) ≡ assignment_of_text names p text }
+    ensures front_of_run { (names : List (List ℕ)) (text : List ℕ) → run_of names (take (max_certificate + 1) text) ≡ run_of names text }
 {}
 
 /// A word is read as a number just where it is the one spelling of it.
@@ -67,9 +67,9 @@ pub fn lines_are_read_where_they_spell()
         AllPairs (λ (a b : List ℕ). a ≢ b) names → (circle_reading names lines ≡ Ok c) ↔ SpellsCircle names (words_in lines) c }
     ensures run { (names : List (List ℕ)) (lines : List CertLine) (steps : List Step) →
         AllPairs (λ (a b : List ℕ). a ≢ b) names → (run_reading names lines ≡ Ok steps) ↔ SpellsRun names (words_in lines) steps }
-    ensures queues { (names : List (List ℕ)) (p : Partition) (lines : List CertLine) (a : Assignment) →
+    ensures workqueues { (names : List (List ℕ)) (p : Partition) (lines : List CertLine) (a : Assignment) →
         AllPairs (λ (a b : List ℕ). a ≢ b) names → length names ≡ length p.group_of →
-        (queues_reading names p lines ≡ Ok a) ↔ SpellsQueues names p (words_in lines) a }
+        (workqueues_reading names p lines ≡ Ok a) ↔ SpellsWorkqueues names p (words_in lines) a }
 {}
 
 /// A text is read just where it keeps the limits and the words of its lines are those of an answer, of an assignment or of
@@ -100,36 +100,36 @@ pub fn a_refusal_is_of_the_first_line_at_fault()
 /// Behind the lines of workqueues a line that isn't that of the next one is refused by the first row that it breaks: its
 /// form (40), its number (43), an item that stands already (41), a group that is split (42), whatever stands behind it.
 pub fn the_line_of_a_workqueue_is_refused_by_its_first_row()
-    ensures plan { (names : List (List ℕ)) (p : Partition) (k : ℕ) (queues : List (List ℕ)) (before : List CertLine)
+    ensures plan { (names : List (List ℕ)) (p : Partition) (k : ℕ) (workqueues : List (List ℕ)) (before : List CertLine)
         (line : CertLine) (behind : List CertLine) (fault : CertError) → AllPairs (λ (a b : List ℕ). a ≢ b) names →
-        k ≤ 4096 → length queues < k → words_in before ≡ plan_line k ∷ queue_lines names queues →
-        AreFirstQueues (length names) p.group_of queues → BreaksRow names p.group_of queues line fault →
+        k ≤ 4096 → length workqueues < k → words_in before ≡ plan_line k ∷ workqueue_lines names workqueues →
+        AreFirstWorkqueues (length names) p.group_of workqueues → BreaksRow names p.group_of workqueues line fault →
         plan_reading names p (before ++ (line ∷ behind)) ≡ Err fault }
-    ensures queues { (names : List (List ℕ)) (p : Partition) (queues : List (List ℕ)) (before : List CertLine)
+    ensures workqueues { (names : List (List ℕ)) (p : Partition) (workqueues : List (List ℕ)) (before : List CertLine)
         (line : CertLine) (behind : List CertLine) (fault : CertError) → AllPairs (λ (a b : List ℕ). a ≢ b) names →
-        words_in before ≡ queue_lines names queues → begins_with (codes "wq") line.words ≡ true →
-        AreFirstQueues (length names) p.group_of queues → BreaksRow names p.group_of queues line fault →
-        queues_reading names p (before ++ (line ∷ behind)) ≡ Err fault }
+        words_in before ≡ workqueue_lines names workqueues → begins_with (codes "wq") line.words ≡ true →
+        AreFirstWorkqueues (length names) p.group_of workqueues → BreaksRow names p.group_of workqueues line fault →
+        workqueues_reading names p (before ++ (line ∷ behind)) ≡ Err fault }
 {}
 
 /// Behind the lines of the workqueues an item that stands on none is answered first (41, of no line), whatever stands
 /// there. In an assignment by `wq` lines alone a line with another first word is refused there (40) where no item is missing.
 pub fn missing_items_are_answered_behind_the_workqueues()
-    ensures plan { (names : List (List ℕ)) (p : Partition) (queues : List (List ℕ)) (lines : List CertLine)
+    ensures plan { (names : List (List ℕ)) (p : Partition) (workqueues : List (List ℕ)) (lines : List CertLine)
         (behind : List (List (List ℕ))) → AllPairs (λ (a b : List ℕ). a ≢ b) names → length names ≡ length p.group_of →
-        words_in lines ≡ plan_line (length queues) ∷ (queue_lines names queues ++ behind) →
-        AreFirstQueues (length names) p.group_of queues → ¬ (AllStand (length names) queues) →
+        words_in lines ≡ plan_line (length workqueues) ∷ (workqueue_lines names workqueues ++ behind) →
+        AreFirstWorkqueues (length names) p.group_of workqueues → ¬ (AllStand (length names) workqueues) →
         plan_reading names p lines ≡ Err (NotAllItems 0) }
-    ensures queues { (names : List (List ℕ)) (p : Partition) (queues : List (List ℕ)) (before behind : List CertLine) →
+    ensures workqueues { (names : List (List ℕ)) (p : Partition) (workqueues : List (List ℕ)) (before behind : List CertLine) →
         AllPairs (λ (a b : List ℕ). a ≢ b) names → length names ≡ length p.group_of →
-        words_in before ≡ queue_lines names queues → begins_queue behind ≡ false →
-        AreFirstQueues (length names) p.group_of queues → ¬ (AllStand (length names) queues) →
-        queues_reading names p (before ++ behind) ≡ Err (NotAllItems 0) }
-    ensures other { (names : List (List ℕ)) (p : Partition) (queues : List (List ℕ)) (before : List CertLine)
+        words_in before ≡ workqueue_lines names workqueues → begins_workqueue behind ≡ false →
+        AreFirstWorkqueues (length names) p.group_of workqueues → ¬ (AllStand (length names) workqueues) →
+        workqueues_reading names p (before ++ behind) ≡ Err (NotAllItems 0) }
+    ensures other { (names : List (List ℕ)) (p : Partition) (workqueues : List (List ℕ)) (before : List CertLine)
         (line : CertLine) (behind : List CertLine) → AllPairs (λ (a b : List ℕ). a ≢ b) names →
-        length names ≡ length p.group_of → words_in before ≡ queue_lines names queues →
-        begins_with (codes "wq") line.words ≡ false → AreQueues (length names) p.group_of queues →
-        queues_reading names p (before ++ (line ∷ behind)) ≡ Err (BadCertLine line.no) }
+        length names ≡ length p.group_of → words_in before ≡ workqueue_lines names workqueues →
+        begins_with (codes "wq") line.words ≡ false → AreWorkqueues (length names) p.group_of workqueues →
+        workqueues_reading names p (before ++ (line ∷ behind)) ≡ Err (BadCertLine line.no) }
 {}
 
 /// A line behind the end of a plan, of a run, or of a circle with a run is refused (40).
@@ -155,8 +155,8 @@ pub fn a_certificate_cut_short_ends_too_early()
 
 /// The workqueue of an item is the one on whose line it stands.
 pub fn an_item_is_on_the_workqueue_of_its_line()
-    ensures { (p : Partition) (queues : List (List ℕ)) (i q : ℕ) → IsPartition p → AreQueues (length p.group_of) p.group_of queues →
-        i < length p.group_of → (lane_of_item (assignment_of p queues) p.group_of i ≡ q) ↔ IsOnQueue queues q i }
+    ensures { (p : Partition) (workqueues : List (List ℕ)) (i q : ℕ) → IsPartition p → AreWorkqueues (length p.group_of) p.group_of workqueues →
+        i < length p.group_of → (item_lane (assignment_of p workqueues) p.group_of i ≡ q) ↔ IsOnWorkqueue workqueues q i }
 {}
 
 /// The text of a circle of 1 to 4,096 arcs that isn't too long says these arcs, and the steps of the run behind them if
@@ -164,7 +164,7 @@ pub fn an_item_is_on_the_workqueue_of_its_line()
 pub fn a_circle_text_is_read_back()
     ensures { (t : Table) (p : Partition) (arcs : List (ℕ × ℕ)) (steps : Option (List Step)) → IsTable t →
         0 < length arcs → length arcs ≤ 4096 → All (IsArcOf (length t.names)) arcs → IfSome steps (All (IsStepOf (length t.names))) →
-        length (circle_text t.names arcs steps) ≤ max_text →
+        length (circle_text t.names arcs steps) ≤ max_certificate →
         answer_of t.names p (circle_text t.names arcs steps) ≡ Ok (OfCircle (record { arcs = arcs; steps = steps })) }
 {}
 
@@ -173,11 +173,11 @@ pub fn a_circle_text_is_read_back()
 pub fn a_circle_text_is_within_the_limits()
     ensures text { (t : Table) (arcs : List (ℕ × ℕ)) (steps : Option (List Step)) → IsTable t → length arcs ≤ 4096 →
         IfSome steps (All (IsStepOf (length t.names))) → IfSome steps (λ run. length run ≤ 65536) →
-        length (circle_text t.names arcs steps) ≤ max_text }
+        length (circle_text t.names arcs steps) ≤ max_certificate }
     ensures lines { (t : Table) (arcs : List (ℕ × ℕ)) (steps : Option (List Step)) → IsTable t → length arcs ≤ 4096 →
         All (IsArcOf (length t.names)) arcs → IfSome steps (All (IsStepOf (length t.names))) →
         IfSome steps (λ run. length run ≤ 65536) →
-        All (λ (line : LineView). length line.bytes ≤ max_line) (lines_of (circle_text t.names arcs steps)) }
+        All (λ (line : LineView). length line.bytes ≤ max_certificate_line) (lines_of (circle_text t.names arcs steps)) }
 {}
 
 /// The text of a plan of up to 4,096 workqueues and 4,095 arcs says its assignment and its chain, of one group more than
@@ -199,21 +199,21 @@ pub fn a_plan_text_is_read_back()
 pub fn a_plan_text_is_within_the_limits()
     ensures text { (t : Table) (p : Partition) (a : Assignment) (chain : List (ℕ × ℕ)) → IsTable t →
         length p.group_of ≡ length t.names → a.lanes ≤ 4096 → length chain ≤ 4096 →
-        length (plan_text t.names a.lanes (item_lanes a p.group_of) chain) ≤ max_text }
+        length (plan_text t.names a.lanes (item_lanes a p.group_of) chain) ≤ max_certificate }
     ensures lines { (t : Table) (p : Partition) (a : Assignment) (chain : List (ℕ × ℕ)) → IsTable t →
         length p.group_of ≡ length t.names → a.lanes ≤ 4096 → All (IsArcOf (length t.names)) chain → length chain ≤ 4096 →
-        All (λ (line : LineView). length line.bytes ≤ max_line)
+        All (λ (line : LineView). length line.bytes ≤ max_certificate_line)
         (lines_of (plan_text t.names a.lanes (item_lanes a p.group_of) chain)) }
 {}
 
 /// The text of a run that isn't too long says its steps.
 pub fn a_run_text_is_read_back()
     ensures { (t : Table) (steps : List Step) → IsTable t → All (IsStepOf (length t.names)) steps →
-        length (run_text t.names steps) ≤ max_text → run_of t.names (run_text t.names steps) ≡ Ok steps }
+        length (run_text t.names steps) ≤ max_certificate → run_of t.names (run_text t.names steps) ≡ Ok steps }
 {}
 
 /// The text of a run of up to 65,536 steps isn't too long either.
 pub fn a_run_text_is_within_the_limits()
     ensures { (t : Table) (steps : List Step) → IsTable t → All (IsStepOf (length t.names)) steps → length steps ≤ 65536 →
-        length (run_text t.names steps) ≤ max_text }
+        length (run_text t.names steps) ≤ max_certificate }
 {}

@@ -20,11 +20,11 @@ mod line_reading;
 pub mod lines;
 mod opening;
 mod plan_printing;
-mod queue_reading;
-mod queues;
 mod run_printing;
 mod run_reading;
 mod view;
+mod workqueue_reading;
+mod workqueues;
 
 pub use answer::CertAnswer;
 pub use answer_reading::read_answer;

@@ -6,7 +6,7 @@
 ghost use Rattle.std.specs.Prelude.{◌≡◌, ◌≢◌, Ok, Err, None, IfOk, IfErr, map};
 ghost use Rattle.wq_text.specs.Limits.{limit_fault};
 ghost use Rattle.wq_cert.specs.Lines.{cert_line};
-ghost use Rattle.wq_cert.specs.Texts.{max_text, max_line, text_reading};
+ghost use Rattle.wq_cert.specs.Texts.{max_certificate, max_certificate_line, text_reading};
 ghost use Rattle.wq_cert.specs.declared.fault.CertError.TheVariants.{OutOfMemory};
 
 use crate::fault::CertError;
@@ -14,20 +14,20 @@ use crate::view::CertView;
 use wq_text::{Text, TextError};
 
 /// How many bytes a certificate may have.
-const MAX_TEXT: u32 = 8_388_608;
+const MAX_CERTIFICATE: u32 = 8_388_608;
 
 /// How many bytes a line of it may have.
-const MAX_LINE: u32 = 524_288;
+const MAX_CERTIFICATE_LINE: u32 = 524_288;
 
 /// The text as its lines that hold a word. The error is `BadCertLine` (40): line 0 for a text that is too long, or else
 /// the first line that is.
 pub(crate) fn open(text: &[u8]) -> Result<CertView<'_>, CertError>
     ensures lines { IfOk result (λ view. text_reading (λ lines. Ok lines) text.now ≡ Ok (map cert_line view)) }
     ensures fault { IfErr result (λ e. text_reading (λ lines. Ok lines) text.now ≡ Err e) }
-    ensures limits { IfOk result (λ view. limit_fault max_text max_line text.now ≡ None) }
+    ensures limits { IfOk result (λ view. limit_fault max_certificate max_certificate_line text.now ≡ None) }
     ensures memory { result ≢ Err OutOfMemory }
 {
-    match Text::new(text, MAX_TEXT, MAX_LINE) {
+    match Text::new(text, MAX_CERTIFICATE, MAX_CERTIFICATE_LINE) {
         Ok(text) => Ok(CertView::new(text)),
         Err(TextError::TextTooLong) => Err(CertError::BadCertLine { line: 0 }),
         Err(TextError::LineTooLong { line }) => Err(CertError::BadCertLine { line }),

@@ -7,7 +7,7 @@ ghost use Rattle.std.specs.Prelude.{◌≡◌, ◌∷◌, Ok, Err, None, IfOk, I
 ghost use Rattle.wq_text.specs.Limits.{limit_fault};
 ghost use Rattle.wq_cert.specs.Lines.{cert_line};
 ghost use Rattle.wq_cert.specs.Reading.{next_lines, step_reading, run_reading, run_behind};
-ghost use Rattle.wq_cert.specs.Texts.{max_text, max_line, run_of, IsCertFaultOf};
+ghost use Rattle.wq_cert.specs.Texts.{max_certificate, max_certificate_line, run_of, IsCertFaultOf};
 ghost use Rattle.wq_cert.specs.declared.fault.CertError.TheVariants.{OutOfMemory};
 
 use crate::fault::CertError;
@@ -103,7 +103,7 @@ pub fn read_run<A: Allocator + Copy>(
     ensures steps { IfOk result (λ steps. run_of table.now.names text.now ≡ Ok steps.items) }
     ensures fault { IfErr result (λ e. IsCertFaultOf e (run_of table.now.names text.now)) }
     // The limits are judged without memory.
-    ensures memory { result ≡ Err OutOfMemory → limit_fault max_text max_line text.now ≡ None }
+    ensures memory { result ≡ Err OutOfMemory → limit_fault max_certificate max_certificate_line text.now ≡ None }
 {
     let view = open(text)?;
     read_run_lines(alloc, table, view.lines())

@@ -8,7 +8,7 @@ use Rattle.wq_items.specs.declared.target.Target.{Target}
 use Rattle.wq_items.specs.Table.{targets_of}
 use Rattle.wq_items.proofs.Tables.{targets_of-rise}
 use Rattle.wq_groups.specs.Declaration.{Declaration, IsDeclaration}
-use Rattle.wq_groups.specs.Assignment.{Assignment, lane_of_item}
+use Rattle.wq_groups.specs.Assignment.{Assignment, item_lane}
 use Rattle.wq_core.specs.declared.step.Step.{Step}
 use Rattle.wq_core.specs.Wiring.{wiring, own_lanes}
 use Rattle.wq_cert.specs.Certificate.{PlanCertificate, CircleCertificate, Certificate, OfPlan, OfCircle}
@@ -16,7 +16,7 @@ use Rattle.wq_checker.specs.declared.answer.Yes.{Yes}
 use Rattle.wq_checker.specs.declared.answer.Yes.TheVariants as yes
 use Rattle.wq_checker.specs.declared.answer.No.{No}
 use Rattle.wq_checker.specs.declared.answer.No.TheVariants.{NotFalling, LengthDiffers, ChainBroken, CircleBroken, RunBroken}
-use Rattle.wq_checker.specs.declared.falling.Flush.{Flush}
+use Rattle.wq_checker.specs.declared.falling.DeclaredFlush.{DeclaredFlush}
 use Rattle.wq_checker.specs.Chains.{Joins, AllJoin, IsFirstBreak, before_in_chain, before_in_circle}
 use Rattle.wq_checker.specs.Falling.{Falls, AllFall, Declares, IsFirstNotFalling}
 use Rattle.wq_checker.specs.Searching.{FindsFirst, OfItem, OfItemsBelow, earlier}
@@ -29,7 +29,7 @@ use Rattle.wq_checker.proofs.RunsDecided.{cases_DeadlocksBy}
 
 module _ (d : Declaration) (is : IsDeclaration d) (a : Assignment) where
   cases_Falls : (i j : ℕ) → Decided (Falls d a i j)
-  cases_Falls i j = cases_below (lane_of_item a d.group_of j) (lane_of_item a d.group_of i)
+  cases_Falls i j = cases_below (item_lane a d.group_of j) (item_lane a d.group_of i)
 
   -- any target
   abbrev nothing : Target
@@ -39,10 +39,10 @@ module _ (d : Declaration) (is : IsDeclaration d) (a : Assignment) where
   abbrev falls_at : ℕ → ℕ → Type 0
   falls_at i k = Falls d a i (get_or (targets_of d.waits i) k nothing).item
 
-  first_of : (i : ℕ) → (o : Option Flush) × FindsFirst d a (OfItem d i) o
+  first_of : (i : ℕ) → (o : Option DeclaredFlush) × FindsFirst d a (OfItem d i) o
   first_of i = found (first_below (falls_at i) (λ k. cases_Falls i (get_or (targets_of d.waits i) k nothing).item) (length (targets_of d.waits i)))
     where
-      found : ((k : ℕ) → k < length (targets_of d.waits i) → falls_at i k) ⊎ ((m : ℕ) × (m < length (targets_of d.waits i)) × (¬ falls_at i m) × ((k : ℕ) → k < m → falls_at i k)) → (o : Option Flush) × FindsFirst d a (OfItem d i) o
+      found : ((k : ℕ) → k < length (targets_of d.waits i) → falls_at i k) ⊎ ((m : ℕ) × (m < length (targets_of d.waits i)) × (¬ falls_at i m) × ((k : ℕ) → k < m → falls_at i k)) → (o : Option DeclaredFlush) × FindsFirst d a (OfItem d i) o
       found (inl each) = (
         None,
         λ k target of. (
@@ -58,7 +58,7 @@ module _ (d : Declaration) (is : IsDeclaration d) (a : Assignment) where
                 (λ k e less. subst (λ (t : Target). Falls d a i t.item) (get_or_default (targets_of d.waits i) k nothing e (omega (arith, less, within))) (before k less)),
           )
 
-  first_of_all : (n : ℕ) → (o : Option Flush) × FindsFirst d a (OfItemsBelow d n) o
+  first_of_all : (n : ℕ) → (o : Option DeclaredFlush) × FindsFirst d a (OfItemsBelow d n) o
   first_of_all zero = (None, λ k target of. absurd (omega (arith, of.0)))
   first_of_all (suc n) =
       let low = first_of_all n in
@@ -68,7 +68,7 @@ module _ (d : Declaration) (is : IsDeclaration d) (a : Assignment) where
   cases_fall : AllFall d a ⊎ ((i j : ℕ) × IsFirstNotFalling d a i j)
   cases_fall = of (first_of_all (length d.waits)).0 (first_of_all (length d.waits)).1
     where
-      of : (o : Option Flush) → FindsFirst d a (OfItemsBelow d (length d.waits)) o → AllFall d a ⊎ ((i j : ℕ) × IsFirstNotFalling d a i j)
+      of : (o : Option DeclaredFlush) → FindsFirst d a (OfItemsBelow d (length d.waits)) o → AllFall d a ⊎ ((i j : ℕ) × IsFirstNotFalling d a i j)
       of None found = inl (AllFall-found d a (length d.waits) (omega arith) found)
       of (Some flush) found = inr (flush.item, flush.target.item, IsFirstNotFalling-found d a (length d.waits) flush (omega arith) found)
 

@@ -7,7 +7,7 @@ use Rattle.wq_items.specs.Table.{ItemWaits, PlacesRise, targets_of}
 use Rattle.wq_items.proofs.Tables.{PlacesRise-places}
 use Rattle.wq_groups.specs.Declaration.{Declaration}
 use Rattle.wq_groups.specs.Assignment.{Assignment}
-use Rattle.wq_checker.specs.declared.falling.Flush.{Flush}
+use Rattle.wq_checker.specs.declared.falling.DeclaredFlush.{DeclaredFlush}
 use Rattle.wq_checker.specs.Falling.{Falls, AllFall, Declares, IsFirstNotFalling}
 use Rattle.wq_checker.specs.Searching.{IsFirstOf, FindsFirst, OfItem, OfItemsBelow, earlier}
 
@@ -46,7 +46,7 @@ module _ (d : Declaration) (a : Assignment) where
   below_or_last n k target of = elim (cases_lt k n) [ inl less ↦ inl (less, of.1) | inr last ↦ inr (omega (arith, of.0, last), of.1) ]
 
   -- the earlier of the first below n and the first of n
-  pub FindsFirst-earlier : (n : ℕ) (one other : Option Flush) → FindsFirst d a (OfItemsBelow d n) one → FindsFirst d a (OfItem d n) other → FindsFirst d a (OfItemsBelow d (n + 1)) (earlier one other)
+  pub FindsFirst-earlier : (n : ℕ) (one other : Option DeclaredFlush) → FindsFirst d a (OfItemsBelow d n) one → FindsFirst d a (OfItem d n) other → FindsFirst d a (OfItemsBelow d (n + 1)) (earlier one other)
   FindsFirst-earlier n None None low last = λ k target of. elim (below_or_last n k target of) [ inl x ↦ low k target x | inr y ↦ last k target y ]
   FindsFirst-earlier n None (Some g) low last = record {
     there = (omega (arith, last.there.0), last.there.1);
@@ -77,7 +77,7 @@ module _ (d : Declaration) (a : Assignment) where
           }
 
   -- of all items
-  pub IsFirstNotFalling-found : (n : ℕ) (flush : Flush) → length d.waits ≤ n → FindsFirst d a (OfItemsBelow d n) (Some flush) → IsFirstNotFalling d a flush.item flush.target.item
+  pub IsFirstNotFalling-found : (n : ℕ) (flush : DeclaredFlush) → length d.waits ≤ n → FindsFirst d a (OfItemsBelow d n) (Some flush) → IsFirstNotFalling d a flush.item flush.target.item
   IsFirstNotFalling-found n flush all found = record {
     target = flush.target;
     declares = found.there.1;

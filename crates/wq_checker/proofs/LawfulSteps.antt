@@ -6,13 +6,13 @@ use Rattle.std.proofs.lemmas.Bool.{cases_eq}
 use Rattle.wq_items.specs.declared.target.Target.{Target}
 use Rattle.wq_items.specs.Table.{ItemWaits, targets_of}
 use Rattle.wq_core.specs.declared.entry.Entry.{Entry}
-use Rattle.wq_core.specs.declared.entry.Flush.{Flush}
+use Rattle.wq_core.specs.declared.entry.Waiting.{Waiting}
 use Rattle.wq_core.specs.declared.entry.Running.{Running}
 use Rattle.wq_core.specs.declared.step.Step.{Step}
 use Rattle.wq_core.specs.declared.step.Step.TheVariants.{Queue, Cancel, Start, Wait, Over, Finish}
 use Rattle.wq_core.specs.Wiring.{Wiring, items, declared_by}
 use Rattle.wq_core.specs.State.{Lane, State, lane_at, Runs, HasPending, HasUnfinishedBelow}
-use Rattle.wq_core.specs.Rules.{MayWait, MayGoOn, MayFinish, MayStart, Lawful}
+use Rattle.wq_core.specs.Rules.{MayWait, MayBeOver, MayFinish, MayStart, Lawful}
 use Rattle.wq_core.specs.Runs.{KeepsOrder}
 use Rattle.wq_core.specs.Deadlock.{IsStuck}
 use Rattle.wq_core.specs.Held.{LaneHasUnfinishedBelow, is_below, runs_below}
@@ -43,7 +43,7 @@ cases_HasUnfinishedBelow s item mark =
 
 -- ---- what runs
 
-cases_awake : (o : Option Flush) → Decided (o ≡ None)
+cases_awake : (o : Option Waiting) → Decided (o ≡ None)
 cases_awake None = inl refl
 cases_awake (Some f) = inr (λ e. absurd cc)
 
@@ -67,16 +67,16 @@ module _ (w : Wiring) (s : State) where
       alike {P = (r.waiting ≡ None) × (ItemWaits w.waits r.entry.item b × (r.made < length (declared_by w r.entry.item)))} (λ h. record { awake = h.0; declared = h.1.0; fewer = h.1.1 })
       (λ may. (may.awake, (may.declared, may.fewer))) (both (cases_awake r.waiting) (both (cases_ItemWaits w.waits r.entry.item b) (cases_below r.made (length (declared_by w r.entry.item)))))
 
-  cases_MayGoOn : (b : ℕ) (r : Running) → Decided (MayGoOn s b r)
-  cases_MayGoOn b r = by_waiting r.waiting refl
+  cases_MayBeOver : (b : ℕ) (r : Running) → Decided (MayBeOver s b r)
+  cases_MayBeOver b r = by_waiting r.waiting refl
     where
-      by_waiting : (o : Option Flush) → r.waiting ≡ o → Decided (MayGoOn s b r)
+      by_waiting : (o : Option Waiting) → r.waiting ≡ o → Decided (MayBeOver s b r)
       by_waiting None awake = inr (λ may. absurd (let e : None ≡ Some may.flush = sym awake ∙ may.waits in cc))
       by_waiting (Some f) waits =
           alike (λ (h : (f.target ≡ b) × (¬ HasUnfinishedBelow s b f.mark)). record { flush = f; waits = waits; target = h.0; done = h.1 })
-          (λ (may : MayGoOn s b r).
+          (λ (may : MayBeOver s b r).
           let same : may.flush ≡ f = (let e : Some may.flush ≡ Some f = sym may.waits ∙ waits in cc) in
-          (ap (λ (x : Flush). x.target) (sym same) ∙ may.target, subst (λ (x : Flush). ¬ HasUnfinishedBelow s b x.mark) same may.done))
+          (ap (λ (x : Waiting). x.target) (sym same) ∙ may.target, subst (λ (x : Waiting). ¬ HasUnfinishedBelow s b x.mark) same may.done))
           (both (cases_eq f.target b) (not_so (cases_HasUnfinishedBelow s b f.mark)))
 
   cases_MayFinish : (i : ℕ) (r : Running) → Decided (MayFinish i r)
@@ -103,7 +103,7 @@ module _ (w : Wiring) (s : State) where
   cases_Lawful (Cancel i) = cases_HasPending s i
   cases_Lawful (Start q i) = cases_MayStart (lane_at s q) i
   cases_Lawful (Wait q b) = cases_runs (lane_at s q) (MayWait w b) (cases_MayWait b)
-  cases_Lawful (Over q b) = cases_runs (lane_at s q) (MayGoOn s b) (cases_MayGoOn b)
+  cases_Lawful (Over q b) = cases_runs (lane_at s q) (MayBeOver s b) (cases_MayBeOver b)
   cases_Lawful (Finish q i) = cases_runs (lane_at s q) (MayFinish i) (cases_MayFinish i)
 
   cases_next : (b : ℕ) (o : Option Target) → Decided ((t : Target) × (o ≡ Some t) × (t.item ≡ b))
@@ -123,7 +123,7 @@ module _ (w : Wiring) (s : State) where
   cases_CanMove : (q : ℕ) → Decided (CanMove w s q)
   cases_CanMove q = by_running (lane_at s q).running refl
     where
-      by_waiting : (r : Running) → Runs (lane_at s q) r → (o : Option Flush) → r.waiting ≡ o → Decided (CanMove w s q)
+      by_waiting : (r : Running) → Runs (lane_at s q) r → (o : Option Waiting) → r.waiting ≡ o → Decided (CanMove w s q)
       by_waiting r runs None awake = inl (CanMove-awake w s q r runs awake)
       by_waiting r runs (Some f) waits = elim (cases_HasUnfinishedBelow s f.target f.mark) [
         | inl left ↦ cases_test false (CanMove-waiting w s q r runs f waits true ((λ e. left), (λ h. refl)))

@@ -3,11 +3,11 @@ use Rattle.std.specs.Prelude.{◌≡◌, ℕ, ◌<◌, Contains}
 use Rattle.wq_items.specs.declared.target.Target.{Target}
 use Rattle.wq_items.specs.Table.{ItemWaits, targets_of}
 use Rattle.wq_groups.specs.Declaration.{Declaration}
-use Rattle.wq_groups.specs.Assignment.{Assignment, lane_of_item}
+use Rattle.wq_groups.specs.Assignment.{Assignment, item_lane}
 
 -- the workqueue of item i is above that of item j
 abbrev pub Falls : Declaration → Assignment → ℕ → ℕ → Type 0
-Falls d a i j = lane_of_item a d.group_of j < lane_of_item a d.group_of i
+Falls d a i j = item_lane a d.group_of j < item_lane a d.group_of i
 
 -- each declared flush falls
 abbrev pub AllFall : Declaration → Assignment → Type 0

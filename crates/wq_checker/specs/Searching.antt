@@ -8,17 +8,17 @@ use Rattle.wq_core.specs.Wiring.{Wiring}
 use Rattle.wq_core.specs.State.{empty_state}
 use Rattle.wq_core.specs.Runs.{IsRun, end_of, AsDeclaredFrom}
 use Rattle.wq_core.specs.Held.{Machine}
-use Rattle.wq_checker.specs.declared.falling.Flush.{Flush}
+use Rattle.wq_checker.specs.declared.falling.DeclaredFlush.{DeclaredFlush}
 use Rattle.wq_checker.specs.Falling.{Falls, Declares}
 
 -- of the flushes that `Of` has, this is the first by place that doesn't fall
-pub record IsFirstOf (d : Declaration) (a : Assignment) (Of : ℕ → Target → Type 0) (flush : Flush) : Type 0 where
+pub record IsFirstOf (d : Declaration) (a : Assignment) (Of : ℕ → Target → Type 0) (flush : DeclaredFlush) : Type 0 where
   pub there : Of flush.item flush.target
   pub stays : ¬ Falls d a flush.item flush.target.item
   pub first : (k : ℕ) (other : Target) → Of k other → other.place < flush.target.place → Falls d a k other.item
 
 -- it is found where there is one, and else each falls
-abbrev pub FindsFirst : Declaration → Assignment → (ℕ → Target → Type 0) → Option Flush → Type 0
+abbrev pub FindsFirst : Declaration → Assignment → (ℕ → Target → Type 0) → Option DeclaredFlush → Type 0
 FindsFirst d a Of None = (k : ℕ) (target : Target) → Of k target → Falls d a k target.item
 FindsFirst d a Of (Some flush) = IsFirstOf d a Of flush
 
@@ -31,7 +31,7 @@ abbrev pub OfItemsBelow : Declaration → ℕ → ℕ → Target → Type 0
 OfItemsBelow d n k target = (k < n) × Declares d k target
 
 -- the one of lower place, where there are two
-abbrev pub earlier : Option Flush → Option Flush → Option Flush
+abbrev pub earlier : Option DeclaredFlush → Option DeclaredFlush → Option DeclaredFlush
 earlier None other = other
 earlier (Some one) None = Some one
 earlier (Some one) (Some other) = if nat_lt other.target.place one.target.place then Some other else Some one

@@ -5,7 +5,7 @@
 
 ghost use Rattle.std.specs.Prelude.{◌≡◌, ◌<◌, IfSome, IfNone, length};
 ghost use Rattle.wq_groups.specs.Declaration.{declaration_of};
-ghost use Rattle.wq_groups.specs.Assignment.{lane_of_item};
+ghost use Rattle.wq_groups.specs.Assignment.{item_lane};
 ghost use Rattle.wq_checker.specs.Falling.{AllFall, IsFirstNotFalling};
 ghost use Rattle.wq_checker.specs.Searching.{FindsFirst, OfItem, earlier};
 
@@ -15,7 +15,7 @@ use wq_items::{ItemId, ItemTable, Target};
 
 /// A declared flush: an item, and a target that it declares.
 #[derive(Clone, Copy)]
-struct Flush {
+struct DeclaredFlush {
     item: ItemId,
     target: Target,
 }
@@ -28,7 +28,7 @@ fn lane_of<A: Allocator + Copy>(
 ) -> LaneId
     requires assigned { length assignment.now.lane_of_group ≡ groups.now.groups }
     requires item { item < length groups.now.group_of }
-    ensures { result ≡ lane_of_item assignment.now groups.now.group_of item }
+    ensures { result ≡ item_lane assignment.now groups.now.group_of item }
 {
     assignment.lane(groups.of(item))
 }
@@ -39,7 +39,7 @@ fn first_of_item<A: Allocator + Copy>(
     groups: &Groups<A>,
     assignment: &Assignment<A>,
     item: ItemId,
-) -> Option<Flush>
+) -> Option<DeclaredFlush>
     requires grouped { length groups.now.group_of ≡ length table.now.names }
     requires assigned { length assignment.now.lane_of_group ≡ groups.now.groups }
     requires item { item < length table.now.names }
@@ -49,7 +49,7 @@ fn first_of_item<A: Allocator + Copy>(
     let lane = lane_of(groups, assignment, item).get();
     for target in table.waits(item) {
         if lane_of(groups, assignment, target.item).get() >= lane {
-            return Some(Flush {
+            return Some(DeclaredFlush {
                 item,
                 target: *target,
             });
@@ -59,7 +59,7 @@ fn first_of_item<A: Allocator + Copy>(
 }
 
 /// The flush of lower place, where there are two.
-fn earlier(one: Option<Flush>, other: Option<Flush>) -> Option<Flush>
+fn earlier(one: Option<DeclaredFlush>, other: Option<DeclaredFlush>) -> Option<DeclaredFlush>
     ensures { result ≡ earlier one other }
 {
     match (one, other) {
@@ -91,6 +91,6 @@ pub(crate) fn first_not_falling<A: Allocator + Copy>(
         let found = first_of_item(table, groups, assignment, ItemId::new(number));
         least = earlier(least, found);
     }
-    let Flush { item, target } = least?;
+    let DeclaredFlush { item, target } = least?;
     Some((item, target.item))
 }

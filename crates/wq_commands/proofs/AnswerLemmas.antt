@@ -40,7 +40,7 @@ use Rattle.wq_commands.specs.declared.end.End.{End}
 use Rattle.wq_commands.specs.declared.end.End.TheVariants.{Refused}
 use Rattle.wq_commands.specs.Answer.{ends_of}
 use Rattle.wq_commands.specs.Answer.{Answers, AnswersDeclared, refusal_text, declared_waits}
-use Rattle.wq_commands.specs.Declaration.{Declared, max_text, max_line, by_limits, by_directives, by_table, by_groups, declaration}
+use Rattle.wq_commands.specs.Declaration.{Declared, max_declaration, max_declaration_line, by_limits, by_directives, by_table, by_groups, declaration}
 
 past_limits : (fault : Option TextError) (rest : Result Declared Refusal) (s : Declared) → by_limits fault rest ≡ Ok s → rest ≡ Ok s
 past_limits None rest s e = e
@@ -78,7 +78,7 @@ pub IsSound-declaration : (text : List ℕ) (s : Declared) → declaration text 
 IsSound-declaration text s e =
     let ds = directives (lines_of text) in
     let made = past_table ds (table_of ds) s refl (past_directives (first_fault (lines_of text)) (by_table ds (table_of ds)) s
-    (past_limits (limit_fault max_text max_line text) (by_directives (first_fault (lines_of text)) (by_table ds (table_of ds))) s e)) in
+    (past_limits (limit_fault max_declaration max_declaration_line text) (by_directives (first_fault (lines_of text)) (by_table ds (table_of ds))) s e)) in
     record {
       table = IsTable-table_of ds s.table (HasNames-directives (lines_of text)) made.table;
       partition = IsPartition-groups_of ds s.table s.partition made.table made.groups;
@@ -145,14 +145,14 @@ ArePrintable-walked s circle ends sound walked is =
 
 -- ---- the text that was read, and the text that there was
 
-pub too_long : (text : List ℕ) → max_text < length text → declaration text ≡ Err (record { code = 1; line = 0 })
-too_long text long = rw (lt-ltb max_text (length text) long) refl
+pub too_long : (text : List ℕ) → max_declaration < length text → declaration text ≡ Err (record { code = 1; line = 0 })
+too_long text long = rw (lt-ltb max_declaration (length text) long) refl
 
 -- a text that is too long is known to be so by its front
-pub declaration-take : (bytes : List ℕ) → declaration (take (max_text + 1) bytes) ≡ declaration bytes
-declaration-take bytes = elim (cases_lt (max_text + 1) (length bytes)) [
-  | inl long ↦ too_long (take (max_text + 1) bytes) (omega (arith, length-take (max_text + 1) bytes)) ∙ sym (too_long bytes (omega arith))
-  | inr whole ↦ ap declaration (take_all (max_text + 1) bytes whole)
+pub declaration-take : (bytes : List ℕ) → declaration (take (max_declaration + 1) bytes) ≡ declaration bytes
+declaration-take bytes = elim (cases_lt (max_declaration + 1) (length bytes)) [
+  | inl long ↦ too_long (take (max_declaration + 1) bytes) (omega (arith, length-take (max_declaration + 1) bytes)) ∙ sym (too_long bytes (omega arith))
+  | inr whole ↦ ap declaration (take_all (max_declaration + 1) bytes whole)
 ]
 
 pub Answers-same : (read text : List ℕ) (end : End) (out : List ℕ) → declaration read ≡ declaration text → Answers read end out → Answers text end out

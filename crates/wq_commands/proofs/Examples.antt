@@ -8,19 +8,19 @@ use Rattle.wq_items.specs.Table.{ItemWaits}
 use Rattle.wq_items.specs.Chain.{BeginsChain, IsRank}
 use Rattle.wq_items.proofs.Chains.{BeginsChain-one, BeginsChain-more, BeginsChain-next}
 use Rattle.wq_groups.specs.Declaration.{Declaration, GroupWaits}
-use Rattle.wq_groups.specs.Assignment.{Assignment, lane_of}
+use Rattle.wq_groups.specs.Assignment.{Assignment, group_lane}
 use Rattle.wq_graph.specs.declared.arc.WaitArc.{WaitArc}
 use Rattle.wq_graph.specs.Graph.{HasArc, group_graph}
 use Rattle.wq_levels.specs.Walks.{Remains, IsWalkedCircle}
 use Rattle.wq_plan.specs.Plan.{chain_of}
 use Rattle.wq_core.specs.declared.entry.Entry.{Entry}
-use Rattle.wq_core.specs.declared.entry.Flush.{Flush}
+use Rattle.wq_core.specs.declared.entry.Waiting.{Waiting}
 use Rattle.wq_core.specs.declared.step.Step.{Step}
 use Rattle.wq_core.specs.declared.step.Step.TheVariants.{Queue, Start, Wait}
 use Rattle.wq_core.specs.Wiring.{Wiring, declared_by}
 use Rattle.wq_core.specs.State.{State, HasUnfinishedBelow}
 use Rattle.wq_core.specs.Rules.{effect}
-use Rattle.wq_core.specs.Played.{CanMove, CannotMove, IsPlayedFrom}
+use Rattle.wq_core.specs.Played.{CanMove, HasNoDeclaredStep, IsPlayedFrom}
 use Rattle.wq_core.proofs.DeclaredSteps.{CanMove-waiting, CanMove-within, IsDeclaredStep-start, IsDeclaredStep-wait}
 use Rattle.wq_deadlock.specs.CircleRun.{IsCircleRun}
 use Rattle.wq_commands.specs.declared.end.End.TheVariants.{Good, Bad, Refused}
@@ -92,12 +92,12 @@ module _ (w : Wiring) (next : ℕ) (e : Entry) (behind : List Entry) (t : Target
   module _ (left : HasUnfinishedBelow waiting t.item next) where
     stays : ¬ CanMove w waiting 0
     stays can =
-        let flush : Flush = record { target = t.item; mark = next } in
+        let flush : Waiting = record { target = t.item; mark = next } in
         let test = CanMove-waiting w waiting 0 (record { entry = e; made = 1; waiting = Some flush }) refl flush refl true ((λ _. left), (λ _. refl)) in
         let never : IsTrue (not true) = test.1 can in
         cc
 
-    hangs : (q : ℕ) → CannotMove w waiting q
+    hangs : (q : ℕ) → HasNoDeclaredStep w waiting q
     hangs q step is =
         let can : CanMove w waiting q = (step, is.of_lane, is.lawful) in
         let only : q < 1 = CanMove-within w waiting q can in
@@ -202,7 +202,7 @@ first_over : BeginsChain (GroupWaits two) 0 3 → ⊥
 first_over begins =
     let next = BeginsChain-next (GroupWaits two) 0 1 begins in second_alone (subst (λ j. BeginsChain (GroupWaits two) j 2) (GroupWaits-two 0 next.0 next.1).1 next.2)
 
-ranks : (g : ℕ) → g < 2 → IsRank (GroupWaits two) g (lane_of lanes g)
+ranks : (g : ℕ) → g < 2 → IsRank (GroupWaits two) g (group_lane lanes g)
 ranks zero group = (BeginsChain-more (GroupWaits two) 0 1 1 first_waits (BeginsChain-one (GroupWaits two) 1), first_over)
 ranks (suc zero) group = (BeginsChain-one (GroupWaits two) 1, second_alone)
 ranks (suc (suc g)) group = absurd (omega arith)

@@ -11,13 +11,13 @@ use Rattle.wq_meter.specs.Meter.{Meter, count_after}
 use Rattle.wq_cert.specs.declared.fault.CertError.{CertError}
 use Rattle.wq_cert.specs.Certificate.{Certificate}
 use Rattle.wq_cert.specs.Reading.{answer_reading, assignment_reading, run_reading}
-use Rattle.wq_cert.specs.Texts.{assignment_of_text, cert_refusal, max_text as max_certificate}
+use Rattle.wq_cert.specs.Texts.{assignment_of_text, cert_refusal, max_certificate}
 use Rattle.wq_cert.proofs.LongCertificates.{text_reading-take}
 use Rattle.wq_commands.specs.declared.end.End.{End}
 use Rattle.wq_commands.specs.Answer.{Answers, IsRefused}
 use Rattle.wq_commands.specs.Checking.{AnswersCheck, ChecksDeclared, Checks}
 use Rattle.wq_commands.specs.CheckInput.{ChecksInput, ReplaysInput}
-use Rattle.wq_commands.specs.Declaration.{Declared, declaration, max_text}
+use Rattle.wq_commands.specs.Declaration.{Declared, declaration, max_declaration}
 use Rattle.wq_commands.specs.Input.{IsInput, HasGiven}
 use Rattle.wq_commands.specs.Replaying.{AnswersReplay, ReplaysAssigned, ReplaysDeclared, Replays}
 use Rattle.wq_commands.specs.Run.{AnswersInput}
@@ -87,7 +87,7 @@ module _ (end : End) (out : List ℕ) where
       subst (λ (r : Result Certificate CertError). MatchResult r (λ c. AnswersCheck s c end out) (λ fault. IsRefused (cert_refusal fault) end out))
       (text_reading-take (answer_reading s.table.names s.partition) claim) checks
 
-  pub Checks-take : (text claim : List ℕ) → Checks (take (max_text + 1) text) (take (max_certificate + 1) claim) end out → Checks text claim end out
+  pub Checks-take : (text claim : List ℕ) → Checks (take (max_declaration + 1) text) (take (max_certificate + 1) claim) end out → Checks text claim end out
   Checks-take text claim checks =
       MatchResult-weaker (declaration text) (λ s. ChecksDeclared s (take (max_certificate + 1) claim) end out) (λ s. ChecksDeclared s claim end out) (λ r. IsRefused r end out) (ChecksDeclared-take claim)
       (subst (λ (d : Result Declared Refusal). MatchResult d (λ s. ChecksDeclared s (take (max_certificate + 1) claim) end out) (λ r. IsRefused r end out)) (declaration-take text) checks)
@@ -103,7 +103,7 @@ module _ (end : End) (out : List ℕ) where
       (subst (λ (r : Result Assignment CertError). MatchResult r (λ a. ReplaysAssigned s a (take (max_certificate + 1) steps) end out) (λ fault. IsRefused (cert_refusal fault) end out))
       (text_reading-take (assignment_reading s.table.names s.partition) lanes) replays)
 
-  pub Replays-take : (text lanes steps : List ℕ) → Replays (take (max_text + 1) text) (take (max_certificate + 1) lanes) (take (max_certificate + 1) steps) end out → Replays text lanes steps end out
+  pub Replays-take : (text lanes steps : List ℕ) → Replays (take (max_declaration + 1) text) (take (max_certificate + 1) lanes) (take (max_certificate + 1) steps) end out → Replays text lanes steps end out
   Replays-take text lanes steps replays =
       MatchResult-weaker (declaration text) (λ s. ReplaysDeclared s (take (max_certificate + 1) lanes) (take (max_certificate + 1) steps) end out) (λ s. ReplaysDeclared s lanes steps end out)
       (λ r. IsRefused r end out) (ReplaysDeclared-take lanes steps)
@@ -112,7 +112,7 @@ module _ (end : End) (out : List ℕ) where
 -- ---- answers to what was read
 
 pub AnswersInput-read : {R : Type 0} (remaining : R → Option (List ℕ)) (old new : Meter R) (read : List ℕ) (end : End) (out : List ℕ)
-    → IsFrontOf remaining old new max_text read → Answers read end out → AnswersInput remaining old new end out
+    → IsFrontOf remaining old new max_declaration read → Answers read end out → AnswersInput remaining old new end out
 AnswersInput-read remaining old new read end out front answers = record {
   text = front.given.text;
   given = front.given.gives;
@@ -120,7 +120,7 @@ AnswersInput-read remaining old new read end out front answers = record {
 }
 
 pub ChecksInput-read : {D C : Type 0} (known : D → Option (List ℕ)) (certified : C → Option (List ℕ)) (old new : Meter D) (c_old c_new : Meter C) (end : End) (out text claim : List ℕ)
-    → IsFrontOf known old new max_text text → IsFrontOf certified c_old c_new max_certificate claim → Checks text claim end out
+    → IsFrontOf known old new max_declaration text → IsFrontOf certified c_old c_new max_certificate claim → Checks text claim end out
     → ChecksInput known certified old new c_old c_new end out
 ChecksInput-read known certified old new c_old c_new end out text claim declared certificate checks = record {
   text = declared.given.text;
@@ -133,7 +133,7 @@ ChecksInput-read known certified old new c_old c_new end out text claim declared
 }
 
 pub ReplaysInput-read : {D S R : Type 0} (known : D → Option (List ℕ)) (assigned : S → Option (List ℕ)) (listed : R → Option (List ℕ)) (old new : Meter D) (a_old a_new : Meter S) (r_old r_new : Meter R)
-    (end : End) (out text lanes steps : List ℕ) → IsFrontOf known old new max_text text → IsFrontOf assigned a_old a_new max_certificate lanes → IsFrontOf listed r_old r_new max_certificate steps
+    (end : End) (out text lanes steps : List ℕ) → IsFrontOf known old new max_declaration text → IsFrontOf assigned a_old a_new max_certificate lanes → IsFrontOf listed r_old r_new max_certificate steps
     → Replays text lanes steps end out → ReplaysInput known assigned listed old new a_old a_new r_old r_new end out
 ReplaysInput-read known assigned listed old new a_old a_new r_old r_new end out text lanes steps declared assignment run replays = record {
   text = declared.given.text;

@@ -26,7 +26,7 @@ use Rattle.wq_cert.specs.LineText.{line_text}
 use Rattle.wq_cert.specs.Ranges.{IsAssignmentOf}
 use Rattle.wq_cert.specs.Reading.{assignment_reading}
 use Rattle.wq_cert.specs.RunText.{run_text}
-use Rattle.wq_cert.specs.Texts.{assignment_of_text, run_of, cert_refusal, max_text as max_certificate}
+use Rattle.wq_cert.specs.Texts.{assignment_of_text, run_of, cert_refusal, max_certificate}
 use Rattle.wq_cert.proofs.LongCertificates.{text_reading-take}
 use Rattle.wq_cert.proofs.PrintedRuns.{run_of-printed}
 use Rattle.wq_cert.proofs.ReadRanges.{IsAssignmentOf-assignment_of_text}
@@ -37,7 +37,7 @@ use Rattle.wq_commands.specs.declared.end.End.TheVariants.{Good, Bad, Refused}
 use Rattle.wq_commands.specs.Answer.{declared_waits, refusal_text, IsRefused}
 use Rattle.wq_commands.specs.Deadlocking.{safe_text, JudgesAssigned, JudgesDeclared, Judges}
 use Rattle.wq_commands.specs.DeadlockInput.{JudgesInput}
-use Rattle.wq_commands.specs.Declaration.{Declared, declaration, max_text}
+use Rattle.wq_commands.specs.Declaration.{Declared, declaration, max_declaration}
 use Rattle.wq_commands.specs.Replaying.{replay_words, AnswersReplay, ReplaysAssigned, ReplaysDeclared, Replays}
 use Rattle.wq_commands.proofs.AnswerLemmas.{IsSound, IsSound-declaration, IsDeclaration-sound, declaration-take}
 use Rattle.wq_commands.proofs.CheckLemmas.{MatchResult-ok}
@@ -177,14 +177,14 @@ module _ (end : End) (out : List ℕ) where
       subst (λ (r : Result Assignment CertError). MatchResult r (λ a. JudgesAssigned s a end out) (λ fault. IsRefused (cert_refusal fault) end out))
       (text_reading-take (assignment_reading s.table.names s.partition) text) answer
 
-  Judges-take : (declared text : List ℕ) → Judges (take (max_text + 1) declared) (take (max_certificate + 1) text) end out → Judges declared text end out
+  Judges-take : (declared text : List ℕ) → Judges (take (max_declaration + 1) declared) (take (max_certificate + 1) text) end out → Judges declared text end out
   Judges-take declared text answer =
       MatchResult-weaker (declaration declared)
       (subst (λ (d : Result Declared Refusal). MatchResult d (λ s. JudgesDeclared s (take (max_certificate + 1) text) end out) (λ r. IsRefused r end out)) (declaration-take declared) answer)
       (JudgesDeclared-take text) (λ r refused. refused)
 
 pub JudgesInput-read : {D S : Type 0} (known : D → Option (List ℕ)) (assigned : S → Option (List ℕ)) (old new : Meter D) (a_old a_new : Meter S) (end : End) (out text lanes : List ℕ)
-    → IsFrontOf known old new max_text text → IsFrontOf assigned a_old a_new max_certificate lanes → Judges text lanes end out
+    → IsFrontOf known old new max_declaration text → IsFrontOf assigned a_old a_new max_certificate lanes → Judges text lanes end out
     → JudgesInput known assigned old new a_old a_new end out
 JudgesInput-read known assigned old new a_old a_new end out text lanes declared assignment answer = record {
   text = declared.given.text;

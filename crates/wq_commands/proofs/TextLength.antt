@@ -4,7 +4,7 @@ use Rattle.std.specs.List.{All}
 use Rattle.std.proofs.lemmas.List.{length-map}
 use Rattle.wq_text.specs.Lines.{lines_of}
 use Rattle.wq_text.proofs.LimitLaws.{IsShort}
-use Rattle.wq_groups.specs.Assignment.{Assignment, lane_of}
+use Rattle.wq_groups.specs.Assignment.{Assignment, group_lane}
 use Rattle.wq_graph.specs.declared.arc.WaitArc.{WaitArc}
 use Rattle.wq_graph.specs.Graph.{group_graph}
 use Rattle.wq_levels.specs.Walks.{IsWalkedCircle}
@@ -41,7 +41,7 @@ module _ (s : Declared) (sound : IsSound s) where
         omega (arith, lanes, is.partition.few_groups, is.partition.few_items)
 
     one_each : length (item_lanes a s.partition.group_of) ≡ length s.table.names
-    one_each = length-map s.partition.group_of (lane_of a) ∙ sound.one_group_each
+    one_each = length-map s.partition.group_of (group_lane a) ∙ sound.one_group_each
 
     pub length-planned : length (text_of_plan s a) ≤ 8388608
     length-planned = length-plan_text-most s.table sound.table a.lanes (item_lanes a s.partition.group_of) chain one_each few arcs.few

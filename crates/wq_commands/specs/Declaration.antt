@@ -15,12 +15,12 @@ use Rattle.wq_groups.specs.Partition.{Partition}
 use Rattle.wq_groups.specs.Grouping.{groups_of, group_refusal}
 
 -- how many bytes a declaration may have
-abbrev pub max_text : ℕ
-max_text = 1048576
+abbrev pub max_declaration : ℕ
+max_declaration = 1048576
 
 -- how many bytes a line of it may have
-abbrev pub max_line : ℕ
-max_line = 4096
+abbrev pub max_declaration_line : ℕ
+max_declaration_line = 4096
 
 -- the items of a text with their flushes, and their groups
 pub record Declared : Type 0 where
@@ -50,5 +50,5 @@ by_limits None rest = rest
 -- what a text declares, or the first fault of the first pass that has one
 abbrev pub declaration : List ℕ → Result Declared Refusal
 declaration text =
-    by_limits (limit_fault max_text max_line text)
+    by_limits (limit_fault max_declaration max_declaration_line text)
     (by_directives (first_fault (lines_of text)) (by_table (directives (lines_of text)) (table_of (directives (lines_of text)))))

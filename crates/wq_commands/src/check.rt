@@ -5,14 +5,14 @@
 
 ghost use Rattle.std.specs.Prelude.{◌≡◌, ◌≢◌, ◌≤◌, ◌+◌, ◌⊎◌, ℕ, List, Err, IfOk};
 ghost use Rattle.wq_meter.specs.Meter.{count_after, LosesFront, WritesFront, WritesWhole};
-ghost use Rattle.wq_cert.specs.Texts.{max_text as max_certificate};
-ghost use Rattle.wq_commands.specs.Declaration.{max_text};
+ghost use Rattle.wq_cert.specs.Texts.{max_certificate};
+ghost use Rattle.wq_commands.specs.Declaration.{max_declaration};
 ghost use Rattle.wq_commands.specs.CheckInput.{ChecksInput, KeepsYesOfInput};
 ghost use Rattle.wq_commands.specs.Input.{AfterGiven, HasFailed, HasGiven};
 ghost use Rattle.wq_commands.specs.declared.end.End.{End};
 
 use crate::checking::check;
-use crate::declaration::MAX_TEXT;
+use crate::declaration::MAX_DECLARATION;
 use crate::end::End;
 use std::alloc::Allocator;
 use std::io::{Read, Write};
@@ -55,22 +55,22 @@ pub fn check_cmd<D: Read, C: Read, W: Write, A: Allocator + Copy>(
     ensures unwritten { result ≡ Err Fault.Read → writer.new ≡ writer.old }
 
     // What is asked of the readers, whatever the result.
-    ensures lost { LosesFront D.remaining declaration.old declaration.new (max_text + 1)
+    ensures lost { LosesFront D.remaining declaration.old declaration.new (max_declaration + 1)
         × LosesFront C.remaining certificate.old certificate.new (max_certificate + 1) }
-    ensures order { AfterGiven D.remaining declaration.old declaration.new max_text certificate.old certificate.new }
-    ensures reads { (declaration.new.calls ≤ declaration.old.calls + (max_text + 1)) × (certificate.new.calls ≤ certificate.old.calls + (max_certificate + 1)) }
-    ensures bytes_read { (declaration.new.bytes ≤ declaration.old.bytes + (max_text + 1)) × (certificate.new.bytes ≤ certificate.old.bytes + (max_certificate + 1)) }
+    ensures order { AfterGiven D.remaining declaration.old declaration.new max_declaration certificate.old certificate.new }
+    ensures reads { (declaration.new.calls ≤ declaration.old.calls + (max_declaration + 1)) × (certificate.new.calls ≤ certificate.old.calls + (max_certificate + 1)) }
+    ensures bytes_read { (declaration.new.bytes ≤ declaration.old.bytes + (max_declaration + 1)) × (certificate.new.bytes ≤ certificate.old.bytes + (max_certificate + 1)) }
 
     // Which fault it is, and of which reader.
     ensures read_failed { result ≡ Err Fault.Read →
         (HasFailed declaration.old declaration.new × (certificate.new ≡ certificate.old))
-        ⊎ (HasGiven D.remaining declaration.old declaration.new max_text × HasFailed certificate.old certificate.new) }
+        ⊎ (HasGiven D.remaining declaration.old declaration.new max_declaration × HasFailed certificate.old certificate.new) }
     ensures no_read_failed { result ≢ Err Fault.Read →
         (declaration.new.failures ≡ declaration.old.failures) × (certificate.new.failures ≡ certificate.old.failures) }
     ensures write_failed { result ≡ Err Fault.Write → writer.new.failures ≡ count_after writer.old.failures 1 }
     ensures no_write_failed { result ≢ Err Fault.Write → writer.new.failures ≡ writer.old.failures }
 {
-    let text = read_text(alloc, declaration, MAX_TEXT)?;
+    let text = read_text(alloc, declaration, MAX_DECLARATION)?;
     let claim = read_text(alloc, certificate, MAX_CERTIFICATE)?;
     let (end, answer) = check(alloc, &text, &claim)?;
     write_text(writer, &answer)?;

@@ -5,14 +5,14 @@
 
 ghost use Rattle.std.specs.Prelude.{◌≡◌, ◌≢◌, ◌≤◌, ◌+◌, ◌⊎◌, ℕ, List, Err, IfOk};
 ghost use Rattle.wq_meter.specs.Meter.{count_after, LosesFront, WritesFront, WritesWhole};
-ghost use Rattle.wq_cert.specs.Texts.{max_text as max_certificate};
-ghost use Rattle.wq_commands.specs.Declaration.{max_text};
+ghost use Rattle.wq_cert.specs.Texts.{max_certificate};
+ghost use Rattle.wq_commands.specs.Declaration.{max_declaration};
 ghost use Rattle.wq_commands.specs.DeadlockInput.{JudgesInput};
 ghost use Rattle.wq_commands.specs.Input.{AfterGiven, HasFailed, HasGiven};
 ghost use Rattle.wq_commands.specs.declared.end.End.{End};
 
 use crate::check::MAX_CERTIFICATE;
-use crate::declaration::MAX_TEXT;
+use crate::declaration::MAX_DECLARATION;
 use crate::end::End;
 use crate::judging::judge;
 use std::alloc::Allocator;
@@ -45,22 +45,22 @@ pub fn deadlock_cmd<D: Read, S: Read, W: Write, A: Allocator + Copy>(
     ensures unwritten { result ≡ Err Fault.Read → writer.new ≡ writer.old }
 
     // What is asked of the readers, whatever the result.
-    ensures lost { LosesFront D.remaining declaration.old declaration.new (max_text + 1)
+    ensures lost { LosesFront D.remaining declaration.old declaration.new (max_declaration + 1)
         × LosesFront S.remaining assignment.old assignment.new (max_certificate + 1) }
-    ensures order { AfterGiven D.remaining declaration.old declaration.new max_text assignment.old assignment.new }
-    ensures reads { (declaration.new.calls ≤ declaration.old.calls + (max_text + 1)) × (assignment.new.calls ≤ assignment.old.calls + (max_certificate + 1)) }
-    ensures bytes_read { (declaration.new.bytes ≤ declaration.old.bytes + (max_text + 1)) × (assignment.new.bytes ≤ assignment.old.bytes + (max_certificate + 1)) }
+    ensures order { AfterGiven D.remaining declaration.old declaration.new max_declaration assignment.old assignment.new }
+    ensures reads { (declaration.new.calls ≤ declaration.old.calls + (max_declaration + 1)) × (assignment.new.calls ≤ assignment.old.calls + (max_certificate + 1)) }
+    ensures bytes_read { (declaration.new.bytes ≤ declaration.old.bytes + (max_declaration + 1)) × (assignment.new.bytes ≤ assignment.old.bytes + (max_certificate + 1)) }
 
     // Which fault it is, and of which reader.
     ensures read_failed { result ≡ Err Fault.Read →
         (HasFailed declaration.old declaration.new × (assignment.new ≡ assignment.old))
-        ⊎ (HasGiven D.remaining declaration.old declaration.new max_text × HasFailed assignment.old assignment.new) }
+        ⊎ (HasGiven D.remaining declaration.old declaration.new max_declaration × HasFailed assignment.old assignment.new) }
     ensures no_read_failed { result ≢ Err Fault.Read →
         (declaration.new.failures ≡ declaration.old.failures) × (assignment.new.failures ≡ assignment.old.failures) }
     ensures write_failed { result ≡ Err Fault.Write → writer.new.failures ≡ count_after writer.old.failures 1 }
     ensures no_write_failed { result ≢ Err Fault.Write → writer.new.failures ≡ writer.old.failures }
 {
-    let text = read_text(alloc, declaration, MAX_TEXT)?;
+    let text = read_text(alloc, declaration, MAX_DECLARATION)?;
     let lanes = read_text(alloc, assignment, MAX_CERTIFICATE)?;
     let (end, answer) = judge(alloc, &text, &lanes)?;
     write_text(writer, &answer)?;

@@ -6,7 +6,7 @@ ghost use Rattle.std.specs.Prelude.{◌≡◌, Ok, Err, None, Result, IfOk, IfEr
 ghost use Rattle.wq_text.specs.Lines.{lines_of};
 ghost use Rattle.wq_text.specs.Limits.{limit_fault, text_refusal};
 ghost use Rattle.wq_decl.specs.Reading.{first_fault, decl_refusal};
-ghost use Rattle.wq_commands.specs.Declaration.{declaration, max_text, max_line};
+ghost use Rattle.wq_commands.specs.Declaration.{declaration, max_declaration, max_declaration_line};
 ghost use Rattle.wq_commands.specs.Stop.{StopsAt, item_stop, group_stop};
 ghost use Rattle.wq_commands.specs.declared.declaration.Stop.TheVariants.{Refused, OutOfMemory};
 
@@ -17,10 +17,10 @@ use wq_items::{ItemError, ItemTable};
 use wq_text::{Text, TextError};
 
 /// How many bytes a declaration may have.
-pub(crate) const MAX_TEXT: u32 = 1_048_576;
+pub(crate) const MAX_DECLARATION: u32 = 1_048_576;
 
 /// How many bytes a line of it may have, its line feed and a carriage return before that not counted.
-const MAX_LINE: u32 = 4096;
+const MAX_DECLARATION_LINE: u32 = 4096;
 
 /// What a text declares: its items with their flushes, and their groups.
 #[derive(Drop)]
@@ -99,10 +99,10 @@ pub fn read_declaration<A: Allocator + Copy>(
     ensures declaration { IfOk result (λ d. declaration text.now ≡ Ok (record { table = d.table; partition = d.groups })) }
     ensures stop { IfErr result (λ s. StopsAt s (declaration text.now)) }
     // The first two passes take no memory.
-    ensures first_passes { result ≡ Err OutOfMemory → (limit_fault max_text max_line text.now ≡ None)
+    ensures first_passes { result ≡ Err OutOfMemory → (limit_fault max_declaration max_declaration_line text.now ≡ None)
         × (first_fault (lines_of text.now) ≡ None) }
 {
-    let text = Text::new(text, MAX_TEXT, MAX_LINE)?;
+    let text = Text::new(text, MAX_DECLARATION, MAX_DECLARATION_LINE)?;
     let view = DeclView::new(text)?;
     let table = ItemTable::read(alloc, &view)?;
     let groups = Groups::read(alloc, &view, &table)?;

@@ -25,7 +25,7 @@ ghost use Rattle.wq_commands.specs.Checking.{Checks};
 ghost use Rattle.wq_commands.specs.YesIsTrue.{YesIsTrue};
 ghost use Rattle.wq_commands.specs.Replaying.{replay_words, Replays};
 ghost use Rattle.wq_commands.specs.Deadlocking.{Judges};
-ghost use Rattle.wq_commands.specs.Declaration.{Declared, declaration, max_text};
+ghost use Rattle.wq_commands.specs.Declaration.{Declared, declaration, max_declaration};
 ghost use Rattle.wq_commands.specs.declared.end.End.{End};
 ghost use Rattle.wq_commands.specs.declared.end.End.TheVariants.{Good, Bad, Refused};
 
@@ -66,8 +66,8 @@ pub fn a_text_has_an_answer()
 /// Texts that are too long are all refused alike, and the bytes up to the first one too many show it: what comes after
 /// them changes no answer.
 pub fn a_long_text_is_refused_by_its_front()
-    ensures refused { (text : List ℕ) → max_text < length text → declaration text ≡ Err (record { code = 1; line = 0 }) }
-    ensures front { (text : List ℕ) → declaration (take (max_text + 1) text) ≡ declaration text }
+    ensures refused { (text : List ℕ) → max_declaration < length text → declaration text ≡ Err (record { code = 1; line = 0 }) }
+    ensures front { (text : List ℕ) → declaration (take (max_declaration + 1) text) ≡ declaration text }
 {}
 
 /// The text of a plan has at most 8,388,608 bytes, and no line of it has more than 524,288, so whoever reads it back can

@@ -3,13 +3,13 @@
 //! The answer is made whole before the first byte is written.
 
 ghost use Rattle.std.specs.Prelude.{◌≡◌, ◌≢◌, ◌≤◌, ◌+◌, ℕ, List, Err, IfOk};
-ghost use Rattle.wq_commands.specs.Declaration.{max_text};
+ghost use Rattle.wq_commands.specs.Declaration.{max_declaration};
 ghost use Rattle.wq_meter.specs.Meter.{count_after, LosesFront, WritesFront, WritesWhole};
 ghost use Rattle.wq_commands.specs.Run.{AnswersInput, KeepsPromiseOfInput};
 ghost use Rattle.wq_commands.specs.declared.end.End.{End};
 
 use crate::answer::answer;
-use crate::declaration::MAX_TEXT;
+use crate::declaration::MAX_DECLARATION;
 use crate::end::End;
 use std::alloc::Allocator;
 use std::io::{Read, Write};
@@ -44,9 +44,9 @@ pub fn plan_cmd<R: Read, W: Write, A: Allocator + Copy>(
     ensures unwritten { result ≡ Err Fault.Read → writer.new ≡ writer.old }
 
     // What is asked of the reader, whatever the result.
-    ensures lost { LosesFront R.remaining reader.old reader.new (max_text + 1) }
-    ensures reads { reader.new.calls ≤ reader.old.calls + (max_text + 1) }
-    ensures bytes_read { reader.new.bytes ≤ reader.old.bytes + (max_text + 1) }
+    ensures lost { LosesFront R.remaining reader.old reader.new (max_declaration + 1) }
+    ensures reads { reader.new.calls ≤ reader.old.calls + (max_declaration + 1) }
+    ensures bytes_read { reader.new.bytes ≤ reader.old.bytes + (max_declaration + 1) }
 
     // Which fault it is.
     ensures read_failed { result ≡ Err Fault.Read → reader.new.failures ≡ count_after reader.old.failures 1 }
@@ -54,7 +54,7 @@ pub fn plan_cmd<R: Read, W: Write, A: Allocator + Copy>(
     ensures write_failed { result ≡ Err Fault.Write → writer.new.failures ≡ count_after writer.old.failures 1 }
     ensures no_write_failed { result ≢ Err Fault.Write → writer.new.failures ≡ writer.old.failures }
 {
-    let text = read_text(alloc, reader, MAX_TEXT)?;
+    let text = read_text(alloc, reader, MAX_DECLARATION)?;
     let (end, answer) = answer(alloc, &text)?;
     write_text(writer, &answer)?;
     Ok(end)

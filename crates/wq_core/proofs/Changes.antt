@@ -9,7 +9,7 @@ use Rattle.wq_core.specs.declared.step.Step.{Step}
 use Rattle.wq_core.specs.declared.step.Step.TheVariants.{Queue, Cancel, Start, Wait, Over, Finish}
 use Rattle.wq_core.specs.Wiring.{lane_of}
 use Rattle.wq_core.specs.State.{Lane, State, idle_lane, lane_at, with_lane}
-use Rattle.wq_core.specs.Rules.{Lawful, effect, with_queued, with_cancelled, with_started, with_wait, with_wait_over, with_finished}
+use Rattle.wq_core.specs.Rules.{Lawful, effect, with_queued, with_cancelled, with_started, with_wait, with_over, with_finished}
 use Rattle.wq_core.specs.Held.{HeldLane, Machine, machine_of, HasRoom, IsHeld, IsMachine, IsNumberOf, UsesUp, machine_after, IsDone}
 use Rattle.wq_core.proofs.Sound.{IsSoundState-effect}
 
@@ -78,9 +78,9 @@ module _ (waits : List (List Target)) (lane_of_item : List ℕ) (lanes : List He
         → IsHeld waits lane_of_item (set lanes q new) next × IsDone m (Finish q i) n (machine_of waits lane_of_item (set lanes q new) next)
     finished q i number was is = changed m (Finish q i) n q old new next held view number (λ u. u) was room held.machine.numbers (put q with_finished was is)
 
-    pub gone_on : (q b : ℕ) → IsNumberOf m (Over q b) (Some n) → slice_get lanes q ≡ Some old → new.lane ≡ with_wait_over old.lane
+    pub over : (q b : ℕ) → IsNumberOf m (Over q b) (Some n) → slice_get lanes q ≡ Some old → new.lane ≡ with_over old.lane
         → IsHeld waits lane_of_item (set lanes q new) next × IsDone m (Over q b) n (machine_of waits lane_of_item (set lanes q new) next)
-    gone_on q b number was is = changed m (Over q b) n q old new next held view number (λ u. u) was room held.machine.numbers (put q with_wait_over was is)
+    over q b number was is = changed m (Over q b) n q old new next held view number (λ u. u) was room held.machine.numbers (put q with_over was is)
 
     pub waited : (q b : ℕ) → IsNumberOf m (Wait q b) (Some n) → slice_get lanes q ≡ Some old → new.lane ≡ with_wait b n old.lane
         → IsHeld waits lane_of_item (set lanes q new) next × IsDone m (Wait q b) n (machine_of waits lane_of_item (set lanes q new) next)

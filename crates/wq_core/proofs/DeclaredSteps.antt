@@ -5,7 +5,7 @@ use Rattle.std.proofs.lemmas.Option.{slice_get_within, slice_get_past, slice_get
 use Rattle.wq_items.specs.declared.target.Target.{Target}
 use Rattle.wq_items.specs.Table.{ItemWaits}
 use Rattle.wq_core.specs.declared.entry.Entry.{Entry}
-use Rattle.wq_core.specs.declared.entry.Flush.{Flush}
+use Rattle.wq_core.specs.declared.entry.Waiting.{Waiting}
 use Rattle.wq_core.specs.declared.entry.Running.{Running}
 use Rattle.wq_core.specs.declared.step.Step.{Step}
 use Rattle.wq_core.specs.declared.step.Step.TheVariants.{Queue, Cancel, Start, Wait, Over, Finish}
@@ -14,14 +14,14 @@ use Rattle.wq_core.specs.State.{Lane, State, lane_at, Runs, HasUnfinishedBelow}
 use Rattle.wq_core.specs.Rules.{MayStart, Lawful}
 use Rattle.wq_core.specs.Runs.{KeepsOrder}
 use Rattle.wq_core.specs.Held.{IsSoundRunning, IsSoundState}
-use Rattle.wq_core.specs.Played.{IsStepOf, CanMove, IsDeclaredStep}
+use Rattle.wq_core.specs.Played.{IsStepOfLane, CanMove, IsDeclaredStep}
 use Rattle.wq_core.proofs.LaneLemmas.{lane_within}
 
 -- ---- steps of a lane
 
 -- what holds of each kind of step of lane q holds of its steps
 by_kind : (q : ℕ) (P : Step → Type 0) → ((i : ℕ) → P (Start q i)) → ((b : ℕ) → P (Wait q b)) → ((b : ℕ) → P (Over q b))
-    → ((i : ℕ) → P (Finish q i)) → (step : Step) → IsStepOf q step → P step
+    → ((i : ℕ) → P (Finish q i)) → (step : Step) → IsStepOfLane q step → P step
 by_kind q P starts waits goes_on finishes (Queue i) is = absurd is
 by_kind q P starts waits goes_on finishes (Cancel i) is = absurd is
 by_kind q P starts waits goes_on finishes (Start p i) is = subst (λ (n : ℕ). P (Start n i)) (sym is) (starts i)
@@ -38,13 +38,13 @@ same_running lane r t runs there = let e : Some r ≡ Some t = sym runs ∙ ther
 idle-runs : (lane : Lane) (r : Running) → lane.running ≡ None → ¬ Runs lane r
 idle-runs lane r idle runs = let e : None ≡ Some r = sym idle ∙ runs in cc
 
-waits-awake : (lane : Lane) (r t : Running) (flush : Flush) → Runs lane r → r.waiting ≡ Some flush → Runs lane t → ¬ t.waiting ≡ None
+waits-awake : (lane : Lane) (r t : Running) (flush : Waiting) → Runs lane r → r.waiting ≡ Some flush → Runs lane t → ¬ t.waiting ≡ None
 waits-awake lane r t flush runs waits there awake =
     let same : t.waiting ≡ r.waiting = ap (λ (x : Running). x.waiting) (same_running lane r t runs there) in
     let e : Some flush ≡ None = sym waits ∙ sym same ∙ awake in
     cc
 
-awake-waits : (lane : Lane) (r t : Running) (flush : Flush) → Runs lane r → r.waiting ≡ None → Runs lane t → ¬ t.waiting ≡ Some flush
+awake-waits : (lane : Lane) (r t : Running) (flush : Waiting) → Runs lane r → r.waiting ≡ None → Runs lane t → ¬ t.waiting ≡ Some flush
 awake-waits lane r t flush runs awake there waits = waits-awake lane t r flush there waits runs awake
 
 module _ (w : Wiring) (s : State) (q : ℕ) where
@@ -52,7 +52,7 @@ module _ (w : Wiring) (s : State) (q : ℕ) where
 
   module _ (idle : (lane_at s q).running ≡ None) where
     -- it can only start its first pending entry
-    starts_only : (step : Step) → IsStepOf q step → Lawful w s step
+    starts_only : (step : Step) → IsStepOfLane q step → Lawful w s step
         → (e : Entry) × (slice_get (lane_at s q).pending 0 ≡ Some e) × (step ≡ Start q e.item)
     starts_only =
         by_kind q (λ (step : Step). Lawful w s step → (e : Entry) × (slice_get (lane_at s q).pending 0 ≡ Some e) × (step ≡ Start q e.item))
@@ -79,15 +79,15 @@ module _ (w : Wiring) (s : State) (q : ℕ) where
 
   module _ (r : Running) (runs : Runs (lane_at s q) r) where
     -- what waits can only go on
-    goes_on_only : (flush : Flush) → r.waiting ≡ Some flush → (step : Step) → IsStepOf q step → Lawful w s step
+    over_only : (flush : Waiting) → r.waiting ≡ Some flush → (step : Step) → IsStepOfLane q step → Lawful w s step
         → (¬ HasUnfinishedBelow s flush.target flush.mark) × (step ≡ Over q flush.target)
-    goes_on_only flush waits =
+    over_only flush waits =
         by_kind q (λ (step : Step). Lawful w s step → (¬ HasUnfinishedBelow s flush.target flush.mark) × (step ≡ Over q flush.target))
         (λ i may. absurd (idle-runs (lane_at s q) r may.idle runs))
         (λ b may. absurd (waits-awake (lane_at s q) r may.0 flush runs waits may.1 may.2.awake)) over
         (λ i may. absurd (waits-awake (lane_at s q) r may.0 flush runs waits may.1 may.2.awake))
       where
-        same_flush : (t : Running) → Runs (lane_at s q) t → (f : Flush) → t.waiting ≡ Some f → f ≡ flush
+        same_flush : (t : Running) → Runs (lane_at s q) t → (f : Waiting) → t.waiting ≡ Some f → f ≡ flush
         same_flush t there f begun =
             let same : t.waiting ≡ r.waiting = ap (λ (x : Running). x.waiting) (same_running (lane_at s q) r t runs there) in
             let e : Some f ≡ Some flush = sym begun ∙ same ∙ waits in
@@ -96,21 +96,21 @@ module _ (w : Wiring) (s : State) (q : ℕ) where
         over : (b : ℕ) → Lawful w s (Over q b) → (¬ HasUnfinishedBelow s flush.target flush.mark) × (Over q b ≡ Over q flush.target)
         over b (t, there, may) =
             let same : may.flush ≡ flush = same_flush t there may.flush may.waits in
-            let target : b ≡ flush.target = sym may.target ∙ ap (λ (f : Flush). f.target) same in
-            let done : ¬ HasUnfinishedBelow s b flush.mark = subst (λ (f : Flush). ¬ HasUnfinishedBelow s b f.mark) same may.done in
+            let target : b ≡ flush.target = sym may.target ∙ ap (λ (f : Waiting). f.target) same in
+            let done : ¬ HasUnfinishedBelow s b flush.mark = subst (λ (f : Waiting). ¬ HasUnfinishedBelow s b f.mark) same may.done in
             (subst (λ (n : ℕ). ¬ HasUnfinishedBelow s n flush.mark) target done, ap (λ (n : ℕ). Over q n) target)
 
-    Lawful-over : (flush : Flush) → r.waiting ≡ Some flush → (¬ HasUnfinishedBelow s flush.target flush.mark) → Lawful w s (Over q flush.target)
+    Lawful-over : (flush : Waiting) → r.waiting ≡ Some flush → (¬ HasUnfinishedBelow s flush.target flush.mark) → Lawful w s (Over q flush.target)
     Lawful-over flush waits done = (r, runs, record { flush = flush; waits = waits; target = refl; done = done })
 
-    pub CanMove-waiting : (flush : Flush) → r.waiting ≡ Some flush → (b : Bool) → IsTrue b ↔ HasUnfinishedBelow s flush.target flush.mark → IsTrue (not b) ↔ CanMove w s q
+    pub CanMove-waiting : (flush : Waiting) → r.waiting ≡ Some flush → (b : Bool) → IsTrue b ↔ HasUnfinishedBelow s flush.target flush.mark → IsTrue (not b) ↔ CanMove w s q
     CanMove-waiting flush waits true left =
-        ((λ t. absurd cc), (λ can. absurd ((goes_on_only flush waits can.0 can.1 can.2).0 (left.0 refl))))
+        ((λ t. absurd cc), (λ can. absurd ((over_only flush waits can.0 can.1 can.2).0 (left.0 refl))))
     CanMove-waiting flush waits false left =
         let done : ¬ HasUnfinishedBelow s flush.target flush.mark = λ some. absurd (let e : false ≡ true = left.1 some in cc) in
         ((λ t. (Over q flush.target, refl, Lawful-over flush waits done)), (λ can. refl))
 
-    pub IsDeclaredStep-over : (flush : Flush) → r.waiting ≡ Some flush → (¬ HasUnfinishedBelow s flush.target flush.mark) → IsDeclaredStep w s q (Over q flush.target)
+    pub IsDeclaredStep-over : (flush : Waiting) → r.waiting ≡ Some flush → (¬ HasUnfinishedBelow s flush.target flush.mark) → IsDeclaredStep w s q (Over q flush.target)
     IsDeclaredStep-over flush waits done = record { of_lane = refl; lawful = Lawful-over flush waits done; in_order = tt }
 
     module _ (awake : r.waiting ≡ None) where
@@ -176,10 +176,10 @@ module _ (w : Wiring) (s : State) (q : ℕ) where
   pub declared_steps_equal : (a b : Step) → IsDeclaredStep w s q a → IsDeclaredStep w s q b → a ≡ b
   declared_steps_equal a b first second = by_running (lane_at s q).running refl
     where
-      by_waiting : (r : Running) → Runs (lane_at s q) r → (o : Option Flush) → r.waiting ≡ o → a ≡ b
+      by_waiting : (r : Running) → Runs (lane_at s q) r → (o : Option Waiting) → r.waiting ≡ o → a ≡ b
       by_waiting r runs None awake = next_only r runs awake a first ∙ sym (next_only r runs awake b second)
       by_waiting r runs (Some flush) waits =
-          (goes_on_only r runs flush waits a first.of_lane first.lawful).1 ∙ sym (goes_on_only r runs flush waits b second.of_lane second.lawful).1
+          (over_only r runs flush waits a first.of_lane first.lawful).1 ∙ sym (over_only r runs flush waits b second.of_lane second.lawful).1
 
       by_running : (o : Option Running) → (lane_at s q).running ≡ o → a ≡ b
       by_running None idle =
@@ -198,10 +198,10 @@ module _ (w : Wiring) (s : State) (q : ℕ) where
       by_next r runs awake None next = (Finish q r.entry.item, IsDeclaredStep-finish r runs awake (sound.running q r runs) next)
       by_next r runs awake (Some t) next = (Wait q t.item, IsDeclaredStep-wait r runs awake t next)
 
-      by_waiting : (r : Running) → Runs (lane_at s q) r → (o : Option Flush) → r.waiting ≡ o → (x : Step) × IsDeclaredStep w s q x
+      by_waiting : (r : Running) → Runs (lane_at s q) r → (o : Option Waiting) → r.waiting ≡ o → (x : Step) × IsDeclaredStep w s q x
       by_waiting r runs None awake = by_next r runs awake (slice_get (declared_by w r.entry.item) r.made) refl
       by_waiting r runs (Some flush) waits =
-          (Over q flush.target, IsDeclaredStep-over r runs flush waits (goes_on_only r runs flush waits step of_lane lawful).0)
+          (Over q flush.target, IsDeclaredStep-over r runs flush waits (over_only r runs flush waits step of_lane lawful).0)
 
       by_running : (o : Option Running) → (lane_at s q).running ≡ o → (x : Step) × IsDeclaredStep w s q x
       by_running None idle = let (e, first, start) = starts_only idle step of_lane lawful in (Start q e.item, IsDeclaredStep-start idle e first)

@@ -5,13 +5,13 @@ use Rattle.std.proofs.lemmas.Bool.{cases_lt}
 use Rattle.std.proofs.lemmas.Option.{slice_get_within}
 use Rattle.wq_items.specs.declared.target.Target.{Target}
 use Rattle.wq_core.specs.declared.entry.Entry.{Entry}
-use Rattle.wq_core.specs.declared.entry.Flush.{Flush}
+use Rattle.wq_core.specs.declared.entry.Waiting.{Waiting}
 use Rattle.wq_core.specs.declared.entry.Running.{Running}
 use Rattle.wq_core.specs.declared.step.Step.{Step}
 use Rattle.wq_core.specs.declared.step.Step.TheVariants.{Queue, Cancel, Start, Wait, Over, Finish}
 use Rattle.wq_core.specs.Wiring.{Wiring, items, lane_of, declared_by}
 use Rattle.wq_core.specs.State.{Lane, State, lane_at, with_lane, Runs, IsUnfinishedOn}
-use Rattle.wq_core.specs.Rules.{MayWait, MayGoOn, MayStart, MayFinish, with_started, with_wait, with_wait_over, with_finished, effect}
+use Rattle.wq_core.specs.Rules.{MayWait, MayBeOver, MayStart, MayFinish, with_started, with_wait, with_over, with_finished, effect}
 use Rattle.wq_core.specs.Played.{IsDeclaredStep}
 use Rattle.wq_core.proofs.LaneLemmas.{cases_with_lane}
 use Rattle.wq_core.proofs.Sound.{same_running}
@@ -37,7 +37,7 @@ unfinished-going_on lane f e keeps (inr (r, runs, same)) = inr (f r, ap (λ (o :
 -- the running entry is in its wait for t, which it began as the one after `place` others, with n or more for a mark
 pub record IsInWait (place : ℕ) (t : Target) (n : ℕ) (r : Running) : Type 0 where
   pub made : r.made ≡ place + 1
-  pub flush : Flush
+  pub flush : Waiting
   pub waits : r.waiting ≡ Some flush
   pub target : flush.target ≡ t.item
   pub mark : n ≤ flush.mark
@@ -100,11 +100,11 @@ module _ (w : Wiring) (n m place : ℕ) (t : Target) (lane : Lane) (held : IsHel
       ]
       going_on item (inr wait) = absurd (let never : None ≡ Some wait.flush = sym may.awake ∙ wait.waits in cc)
 
-  IsHeldUp-wait_over : (r : Running) → Runs lane r → (¬ IsInWait place t n r) → IsHeldUp w n m place t (with_wait_over lane)
-  IsHeldUp-wait_over r runs not_it =
+  IsHeldUp-over : (r : Running) → Runs lane r → (¬ IsInWait place t n r) → IsHeldUp w n m place t (with_over lane)
+  IsHeldUp-over r runs not_it =
       let own = m_runs r runs in
       let goes_on : Running → Running = λ (x : Running). record x { waiting = None } in
-      IsHeldUp-later (with_wait_over lane) (λ e h. unfinished-going_on lane goes_on e (λ x. refl) h)
+      IsHeldUp-later (with_over lane) (λ e h. unfinished-going_on lane goes_on e (λ x. refl) h)
       (inr (goes_on r, ap (λ (o : Option Running). option_map goes_on o) runs, own.0, elim own.1 [ inl le ↦ inl le | inr wait ↦ absurd (not_it wait) ]))
 
   -- it isn't past its wait, so it doesn't finish
@@ -145,14 +145,14 @@ module _ (w : Wiring) (Member : ℕ → ℕ → Target → Type 0) (members : Ar
 
   -- the target of a member's wait is unfinished
   target_left : (s : State) → AreHeldUp w Member s → (m place : ℕ) (t : Target) → Member m place t → (r : Running) → IsInWait place t s.next r
-      → (b : ℕ) → MayGoOn s b r → ⊥
+      → (b : ℕ) → MayBeOver s b r → ⊥
   target_left s held m place t member r wait b may =
       let other = members.among m place t member in
       let left = (held other.0 other.1 other.2 other.3).unfinished t.item (members.below m place t member) other.4 in
       let both : Some wait.flush ≡ Some may.flush = sym wait.waits ∙ may.waits in
       let same : wait.flush ≡ may.flush = cc in
-      let item : left.0.item ≡ b = left.2 ∙ sym wait.target ∙ ap (λ (f : Flush). f.target) same ∙ may.target in
-      let mark : wait.flush.mark ≡ may.flush.mark = ap (λ (f : Flush). f.mark) same in
+      let item : left.0.item ≡ b = left.2 ∙ sym wait.target ∙ ap (λ (f : Waiting). f.target) same ∙ may.target in
+      let mark : wait.flush.mark ≡ may.flush.mark = ap (λ (f : Waiting). f.mark) same in
       let least : s.next ≤ wait.flush.mark = wait.mark in
       let given : left.0.number < s.next = left.3 in
       may.done (record { lane = lane_of w other.0; entry = left.0; unfinished = left.1; of_item = item; below = omega arith })
@@ -173,8 +173,8 @@ module _ (w : Wiring) (Member : ℕ → ℕ → Target → Type 0) (members : Ar
           IsHeldUp-waiting w s.next m place t (lane_at s p) here b r runs may in_turn.0 in_turn.1 in_turn.2 (members.declares m place t member)
           )
   AreHeldUp-effect s q (Over p b) held is =
-      AreHeldUp-with_lane s p (with_wait_over (lane_at s p)) held (λ m place t member here.
-      IsHeldUp-wait_over w s.next m place t (lane_at s p) here is.lawful.0 is.lawful.1 (λ wait. target_left s held m place t member is.lawful.0 wait b is.lawful.2)
+      AreHeldUp-with_lane s p (with_over (lane_at s p)) held (λ m place t member here.
+      IsHeldUp-over w s.next m place t (lane_at s p) here is.lawful.0 is.lawful.1 (λ wait. target_left s held m place t member is.lawful.0 wait b is.lawful.2)
       )
   AreHeldUp-effect s q (Finish p i) held is = finishing is.lawful.0 is.lawful.1 is.lawful.2 is.in_order.0 is.in_order.1 is.in_order.2
     where

@@ -9,7 +9,7 @@ use Rattle.wq_items.specs.Table.{ItemWaits, targets_of}
 use Rattle.wq_items.specs.Chain.{IsChain, Circle}
 use Rattle.wq_items.proofs.Tables.{ItemWaits-below}
 use Rattle.wq_groups.specs.Declaration.{Declaration, IsDeclaration, GroupWaits}
-use Rattle.wq_groups.specs.Assignment.{Assignment, IsAssignment, lane_of as lane_of_group}
+use Rattle.wq_groups.specs.Assignment.{Assignment, IsAssignment, group_lane}
 use Rattle.wq_core.specs.Wiring.{wiring, lane_of}
 use Rattle.wq_core.specs.Deadlock.{IsSafe, Deadlocks, IsLeast}
 use Rattle.wq_core.proofs.CircleKnots.{Deadlocks-circle}
@@ -30,15 +30,15 @@ waits_below waits i j declares = elim (cases_lt i (length waits)) [
 
 module _ (d : Declaration) (a : Assignment) (declaration : IsDeclaration d) (assignment : IsAssignment d.groups a) where
   -- the lane of an item is that of its group
-  lane_of-wiring : (i : ℕ) → i < length d.group_of → lane_of (wiring d a) i ≡ lane_of_group a (get_or d.group_of i 0)
-  lane_of-wiring i lt = get_or-map (lane_of_group a) d.group_of i 0 0 lt
+  lane_of-group_lane : (i : ℕ) → i < length d.group_of → lane_of (wiring d a) i ≡ group_lane a (get_or d.group_of i 0)
+  lane_of-group_lane i lt = get_or-map (group_lane a) d.group_of i 0 0 lt
 
-  falls : ((g h : ℕ) → GroupWaits d g h → lane_of_group a h < lane_of_group a g) → (i j : ℕ) → ItemWaits d.waits i j
+  falls : ((g h : ℕ) → GroupWaits d g h → group_lane a h < group_lane a g) → (i j : ℕ) → ItemWaits d.waits i j
       → lane_of (wiring d a) j < lane_of (wiring d a) i
   falls groups_fall i j declares =
       let source : i < length d.group_of = omega (arith, declaration.one_list_each, waits_below d.waits i j declares) in
       let target : j < length d.group_of = ItemWaits-below (length d.group_of) d.waits declaration.targets_are_items i j declares in
-      let lower : lane_of_group a (get_or d.group_of j 0) < lane_of_group a (get_or d.group_of i 0) =
+      let lower : group_lane a (get_or d.group_of j 0) < group_lane a (get_or d.group_of i 0) =
       groups_fall (get_or d.group_of i 0) (get_or d.group_of j 0) (record {
         item = i;
         target = j;
@@ -46,9 +46,9 @@ module _ (d : Declaration) (a : Assignment) (declaration : IsDeclaration d) (ass
         of_item = slice_get-get_or d.group_of i 0 source;
         of_target = slice_get-get_or d.group_of j 0 target;
       }) in
-      omega (arith, lane_of-wiring i source, lane_of-wiring j target, lower)
+      omega (arith, lane_of-group_lane i source, lane_of-group_lane j target, lower)
 
-  IsSafe-groups : ((g h : ℕ) → GroupWaits d g h → lane_of_group a h < lane_of_group a g) → IsSafe (wiring d a)
+  IsSafe-groups : ((g h : ℕ) → GroupWaits d g h → group_lane a h < group_lane a g) → IsSafe (wiring d a)
   IsSafe-groups groups_fall = IsSafe-falls (wiring d a) (λ q. q) (falls groups_fall)
 
   Deadlocks-groups : Circle (GroupWaits d) → Deadlocks (wiring d a)
@@ -62,7 +62,7 @@ pub Deadlocks-circle_of_groups : (d : Declaration) (a : Assignment) → IsDeclar
 Deadlocks-circle_of_groups d a declaration assignment circle = Deadlocks-groups d a declaration assignment circle
 
 pub IsLeast-chain : (d : Declaration) (a : Assignment) (groups : List ℕ) → IsDeclaration d → IsAssignment d.groups a
-    → ((g h : ℕ) → GroupWaits d g h → lane_of_group a h < lane_of_group a g)
+    → ((g h : ℕ) → GroupWaits d g h → group_lane a h < group_lane a g)
     → IsChain (GroupWaits d) groups → All (λ g. g < d.groups) groups → length groups ≡ a.lanes → IsLeast d a
 IsLeast-chain d a groups declaration assignment groups_fall chain below as_long = record {
   assignment = assignment;

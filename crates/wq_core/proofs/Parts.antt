@@ -6,25 +6,25 @@ use Rattle.std.proofs.lemmas.Bool.{cases_eq, eq-eqb, ne_eqb}
 use Rattle.std.proofs.lemmas.List.{length-set, get_or-set_same, get_or-set_other, get_or_default, length-take, map_more}
 use Rattle.std.proofs.lemmas.List.Sums.{count_by-le-length, count_by_more_yes, count_by_more_no}
 use Rattle.std.proofs.lemmas.Option.{get_or_from_slice_get}
-use Rattle.wq_groups.specs.Assignment.{Assignment, lane_of}
-use Rattle.wq_core.specs.Building.{items_on}
+use Rattle.wq_groups.specs.Assignment.{Assignment, group_lane}
+use Rattle.wq_core.specs.Building.{count_on}
 
 -- the lane of one item more
 pub lanes_more : (a : Assignment) (group_of lanes new : List ℕ) (i g l : ℕ) → i < length group_of → slice_get group_of i ≡ Some g → slice_get a.lane_of_group g ≡ Some l
-    → lanes ≡ map (lane_of a) (take i group_of) → new ≡ lanes ++ (l ∷ []) → new ≡ map (lane_of a) (take (i + 1) group_of)
+    → lanes ≡ map (group_lane a) (take i group_of) → new ≡ lanes ++ (l ∷ []) → new ≡ map (group_lane a) (take (i + 1) group_of)
 lanes_more a group_of lanes new i g l within group lane so_far pushed =
-    let at : lane_of a (get_or group_of i 0) ≡ l = ap (lane_of a) (get_or_from_slice_get group_of i g 0 group) ∙ get_or_from_slice_get a.lane_of_group g l 0 lane in
+    let at : group_lane a (get_or group_of i 0) ≡ l = ap (group_lane a) (get_or_from_slice_get group_of i g 0 group) ∙ get_or_from_slice_get a.lane_of_group g l 0 lane in
     pushed
     ∙ ap (λ (ls : List ℕ). ls ++ (l ∷ [])) so_far
-    ∙ ap (λ (n : ℕ). map (lane_of a) (take i group_of) ++ (n ∷ [])) (sym at)
-    ∙ sym (map_more (lane_of a) group_of i 0 within)
+    ∙ ap (λ (n : ℕ). map (group_lane a) (take i group_of) ++ (n ∷ [])) (sym at)
+    ∙ sym (map_more (group_lane a) group_of i 0 within)
 
 -- ---- how many items stand on each lane
 
 -- the first k items are counted, each on its lane
 pub record Counted (lane_of_item : List ℕ) (lanes k : ℕ) (counts : List ℕ) : Type 0 where
   pub len : length counts ≡ lanes
-  pub each : (q : ℕ) → q < lanes → get_or counts q 0 ≡ items_on (take k lane_of_item) q
+  pub each : (q : ℕ) → q < lanes → get_or counts q 0 ≡ count_on (take k lane_of_item) q
 
 -- item k stands on lane q, which is one of the lanes; so far so many items were counted there
 pub record CountsNext (lane_of_item : List ℕ) (lanes k : ℕ) (counts : List ℕ) (q count : ℕ) : Type 0 where
@@ -40,7 +40,7 @@ CountsNext-read lane_of_item lanes k counts q read count item within same at so_
     record { item = item; lane = lane; within = omega (arith, lane, within k q item); so_far = so_far }
 
 -- what was counted on a lane
-Counted-is : (lane_of_item : List ℕ) (lanes k : ℕ) (counts : List ℕ) (q count : ℕ) → CountsNext lane_of_item lanes k counts q count → Counted lane_of_item lanes k counts → count ≡ items_on (take k lane_of_item) q
+Counted-is : (lane_of_item : List ℕ) (lanes k : ℕ) (counts : List ℕ) (q count : ℕ) → CountsNext lane_of_item lanes k counts q count → Counted lane_of_item lanes k counts → count ≡ count_on (take k lane_of_item) q
 Counted-is lane_of_item lanes k counts q count next counted = next.so_far ∙ get_or_default counts q count 0 (omega (arith, counted.len, next.within)) ∙ counted.each q next.within
 
 -- there are no more of them than items
@@ -59,7 +59,7 @@ Counted-more lane_of_item lanes k counts q count next counted = record {
         ∙ get_or-set_same counts q (count + 1) 0 (omega (arith, counted.len, next.within))
         ∙ ap (λ (n : ℕ). n + 1) (Counted-is lane_of_item lanes k counts q count next counted)
         ∙ sym (count_by_more_yes (λ (l : ℕ). l == q) lane_of_item k q next.item (eq-eqb (get_or lane_of_item k q) q (sym next.lane)))
-        ∙ ap (items_on (take (k + 1) lane_of_item)) (sym same)
+        ∙ ap (count_on (take (k + 1) lane_of_item)) (sym same)
     | inr other ↦
         get_or-set_other counts q p (count + 1) 0 other
         ∙ counted.each p below

@@ -4,15 +4,15 @@ use Rattle.std.specs.Prelude.{IsTrue, ◌||◌, slice_get}
 use Rattle.std.specs.List.{list_any}
 use Rattle.std.proofs.lemmas.Bool.{cases_lt, false≢true}
 use Rattle.wq_core.specs.declared.entry.Entry.{Entry}
-use Rattle.wq_core.specs.declared.entry.Flush.{Flush}
+use Rattle.wq_core.specs.declared.entry.Waiting.{Waiting}
 use Rattle.wq_core.specs.declared.entry.Running.{Running}
 use Rattle.wq_core.specs.declared.step.Step.{Step}
 use Rattle.wq_core.specs.declared.step.Step.TheVariants.{Queue, Cancel, Start, Wait, Over, Finish}
 use Rattle.wq_core.specs.Wiring.{Wiring}
 use Rattle.wq_core.specs.State.{Lane, State, lane_at, Runs, HasUnfinishedBelow}
-use Rattle.wq_core.specs.Rules.{MayStart, MayGoOn, effect}
+use Rattle.wq_core.specs.Rules.{MayStart, MayBeOver, effect}
 use Rattle.wq_core.specs.Held.{LaneHasUnfinishedBelow, IsSoundState, is_below, runs_below}
-use Rattle.wq_core.specs.Played.{IsDeclaredStep, CannotMove, IsPlayedFrom}
+use Rattle.wq_core.specs.Played.{IsDeclaredStep, HasNoDeclaredStep, IsPlayedFrom}
 use Rattle.wq_core.specs.Work.{work_left}
 use Rattle.wq_core.proofs.LaneLemmas.{lane_within, lane_at_past}
 use Rattle.wq_core.proofs.Plays.{IsRescuerStep-of_lane, awake_moves}
@@ -55,49 +55,49 @@ nothing_runs : (lane : Lane) → lane.running ≡ None → (r : Running) → ¬ 
 nothing_runs lane idle r runs = let never : None ≡ Some r = sym idle ∙ runs in cc
 
 -- an idle lane on which nothing is pending makes no step
-CannotMove-idle : (w : Wiring) (s : State) (q : ℕ) → (lane_at s q).running ≡ None → (lane_at s q).pending ≡ [] → CannotMove w s q
-CannotMove-idle w s q idle empty (Queue i) is = is.of_lane
-CannotMove-idle w s q idle empty (Cancel i) is = is.of_lane
-CannotMove-idle w s q idle empty (Start p i) is =
+HasNoDeclaredStep-idle : (w : Wiring) (s : State) (q : ℕ) → (lane_at s q).running ≡ None → (lane_at s q).pending ≡ [] → HasNoDeclaredStep w s q
+HasNoDeclaredStep-idle w s q idle empty (Queue i) is = is.of_lane
+HasNoDeclaredStep-idle w s q idle empty (Cancel i) is = is.of_lane
+HasNoDeclaredStep-idle w s q idle empty (Start p i) is =
     let may : MayStart (lane_at s q) i = subst (λ (k : ℕ). MayStart (lane_at s k) i) is.of_lane is.lawful in
     let never : None ≡ Some may.entry = ap (λ (es : List Entry). slice_get es 0) (sym empty) ∙ may.first in
     cc
-CannotMove-idle w s q idle empty (Wait p b) is = nothing_runs (lane_at s q) idle is.lawful.0 (subst (λ (k : ℕ). Runs (lane_at s k) is.lawful.0) is.of_lane is.lawful.1)
-CannotMove-idle w s q idle empty (Over p b) is = nothing_runs (lane_at s q) idle is.lawful.0 (subst (λ (k : ℕ). Runs (lane_at s k) is.lawful.0) is.of_lane is.lawful.1)
-CannotMove-idle w s q idle empty (Finish p i) is = nothing_runs (lane_at s q) idle is.lawful.0 (subst (λ (k : ℕ). Runs (lane_at s k) is.lawful.0) is.of_lane is.lawful.1)
+HasNoDeclaredStep-idle w s q idle empty (Wait p b) is = nothing_runs (lane_at s q) idle is.lawful.0 (subst (λ (k : ℕ). Runs (lane_at s k) is.lawful.0) is.of_lane is.lawful.1)
+HasNoDeclaredStep-idle w s q idle empty (Over p b) is = nothing_runs (lane_at s q) idle is.lawful.0 (subst (λ (k : ℕ). Runs (lane_at s k) is.lawful.0) is.of_lane is.lawful.1)
+HasNoDeclaredStep-idle w s q idle empty (Finish p i) is = nothing_runs (lane_at s q) idle is.lawful.0 (subst (λ (k : ℕ). Runs (lane_at s k) is.lawful.0) is.of_lane is.lawful.1)
 
 -- nor does one whose entry waits for what is unfinished
-module _ (w : Wiring) (s : State) (q : ℕ) (r : Running) (f : Flush) (runs : Runs (lane_at s q) r) (waits : r.waiting ≡ Some f) (left : HasUnfinishedBelow s f.target f.mark) where
+module _ (w : Wiring) (s : State) (q : ℕ) (r : Running) (f : Waiting) (runs : Runs (lane_at s q) r) (waits : r.waiting ≡ Some f) (left : HasUnfinishedBelow s f.target f.mark) where
   asleep : (x : Running) → Runs (lane_at s q) x → ¬ (x.waiting ≡ None)
   asleep x other awake =
       let same : r ≡ x = same_running (lane_at s q) r x runs other in
       let never : Some f ≡ None = sym waits ∙ ap (λ (y : Running). y.waiting) same ∙ awake in
       cc
 
-  not_over : (b : ℕ) (x : Running) → Runs (lane_at s q) x → ¬ MayGoOn s b x
+  not_over : (b : ℕ) (x : Running) → Runs (lane_at s q) x → ¬ MayBeOver s b x
   not_over b x other may =
       let same : r ≡ x = same_running (lane_at s q) r x runs other in
       let both : Some f ≡ Some may.flush = sym waits ∙ ap (λ (y : Running). y.waiting) same ∙ may.waits in
       let flush : f ≡ may.flush = cc in
-      let there : HasUnfinishedBelow s may.flush.target may.flush.mark = subst (λ (g : Flush). HasUnfinishedBelow s g.target g.mark) flush left in
+      let there : HasUnfinishedBelow s may.flush.target may.flush.mark = subst (λ (g : Waiting). HasUnfinishedBelow s g.target g.mark) flush left in
       may.done (subst (λ (i : ℕ). HasUnfinishedBelow s i may.flush.mark) may.target there)
 
-  CannotMove-waiting : CannotMove w s q
-  CannotMove-waiting (Queue i) is = is.of_lane
-  CannotMove-waiting (Cancel i) is = is.of_lane
-  CannotMove-waiting (Start p i) is =
+  HasNoDeclaredStep-waiting : HasNoDeclaredStep w s q
+  HasNoDeclaredStep-waiting (Queue i) is = is.of_lane
+  HasNoDeclaredStep-waiting (Cancel i) is = is.of_lane
+  HasNoDeclaredStep-waiting (Start p i) is =
       let may : MayStart (lane_at s q) i = subst (λ (k : ℕ). MayStart (lane_at s k) i) is.of_lane is.lawful in
       nothing_runs (lane_at s q) may.idle r runs
-  CannotMove-waiting (Wait p b) is = asleep is.lawful.0 (subst (λ (k : ℕ). Runs (lane_at s k) is.lawful.0) is.of_lane is.lawful.1) is.lawful.2.awake
-  CannotMove-waiting (Over p b) is = not_over b is.lawful.0 (subst (λ (k : ℕ). Runs (lane_at s k) is.lawful.0) is.of_lane is.lawful.1) is.lawful.2
-  CannotMove-waiting (Finish p i) is = asleep is.lawful.0 (subst (λ (k : ℕ). Runs (lane_at s k) is.lawful.0) is.of_lane is.lawful.1) is.lawful.2.awake
+  HasNoDeclaredStep-waiting (Wait p b) is = asleep is.lawful.0 (subst (λ (k : ℕ). Runs (lane_at s k) is.lawful.0) is.of_lane is.lawful.1) is.lawful.2.awake
+  HasNoDeclaredStep-waiting (Over p b) is = not_over b is.lawful.0 (subst (λ (k : ℕ). Runs (lane_at s k) is.lawful.0) is.of_lane is.lawful.1) is.lawful.2
+  HasNoDeclaredStep-waiting (Finish p i) is = asleep is.lawful.0 (subst (λ (k : ℕ). Runs (lane_at s k) is.lawful.0) is.of_lane is.lawful.1) is.lawful.2.awake
 
 -- a lane makes a step as declared, or it can't
-cases_move : (w : Wiring) (s : State) (q : ℕ) → IsSoundState w s → ((step : Step) × IsDeclaredStep w s q step) ⊎ CannotMove w s q
+cases_move : (w : Wiring) (s : State) (q : ℕ) → IsSoundState w s → ((step : Step) × IsDeclaredStep w s q step) ⊎ HasNoDeclaredStep w s q
 cases_move w s q sound = by_running (lane_at s q).running refl
   where
-    by_pending : (lane_at s q).running ≡ None → (es : List Entry) → (lane_at s q).pending ≡ es → ((step : Step) × IsDeclaredStep w s q step) ⊎ CannotMove w s q
-    by_pending idle [] is = inr (CannotMove-idle w s q idle is)
+    by_pending : (lane_at s q).running ≡ None → (es : List Entry) → (lane_at s q).pending ≡ es → ((step : Step) × IsDeclaredStep w s q step) ⊎ HasNoDeclaredStep w s q
+    by_pending idle [] is = inr (HasNoDeclaredStep-idle w s q idle is)
     by_pending idle (e ∷ es) is =
         inl (
           Start q e.item,
@@ -108,10 +108,10 @@ cases_move w s q sound = by_running (lane_at s q).running refl
           },
         )
 
-    by_waiting : (r : Running) → Runs (lane_at s q) r → (o : Option Flush) → r.waiting ≡ o → ((step : Step) × IsDeclaredStep w s q step) ⊎ CannotMove w s q
+    by_waiting : (r : Running) → Runs (lane_at s q) r → (o : Option Waiting) → r.waiting ≡ o → ((step : Step) × IsDeclaredStep w s q step) ⊎ HasNoDeclaredStep w s q
     by_waiting r runs None waits = inl (awake_moves w s q r sound runs waits)
     by_waiting r runs (Some f) waits = elim (cases_below s f.target f.mark) [
-      | inl left ↦ inr (CannotMove-waiting w s q r f runs waits left)
+      | inl left ↦ inr (HasNoDeclaredStep-waiting w s q r f runs waits left)
       | inr done ↦ inl (
         Over q f.target,
         record {
@@ -122,7 +122,7 @@ cases_move w s q sound = by_running (lane_at s q).running refl
       )
     ]
 
-    by_running : (o : Option Running) → (lane_at s q).running ≡ o → ((step : Step) × IsDeclaredStep w s q step) ⊎ CannotMove w s q
+    by_running : (o : Option Running) → (lane_at s q).running ≡ o → ((step : Step) × IsDeclaredStep w s q step) ⊎ HasNoDeclaredStep w s q
     by_running None idle = by_pending idle (lane_at s q).pending refl
     by_running (Some r) runs = by_waiting r runs r.waiting refl
 
@@ -130,9 +130,9 @@ cases_move w s q sound = by_running (lane_at s q).running refl
 
 -- the step of the lowest lane that can make one
 abbrev LowestMove : Wiring → State → Step → Type 0
-LowestMove w s step = (q : ℕ) × IsDeclaredStep w s q step × ((p : ℕ) → p < q → CannotMove w s p)
+LowestMove w s step = (q : ℕ) × IsDeclaredStep w s q step × ((p : ℕ) → p < q → HasNoDeclaredStep w s p)
 
-cases_lowest : (w : Wiring) (s : State) (n : ℕ) → IsSoundState w s → ((step : Step) × LowestMove w s step) ⊎ ((p : ℕ) → p < n → CannotMove w s p)
+cases_lowest : (w : Wiring) (s : State) (n : ℕ) → IsSoundState w s → ((step : Step) × LowestMove w s step) ⊎ ((p : ℕ) → p < n → HasNoDeclaredStep w s p)
 cases_lowest w s zero sound = inr (λ p lt. absurd (omega arith))
 cases_lowest w s (suc n) sound = elim (cases_lowest w s n sound) [
   | inl lower ↦ inl lower
@@ -140,17 +140,17 @@ cases_lowest w s (suc n) sound = elim (cases_lowest w s n sound) [
     | inl move ↦ inl (move.0, (n, move.1, none))
     | inr still ↦ inr (λ p lt. elim (cases_lt p n) [
       | inl before ↦ none p before
-      | inr past ↦ (let same : n ≡ p = omega arith in subst (λ (k : ℕ). CannotMove w s k) same still)
+      | inr past ↦ (let same : n ≡ p = omega arith in subst (λ (k : ℕ). HasNoDeclaredStep w s k) same still)
     ])
   ]
 ]
 
-none_moves : (w : Wiring) (s : State) → ((p : ℕ) → p < length s.lanes → CannotMove w s p) → (q : ℕ) → CannotMove w s q
+none_moves : (w : Wiring) (s : State) → ((p : ℕ) → p < length s.lanes → HasNoDeclaredStep w s p) → (q : ℕ) → HasNoDeclaredStep w s q
 none_moves w s none q = elim (cases_lt q (length s.lanes)) [
   | inl within ↦ none q within
   | inr past ↦ (
       let idle = lane_at_past s q past in
-      CannotMove-idle w s q (ap (λ (l : Lane). l.running) idle) (ap (λ (l : Lane). l.pending) idle)
+      HasNoDeclaredStep-idle w s q (ap (λ (l : Lane). l.running) idle) (ap (λ (l : Lane). l.pending) idle)
       )
 ]
 

@@ -14,7 +14,7 @@ use Rattle.wq_core.specs.State.{State, lane_at, Runs}
 use Rattle.wq_core.specs.Rules.{Lawful, effect}
 use Rattle.wq_core.specs.Runs.{after, IsRunFrom, IsRescuerStep, AsDeclaredFrom, IsCancel, queues}
 use Rattle.wq_core.specs.Held.{IsSoundState}
-use Rattle.wq_core.specs.Played.{IsStepOf, IsDeclaredStep, CannotMove, IsPlayedFrom}
+use Rattle.wq_core.specs.Played.{IsStepOfLane, IsDeclaredStep, HasNoDeclaredStep, IsPlayedFrom}
 use Rattle.wq_core.proofs.Queued.{one_if}
 
 -- ---- one run after another
@@ -43,7 +43,7 @@ no_cancel-queued (i ∷ is) = All-cons (λ (step : Step). ¬ IsCancel step) (Que
 
 -- ---- steps of a lane
 
-pub IsRescuerStep-of_lane : (q : ℕ) (step : Step) → IsStepOf q step → IsRescuerStep step
+pub IsRescuerStep-of_lane : (q : ℕ) (step : Step) → IsStepOfLane q step → IsRescuerStep step
 IsRescuerStep-of_lane q (Queue i) is = is
 IsRescuerStep-of_lane q (Cancel i) is = is
 IsRescuerStep-of_lane q (Start p i) is = tt
@@ -51,7 +51,7 @@ IsRescuerStep-of_lane q (Wait p b) is = tt
 IsRescuerStep-of_lane q (Over p b) is = tt
 IsRescuerStep-of_lane q (Finish p i) is = tt
 
-no_cancel-of_lane : (q : ℕ) (step : Step) → IsStepOf q step → ¬ IsCancel step
+no_cancel-of_lane : (q : ℕ) (step : Step) → IsStepOfLane q step → ¬ IsCancel step
 no_cancel-of_lane q (Queue i) is cancel = cancel
 no_cancel-of_lane q (Cancel i) is cancel = is
 no_cancel-of_lane q (Start p i) is cancel = cancel
@@ -59,7 +59,7 @@ no_cancel-of_lane q (Wait p b) is cancel = cancel
 no_cancel-of_lane q (Over p b) is cancel = cancel
 no_cancel-of_lane q (Finish p i) is cancel = cancel
 
-queues-of_lane : (i q : ℕ) (step : Step) → IsStepOf q step → one_if (queues i step) ≡ 0
+queues-of_lane : (i q : ℕ) (step : Step) → IsStepOfLane q step → one_if (queues i step) ≡ 0
 queues-of_lane i q (Queue j) is = absurd is
 queues-of_lane i q (Cancel j) is = absurd is
 queues-of_lane i q (Start p j) is = refl
@@ -90,9 +90,9 @@ count_by-queues_played w s (step ∷ steps) i played =
     let rest : count_by (λ (x : Step). queues i x) steps ≡ 0 = count_by-queues_played w (effect w s step) steps i played.1 in
     omega (arith, all, first, rest)
 
-pub CannotMove-played : (w : Wiring) (s : State) (steps : List Step) → IsPlayedFrom w s steps → (q : ℕ) → CannotMove w (after w s steps) q
-CannotMove-played w s [] played = played
-CannotMove-played w s (step ∷ steps) played = CannotMove-played w (effect w s step) steps played.1
+pub HasNoDeclaredStep-played : (w : Wiring) (s : State) (steps : List Step) → IsPlayedFrom w s steps → (q : ℕ) → HasNoDeclaredStep w (after w s steps) q
+HasNoDeclaredStep-played w s [] played = played
+HasNoDeclaredStep-played w s (step ∷ steps) played = HasNoDeclaredStep-played w (effect w s step) steps played.1
 
 -- ---- where a rescuer can move, its lane can move as declared
 
@@ -132,4 +132,4 @@ pub no_step-played : (w : Wiring) (s : State) (steps : List Step) → IsPlayedFr
     → (step : Step) → IsRescuerStep step → ¬ Lawful w (after w s steps) step
 no_step-played w s steps played sound step is lawful =
     let move = moves_as_declared w (after w s steps) step sound is lawful in
-    CannotMove-played w s steps played move.0 move.1 move.2
+    HasNoDeclaredStep-played w s steps played move.0 move.1 move.2

@@ -3,7 +3,7 @@ use Rattle.std.proofs.Common.{◌≡◌, ℕ, zero, suc, ◌+◌, ◌<◌, inl, 
 use Rattle.std.specs.Prelude.{Contains, slice_get}
 use Rattle.wq_items.specs.Table.{ItemWaits}
 use Rattle.wq_core.specs.declared.entry.Entry.{Entry}
-use Rattle.wq_core.specs.declared.entry.Flush.{Flush}
+use Rattle.wq_core.specs.declared.entry.Waiting.{Waiting}
 use Rattle.wq_core.specs.declared.entry.Running.{Running}
 use Rattle.wq_core.specs.declared.step.Step.{Step}
 use Rattle.wq_core.specs.declared.step.Step.TheVariants.{Start, Over, Finish}
@@ -37,7 +37,7 @@ abbrev NoneBelow : State → (ℕ → ℕ) → ℕ → Type 0
 NoneBelow s number n = (p : ℕ) → number p < n → (e : Entry) → ¬ IsUnfinishedOn (lane_at s p) e
 
 -- what a lane's context waits for is over, where nothing is unfinished on lanes with lower numbers
-wait_is_over : (w : Wiring) (s : State) (number : ℕ → ℕ) (q : ℕ) (r : Running) (flush : Flush) → Falls w number
+wait_is_over : (w : Wiring) (s : State) (number : ℕ → ℕ) (q : ℕ) (r : Running) (flush : Waiting) → Falls w number
     → IsSoundState w s → NoneBelow s number (number q) → Runs (lane_at s q) r → r.waiting ≡ Some flush
     → ¬ HasUnfinishedBelow s flush.target flush.mark
 wait_is_over w s number q r flush falls sound none runs waits below =
@@ -54,7 +54,7 @@ none_on : (w : Wiring) (s : State) (number : ℕ → ℕ) (q : ℕ) → Falls w 
     → NoneBelow s number (number q) → (e : Entry) → ¬ IsUnfinishedOn (lane_at s q) e
 none_on w s number q falls sound no_step none e unfinished = by_running (lane_at s q).running refl
   where
-    by_waiting : (r : Running) → Runs (lane_at s q) r → (o : Option Flush) → r.waiting ≡ o → ⊥
+    by_waiting : (r : Running) → Runs (lane_at s q) r → (o : Option Waiting) → r.waiting ≡ o → ⊥
     by_waiting r runs None waits = no_step (Finish q r.entry.item) tt (r, runs, record { entry = refl; awake = waits })
     by_waiting r runs (Some flush) waits =
         let done = wait_is_over w s number q r flush falls sound none runs waits in

@@ -6,13 +6,13 @@ use Rattle.std.proofs.lemmas.List.Elements.{Contains-get_or, Contains-push_cases
 use Rattle.std.proofs.lemmas.List.Quantifiers.{all_pairs_push}
 use Rattle.wq_items.specs.Table.{ItemWaits}
 use Rattle.wq_core.specs.declared.entry.Entry.{Entry}
-use Rattle.wq_core.specs.declared.entry.Flush.{Flush}
+use Rattle.wq_core.specs.declared.entry.Waiting.{Waiting}
 use Rattle.wq_core.specs.declared.entry.Running.{Running}
 use Rattle.wq_core.specs.declared.step.Step.{Step}
 use Rattle.wq_core.specs.declared.step.Step.TheVariants.{Queue, Cancel, Start, Wait, Over, Finish}
 use Rattle.wq_core.specs.Wiring.{Wiring, items, lane_of, declared_by}
 use Rattle.wq_core.specs.State.{Lane, State, idle_lane, lane_at, with_lane, empty_state, Runs, IsUnfinishedOn, HasPending, IsPendingOn}
-use Rattle.wq_core.specs.Rules.{MayWait, MayStart, Lawful, with_queued, with_cancelled, with_started, with_wait, with_wait_over, with_finished, effect}
+use Rattle.wq_core.specs.Rules.{MayWait, MayStart, Lawful, with_queued, with_cancelled, with_started, with_wait, with_over, with_finished, effect}
 use Rattle.wq_core.specs.Runs.{after, IsRunFrom, IsRun, end_of}
 use Rattle.wq_core.specs.Held.{IsSoundRunning, IsSoundState}
 use Rattle.wq_core.proofs.LaneLemmas.{cases_with_lane, lane_at-empty_state, idle_lane-unfinished, Contains-filter, Contains-tail, AllPairs-nil, AllPairs-tail, AllPairs-filter}
@@ -189,9 +189,9 @@ IsSoundRunning-wait : (w : Wiring) (b mark : ℕ) (r : Running) → MayWait w b 
 IsSoundRunning-wait w b mark r may = record {
   made = let fewer : r.made < length (declared_by w r.entry.item) = may.fewer in omega arith;
   waits = λ f is.
-      let flush : Flush = record { target = b; mark = mark } in
+      let flush : Waiting = record { target = b; mark = mark } in
       let at : flush ≡ f = cc in
-      (omega arith, subst (λ (g : Flush). ItemWaits w.waits r.entry.item g.target) at may.declared);
+      (omega arith, subst (λ (g : Waiting). ItemWaits w.waits r.entry.item g.target) at may.declared);
 }
 
 IsSoundRunning-over : (w : Wiring) (r : Running) → IsSoundRunning w r → IsSoundRunning w (record r { waiting = None })
@@ -200,15 +200,15 @@ IsSoundRunning-over w r sound = record { made = sound.made; waits = λ f is. abs
 IsSoundLane-waiting : (w : Wiring) (next q b mark : ℕ) (lane : Lane) (r : Running) → Runs lane r → MayWait w b r
     → IsSoundLane w next q lane → IsSoundLane w next q (with_wait b mark lane)
 IsSoundLane-waiting w next q b mark lane r runs may sound =
-    let flush : Flush = record { target = b; mark = mark } in
+    let flush : Waiting = record { target = b; mark = mark } in
     let begins : Running → Running = λ (x : Running). record x { made = x.made + 1; waiting = Some flush } in
     IsSoundLane-going_on w next q lane begins (λ x. refl) (λ x other.
     IsSoundRunning-wait w b mark x (subst (MayWait w b) (same_running lane r x runs other) may)
     ) sound
 
-IsSoundLane-wait_over : (w : Wiring) (next q : ℕ) (lane : Lane) → IsSoundLane w next q lane
-    → IsSoundLane w next q (with_wait_over lane)
-IsSoundLane-wait_over w next q lane sound =
+IsSoundLane-over : (w : Wiring) (next q : ℕ) (lane : Lane) → IsSoundLane w next q lane
+    → IsSoundLane w next q (with_over lane)
+IsSoundLane-over w next q lane sound =
     let goes_on : Running → Running = λ (x : Running). record x { waiting = None } in
     IsSoundLane-going_on w next q lane goes_on (λ x. refl) (λ x runs.
     IsSoundRunning-over w x (sound.running x runs)
@@ -243,7 +243,7 @@ IsSoundState-effect w s (Wait q b) sound (r, runs, may) =
     IsSoundState-with_lane_now w s q (with_wait b s.next lane) sound keeps
 IsSoundState-effect w s (Over q b) sound lawful =
     let lane : Lane = lane_at s q in
-    IsSoundState-with_lane_now w s q (with_wait_over lane) sound (IsSoundLane-wait_over w s.next q lane)
+    IsSoundState-with_lane_now w s q (with_over lane) sound (IsSoundLane-over w s.next q lane)
 IsSoundState-effect w s (Finish q i) sound lawful =
     let lane : Lane = lane_at s q in
     IsSoundState-with_lane_now w s q (with_finished lane) sound (IsSoundLane-finished w s.next q lane)

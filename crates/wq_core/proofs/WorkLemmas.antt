@@ -8,13 +8,13 @@ use Rattle.std.proofs.lemmas.List.Elements.{All-head, All-tail}
 use Rattle.std.proofs.lemmas.List.Filters.{sum_by-filter_both}
 use Rattle.std.proofs.lemmas.List.Sums.{sum_by-cons, sum_by-set}
 use Rattle.wq_core.specs.declared.entry.Entry.{Entry}
-use Rattle.wq_core.specs.declared.entry.Flush.{Flush}
+use Rattle.wq_core.specs.declared.entry.Waiting.{Waiting}
 use Rattle.wq_core.specs.declared.entry.Running.{Running}
 use Rattle.wq_core.specs.declared.step.Step.{Step}
 use Rattle.wq_core.specs.declared.step.Step.TheVariants.{Queue, Cancel, Start, Wait, Over, Finish}
 use Rattle.wq_core.specs.Wiring.{Wiring, lane_of, declared_by}
 use Rattle.wq_core.specs.State.{Lane, State, idle_lane, lane_at, with_lane, Runs}
-use Rattle.wq_core.specs.Rules.{MayWait, MayStart, Lawful, with_cancelled, with_started, with_wait, with_wait_over, with_finished, effect}
+use Rattle.wq_core.specs.Rules.{MayWait, MayStart, Lawful, with_cancelled, with_started, with_wait, with_over, with_finished, effect}
 use Rattle.wq_core.specs.Runs.{IsRunFrom, IsRun, end_of, IsRescuerStep, IsCancel}
 use Rattle.wq_core.specs.Work.{whole_work, waits_over, running_work, lane_work, work_left, is_rescuer_step}
 use Rattle.wq_core.specs.Held.{IsSoundRunning, IsSoundState}
@@ -51,18 +51,18 @@ lane_work-waiting w b mark lane r runs may =
     let begins : Running → Running =
     λ (x : Running). record x { made = x.made + 1; waiting = Some (record { target = b; mark = mark }) } in
     let before : running_work w lane.running ≡ whole_work w r.entry.item - (1 + r.made + r.made) =
-    ap (running_work w) runs ∙ ap (λ (o : Option Flush). whole_work w r.entry.item - (1 + r.made + waits_over r.made o)) may.awake in
+    ap (running_work w) runs ∙ ap (λ (o : Option Waiting). whole_work w r.entry.item - (1 + r.made + waits_over r.made o)) may.awake in
     let new : running_work w (option_map begins lane.running) ≡ whole_work w r.entry.item - (1 + (r.made + 1) + ((r.made + 1) - 1)) =
     ap (λ (o : Option Running). running_work w (option_map begins o)) runs in
     let fewer : r.made < length (declared_by w r.entry.item) = may.fewer in
     omega (arith, before, new, fewer)
 
-lane_work-wait_over : (w : Wiring) (lane : Lane) (r : Running) (flush : Flush) → Runs lane r → r.waiting ≡ Some flush
-    → IsSoundRunning w r → lane_work w (with_wait_over lane) < lane_work w lane
-lane_work-wait_over w lane r flush runs waits sound =
+lane_work-over : (w : Wiring) (lane : Lane) (r : Running) (flush : Waiting) → Runs lane r → r.waiting ≡ Some flush
+    → IsSoundRunning w r → lane_work w (with_over lane) < lane_work w lane
+lane_work-over w lane r flush runs waits sound =
     let goes_on : Running → Running = λ (x : Running). record x { waiting = None } in
     let before : running_work w lane.running ≡ whole_work w r.entry.item - (1 + r.made + (r.made - 1)) =
-    ap (running_work w) runs ∙ ap (λ (o : Option Flush). whole_work w r.entry.item - (1 + r.made + waits_over r.made o)) waits in
+    ap (running_work w) runs ∙ ap (λ (o : Option Waiting). whole_work w r.entry.item - (1 + r.made + waits_over r.made o)) waits in
     let new : running_work w (option_map goes_on lane.running) ≡ whole_work w r.entry.item - (1 + r.made + r.made) =
     ap (λ (o : Option Running). running_work w (option_map goes_on o)) runs in
     let made : r.made ≤ length (declared_by w r.entry.item) = sound.made in
@@ -73,7 +73,7 @@ lane_work-finished : (w : Wiring) (lane : Lane) (r : Running) → Runs lane r �
     → lane_work w (with_finished lane) < lane_work w lane
 lane_work-finished w lane r runs awake sound =
     let before : running_work w lane.running ≡ whole_work w r.entry.item - (1 + r.made + r.made) =
-    ap (running_work w) runs ∙ ap (λ (o : Option Flush). whole_work w r.entry.item - (1 + r.made + waits_over r.made o)) awake in
+    ap (running_work w) runs ∙ ap (λ (o : Option Waiting). whole_work w r.entry.item - (1 + r.made + waits_over r.made o)) awake in
     let made : r.made ≤ length (declared_by w r.entry.item) = sound.made in
     omega (arith, before, made)
 
@@ -120,8 +120,8 @@ work_left-rescuer w s (Wait q b) sound (r, runs, may) is =
     work_left-less w s q (with_wait b s.next lane) (runs_within s q r runs) (lane_work-waiting w b s.next lane r runs may)
 work_left-rescuer w s (Over q b) sound (r, runs, may) is =
     let lane : Lane = lane_at s q in
-    let less = lane_work-wait_over w lane r may.flush runs may.waits (sound.running q r runs) in
-    work_left-less w s q (with_wait_over lane) (runs_within s q r runs) less
+    let less = lane_work-over w lane r may.flush runs may.waits (sound.running q r runs) in
+    work_left-less w s q (with_over lane) (runs_within s q r runs) less
 work_left-rescuer w s (Finish q i) sound (r, runs, may) is =
     let lane : Lane = lane_at s q in
     let less = lane_work-finished w lane r runs may.awake (sound.running q r runs) in

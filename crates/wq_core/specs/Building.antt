@@ -12,8 +12,8 @@ abbrev pub idle_with_room : ℕ → HeldLane
 idle_with_room room = record { lane = idle_lane; room = room }
 
 -- how many items stand on lane q
-abbrev pub items_on : List ℕ → ℕ → ℕ
-items_on lane_of_item q = count_by (λ l. l == q) lane_of_item
+abbrev pub count_on : List ℕ → ℕ → ℕ
+count_on lane_of_item q = count_by (λ l. l == q) lane_of_item
 
 -- the machine of a declaration and an assignment, before anything is queued
 abbrev pub first_machine : Declaration → Assignment → Machine

@@ -4,7 +4,7 @@ use Rattle.std.specs.List.{count_by}
 use Rattle.wq_items.specs.declared.target.Target.{Target}
 use Rattle.wq_items.specs.Table.{ItemWaits, flush_count}
 use Rattle.wq_core.specs.declared.entry.Entry.{Entry}
-use Rattle.wq_core.specs.declared.entry.Flush.{Flush}
+use Rattle.wq_core.specs.declared.entry.Waiting.{Waiting}
 use Rattle.wq_core.specs.declared.entry.Running.{Running}
 use Rattle.wq_core.specs.declared.step.Step.{Step}
 use Rattle.wq_core.specs.declared.step.Step.TheVariants.{Queue, Cancel, Start, Wait, Over, Finish}
@@ -45,7 +45,7 @@ pub record Machine : Type 0 where
 -- least, and its item declares a flush of what it waits for
 pub record IsSoundRunning (w : Wiring) (r : Running) : Type 0 where
   pub made : r.made ≤ length (declared_by w r.entry.item)
-  pub waits : (f : Flush) → r.waiting ≡ Some f → (0 < r.made) × ItemWaits w.waits r.entry.item f.target
+  pub waits : (f : Waiting) → r.waiting ≡ Some f → (0 < r.made) × ItemWaits w.waits r.entry.item f.target
 
 -- what holds of every state that a run leaves: there are the wiring's lanes; each entry is of an item that exists, stands on
 -- that item's lane, and has a number that was given; a lane has at most one pending entry of an item; and what runs is sound

@@ -9,33 +9,33 @@ use Rattle.wq_core.specs.Rules.{Lawful, effect}
 use Rattle.wq_core.specs.Runs.{KeepsOrder}
 
 -- the step is one of lane q's rescuer
-abbrev pub IsStepOf : ℕ → Step → Type 0
-IsStepOf q (Queue i) = ⊥
-IsStepOf q (Cancel i) = ⊥
-IsStepOf q (Start p i) = p ≡ q
-IsStepOf q (Wait p b) = p ≡ q
-IsStepOf q (Over p b) = p ≡ q
-IsStepOf q (Finish p i) = p ≡ q
+abbrev pub IsStepOfLane : ℕ → Step → Type 0
+IsStepOfLane q (Queue i) = ⊥
+IsStepOfLane q (Cancel i) = ⊥
+IsStepOfLane q (Start p i) = p ≡ q
+IsStepOfLane q (Wait p b) = p ≡ q
+IsStepOfLane q (Over p b) = p ≡ q
+IsStepOfLane q (Finish p i) = p ≡ q
 
 -- lane q can make a step
 abbrev pub CanMove : Wiring → State → ℕ → Type 0
-CanMove w s q = (step : Step) × IsStepOf q step × Lawful w s step
+CanMove w s q = (step : Step) × IsStepOfLane q step × Lawful w s step
 
 -- the step that lane q can make when its executions flush as declared
 pub record IsDeclaredStep (w : Wiring) (s : State) (q : ℕ) (step : Step) : Type 0 where
-  pub of_lane : IsStepOf q step
+  pub of_lane : IsStepOfLane q step
   pub lawful : Lawful w s step
   pub in_order : KeepsOrder w s step
 
 -- lane q can make none of these
-abbrev pub CannotMove : Wiring → State → ℕ → Type 0
-CannotMove w s q = (step : Step) → ¬ IsDeclaredStep w s q step
+abbrev pub HasNoDeclaredStep : Wiring → State → ℕ → Type 0
+HasNoDeclaredStep w s q = (step : Step) → ¬ IsDeclaredStep w s q step
 
 -- each step is that of the lowest lane that can make one, and at the end no lane can
 abbrev pub IsPlayedFrom : Wiring → State → List Step → Type 0
-IsPlayedFrom w s [] = (q : ℕ) → CannotMove w s q
+IsPlayedFrom w s [] = (q : ℕ) → HasNoDeclaredStep w s q
 IsPlayedFrom w s (step ∷ steps) =
-    ((q : ℕ) × IsDeclaredStep w s q step × ((p : ℕ) → p < q → CannotMove w s p)) × IsPlayedFrom w (effect w s step) steps
+    ((q : ℕ) × IsDeclaredStep w s q step × ((p : ℕ) → p < q → HasNoDeclaredStep w s p)) × IsPlayedFrom w (effect w s step) steps
 
 -- queueings of these items first, in their order, and then of all others, in declaration order
 abbrev pub queue_order : Wiring → List ℕ → List Step

@@ -2,7 +2,7 @@
 use Rattle.std.specs.Prelude.{◌≡◌, ℕ, ◌+◌, ◌<◌, ◌==◌, not, [], ◌∷◌, ◌++◌, length, filter, drop, slice_get, Some, None, option_map}
 use Rattle.wq_items.specs.Table.{ItemWaits}
 use Rattle.wq_core.specs.declared.entry.Entry.{Entry}
-use Rattle.wq_core.specs.declared.entry.Flush.{Flush}
+use Rattle.wq_core.specs.declared.entry.Waiting.{Waiting}
 use Rattle.wq_core.specs.declared.entry.Running.{Running}
 use Rattle.wq_core.specs.declared.step.Step.{Step}
 use Rattle.wq_core.specs.declared.step.Step.TheVariants.{Queue, Cancel, Start, Wait, Over, Finish}
@@ -19,8 +19,8 @@ pub record MayWait (w : Wiring) (b : ℕ) (r : Running) : Type 0 where
   pub fewer : r.made < length (declared_by w r.entry.item)
 
 -- its wait for item b is over: no unfinished entry of b has a number below the mark
-pub record MayGoOn (s : State) (b : ℕ) (r : Running) : Type 0 where
-  pub flush : Flush
+pub record MayBeOver (s : State) (b : ℕ) (r : Running) : Type 0 where
+  pub flush : Waiting
   pub waits : r.waiting ≡ Some flush
   pub target : flush.target ≡ b
   pub done : ¬ HasUnfinishedBelow s b flush.mark
@@ -47,7 +47,7 @@ Lawful w s (Queue i) = (i < items w) × (¬ HasPending s i)
 Lawful w s (Cancel i) = HasPending s i
 Lawful w s (Start q i) = MayStart (lane_at s q) i
 Lawful w s (Wait q b) = (r : Running) × Runs (lane_at s q) r × MayWait w b r
-Lawful w s (Over q b) = (r : Running) × Runs (lane_at s q) r × MayGoOn s b r
+Lawful w s (Over q b) = (r : Running) × Runs (lane_at s q) r × MayBeOver s b r
 Lawful w s (Finish q i) = (r : Running) × Runs (lane_at s q) r × MayFinish i r
 
 -- ---- what a step does
@@ -74,8 +74,8 @@ with_wait b mark lane = record lane {
 }
 
 -- what runs no longer waits
-abbrev pub with_wait_over : Lane → Lane
-with_wait_over lane = record lane { running = option_map (λ (r : Running). record r { waiting = None }) lane.running }
+abbrev pub with_over : Lane → Lane
+with_over lane = record lane { running = option_map (λ (r : Running). record r { waiting = None }) lane.running }
 
 -- nothing runs
 abbrev pub with_finished : Lane → Lane
@@ -89,7 +89,7 @@ effect w s (Queue i) =
 effect w s (Cancel i) = let q = lane_of w i in with_lane s q (with_cancelled i (lane_at s q))
 effect w s (Start q i) = with_lane s q (with_started (lane_at s q))
 effect w s (Wait q b) = with_lane s q (with_wait b s.next (lane_at s q))
-effect w s (Over q b) = with_lane s q (with_wait_over (lane_at s q))
+effect w s (Over q b) = with_lane s q (with_over (lane_at s q))
 effect w s (Finish q i) = with_lane s q (with_finished (lane_at s q))
 
 -- ---- which number a step gives
@@ -100,5 +100,5 @@ Gives s (Queue i) n = n ≡ s.next
 Gives s (Cancel i) n = (h : HasPending s i) × (h.entry.number ≡ n)
 Gives s (Start q i) n = (e : Entry) × (slice_get (lane_at s q).pending 0 ≡ Some e) × (e.number ≡ n)
 Gives s (Wait q b) n = n ≡ s.next
-Gives s (Over q b) n = (r : Running) × Runs (lane_at s q) r × ((f : Flush) × (r.waiting ≡ Some f) × (f.mark ≡ n))
+Gives s (Over q b) n = (r : Running) × Runs (lane_at s q) r × ((f : Waiting) × (r.waiting ≡ Some f) × (f.mark ≡ n))
 Gives s (Finish q i) n = (r : Running) × Runs (lane_at s q) r × (r.entry.number ≡ n)

@@ -4,7 +4,7 @@ use Rattle.std.specs.List.{All, range_with_len}
 use Rattle.wq_items.specs.declared.target.Target.{Target}
 use Rattle.wq_items.specs.Table.{ItemWaits, TargetsBelow, targets_of}
 use Rattle.wq_groups.specs.Declaration.{Declaration}
-use Rattle.wq_groups.specs.Assignment.{Assignment, lane_of as lane_of_group}
+use Rattle.wq_groups.specs.Assignment.{Assignment, group_lane}
 
 -- of each item in turn the targets of its flushes and its lane, and how many lanes there are. A lane is a workqueue with
 -- one execution context, its rescuer
@@ -15,7 +15,7 @@ pub record Wiring : Type 0 where
 
 -- each item on the lane of its group
 abbrev pub wiring : Declaration → Assignment → Wiring
-wiring d a = record { waits = d.waits; lane_of_item = map (lane_of_group a) d.group_of; lanes = a.lanes }
+wiring d a = record { waits = d.waits; lane_of_item = map (group_lane a) d.group_of; lanes = a.lanes }
 
 -- the assignment in which each of so many groups has a lane of its own, with its number
 abbrev pub own_lanes : ℕ → Assignment

@@ -1,7 +1,7 @@
 -- Work left: how many rescuer steps what is queued and what runs can still make at most.
 use Rattle.std.specs.Prelude.{ℕ, ◌+◌, ◌-◌, ◌*◌, length, sum_by, Option, Some, None, Bool, true, false}
 use Rattle.wq_core.specs.declared.entry.Entry.{Entry}
-use Rattle.wq_core.specs.declared.entry.Flush.{Flush}
+use Rattle.wq_core.specs.declared.entry.Waiting.{Waiting}
 use Rattle.wq_core.specs.declared.entry.Running.{Running}
 use Rattle.wq_core.specs.declared.step.Step.{Step}
 use Rattle.wq_core.specs.declared.step.Step.TheVariants.{Queue, Cancel, Start, Wait, Over, Finish}
@@ -13,7 +13,7 @@ abbrev pub whole_work : Wiring → ℕ → ℕ
 whole_work w i = 2 + 2 * length (declared_by w i)
 
 -- how many of its waits are over, where it has made so many
-abbrev pub waits_over : ℕ → Option Flush → ℕ
+abbrev pub waits_over : ℕ → Option Waiting → ℕ
 waits_over made None = made
 waits_over made (Some flush) = made - 1
 

@@ -6,8 +6,8 @@ ghost use Rattle.std.specs.Prelude.{◌≡◌, ◌<◌, ◌≤◌, ℕ, length, 
 ghost use Rattle.std.specs.List.{All};
 ghost use Rattle.wq_items.specs.Table.{IsTable};
 ghost use Rattle.wq_groups.specs.Partition.{IsPartition};
-ghost use Rattle.wq_groups.specs.Assignment.{lane_of};
-ghost use Rattle.wq_core.specs.Building.{items_on};
+ghost use Rattle.wq_groups.specs.Assignment.{group_lane};
+ghost use Rattle.wq_core.specs.Building.{count_on};
 
 use std::alloc::{AllocError, Allocator};
 use wq_groups::{Assignment, Groups, LaneId};
@@ -38,7 +38,7 @@ pub(crate) fn lanes_of_items<A: Allocator + Copy>(
 ) -> Result<Vec<LaneId, A>, AllocError>
     requires items { length groups.now.group_of ≡ items }
     requires assigned { length assignment.now.lane_of_group ≡ groups.now.groups }
-    ensures lanes { IfOk result (λ lanes. lanes.items ≡ map (lane_of assignment.now) groups.now.group_of) }
+    ensures lanes { IfOk result (λ lanes. lanes.items ≡ map (group_lane assignment.now) groups.now.group_of) }
     ensures partition { IsPartition groups.now }
 {
     let _groups = groups.len();
@@ -58,7 +58,7 @@ pub(crate) fn count_items<A: Allocator + Copy>(
     requires few { length lane_of_item.now ≤ 4096 }
     requires within { All (λ l. l < lanes) lane_of_item.now }
     ensures len { IfOk result (λ counts. length counts.items ≡ lanes) }
-    ensures counts { IfOk result (λ counts. (q : ℕ) → q < lanes → slice_index counts.items q ≡ items_on lane_of_item.now q) }
+    ensures counts { IfOk result (λ counts. (q : ℕ) → q < lanes → slice_index counts.items q ≡ count_on lane_of_item.now q) }
 {
     let mut counts = vec![in alloc; 0; usize::from(lanes)]?;
     for lane in lane_of_item {

@@ -15,7 +15,7 @@ pub struct Entry {
 
 /// What a running entry waits for.
 #[derive(Clone, Copy, Debug, PartialEq, Eq)]
-pub struct Flush {
+pub struct Waiting {
     /// The item.
     pub target: ItemId,
     /// The number that the next queueing would have got when the wait began: entries below it are waited for.
@@ -30,5 +30,5 @@ pub struct Running {
     /// How many waits it has made.
     pub made: u32,
     /// What it waits for, while it does.
-    pub waiting: Option<Flush>,
+    pub waiting: Option<Waiting>,
 }

@@ -10,9 +10,9 @@ ghost use Rattle.std.specs.VecDeque.Iter.{deque_iter_rest};
 ghost use Rattle.wq_core.specs.declared.entry.Entry.{Entry};
 ghost use Rattle.wq_core.specs.State.{idle_lane};
 ghost use Rattle.wq_core.specs.Held.{LaneHasUnfinishedBelow, is_below, runs_below};
-ghost use Rattle.wq_core.specs.Rules.{with_queued, with_cancelled, with_started, with_wait, with_wait_over, with_finished};
+ghost use Rattle.wq_core.specs.Rules.{with_queued, with_cancelled, with_started, with_wait, with_over, with_finished};
 
-use crate::entry::{Entry, Flush, Running};
+use crate::entry::{Entry, Running, Waiting};
 use std::alloc::{AllocError, Allocator};
 use std::collections::VecDeque;
 use std::collections::vec_deque::Iter;
@@ -147,13 +147,13 @@ impl<A: Allocator> Lane<A> {
         self.running = self.running.map(|r| Running {
             entry: r.entry,
             made: r.made + 1,
-            waiting: Some(Flush { target, mark }),
+            waiting: Some(Waiting { target, mark }),
         });
     }
 
     /// What runs no longer waits.
-    pub fn go_on(&mut self)
-        ensures lane { self.new.lane ≡ with_wait_over self.old.lane }
+    pub fn over(&mut self)
+        ensures lane { self.new.lane ≡ with_over self.old.lane }
         ensures room { self.new.room ≡ self.old.room }
     {
         self.running = self.running.map(|r| Running {

@@ -7,7 +7,7 @@ ghost use Rattle.std.specs.List.{All, count_by};
 ghost use Rattle.wq_items.specs.Chain.{IsChain, Circle};
 ghost use Rattle.wq_items.specs.Table.{ItemWaits};
 ghost use Rattle.wq_groups.specs.Declaration.{Declaration, IsDeclaration, GroupWaits};
-ghost use Rattle.wq_groups.specs.Assignment.{Assignment, IsAssignment, lane_of as lane_of_group};
+ghost use Rattle.wq_groups.specs.Assignment.{Assignment, IsAssignment, group_lane};
 ghost use Rattle.wq_core.specs.declared.step.Step.{Step};
 ghost use Rattle.wq_core.specs.Wiring.{Wiring, IsWiring, LaneWaits, wiring, lane_of};
 ghost use Rattle.wq_core.specs.State.{State, HasUnfinished};
@@ -80,7 +80,7 @@ pub fn lanes_that_wait_in_a_circle_deadlock()
 /// that groups wait for is least.
 pub fn a_chain_as_long_shows_the_least()
     ensures { (d : Declaration) (a : Assignment) (groups : List ℕ) → IsDeclaration d → IsAssignment d.groups a →
-        ((g h : ℕ) → GroupWaits d g h → lane_of_group a h < lane_of_group a g) →
+        ((g h : ℕ) → GroupWaits d g h → group_lane a h < group_lane a g) →
         IsChain (GroupWaits d) groups → All (λ g. g < d.groups) groups → length groups ≡ a.lanes → IsLeast d a }
 {}
 

@@ -16,7 +16,7 @@ mod questions;
 mod step;
 mod work;
 
-pub use entry::{Entry, Flush, Running};
+pub use entry::{Entry, Running, Waiting};
 pub use lane::Lane;
 pub use lanes::Lanes;
 pub use machine::Core;

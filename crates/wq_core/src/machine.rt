@@ -221,7 +221,7 @@ impl<A: Allocator> Core<A> {
     }
 
     /// The number that the end of a wait on a lane gives, where it is lawful.
-    fn may_go_on(&self, q: LaneId, target: ItemId) -> Option<u32>
+    fn may_be_over(&self, q: LaneId, target: ItemId) -> Option<u32>
         ensures { IsNumberOf self.now (Over q target) result }
     {
         let running = self.running_on(q)?;
@@ -300,14 +300,14 @@ impl<A: Allocator> Core<A> {
     }
 
     /// What a lane runs has waited; gives the mark.
-    fn go_on(&mut self, q: LaneId, target: ItemId) -> Result<u32, StepError>
+    fn over(&mut self, q: LaneId, target: ItemId) -> Result<u32, StepError>
         ensures done { IfOk result (λ n. IsDone self.old (Over q target) n self.new) }
         ensures refused { IfErr result (λ e. IsRefusal self.old (Over q target) e × (self.new ≡ self.old)) }
     {
-        let Some(number) = self.may_go_on(q, target) else {
+        let Some(number) = self.may_be_over(q, target) else {
             return Err(StepError::NotLawful);
         };
-        self.lanes.lane_mut(q).go_on();
+        self.lanes.lane_mut(q).over();
         Ok(number)
     }
 
@@ -337,7 +337,7 @@ impl<A: Allocator> Core<A> {
             Step::Cancel(item) => self.cancel(item),
             Step::Start(q, item) => self.start(q, item),
             Step::Wait(q, target) => self.wait(q, target),
-            Step::Over(q, target) => self.go_on(q, target),
+            Step::Over(q, target) => self.over(q, target),
             Step::Finish(q, item) => self.finish(q, item),
         }
     }

@@ -10,7 +10,7 @@ ghost use Rattle.wq_core.specs.declared.step.Step.{Step};
 ghost use Rattle.wq_core.specs.Wiring.{items, declared_by};
 ghost use Rattle.wq_core.specs.State.{lane_at, Runs};
 ghost use Rattle.wq_core.specs.Held.{IsMachine};
-ghost use Rattle.wq_core.specs.Played.{CanMove, CannotMove, IsDeclaredStep};
+ghost use Rattle.wq_core.specs.Played.{CanMove, HasNoDeclaredStep, IsDeclaredStep};
 
 use crate::entry::Running;
 use crate::machine::Core;
@@ -62,7 +62,7 @@ impl<A: Allocator> Core<A> {
     fn declared_idle(&self, q: LaneId) -> Option<Step>
         requires { (lane_at self.now.state q).running ≡ None }
         ensures some { IfSome result (λ step. IsDeclaredStep self.now.wiring self.now.state q step) }
-        ensures none { IfNone result (CannotMove self.now.wiring self.now.state q) }
+        ensures none { IfNone result (HasNoDeclaredStep self.now.wiring self.now.state q) }
     {
         let first = self.first_on(q)?;
         Some(Step::Start(q, first.item))
@@ -74,7 +74,7 @@ impl<A: Allocator> Core<A> {
         requires machine { IsMachine self.now }
         requires runs { Runs (lane_at self.now.state q) running }
         ensures some { IfSome result (λ step. IsDeclaredStep self.now.wiring self.now.state q step) }
-        ensures none { IfNone result (CannotMove self.now.wiring self.now.state q) }
+        ensures none { IfNone result (HasNoDeclaredStep self.now.wiring self.now.state q) }
     {
         let item = running.entry.item;
         let made = running.made;
@@ -96,7 +96,7 @@ impl<A: Allocator> Core<A> {
     /// such lane.
     pub fn declared(&self, q: LaneId) -> Option<Step>
         ensures some { IfSome result (λ step. IsDeclaredStep self.now.wiring self.now.state q step) }
-        ensures none { IfNone result (CannotMove self.now.wiring self.now.state q) }
+        ensures none { IfNone result (HasNoDeclaredStep self.now.wiring self.now.state q) }
         ensures machine { IsMachine self.now }
     {
         match self.running_on(q) {

@@ -10,14 +10,14 @@ ghost use Rattle.wq_core.specs.Wiring.{items};
 ghost use Rattle.wq_core.specs.State.{lane_at};
 ghost use Rattle.wq_core.specs.Work.{whole_work, waits_over, running_work, lane_work, work_left};
 
-use crate::entry::Flush;
+use crate::entry::Waiting;
 use crate::machine::Core;
 use std::alloc::Allocator;
 use wq_groups::LaneId;
 use wq_items::ItemId;
 
 /// How many waits are over of an entry that has made so many, and waits for this if it does.
-fn waits_over(made: u32, waiting: Option<Flush>) -> u32
+fn waits_over(made: u32, waiting: Option<Waiting>) -> u32
     ensures { result ≡ waits_over made waiting }
 {
     match waiting {

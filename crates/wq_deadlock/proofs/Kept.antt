@@ -6,8 +6,8 @@ use Rattle.wq_core.specs.declared.step.Step.{Step}
 use Rattle.wq_core.specs.declared.step.Step.TheVariants.{Queue, Cancel, Start, Wait, Over, Finish}
 use Rattle.wq_core.specs.Wiring.{Wiring}
 use Rattle.wq_core.specs.State.{Lane, State, lane_at, with_lane, Runs, IsUnfinishedOn, HasUnfinishedBelow}
-use Rattle.wq_core.specs.Rules.{MayStart, with_started, with_wait, with_wait_over, effect}
-use Rattle.wq_core.specs.Played.{IsDeclaredStep, CannotMove}
+use Rattle.wq_core.specs.Rules.{MayStart, with_started, with_wait, with_over, effect}
+use Rattle.wq_core.specs.Played.{IsDeclaredStep, HasNoDeclaredStep}
 use Rattle.wq_core.proofs.LaneLemmas.{cases_with_lane, lane_at-with_lane_other}
 use Rattle.wq_core.proofs.Knots.{unfinished-started, unfinished-going_on}
 use Rattle.wq_deadlock.specs.Search.{search_from}
@@ -23,9 +23,9 @@ unfinished-with_lane s q new keeps k e h = elim (cases_with_lane s q new k) [
 ]
 
 -- a lane that can't move still can't, where another one changes and keeps what is unfinished
-CannotMove-with_lane : (w : Wiring) (s : State) (q : ℕ) (new : Lane) → ((e : Entry) → IsUnfinishedOn (lane_at s q) e → IsUnfinishedOn new e)
-    → (p : ℕ) → p ≢ q → CannotMove w s p → CannotMove w (with_lane s q new) p
-CannotMove-with_lane w s q new keeps p other still = moves
+HasNoDeclaredStep-with_lane : (w : Wiring) (s : State) (q : ℕ) (new : Lane) → ((e : Entry) → IsUnfinishedOn (lane_at s q) e → IsUnfinishedOn new e)
+    → (p : ℕ) → p ≢ q → HasNoDeclaredStep w s p → HasNoDeclaredStep w (with_lane s q new) p
+HasNoDeclaredStep-with_lane w s q new keeps p other still = moves
   where
     t : State
     t = with_lane s q new
@@ -39,7 +39,7 @@ CannotMove-with_lane w s q new keeps p other still = moves
     below : (b mark : ℕ) → HasUnfinishedBelow s b mark → HasUnfinishedBelow t b mark
     below b mark h = record { lane = h.lane; entry = h.entry; unfinished = unfinished-with_lane s q new keeps h.lane h.entry h.unfinished; of_item = h.of_item; below = h.below }
 
-    moves : CannotMove w t p
+    moves : HasNoDeclaredStep w t p
     moves (Queue i) is = is.of_lane
     moves (Cancel i) is = is.of_lane
     moves (Start k i) is = still (Start k i) (record { of_lane = is.of_lane; lawful = subst (λ (l : Lane). MayStart l i) (same k is.of_lane) is.lawful; in_order = tt })
@@ -64,18 +64,18 @@ CannotMove-with_lane w s q new keeps p other still = moves
 -- ---- steps
 
 -- after a step of lane q no lane below that from which the search goes on can move, if none below q could
-pub CannotMove-below : (w : Wiring) (s : State) (q : ℕ) (step : Step) → IsDeclaredStep w s q step → ((p : ℕ) → p < q → CannotMove w s p)
-    → (p : ℕ) → p < search_from q step → CannotMove w (effect w s step) p
-CannotMove-below w s q (Queue i) is none p lt = absurd is.of_lane
-CannotMove-below w s q (Cancel i) is none p lt = absurd is.of_lane
-CannotMove-below w s q (Start k i) is none p lt =
+pub HasNoDeclaredStep-below : (w : Wiring) (s : State) (q : ℕ) (step : Step) → IsDeclaredStep w s q step → ((p : ℕ) → p < q → HasNoDeclaredStep w s p)
+    → (p : ℕ) → p < search_from q step → HasNoDeclaredStep w (effect w s step) p
+HasNoDeclaredStep-below w s q (Queue i) is none p lt = absurd is.of_lane
+HasNoDeclaredStep-below w s q (Cancel i) is none p lt = absurd is.of_lane
+HasNoDeclaredStep-below w s q (Start k i) is none p lt =
     let at : k ≡ q = is.of_lane in
-    CannotMove-with_lane w s k (with_started (lane_at s k)) (λ e h. unfinished-started (lane_at s k) i e is.lawful h) p (λ same. omega (arith, at, same)) (none p lt)
-CannotMove-below w s q (Wait k b) is none p lt =
+    HasNoDeclaredStep-with_lane w s k (with_started (lane_at s k)) (λ e h. unfinished-started (lane_at s k) i e is.lawful h) p (λ same. omega (arith, at, same)) (none p lt)
+HasNoDeclaredStep-below w s q (Wait k b) is none p lt =
     let at : k ≡ q = is.of_lane in
-    CannotMove-with_lane w s k (with_wait b s.next (lane_at s k))
+    HasNoDeclaredStep-with_lane w s k (with_wait b s.next (lane_at s k))
     (λ e h. unfinished-going_on (lane_at s k) (λ (r : Running). record r { made = r.made + 1; waiting = Some (record { target = b; mark = s.next }) }) e (λ r. refl) h) p (λ same. omega (arith, at, same)) (none p lt)
-CannotMove-below w s q (Over k b) is none p lt =
+HasNoDeclaredStep-below w s q (Over k b) is none p lt =
     let at : k ≡ q = is.of_lane in
-    CannotMove-with_lane w s k (with_wait_over (lane_at s k)) (λ e h. unfinished-going_on (lane_at s k) (λ (r : Running). record r { waiting = None }) e (λ r. refl) h) p (λ same. omega (arith, at, same)) (none p lt)
-CannotMove-below w s q (Finish k i) is none p lt = absurd (omega arith)
+    HasNoDeclaredStep-with_lane w s k (with_over (lane_at s k)) (λ e h. unfinished-going_on (lane_at s k) (λ (r : Running). record r { waiting = None }) e (λ r. refl) h) p (λ same. omega (arith, at, same)) (none p lt)
+HasNoDeclaredStep-below w s q (Finish k i) is none p lt = absurd (omega arith)

@@ -7,12 +7,12 @@ use Rattle.wq_core.specs.Wiring.{Wiring}
 use Rattle.wq_core.specs.State.{State}
 use Rattle.wq_core.specs.Rules.{effect}
 use Rattle.wq_core.specs.Runs.{end_of}
-use Rattle.wq_core.specs.Played.{IsDeclaredStep, CannotMove, IsPlayedFrom, queue_order}
+use Rattle.wq_core.specs.Played.{IsDeclaredStep, HasNoDeclaredStep, IsPlayedFrom, queue_order}
 use Rattle.wq_core.proofs.DeclaredSteps.{declared_steps_equal}
 use Rattle.wq_deadlock.specs.CircleRun.{first_items, IsCircleRun}
 
 -- the lowest lane that can move has one step
-same_lowest : (w : Wiring) (s : State) (p q : ℕ) (a b : Step) → IsDeclaredStep w s p a → ((r : ℕ) → r < p → CannotMove w s r) → IsDeclaredStep w s q b → ((r : ℕ) → r < q → CannotMove w s r) → a ≡ b
+same_lowest : (w : Wiring) (s : State) (p q : ℕ) (a b : Step) → IsDeclaredStep w s p a → ((r : ℕ) → r < p → HasNoDeclaredStep w s r) → IsDeclaredStep w s q b → ((r : ℕ) → r < q → HasNoDeclaredStep w s r) → a ≡ b
 same_lowest w s p q a b one lowest other lowest_too = elim (cases_order p q) [
   | inl same ↦ declared_steps_equal w s q a b (subst (λ (k : ℕ). IsDeclaredStep w s k a) same one) other
   | inr apart ↦ elim apart [

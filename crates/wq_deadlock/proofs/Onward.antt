@@ -8,29 +8,29 @@ use Rattle.wq_core.specs.State.{State}
 use Rattle.wq_core.specs.Rules.{effect}
 use Rattle.wq_core.specs.Runs.{after}
 use Rattle.wq_core.specs.Held.{Machine, machine_after, IsSoundState, IsMachine}
-use Rattle.wq_core.specs.Played.{IsDeclaredStep, CannotMove, IsPlayedFrom}
+use Rattle.wq_core.specs.Played.{IsDeclaredStep, HasNoDeclaredStep, IsPlayedFrom}
 use Rattle.wq_core.specs.Work.{work_left}
 use Rattle.wq_core.proofs.DeclaredSteps.{CanMove-within}
 use Rattle.wq_core.proofs.Plays.{after-append, IsRescuerStep-of_lane}
 use Rattle.wq_core.proofs.Sound.{IsSoundState-effect}
 use Rattle.wq_core.proofs.WorkLemmas.{work_left-rescuer}
 use Rattle.wq_deadlock.specs.Search.{search_from}
-use Rattle.wq_deadlock.proofs.Kept.{CannotMove-below}
+use Rattle.wq_deadlock.proofs.Kept.{HasNoDeclaredStep-below}
 
 -- ---- steps so far
 
 -- each step is that of the lowest lane that can make one; more may follow
 abbrev pub IsPlayFrom : Wiring → State → List Step → Type 0
 IsPlayFrom w s [] = Unit {0}
-IsPlayFrom w s (step ∷ steps) = ((q : ℕ) × IsDeclaredStep w s q step × ((p : ℕ) → p < q → CannotMove w s p)) × IsPlayFrom w (effect w s step) steps
+IsPlayFrom w s (step ∷ steps) = ((q : ℕ) × IsDeclaredStep w s q step × ((p : ℕ) → p < q → HasNoDeclaredStep w s p)) × IsPlayFrom w (effect w s step) steps
 
 IsPlayFrom-more : (w : Wiring) (s : State) (steps : List Step) (q : ℕ) (step : Step) → IsPlayFrom w s steps → IsDeclaredStep w (after w s steps) q step
-    → ((p : ℕ) → p < q → CannotMove w (after w s steps) p) → IsPlayFrom w s (steps ++ (step ∷ []))
+    → ((p : ℕ) → p < q → HasNoDeclaredStep w (after w s steps) p) → IsPlayFrom w s (steps ++ (step ∷ []))
 IsPlayFrom-more w s [] q step play is lowest = ((q, is, lowest), tt)
 IsPlayFrom-more w s (first ∷ steps) q step play is lowest = (play.0, IsPlayFrom-more w (effect w s first) steps q step play.1 is lowest)
 
 -- where no lane can move any more, all is played
-IsPlayedFrom-play : (w : Wiring) (s : State) (steps : List Step) → IsPlayFrom w s steps → ((q : ℕ) → CannotMove w (after w s steps) q) → IsPlayedFrom w s steps
+IsPlayedFrom-play : (w : Wiring) (s : State) (steps : List Step) → IsPlayFrom w s steps → ((q : ℕ) → HasNoDeclaredStep w (after w s steps) q) → IsPlayedFrom w s steps
 IsPlayedFrom-play w s [] play none = none
 IsPlayedFrom-play w s (step ∷ steps) play none = (play.0, IsPlayedFrom-play w (effect w s step) steps play.1 none)
 
@@ -42,13 +42,13 @@ pub record IsPlaying (start now : Machine) (steps : List Step) (q : ℕ) : Type 
   pub play : IsPlayFrom start.wiring start.state steps
   pub state : now.state ≡ after start.wiring start.state steps
   pub sound : IsSoundState now.wiring now.state
-  pub below : (p : ℕ) → p < q → CannotMove now.wiring now.state p
+  pub below : (p : ℕ) → p < q → HasNoDeclaredStep now.wiring now.state p
 
 pub IsPlaying-start : (start : Machine) → IsSoundState start.wiring start.state → IsPlaying start start [] 0
 IsPlaying-start start sound = record { wiring = refl; play = tt; state = refl; sound = sound; below = λ p lt. absurd (omega arith) }
 
 -- a lane more that can't move
-pub IsPlaying-still : (start now : Machine) (steps : List Step) (q : ℕ) → IsPlaying start now steps q → CannotMove now.wiring now.state q → IsPlaying start now steps (q + 1)
+pub IsPlaying-still : (start now : Machine) (steps : List Step) (q : ℕ) → IsPlaying start now steps q → HasNoDeclaredStep now.wiring now.state q → IsPlaying start now steps (q + 1)
 IsPlaying-still start now steps q playing still = record {
   wiring = playing.wiring;
   play = playing.play;
@@ -56,7 +56,7 @@ IsPlaying-still start now steps q playing still = record {
   sound = playing.sound;
   below = λ p lt. elim (cases_lt p q) [
     | inl before ↦ playing.below p before
-    | inr past ↦ (let same : q ≡ p = omega arith in subst (λ (k : ℕ). CannotMove now.wiring now.state k) same still)
+    | inr past ↦ (let same : q ≡ p = omega arith in subst (λ (k : ℕ). HasNoDeclaredStep now.wiring now.state k) same still)
   ];
 }
 
@@ -68,15 +68,15 @@ IsPlaying-move start now steps q step playing is =
     let s : State = after w start.state steps in
     let there : IsDeclaredStep w s q step =
     subst (λ (v : Wiring). IsDeclaredStep v s q step) playing.wiring (subst (λ (t : State). IsDeclaredStep now.wiring t q step) playing.state is) in
-    let lowest : (p : ℕ) → p < q → CannotMove w s p =
-    λ p lt. subst (λ (v : Wiring). CannotMove v s p) playing.wiring (subst (λ (t : State). CannotMove now.wiring t p) playing.state (playing.below p lt)) in
+    let lowest : (p : ℕ) → p < q → HasNoDeclaredStep w s p =
+    λ p lt. subst (λ (v : Wiring). HasNoDeclaredStep v s p) playing.wiring (subst (λ (t : State). HasNoDeclaredStep now.wiring t p) playing.state (playing.below p lt)) in
     record {
       wiring = playing.wiring;
       play = IsPlayFrom-more w start.state steps q step playing.play there lowest;
       state =
           ap (λ (t : State). effect now.wiring t step) playing.state ∙ ap (λ (v : Wiring). effect v s step) playing.wiring ∙ sym (after-append w start.state steps (step ∷ []));
       sound = IsSoundState-effect now.wiring now.state step playing.sound is.lawful;
-      below = CannotMove-below now.wiring now.state q step is playing.below;
+      below = HasNoDeclaredStep-below now.wiring now.state q step is playing.below;
     }
 
 -- the end: all lanes were passed over
@@ -84,7 +84,7 @@ pub IsPlayedFrom-playing : (start now : Machine) (steps : List Step) (q : ℕ) �
     → IsPlayedFrom start.wiring start.state steps
 IsPlayedFrom-playing start now steps q playing all = IsPlayedFrom-play start.wiring start.state steps playing.play none
   where
-    none_now : (p : ℕ) → CannotMove now.wiring now.state p
+    none_now : (p : ℕ) → HasNoDeclaredStep now.wiring now.state p
     none_now p = elim (cases_lt p q) [
       | inl below ↦ playing.below p below
       | inr past ↦ (λ step is.
@@ -94,10 +94,10 @@ IsPlayedFrom-playing start now steps q playing all = IsPlayedFrom-play start.wir
           )
     ]
 
-    none : (p : ℕ) → CannotMove start.wiring (after start.wiring start.state steps) p
+    none : (p : ℕ) → HasNoDeclaredStep start.wiring (after start.wiring start.state steps) p
     none p =
-        subst (λ (v : Wiring). CannotMove v (after start.wiring start.state steps) p) playing.wiring
-        (subst (λ (t : State). CannotMove now.wiring t p) playing.state (none_now p))
+        subst (λ (v : Wiring). HasNoDeclaredStep v (after start.wiring start.state steps) p) playing.wiring
+        (subst (λ (t : State). HasNoDeclaredStep now.wiring t p) playing.state (none_now p))
 
 -- ---- it ends
 

@@ -6,7 +6,7 @@ use Rattle.std.proofs.lemmas.List.{length-map, get_or-map}
 use Rattle.std.proofs.lemmas.List.Elements.{All-map, Contains-get_or}
 use Rattle.std.proofs.lemmas.Option.{slice_get-get_or, slice_get_within, get_or_from_slice_get}
 use Rattle.wq_groups.specs.Declaration.{Declaration, IsDeclaration}
-use Rattle.wq_groups.specs.Assignment.{Assignment, IsAssignment, lane_of as lane_of_group}
+use Rattle.wq_groups.specs.Assignment.{Assignment, IsAssignment, group_lane}
 use Rattle.wq_graph.specs.declared.arc.WaitArc.{WaitArc}
 use Rattle.wq_graph.specs.Graph.{lane_graph, lanes_of_items}
 use Rattle.wq_graph.proofs.Graphs.{IsGraph-lane_graph}
@@ -80,30 +80,30 @@ module _ (d : Declaration) (a : Assignment) (declaration : IsDeclaration d) (ass
     group_below = omega (arith, declaration.partition.within i 0 item, assignment.one_each)
 
     lane_a : lane_of (wiring d a) i ≡ get_or a.lane_of_group (get_or d.group_of i 0) 0
-    lane_a = get_or-map (lane_of_group a) d.group_of i 0 0 item
+    lane_a = get_or-map (group_lane a) d.group_of i 0 0 item
 
     lane_b : lane_of (wiring d b) i ≡ first_group (lane_of (wiring d a) i)
     lane_b =
-        get_or-map (lane_of_group b) d.group_of i 0 0 item
+        get_or-map (group_lane b) d.group_of i 0 0 item
         ∙ get_or-map first_group a.lane_of_group (get_or d.group_of i 0) 0 0 group_below
         ∙ ap first_group (sym lane_a)
 
-    back : lane_of_group a (lane_of (wiring d b) i) ≡ lane_of (wiring d a) i
+    back : group_lane a (lane_of (wiring d b) i) ≡ lane_of (wiring d a) i
     back =
-        ap (lane_of_group a) lane_b
+        ap (group_lane a) lane_b
         ∙ (first_on-is a.lane_of_group (lane_of (wiring d a) i) (subst (λ (l : ℕ). Contains a.lane_of_group l) (sym lane_a) (Contains-get_or a.lane_of_group (get_or d.group_of i 0) 0 group_below))).1
 
   item_below : (i q : ℕ) → slice_get (lanes_of_items d b) i ≡ Some q → i < length d.group_of
-  item_below i q at = omega (arith, slice_get_within (lanes_of_items d b) i q at, length-map d.group_of (lane_of_group b))
+  item_below i q at = omega (arith, slice_get_within (lanes_of_items d b) i q at, length-map d.group_of (group_lane b))
 
-  there : (i q : ℕ) → slice_get (lanes_of_items d b) i ≡ Some q → slice_get (lanes_of_items d a) i ≡ Some (lane_of_group a q)
+  there : (i q : ℕ) → slice_get (lanes_of_items d b) i ≡ Some q → slice_get (lanes_of_items d a) i ≡ Some (group_lane a q)
   there i q at =
       let item : i < length d.group_of = item_below i q at in
       let read : lane_of (wiring d b) i ≡ q = get_or_from_slice_get (lanes_of_items d b) i q 0 at in
-      slice_get-get_or (lanes_of_items d a) i 0 (omega (arith, item, length-map d.group_of (lane_of_group a)))
-      ∙ ap (λ (l : ℕ). Some l) (sym (back i item) ∙ ap (lane_of_group a) read)
+      slice_get-get_or (lanes_of_items d a) i 0 (omega (arith, item, length-map d.group_of (group_lane a)))
+      ∙ ap (λ (l : ℕ). Some l) (sym (back i item) ∙ ap (group_lane a) read)
 
-  LaneWaits-back : (p q : ℕ) → LaneWaits (wiring d b) p q → LaneWaits (wiring d a) (lane_of_group a p) (lane_of_group a q)
+  LaneWaits-back : (p q : ℕ) → LaneWaits (wiring d b) p q → LaneWaits (wiring d a) (group_lane a p) (group_lane a q)
   LaneWaits-back p q waits = record {
     item = waits.item;
     target = waits.target;
@@ -126,7 +126,7 @@ module _ (d : Declaration) (a : Assignment) (declaration : IsDeclaration d) (ass
   Deadlocks-renumbered : (circle : List WaitArc) → IsWalkedCircle (lane_graph d b) circle → Deadlocks (wiring d a)
   Deadlocks-renumbered circle walked =
       Deadlocks-circle (wiring d a) (IsWiring-wiring d a declaration assignment)
-      (Circle-map (LaneWaits (wiring d b)) (LaneWaits (wiring d a)) (lane_of_group a) LaneWaits-back (lanes_wait d b declaration one_each few circle walked))
+      (Circle-map (LaneWaits (wiring d b)) (LaneWaits (wiring d a)) (group_lane a) LaneWaits-back (lanes_wait d b declaration one_each few circle walked))
 
   pub IsSafe-or_deadlocks : IsSafe (wiring d a) ⊎ Deadlocks (wiring d a)
   IsSafe-or_deadlocks = elim (AreRanks-or_walk (lane_graph d b) (IsGraph-lane_graph d b declaration one_each few)) [

@@ -10,7 +10,7 @@ use Rattle.wq_items.specs.Chain.{Circle}
 use Rattle.wq_items.specs.Table.{ItemWaits}
 use Rattle.wq_items.proofs.Tables.{ItemWaits-below}
 use Rattle.wq_groups.specs.Declaration.{Declaration, IsDeclaration}
-use Rattle.wq_groups.specs.Assignment.{Assignment, IsAssignment, lane_of as lane_of_group, lane_of_item}
+use Rattle.wq_groups.specs.Assignment.{Assignment, IsAssignment, group_lane, item_lane}
 use Rattle.wq_graph.specs.declared.arc.WaitArc.{WaitArc}
 use Rattle.wq_graph.specs.Graph.{lane_graph, lanes_of_items, arcs_from, HasArc, IsGraph}
 use Rattle.wq_graph.proofs.Graphs.{VertexWaits-lane_graph, IsGraph-lane_graph, lanes_of_items-within}
@@ -53,11 +53,11 @@ module _ (d : Declaration) (a : Assignment) (declaration : IsDeclaration d) (ass
   -- ---- items and their lanes
 
   lanes_long : length (lanes_of_items d a) ≡ length d.waits
-  lanes_long = length-map d.group_of (lane_of_group a) ∙ sym declaration.one_list_each
+  lanes_long = length-map d.group_of (group_lane a) ∙ sym declaration.one_list_each
 
   -- the lane of an item, in the two ways of saying it
-  lane_of-item : (i : ℕ) → i < length d.waits → lane_of (wiring d a) i ≡ lane_of_item a d.group_of i
-  lane_of-item i lt = get_or-map (lane_of_group a) d.group_of i 0 0 (omega (arith, declaration.one_list_each))
+  lane_of-item : (i : ℕ) → i < length d.waits → lane_of (wiring d a) i ≡ item_lane a d.group_of i
+  lane_of-item i lt = get_or-map (group_lane a) d.group_of i 0 0 (omega (arith, declaration.one_list_each))
 
   pub target_below : (i j : ℕ) → ItemWaits d.waits i j → j < length d.waits
   target_below i j declares = omega (arith, ItemWaits-below (length d.group_of) d.waits declaration.targets_are_items i j declares, declaration.one_list_each)
@@ -97,7 +97,7 @@ module _ (d : Declaration) (a : Assignment) (declaration : IsDeclaration d) (ass
         fall = λ i j declares.
             let item = lane_of-item i (item_waits d.waits i j declares) in
             let target = lane_of-item j (target_below i j declares) in
-            subst (λ (p : ℕ). slice_index ranks p < slice_index ranks (lane_of_item a d.group_of i)) target
+            subst (λ (p : ℕ). slice_index ranks p < slice_index ranks (item_lane a d.group_of i)) target
             (subst (λ (p : ℕ). slice_index ranks (lane_of (wiring d a) j) < slice_index ranks p) item (fall i j declares));
       }
 

@@ -3,7 +3,7 @@ use Rattle.std.specs.Prelude.{◌≡◌, ℕ, ◌<◌, List, length, slice_index
 use Rattle.wq_items.specs.Chain.{Circle}
 use Rattle.wq_items.specs.Table.{ItemWaits}
 use Rattle.wq_groups.specs.Declaration.{Declaration}
-use Rattle.wq_groups.specs.Assignment.{Assignment, IsAssignment, lane_of_item}
+use Rattle.wq_groups.specs.Assignment.{Assignment, IsAssignment, item_lane}
 use Rattle.wq_graph.specs.declared.arc.WaitArc.{WaitArc}
 use Rattle.wq_graph.specs.Graph.{lane_graph}
 use Rattle.wq_levels.specs.Ranks.{AreRanks}
@@ -22,7 +22,7 @@ pub record IsSafeByRanks (d : Declaration) (a : Assignment) (ranks : List ℕ) :
   pub safe : IsSafe (wiring d a)
   pub one_each : length ranks ≡ a.lanes
   pub are_ranks : AreRanks (lane_graph d a) ranks
-  pub fall : (i j : ℕ) → ItemWaits d.waits i j → slice_index ranks (lane_of_item a d.group_of j) < slice_index ranks (lane_of_item a d.group_of i)
+  pub fall : (i j : ℕ) → ItemWaits d.waits i j → slice_index ranks (item_lane a d.group_of j) < slice_index ranks (item_lane a d.group_of i)
 
 -- an assignment of the declaration's groups, whose lanes wait in a circle, the walked one; the steps are the run of this
 -- circle; and they are a run that ends stuck, with each item queued once and flushing as declared

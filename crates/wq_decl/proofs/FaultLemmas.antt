@@ -6,7 +6,7 @@ use Rattle.wq_text.specs.Lines.{LineView}
 use Rattle.wq_decl.specs.declared.directive.Directive.{Directive}
 use Rattle.wq_decl.specs.declared.fault.DeclError.{DeclError}
 use Rattle.wq_decl.specs.Reading.{fault_in, reading, first_fault}
-use Rattle.wq_decl.specs.Faults.{AllRead, IsLowestFault}
+use Rattle.wq_decl.specs.Faults.{AllRead, IsLowestDeclFault}
 
 Reads : LineView → Type 0
 Reads line = IsOk (reading line)
@@ -37,7 +37,7 @@ first_fault-None lines = (AllRead-first_fault lines, first_fault-none lines)
 -- ---- a fault
 
 lowest_in : (line : LineView) (lines : List LineView) (e : DeclError) (r : Result (Option Directive) DeclError) → reading line ≡ r → option_or (fault_in r) (first_fault lines) ≡ Some e
-    → (first_fault lines ≡ Some e → IsLowestFault lines e) → IsLowestFault (line ∷ lines) e
+    → (first_fault lines ≡ Some e → IsLowestDeclFault lines e) → IsLowestDeclFault (line ∷ lines) e
 unfolding Reads
 lowest_in line lines e (Ok found) was is rest =
     let f = rest is in
@@ -53,9 +53,9 @@ lowest_in line lines e (Err fault) was is rest =
     let same : fault ≡ e = cc in
     record { before = []; line = line; after = lines; parts = refl; read = All-nil Reads; refused = was ∙ ap Err same }
 
-IsLowestFault-first_fault : (lines : List LineView) (e : DeclError) → first_fault lines ≡ Some e → IsLowestFault lines e
-IsLowestFault-first_fault [] e is = absurd cc
-IsLowestFault-first_fault (line ∷ lines) e is = lowest_in line lines e (reading line) refl is (IsLowestFault-first_fault lines e)
+IsLowestDeclFault-first_fault : (lines : List LineView) (e : DeclError) → first_fault lines ≡ Some e → IsLowestDeclFault lines e
+IsLowestDeclFault-first_fault [] e is = absurd cc
+IsLowestDeclFault-first_fault (line ∷ lines) e is = lowest_in line lines e (reading line) refl is (IsLowestDeclFault-first_fault lines e)
 
 past : (line : LineView) (lines : List LineView) (e : Option DeclError) → IsOk (reading line) → first_fault lines ≡ e → first_fault (line ∷ lines) ≡ e
 past line lines e ok is = passed (reading line) ok ∙ is
@@ -70,5 +70,5 @@ at [] line after e read is = ap (λ (r : Result (Option Directive) DeclError). o
 at (first ∷ before) line after e read is =
     past first (before ++ (line ∷ after)) (Some e) (All-head Reads first before read) (at before line after e (All-tail Reads first before read) is)
 
-pub first_fault-Some : (lines : List LineView) (e : DeclError) → (first_fault lines ≡ Some e) ↔ IsLowestFault lines e
-first_fault-Some lines e = (IsLowestFault-first_fault lines e, λ (f : IsLowestFault lines e). ap first_fault f.parts ∙ at f.before f.line f.after e f.read f.refused)
+pub first_fault-Some : (lines : List LineView) (e : DeclError) → (first_fault lines ≡ Some e) ↔ IsLowestDeclFault lines e
+first_fault-Some lines e = (IsLowestDeclFault-first_fault lines e, λ (f : IsLowestDeclFault lines e). ap first_fault f.parts ∙ at f.before f.line f.after e f.read f.refused)

@@ -10,7 +10,7 @@ abbrev pub AllRead : List LineView → Type 0
 AllRead lines = All (λ (line : LineView). IsOk (reading line)) lines
 
 -- e is the fault of a line, and no line before it has one
-pub record IsLowestFault (lines : List LineView) (e : DeclError) : Type 0 where
+pub record IsLowestDeclFault (lines : List LineView) (e : DeclError) : Type 0 where
   pub before : List LineView
   pub line : LineView
   pub after : List LineView

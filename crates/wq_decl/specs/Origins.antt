@@ -6,13 +6,13 @@ use Rattle.wq_decl.specs.declared.directive.Directive.{Directive}
 use Rattle.wq_decl.specs.declared.directive.Directive.TheVariants.{Item, Flush, Ordered}
 
 -- the words of a directive
-abbrev pub words_in : Directive → List WordView
-words_in (Item name) = name ∷ []
-words_in (Flush name targets) = name ∷ targets
-words_in (Ordered names) = names
+abbrev pub directive_words : Directive → List WordView
+directive_words (Item name) = name ∷ []
+directive_words (Flush name targets) = name ∷ targets
+directive_words (Ordered names) = names
 
 -- the directive has the number of this line, and its words are all that follow the first word of it
 pub record IsFrom (d : ℕ × Directive) (line : LineView) : Type 0 where
   pub number : d.0 ≡ line.no
   pub first : WordView
-  pub words : words_of line ≡ first ∷ words_in d.1
+  pub words : words_of line ≡ first ∷ directive_words d.1

@@ -6,14 +6,14 @@ ghost use Rattle.wq_text.specs.Lines.{LineView};
 ghost use Rattle.wq_decl.specs.declared.directive.Directive.{Directive};
 ghost use Rattle.wq_decl.specs.declared.fault.DeclError.{DeclError};
 ghost use Rattle.wq_decl.specs.Reading.{directives, first_fault};
-ghost use Rattle.wq_decl.specs.Faults.{AllRead, IsLowestFault};
+ghost use Rattle.wq_decl.specs.Faults.{AllRead, IsLowestDeclFault};
 ghost use Rattle.wq_decl.specs.Origins.{IsFrom};
 
 /// Lines have no fault exactly where each of them reads, and else the first fault is that of the lowest line that
 /// does not read.
 pub fn first_fault_is_the_lowest()
     ensures none { (lines : List LineView) → (first_fault lines ≡ None) ↔ AllRead lines }
-    ensures some { (lines : List LineView) (e : DeclError) → (first_fault lines ≡ Some e) ↔ IsLowestFault lines e }
+    ensures some { (lines : List LineView) (e : DeclError) → (first_fault lines ≡ Some e) ↔ IsLowestDeclFault lines e }
 {}
 
 /// Each directive has the number of a line, and all words of that line but the first.

@@ -13,7 +13,7 @@ use Rattle.wq_items.specs.declared.target.Target.{Target}
 use Rattle.wq_items.specs.Table.{TargetsBelow, flush_count, places}
 use Rattle.wq_items.proofs.Tables.{ItemWaits-below}
 use Rattle.wq_groups.specs.Declaration.{Declaration, GroupWaits, IsDeclaration}
-use Rattle.wq_groups.specs.Assignment.{Assignment, IsAssignment, lane_of}
+use Rattle.wq_groups.specs.Assignment.{Assignment, IsAssignment, group_lane}
 use Rattle.wq_graph.specs.declared.arc.WaitArc.{WaitArc}
 use Rattle.wq_graph.specs.Graph.{arc_of, arcs_by_item, arcs_by_place, arcs_from, graph_of, group_graph, lanes_of_items, lane_graph, arcs_at, VertexWaits, HasArc, IsArc, AreArcsFrom, IsGraph}
 use Rattle.wq_graph.proofs.ListLemmas.{Contains-filter, IsStrictlyIncreasing-map, AllPairs-from_map, same_from_rising}
@@ -171,14 +171,14 @@ module _ (d : Declaration) (h : IsDeclaration d) where
 module _ (d : Declaration) (a : Assignment) (h : IsDeclaration d) (assignment : IsAssignment d.groups a) where
   pub lanes_of_items-within : All (λ q. q < a.lanes) (lanes_of_items d a)
   lanes_of_items-within =
-      All-map (λ q. q < a.lanes) (lane_of a) d.group_of (λ k e below.
+      All-map (λ q. q < a.lanes) (group_lane a) d.group_of (λ k e below.
       let inside : get_or d.group_of k e < d.groups = h.partition.within k e below in
       assignment.within (get_or d.group_of k e) 0 (omega (arith, assignment.one_each, inside))
       )
 
   AreVertices-lanes : AreVertices d.waits (lanes_of_items d a) a.lanes
   AreVertices-lanes =
-      let long : length (lanes_of_items d a) ≡ length d.group_of = length-map d.group_of (lane_of a) in
+      let long : length (lanes_of_items d a) ≡ length d.group_of = length-map d.group_of (group_lane a) in
       record {
         one_each = h.one_list_each ∙ sym long;
         within = lanes_of_items-within;

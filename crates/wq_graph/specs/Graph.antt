@@ -5,7 +5,7 @@ use Rattle.std.specs.List.Sorted.{IsStrictlyIncreasing}
 use Rattle.wq_items.specs.declared.target.Target.{Target}
 use Rattle.wq_items.specs.Table.{ItemWaits, targets_of, flush_count}
 use Rattle.wq_groups.specs.Declaration.{Declaration}
-use Rattle.wq_groups.specs.Assignment.{Assignment, lane_of}
+use Rattle.wq_groups.specs.Assignment.{Assignment, group_lane}
 use Rattle.wq_graph.specs.declared.arc.WaitArc.{WaitArc}
 
 -- the arc of a flush that item `src` declares, where `vertex_of` has of each item in turn its vertex
@@ -38,7 +38,7 @@ group_graph d = graph_of d.waits d.group_of d.groups
 
 -- of each item in turn its lane, that of its group
 abbrev pub lanes_of_items : Declaration → Assignment → List ℕ
-lanes_of_items d a = map (lane_of a) d.group_of
+lanes_of_items d a = map (group_lane a) d.group_of
 
 -- the wait graph of the lanes of an assignment
 abbrev pub lane_graph : Declaration → Assignment → List (List WaitArc)

@@ -13,9 +13,9 @@ pub record IsAssignment (groups : ℕ) (a : Assignment) : Type 0 where
   pub within : All (λ l. l < a.lanes) a.lane_of_group
 
 -- the lane of group g
-abbrev pub lane_of : Assignment → ℕ → ℕ
-lane_of a g = slice_index a.lane_of_group g
+abbrev pub group_lane : Assignment → ℕ → ℕ
+group_lane a g = slice_index a.lane_of_group g
 
 -- the lane of item i, that of its group
-abbrev pub lane_of_item : Assignment → List ℕ → ℕ → ℕ
-lane_of_item a group_of i = lane_of a (slice_index group_of i)
+abbrev pub item_lane : Assignment → List ℕ → ℕ → ℕ
+item_lane a group_of i = group_lane a (slice_index group_of i)

@@ -13,7 +13,7 @@ use Rattle.wq_items.specs.declared.fault.ItemError.TheVariants.{ItemTwice, Unkno
 use Rattle.wq_items.specs.Table.{Table, item_named, flush_count}
 use Rattle.wq_items.specs.Building.{empty_table, with_item, with_flushes, and_item, items_named, item_declared, flushes_declared, items_ordered, declared, table_of}
 use Rattle.wq_items.specs.Flushes.{item_name, line_flushes, flushes, names_used}
-use Rattle.wq_items.specs.FirstFault.{IsDeclared, IsFaultless, IsFaultOfLine, IsLowestFault}
+use Rattle.wq_items.specs.FirstFault.{IsDeclared, IsFaultless, IsFaultOfLine, IsLowestItemFault}
 use Rattle.wq_items.proofs.TableLemmas.{differs-from-item_named, parts, item_named-below, length-items_named, flush_count-with_item}
 use Rattle.wq_items.proofs.BuildingLemmas.{item_step, flush_step, order_step, table_after-keeps, names-table_of, IsFirstFault-table_after, table_of-first_fault, IsAccepted-table_of}
 use Rattle.wq_items.proofs.FlushLemmas.{item_named-is, IsEven, IsEven-empty, IsEven-step, count_step, flush_count-table_of}
@@ -322,8 +322,8 @@ no_fault_among ds before d after (TooManyFlushes m) h is p =
     )
 no_fault_among ds before d after OutOfMemory h is p = p
 
-IsLowestFault-table_of : (ds : List (ℕ × Directive)) (e : ItemError) → table_of ds ≡ Err e → IsLowestFault ds e
-IsLowestFault-table_of ds e is =
+IsLowestItemFault-table_of : (ds : List (ℕ × Directive)) (e : ItemError) → table_of ds ≡ Err e → IsLowestItemFault ds e
+IsLowestItemFault-table_of ds e is =
     let f = IsFirstFault-table_after empty_table ds e is in
     record {
       before = f.before;
@@ -343,7 +343,7 @@ table_of-faultless ds h = chosen (table_of ds) refl
   where
     chosen : (r : Result Table ItemError) → table_of ds ≡ r → Made ds
     chosen (Ok t) is = record { table = t; made = is }
-    chosen (Err e) is = let f = IsLowestFault-table_of ds e is in absurd (no_fault_among ds f.before f.line f.after e h f.parts f.fault)
+    chosen (Err e) is = let f = IsLowestItemFault-table_of ds e is in absurd (no_fault_among ds f.before f.line f.after e h f.parts f.fault)
 
 faultless_from_ok : (ds : List (ℕ × Directive)) → IsOk (table_of ds) → IsFaultless ds
 faultless_from_ok ds ok = chosen (table_of ds) refl ok
@@ -355,10 +355,10 @@ faultless_from_ok ds ok = chosen (table_of ds) refl ok
 pub IsOk-table_of : (ds : List (ℕ × Directive)) → IsOk (table_of ds) ↔ IsFaultless ds
 IsOk-table_of ds = (faultless_from_ok ds, λ (h : IsFaultless ds). ap is_ok (table_of-faultless ds h).made)
 
-pub Err-table_of : (ds : List (ℕ × Directive)) (e : ItemError) → (table_of ds ≡ Err e) ↔ IsLowestFault ds e
+pub Err-table_of : (ds : List (ℕ × Directive)) (e : ItemError) → (table_of ds ≡ Err e) ↔ IsLowestItemFault ds e
 Err-table_of ds e = (
-  IsLowestFault-table_of ds e,
-  λ (f : IsLowestFault ds e).
+  IsLowestItemFault-table_of ds e,
+  λ (f : IsLowestItemFault ds e).
       let m = table_of-faultless f.before f.faultless in
       table_of-first_fault ds e (
       record {

@@ -10,7 +10,7 @@ use Rattle.wq_text.proofs.SliceLaws.{LineStands, WordStands, LineStands-lines_of
 use Rattle.wq_decl.specs.declared.directive.Directive.{Directive}
 use Rattle.wq_decl.specs.declared.directive.Directive.TheVariants.{Item, Flush, Ordered}
 use Rattle.wq_decl.specs.Reading.{directives}
-use Rattle.wq_decl.specs.Origins.{words_in, IsFrom}
+use Rattle.wq_decl.specs.Origins.{directive_words, IsFrom}
 use Rattle.wq_decl.proofs.OriginLemmas.{IsFrom-directives}
 use Rattle.wq_items.specs.Table.{Table}
 use Rattle.wq_items.specs.Building.{table_of}
@@ -24,12 +24,12 @@ module _ (text : List ℕ) where
 
   -- the words of a directive stand in the text where they say
   abbrev Stands : ℕ × Directive → Type 0
-  Stands d = All (WordStands text) (words_in d.1)
+  Stands d = All (WordStands text) (directive_words d.1)
 
   Stands-IsFrom : (d : ℕ × Directive) → Any (IsFrom d) (lines_of text) → Stands d
   Stands-IsFrom d (k, line, lt, at, from) =
       let there : LineStands text line = All-contains (LineStands text) (lines_of text) line (LineStands-lines_of text) (k, lt, at) in
-      All-tail (WordStands text) from.first (words_in d.1) (subst (All (WordStands text)) from.words (WordStands-words_of text line there))
+      All-tail (WordStands text) from.first (directive_words d.1) (subst (All (WordStands text)) from.words (WordStands-words_of text line there))
 
   names_are : (ds : List (ℕ × Directive)) → AllByRecursion Stands ds → filter_map item_name ds ≡ map slice_at (filter_map item_span ds)
   names_are [] stand = refl

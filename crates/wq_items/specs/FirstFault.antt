@@ -28,7 +28,7 @@ IsFaultOfLine before d (TooManyFlushes n) = (d.0 ≡ n) × All (IsDeclared befor
 IsFaultOfLine before d OutOfMemory = ⊥
 
 -- e is the fault of a line, and the lines before it are faultless
-pub record IsLowestFault (ds : List (ℕ × Directive)) (e : ItemError) : Type 0 where
+pub record IsLowestItemFault (ds : List (ℕ × Directive)) (e : ItemError) : Type 0 where
   pub before : List (ℕ × Directive)
   pub line : ℕ × Directive
   pub after : List (ℕ × Directive)

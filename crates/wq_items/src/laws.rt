@@ -13,7 +13,7 @@ ghost use Rattle.wq_items.specs.declared.fault.ItemError.{ItemError};
 ghost use Rattle.wq_items.specs.Table.{Table, IsTable, flush_count};
 ghost use Rattle.wq_items.specs.Building.{table_of};
 ghost use Rattle.wq_items.specs.Flushes.{item_name, item_span, flushes, flushes_of, named_targets};
-ghost use Rattle.wq_items.specs.FirstFault.{IsFaultless, IsLowestFault};
+ghost use Rattle.wq_items.specs.FirstFault.{IsFaultless, IsLowestItemFault};
 
 /// The items of a table are those of the `item` lines, in order: their names, and where these stand.
 pub fn items_are_those_of_the_item_lines()
@@ -31,7 +31,7 @@ pub fn names_are_slices_of_the_text()
 /// faultless ones.
 pub fn faults_without_tables()
     ensures none { (ds : List (ℕ × Directive)) → IsOk (table_of ds) ↔ IsFaultless ds }
-    ensures lowest { (ds : List (ℕ × Directive)) (e : ItemError) → (table_of ds ≡ Err e) ↔ IsLowestFault ds e }
+    ensures lowest { (ds : List (ℕ × Directive)) (e : ItemError) → (table_of ds ≡ Err e) ↔ IsLowestItemFault ds e }
 {}
 
 /// What holds of every table holds of the one that directives with names declare.

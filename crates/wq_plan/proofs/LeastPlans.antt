@@ -7,7 +7,7 @@ use Rattle.std.proofs.lemmas.List.Elements.{All-nil, All-cons}
 use Rattle.std.proofs.lemmas.Option.{get_or_from_slice_get, slice_get_within}
 use Rattle.wq_items.specs.Chain.{IsChain}
 use Rattle.wq_groups.specs.Declaration.{Declaration, GroupWaits, IsDeclaration}
-use Rattle.wq_groups.specs.Assignment.{Assignment, IsAssignment, lane_of}
+use Rattle.wq_groups.specs.Assignment.{Assignment, IsAssignment, group_lane}
 use Rattle.wq_core.specs.Deadlock.{IsLeast}
 use Rattle.wq_core.proofs.Least.{IsLeast-chain}
 use Rattle.wq_plan.specs.Plan.{IsPlan, lanes_of}
@@ -33,11 +33,11 @@ module _ (d : Declaration) (is : IsDeclaration d) where
   chain-below g [] below chain = All-cons (λ v. v < d.groups) g [] below (All-nil (λ v. v < d.groups))
   chain-below g (h ∷ others) below chain = All-cons (λ v. v < d.groups) g (h ∷ others) below (chain-below h others (awaited-group g h chain.0) chain.1)
 
-  module _ (a : Assignment) (plan : IsPlan d a) (falls : (g h : ℕ) → g < d.groups → GroupWaits d g h → lane_of a h < lane_of a g) where
+  module _ (a : Assignment) (plan : IsPlan d a) (falls : (g h : ℕ) → g < d.groups → GroupWaits d g h → group_lane a h < group_lane a g) where
     IsAssignment-plan : IsAssignment d.groups a
     IsAssignment-plan = record { one_each = plan.one_each; within = subst (λ n. All (λ l. l < n) a.lane_of_group) (sym plan.count) (lanes_of-above a.lane_of_group) }
 
-    all_fall : (g h : ℕ) → GroupWaits d g h → lane_of a h < lane_of a g
+    all_fall : (g h : ℕ) → GroupWaits d g h → group_lane a h < group_lane a g
     all_fall g h waits = falls g h (waiting-group g h waits) waits
 
     pub IsLeast-lanes_fall : IsLeast d a

@@ -7,7 +7,7 @@ use Rattle.std.proofs.lemmas.Bool.{eqb-false, cases_lt}
 use Rattle.std.proofs.lemmas.List.Elements.{All-from_recursion, All-contains}
 use Rattle.std.proofs.lemmas.List.Quantifiers.{position-Some}
 use Rattle.wq_groups.specs.Declaration.{Declaration, IsDeclaration}
-use Rattle.wq_groups.specs.Assignment.{Assignment, lane_of, lane_of_item}
+use Rattle.wq_groups.specs.Assignment.{Assignment, group_lane, item_lane}
 use Rattle.wq_graph.specs.declared.arc.WaitArc.{WaitArc}
 use Rattle.wq_graph.specs.Graph.{IsGraph, arcs_at, group_graph}
 use Rattle.wq_levels.specs.Ranks.{AreRanks}
@@ -80,14 +80,14 @@ module _ (d : Declaration) (is : IsDeclaration d) (a : Assignment) where
   IsStepDown-from_step : (g : ℕ) (arc : WaitArc) → IsStep (group_graph d) a.lane_of_group g arc → IsStepDown d a arc
   IsStepDown-from_step g arc step =
       let here = leaving-declared d is g arc step.leaves in
-      let to : lane_of a arc.head ≡ lane_of_item a d.group_of arc.dst = ap (lane_of a) here.0.head in
-      let from : lane_of_item a d.group_of arc.src ≡ lane_of a g = ap (lane_of a) here.1 in
+      let to : group_lane a arc.head ≡ item_lane a d.group_of arc.dst = ap (group_lane a) here.0.head in
+      let from : item_lane a d.group_of arc.src ≡ group_lane a g = ap (group_lane a) here.1 in
       record {
         declared = here.0;
         falls = omega (arith, to, from, step.falls);
         least = λ b declared same_group same_lane.
             let among = (AreArcsFrom-group_graph d is g).all b declared (same_group ∙ here.1) in
-            All-contains (λ (e : WaitArc). lane_of a e.head ≡ lane_of a arc.head → arc.place ≤ e.place) (arcs_at (group_graph d) g) b step.least among (ap (lane_of a) declared.head ∙ same_lane ∙ sym to);
+            All-contains (λ (e : WaitArc). group_lane a e.head ≡ group_lane a arc.head → arc.place ≤ e.place) (arcs_at (group_graph d) g) b step.least among (ap (group_lane a) declared.head ∙ same_lane ∙ sym to);
       }
 
   AreStepsDown : (g : ℕ) (arcs : List WaitArc) → AreSteps (group_graph d) a.lane_of_group g arcs → AllByRecursion (IsStepDown d a) arcs

@@ -6,7 +6,7 @@ use Rattle.wq_items.specs.Chain.{IsChain, HasCircle}
 use Rattle.wq_items.proofs.Chains.{IsRank-unique}
 use Rattle.wq_items.proofs.Circles.{no_circle_from_ranks}
 use Rattle.wq_groups.specs.Declaration.{Declaration, GroupWaits, IsDeclaration}
-use Rattle.wq_groups.specs.Assignment.{Assignment, lane_of}
+use Rattle.wq_groups.specs.Assignment.{Assignment, group_lane}
 use Rattle.wq_graph.specs.declared.arc.WaitArc.{WaitArc}
 use Rattle.wq_graph.specs.Graph.{HasArc, arcs_from, group_graph}
 use Rattle.wq_levels.specs.Ranks.{AreRanks}
@@ -32,10 +32,10 @@ length-group_graph d = length-map-range_with_len (arcs_from d.waits d.group_of) 
 module _ (d : Declaration) (a : Assignment) (plan : IsPlan d a) where
   -- no circle has a plan
   pub IsPlan-no_circle : ¬ HasCircle (GroupWaits d) d.groups
-  IsPlan-no_circle = no_circle_from_ranks (GroupWaits d) d.groups (λ g group. (lane_of a g, plan.ranks g group))
+  IsPlan-no_circle = no_circle_from_ranks (GroupWaits d) d.groups (λ g group. (group_lane a g, plan.ranks g group))
 
   -- a group's lane is above that of each group that it waits for
-  pub IsPlan-falls : (g h : ℕ) → g < d.groups → GroupWaits d g h → lane_of a h < lane_of a g
+  pub IsPlan-falls : (g h : ℕ) → g < d.groups → GroupWaits d g h → group_lane a h < group_lane a g
   IsPlan-falls = ranks-fall (GroupWaits d) d.groups a.lane_of_group plan.one_each plan.ranks
 
   -- no chain has more groups than there are lanes
@@ -56,7 +56,7 @@ IsPlan-unique d a b one other =
     let same : a.lane_of_group ≡ b.lane_of_group =
     ext_get_or 0 a.lane_of_group b.lane_of_group (one.one_each ∙ sym other.one_each) (λ g fits.
     let group : g < d.groups = omega (arith, one.one_each) in
-    IsRank-unique (GroupWaits d) g (lane_of a g) (lane_of b g) (one.ranks g group) (other.ranks g group)) in
+    IsRank-unique (GroupWaits d) g (group_lane a g) (group_lane b g) (one.ranks g group) (other.ranks g group)) in
     let count : a.lanes ≡ b.lanes = one.count ∙ ap lanes_of same ∙ sym other.count in
     rw (count, same) refl
 
@@ -65,14 +65,14 @@ module _ (d : Declaration) (is : IsDeclaration d) where
   pub AreRanks-from_plan : (a : Assignment) → IsPlan d a → AreRanks (group_graph d) a.lane_of_group
   AreRanks-from_plan a plan = record {
     one_each = plan.one_each ∙ sym (length-group_graph d);
-    longest = λ g fits. IsRank-same (GroupWaits d) (HasArc (group_graph d)) (GroupWaits-HasArc d is) g (lane_of a g) (plan.ranks g (omega (arith, length-group_graph d)));
+    longest = λ g fits. IsRank-same (GroupWaits d) (HasArc (group_graph d)) (GroupWaits-HasArc d is) g (group_lane a g) (plan.ranks g (omega (arith, length-group_graph d)));
   }
 
   pub IsPlan-from_ranks : (a : Assignment) → AreRanks (group_graph d) a.lane_of_group → a.lanes ≡ lanes_of a.lane_of_group → IsPlan d a
   IsPlan-from_ranks a are count = record {
     one_each = are.one_each ∙ length-group_graph d;
     ranks = λ g group.
-        IsRank-same (HasArc (group_graph d)) (GroupWaits d) (λ v w. ((GroupWaits-HasArc d is v w).1, (GroupWaits-HasArc d is v w).0)) g (lane_of a g) (are.longest g (omega (arith, length-group_graph d)));
+        IsRank-same (HasArc (group_graph d)) (GroupWaits d) (λ v w. ((GroupWaits-HasArc d is v w).1, (GroupWaits-HasArc d is v w).0)) g (group_lane a g) (are.longest g (omega (arith, length-group_graph d)));
     count = count;
   }
 

@@ -8,7 +8,7 @@ use Rattle.wq_items.specs.declared.target.Target.{Target}
 use Rattle.wq_items.specs.Table.{ItemWaits, targets_of}
 use Rattle.wq_items.proofs.Tables.{ItemWaits-below}
 use Rattle.wq_groups.specs.Declaration.{Declaration, GroupWaits, IsDeclaration}
-use Rattle.wq_groups.specs.Assignment.{Assignment, lane_of as lane_of_group}
+use Rattle.wq_groups.specs.Assignment.{Assignment, group_lane}
 use Rattle.wq_core.specs.Wiring.{wiring, lane_of}
 use Rattle.wq_core.specs.Deadlock.{IsSafe}
 use Rattle.wq_core.proofs.Safety.{IsSafe-falls}
@@ -40,11 +40,11 @@ module _ (d : Declaration) (is : IsDeclaration d) where
     of_target = slice_get-get_or d.group_of j 0 (target-below i j declared);
   }
 
-  pub IsSafe-lanes_fall : (a : Assignment) → ((g h : ℕ) → g < d.groups → GroupWaits d g h → lane_of_group a h < lane_of_group a g) → IsSafe (wiring d a)
+  pub IsSafe-lanes_fall : (a : Assignment) → ((g h : ℕ) → g < d.groups → GroupWaits d g h → group_lane a h < group_lane a g) → IsSafe (wiring d a)
   IsSafe-lanes_fall a falls =
       IsSafe-falls (wiring d a) (λ q. q) (λ i j declared.
-      let item : lane_of (wiring d a) i ≡ lane_of_group a (slice_index d.group_of i) = get_or-map (lane_of_group a) d.group_of i 0 0 (item-below i j declared) in
-      let target : lane_of (wiring d a) j ≡ lane_of_group a (slice_index d.group_of j) = get_or-map (lane_of_group a) d.group_of j 0 0 (target-below i j declared) in
+      let item : lane_of (wiring d a) i ≡ group_lane a (slice_index d.group_of i) = get_or-map (group_lane a) d.group_of i 0 0 (item-below i j declared) in
+      let target : lane_of (wiring d a) j ≡ group_lane a (slice_index d.group_of j) = get_or-map (group_lane a) d.group_of j 0 0 (target-below i j declared) in
       let below = falls (slice_index d.group_of i) (slice_index d.group_of j) (is.partition.within i 0 (item-below i j declared)) (GroupWaits-declared i j declared) in
       omega (arith, item, target, below)
       )

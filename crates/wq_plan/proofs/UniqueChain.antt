@@ -4,7 +4,7 @@ use Rattle.std.specs.List.{AllByRecursion}
 use Rattle.std.proofs.lemmas.Bool.{cases_order}
 use Rattle.std.proofs.lemmas.List.Elements.{recursion_from_All}
 use Rattle.wq_groups.specs.Declaration.{Declaration, IsDeclaration}
-use Rattle.wq_groups.specs.Assignment.{Assignment, lane_of, lane_of_item}
+use Rattle.wq_groups.specs.Assignment.{Assignment, group_lane, item_lane}
 use Rattle.wq_graph.specs.declared.arc.WaitArc.{WaitArc}
 use Rattle.wq_graph.specs.Graph.{arcs_at, group_graph}
 use Rattle.wq_plan.specs.LongestChain.{IsStepDown, IsFirstOnLast, IsLongestChain}
@@ -29,7 +29,7 @@ module _ (d : Declaration) (a : Assignment) where
     IsStepDown-unique x y one other same =
         let g : ℕ = tail_of d x in
         let from = AreArcsFrom-group_graph d is g in
-        let lanes : lane_of_item a d.group_of x.dst ≡ lane_of_item a d.group_of y.dst = omega (arith, one.falls, other.falls, ap (lane_of a) same) in
+        let lanes : item_lane a d.group_of x.dst ≡ item_lane a d.group_of y.dst = omega (arith, one.falls, other.falls, ap (group_lane a) same) in
         let up : x.place ≤ y.place = one.least y other.declared (sym same) (sym lanes) in
         let down : y.place ≤ x.place = other.least x one.declared same lanes in
         same_place (arcs_at (group_graph d) g) x y (arcs_at-rise (group_graph d) (IsGraph-group_graph d is) g) (from.all x one.declared refl) (from.all y other.declared (sym same)) (omega arith)

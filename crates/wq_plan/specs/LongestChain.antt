@@ -2,20 +2,20 @@
 use Rattle.std.specs.Prelude.{◌≡◌, ℕ, ◌+◌, ◌-◌, ◌<◌, ◌≤◌, List, length, slice_index, slice_get, IfSome}
 use Rattle.std.specs.List.{All, AllAdjacentBelow}
 use Rattle.wq_groups.specs.Declaration.{Declaration}
-use Rattle.wq_groups.specs.Assignment.{Assignment, lane_of, lane_of_item}
+use Rattle.wq_groups.specs.Assignment.{Assignment, group_lane, item_lane}
 use Rattle.wq_graph.specs.declared.arc.WaitArc.{WaitArc}
 use Rattle.wq_graph.specs.Graph.{IsArc}
 
 -- a declared flush of an item one lane below, and of all flushes from the same group to that lane the one of least place
 pub record IsStepDown (d : Declaration) (a : Assignment) (arc : WaitArc) : Type 0 where
   pub declared : IsArc d.waits d.group_of arc
-  pub falls : lane_of_item a d.group_of arc.dst + 1 ≡ lane_of_item a d.group_of arc.src
+  pub falls : item_lane a d.group_of arc.dst + 1 ≡ item_lane a d.group_of arc.src
   pub least : (b : WaitArc) → IsArc d.waits d.group_of b → slice_index d.group_of b.src ≡ slice_index d.group_of arc.src
-      → lane_of_item a d.group_of b.dst ≡ lane_of_item a d.group_of arc.dst → arc.place ≤ b.place
+      → item_lane a d.group_of b.dst ≡ item_lane a d.group_of arc.dst → arc.place ≤ b.place
 
 -- a group on the last lane, and no lower-numbered one is
 abbrev pub IsFirstOnLast : Assignment → ℕ → Type 0
-IsFirstOnLast a g = (lane_of a g + 1 ≡ a.lanes) × ((h : ℕ) → h < g → lane_of a h < lane_of a g)
+IsFirstOnLast a g = (group_lane a g + 1 ≡ a.lanes) × ((h : ℕ) → h < g → group_lane a h < group_lane a g)
 
 -- one arc fewer than there are lanes, none where there is no lane; each leaves the group where the one before it led; the
 -- first leaves the lowest-numbered group on the last lane

@@ -4,7 +4,7 @@ use Rattle.std.specs.List.{fold, find, position}
 use Rattle.std.specs.Option.{option_map_or}
 use Rattle.wq_items.specs.Chain.{IsRank}
 use Rattle.wq_groups.specs.Declaration.{Declaration, GroupWaits}
-use Rattle.wq_groups.specs.Assignment.{Assignment, lane_of}
+use Rattle.wq_groups.specs.Assignment.{Assignment, group_lane}
 use Rattle.wq_graph.specs.declared.arc.WaitArc.{WaitArc}
 use Rattle.wq_graph.specs.Graph.{arcs_at}
 
@@ -16,7 +16,7 @@ lanes_of lane = fold (λ most l. max most (l + 1)) 0 lane
 -- as the greatest of these plus one, none where there is no group
 pub record IsPlan (d : Declaration) (a : Assignment) : Type 0 where
   pub one_each : length a.lane_of_group ≡ d.groups
-  pub ranks : (g : ℕ) → g < d.groups → IsRank (GroupWaits d) g (lane_of a g)
+  pub ranks : (g : ℕ) → g < d.groups → IsRank (GroupWaits d) g (group_lane a g)
   pub count : a.lanes ≡ lanes_of a.lane_of_group
 
 -- the arcs from a vertex down to lane 0, where `below` lanes are below the vertex's: each is the first, in order of place,

@@ -6,7 +6,7 @@ ghost use Rattle.std.specs.Prelude.{◌≡◌, ℕ, ◌+◌, ◌<◌, ◌≤◌,
 ghost use Rattle.std.specs.List.{All};
 ghost use Rattle.wq_items.specs.Chain.{IsChain, HasCircle};
 ghost use Rattle.wq_groups.specs.Declaration.{Declaration, GroupWaits, IsDeclaration};
-ghost use Rattle.wq_groups.specs.Assignment.{Assignment, lane_of};
+ghost use Rattle.wq_groups.specs.Assignment.{Assignment, group_lane};
 ghost use Rattle.wq_graph.specs.declared.arc.WaitArc.{WaitArc};
 ghost use Rattle.wq_graph.specs.Graph.{group_graph};
 ghost use Rattle.wq_core.specs.Wiring.{wiring};
@@ -31,7 +31,7 @@ pub fn lanes_are_few()
 /// A group's lane is above that of each group that it waits for.
 pub fn lanes_fall()
     ensures { (d : Declaration) (a : Assignment) (g h : ℕ) →
-        IsPlan d a → g < d.groups → GroupWaits d g h → lane_of a h < lane_of a g }
+        IsPlan d a → g < d.groups → GroupWaits d g h → group_lane a h < group_lane a g }
 {}
 
 /// No run of a plan ends stuck, whatever is queued and cancelled, and whatever the executions flush.

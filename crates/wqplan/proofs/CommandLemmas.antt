@@ -16,7 +16,7 @@ use Rattle.clap.proofs.ValueTestLemmas.{Accepts-accepts}
 use Rattle.clap.proofs.WalkLemmas.{first_value-rows, one_text-rows}
 use Rattle.clap.specs.Lexer.{long_of, short_of}
 use Rattle.clap.proofs.OnLiterals.{clap_on_literals}
-use Rattle.wqplan.specs.CommandLine.{wqplan, is_no_option, Asked, Asks, AsksFor, Calls, Gives, IsNumber, name_of}
+use Rattle.wqplan.specs.CommandLine.{wqplan, is_no_option, Asked, Asks, AsksFor, Calls, GivesArguments, IsNumber, command_name}
 use Rattle.wqplan.specs.CommandLine.Asked.{plans, checks, judges, replays, explains}
 
 -- where a part that is turned around is one of those that hold, it doesn't
@@ -230,43 +230,43 @@ met_is (Some p) name rows named held =
     rw (← same_name, ← same_rows) refl
 
 -- the same matches give one command the same files
-pub Gives-unique : (rows : List Row) (a b : Asked) → name_of a ≡ name_of b → Gives rows a → Gives rows b → a ≡ b
-Gives-unique rows (plans f) (plans f2) names g h = ap plans (sym g ∙ h)
-Gives-unique rows (plans f) (checks d c) names g h = cc
-Gives-unique rows (plans f) (judges d a) names g h = cc
-Gives-unique rows (plans f) (replays d a r) names g h = cc
-Gives-unique rows (plans f) (explains n) names g h = cc
-Gives-unique rows (checks d c) (plans f) names g h = cc
-Gives-unique rows (checks d c) (checks d2 c2) names (gd, gc) (hd, hc) = ap₂ checks (same_value _ d d2 gd hd) (same_value _ c c2 gc hc)
-Gives-unique rows (checks d c) (judges d2 a) names g h = cc
-Gives-unique rows (checks d c) (replays d2 a r) names g h = cc
-Gives-unique rows (checks d c) (explains n) names g h = cc
-Gives-unique rows (judges d a) (plans f) names g h = cc
-Gives-unique rows (judges d a) (checks d2 c) names g h = cc
-Gives-unique rows (judges d a) (judges d2 a2) names (gd, ga) (hd, ha) = ap₂ judges (same_value _ d d2 gd hd) (same_value _ a a2 ga ha)
-Gives-unique rows (judges d a) (replays d2 a2 r) names g h = cc
-Gives-unique rows (judges d a) (explains n) names g h = cc
-Gives-unique rows (replays d a r) (plans f) names g h = cc
-Gives-unique rows (replays d a r) (checks d2 c) names g h = cc
-Gives-unique rows (replays d a r) (judges d2 a2) names g h = cc
-Gives-unique rows (replays d a r) (replays d2 a2 r2) names (gd, ga, gr) (hd, ha, hr) =
+pub GivesArguments-unique : (rows : List Row) (a b : Asked) → command_name a ≡ command_name b → GivesArguments rows a → GivesArguments rows b → a ≡ b
+GivesArguments-unique rows (plans f) (plans f2) names g h = ap plans (sym g ∙ h)
+GivesArguments-unique rows (plans f) (checks d c) names g h = cc
+GivesArguments-unique rows (plans f) (judges d a) names g h = cc
+GivesArguments-unique rows (plans f) (replays d a r) names g h = cc
+GivesArguments-unique rows (plans f) (explains n) names g h = cc
+GivesArguments-unique rows (checks d c) (plans f) names g h = cc
+GivesArguments-unique rows (checks d c) (checks d2 c2) names (gd, gc) (hd, hc) = ap₂ checks (same_value _ d d2 gd hd) (same_value _ c c2 gc hc)
+GivesArguments-unique rows (checks d c) (judges d2 a) names g h = cc
+GivesArguments-unique rows (checks d c) (replays d2 a r) names g h = cc
+GivesArguments-unique rows (checks d c) (explains n) names g h = cc
+GivesArguments-unique rows (judges d a) (plans f) names g h = cc
+GivesArguments-unique rows (judges d a) (checks d2 c) names g h = cc
+GivesArguments-unique rows (judges d a) (judges d2 a2) names (gd, ga) (hd, ha) = ap₂ judges (same_value _ d d2 gd hd) (same_value _ a a2 ga ha)
+GivesArguments-unique rows (judges d a) (replays d2 a2 r) names g h = cc
+GivesArguments-unique rows (judges d a) (explains n) names g h = cc
+GivesArguments-unique rows (replays d a r) (plans f) names g h = cc
+GivesArguments-unique rows (replays d a r) (checks d2 c) names g h = cc
+GivesArguments-unique rows (replays d a r) (judges d2 a2) names g h = cc
+GivesArguments-unique rows (replays d a r) (replays d2 a2 r2) names (gd, ga, gr) (hd, ha, hr) =
     rw (same_value _ d d2 gd hd, same_value _ a a2 ga ha, same_value _ r r2 gr hr) refl
-Gives-unique rows (replays d a r) (explains n) names g h = cc
-Gives-unique rows (explains n) (plans f) names g h = cc
-Gives-unique rows (explains n) (checks d c) names g h = cc
-Gives-unique rows (explains n) (judges d a) names g h = cc
-Gives-unique rows (explains n) (replays d a r) names g h = cc
-Gives-unique rows (explains n) (explains n2) names (word, is, number) (other, also, number2) =
+GivesArguments-unique rows (replays d a r) (explains n) names g h = cc
+GivesArguments-unique rows (explains n) (plans f) names g h = cc
+GivesArguments-unique rows (explains n) (checks d c) names g h = cc
+GivesArguments-unique rows (explains n) (judges d a) names g h = cc
+GivesArguments-unique rows (explains n) (replays d a r) names g h = cc
+GivesArguments-unique rows (explains n) (explains n2) names (word, is, number) (other, also, number2) =
     let same : word ≡ other = same_value _ word other is also in
     ap explains (number.2 ∙ (ap (λ (w : Text). digits_value 10 (without_leading_plus w)) same ∙ sym number2.2))
 
 -- a command that was met asks for one thing
 pub AsksFor-unique : (met : Option (Text × List Row)) (a b : Asked) → AsksFor met a → AsksFor met b → a ≡ b
 AsksFor-unique met a b (rows, is, gives) (others, also, given) =
-    let both : (name_of a, rows) ≡ (name_of b, others) = same_value {T = Text × List Row} met (name_of a, rows) (name_of b, others) is also in
-    let names : name_of a ≡ name_of b = ap (λ (p : Text × List Row). p.0) both in
+    let both : (command_name a, rows) ≡ (command_name b, others) = same_value {T = Text × List Row} met (command_name a, rows) (command_name b, others) is also in
+    let names : command_name a ≡ command_name b = ap (λ (p : Text × List Row). p.0) both in
     let same : others ≡ rows = sym (ap (λ (p : Text × List Row). p.1) both) in
-    Gives-unique rows a b names gives (subst (λ (rs : List Row). Gives rs b) same given)
+    GivesArguments-unique rows a b names gives (subst (λ (rs : List Row). GivesArguments rs b) same given)
 
 -- what holds of an error holds of the result that has it
 pub failed_with : {T E : Type 0} (r : Result T E) (e : E) (P : T → Type 0) (Q : E → Type 0) → IsErrAnd r (λ y. y ≡ e) → Q e → MatchResult r P Q
@@ -275,12 +275,12 @@ failed_with (Err y) e P Q is holds = subst Q (sym is) holds
 
 -- what asks for `replay` gives it its three files
 pub replays_of : (met : Option (Text × List Row)) (rows : List Row) (wanted : Asked) → met ≡ Some (codes "replay", rows) → AsksFor met wanted
-    → (declaration : Text) × (assignment : Text) × (run : Text) × Gives rows (replays declaration assignment run)
+    → (declaration : Text) × (assignment : Text) × (run : Text) × GivesArguments rows (replays declaration assignment run)
 replays_of met rows wanted is (others, also, given) =
-    let both : (name_of wanted, others) ≡ (codes "replay", rows) = same_value {T = Text × List Row} met (name_of wanted, others) (codes "replay", rows) also is in
-    go wanted (ap (λ (p : Text × List Row). p.0) both) (subst (λ (rs : List Row). Gives rs wanted) (ap (λ (p : Text × List Row). p.1) both) given)
+    let both : (command_name wanted, others) ≡ (codes "replay", rows) = same_value {T = Text × List Row} met (command_name wanted, others) (codes "replay", rows) also is in
+    go wanted (ap (λ (p : Text × List Row). p.0) both) (subst (λ (rs : List Row). GivesArguments rs wanted) (ap (λ (p : Text × List Row). p.1) both) given)
   where
-    go : (w : Asked) → name_of w ≡ codes "replay" → Gives rows w → (d : Text) × (a : Text) × (r : Text) × Gives rows (replays d a r)
+    go : (w : Asked) → command_name w ≡ codes "replay" → GivesArguments rows w → (d : Text) × (a : Text) × (r : Text) × GivesArguments rows (replays d a r)
     go (plans f) name given = cc
     go (checks d c) name given = cc
     go (judges d a) name given = cc
@@ -302,12 +302,12 @@ replay_is_not_explain e = cc
 
 -- what asks for `explain` gives it its number
 pub explains_of : (met : Option (Text × List Row)) (rows : List Row) (wanted : Asked) → met ≡ Some (codes "explain", rows) → AsksFor met wanted
-    → (code : ℕ) × Gives rows (explains code)
+    → (code : ℕ) × GivesArguments rows (explains code)
 explains_of met rows wanted is (others, also, given) =
-    let both : (name_of wanted, others) ≡ (codes "explain", rows) = same_value {T = Text × List Row} met (name_of wanted, others) (codes "explain", rows) also is in
-    go wanted (ap (λ (p : Text × List Row). p.0) both) (subst (λ (rs : List Row). Gives rs wanted) (ap (λ (p : Text × List Row). p.1) both) given)
+    let both : (command_name wanted, others) ≡ (codes "explain", rows) = same_value {T = Text × List Row} met (command_name wanted, others) (codes "explain", rows) also is in
+    go wanted (ap (λ (p : Text × List Row). p.0) both) (subst (λ (rs : List Row). GivesArguments rs wanted) (ap (λ (p : Text × List Row). p.1) both) given)
   where
-    go : (w : Asked) → name_of w ≡ codes "explain" → Gives rows w → (code : ℕ) × Gives rows (explains code)
+    go : (w : Asked) → command_name w ≡ codes "explain" → GivesArguments rows w → (code : ℕ) × GivesArguments rows (explains code)
     go (plans f) name given = absurd (plan_is_not_explain name)
     go (checks d c) name given = absurd (check_is_not_explain name)
     go (judges d a) name given = absurd (deadlock_is_not_explain name)

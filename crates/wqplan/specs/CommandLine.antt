@@ -58,12 +58,12 @@ spelled (Replay declaration assignment run) = replays declaration.now assignment
 spelled (Explain code) = explains code
 
 -- the name of the command that is asked for
-abbrev pub name_of : Asked → Text
-name_of (plans file) = codes "plan"
-name_of (checks declaration certificate) = codes "check"
-name_of (judges declaration assignment) = codes "deadlock"
-name_of (replays declaration assignment run) = codes "replay"
-name_of (explains code) = codes "explain"
+abbrev pub command_name : Asked → Text
+command_name (plans file) = codes "plan"
+command_name (checks declaration certificate) = codes "check"
+command_name (judges declaration assignment) = codes "deadlock"
+command_name (replays declaration assignment run) = codes "replay"
+command_name (explains code) = codes "explain"
 
 -- the word is this number of 32 bits, in digits; a plus may stand before them
 abbrev pub IsNumber : Text → ℕ → Type 0
@@ -72,17 +72,17 @@ IsNumber word code =
     IsNumeral 10 digits × (digits_value 10 digits < 2 ^ 32) × (code ≡ digits_value 10 digits)
 
 -- the matches of the command give it these files, or this number
-abbrev pub Gives : List Row → Asked → Type 0
-Gives rows (plans file) = first_of (codes "FILE") rows ≡ file
-Gives rows (checks declaration certificate) = (first_of (codes "DECL") rows ≡ Some declaration) × (first_of (codes "CERT") rows ≡ Some certificate)
-Gives rows (judges declaration assignment) = (first_of (codes "DECL") rows ≡ Some declaration) × (first_of (codes "ASSIGN") rows ≡ Some assignment)
-Gives rows (replays declaration assignment run) =
+abbrev pub GivesArguments : List Row → Asked → Type 0
+GivesArguments rows (plans file) = first_of (codes "FILE") rows ≡ file
+GivesArguments rows (checks declaration certificate) = (first_of (codes "DECL") rows ≡ Some declaration) × (first_of (codes "CERT") rows ≡ Some certificate)
+GivesArguments rows (judges declaration assignment) = (first_of (codes "DECL") rows ≡ Some declaration) × (first_of (codes "ASSIGN") rows ≡ Some assignment)
+GivesArguments rows (replays declaration assignment run) =
     (first_of (codes "DECL") rows ≡ Some declaration) × (first_of (codes "ASSIGN") rows ≡ Some assignment) × (first_of (codes "RUN") rows ≡ Some run)
-Gives rows (explains code) = (word : Text) × (one_of (codes "CODE") rows ≡ Some word) × IsNumber word code
+GivesArguments rows (explains code) = (word : Text) × (one_of (codes "CODE") rows ≡ Some word) × IsNumber word code
 
 -- a command that was met, with its matches, asks for this
 abbrev pub AsksFor : Option (Text × List Row) → Asked → Type 0
-AsksFor met wanted = (rows : List Row) × (met ≡ Some (name_of wanted, rows)) × Gives rows wanted
+AsksFor met wanted = (rows : List Row) × (met ≡ Some (command_name wanted, rows)) × GivesArguments rows wanted
 
 -- the words ask for this
 abbrev pub Asks : List Text → Asked → Type 0

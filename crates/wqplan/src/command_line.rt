@@ -5,7 +5,7 @@
 ghost use Rattle.std.specs.Prelude.{◌≡◌, ℕ, List, Some, codes, false, IfOk, IfSome, IsSome, MatchResult, map};
 ghost use Rattle.clap.specs.Words.{app_of, found_of, kind_of, rows_of, rule_of, subcommand_rows_of};
 ghost use Rattle.clap.specs.declared.error.kind.ErrorKind.TheVariants.{OutOfMemory};
-ghost use Rattle.wqplan.specs.CommandLine.{check, deadlock, explain, needed, needed_number, plan, replay, spelled, wqplan, Asked, Asks, AsksFor, Calls, Gives, checks, explains, judges, replays};
+ghost use Rattle.wqplan.specs.CommandLine.{check, deadlock, explain, needed, needed_number, plan, replay, spelled, wqplan, Asked, Asks, AsksFor, Calls, GivesArguments, checks, explains, judges, replays};
 
 use crate::help;
 use clap::builder::ValueParser;
@@ -149,7 +149,7 @@ fn program<'a>(alloc: Global) -> Result<Command<'a>, AllocError>
 /// What `check` is asked for. Its two files are there in all matches that a parse gives.
 fn check_request<'a>(given: &ArgMatches<'a>) -> Option<Request<'a>>
     ensures asked { IfSome result (λ request. AsksFor (Some (codes "check", rows_of (found_of given.now))) (spelled request)) }
-    ensures all { (declaration certificate : List ℕ) → Gives (rows_of (found_of given.now)) (checks declaration certificate) → IsSome result }
+    ensures all { (declaration certificate : List ℕ) → GivesArguments (rows_of (found_of given.now)) (checks declaration certificate) → IsSome result }
 {
     let declaration = given.get_str("DECL")?;
     let certificate = given.get_str("CERT")?;
@@ -162,7 +162,7 @@ fn check_request<'a>(given: &ArgMatches<'a>) -> Option<Request<'a>>
 /// What `deadlock` is asked for. Its two files are there in all matches that a parse gives.
 fn deadlock_request<'a>(given: &ArgMatches<'a>) -> Option<Request<'a>>
     ensures asked { IfSome result (λ request. AsksFor (Some (codes "deadlock", rows_of (found_of given.now))) (spelled request)) }
-    ensures all { (declaration assignment : List ℕ) → Gives (rows_of (found_of given.now)) (judges declaration assignment) → IsSome result }
+    ensures all { (declaration assignment : List ℕ) → GivesArguments (rows_of (found_of given.now)) (judges declaration assignment) → IsSome result }
 {
     let declaration = given.get_str("DECL")?;
     let assignment = given.get_str("ASSIGN")?;
@@ -175,7 +175,7 @@ fn deadlock_request<'a>(given: &ArgMatches<'a>) -> Option<Request<'a>>
 /// What `replay` is asked for. Its three files are there in all matches that a parse gives.
 fn replay_request<'a>(given: &ArgMatches<'a>) -> Option<Request<'a>>
     ensures asked { IfSome result (λ request. AsksFor (Some (codes "replay", rows_of (found_of given.now))) (spelled request)) }
-    ensures all { (declaration assignment run : List ℕ) → Gives (rows_of (found_of given.now)) (replays declaration assignment run) → IsSome result }
+    ensures all { (declaration assignment run : List ℕ) → GivesArguments (rows_of (found_of given.now)) (replays declaration assignment run) → IsSome result }
 {
     let declaration = given.get_str("DECL")?;
     let assignment = given.get_str("ASSIGN")?;
@@ -190,7 +190,7 @@ fn replay_request<'a>(given: &ArgMatches<'a>) -> Option<Request<'a>>
 /// What `explain` is asked for. Its number is there in all matches that a parse gives.
 fn explain_request<'a>(given: &ArgMatches<'a>) -> Option<Request<'a>>
     ensures asked { IfSome result (λ request. AsksFor (Some (codes "explain", rows_of (found_of given.now))) (spelled request)) }
-    ensures all { (code : ℕ) → Gives (rows_of (found_of given.now)) (explains code) → IsSome result }
+    ensures all { (code : ℕ) → GivesArguments (rows_of (found_of given.now)) (explains code) → IsSome result }
 {
     let code = given.get_one("CODE")?;
     Some(Request::Explain { code })

@@ -1,10 +1,10 @@
 use Rattle.std.proofs.Common.{List, ℕ, Err, subst, ap, inr}
-use Rattle.wq_cert.specs.Texts.{max_text as max_certificate}
+use Rattle.wq_cert.specs.Texts.{max_certificate}
 use Rattle.wq_meter.specs.Meter.{WritesFront, WritesWhole}
 use Rattle.wq_meter.specs.declared.fault.Fault.TheVariants.{Read}
 use Rattle.wq_commands.specs.Checking.{Checks}
 use Rattle.wq_commands.specs.CheckInput.{ChecksInput}
-use Rattle.wq_commands.specs.Declaration.{max_text}
+use Rattle.wq_commands.specs.Declaration.{max_declaration}
 use Rattle.wq_commands.specs.declared.end.End.{End}
 use Rattle.wq_commands.proofs.PromiseLemmas.{YesIsTrue-checks}
 use Rattle.wq_commands.proofs.InputLemmas.{IsFrontOf, IsFrontOf-vec, Err-passed, ChecksInput-read}
@@ -12,35 +12,35 @@ use Rattle.wq_commands.proofs.check.check_cmd.Goals as goal
 
 pub returns-in_err-claim-clause-order : goal.returns-in_err-claim-clause-order
 returns-in_err-claim-clause-order g c =
-    let text_front : IsFrontOf g.D.Read.remaining c.args.declaration.now c.read_text.new.reader max_text c.in_ok-text.text.items =
+    let text_front : IsFrontOf g.D.Read.remaining c.args.declaration.now c.read_text.new.reader max_declaration c.in_ok-text.text.items =
     let read = c.in_ok-text.ensures in
     IsFrontOf-vec _ _ _ _ _ _ c.in_ok-text.text.ok.0 read.text read.within read.rest read.counted read.few_calls (read.not_failed (λ is. cc)) in
     inr text_front.given
 
 pub returns-in_err-claim-clause-read_failed : goal.returns-in_err-claim-clause-read_failed
 returns-in_err-claim-clause-read_failed g c =
-    let text_front : IsFrontOf g.D.Read.remaining c.args.declaration.now c.read_text.new.reader max_text c.in_ok-text.text.items =
+    let text_front : IsFrontOf g.D.Read.remaining c.args.declaration.now c.read_text.new.reader max_declaration c.in_ok-text.text.items =
     let read = c.in_ok-text.ensures in
     IsFrontOf-vec _ _ _ _ _ _ c.in_ok-text.text.ok.0 read.text read.within read.rest read.counted read.few_calls (read.not_failed (λ is. cc)) in
     λ is. inr (text_front.given, c.in_err-claim.ensures.failed (ap Err (Err-passed _ _ Read c.from_residual-in_err-claim.ensures.1 is)))
 
 pub returns-in_err-end-clause-order : goal.returns-in_err-end-clause-order
 returns-in_err-end-clause-order g c =
-    let text_front : IsFrontOf g.D.Read.remaining c.args.declaration.now c.read_text.new.reader max_text c.in_ok-text.text.items =
+    let text_front : IsFrontOf g.D.Read.remaining c.args.declaration.now c.read_text.new.reader max_declaration c.in_ok-text.text.items =
     let read = c.in_ok-text.ensures in
     IsFrontOf-vec _ _ _ _ _ _ c.in_ok-text.text.ok.0 read.text read.within read.rest read.counted read.few_calls (read.not_failed (λ is. cc)) in
     inr text_front.given
 
 pub returns-in_err-write_text-clause-order : goal.returns-in_err-write_text-clause-order
 returns-in_err-write_text-clause-order g c =
-    let text_front : IsFrontOf g.D.Read.remaining c.args.declaration.now c.read_text.new.reader max_text c.in_ok-text.text.items =
+    let text_front : IsFrontOf g.D.Read.remaining c.args.declaration.now c.read_text.new.reader max_declaration c.in_ok-text.text.items =
     let read = c.in_ok-text.ensures in
     IsFrontOf-vec _ _ _ _ _ _ c.in_ok-text.text.ok.0 read.text read.within read.rest read.counted read.few_calls (read.not_failed (λ is. cc)) in
     inr text_front.given
 
 pub returns-in_err-write_text-clause-front : goal.returns-in_err-write_text-clause-front
 returns-in_err-write_text-clause-front g c =
-    let text_front : IsFrontOf g.D.Read.remaining c.args.declaration.now c.read_text.new.reader max_text c.in_ok-text.text.items =
+    let text_front : IsFrontOf g.D.Read.remaining c.args.declaration.now c.read_text.new.reader max_declaration c.in_ok-text.text.items =
     let read = c.in_ok-text.ensures in
     IsFrontOf-vec _ _ _ _ _ _ c.in_ok-text.text.ok.0 read.text read.within read.rest read.counted read.few_calls (read.not_failed (λ is. cc)) in
     let claim_front : IsFrontOf g.C.Read.remaining c.args.certificate.now c.read_text-2.new.reader max_certificate c.in_ok-claim.claim.items =
@@ -56,14 +56,14 @@ returns-in_err-write_text-clause-front g c =
 
 pub returns-clause-order : goal.returns-clause-order
 returns-clause-order g c =
-    let text_front : IsFrontOf g.D.Read.remaining c.args.declaration.now c.read_text.new.reader max_text c.in_ok-text.text.items =
+    let text_front : IsFrontOf g.D.Read.remaining c.args.declaration.now c.read_text.new.reader max_declaration c.in_ok-text.text.items =
     let read = c.in_ok-text.ensures in
     IsFrontOf-vec _ _ _ _ _ _ c.in_ok-text.text.ok.0 read.text read.within read.rest read.counted read.few_calls (read.not_failed (λ is. cc)) in
     inr text_front.given
 
 pub returns-clause-answered : goal.returns-clause-answered
 returns-clause-answered g c =
-    let text_front : IsFrontOf g.D.Read.remaining c.args.declaration.now c.read_text.new.reader max_text c.in_ok-text.text.items =
+    let text_front : IsFrontOf g.D.Read.remaining c.args.declaration.now c.read_text.new.reader max_declaration c.in_ok-text.text.items =
     let read = c.in_ok-text.ensures in
     IsFrontOf-vec _ _ _ _ _ _ c.in_ok-text.text.ok.0 read.text read.within read.rest read.counted read.few_calls (read.not_failed (λ is. cc)) in
     let claim_front : IsFrontOf g.C.Read.remaining c.args.certificate.now c.read_text-2.new.reader max_certificate c.in_ok-claim.claim.items =
@@ -78,7 +78,7 @@ returns-clause-answered g c =
 
 pub returns-clause-promised : goal.returns-clause-promised
 returns-clause-promised g c =
-    let text_front : IsFrontOf g.D.Read.remaining c.args.declaration.now c.read_text.new.reader max_text c.in_ok-text.text.items =
+    let text_front : IsFrontOf g.D.Read.remaining c.args.declaration.now c.read_text.new.reader max_declaration c.in_ok-text.text.items =
     let read = c.in_ok-text.ensures in
     IsFrontOf-vec _ _ _ _ _ _ c.in_ok-text.text.ok.0 read.text read.within read.rest read.counted read.few_calls (read.not_failed (λ is. cc)) in
     let claim_front : IsFrontOf g.C.Read.remaining c.args.certificate.now c.read_text-2.new.reader max_certificate c.in_ok-claim.claim.items =

@@ -1,6 +1,6 @@
 use Rattle.std.proofs.Common.{List, ℕ, subst}
 use Rattle.wq_commands.specs.Answer.{Answers}
-use Rattle.wq_commands.specs.Declaration.{max_text}
+use Rattle.wq_commands.specs.Declaration.{max_declaration}
 use Rattle.wq_meter.specs.Meter.{WritesFront, WritesWhole}
 use Rattle.wq_commands.specs.Run.{AnswersInput}
 use Rattle.wq_commands.proofs.InputLemmas.{IsFrontOf, IsFrontOf-vec, AnswersInput-read}
@@ -11,8 +11,8 @@ pub returns-in_err-write_text-clause-front : goal.returns-in_err-write_text-clau
 returns-in_err-write_text-clause-front g c =
     let text = c.in_ok-text.text in
     let read = c.in_ok-text.ensures in
-    let front : IsFrontOf g.R.Read.remaining c.args.reader.now c.read_text.new.reader max_text text.items =
-    IsFrontOf-vec g.R.Read.remaining c.args.reader.now c.read_text.new.reader max_text text.len text.items text.ok.0 read.text read.within read.rest read.counted read.few_calls (read.not_failed (λ is. cc)) in
+    let front : IsFrontOf g.R.Read.remaining c.args.reader.now c.read_text.new.reader max_declaration text.items =
+    IsFrontOf-vec g.R.Read.remaining c.args.reader.now c.read_text.new.reader max_declaration text.len text.items text.ok.0 read.text read.within read.rest read.counted read.few_calls (read.not_failed (λ is. cc)) in
     let answered : AnswersInput g.R.Read.remaining c.args.reader.now c.read_text.new.reader c.in_ok-end.end c.in_ok-end.answer.items =
     AnswersInput-read g.R.Read.remaining c.args.reader.now c.read_text.new.reader text.items c.in_ok-end.end c.in_ok-end.answer.items front
     (subst (λ (bytes : List ℕ). Answers bytes c.in_ok-end.end c.in_ok-end.answer.items) c.deref.ensures.value c.in_ok-end.ensures) in
@@ -23,8 +23,8 @@ pub returns-clause-answered : goal.returns-clause-answered
 returns-clause-answered g c =
     let text = c.in_ok-text.text in
     let read = c.in_ok-text.ensures in
-    let front : IsFrontOf g.R.Read.remaining c.args.reader.now c.read_text.new.reader max_text text.items =
-    IsFrontOf-vec g.R.Read.remaining c.args.reader.now c.read_text.new.reader max_text text.len text.items text.ok.0 read.text read.within read.rest read.counted read.few_calls (read.not_failed (λ is. cc)) in
+    let front : IsFrontOf g.R.Read.remaining c.args.reader.now c.read_text.new.reader max_declaration text.items =
+    IsFrontOf-vec g.R.Read.remaining c.args.reader.now c.read_text.new.reader max_declaration text.len text.items text.ok.0 read.text read.within read.rest read.counted read.few_calls (read.not_failed (λ is. cc)) in
     let answered : AnswersInput g.R.Read.remaining c.args.reader.now c.read_text.new.reader c.in_ok-end.end c.in_ok-end.answer.items =
     AnswersInput-read g.R.Read.remaining c.args.reader.now c.read_text.new.reader text.items c.in_ok-end.end c.in_ok-end.answer.items front
     (subst (λ (bytes : List ℕ). Answers bytes c.in_ok-end.end c.in_ok-end.answer.items) c.deref.ensures.value c.in_ok-end.ensures) in
@@ -34,8 +34,8 @@ pub returns-clause-promised : goal.returns-clause-promised
 returns-clause-promised g c =
     let text = c.in_ok-text.text in
     let read = c.in_ok-text.ensures in
-    let front : IsFrontOf g.R.Read.remaining c.args.reader.now c.read_text.new.reader max_text text.items =
-    IsFrontOf-vec g.R.Read.remaining c.args.reader.now c.read_text.new.reader max_text text.len text.items text.ok.0 read.text read.within read.rest read.counted read.few_calls (read.not_failed (λ is. cc)) in
+    let front : IsFrontOf g.R.Read.remaining c.args.reader.now c.read_text.new.reader max_declaration text.items =
+    IsFrontOf-vec g.R.Read.remaining c.args.reader.now c.read_text.new.reader max_declaration text.len text.items text.ok.0 read.text read.within read.rest read.counted read.few_calls (read.not_failed (λ is. cc)) in
     let answered : AnswersInput g.R.Read.remaining c.args.reader.now c.read_text.new.reader c.in_ok-end.end c.in_ok-end.answer.items =
     AnswersInput-read g.R.Read.remaining c.args.reader.now c.read_text.new.reader text.items c.in_ok-end.end c.in_ok-end.answer.items front
     (subst (λ (bytes : List ℕ). Answers bytes c.in_ok-end.end c.in_ok-end.answer.items) c.deref.ensures.value c.in_ok-end.ensures) in (

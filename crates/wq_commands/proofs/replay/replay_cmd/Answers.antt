@@ -1,30 +1,30 @@
 use Rattle.std.proofs.Common.{List, ℕ, Err, refl, subst, ap, inl, inr}
-use Rattle.wq_cert.specs.Texts.{max_text as max_certificate}
+use Rattle.wq_cert.specs.Texts.{max_certificate}
 use Rattle.wq_meter.specs.Meter.{WritesFront, WritesWhole}
 use Rattle.wq_meter.specs.declared.fault.Fault.TheVariants.{Read}
 use Rattle.wq_commands.specs.Replaying.{Replays}
 use Rattle.wq_commands.specs.CheckInput.{ReplaysInput}
-use Rattle.wq_commands.specs.Declaration.{max_text}
+use Rattle.wq_commands.specs.Declaration.{max_declaration}
 use Rattle.wq_commands.proofs.InputLemmas.{IsFrontOf, IsFrontOf-vec, Err-passed, ReplaysInput-read}
 use Rattle.wq_commands.proofs.replay.replay_cmd.Goals as goal
 
 pub returns-in_err-lanes-clause-order : goal.returns-in_err-lanes-clause-order
 returns-in_err-lanes-clause-order g c =
-    let text_front : IsFrontOf g.D.Read.remaining c.args.declaration.now c.read_text.new.reader max_text c.in_ok-text.text.items =
+    let text_front : IsFrontOf g.D.Read.remaining c.args.declaration.now c.read_text.new.reader max_declaration c.in_ok-text.text.items =
     let read = c.in_ok-text.ensures in
     IsFrontOf-vec _ _ _ _ _ _ c.in_ok-text.text.ok.0 read.text read.within read.rest read.counted read.few_calls (read.not_failed (λ is. cc)) in
     (inr text_front.given, inl refl, inl refl)
 
 pub returns-in_err-lanes-clause-read_failed : goal.returns-in_err-lanes-clause-read_failed
 returns-in_err-lanes-clause-read_failed g c =
-    let text_front : IsFrontOf g.D.Read.remaining c.args.declaration.now c.read_text.new.reader max_text c.in_ok-text.text.items =
+    let text_front : IsFrontOf g.D.Read.remaining c.args.declaration.now c.read_text.new.reader max_declaration c.in_ok-text.text.items =
     let read = c.in_ok-text.ensures in
     IsFrontOf-vec _ _ _ _ _ _ c.in_ok-text.text.ok.0 read.text read.within read.rest read.counted read.few_calls (read.not_failed (λ is. cc)) in
     λ is. inr (inl (text_front.given, c.in_err-lanes.ensures.failed (ap Err (Err-passed _ _ Read c.from_residual-in_err-lanes.ensures.1 is)), refl))
 
 pub returns-in_err-steps-clause-order : goal.returns-in_err-steps-clause-order
 returns-in_err-steps-clause-order g c =
-    let text_front : IsFrontOf g.D.Read.remaining c.args.declaration.now c.read_text.new.reader max_text c.in_ok-text.text.items =
+    let text_front : IsFrontOf g.D.Read.remaining c.args.declaration.now c.read_text.new.reader max_declaration c.in_ok-text.text.items =
     let read = c.in_ok-text.ensures in
     IsFrontOf-vec _ _ _ _ _ _ c.in_ok-text.text.ok.0 read.text read.within read.rest read.counted read.few_calls (read.not_failed (λ is. cc)) in
     let lanes_front : IsFrontOf g.S.Read.remaining c.args.assignment.now c.read_text-2.new.reader max_certificate c.in_ok-lanes.lanes.items =
@@ -34,7 +34,7 @@ returns-in_err-steps-clause-order g c =
 
 pub returns-in_err-steps-clause-read_failed : goal.returns-in_err-steps-clause-read_failed
 returns-in_err-steps-clause-read_failed g c =
-    let text_front : IsFrontOf g.D.Read.remaining c.args.declaration.now c.read_text.new.reader max_text c.in_ok-text.text.items =
+    let text_front : IsFrontOf g.D.Read.remaining c.args.declaration.now c.read_text.new.reader max_declaration c.in_ok-text.text.items =
     let read = c.in_ok-text.ensures in
     IsFrontOf-vec _ _ _ _ _ _ c.in_ok-text.text.ok.0 read.text read.within read.rest read.counted read.few_calls (read.not_failed (λ is. cc)) in
     let lanes_front : IsFrontOf g.S.Read.remaining c.args.assignment.now c.read_text-2.new.reader max_certificate c.in_ok-lanes.lanes.items =
@@ -44,7 +44,7 @@ returns-in_err-steps-clause-read_failed g c =
 
 pub returns-in_err-end-clause-order : goal.returns-in_err-end-clause-order
 returns-in_err-end-clause-order g c =
-    let text_front : IsFrontOf g.D.Read.remaining c.args.declaration.now c.read_text.new.reader max_text c.in_ok-text.text.items =
+    let text_front : IsFrontOf g.D.Read.remaining c.args.declaration.now c.read_text.new.reader max_declaration c.in_ok-text.text.items =
     let read = c.in_ok-text.ensures in
     IsFrontOf-vec _ _ _ _ _ _ c.in_ok-text.text.ok.0 read.text read.within read.rest read.counted read.few_calls (read.not_failed (λ is. cc)) in
     let lanes_front : IsFrontOf g.S.Read.remaining c.args.assignment.now c.read_text-2.new.reader max_certificate c.in_ok-lanes.lanes.items =
@@ -54,7 +54,7 @@ returns-in_err-end-clause-order g c =
 
 pub returns-in_err-write_text-clause-order : goal.returns-in_err-write_text-clause-order
 returns-in_err-write_text-clause-order g c =
-    let text_front : IsFrontOf g.D.Read.remaining c.args.declaration.now c.read_text.new.reader max_text c.in_ok-text.text.items =
+    let text_front : IsFrontOf g.D.Read.remaining c.args.declaration.now c.read_text.new.reader max_declaration c.in_ok-text.text.items =
     let read = c.in_ok-text.ensures in
     IsFrontOf-vec _ _ _ _ _ _ c.in_ok-text.text.ok.0 read.text read.within read.rest read.counted read.few_calls (read.not_failed (λ is. cc)) in
     let lanes_front : IsFrontOf g.S.Read.remaining c.args.assignment.now c.read_text-2.new.reader max_certificate c.in_ok-lanes.lanes.items =
@@ -64,7 +64,7 @@ returns-in_err-write_text-clause-order g c =
 
 pub returns-in_err-write_text-clause-front : goal.returns-in_err-write_text-clause-front
 returns-in_err-write_text-clause-front g c =
-    let text_front : IsFrontOf g.D.Read.remaining c.args.declaration.now c.read_text.new.reader max_text c.in_ok-text.text.items =
+    let text_front : IsFrontOf g.D.Read.remaining c.args.declaration.now c.read_text.new.reader max_declaration c.in_ok-text.text.items =
     let read = c.in_ok-text.ensures in
     IsFrontOf-vec _ _ _ _ _ _ c.in_ok-text.text.ok.0 read.text read.within read.rest read.counted read.few_calls (read.not_failed (λ is. cc)) in
     let lanes_front : IsFrontOf g.S.Read.remaining c.args.assignment.now c.read_text-2.new.reader max_certificate c.in_ok-lanes.lanes.items =
@@ -84,7 +84,7 @@ returns-in_err-write_text-clause-front g c =
 
 pub returns-clause-order : goal.returns-clause-order
 returns-clause-order g c =
-    let text_front : IsFrontOf g.D.Read.remaining c.args.declaration.now c.read_text.new.reader max_text c.in_ok-text.text.items =
+    let text_front : IsFrontOf g.D.Read.remaining c.args.declaration.now c.read_text.new.reader max_declaration c.in_ok-text.text.items =
     let read = c.in_ok-text.ensures in
     IsFrontOf-vec _ _ _ _ _ _ c.in_ok-text.text.ok.0 read.text read.within read.rest read.counted read.few_calls (read.not_failed (λ is. cc)) in
     let lanes_front : IsFrontOf g.S.Read.remaining c.args.assignment.now c.read_text-2.new.reader max_certificate c.in_ok-lanes.lanes.items =
@@ -94,7 +94,7 @@ returns-clause-order g c =
 
 pub returns-clause-answered : goal.returns-clause-answered
 returns-clause-answered g c =
-    let text_front : IsFrontOf g.D.Read.remaining c.args.declaration.now c.read_text.new.reader max_text c.in_ok-text.text.items =
+    let text_front : IsFrontOf g.D.Read.remaining c.args.declaration.now c.read_text.new.reader max_declaration c.in_ok-text.text.items =
     let read = c.in_ok-text.ensures in
     IsFrontOf-vec _ _ _ _ _ _ c.in_ok-text.text.ok.0 read.text read.within read.rest read.counted read.few_calls (read.not_failed (λ is. cc)) in
     let lanes_front : IsFrontOf g.S.Read.remaining c.args.assignment.now c.read_text-2.new.reader max_certificate c.in_ok-lanes.lanes.items =

@@ -1,6 +1,6 @@
 use Rattle.std.proofs.Common.{◌≡◌, ◌↔◌, None, sym, ◌∙◌, subst, refl}
 use Rattle.std.specs.Prelude.{IsTrue}
-use Rattle.wq_core.specs.declared.entry.Flush.{Flush}
+use Rattle.wq_core.specs.declared.entry.Waiting.{Waiting}
 use Rattle.wq_core.specs.State.{lane_at, HasUnfinishedBelow}
 use Rattle.wq_core.proofs.DeclaredSteps.{CanMove-idle, CanMove-waiting, CanMove-awake}
 use Rattle.wq_core.proofs.machine.Core.can_move.Goals as goal
@@ -19,5 +19,5 @@ returns-in_default-waiting g c =
 pub returns : goal.returns
 returns g c =
     let m = c.args.self.now in
-    let left = subst (λ (f : Flush). IsTrue c.has_unfinished_below.result ↔ HasUnfinishedBelow m.state f.target f.mark) c.in-Some-waiting.flush-is c.has_unfinished_below.ensures in
+    let left = subst (λ (f : Waiting). IsTrue c.has_unfinished_below.result ↔ HasUnfinishedBelow m.state f.target f.mark) c.in-Some-waiting.flush-is c.has_unfinished_below.ensures in
     CanMove-waiting m.wiring m.state c.args.q c.in-Some.running (sym c.in-Some.ensures.running) c.in-Some-waiting.flush c.in-Some-waiting.is c.has_unfinished_below.result left

@@ -1,8 +1,8 @@
 use Rattle.std.proofs.Common.{ℕ, List, map, ap, ◌∙◌, arith}
-use Rattle.wq_groups.specs.Assignment.{IsAssignment, lane_of}
+use Rattle.wq_groups.specs.Assignment.{IsAssignment, group_lane}
 use Rattle.wq_groups.specs.Declaration.{Declaration, IsDeclaration, declaration_of}
 use Rattle.wq_groups.proofs.Declarations.{IsDeclaration-of}
-use Rattle.wq_core.specs.Building.{idle_with_room, items_on}
+use Rattle.wq_core.specs.Building.{idle_with_room, count_on}
 use Rattle.wq_core.proofs.Wirings.{lanes_within, All-below}
 use Rattle.wq_core.proofs.FirstMachines.{machine_of-first, IsHeld-first}
 use Rattle.wq_core.proofs.machine.Core.new.Goals as goal
@@ -13,7 +13,7 @@ count_items-requires-clause-within g c =
     let a = c.args.assignment.now in
     let assignment : IsAssignment groups.groups a = record { one_each = c.requires.assigned; within = c.lanes.ensures.within } in
     let within = lanes_within groups.group_of groups.groups a c.in_ok-lane_of_item.ensures.partition.within assignment in
-    All-below a.lanes c.lanes.result (map (lane_of a) groups.group_of) c.in_ok-lane_of_item.lane_of_item.items c.as_slice.result.now c.lanes.ensures.lanes c.as_slice.ensures.value c.in_ok-lane_of_item.ensures.lanes within
+    All-below a.lanes c.lanes.result (map (group_lane a) groups.group_of) c.in_ok-lane_of_item.lane_of_item.items c.as_slice.result.now c.lanes.ensures.lanes c.as_slice.ensures.value c.in_ok-lane_of_item.ensures.lanes within
 
 pub invariant_of-result : goal.invariant_of-result
 invariant_of-result g c =
@@ -25,7 +25,7 @@ invariant_of-result g c =
     let assignment : IsAssignment d.groups a = record { one_each = c.requires.assigned; within = c.lanes.ensures.within } in
     IsHeld-first d a _ c.in_ok-lane_of_item.lane_of_item.items c.in_ok-lanes.lanes c.in_ok-rooms.rooms.items declaration assignment (omega (arith, c.lanes.ensures.lanes, c.lanes.ensures.few)) c.in_ok-waits.ensures.waits c.in_ok-lane_of_item.ensures.lanes
     (c.in_ok-lanes.ensures ∙ ap (map idle_with_room) c.as_slice-2.ensures.value) (c.in_ok-rooms.ensures.len ∙ c.lanes.ensures.lanes)
-    (λ q within. c.in_ok-rooms.ensures.counts q (omega (arith, within, c.lanes.ensures.lanes)) ∙ ap (λ (l : List ℕ). items_on l q) c.as_slice.ensures.value)
+    (λ q within. c.in_ok-rooms.ensures.counts q (omega (arith, within, c.lanes.ensures.lanes)) ∙ ap (λ (l : List ℕ). count_on l q) c.as_slice.ensures.value)
 
 pub returns : goal.returns
 returns g c =

@@ -1,7 +1,0 @@
-use Rattle.std.proofs.Common.{map}
-use Rattle.wq_cert.specs.Lines.{cert_line}
-use Rattle.wq_cert.proofs.NotedLemmas.{ReadSoFar}
-use Rattle.wq_cert.proofs.queue_reading.read_all_queues.Given as goal
-
-abbrev pub invariant-loop-line : goal.invariant-loop-line
-invariant-loop-line g l = ReadSoFar l.table.names l.groups (map cert_line l.fn.lines) l.queues.count l.queues.stood.items l.queues.lane_of_group.items (map cert_line l.line-iterator)

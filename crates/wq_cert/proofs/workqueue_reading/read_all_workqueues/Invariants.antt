@@ -1,0 +1,7 @@
+use Rattle.std.proofs.Common.{map}
+use Rattle.wq_cert.specs.Lines.{cert_line}
+use Rattle.wq_cert.proofs.NotedLemmas.{ReadSoFar}
+use Rattle.wq_cert.proofs.workqueue_reading.read_all_workqueues.Given as goal
+
+abbrev pub invariant-loop-line : goal.invariant-loop-line
+invariant-loop-line g l = ReadSoFar l.table.names l.groups (map cert_line l.fn.lines) l.workqueues.count l.workqueues.stood.items l.workqueues.lane_of_group.items (map cert_line l.line-iterator)

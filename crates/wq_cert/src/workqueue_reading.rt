@@ -1,0 +1,96 @@
+//! Reading the lines of workqueues: so many of them, or all up to the first line with another first word.
+//!
+//! The texts are those of "Certificates" in docs/FORMAT.md. Reading takes time in the length of the lines and the number
+//! of items, and memory in the number of items and in the length of the longest line.
+
+ghost use Rattle.std.specs.Prelude.{◌≡◌, [], length, map, Ok, IfOk, IfErr};
+ghost use Rattle.wq_cert.specs.Lines.{cert_line};
+ghost use Rattle.wq_cert.specs.Noted.{AreRead, AreAllRead};
+ghost use Rattle.wq_cert.specs.Reading.{next_workqueues, all_workqueues, counted_assignment, workqueues_reading};
+ghost use Rattle.wq_cert.specs.Texts.{IsCertFaultOf};
+
+use crate::fault::CertError;
+use crate::form::begins_with;
+use crate::view::CertLines;
+use crate::workqueues::Queues;
+use std::alloc::Allocator;
+use wq_groups::{Assignment, Groups};
+use wq_items::ItemTable;
+
+/// So many workqueues, each on one of the next lines.
+fn read_workqueues<A: Allocator + Copy>(
+    alloc: A,
+    table: &ItemTable<'_, A>,
+    groups: &Groups<A>,
+    count: u32,
+    lines: &mut CertLines<'_>,
+) -> Result<Workqueues<A>, CertError>
+    requires { length groups.now.group_of ≡ length table.now.names }
+    ensures workqueues { IfOk result (λ q. AreRead table.now.names groups.now count (map cert_line lines.old) q.count q.stood.items q.lane_of_group.items (map cert_line lines.new)) }
+    ensures fault { IfErr result (λ e. IsCertFaultOf e (next_workqueues table.now.names groups.now.group_of count [] (map cert_line lines.old))) }
+{
+    let mut workqueues = Workqueues::none(alloc, groups, table.len())?;
+    for i in 0..count {
+        let Some(line) = lines.next() else {
+            return Err(CertError::BadCertLine { line: 0 });
+        };
+        workqueues = workqueues.read(alloc, table, groups, &line)?;
+    }
+    Ok(workqueues)
+}
+
+/// So many workqueues, each on one of the next lines, as an assignment.
+pub(crate) fn read_counted<A: Allocator + Copy>(
+    alloc: A,
+    table: &ItemTable<'_, A>,
+    groups: &Groups<A>,
+    count: u32,
+    lines: &mut CertLines<'_>,
+) -> Result<Assignment<A>, CertError>
+    requires { length groups.now.group_of ≡ length table.now.names }
+    ensures assignment { IfOk result (λ a. counted_assignment table.now.names groups.now count (map cert_line lines.old) ≡ Ok (a, map cert_line lines.new)) }
+    ensures fault { IfErr result (λ e. IsCertFaultOf e (counted_assignment table.now.names groups.now count (map cert_line lines.old))) }
+{
+    let workqueues = read_workqueues(alloc, table, groups, count, lines)?;
+    workqueues.assignment(alloc, groups)
+}
+
+/// The workqueues on these lines up to the first line with another first word, and the number of that line.
+fn read_all_workqueues<A: Allocator + Copy>(
+    alloc: A,
+    table: &ItemTable<'_, A>,
+    groups: &Groups<A>,
+    lines: CertLines<'_>,
+) -> Result<(Workqueues<A>, Option<u32>), CertError>
+    requires { length groups.now.group_of ≡ length table.now.names }
+    ensures workqueues { IfOk result (λ r. AreAllRead table.now.names groups.now (map cert_line lines.entry) r.0.count r.0.stood.items r.0.lane_of_group.items r.1) }
+    ensures fault { IfErr result (λ e. IsCertFaultOf e (all_workqueues table.now.names groups.now.group_of [] (map cert_line lines.entry))) }
+{
+    let mut workqueues = Workqueues::none(alloc, groups, table.len())?;
+    for line in lines {
+        if !begins_with(&line, b"wq") {
+            return Ok((workqueues, Some(line.no())));
+        }
+        workqueues = workqueues.read(alloc, table, groups, &line)?;
+    }
+    Ok((workqueues, None))
+}
+
+/// The assignment on these lines, each of which is that of a workqueue.
+pub(crate) fn read_workqueue_lines<A: Allocator + Copy>(
+    alloc: A,
+    table: &ItemTable<'_, A>,
+    groups: &Groups<A>,
+    lines: CertLines<'_>,
+) -> Result<Assignment<A>, CertError>
+    requires { length groups.now.group_of ≡ length table.now.names }
+    ensures assignment { IfOk result (λ a. workqueues_reading table.now.names groups.now (map cert_line lines.entry) ≡ Ok a) }
+    ensures fault { IfErr result (λ e. IsCertFaultOf e (workqueues_reading table.now.names groups.now (map cert_line lines.entry))) }
+{
+    let (workqueues, behind) = read_all_workqueues(alloc, table, groups, lines)?;
+    let assignment = workqueues.assignment(alloc, groups)?;
+    match behind {
+        Some(line) => Err(CertError::BadCertLine { line }),
+        None => Ok(assignment),
+    }
+}

@@ -1,0 +1,206 @@
+//! The workqueues that are read so far: which items stand on one, and which workqueue serves each group.
+//!
+//! The rules are those of "Certificates" in docs/FORMAT.md. Reading a workqueue takes time in the length of its line, and
+//! memory in the number of names on it until it is noted. To begin with none, and to make the assignment, takes time and
+//! memory in the number of items.
+
+ghost use Rattle.std.specs.Prelude.{◌≡◌, ◌<◌, ℕ, ◌∷◌, ◌++◌, [], true, false, not, List, length, map, Ok, Err, IfOk, IfErr, Option, Some, None, MatchOption, unwrap_or};
+ghost use Rattle.std.specs.List.{All, concat, list_all};
+ghost use Rattle.wq_groups.specs.Partition.{IsPartition};
+ghost use Rattle.wq_cert.specs.Lines.{cert_line};
+ghost use Rattle.wq_cert.specs.Noted.{marks, lanes_with, AreNoted, IsNextNoted, is_other};
+ghost use Rattle.wq_cert.specs.Reading.{has_stood, splits_group, fresh_items, wq_items, wq_reading, whole_assignment};
+ghost use Rattle.wq_cert.specs.Texts.{IsCertFaultOf};
+
+use crate::fault::CertError;
+use crate::form::wq_form;
+use std::alloc::{AllocError, Allocator};
+use wq_groups::{Assignment, Groups, LaneId};
+use wq_items::{ItemId, ItemTable};
+use wq_text::Line;
+
+/// How many workqueues there may be.
+const MAX_LANES: u16 = 4096;
+
+/// What is noted of the workqueues that are read so far.
+#[derive(Drop)]
+pub(crate) struct Workqueues<A: Allocator> {
+    /// How many there are.
+    count: u16,
+    /// Of each item whether it stands on one.
+    stood: Vec<bool, A>,
+    /// Of each group the workqueue that holds a member of it.
+    lane_of_group: Vec<Option<LaneId>, A>,
+}
+
+/// The items on the next workqueue, by the form and the number of its line, where so many stand before it.
+fn read_items<A: Allocator + Copy>(
+    alloc: A,
+    table: &ItemTable<'_, A>,
+    place: u16,
+    line: &Line<'_>,
+) -> Result<Vec<ItemId, A>, CertError>
+    ensures items { IfOk result (λ items. wq_items table.now.names place (cert_line line.now) ≡ Ok items.items) }
+    ensures fault { IfErr result (λ e. IsCertFaultOf e (wq_items table.now.names place (cert_line line.now))) }
+{
+    let Some((number, items)) = wq_form(alloc, table, line.words())? else {
+        return Err(CertError::BadCertLine { line: line.no() });
+    };
+    if number != u32::from(place) || place >= MAX_LANES {
+        return Err(CertError::NumberOutOfRange { line: line.no() });
+    }
+    Ok(items)
+}
+
+/// Marks these items. `None` where one is marked already, or is twice in the list.
+fn mark<A: Allocator>(mut stood: Vec<bool, A>, items: &[ItemId]) -> Option<Vec<bool, A>>
+    requires { All (λ i. i < length stood.items) items.now }
+    ensures { (n : ℕ) (before : List ℕ) → stood.items ≡ marks n before
+        → MatchOption result (has_stood before items.now ≡ true) (λ v. (has_stood before items.now ≡ false) × (v.items ≡ marks n (before ++ items.now))) }
+{
+    for item in items {
+        let i = usize::from(item.get());
+        let is_marked = stood[i];
+        if is_marked {
+            return None;
+        }
+        stood[i] = true;
+    }
+    Some(stood)
+}
+
+/// Whether a group is served by another workqueue than this one.
+fn is_other(held: Option<LaneId>, lane: LaneId) -> bool
+    ensures { result ≡ is_other held lane }
+{
+    match held {
+        Some(other) => other != lane,
+        None => false,
+    }
+}
+
+/// Puts the groups of these items on the next workqueue. `None` where one of them is on an earlier one.
+fn settle<A: Allocator + Copy>(
+    mut lane_of_group: Vec<Option<LaneId>, A>,
+    groups: &Groups<A>,
+    lane: LaneId,
+    items: &[ItemId],
+) -> Option<Vec<Option<LaneId>, A>>
+    requires items { All (λ i. i < length groups.now.group_of) items.now }
+    requires groups { length lane_of_group.items ≡ groups.now.groups }
+    ensures { (workqueues : List (List ℕ)) → lane ≡ length workqueues → lane_of_group.items ≡ lanes_with groups.now workqueues
+        → MatchOption result (splits_group groups.now.group_of (concat workqueues) items.now ≡ true)
+        (λ v. (splits_group groups.now.group_of (concat workqueues) items.now ≡ false) × (v.items ≡ lanes_with groups.now (workqueues ++ (items.now ∷ [])))) }
+{
+    for item in items {
+        let group = usize::from(groups.of(*item).get());
+        let held = lane_of_group[group];
+        if is_other(held, lane) {
+            return None;
+        }
+        lane_of_group[group] = Some(lane);
+    }
+    Some(lane_of_group)
+}
+
+/// Whether each item is marked.
+fn are_all_marked(stood: &[bool]) -> bool
+    ensures { result ≡ list_all (λ b. b) stood.now }
+{
+    stood.iter().all(|is_marked| *is_marked)
+}
+
+/// The workqueue of each group, where each group has one.
+fn lanes_of<A: Allocator>(
+    alloc: A,
+    lane_of_group: &[Option<LaneId>],
+) -> Result<Vec<LaneId, A>, AllocError>
+    ensures { IfOk result (λ lanes. lanes.items ≡ map (λ lane. unwrap_or lane 0) lane_of_group.now) }
+{
+    let first = LaneId::new(0);
+    lane_of_group
+        .iter()
+        .map(|lane| lane.unwrap_or(first))
+        .collect(alloc)
+}
+
+impl<A: Allocator + Copy> Workqueues<A> {
+    /// No workqueue, for so many items, which stand in these groups.
+    pub(crate) fn none(alloc: A, groups: &Groups<A>, items: u16) -> Result<Self, AllocError>
+        requires { length groups.now.group_of ≡ items }
+        ensures { IfOk result (λ q. AreNoted groups.now [] q.count q.stood.items q.lane_of_group.items) }
+    {
+        let stood = vec![in alloc; false; usize::from(items)]?;
+        let lane_of_group = vec![in alloc; None; usize::from(groups.len())]?;
+        Ok(Workqueues {
+            count: 0,
+            stood,
+            lane_of_group,
+        })
+    }
+
+    /// These workqueues and one more with these items, by a line of this number.
+    fn with(self, line: u32, groups: &Groups<A>, items: &[ItemId]) -> Result<Self, CertError>
+        requires noted { (workqueues : List (List ℕ)) × AreNoted groups.now workqueues self.count self.stood.items self.lane_of_group.items }
+        requires room { self.count < 4096 }
+        requires items { All (λ i. i < length groups.now.group_of) items.now }
+        ensures workqueues { (workqueues : List (List ℕ)) → AreNoted groups.now workqueues self.count self.stood.items self.lane_of_group.items
+            → IfOk result (λ q. (fresh_items groups.now.group_of (concat workqueues) line items.now ≡ Ok items.now)
+            × AreNoted groups.now (workqueues ++ (items.now ∷ [])) q.count q.stood.items q.lane_of_group.items) }
+        ensures fault { (workqueues : List (List ℕ)) → AreNoted groups.now workqueues self.count self.stood.items self.lane_of_group.items
+            → IfErr result (λ e. fresh_items groups.now.group_of (concat workqueues) line items.now ≡ Err e) }
+    {
+        let Workqueues {
+            count,
+            stood,
+            lane_of_group,
+        } = self;
+        let Some(stood) = mark(stood, items) else {
+            return Err(CertError::NotAllItems { line });
+        };
+        let lane = LaneId::new(count);
+        let Some(lane_of_group) = settle(lane_of_group, groups, lane, items) else {
+            return Err(CertError::GroupSplit { line });
+        };
+        Ok(Workqueues {
+            count: count + 1,
+            stood,
+            lane_of_group,
+        })
+    }
+
+    /// These workqueues and the next, by its line.
+    pub(crate) fn read(
+        self,
+        alloc: A,
+        table: &ItemTable<'_, A>,
+        groups: &Groups<A>,
+        line: &Line<'_>,
+    ) -> Result<Self, CertError>
+        requires grouped { length groups.now.group_of ≡ length table.now.names }
+        requires noted { (workqueues : List (List ℕ)) × AreNoted groups.now workqueues self.count self.stood.items self.lane_of_group.items }
+        ensures workqueues { (workqueues : List (List ℕ)) → AreNoted groups.now workqueues self.count self.stood.items self.lane_of_group.items
+            → IfOk result (λ q. IsNextNoted table.now.names groups.now workqueues (cert_line line.now) q.count q.stood.items q.lane_of_group.items) }
+        ensures fault { (workqueues : List (List ℕ)) → AreNoted groups.now workqueues self.count self.stood.items self.lane_of_group.items
+            → IfErr result (λ e. IsCertFaultOf e (wq_reading table.now.names groups.now.group_of workqueues (cert_line line.now))) }
+    {
+        let items = read_items(alloc, table, self.count, line)?;
+        self.with(line.no(), groups, items.as_slice())
+    }
+
+    /// The assignment that these workqueues are, if each item stands on one.
+    pub(crate) fn assignment(self, alloc: A, groups: &Groups<A>) -> Result<Assignment<A>, CertError>
+        requires { (workqueues : List (List ℕ)) × AreNoted groups.now workqueues self.count self.stood.items self.lane_of_group.items }
+        ensures assignment { (workqueues : List (List ℕ)) → AreNoted groups.now workqueues self.count self.stood.items self.lane_of_group.items
+            → IfOk result (λ a. whole_assignment groups.now workqueues ≡ Ok a) }
+        ensures fault { (workqueues : List (List ℕ)) → AreNoted groups.now workqueues self.count self.stood.items self.lane_of_group.items
+            → IfErr result (λ e. IsCertFaultOf e (whole_assignment groups.now workqueues)) }
+    {
+        let _groups = groups.len();
+        if !are_all_marked(self.stood.as_slice()) {
+            return Err(CertError::NotAllItems { line: 0 });
+        }
+        let lanes = lanes_of(alloc, self.lane_of_group.as_slice())?;
+        Ok(Assignment::new(self.count, lanes).unwrap())
+    }
+}
