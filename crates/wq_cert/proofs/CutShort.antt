@@ -12,7 +12,8 @@ use Rattle.wq_cert.specs.declared.fault.CertError.{CertError}
 use Rattle.wq_cert.specs.declared.fault.CertError.TheVariants.{BadCertLine}
 use Rattle.wq_cert.specs.Forms.{count_form}
 use Rattle.wq_cert.specs.Lines.{CertLine}
-use Rattle.wq_cert.specs.Reading.{Read, and_then, and_read, next_line, next_lines, at_end, count_reading, arc_reading, step_reading, wq_reading, next_workqueues, whole_assignment, chain_reading, counted_assignment, plan_reading, run_reading}
+use Rattle.wq_items.specs.Building.{and_then}
+use Rattle.wq_cert.specs.Reading.{Read, and_read, next_line, next_lines, at_end, count_reading, arc_reading, step_reading, wq_reading, next_workqueues, whole_assignment, chain_reading, counted_assignment, plan_reading, run_reading}
 
 -- ---- what may be cut
 

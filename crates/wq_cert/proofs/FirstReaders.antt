@@ -12,7 +12,8 @@ use Rattle.wq_cert.specs.declared.fault.CertError.TheVariants.{BadCertLine, NotA
 use Rattle.wq_cert.specs.FirstFaults.{line_of, NoLineIsAtFault}
 use Rattle.wq_cert.specs.Forms.{begins_with, count_form, wq_form, arc_form, step_form}
 use Rattle.wq_cert.specs.Lines.{CertLine}
-use Rattle.wq_cert.specs.Reading.{and_then, and_read, next_line, next_lines, at_end, count_reading, circle_count_reading, arc_reading, names_far_lane, step_reading, has_stood, splits_group, fresh_items, wq_items, wq_reading, next_workqueues, all_workqueues, hold_all, assignment_of, whole_assignment, chain_reading, counted_assignment, plan_reading, run_reading, run_behind, circle_reading, answer_reading, workqueues_reading, assignment_reading}
+use Rattle.wq_items.specs.Building.{and_then}
+use Rattle.wq_cert.specs.Reading.{and_read, next_line, next_lines, at_end, count_reading, circle_count_reading, arc_reading, names_far_lane, step_reading, has_stood, splits_group, fresh_items, wq_items, wq_reading, next_workqueues, all_workqueues, hold_all, assignment_of, whole_assignment, chain_reading, counted_assignment, plan_reading, run_reading, run_behind, circle_reading, answer_reading, workqueues_reading, assignment_reading}
 
 -- ---- lines
 

@@ -4,7 +4,6 @@ pub mod StoodLemmas
 pub mod LaneLemmas
 pub mod NotedLemmas
 pub mod WholeLemmas
-pub mod ItemLanes
 pub mod LineLemmas
 pub mod ListLemmas
 pub mod PrintedCircles

@@ -8,7 +8,8 @@ use Rattle.std.proofs.lemmas.List.Elements.{filter-append}
 use Rattle.std.proofs.lemmas.Grind.{flat_map-append}
 use Rattle.wq_items.proofs.TableLemmas.{range_with_len-append}
 use Rattle.wq_cert.specs.LineText.{spaced, line_text}
-use Rattle.wq_cert.specs.PlanText.{name_of, items_on, wq_line}
+use Rattle.wq_items.specs.Table.{items_at}
+use Rattle.wq_cert.specs.PlanText.{name_of, wq_line}
 
 -- the numbers below n + 1 are those below n, and n
 pub range_with_len-more : (n : ℕ) → range_with_len 0 (n + 1) ≡ range_with_len 0 n ++ (n ∷ [])
@@ -57,7 +58,7 @@ module _ (names : List (List ℕ)) (lane : List ℕ) (q : ℕ) where
   pub wq_front-all : (out : List ℕ) (n : ℕ) → n ≡ length lane → (out ++ wq_front n) ++ (10 ∷ []) ≡ out ++ line_text (wq_line names lane q)
   wq_front-all out n e =
       let end : List ℕ = 10 ∷ [] in
-      let words : List ℕ = flat_map spaced (map (name_of names) (items_on lane q)) in
+      let words : List ℕ = flat_map spaced (map (name_of names) (items_at lane q)) in
       ap (λ (k : ℕ). (out ++ wq_front k) ++ end) e ∙ append_assoc out (wq_front (length lane)) end
       ∙ ap (λ (ls : List ℕ). out ++ ls) (append_assoc (codes "wq" ++ spaced (decimal q)) words end ∙ append_assoc (codes "wq") (spaced (decimal q)) (words ++ end)
       ∙ ap (λ (ls : List ℕ). codes "wq" ++ ls) (sym (append_assoc (spaced (decimal q)) words end)))

@@ -13,10 +13,11 @@ use Rattle.wq_cert.specs.declared.fault.CertError.{CertError}
 use Rattle.wq_cert.specs.declared.fault.CertError.TheVariants.{BadCertLine, NotAllItems}
 use Rattle.wq_cert.specs.Forms.{begins_with}
 use Rattle.wq_cert.specs.Lines.{CertLine}
-use Rattle.wq_cert.specs.PlanText.{plan_line}
+use Rattle.wq_cert.specs.PlanText.{plan_line, workqueue_line}
 use Rattle.wq_cert.specs.WorkqueueRows.{AreFirstWorkqueues, AllStand, begins_workqueue}
-use Rattle.wq_cert.specs.Reading.{Read, and_then, and_read, at_end, count_reading, all_workqueues, hold_all, assignment_of, whole_assignment, plan_reading, workqueues_reading}
-use Rattle.wq_cert.specs.Spelled.{words_in, workqueue_line, workqueue_lines, AreWorkqueues}
+use Rattle.wq_items.specs.Building.{and_then}
+use Rattle.wq_cert.specs.Reading.{Read, and_read, at_end, count_reading, all_workqueues, hold_all, assignment_of, whole_assignment, plan_reading, workqueues_reading}
+use Rattle.wq_cert.specs.Spelled.{words_in, workqueue_lines, AreWorkqueues}
 
 -- ---- where the workqueues end
 

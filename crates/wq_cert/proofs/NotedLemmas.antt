@@ -14,7 +14,8 @@ use Rattle.wq_cert.specs.declared.fault.CertError.{CertError}
 use Rattle.wq_cert.specs.declared.fault.CertError.TheVariants.{BadCertLine, NotAllItems, GroupSplit, NumberOutOfRange}
 use Rattle.wq_cert.specs.Lines.{CertLine, cert_line}
 use Rattle.wq_cert.specs.Forms.{begins_with, number_of, wq_form, items_of}
-use Rattle.wq_cert.specs.Reading.{Read, and_then, and_read, has_stood, splits_group, wq_items, fresh_items, wq_reading, next_workqueues, all_workqueues}
+use Rattle.wq_items.specs.Building.{and_then}
+use Rattle.wq_cert.specs.Reading.{Read, and_read, has_stood, splits_group, wq_items, fresh_items, wq_reading, next_workqueues, all_workqueues}
 use Rattle.wq_cert.specs.Noted.{marks, lanes_with, AreNoted, IsNextNoted, AreRead, AreAllRead}
 use Rattle.wq_cert.specs.Texts.{IsCertFaultOf}
 use Rattle.wq_cert.proofs.ReadLemmas.{IsCertFaultOf-then}

@@ -6,7 +6,8 @@ use Rattle.wq_groups.specs.Partition.{Partition}
 use Rattle.wq_cert.specs.declared.fault.CertError.{CertError}
 use Rattle.wq_cert.specs.Certificate.{PlanCertificate}
 use Rattle.wq_cert.specs.Lines.{CertLine}
-use Rattle.wq_cert.specs.Reading.{Read, and_then, and_read, next_line, next_lines, at_end, count_reading, arc_reading, next_workqueues, whole_assignment, chain_reading, plan_reading}
+use Rattle.wq_items.specs.Building.{and_then}
+use Rattle.wq_cert.specs.Reading.{Read, and_read, next_line, next_lines, at_end, count_reading, arc_reading, next_workqueues, whole_assignment, chain_reading, plan_reading}
 
 -- ---- what follows is the same
 

@@ -7,11 +7,11 @@ use Rattle.std.proofs.lemmas.List.{length-map}
 use Rattle.std.proofs.lemmas.List.FromFn.{length-map-range_with_len}
 use Rattle.wq_text.specs.Lines.{lines_of}
 use Rattle.wq_text.proofs.LimitLaws.{IsShort}
-use Rattle.wq_items.specs.Table.{Table, IsTable}
+use Rattle.wq_items.specs.Table.{Table, IsTable, items_at}
 use Rattle.wq_groups.specs.Partition.{Partition, IsPartition}
-use Rattle.wq_groups.specs.Assignment.{Assignment, IsAssignment, group_lane}
+use Rattle.wq_groups.specs.Assignment.{Assignment, IsAssignment, group_lane, item_lanes}
 use Rattle.wq_cert.specs.Certificate.{PlanCertificate, OfPlan}
-use Rattle.wq_cert.specs.PlanText.{item_lanes, items_on, plan_line, wq_line, chain_line, arc_line, plan_lines, plan_text}
+use Rattle.wq_cert.specs.PlanText.{plan_line, wq_line, chain_line, arc_line, plan_lines, plan_text}
 use Rattle.wq_cert.specs.Ranges.{IsArcOf}
 use Rattle.wq_cert.specs.Spelled.{words_of_text, SpellsPlan, KeepsLimits}
 use Rattle.wq_cert.specs.Texts.{max_certificate, answer_of, assignment_of_text}
@@ -69,7 +69,7 @@ module _ (t : Table) (p : Partition) (a : Assignment) (chain : List (ℕ × ℕ)
       chosen false e = omega arith
 
   abbrev workqueues : List (List ℕ)
-  workqueues = map (items_on lane) (range_with_len 0 a.lanes)
+  workqueues = map (items_at lane) (range_with_len 0 a.lanes)
 
   abbrev plan : PlanCertificate
   plan = record { assignment = a; length = chain_length a.lanes chain; arcs = chain }
@@ -78,7 +78,7 @@ module _ (t : Table) (p : Partition) (a : Assignment) (chain : List (ℕ × ℕ)
   SpellsPlan-printed : SpellsPlan t.names p (plan_lines t.names a.lanes lane chain) plan
   SpellsPlan-printed =
       let arc_lines = map (arc_line t.names) chain in
-      let count : a.lanes ≡ length workqueues = sym (length-map-range_with_len (items_on lane) 0 a.lanes) in
+      let count : a.lanes ≡ length workqueues = sym (length-map-range_with_len (items_at lane) 0 a.lanes) in
       record {
         workqueues = workqueues;
         words =

@@ -7,7 +7,8 @@ use Rattle.wq_text.specs.Lines.{LineView, lines_of}
 use Rattle.wq_cert.specs.declared.fault.CertError.{CertError}
 use Rattle.wq_cert.specs.declared.fault.CertError.TheVariants.{BadCertLine, NotAllItems, GroupSplit, NumberOutOfRange, OutOfMemory}
 use Rattle.wq_cert.specs.Lines.{CertLine, cert_line, cert_lines}
-use Rattle.wq_cert.specs.Reading.{Read, and_then, and_read, next_lines}
+use Rattle.wq_items.specs.Building.{and_then}
+use Rattle.wq_cert.specs.Reading.{Read, and_read, next_lines}
 use Rattle.wq_cert.specs.Texts.{max_certificate, max_certificate_line, unless_too_long, text_reading, IsCertFaultOf}
 
 -- ---- faults

@@ -14,7 +14,8 @@ use Rattle.wq_cert.specs.Lines.{CertLine, cert_lines}
 use Rattle.wq_cert.specs.Forms.{begins_with}
 use Rattle.wq_cert.specs.PlanText.{plan_line}
 use Rattle.wq_cert.specs.CircleText.{circle_line}
-use Rattle.wq_cert.specs.Reading.{and_then, plan_reading, circle_reading, run_reading, workqueues_reading, answer_reading, assignment_reading}
+use Rattle.wq_items.specs.Building.{and_then}
+use Rattle.wq_cert.specs.Reading.{plan_reading, circle_reading, run_reading, workqueues_reading, answer_reading, assignment_reading}
 use Rattle.wq_cert.specs.Spelled.{words_in, words_of_text, workqueue_lines, SpellsCircle, SpellsRun, SpellsCertificate, SpellsAssignment, KeepsLimits}
 use Rattle.wq_cert.specs.Texts.{max_certificate, max_certificate_line, unless_too_long, text_reading, answer_of, assignment_of_text, run_of}
 use Rattle.wq_cert.proofs.SpelledTexts.{SpellsRun-run_reading, run_reading-SpellsRun, SpellsCircle-circle_reading, circle_reading-SpellsCircle, SpellsWorkqueues-workqueues_reading, workqueues_reading-SpellsWorkqueues, SpellsPlan-plan_reading, plan_reading-SpellsPlan}

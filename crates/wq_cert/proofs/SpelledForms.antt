@@ -9,10 +9,9 @@ use Rattle.wq_groups.proofs.Among.{same_name, bytes_eq-same}
 use Rattle.wq_core.specs.declared.step.Step.{Step}
 use Rattle.wq_core.specs.declared.step.Step.TheVariants.{Queue, Cancel, Start, Wait, Over, Finish}
 use Rattle.wq_cert.specs.Forms.{number_of, items_of, count_form, wq_form, arc_form, item_step, lane_step, step_form}
-use Rattle.wq_cert.specs.PlanText.{name_of, arc_line}
+use Rattle.wq_cert.specs.PlanText.{name_of, arc_line, workqueue_line}
 use Rattle.wq_cert.specs.RunText.{item_in, step_line}
 use Rattle.wq_cert.specs.Ranges.{IsArcOf, IsStepOf}
-use Rattle.wq_cert.specs.Spelled.{workqueue_line}
 use Rattle.wq_cert.proofs.SpelledNumbers.{guarded, one_of, AreBoth-zip, zip-AreBoth, Spells-number_of, number_of-Spells, Names-item_named, item_named-name_of, AreNames-items_of, items_of-names_of}
 
 -- ---- counts

@@ -11,7 +11,8 @@ use Rattle.wq_cert.specs.Forms.{count_form, arc_form, step_form}
 use Rattle.wq_cert.specs.PlanText.{arc_line}
 use Rattle.wq_cert.specs.RunText.{step_line}
 use Rattle.wq_cert.specs.Ranges.{IsArcOf, IsStepOf}
-use Rattle.wq_cert.specs.Reading.{Read, and_then, and_read, next_line, next_lines, at_end, count_reading, circle_count_reading, arc_reading, names_far_lane, step_reading}
+use Rattle.wq_items.specs.Building.{and_then}
+use Rattle.wq_cert.specs.Reading.{Read, and_read, next_line, next_lines, at_end, count_reading, circle_count_reading, arc_reading, names_far_lane, step_reading}
 use Rattle.wq_cert.specs.Spelled.{words_in}
 use Rattle.wq_cert.proofs.SpelledForms.{IsCountLine, IsCountLine-count_form, count_form-IsCountLine, IsArcLine-arc_form, arc_form-IsArcLine, IsStepLine-step_form, step_form-line}
 

@@ -11,8 +11,10 @@ use Rattle.wq_groups.specs.Partition.{Partition}
 use Rattle.wq_groups.specs.Assignment.{Assignment}
 use Rattle.wq_cert.specs.Lines.{CertLine}
 use Rattle.wq_cert.specs.Forms.{wq_form, begins_with}
-use Rattle.wq_cert.specs.Reading.{Read, and_then, and_read, next_line, has_stood, splits_group, wq_reading, next_workqueues, all_workqueues, hold_all, assignment_of, whole_assignment}
-use Rattle.wq_cert.specs.Spelled.{words_in, AreWorkqueues, workqueue_line}
+use Rattle.wq_items.specs.Building.{and_then}
+use Rattle.wq_cert.specs.Reading.{Read, and_read, next_line, has_stood, splits_group, wq_reading, next_workqueues, all_workqueues, hold_all, assignment_of, whole_assignment}
+use Rattle.wq_cert.specs.PlanText.{workqueue_line}
+use Rattle.wq_cert.specs.Spelled.{words_in, AreWorkqueues}
 use Rattle.wq_cert.proofs.SpelledForms.{IsWorkqueueLine-wq_form, wq_form-IsWorkqueueLine}
 use Rattle.wq_cert.proofs.SpelledLines.{Follows-and_then, FollowsRead-and_read, same_ok, Some-ok_or, past}
 use Rattle.wq_cert.proofs.WorkqueueLists.{AreGrown, IsNextWorkqueue, AreGrown-push, AreGrown-front, IsNextWorkqueue-grown, AreWorkqueues-grown, hold_all-Contains}

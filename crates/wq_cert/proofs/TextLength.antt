@@ -16,7 +16,8 @@ use Rattle.wq_items.specs.Names.{is_name}
 use Rattle.wq_core.specs.declared.step.Step.{Step}
 use Rattle.wq_core.specs.declared.step.Step.TheVariants.{Queue, Cancel, Start, Wait, Over, Finish}
 use Rattle.wq_cert.specs.LineText.{spaced, line_text}
-use Rattle.wq_cert.specs.PlanText.{name_of, items_on, plan_line, wq_line, chain_line, arc_line, plan_text}
+use Rattle.wq_items.specs.Table.{items_at}
+use Rattle.wq_cert.specs.PlanText.{name_of, plan_line, wq_line, chain_line, arc_line, plan_text}
 use Rattle.wq_cert.specs.CircleText.{circle_line, circle_text}
 use Rattle.wq_cert.specs.Ranges.{IsStepOf}
 use Rattle.wq_cert.specs.Reading.{names_far_lane}
@@ -196,14 +197,14 @@ module _ (names : List (List ℕ)) (named : All (λ (name : List ℕ). IsTrue (i
 -- ---- plans
 
 module _ (names : List (List ℕ)) (lane : List ℕ) (named : All (λ (name : List ℕ). IsTrue (is_name name)) names) where
-  length-wq_line : (q : ℕ) → q < 4096 → length (line_text (wq_line names lane q)) ≤ 8 + 64 * length (items_on lane q)
+  length-wq_line : (q : ℕ) → q < 4096 → length (line_text (wq_line names lane q)) ≤ 8 + 64 * length (items_at lane q)
   length-wq_line q few =
-      let words = map (name_of names) (items_on lane q) in
-      let each : length (flat_map spaced words) ≤ 64 * length (items_on lane q) =
-      rw (flat_map-map spaced (name_of names) (items_on lane q)) (length-flat_map-most (λ i. spaced (name_of names i)) 64 (λ i. omega (arith, name_of-most names named i)) (items_on lane q)) in
+      let words = map (name_of names) (items_at lane q) in
+      let each : length (flat_map spaced words) ≤ 64 * length (items_at lane q) =
+      rw (flat_map-map spaced (name_of names) (items_at lane q)) (length-flat_map-most (λ i. spaced (name_of names i)) 64 (λ i. omega (arith, name_of-most names named i)) (items_at lane q)) in
       omega (arith, length-line_text (codes "wq") (decimal q ∷ words), length-spaced (decimal q) words, few_digits q (omega arith))
 
-  total-items : (lanes : ℕ) → total (λ q. length (items_on lane q)) (range_with_len 0 lanes) ≤ length (range_with_len 0 (length lane))
+  total-items : (lanes : ℕ) → total (λ q. length (items_at lane q)) (range_with_len 0 lanes) ≤ length (range_with_len 0 (length lane))
   unfolding on
   total-items lanes =
       let is = range_with_len 0 (length lane) in
@@ -213,11 +214,11 @@ module _ (names : List (List ℕ)) (lane : List ℕ) (named : All (λ (name : Li
   length-wq_lines lanes few =
       let qs = range_with_len 0 lanes in
       let is = range_with_len 0 (length lane) in
-      let sum : length (flat_map (λ q. line_text (wq_line names lane q)) qs) ≤ total (λ q. 8 + 64 * length (items_on lane q)) qs =
-      length-flat_map-le (λ q. line_text (wq_line names lane q)) (λ q. 8 + 64 * length (items_on lane q)) qs
-      (AllByRecursion-range_with_len (λ q. length (line_text (wq_line names lane q)) ≤ 8 + 64 * length (items_on lane q)) 0 lanes (λ q low high. length-wq_line q (omega arith))) in
-      let parts : total (λ q. 8 + 64 * length (items_on lane q)) qs ≡ 8 * length qs + 64 * total (λ q. length (items_on lane q)) qs = total-lines (λ q. length (items_on lane q)) qs in
-      let once : total (λ q. length (items_on lane q)) qs ≤ length is = total-items lanes in
+      let sum : length (flat_map (λ q. line_text (wq_line names lane q)) qs) ≤ total (λ q. 8 + 64 * length (items_at lane q)) qs =
+      length-flat_map-le (λ q. line_text (wq_line names lane q)) (λ q. 8 + 64 * length (items_at lane q)) qs
+      (AllByRecursion-range_with_len (λ q. length (line_text (wq_line names lane q)) ≤ 8 + 64 * length (items_at lane q)) 0 lanes (λ q low high. length-wq_line q (omega arith))) in
+      let parts : total (λ q. 8 + 64 * length (items_at lane q)) qs ≡ 8 * length qs + 64 * total (λ q. length (items_at lane q)) qs = total-lines (λ q. length (items_at lane q)) qs in
+      let once : total (λ q. length (items_at lane q)) qs ≤ length is = total-items lanes in
       rw (flat_map-map line_text (wq_line names lane) qs) (omega (arith, length-range_with_len 0 lanes, length-range_with_len 0 (length lane)))
 
   pub length-plan_text : (lanes : ℕ) (chain : List (ℕ × ℕ)) → lanes ≤ 4096 → length lane ≤ 4096 → length chain ≤ 4096 → length (plan_text names lanes lane chain) ≤ 8388608

@@ -16,10 +16,11 @@ use Rattle.wq_cert.specs.declared.fault.CertError.{CertError}
 use Rattle.wq_cert.specs.declared.fault.CertError.TheVariants.{BadCertLine, NotAllItems, GroupSplit, NumberOutOfRange, OutOfMemory}
 use Rattle.wq_cert.specs.Forms.{begins_with, wq_form}
 use Rattle.wq_cert.specs.Lines.{CertLine}
-use Rattle.wq_cert.specs.PlanText.{plan_line}
+use Rattle.wq_cert.specs.PlanText.{plan_line, workqueue_line}
 use Rattle.wq_cert.specs.WorkqueueRows.{AreFirstWorkqueues, SpellsWorkqueue, SpellsNextWorkqueue, BreaksRow}
-use Rattle.wq_cert.specs.Reading.{Read, and_then, and_read, at_end, count_reading, has_stood, splits_group, wq_reading, next_workqueues, all_workqueues, whole_assignment, plan_reading, workqueues_reading}
-use Rattle.wq_cert.specs.Spelled.{words_in, workqueue_line, workqueue_lines}
+use Rattle.wq_items.specs.Building.{and_then}
+use Rattle.wq_cert.specs.Reading.{Read, and_read, at_end, count_reading, has_stood, splits_group, wq_reading, next_workqueues, all_workqueues, whole_assignment, plan_reading, workqueues_reading}
+use Rattle.wq_cert.specs.Spelled.{words_in, workqueue_lines}
 
 pub AreGrown-first : (items : ℕ) (group_of : List ℕ) (workqueues : List (List ℕ)) → AreFirstWorkqueues items group_of workqueues → AreGrown items group_of workqueues
 AreGrown-first items group_of workqueues h = record { few = h.few; known = h.known; once = h.once; whole = h.whole }

@@ -6,7 +6,8 @@ use Rattle.wq_cert.specs.declared.fault.CertError.{CertError}
 use Rattle.wq_cert.specs.declared.fault.CertError.TheVariants.{BadCertLine, NotAllItems, GroupSplit, NumberOutOfRange}
 use Rattle.wq_cert.specs.Forms.{wq_form}
 use Rattle.wq_cert.specs.Lines.{CertLine}
-use Rattle.wq_cert.specs.Reading.{and_then, has_stood, splits_group, fresh_items, wq_reading}
+use Rattle.wq_items.specs.Building.{and_then}
+use Rattle.wq_cert.specs.Reading.{has_stood, splits_group, fresh_items, wq_reading}
 
 module _ (names : List (List ℕ)) (group_of : List ℕ) (workqueues : List (List ℕ)) where
   -- a number out of place, or above 4,095

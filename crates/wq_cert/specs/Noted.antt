@@ -2,6 +2,7 @@
 use Rattle.std.specs.Prelude.{◌≡◌, ℕ, ◌≤◌, ◌==◌, not, Bool, false, List, [], ◌∷◌, ◌++◌, length, map, Option, Some, None, Ok}
 use Rattle.std.specs.List.{concat, range_with_len}
 use Rattle.wq_groups.specs.Partition.{Partition}
+use Rattle.wq_groups.specs.Assignment.{max_lanes}
 use Rattle.wq_cert.specs.Lines.{CertLine}
 use Rattle.wq_cert.specs.Reading.{stands_in, workqueue_with, wq_reading, next_workqueues, all_workqueues}
 
@@ -17,7 +18,7 @@ lanes_with p workqueues = map (workqueue_with p.group_of workqueues) (range_with
 -- each group the workqueue that holds a member of it
 pub record AreNoted (p : Partition) (workqueues : List (List ℕ)) (count : ℕ) (stood : List Bool) (lanes : List (Option ℕ)) : Type 0 where
   pub number : count ≡ length workqueues
-  pub few : count ≤ 4096
+  pub few : count ≤ max_lanes
   pub items : stood ≡ marks (length p.group_of) (concat workqueues)
   pub groups : lanes ≡ lanes_with p workqueues
 

@@ -1,28 +1,24 @@
 -- Plan texts: the workqueues with their items, and a longest waiting chain.
-use Rattle.std.specs.Prelude.{ℕ, ◌+◌, ◌==◌, List, [], ◌∷◌, ◌++◌, length, map, filter, flat_map, slice_index, slice_index_or, codes, decimal, if◌then◌else◌}
+use Rattle.std.specs.Prelude.{ℕ, ◌+◌, ◌==◌, List, [], ◌∷◌, ◌++◌, length, map, flat_map, slice_index_or, codes, decimal, if◌then◌else◌}
 use Rattle.std.specs.List.{range_with_len}
-use Rattle.wq_groups.specs.Assignment.{Assignment, group_lane}
+use Rattle.wq_items.specs.Table.{items_at}
 use Rattle.wq_cert.specs.LineText.{line_text}
 
 -- the name of an item
 abbrev pub name_of : List (List ℕ) → ℕ → List ℕ
 name_of names i = slice_index_or names i []
 
--- of each item in turn the workqueue of its group
-abbrev pub item_lanes : Assignment → List ℕ → List ℕ
-item_lanes a group_of = map (group_lane a) group_of
-
--- the items on workqueue q, in declaration order
-abbrev pub items_on : List ℕ → ℕ → List ℕ
-items_on lane q = filter (λ i. slice_index lane i == q) (range_with_len 0 (length lane))
-
 -- `plan K`
 abbrev pub plan_line : ℕ → List (List ℕ)
 plan_line lanes = codes "plan" ∷ decimal lanes ∷ []
 
--- `wq Q NAME..`
+-- `wq Q NAME..`, of a workqueue's number and its items
+abbrev pub workqueue_line : List (List ℕ) → ℕ × List ℕ → List (List ℕ)
+workqueue_line names workqueue = codes "wq" ∷ decimal workqueue.0 ∷ map (name_of names) workqueue.1
+
+-- that of workqueue q, with its items in declaration order
 abbrev pub wq_line : List (List ℕ) → List ℕ → ℕ → List (List ℕ)
-wq_line names lane q = codes "wq" ∷ decimal q ∷ map (name_of names) (items_on lane q)
+wq_line names lane q = workqueue_line names (q, items_at lane q)
 
 -- `chain N`: how many groups the chain has, one more than arcs, and 0 where there is no workqueue
 abbrev pub chain_line : ℕ → List (ℕ × ℕ) → List (List ℕ)

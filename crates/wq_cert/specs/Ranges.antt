@@ -1,10 +1,11 @@
 -- Ranges: what is known of every certificate, assignment and run that is read. Items are counted by their names.
 use Rattle.std.specs.Prelude.{◌≡◌, ℕ, ◌-◌, ◌<◌, ◌≤◌, false, List, length, Some}
 use Rattle.std.specs.List.{All}
-use Rattle.wq_groups.specs.Assignment.{Assignment, IsAssignment}
+use Rattle.wq_groups.specs.Assignment.{Assignment, IsAssignment, max_lanes}
 use Rattle.wq_core.specs.declared.step.Step.{Step}
+use Rattle.wq_core.specs.State.{max_number}
 use Rattle.wq_cert.specs.Certificate.{PlanCertificate, CircleCertificate, Certificate, OfPlan, OfCircle}
-use Rattle.wq_cert.specs.Reading.{names_far_lane}
+use Rattle.wq_cert.specs.Reading.{names_far_lane, max_count}
 use Rattle.wq_cert.specs.RunText.{item_in}
 
 -- the item and the target of an arc are two of so many items, or one of them twice
@@ -18,25 +19,25 @@ IsStepOf items step = (item_in step < items) × (names_far_lane step ≡ false)
 -- an assignment of so many groups to at most 4,096 workqueues
 pub record IsAssignmentOf (groups : ℕ) (a : Assignment) : Type 0 where
   pub assignment : IsAssignment groups a
-  pub few : a.lanes ≤ 4096
+  pub few : a.lanes ≤ max_lanes
 
 -- steps of so many items, fewer than 4,294,967,295
 pub record IsRunOf (items : ℕ) (steps : List Step) : Type 0 where
   pub known : All (IsStepOf items) steps
-  pub few : length steps < 4294967295
+  pub few : length steps < max_number
 
 -- what the text of a plan says of so many items and groups: an assignment to at most 4,096 workqueues, a chain of at most
 -- 4,096 groups, and one arc fewer, none where there is no group
 pub record IsPlanOf (items groups : ℕ) (c : PlanCertificate) : Type 0 where
   pub assignment : IsAssignmentOf groups c.assignment
-  pub few : c.length ≤ 4096
+  pub few : c.length ≤ max_count
   pub count : length c.arcs ≡ c.length - 1
   pub arcs : All (IsArcOf items) c.arcs
 
 -- what the text of a circle says of so many items: from 1 to 4,096 arcs, and perhaps a run
 pub record IsCircleOf (items : ℕ) (c : CircleCertificate) : Type 0 where
   pub some : 0 < length c.arcs
-  pub few : length c.arcs ≤ 4096
+  pub few : length c.arcs ≤ max_count
   pub arcs : All (IsArcOf items) c.arcs
   pub run : (steps : List Step) → c.steps ≡ Some steps → IsRunOf items steps
 

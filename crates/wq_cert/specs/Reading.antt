@@ -3,8 +3,9 @@
 -- are split (42). An item that stands nowhere is a fault of no line (41), judged behind the last `wq` line.
 use Rattle.std.specs.Prelude.{ℕ, zero, suc, ◌-◌, ◌==◌, ◌||◌, not, nat_le, nat_lt, if◌then◌else◌, Bool, false, List, [], ◌∷◌, ◌++◌, length, map, slice_index, unwrap_or, Option, Some, None, Result, Ok, Err, ok_or, codes}
 use Rattle.std.specs.List.{list_any, list_all, concat, position, range_with_len}
+use Rattle.wq_items.specs.Building.{and_then}
 use Rattle.wq_groups.specs.Partition.{Partition}
-use Rattle.wq_groups.specs.Assignment.{Assignment}
+use Rattle.wq_groups.specs.Assignment.{Assignment, max_lanes}
 use Rattle.wq_core.specs.declared.step.Step.{Step}
 use Rattle.wq_core.specs.declared.step.Step.TheVariants.{Queue, Cancel, Start, Wait, Over, Finish}
 use Rattle.wq_cert.specs.declared.fault.CertError.{CertError}
@@ -18,11 +19,6 @@ use Rattle.wq_cert.specs.Forms.{begins_with, count_form, wq_form, arc_form, step
 -- a value that is read, and the lines behind it; or the first fault
 abbrev pub Read : Type 0 → Type 0
 Read V = Result (V × List CertLine) CertError
-
--- what follows a value, where there is one
-abbrev pub and_then : {V W : Type 0} → (V → Result W CertError) → Result V CertError → Result W CertError
-and_then next (Ok v) = next v
-and_then next (Err fault) = Err fault
 
 -- what follows a value and the lines behind it
 abbrev pub and_read : {V W : Type 0} → (V → List CertLine → Result W CertError) → Read V → Result W CertError
@@ -45,10 +41,14 @@ at_end v (line ∷ lines) = Err (BadCertLine line.no)
 
 -- ---- lines
 
--- `KEYWORD N`, where N is a count of workqueues, groups or arcs: at most 4,096
+-- how many workqueues, groups or arcs a line may count
+abbrev pub max_count : ℕ
+max_count = 4096
+
+-- `KEYWORD N`, where N is such a count
 abbrev pub count_reading : List ℕ → CertLine → Result ℕ CertError
 count_reading keyword line =
-    and_then (λ n. if nat_lt 4096 n then Err (NumberOutOfRange line.no) else Ok n)
+    and_then (λ n. if nat_lt max_count n then Err (NumberOutOfRange line.no) else Ok n)
     (ok_or (count_form keyword line.words) (BadCertLine line.no))
 
 -- `arc NAME TARGET`
@@ -94,7 +94,7 @@ splits_group group_of before items = list_any (λ i. holds_member group_of befor
 -- `wq Q NAME..`, where Q is the place of the workqueue, below 4,096: the items
 abbrev pub wq_items : List (List ℕ) → ℕ → CertLine → Result (List ℕ) CertError
 wq_items names place line =
-    and_then (λ (p : ℕ × List ℕ). if not (p.0 == place) || nat_le 4096 place then Err (NumberOutOfRange line.no) else Ok p.1)
+    and_then (λ (p : ℕ × List ℕ). if not (p.0 == place) || nat_le max_lanes place then Err (NumberOutOfRange line.no) else Ok p.1)
     (ok_or (wq_form names line.words) (BadCertLine line.no))
 
 -- the items on line n, where these stand on the lines before it: none of them twice, nor with a group that stands there

@@ -1,15 +1,15 @@
 -- Spelled: which lines are read, said without a reader: their words are those of the forms, one behind the other.
-use Rattle.std.specs.Prelude.{◌≡◌, ◌≢◌, ℕ, ◌-◌, ◌^◌, ◌<◌, ◌≤◌, List, [], ◌∷◌, ◌++◌, ◌⊎◌, length, map, slice_index, slice_index_or, Contains, AllPairs, codes, decimal, Option, Some, None}
+use Rattle.std.specs.Prelude.{◌≡◌, ◌≢◌, ℕ, ◌-◌, ◌^◌, ◌<◌, ◌≤◌, List, [], ◌∷◌, ◌++◌, ◌⊎◌, length, map, slice_index_or, Contains, AllPairs, codes, decimal, Option, Some, None}
 use Rattle.std.specs.List.{All, concat, enumerate_from}
 use Rattle.wq_text.specs.Lines.{LineView, lines_of}
-use Rattle.wq_groups.specs.Partition.{Partition}
-use Rattle.wq_groups.specs.Assignment.{Assignment}
+use Rattle.wq_groups.specs.Partition.{Partition, ShareGroup}
+use Rattle.wq_groups.specs.Assignment.{Assignment, max_lanes}
 use Rattle.wq_core.specs.declared.step.Step.{Step}
 use Rattle.wq_cert.specs.Certificate.{PlanCertificate, CircleCertificate, Certificate, OfPlan, OfCircle}
 use Rattle.wq_cert.specs.Lines.{CertLine, cert_lines}
 use Rattle.wq_cert.specs.Ranges.{IsArcOf, IsStepOf}
-use Rattle.wq_cert.specs.Reading.{assignment_of}
-use Rattle.wq_cert.specs.PlanText.{name_of, plan_line, arc_line}
+use Rattle.wq_cert.specs.Reading.{max_count, assignment_of}
+use Rattle.wq_cert.specs.PlanText.{plan_line, workqueue_line, arc_line}
 use Rattle.wq_cert.specs.RunText.{run_lines}
 use Rattle.wq_cert.specs.CircleText.{circle_line}
 use Rattle.wq_cert.specs.Texts.{max_certificate, max_certificate_line}
@@ -27,19 +27,15 @@ IsOnWorkqueue workqueues q i = Contains (slice_index_or workqueues q []) i
 -- two items of one group are on one workqueue
 abbrev pub GroupsAreWhole : List ℕ → List (List ℕ) → Type 0
 GroupsAreWhole group_of workqueues =
-    (q r i j : ℕ) → IsOnWorkqueue workqueues q i → IsOnWorkqueue workqueues r j → slice_index group_of i ≡ slice_index group_of j → q ≡ r
+    (q r i j : ℕ) → IsOnWorkqueue workqueues q i → IsOnWorkqueue workqueues r j → ShareGroup group_of i j → q ≡ r
 
 -- at most 4,096 workqueues with these items, each on one of them and only once, and each group on one workqueue
 pub record AreWorkqueues (items : ℕ) (group_of : List ℕ) (workqueues : List (List ℕ)) : Type 0 where
-  pub few : length workqueues ≤ 4096
+  pub few : length workqueues ≤ max_lanes
   pub known : All (λ i. i < items) (concat workqueues)
   pub all : (i : ℕ) → i < items → Contains (concat workqueues) i
   pub once : AllPairs (λ (i j : ℕ). i ≢ j) (concat workqueues)
   pub whole : GroupsAreWhole group_of workqueues
-
--- `wq Q NAME..`
-abbrev pub workqueue_line : List (List ℕ) → ℕ × List ℕ → List (List ℕ)
-workqueue_line names workqueue = codes "wq" ∷ decimal workqueue.0 ∷ map (name_of names) workqueue.1
 
 -- the lines of the workqueues, which are numbered from 0, with their items in any order
 abbrev pub workqueue_lines : List (List ℕ) → List (List ℕ) → List (List (List ℕ))
@@ -64,7 +60,7 @@ pub record SpellsPlan (names : List (List ℕ)) (p : Partition) (lines : List (L
   pub words : lines ≡ plan_line (length workqueues) ∷ (workqueue_lines names workqueues ++ (count_line c.length ∷ map (arc_line names) c.arcs))
   pub are : AreWorkqueues (length names) p.group_of workqueues
   pub assignment : c.assignment ≡ assignment_of p workqueues
-  pub few : c.length ≤ 4096
+  pub few : c.length ≤ max_count
   pub count : length c.arcs ≡ c.length - 1
   pub known : All (IsArcOf (length names)) c.arcs
 
@@ -84,7 +80,7 @@ pub record SpellsCircle (names : List (List ℕ)) (lines : List (List (List ℕ)
   pub behind : List (List (List ℕ))
   pub words : lines ≡ circle_line c.arcs ∷ (map (arc_line names) c.arcs ++ behind)
   pub some : 0 < length c.arcs
-  pub few : length c.arcs ≤ 4096
+  pub few : length c.arcs ≤ max_count
   pub known : All (IsArcOf (length names)) c.arcs
   pub run : SpellsRunBehind names behind c.steps
 

@@ -2,15 +2,17 @@
 -- line of a workqueue breaks, where these workqueues stand on the lines before it.
 use Rattle.std.specs.Prelude.{◌≡◌, ◌≢◌, ℕ, ◌^◌, ◌<◌, ◌≤◌, Bool, false, List, [], ◌∷◌, ◌++◌, ◌⊎◌, length, Contains, AllPairs, codes}
 use Rattle.std.specs.List.{All, concat}
+use Rattle.wq_groups.specs.Assignment.{max_lanes}
 use Rattle.wq_cert.specs.declared.fault.CertError.{CertError}
 use Rattle.wq_cert.specs.declared.fault.CertError.TheVariants.{BadCertLine, NotAllItems, GroupSplit, NumberOutOfRange, OutOfMemory}
 use Rattle.wq_cert.specs.Forms.{begins_with}
 use Rattle.wq_cert.specs.Lines.{CertLine}
-use Rattle.wq_cert.specs.Spelled.{GroupsAreWhole, workqueue_line}
+use Rattle.wq_cert.specs.PlanText.{workqueue_line}
+use Rattle.wq_cert.specs.Spelled.{GroupsAreWhole}
 
 -- at most 4,096 workqueues with items of so many, none of which stands twice, and no group of which is split
 pub record AreFirstWorkqueues (items : ℕ) (group_of : List ℕ) (workqueues : List (List ℕ)) : Type 0 where
-  pub few : length workqueues ≤ 4096
+  pub few : length workqueues ≤ max_lanes
   pub known : All (λ i. i < items) (concat workqueues)
   pub once : AllPairs (λ (i j : ℕ). i ≢ j) (concat workqueues)
   pub whole : GroupsAreWhole group_of workqueues
@@ -24,7 +26,7 @@ pub record SpellsWorkqueue (names words : List (List ℕ)) (workqueue : ℕ × L
 -- the same, where the number is that of the next workqueue, and in range
 pub record SpellsNextWorkqueue (names words : List (List ℕ)) (workqueues : List (List ℕ)) (items : List ℕ) : Type 0 where
   pub says : SpellsWorkqueue names words (length workqueues, items)
-  pub room : length workqueues < 4096
+  pub room : length workqueues < max_lanes
 
 -- the items stand once with those before them
 abbrev pub StandOnce : List (List ℕ) → List ℕ → Type 0
@@ -38,7 +40,7 @@ SplitNoGroup group_of workqueues items = GroupsAreWhole group_of (workqueues ++ 
 abbrev pub BreaksRow : List (List ℕ) → List ℕ → List (List ℕ) → CertLine → CertError → Type 0
 BreaksRow names group_of workqueues line (BadCertLine n) = (n ≡ line.no) × ((workqueue : ℕ × List ℕ) → ¬ SpellsWorkqueue names line.words workqueue)
 BreaksRow names group_of workqueues line (NumberOutOfRange n) =
-    (n ≡ line.no) × (workqueue : ℕ × List ℕ) × SpellsWorkqueue names line.words workqueue × ((workqueue.0 ≢ length workqueues) ⊎ (4096 ≤ length workqueues))
+    (n ≡ line.no) × (workqueue : ℕ × List ℕ) × SpellsWorkqueue names line.words workqueue × ((workqueue.0 ≢ length workqueues) ⊎ (max_lanes ≤ length workqueues))
 BreaksRow names group_of workqueues line (NotAllItems n) =
     (n ≡ line.no) × (items : List ℕ) × SpellsNextWorkqueue names line.words workqueues items × (¬ StandOnce workqueues items)
 BreaksRow names group_of workqueues line (GroupSplit n) =

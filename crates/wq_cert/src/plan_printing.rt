@@ -6,7 +6,8 @@
 ghost use Rattle.std.specs.Prelude.{◌≡◌, ◌<◌, ◌+◌, ◌++◌, ◌^◌, ℕ, length, OnOk, IfOk};
 ghost use Rattle.std.specs.List.{All};
 ghost use Rattle.wq_cert.specs.LineText.{line_text};
-ghost use Rattle.wq_cert.specs.PlanText.{plan_line, wq_line, chain_line, item_lanes, plan_text};
+ghost use Rattle.wq_groups.specs.Assignment.{item_lanes};
+ghost use Rattle.wq_cert.specs.PlanText.{plan_line, wq_line, chain_line, plan_text};
 
 use crate::arc_printing::put_arc_line;
 use crate::lines::{put, put_end, put_number, put_word};

@@ -12,7 +12,7 @@ ghost use Rattle.wq_cert.specs.Texts.{IsCertFaultOf};
 use crate::fault::CertError;
 use crate::form::begins_with;
 use crate::view::CertLines;
-use crate::workqueues::Queues;
+use crate::workqueues::Workqueues;
 use std::alloc::Allocator;
 use wq_groups::{Assignment, Groups};
 use wq_items::ItemTable;

@@ -4,7 +4,9 @@ use Rattle.std.specs.Prelude.{slice_index}
 use Rattle.std.proofs.lemmas.List.{get_or-map}
 use Rattle.wq_items.specs.Chain.{Circle}
 use Rattle.wq_groups.specs.Declaration.{Declaration, IsDeclaration}
-use Rattle.wq_groups.specs.Assignment.{Assignment, IsAssignment, group_lane}
+use Rattle.wq_groups.specs.Assignment.{Assignment, IsAssignment}
+use Rattle.wq_groups.proofs.Declarations.{waiting-item, awaited-item}
+use Rattle.wq_groups.proofs.Lanes.{item_lanes-at}
 use Rattle.wq_core.specs.Wiring.{LaneWaits, wiring, lane_of}
 use Rattle.wq_core.specs.Deadlock.{IsSafe, Deadlocks, IsLeast}
 use Rattle.wq_core.proofs.CircleKnots.{Deadlocks-circle}
@@ -19,7 +21,7 @@ use Rattle.wq_checker.specs.Chains.{AllJoin, before_in_circle, IsChainAlong, IsC
 use Rattle.wq_checker.specs.Falling.{AllFall}
 use Rattle.wq_checker.specs.Answers.{IsGoodPlan, IsPlanAsked, IsCircleAsked, IsAsked, AnswersPlan, AnswersCircle, AnswersCertificate}
 use Rattle.wq_checker.specs.Implications.{YesIsSafe, FewerWaitInCircle, YesIsLeast, EachWaitsInCircle, EachDeadlocks}
-use Rattle.wq_checker.proofs.GroupChains.{waits-item, waits-target, chain_of_groups, circle_of_groups}
+use Rattle.wq_checker.proofs.GroupChains.{chain_of_groups, circle_of_groups}
 
 module _ (d : Declaration) (is : IsDeclaration d) where
   -- ---- plans
@@ -28,8 +30,8 @@ module _ (d : Declaration) (is : IsDeclaration d) where
   pub IsSafe-fall : (a : Assignment) → AllFall d a → IsSafe (wiring d a)
   IsSafe-fall a falls =
       IsSafe-falls (wiring d a) (λ l. l) (λ i j waits.
-      let one : lane_of (wiring d a) i ≡ group_lane a (slice_index d.group_of i) = get_or-map (group_lane a) d.group_of i 0 0 (waits-item d is i j waits) in
-      let other : lane_of (wiring d a) j ≡ group_lane a (slice_index d.group_of j) = get_or-map (group_lane a) d.group_of j 0 0 (waits-target d is i j waits) in
+      let one = item_lanes-at a d.group_of i (waiting-item d is i j waits) in
+      let other = item_lanes-at a d.group_of j (awaited-item d is i j waits) in
       omega (arith, one, other, falls i j waits)
       )
 

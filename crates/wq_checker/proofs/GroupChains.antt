@@ -8,8 +8,8 @@ use Rattle.std.proofs.lemmas.List.Elements.{All-cons, All-nil}
 use Rattle.std.proofs.lemmas.Option.{slice_get-get_or, slice_get_within}
 use Rattle.wq_items.specs.Chain.{IsChain, last_of}
 use Rattle.wq_items.specs.Table.{ItemWaits}
-use Rattle.wq_items.proofs.Tables.{ItemWaits-below}
 use Rattle.wq_groups.specs.Declaration.{Declaration, IsDeclaration, GroupWaits}
+use Rattle.wq_groups.proofs.Declarations.{waiting-item, awaited-item, GroupWaits-items}
 use Rattle.wq_checker.specs.Chains.{Joins, AllJoin, before_from, before_in_circle, before_in_chain, IsChainAlong, heads, IsCircleAlong}
 use Rattle.wq_checker.proofs.FallingLemmas.{Declares-within, Declares-waits}
 
@@ -51,20 +51,8 @@ module _ (d : Declaration) where
   Linked-from_first first arc arcs joined = (Joins-waits first arc (joined 0 arc refl), refl, Linked-joined arc arcs (AllJoin-rest first arc arcs joined))
 
   module _ (is : IsDeclaration d) where
-    pub waits-item : (i j : ℕ) → ItemWaits d.waits i j → i < length d.group_of
-    waits-item i j waits = let flush = Declares-waits d i j waits in omega (arith, Declares-within d i flush.0 flush.1, is.one_list_each)
-
-    pub waits-target : (i j : ℕ) → ItemWaits d.waits i j → j < length d.group_of
-    waits-target i j waits = ItemWaits-below (length d.group_of) d.waits is.targets_are_items i j waits
-
-    GroupWaits-item : (i j g : ℕ) → ItemWaits d.waits i j → group d i ≡ g → GroupWaits d g (group d j)
-    GroupWaits-item i j g waits of = record {
-      item = i;
-      target = j;
-      declares = waits;
-      of_item = slice_get-get_or d.group_of i 0 (waits-item i j waits) ∙ ap (λ (x : ℕ). Some x) of;
-      of_target = slice_get-get_or d.group_of j 0 (waits-target i j waits);
-    }
+    GroupWaits-from : (i j g : ℕ) → ItemWaits d.waits i j → group d i ≡ g → GroupWaits d g (group d j)
+    GroupWaits-from i j g waits of = subst (λ (h : ℕ). GroupWaits d h (group d j)) of (GroupWaits-items d is i j waits)
 
     group-within : (i : ℕ) → i < length d.group_of → group d i < d.groups
     group-within i within = is.partition.within i 0 within
@@ -73,12 +61,12 @@ module _ (d : Declaration) where
 
     IsChain-linked : (g : ℕ) (arcs : List (ℕ × ℕ)) → Linked d g arcs → IsChain (GroupWaits d) (g ∷ heads d arcs)
     IsChain-linked g [] linked = tt
-    IsChain-linked g (arc ∷ arcs) linked = (GroupWaits-item arc.0 arc.1 g linked.0 linked.1, IsChain-linked (group d arc.1) arcs linked.2)
+    IsChain-linked g (arc ∷ arcs) linked = (GroupWaits-from arc.0 arc.1 g linked.0 linked.1, IsChain-linked (group d arc.1) arcs linked.2)
 
     heads-within : (g : ℕ) (arcs : List (ℕ × ℕ)) → Linked d g arcs → All (λ h. h < d.groups) (heads d arcs)
     heads-within g [] linked = All-nil (λ h. h < d.groups)
     heads-within g (arc ∷ arcs) linked =
-        All-cons (λ h. h < d.groups) (group d arc.1) (heads d arcs) (group-within arc.1 (waits-target arc.0 arc.1 linked.0)) (heads-within (group d arc.1) arcs linked.2)
+        All-cons (λ h. h < d.groups) (group d arc.1) (heads d arcs) (group-within arc.1 (awaited-item d is arc.0 arc.1 linked.0)) (heads-within (group d arc.1) arcs linked.2)
 
     -- each arc is declared, and leads from its group to the next
     along-linked : (g : ℕ) (arcs : List (ℕ × ℕ)) → Linked d g arcs → (k : ℕ) (arc : ℕ × ℕ) → slice_get arcs k ≡ Some arc
@@ -98,7 +86,7 @@ module _ (d : Declaration) where
         let long : length (heads d (arc ∷ arcs)) ≡ length (arc ∷ arcs) = length-map (arc ∷ arcs) (λ (a : ℕ × ℕ). group d a.1) in
         record {
           chain = IsChain-linked g (arc ∷ arcs) linked;
-          within = All-cons (λ h. h < d.groups) g (heads d (arc ∷ arcs)) (group-within arc.0 (waits-item arc.0 arc.1 linked.0)) (heads-within g (arc ∷ arcs) linked);
+          within = All-cons (λ h. h < d.groups) g (heads d (arc ∷ arcs)) (group-within arc.0 (waiting-item d is arc.0 arc.1 linked.0)) (heads-within g (arc ∷ arcs) linked);
           count = omega (arith, long);
           along = λ k other stands.
               let leads = along-linked g (arc ∷ arcs) linked k other stands in

@@ -8,7 +8,7 @@ use Rattle.wq_core.specs.State.{State, empty_state}
 use Rattle.wq_core.specs.Rules.{Lawful, effect}
 use Rattle.wq_core.specs.Runs.{after, IsRunFrom, end_of, KeepsOrder, AsDeclaredFrom}
 use Rattle.wq_core.specs.Held.{Machine, IsDone, AreDone}
-use Rattle.wq_core.proofs.RunLemmas.{AreDone-more}
+use Rattle.wq_core.proofs.RunLemmas.{AreDone-more, next-effect}
 use Rattle.wq_checker.specs.Searching.{IsPlayed}
 
 -- ---- steps in a row
@@ -18,15 +18,6 @@ AsDeclaredFrom-more w s [] step = ((λ h. (tt, h.0)), (λ h. (h.1, tt)))
 AsDeclaredFrom-more w s (first ∷ steps) step =
     let rest = AsDeclaredFrom-more w (effect w s first) steps step in
     ((λ h. ((h.0, (rest.0 h.1).0), (rest.0 h.1).1)), (λ h. (h.0.0, rest.1 (h.0.1, h.1))))
-
--- a step gives one number at most
-next-effect : (w : Wiring) (s : State) (step : Step) → (effect w s step).next ≤ s.next + 1
-next-effect w s (Queue i) = omega arith
-next-effect w s (Cancel i) = omega arith
-next-effect w s (Start q i) = omega arith
-next-effect w s (Wait q b) = omega arith
-next-effect w s (Over q b) = omega arith
-next-effect w s (Finish q i) = omega arith
 
 pub next-done : (old new : Machine) (step : Step) (n : ℕ) → IsDone old step n new → new.state.next ≤ old.state.next + 1
 next-done old new step n done =
@@ -64,10 +55,3 @@ module _ (w : Wiring) (steps : List Step) (step : Step) (b keeps : Bool) (old ne
     state = more.state;
     declared = ((λ e. absurd (let both_ways : false ≡ true = sym not_so_far.1 ∙ e in cc)), (λ h. absurd (let both_ways : false ≡ true = sym not_so_far.0 ∙ played.declared.1 (both.0 h).0 in cc)));
   }
-
--- ---- lists of which a step isn't lawful
-
-pub IsRunFrom-at : (w : Wiring) (s : State) (steps : List Step) (k : ℕ) (step : Step) → IsRunFrom w s steps → slice_get steps k ≡ Some step → Lawful w (after w s (take k steps)) step
-IsRunFrom-at w s [] k step run stands = absurd cc
-IsRunFrom-at w s (first ∷ steps) zero step run stands = let same : first ≡ step = cc in subst (Lawful w s) same run.0
-IsRunFrom-at w s (first ∷ steps) (suc k) step run stands = IsRunFrom-at w (effect w s first) steps k step run.1 stands

@@ -8,7 +8,7 @@ use Rattle.wq_core.specs.Deadlock.{DeadlocksBy}
 use Rattle.wq_checker.specs.declared.run.RunEnd.{RunEnd}
 use Rattle.wq_checker.specs.declared.run.RunEnd.TheVariants.{NotLawful, Deadlock, Stuck, Free}
 use Rattle.wq_checker.specs.RunEnds.{IsFirstUnlawful, EndsAs}
-use Rattle.wq_checker.proofs.PlayedRuns.{IsRunFrom-at}
+use Rattle.wq_core.proofs.RunLemmas.{IsRunFrom-at}
 
 module _ (w : Wiring) (steps : List Step) where
   -- a list with a step that isn't lawful is no run

@@ -6,7 +6,9 @@ use Rattle.wq_groups.specs.Assignment.{IsAssignment}
 use Rattle.wq_core.specs.declared.step.Step.{Step}
 use Rattle.wq_core.specs.Wiring.{wiring, own_lanes}
 use Rattle.wq_core.specs.Deadlock.{DeadlocksBy}
+use Rattle.wq_core.specs.State.{max_number}
 use Rattle.wq_cert.specs.Certificate.{PlanCertificate, CircleCertificate, Certificate, OfPlan, OfCircle}
+use Rattle.wq_cert.specs.Reading.{max_count}
 use Rattle.wq_checker.specs.declared.answer.Yes.{Yes}
 use Rattle.wq_checker.specs.declared.answer.Yes.TheVariants as yes
 use Rattle.wq_checker.specs.declared.answer.No.{No}
@@ -89,8 +91,8 @@ pub record IsPlanAsked (d : Declaration) (c : PlanCertificate) : Type 0 where
 pub record IsCircleAsked (d : Declaration) (c : CircleCertificate) : Type 0 where
   pub arcs : ArcsOfItems d c.arcs
   pub some : 0 < length c.arcs
-  pub few : length c.arcs ≤ 4096
-  pub few_steps : (steps : List Step) → c.steps ≡ Some steps → length steps < 4294967295
+  pub few : length c.arcs ≤ max_count
+  pub few_steps : (steps : List Step) → c.steps ≡ Some steps → length steps < max_number
 
 -- what is known of every certificate that is read
 abbrev pub IsAsked : Declaration → Certificate → Type 0

@@ -4,15 +4,12 @@ use Rattle.std.specs.List.{All}
 use Rattle.wq_items.specs.Chain.{IsChain, Circle}
 use Rattle.wq_items.specs.Table.{ItemWaits}
 use Rattle.wq_groups.specs.Declaration.{Declaration, GroupWaits}
-
--- two items are in one group
-abbrev pub ShareGroup : Declaration → ℕ → ℕ → Type 0
-ShareGroup d i j = slice_index d.group_of i ≡ slice_index d.group_of j
+use Rattle.wq_groups.specs.Partition.{ShareGroup}
 
 -- the arc is a declared flush, and its item is in the group of the target of the arc before it, if there is one
 abbrev pub Joins : Declaration → Option (ℕ × ℕ) → ℕ × ℕ → Type 0
 Joins d None arc = ItemWaits d.waits arc.0 arc.1
-Joins d (Some before) arc = ItemWaits d.waits arc.0 arc.1 × ShareGroup d before.1 arc.0
+Joins d (Some before) arc = ItemWaits d.waits arc.0 arc.1 × ShareGroup d.group_of before.1 arc.0
 
 -- what stands before the arc at place k, where this stands before the first
 abbrev pub before_from : Option (ℕ × ℕ) → List (ℕ × ℕ) → ℕ → Option (ℕ × ℕ)

@@ -26,7 +26,7 @@ fn have_target(targets: &[Target], item: ItemId) -> bool
 fn share_group<A: Allocator + Copy>(groups: &Groups<A>, one: ItemId, other: ItemId) -> bool
     requires one { one < length groups.now.group_of }
     requires other { other < length groups.now.group_of }
-    ensures { IsTrue result ↔ ShareGroup groups.now one other }
+    ensures { IsTrue result ↔ ShareGroup groups.now.group_of one other }
 {
     groups.of(one) == groups.of(other)
 }

@@ -8,7 +8,7 @@ use Rattle.wq_items.specs.Table.{ItemWaits}
 use Rattle.wq_items.specs.Chain.{BeginsChain, IsRank}
 use Rattle.wq_items.proofs.Chains.{BeginsChain-one, BeginsChain-more, BeginsChain-next}
 use Rattle.wq_groups.specs.Declaration.{Declaration, GroupWaits}
-use Rattle.wq_groups.specs.Assignment.{Assignment, group_lane}
+use Rattle.wq_groups.specs.Assignment.{Assignment, group_lane, item_lanes}
 use Rattle.wq_graph.specs.declared.arc.WaitArc.{WaitArc}
 use Rattle.wq_graph.specs.Graph.{HasArc, group_graph}
 use Rattle.wq_levels.specs.Walks.{Remains, IsWalkedCircle}
@@ -24,7 +24,7 @@ use Rattle.wq_core.specs.Played.{CanMove, HasNoDeclaredStep, IsPlayedFrom}
 use Rattle.wq_core.proofs.DeclaredSteps.{CanMove-waiting, CanMove-within, IsDeclaredStep-start, IsDeclaredStep-wait}
 use Rattle.wq_deadlock.specs.CircleRun.{IsCircleRun}
 use Rattle.wq_commands.specs.declared.end.End.TheVariants.{Good, Bad, Refused}
-use Rattle.wq_cert.specs.PlanText.{plan_text, item_lanes}
+use Rattle.wq_cert.specs.PlanText.{plan_text}
 use Rattle.wq_commands.specs.Answer.{ends_of}
 use Rattle.wq_cert.specs.CircleText.{circle_text}
 use Rattle.wq_commands.specs.Answer.{Answers, refusal_text}

@@ -26,7 +26,7 @@ use Rattle.wq_cert.proofs.PrintedPlans.{answer_of-plan, assignment_of_text-plan}
 use Rattle.wq_cert.proofs.PrintedCircles.{answer_of-circle}
 use Rattle.wq_items.specs.declared.target.Target.{Target}
 use Rattle.wq_items.specs.Table.{ItemWaits, targets_of}
-use Rattle.wq_items.proofs.Tables.{ItemWaits-below}
+use Rattle.wq_groups.proofs.Declarations.{waiting-item, GroupWaits-items}
 use Rattle.wq_checker.specs.Chains.{Joins, AllJoin, before_from, before_in_chain, before_in_circle}
 use Rattle.wq_checker.specs.Falling.{AllFall}
 use Rattle.wq_checker.specs.declared.answer.Yes.{Yes}
@@ -120,22 +120,11 @@ AllJoin-chain s a chain longest =
 
 -- ---- each flush falls
 
-waiting-below : (waits : List (List Target)) (i j : ℕ) → ItemWaits waits i j → i < length waits
-waiting-below waits i j declared = elim (cases_lt i (length waits)) [
-  | inl below ↦ below
-  | inr past ↦
-      let long : length (targets_of waits i) ≡ 0 = ap length (get_or_past waits i [] past) in
-      absurd (omega (arith, declared.2, long))
-]
-
 AllFall-plan : (s : Declared) → IsSound s → (a : Assignment) → IsPlan (declared_waits s) a → AllFall (declared_waits s) a
 AllFall-plan s sound a plan i j declared =
     let d = declared_waits s in
     let is = IsDeclaration-sound s sound in
-    let item : i < length d.group_of = subst (λ n. i < n) is.one_list_each (waiting-below d.waits i j declared) in
-    let target : j < length d.group_of = ItemWaits-below (length d.group_of) d.waits is.targets_are_items i j declared in
-    IsPlan-falls d a plan (slice_index d.group_of i) (slice_index d.group_of j) (is.partition.within i 0 item)
-    (record { item = i; target = j; declares = declared; of_item = slice_get-get_or d.group_of i 0 item; of_target = slice_get-get_or d.group_of j 0 target })
+    IsPlan-falls d a plan (slice_index d.group_of i) (slice_index d.group_of j) (is.partition.within i 0 (waiting-item d is i j declared)) (GroupWaits-items d is i j declared)
 
 module _ (s : Declared) (sound : IsSound s) where
   KeepsPlan-printed : (a : Assignment) → IsPlan (declared_waits s) a → KeepsPlan s (text_of_plan s a)

@@ -4,7 +4,7 @@ use Rattle.std.specs.List.{All}
 use Rattle.std.proofs.lemmas.List.{length-map}
 use Rattle.wq_text.specs.Lines.{lines_of}
 use Rattle.wq_text.proofs.LimitLaws.{IsShort}
-use Rattle.wq_groups.specs.Assignment.{Assignment, group_lane}
+use Rattle.wq_groups.specs.Assignment.{Assignment, group_lane, item_lanes}
 use Rattle.wq_graph.specs.declared.arc.WaitArc.{WaitArc}
 use Rattle.wq_graph.specs.Graph.{group_graph}
 use Rattle.wq_levels.specs.Walks.{IsWalkedCircle}
@@ -13,7 +13,6 @@ use Rattle.wq_plan.proofs.Plans.{IsPlan-lanes}
 use Rattle.wq_core.specs.declared.step.Step.{Step}
 use Rattle.wq_core.specs.Wiring.{wiring, own_lanes}
 use Rattle.wq_core.specs.Deadlock.{DeadlocksBy}
-use Rattle.wq_cert.specs.PlanText.{item_lanes}
 use Rattle.wq_cert.proofs.PrintedCircles.{IsShort-circle}
 use Rattle.wq_cert.proofs.PrintedPlans.{length-plan_text-most, IsShort-plan}
 use Rattle.wq_cert.proofs.TextLength.{length-circle_text}

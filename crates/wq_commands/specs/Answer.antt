@@ -2,7 +2,7 @@
 use Rattle.std.specs.Prelude.{◌≡◌, ℕ, List, [], ◌∷◌, map, codes, decimal, MatchResult, Some}
 use Rattle.wq_text.specs.Refusal.{Refusal}
 use Rattle.wq_groups.specs.Declaration.{Declaration, declaration_of}
-use Rattle.wq_groups.specs.Assignment.{Assignment}
+use Rattle.wq_groups.specs.Assignment.{Assignment, item_lanes}
 use Rattle.wq_graph.specs.declared.arc.WaitArc.{WaitArc}
 use Rattle.wq_graph.specs.Graph.{group_graph}
 use Rattle.wq_levels.specs.Walks.{IsWalkedCircle}
@@ -13,7 +13,7 @@ use Rattle.wq_deadlock.specs.CircleRun.{IsCircleRun}
 use Rattle.wq_commands.specs.declared.end.End.{End}
 use Rattle.wq_commands.specs.declared.end.End.TheVariants.{Good, Bad, Refused}
 use Rattle.wq_cert.specs.LineText.{line_text}
-use Rattle.wq_cert.specs.PlanText.{plan_text, item_lanes}
+use Rattle.wq_cert.specs.PlanText.{plan_text}
 use Rattle.wq_cert.specs.CircleText.{circle_text}
 use Rattle.wq_commands.specs.Declaration.{Declared, declaration}
 

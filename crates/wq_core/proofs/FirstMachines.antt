@@ -5,11 +5,11 @@ use Rattle.std.proofs.lemmas.List.{length-map, get_or-map}
 use Rattle.std.proofs.lemmas.Option.{get_or_from_slice_get, slice_get_within}
 use Rattle.wq_items.specs.declared.target.Target.{Target}
 use Rattle.wq_groups.specs.Declaration.{Declaration, IsDeclaration}
-use Rattle.wq_groups.specs.Assignment.{Assignment, IsAssignment, group_lane}
-use Rattle.wq_core.specs.Wiring.{wiring}
+use Rattle.wq_groups.specs.Assignment.{Assignment, IsAssignment, group_lane, item_lanes}
+use Rattle.wq_core.specs.Wiring.{wiring, count_on}
 use Rattle.wq_core.specs.State.{Lane, idle_lane}
 use Rattle.wq_core.specs.Held.{HeldLane, IsMachine, IsHeld, HasRoom, machine_of}
-use Rattle.wq_core.specs.Building.{idle_with_room, count_on, first_machine}
+use Rattle.wq_core.specs.Building.{idle_with_room, first_machine}
 use Rattle.wq_core.proofs.Sound.{IsSoundState-empty}
 use Rattle.wq_core.proofs.Wirings.{IsWiring-wiring}
 
@@ -28,7 +28,7 @@ lanes-idle_with_room [] = refl
 lanes-idle_with_room (room ∷ rooms) = ap (λ (lanes : List Lane). idle_lane ∷ lanes) (lanes-idle_with_room rooms)
 
 -- held as lists of the targets, of the lanes of the items, and of idle lanes with these rooms
-pub machine_of-first : (d : Declaration) (a : Assignment) (waits : List (List Target)) (lane_of_item : List ℕ) (lanes : List HeldLane) (rooms : List ℕ) → waits ≡ d.waits → lane_of_item ≡ map (group_lane a) d.group_of
+pub machine_of-first : (d : Declaration) (a : Assignment) (waits : List (List Target)) (lane_of_item : List ℕ) (lanes : List HeldLane) (rooms : List ℕ) → waits ≡ d.waits → lane_of_item ≡ item_lanes a d.group_of
     → lanes ≡ map idle_with_room rooms → length rooms ≡ a.lanes → machine_of waits lane_of_item lanes 0 ≡ first_machine d a
 machine_of-first d a waits lane_of_item lanes rooms same_waits same_lanes idle one_each =
     let count : length lanes ≡ a.lanes = ap length idle ∙ length-map rooms idle_with_room ∙ one_each in
@@ -51,7 +51,7 @@ HasRoom-first lane_of_item lanes rooms idle counted q h there =
 
 -- there is room for all items where the rooms count them
 pub IsHeld-first : (d : Declaration) (a : Assignment) (waits : List (List Target)) (lane_of_item : List ℕ) (lanes : List HeldLane) (rooms : List ℕ) → IsDeclaration d → IsAssignment d.groups a → a.lanes ≤ 4096
-    → waits ≡ d.waits → lane_of_item ≡ map (group_lane a) d.group_of → lanes ≡ map idle_with_room rooms → length rooms ≡ a.lanes → ((q : ℕ) → q < a.lanes → get_or rooms q 0 ≡ count_on lane_of_item q)
+    → waits ≡ d.waits → lane_of_item ≡ item_lanes a d.group_of → lanes ≡ map idle_with_room rooms → length rooms ≡ a.lanes → ((q : ℕ) → q < a.lanes → get_or rooms q 0 ≡ count_on lane_of_item q)
     → IsHeld waits lane_of_item lanes 0
 IsHeld-first d a waits lane_of_item lanes rooms declaration assignment few same_waits same_lanes idle one_each counted = record {
   machine = subst IsMachine (sym (machine_of-first d a waits lane_of_item lanes rooms same_waits same_lanes idle one_each)) (IsMachine-first_machine d a declaration assignment few);

@@ -1,14 +1,13 @@
 -- Chains and circles of groups become chains and circles of their lanes.
-use Rattle.std.proofs.Common.{◌≡◌, ℕ, ◌<◌, List, [], ◌∷◌, length, map, get_or, refl, ap, ◌∙◌, arith}
-use Rattle.std.specs.Prelude.{Option, Some, option_map, slice_get}
+use Rattle.std.proofs.Common.{◌≡◌, ℕ, ◌<◌, List, [], ◌∷◌, length, map, refl, arith}
 use Rattle.std.specs.List.{All}
 use Rattle.std.proofs.lemmas.List.{length-map}
-use Rattle.std.proofs.lemmas.List.Elements.{All-map}
-use Rattle.std.proofs.lemmas.Option.{slice_get-map}
 use Rattle.wq_items.specs.Chain.{IsChain, last_of, Circle}
 use Rattle.wq_items.proofs.Circles.{circle_from_length}
+use Rattle.wq_items.proofs.Tables.{VertexWaits-map}
 use Rattle.wq_groups.specs.Declaration.{Declaration, GroupWaits}
 use Rattle.wq_groups.specs.Assignment.{Assignment, IsAssignment, group_lane}
+use Rattle.wq_groups.proofs.Lanes.{item_lanes-within}
 use Rattle.wq_core.specs.Wiring.{LaneWaits, wiring}
 
 -- ---- a map that keeps what waits for what
@@ -33,32 +32,15 @@ module _ (R S : ℕ → ℕ → Type 0) (f : ℕ → ℕ) (keeps : (v w : ℕ) �
 
 -- ---- groups and their lanes
 
-slice_get-mapped : (f : ℕ → ℕ) (xs : List ℕ) (k x : ℕ) → slice_get xs k ≡ Some x → slice_get (map f xs) k ≡ Some (f x)
-slice_get-mapped f xs k x is = slice_get-map f xs k ∙ ap (λ (o : Option ℕ). option_map f o) is
-
 -- where a group waits for a group, the lane of the one waits for that of the other
 LaneWaits-groups : (d : Declaration) (a : Assignment) (g h : ℕ) → GroupWaits d g h → LaneWaits (wiring d a) (group_lane a g) (group_lane a h)
-LaneWaits-groups d a g h waits = record {
-  item = waits.item;
-  target = waits.target;
-  declares = waits.declares;
-  of_item = slice_get-mapped (group_lane a) d.group_of waits.item g waits.of_item;
-  of_target = slice_get-mapped (group_lane a) d.group_of waits.target h waits.of_target;
-}
+LaneWaits-groups d a = VertexWaits-map d.waits d.group_of (group_lane a)
 
 pub Circle-lanes : (d : Declaration) (a : Assignment) → Circle (GroupWaits d) → Circle (LaneWaits (wiring d a))
 Circle-lanes d a circle = Circle-map (GroupWaits d) (LaneWaits (wiring d a)) (group_lane a) (LaneWaits-groups d a) circle
-
--- groups have lanes below the number of lanes
-lanes_below : (groups : ℕ) (a : Assignment) (gs : List ℕ) → IsAssignment groups a → All (λ g. g < groups) gs → All (λ l. l < a.lanes) (map (group_lane a) gs)
-lanes_below groups a gs assignment below =
-    All-map (λ l. l < a.lanes) (group_lane a) gs (λ k d fits.
-    let inside : get_or gs k d < groups = below k d fits in
-    assignment.within (get_or gs k d) 0 (omega (arith, assignment.one_each, inside))
-    )
 
 -- a chain with more groups than there are lanes comes back to a lane
 pub Circle-few_lanes : (d : Declaration) (a : Assignment) (gs : List ℕ) → IsAssignment d.groups a → IsChain (GroupWaits d) gs → All (λ g. g < d.groups) gs → a.lanes < length gs → Circle (LaneWaits (wiring d a))
 Circle-few_lanes d a gs assignment chain below few =
     let lanes : IsChain (LaneWaits (wiring d a)) (map (group_lane a) gs) = IsChain-map (GroupWaits d) (LaneWaits (wiring d a)) (group_lane a) (LaneWaits-groups d a) gs chain in
-    (circle_from_length (LaneWaits (wiring d a)) a.lanes (map (group_lane a) gs) lanes (lanes_below d.groups a gs assignment below) (omega (arith, length-map gs (group_lane a), few))).0
+    (circle_from_length (LaneWaits (wiring d a)) a.lanes (map (group_lane a) gs) lanes (item_lanes-within gs d.groups a below assignment) (omega (arith, length-map gs (group_lane a), few))).0

@@ -1,15 +1,13 @@
 -- What a declaration's chains and circles of groups say of its assignments.
-use Rattle.std.proofs.Common.{◌≡◌, ℕ, ◌<◌, inl, inr, List, [], length, get_or, ap, arith}
+use Rattle.std.proofs.Common.{◌≡◌, ℕ, ◌<◌, List, length, arith}
+use Rattle.std.specs.Prelude.{slice_index}
 use Rattle.std.specs.List.{All}
-use Rattle.std.proofs.lemmas.Bool.{cases_lt}
-use Rattle.std.proofs.lemmas.List.{get_or-map, get_or_past}
-use Rattle.std.proofs.lemmas.Option.{slice_get-get_or}
-use Rattle.wq_items.specs.declared.target.Target.{Target}
-use Rattle.wq_items.specs.Table.{ItemWaits, targets_of}
+use Rattle.wq_items.specs.Table.{ItemWaits}
 use Rattle.wq_items.specs.Chain.{IsChain, Circle}
-use Rattle.wq_items.proofs.Tables.{ItemWaits-below}
 use Rattle.wq_groups.specs.Declaration.{Declaration, IsDeclaration, GroupWaits}
-use Rattle.wq_groups.specs.Assignment.{Assignment, IsAssignment, group_lane}
+use Rattle.wq_groups.specs.Assignment.{Assignment, IsAssignment, group_lane, item_lane}
+use Rattle.wq_groups.proofs.Declarations.{waiting-item, awaited-item, GroupWaits-items}
+use Rattle.wq_groups.proofs.Lanes.{item_lanes-at}
 use Rattle.wq_core.specs.Wiring.{wiring, lane_of}
 use Rattle.wq_core.specs.Deadlock.{IsSafe, Deadlocks, IsLeast}
 use Rattle.wq_core.proofs.CircleKnots.{Deadlocks-circle}
@@ -17,36 +15,13 @@ use Rattle.wq_core.proofs.LaneCircles.{Circle-lanes, Circle-few_lanes}
 use Rattle.wq_core.proofs.Safety.{IsSafe-falls}
 use Rattle.wq_core.proofs.Wirings.{IsWiring-wiring}
 
--- an item that waits is an item
-waits_below : (waits : List (List Target)) (i j : ℕ) → ItemWaits waits i j → i < length waits
-waits_below waits i j declares = elim (cases_lt i (length waits)) [
-  | inl within ↦ within
-  | inr past ↦ (
-      let none : length (targets_of waits i) ≡ 0 = ap (λ (ts : List Target). length ts) (get_or_past waits i [] past) in
-      let some : declares.0 < length (targets_of waits i) = declares.2 in
-      absurd (omega arith)
-      )
-]
-
 module _ (d : Declaration) (a : Assignment) (declaration : IsDeclaration d) (assignment : IsAssignment d.groups a) where
-  -- the lane of an item is that of its group
-  lane_of-group_lane : (i : ℕ) → i < length d.group_of → lane_of (wiring d a) i ≡ group_lane a (get_or d.group_of i 0)
-  lane_of-group_lane i lt = get_or-map (group_lane a) d.group_of i 0 0 lt
-
   falls : ((g h : ℕ) → GroupWaits d g h → group_lane a h < group_lane a g) → (i j : ℕ) → ItemWaits d.waits i j
       → lane_of (wiring d a) j < lane_of (wiring d a) i
   falls groups_fall i j declares =
-      let source : i < length d.group_of = omega (arith, declaration.one_list_each, waits_below d.waits i j declares) in
-      let target : j < length d.group_of = ItemWaits-below (length d.group_of) d.waits declaration.targets_are_items i j declares in
-      let lower : group_lane a (get_or d.group_of j 0) < group_lane a (get_or d.group_of i 0) =
-      groups_fall (get_or d.group_of i 0) (get_or d.group_of j 0) (record {
-        item = i;
-        target = j;
-        declares = declares;
-        of_item = slice_get-get_or d.group_of i 0 source;
-        of_target = slice_get-get_or d.group_of j 0 target;
-      }) in
-      omega (arith, lane_of-group_lane i source, lane_of-group_lane j target, lower)
+      let lower : item_lane a d.group_of j < item_lane a d.group_of i =
+      groups_fall (slice_index d.group_of i) (slice_index d.group_of j) (GroupWaits-items d declaration i j declares) in
+      omega (arith, item_lanes-at a d.group_of i (waiting-item d declaration i j declares), item_lanes-at a d.group_of j (awaited-item d declaration i j declares), lower)
 
   IsSafe-groups : ((g h : ℕ) → GroupWaits d g h → group_lane a h < group_lane a g) → IsSafe (wiring d a)
   IsSafe-groups groups_fall = IsSafe-falls (wiring d a) (λ q. q) (falls groups_fall)

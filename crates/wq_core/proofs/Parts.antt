@@ -1,23 +1,10 @@
 -- The parts of a machine, as they are made one by one.
-use Rattle.std.proofs.Common.{◌≡◌, ℕ, ◌+◌, ◌<◌, ◌==◌, inl, inr, List, [], ◌∷◌, ◌++◌, length, map, get_or, set, take, Some, sym, ap, ◌∙◌, arith}
-use Rattle.std.specs.Prelude.{slice_get}
+use Rattle.std.proofs.Common.{◌≡◌, ℕ, ◌+◌, ◌<◌, ◌==◌, inl, inr, List, length, get_or, set, take, sym, ap, ◌∙◌, arith}
 use Rattle.std.specs.List.{All}
 use Rattle.std.proofs.lemmas.Bool.{cases_eq, eq-eqb, ne_eqb}
-use Rattle.std.proofs.lemmas.List.{length-set, get_or-set_same, get_or-set_other, get_or_default, length-take, map_more}
+use Rattle.std.proofs.lemmas.List.{length-set, get_or-set_same, get_or-set_other, get_or_default, length-take}
 use Rattle.std.proofs.lemmas.List.Sums.{count_by-le-length, count_by_more_yes, count_by_more_no}
-use Rattle.std.proofs.lemmas.Option.{get_or_from_slice_get}
-use Rattle.wq_groups.specs.Assignment.{Assignment, group_lane}
-use Rattle.wq_core.specs.Building.{count_on}
-
--- the lane of one item more
-pub lanes_more : (a : Assignment) (group_of lanes new : List ℕ) (i g l : ℕ) → i < length group_of → slice_get group_of i ≡ Some g → slice_get a.lane_of_group g ≡ Some l
-    → lanes ≡ map (group_lane a) (take i group_of) → new ≡ lanes ++ (l ∷ []) → new ≡ map (group_lane a) (take (i + 1) group_of)
-lanes_more a group_of lanes new i g l within group lane so_far pushed =
-    let at : group_lane a (get_or group_of i 0) ≡ l = ap (group_lane a) (get_or_from_slice_get group_of i g 0 group) ∙ get_or_from_slice_get a.lane_of_group g l 0 lane in
-    pushed
-    ∙ ap (λ (ls : List ℕ). ls ++ (l ∷ [])) so_far
-    ∙ ap (λ (n : ℕ). map (group_lane a) (take i group_of) ++ (n ∷ [])) (sym at)
-    ∙ sym (map_more (group_lane a) group_of i 0 within)
+use Rattle.wq_core.specs.Wiring.{count_on}
 
 -- ---- how many items stand on each lane
 

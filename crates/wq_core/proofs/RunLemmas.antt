@@ -1,12 +1,13 @@
 -- Steps in a row, and machines on which nothing is unfinished.
-use Rattle.std.proofs.Common.{◌≡◌, ℕ, ◌<◌, ◌↔◌, List, [], ◌∷◌, ◌++◌, length, get_or, refl, sym, subst, ◌∙◌, ap, arith, inl, inr}
-use Rattle.std.specs.Prelude.{Option, Some, None}
+use Rattle.std.proofs.Common.{◌≡◌, ℕ, zero, suc, ◌+◌, ◌<◌, ◌≤◌, ◌↔◌, List, [], ◌∷◌, ◌++◌, length, get_or, take, refl, sym, subst, ◌∙◌, ap, arith, inl, inr}
+use Rattle.std.specs.Prelude.{Option, Some, None, slice_get}
 use Rattle.std.specs.List.{All}
 use Rattle.std.proofs.lemmas.List.{get_or-map, length-map}
 use Rattle.wq_items.specs.declared.target.Target.{Target}
 use Rattle.wq_core.specs.declared.entry.Entry.{Entry}
 use Rattle.wq_core.specs.declared.entry.Running.{Running}
 use Rattle.wq_core.specs.declared.step.Step.{Step}
+use Rattle.wq_core.specs.declared.step.Step.TheVariants.{Queue, Cancel, Start, Wait, Over, Finish}
 use Rattle.wq_core.specs.Wiring.{Wiring}
 use Rattle.wq_core.specs.State.{Lane, State, idle_lane, lane_at, IsUnfinishedOn, HasUnfinished}
 use Rattle.wq_core.specs.Rules.{Lawful, effect}
@@ -19,6 +20,21 @@ use Rattle.wq_core.proofs.LaneLemmas.{lane_within, idle_lane-unfinished}
 after-more : (w : Wiring) (s : State) (steps : List Step) (step : Step) → after w s (steps ++ (step ∷ [])) ≡ effect w (after w s steps) step
 after-more w s [] step = refl
 after-more w s (first ∷ steps) step = after-more w (effect w s first) steps step
+
+-- each step of a run is lawful where those before it lead
+pub IsRunFrom-at : (w : Wiring) (s : State) (steps : List Step) (k : ℕ) (step : Step) → IsRunFrom w s steps → slice_get steps k ≡ Some step → Lawful w (after w s (take k steps)) step
+IsRunFrom-at w s [] k step run stands = absurd cc
+IsRunFrom-at w s (first ∷ steps) zero step run stands = let same : first ≡ step = cc in subst (Lawful w s) same run.0
+IsRunFrom-at w s (first ∷ steps) (suc k) step run stands = IsRunFrom-at w (effect w s first) steps k step run.1 stands
+
+-- a step gives one number at most
+pub next-effect : (w : Wiring) (s : State) (step : Step) → (effect w s step).next ≤ s.next + 1
+next-effect w s (Queue i) = omega arith
+next-effect w s (Cancel i) = omega arith
+next-effect w s (Start q i) = omega arith
+next-effect w s (Wait q b) = omega arith
+next-effect w s (Over q b) = omega arith
+next-effect w s (Finish q i) = omega arith
 
 IsRunFrom-more : (w : Wiring) (s : State) (steps : List Step) (step : Step) → IsRunFrom w s steps → Lawful w (after w s steps) step → IsRunFrom w s (steps ++ (step ∷ []))
 IsRunFrom-more w s [] step run lawful = (lawful, tt)

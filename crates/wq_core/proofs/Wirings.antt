@@ -1,17 +1,12 @@
 -- The wiring of a declaration and an assignment.
-use Rattle.std.proofs.Common.{◌≡◌, ℕ, ◌<◌, List, map, get_or, sym, subst, ◌∙◌, arith}
+use Rattle.std.proofs.Common.{◌≡◌, ℕ, ◌<◌, List, sym, subst, ◌∙◌}
 use Rattle.std.specs.List.{All}
 use Rattle.std.proofs.lemmas.List.{length-map}
-use Rattle.std.proofs.lemmas.List.Elements.{All-map}
 use Rattle.wq_items.specs.Table.{TargetsBelow}
 use Rattle.wq_groups.specs.Declaration.{Declaration, IsDeclaration}
 use Rattle.wq_groups.specs.Assignment.{Assignment, IsAssignment, group_lane}
+use Rattle.wq_groups.proofs.Lanes.{item_lanes-within}
 use Rattle.wq_core.specs.Wiring.{IsWiring, wiring}
-
--- each group has one of the lanes, so each item has
-pub lanes_within : (group_of : List ℕ) (groups : ℕ) (a : Assignment) → All (λ g. g < groups) group_of → IsAssignment groups a → All (λ l. l < a.lanes) (map (group_lane a) group_of)
-lanes_within group_of groups a within assignment =
-    All-map (λ l. l < a.lanes) (group_lane a) group_of (λ k d below. let inside : get_or group_of k d < groups = within k d below in assignment.within (get_or group_of k d) 0 (omega (arith, assignment.one_each, inside)))
 
 -- the same of equal numbers and lists
 pub All-below : (m n : ℕ) (xs ys zs : List ℕ) → n ≡ m → zs ≡ ys → ys ≡ xs → All (λ x. x < m) xs → All (λ x. x < n) zs
@@ -20,6 +15,6 @@ All-below m n xs ys zs bound read same h = subst (λ (k : ℕ). All (λ x. x < k
 pub IsWiring-wiring : (d : Declaration) (a : Assignment) → IsDeclaration d → IsAssignment d.groups a → IsWiring (wiring d a)
 IsWiring-wiring d a declaration assignment = record {
   one_lane_each = length-map d.group_of (group_lane a) ∙ sym declaration.one_list_each;
-  within = lanes_within d.group_of d.groups a declaration.partition.within assignment;
+  within = item_lanes-within d.group_of d.groups a declaration.partition.within assignment;
   targets_are_items = subst (λ n. All (TargetsBelow n) d.waits) (sym declaration.one_list_each) declaration.targets_are_items;
 }

@@ -15,8 +15,8 @@ use Rattle.wq_core.specs.declared.step.Step.TheVariants.{Queue, Cancel, Start, W
 use Rattle.wq_core.specs.Wiring.{Wiring, lane_of, declared_by}
 use Rattle.wq_core.specs.State.{Lane, State, idle_lane, lane_at, with_lane, Runs}
 use Rattle.wq_core.specs.Rules.{MayWait, MayStart, Lawful, with_cancelled, with_started, with_wait, with_over, with_finished, effect}
-use Rattle.wq_core.specs.Runs.{IsRunFrom, IsRun, end_of, IsRescuerStep, IsCancel}
-use Rattle.wq_core.specs.Work.{whole_work, waits_over, running_work, lane_work, work_left, is_rescuer_step}
+use Rattle.wq_core.specs.Runs.{IsRunFrom, IsRun, end_of, IsRescuerStep, IsCancel, is_rescuer_step}
+use Rattle.wq_core.specs.Work.{whole_work, waits_over, running_work, lane_work, work_left}
 use Rattle.wq_core.specs.Held.{IsSoundRunning, IsSoundState}
 use Rattle.wq_core.proofs.LaneLemmas.{lane_within}
 use Rattle.wq_core.proofs.Sound.{IsSoundState-effect, IsSoundState-end_of}

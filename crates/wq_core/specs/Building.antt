@@ -1,6 +1,5 @@
 -- Making a machine: what it holds before anything is queued.
-use Rattle.std.specs.Prelude.{ℕ, List, ◌==◌}
-use Rattle.std.specs.List.{count_by}
+use Rattle.std.specs.Prelude.{ℕ}
 use Rattle.wq_groups.specs.Declaration.{Declaration}
 use Rattle.wq_groups.specs.Assignment.{Assignment}
 use Rattle.wq_core.specs.Wiring.{wiring}
@@ -10,10 +9,6 @@ use Rattle.wq_core.specs.Held.{HeldLane, Machine}
 -- an idle lane with room for so many entries
 abbrev pub idle_with_room : ℕ → HeldLane
 idle_with_room room = record { lane = idle_lane; room = room }
-
--- how many items stand on lane q
-abbrev pub count_on : List ℕ → ℕ → ℕ
-count_on lane_of_item q = count_by (λ l. l == q) lane_of_item
 
 -- the machine of a declaration and an assignment, before anything is queued
 abbrev pub first_machine : Declaration → Assignment → Machine

@@ -1,8 +1,8 @@
 -- Lanes and machines as the code holds them.
 use Rattle.std.specs.Prelude.{◌≡◌, ◌≢◌, ℕ, ◌<◌, ◌≤◌, ◌^◌, List, length, AllPairs, Some, None, Option, map, Bool, false, ◌==◌, ◌&&◌, nat_lt, slice_get, MatchOption}
-use Rattle.std.specs.List.{count_by}
 use Rattle.wq_items.specs.declared.target.Target.{Target}
-use Rattle.wq_items.specs.Table.{ItemWaits, flush_count}
+use Rattle.wq_items.specs.Table.{ItemWaits, flush_count, max_items, max_flushes}
+use Rattle.wq_groups.specs.Assignment.{max_lanes}
 use Rattle.wq_core.specs.declared.entry.Entry.{Entry}
 use Rattle.wq_core.specs.declared.entry.Waiting.{Waiting}
 use Rattle.wq_core.specs.declared.entry.Running.{Running}
@@ -10,8 +10,8 @@ use Rattle.wq_core.specs.declared.step.Step.{Step}
 use Rattle.wq_core.specs.declared.step.Step.TheVariants.{Queue, Cancel, Start, Wait, Over, Finish}
 use Rattle.wq_core.specs.declared.step.StepError.{StepError}
 use Rattle.wq_core.specs.declared.step.StepError.TheVariants.{NotLawful, NumbersUsedUp}
-use Rattle.wq_core.specs.Wiring.{Wiring, IsWiring, items, lane_of, declared_by}
-use Rattle.wq_core.specs.State.{Lane, State, lane_at, Runs, IsUnfinishedOn}
+use Rattle.wq_core.specs.Wiring.{Wiring, IsWiring, items, lane_of, declared_by, count_on}
+use Rattle.wq_core.specs.State.{Lane, State, max_number, lane_at, Runs, IsUnfinishedOn}
 use Rattle.wq_core.specs.Rules.{Lawful, Gives, effect}
 use Rattle.wq_core.specs.Runs.{after, IsRunFrom}
 
@@ -61,9 +61,9 @@ pub record IsSoundState (w : Wiring) (s : State) : Type 0 where
 pub record IsMachine (m : Machine) : Type 0 where
   pub wiring : IsWiring m.wiring
   pub state : IsSoundState m.wiring m.state
-  pub few_items : items m.wiring ≤ 4096
-  pub few_flushes : flush_count m.wiring.waits ≤ 16384
-  pub few_lanes : m.wiring.lanes ≤ 4096
+  pub few_items : items m.wiring ≤ max_items
+  pub few_flushes : flush_count m.wiring.waits ≤ max_flushes
+  pub few_lanes : m.wiring.lanes ≤ max_lanes
   pub numbers : m.state.next < 2 ^ 32
 
 -- the machine that is held as these fields
@@ -75,7 +75,7 @@ machine_of waits lane_of_item lanes next = record {
 
 -- lane q has room for all its items
 abbrev pub HasRoom : List ℕ → ℕ → HeldLane → Type 0
-HasRoom lane_of_item q h = count_by (λ l. l == q) lane_of_item ≤ h.room
+HasRoom lane_of_item q h = count_on lane_of_item q ≤ h.room
 
 -- what holds of these fields: the machine is sound, and each lane has room for all its items
 pub record IsHeld (waits : List (List Target)) (lane_of_item : List ℕ) (lanes : List HeldLane) (next : ℕ) : Type 0 where
@@ -88,9 +88,9 @@ pub record IsHeld (waits : List (List Target)) (lane_of_item : List ℕ) (lanes 
 abbrev pub IsNumberOf : Machine → Step → Option ℕ → Type 0
 IsNumberOf m step answer = MatchOption answer (¬ Lawful m.wiring m.state step) (λ n. Lawful m.wiring m.state step × Gives m.state step n)
 
--- a queueing would be given 4,294,967,295, which nothing is given
+-- a queueing would be given the number that nothing is given
 abbrev pub UsesUp : State → Step → Type 0
-UsesUp s (Queue i) = s.next ≡ 4294967295
+UsesUp s (Queue i) = s.next ≡ max_number
 UsesUp s (Cancel i) = ⊥
 UsesUp s (Start q i) = ⊥
 UsesUp s (Wait q b) = ⊥

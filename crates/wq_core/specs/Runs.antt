@@ -1,5 +1,5 @@
 -- Runs: lists of steps of any length, each lawful where it is made.
-use Rattle.std.specs.Prelude.{◌≡◌, ℕ, ◌<◌, List, [], ◌∷◌, length, slice_get, ⊤, Some, Bool, false, ◌==◌}
+use Rattle.std.specs.Prelude.{◌≡◌, ℕ, ◌<◌, List, [], ◌∷◌, length, slice_get, ⊤, MatchBool, Some, Bool, true, false, ◌==◌}
 use Rattle.std.specs.List.{All, count_by}
 use Rattle.wq_items.specs.declared.target.Target.{Target}
 use Rattle.wq_core.specs.declared.entry.Running.{Running}
@@ -28,13 +28,17 @@ abbrev pub end_of : Wiring → List Step → State
 end_of w steps = after w (empty_state w) steps
 
 -- a step of a rescuer: a start, a wait, the end of a wait, or a finish
+abbrev pub is_rescuer_step : Step → Bool
+is_rescuer_step (Queue i) = false
+is_rescuer_step (Cancel i) = false
+is_rescuer_step (Start q i) = true
+is_rescuer_step (Wait q b) = true
+is_rescuer_step (Over q b) = true
+is_rescuer_step (Finish q i) = true
+
+-- the same, said
 abbrev pub IsRescuerStep : Step → Type 0
-IsRescuerStep (Queue i) = ⊥
-IsRescuerStep (Cancel i) = ⊥
-IsRescuerStep (Start q i) = ⊤
-IsRescuerStep (Wait q b) = ⊤
-IsRescuerStep (Over q b) = ⊤
-IsRescuerStep (Finish q i) = ⊤
+IsRescuerStep step = MatchBool (is_rescuer_step step) ⊤ ⊥
 
 -- ---- executions that flush as declared
 

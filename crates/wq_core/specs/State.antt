@@ -14,6 +14,10 @@ pub record State : Type 0 where
   pub next : ℕ
   pub lanes : List Lane
 
+-- the number that nothing is given: all numbers below it may be
+abbrev pub max_number : ℕ
+max_number = 4294967295
+
 -- nothing is queued, and nothing runs
 abbrev pub idle_lane : Lane
 idle_lane = record { pending = []; running = None }

@@ -1,10 +1,10 @@
 -- Wiring: all that the machine sees of a declaration and an assignment.
-use Rattle.std.specs.Prelude.{◌≡◌, ℕ, ◌<◌, List, length, map, slice_get, slice_index, Some}
-use Rattle.std.specs.List.{All, range_with_len}
+use Rattle.std.specs.Prelude.{◌≡◌, ℕ, ◌<◌, ◌==◌, List, length, slice_index}
+use Rattle.std.specs.List.{All, range_with_len, count_by}
 use Rattle.wq_items.specs.declared.target.Target.{Target}
-use Rattle.wq_items.specs.Table.{ItemWaits, TargetsBelow, targets_of}
+use Rattle.wq_items.specs.Table.{VertexWaits, TargetsBelow, targets_of}
 use Rattle.wq_groups.specs.Declaration.{Declaration}
-use Rattle.wq_groups.specs.Assignment.{Assignment, group_lane}
+use Rattle.wq_groups.specs.Assignment.{Assignment, item_lanes}
 
 -- of each item in turn the targets of its flushes and its lane, and how many lanes there are. A lane is a workqueue with
 -- one execution context, its rescuer
@@ -15,7 +15,7 @@ pub record Wiring : Type 0 where
 
 -- each item on the lane of its group
 abbrev pub wiring : Declaration → Assignment → Wiring
-wiring d a = record { waits = d.waits; lane_of_item = map (group_lane a) d.group_of; lanes = a.lanes }
+wiring d a = record { waits = d.waits; lane_of_item = item_lanes a d.group_of; lanes = a.lanes }
 
 -- the assignment in which each of so many groups has a lane of its own, with its number
 abbrev pub own_lanes : ℕ → Assignment
@@ -29,17 +29,17 @@ items w = length w.waits
 abbrev pub lane_of : Wiring → ℕ → ℕ
 lane_of w i = slice_index w.lane_of_item i
 
+-- how many items stand on lane q, where these are the lanes of the items
+abbrev pub count_on : List ℕ → ℕ → ℕ
+count_on lane_of_item q = count_by (λ l. l == q) lane_of_item
+
 -- the targets that item i declares, in order
 abbrev pub declared_by : Wiring → ℕ → List Target
 declared_by w i = targets_of w.waits i
 
 -- a lane waits for a lane, which may be the same: an item of the one declares a flush of an item of the other
-pub record LaneWaits (w : Wiring) (p q : ℕ) : Type 0 where
-  pub item : ℕ
-  pub target : ℕ
-  pub declares : ItemWaits w.waits item target
-  pub of_item : slice_get w.lane_of_item item ≡ Some p
-  pub of_target : slice_get w.lane_of_item target ≡ Some q
+abbrev pub LaneWaits : Wiring → ℕ → ℕ → Type 0
+LaneWaits w = VertexWaits w.waits w.lane_of_item
 
 -- what holds of every wiring: a lane for each item, and it is one of the lanes; each target is an item
 pub record IsWiring (w : Wiring) : Type 0 where

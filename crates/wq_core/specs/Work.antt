@@ -1,10 +1,8 @@
 -- Work left: how many rescuer steps what is queued and what runs can still make at most.
-use Rattle.std.specs.Prelude.{ℕ, ◌+◌, ◌-◌, ◌*◌, length, sum_by, Option, Some, None, Bool, true, false}
+use Rattle.std.specs.Prelude.{ℕ, ◌+◌, ◌-◌, ◌*◌, length, sum_by, Option, Some, None}
 use Rattle.wq_core.specs.declared.entry.Entry.{Entry}
 use Rattle.wq_core.specs.declared.entry.Waiting.{Waiting}
 use Rattle.wq_core.specs.declared.entry.Running.{Running}
-use Rattle.wq_core.specs.declared.step.Step.{Step}
-use Rattle.wq_core.specs.declared.step.Step.TheVariants.{Queue, Cancel, Start, Wait, Over, Finish}
 use Rattle.wq_core.specs.Wiring.{Wiring, declared_by}
 use Rattle.wq_core.specs.State.{Lane, State}
 
@@ -29,12 +27,3 @@ lane_work w lane = sum_by (λ (e : Entry). whole_work w e.item) lane.pending + r
 -- what is left in all lanes
 abbrev pub work_left : Wiring → State → ℕ
 work_left w s = sum_by (lane_work w) s.lanes
-
--- the step is one of a rescuer
-abbrev pub is_rescuer_step : Step → Bool
-is_rescuer_step (Queue i) = false
-is_rescuer_step (Cancel i) = false
-is_rescuer_step (Start q i) = true
-is_rescuer_step (Wait q b) = true
-is_rescuer_step (Over q b) = true
-is_rescuer_step (Finish q i) = true

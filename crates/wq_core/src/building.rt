@@ -6,8 +6,8 @@ ghost use Rattle.std.specs.Prelude.{◌≡◌, ◌<◌, ◌≤◌, ℕ, length, 
 ghost use Rattle.std.specs.List.{All};
 ghost use Rattle.wq_items.specs.Table.{IsTable};
 ghost use Rattle.wq_groups.specs.Partition.{IsPartition};
-ghost use Rattle.wq_groups.specs.Assignment.{group_lane};
-ghost use Rattle.wq_core.specs.Building.{count_on};
+ghost use Rattle.wq_groups.specs.Assignment.{item_lanes};
+ghost use Rattle.wq_core.specs.Wiring.{count_on};
 
 use std::alloc::{AllocError, Allocator};
 use wq_groups::{Assignment, Groups, LaneId};
@@ -30,7 +30,7 @@ pub(crate) fn copy_waits<A: Allocator + Copy>(
 }
 
 /// The lane of each of so many items.
-pub(crate) fn lanes_of_items<A: Allocator + Copy>(
+pub(crate) fn item_lanes<A: Allocator + Copy>(
     alloc: A,
     items: u16,
     groups: &Groups<A>,
@@ -38,7 +38,7 @@ pub(crate) fn lanes_of_items<A: Allocator + Copy>(
 ) -> Result<Vec<LaneId, A>, AllocError>
     requires items { length groups.now.group_of ≡ items }
     requires assigned { length assignment.now.lane_of_group ≡ groups.now.groups }
-    ensures lanes { IfOk result (λ lanes. lanes.items ≡ map (group_lane assignment.now) groups.now.group_of) }
+    ensures lanes { IfOk result (λ lanes. lanes.items ≡ item_lanes assignment.now groups.now.group_of) }
     ensures partition { IsPartition groups.now }
 {
     let _groups = groups.len();

@@ -12,11 +12,11 @@ ghost use Rattle.wq_core.specs.declared.step.Step.{Step};
 ghost use Rattle.wq_core.specs.Wiring.{Wiring, IsWiring, LaneWaits, wiring, lane_of};
 ghost use Rattle.wq_core.specs.State.{State, HasUnfinished};
 ghost use Rattle.wq_core.specs.Rules.{Lawful};
-ghost use Rattle.wq_core.specs.Runs.{IsRun, IsRunFrom, end_of, IsRescuerStep, IsCancel};
+ghost use Rattle.wq_core.specs.Runs.{IsRun, IsRunFrom, end_of, IsRescuerStep, IsCancel, is_rescuer_step};
 ghost use Rattle.wq_core.specs.Deadlock.{IsSafe, DeadlocksBy, Deadlocks, IsLeast};
 ghost use Rattle.wq_core.specs.Played.{CanMove, IsDeclaredStep, IsPlayedFrom, queue_order};
 ghost use Rattle.wq_core.specs.Knot.{IsKnot};
-ghost use Rattle.wq_core.specs.Work.{is_rescuer_step, work_left};
+ghost use Rattle.wq_core.specs.Work.{work_left};
 
 /// What holds of every wiring holds of that of a declaration and an assignment of its groups: each item has one of the
 /// lanes, and each target is an item.

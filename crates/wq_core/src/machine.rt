@@ -15,7 +15,7 @@ ghost use Rattle.wq_core.specs.State.{lane_at, IsPendingOn, HasPending, HasUnfin
 ghost use Rattle.wq_core.specs.Held.{IsMachine, IsNumberOf, IsDone, IsRefusal, AreDone};
 ghost use Rattle.wq_core.specs.Building.{first_machine};
 
-use crate::building::{copy_waits, count_items, lanes_of_items};
+use crate::building::{copy_waits, count_items, item_lanes};
 use crate::entry::{Entry, Running};
 use crate::lane::Lane;
 use crate::lanes::Lanes;
@@ -68,7 +68,7 @@ impl<A: Allocator + Copy> Core<A> {
         ensures { IfOk result (λ m. m ≡ first_machine (declaration_of table.now groups.now) assignment.now) }
     {
         let waits = copy_waits(alloc, table)?;
-        let lane_of_item = lanes_of_items(alloc, table.len(), groups, assignment)?;
+        let lane_of_item = item_lanes(alloc, table.len(), groups, assignment)?;
         let rooms = count_items(alloc, assignment.lanes(), lane_of_item.as_slice())?;
         let lanes = Lanes::new(alloc, rooms.as_slice())?;
         Ok(Core {

@@ -6,9 +6,9 @@ use Rattle.std.proofs.lemmas.List.{length-map, get_or-map}
 use Rattle.std.proofs.lemmas.List.Elements.{All-contains}
 use Rattle.wq_items.specs.declared.target.Target.{Target}
 use Rattle.wq_groups.specs.Declaration.{Declaration, IsDeclaration}
-use Rattle.wq_groups.specs.Assignment.{Assignment, IsAssignment}
+use Rattle.wq_groups.specs.Assignment.{Assignment, IsAssignment, item_lanes}
 use Rattle.wq_graph.specs.declared.arc.WaitArc.{WaitArc}
-use Rattle.wq_graph.specs.Graph.{lanes_of_items, lane_graph, arcs_at, IsArc}
+use Rattle.wq_graph.specs.Graph.{lane_graph, arcs_at, IsArc}
 use Rattle.wq_graph.proofs.Graphs.{AreArcsFrom-lane_graph}
 use Rattle.wq_levels.specs.Walks.{LeadsRound}
 use Rattle.wq_levels.proofs.OneCircle.{some_length}
@@ -29,9 +29,9 @@ module _ (d : Declaration) (a : Assignment) (declaration : IsDeclaration d) (ass
   arc k = get_or circle k no_arc
 
   -- it is a declared flush, and its first item stands on the lane that it leaves
-  arc_leaves : (k : ℕ) → k < length circle → IsArc d.waits (lanes_of_items d a) (arc k) × (lane_of w (arc k).src ≡ slice_index round.left k)
+  arc_leaves : (k : ℕ) → k < length circle → IsArc d.waits (item_lanes a d.group_of) (arc k) × (lane_of w (arc k).src ≡ slice_index round.left k)
   arc_leaves k lt =
-      All-contains (λ (b : WaitArc). IsArc d.waits (lanes_of_items d a) b × (slice_index (lanes_of_items d a) b.src ≡ slice_index round.left k))
+      All-contains (λ (b : WaitArc). IsArc d.waits (item_lanes a d.group_of) b × (slice_index (item_lanes a d.group_of) b.src ≡ slice_index round.left k))
       (arcs_at (lane_graph d a) (slice_index round.left k)) (arc k) (AreArcsFrom-lane_graph d a declaration assignment (slice_index round.left k)).declared (round.leaves k no_arc lt)
 
   size : length (first_items circle) ≡ length circle

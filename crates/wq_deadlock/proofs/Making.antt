@@ -11,21 +11,7 @@ use Rattle.wq_core.specs.State.{State}
 use Rattle.wq_core.specs.Rules.{Lawful, effect}
 use Rattle.wq_core.specs.Runs.{after, IsRunFrom}
 use Rattle.wq_core.specs.Held.{Machine, UsesUp, IsRefusal, AreDone}
-
--- each step of a run is lawful where those before it lead
-Lawful-at : (w : Wiring) (s : State) (steps : List Step) (k : ℕ) (step : Step) → IsRunFrom w s steps → slice_get steps k ≡ Some step → Lawful w (after w s (take k steps)) step
-Lawful-at w s [] k step run at = absurd cc
-Lawful-at w s (first ∷ steps) zero step run at = let same : first ≡ step = cc in subst (λ (x : Step). Lawful w s x) same run.0
-Lawful-at w s (first ∷ steps) (suc k) step run at = Lawful-at w (effect w s first) steps k step run.1 at
-
--- at most one number is given by each step
-next-effect : (w : Wiring) (s : State) (step : Step) → (effect w s step).next ≤ s.next + 1
-next-effect w s (Queue i) = omega arith
-next-effect w s (Cancel i) = omega arith
-next-effect w s (Start q i) = omega arith
-next-effect w s (Wait q b) = omega arith
-next-effect w s (Over q b) = omega arith
-next-effect w s (Finish q i) = omega arith
+use Rattle.wq_core.proofs.RunLemmas.{IsRunFrom-at, next-effect}
 
 next-after : (w : Wiring) (s : State) (steps : List Step) (k : ℕ) → (after w s (take k steps)).next ≤ s.next + k
 next-after w s [] zero = omega arith
@@ -57,7 +43,7 @@ no_refusal old new steps k step why run numbers within at done refusal = refuted
     lawful : Lawful new.wiring new.state step
     lawful =
         subst (λ (v : Wiring). Lawful v new.state step) (sym done.wiring)
-        (subst (λ (t : State). Lawful old.wiring t step) (sym done.state) (Lawful-at old.wiring old.state steps k step run at))
+        (subst (λ (t : State). Lawful old.wiring t step) (sym done.state) (IsRunFrom-at old.wiring old.state steps k step run at))
 
     refuted : (e : StepError) → ¬ IsRefusal new step e
     refuted NotLawful refusal = refusal lawful

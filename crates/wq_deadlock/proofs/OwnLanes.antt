@@ -4,8 +4,8 @@ use Rattle.std.specs.List.{range_with_len}
 use Rattle.std.proofs.lemmas.List.{length-map, get_or-map, ext_get_or}
 use Rattle.std.proofs.lemmas.List.FromFn.{length-range_with_len, get_or-range_with_len}
 use Rattle.wq_groups.specs.Declaration.{Declaration, IsDeclaration}
-use Rattle.wq_groups.specs.Assignment.{Assignment, IsAssignment, group_lane}
-use Rattle.wq_graph.specs.Graph.{graph_of, group_graph, lane_graph, lanes_of_items}
+use Rattle.wq_groups.specs.Assignment.{Assignment, IsAssignment, group_lane, item_lanes}
+use Rattle.wq_graph.specs.Graph.{graph_of, group_graph, lane_graph}
 use Rattle.wq_graph.proofs.ListLemmas.{range_with_len-below}
 use Rattle.wq_core.specs.Wiring.{own_lanes}
 
@@ -18,10 +18,10 @@ same_own_lanes a n lanes groups =
     ap (λ (m : ℕ). record { lanes = m; lane_of_group = a.lane_of_group }) lanes ∙ ap (λ (l : List ℕ). record { lanes = n; lane_of_group = l }) groups
 
 -- its lanes are the groups
-lanes_of_items-own_lanes : (d : Declaration) → IsDeclaration d → lanes_of_items d (own_lanes d.groups) ≡ d.group_of
-lanes_of_items-own_lanes d declaration =
-    let size : length (lanes_of_items d (own_lanes d.groups)) ≡ length d.group_of = length-map d.group_of (group_lane (own_lanes d.groups)) in
-    ext_get_or 0 (lanes_of_items d (own_lanes d.groups)) d.group_of size (λ i fits.
+item_lanes-own_lanes : (d : Declaration) → IsDeclaration d → item_lanes (own_lanes d.groups) d.group_of ≡ d.group_of
+item_lanes-own_lanes d declaration =
+    let size : length (item_lanes (own_lanes d.groups) d.group_of) ≡ length d.group_of = length-map d.group_of (group_lane (own_lanes d.groups)) in
+    ext_get_or 0 (item_lanes (own_lanes d.groups) d.group_of) d.group_of size (λ i fits.
     let item : i < length d.group_of = omega arith in
     let group : get_or d.group_of i 0 < d.groups = declaration.partition.within i 0 item in
     let own : get_or (range_with_len 0 d.groups) (get_or d.group_of i 0) 0 ≡ 0 + get_or d.group_of i 0 = get_or-range_with_len 0 d.groups (get_or d.group_of i 0) 0 group in
@@ -29,4 +29,4 @@ lanes_of_items-own_lanes d declaration =
     )
 
 pub lane_graph-own_lanes : (d : Declaration) → IsDeclaration d → lane_graph d (own_lanes d.groups) ≡ group_graph d
-lane_graph-own_lanes d declaration = ap (λ (vertex_of : List ℕ). graph_of d.waits vertex_of d.groups) (lanes_of_items-own_lanes d declaration)
+lane_graph-own_lanes d declaration = ap (λ (vertex_of : List ℕ). graph_of d.waits vertex_of d.groups) (item_lanes-own_lanes d declaration)

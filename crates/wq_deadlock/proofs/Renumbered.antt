@@ -6,9 +6,10 @@ use Rattle.std.proofs.lemmas.List.{length-map, get_or-map}
 use Rattle.std.proofs.lemmas.List.Elements.{All-map, Contains-get_or}
 use Rattle.std.proofs.lemmas.Option.{slice_get-get_or, slice_get_within, get_or_from_slice_get}
 use Rattle.wq_groups.specs.Declaration.{Declaration, IsDeclaration}
-use Rattle.wq_groups.specs.Assignment.{Assignment, IsAssignment, group_lane}
+use Rattle.wq_groups.specs.Assignment.{Assignment, IsAssignment, group_lane, item_lanes}
+use Rattle.wq_groups.proofs.Declarations.{waiting-item, awaited-item}
 use Rattle.wq_graph.specs.declared.arc.WaitArc.{WaitArc}
-use Rattle.wq_graph.specs.Graph.{lane_graph, lanes_of_items}
+use Rattle.wq_graph.specs.Graph.{lane_graph}
 use Rattle.wq_graph.proofs.Graphs.{IsGraph-lane_graph}
 use Rattle.wq_levels.specs.Ranks.{AreRanks}
 use Rattle.wq_levels.specs.Walks.{IsWalkedCircle}
@@ -19,7 +20,7 @@ use Rattle.wq_core.proofs.CircleKnots.{Deadlocks-circle}
 use Rattle.wq_core.proofs.LaneCircles.{Circle-map}
 use Rattle.wq_core.proofs.Safety.{IsSafe-falls}
 use Rattle.wq_core.proofs.Wirings.{IsWiring-wiring}
-use Rattle.wq_deadlock.proofs.Verdicts.{item_waits, target_below, fall, lanes_wait}
+use Rattle.wq_deadlock.proofs.Verdicts.{fall, lanes_wait}
 
 -- what deadlocks isn't safe
 pub not_safe-deadlocks : (w : Wiring) → Deadlocks w → ¬ IsSafe w
@@ -93,14 +94,14 @@ module _ (d : Declaration) (a : Assignment) (declaration : IsDeclaration d) (ass
         ap (group_lane a) lane_b
         ∙ (first_on-is a.lane_of_group (lane_of (wiring d a) i) (subst (λ (l : ℕ). Contains a.lane_of_group l) (sym lane_a) (Contains-get_or a.lane_of_group (get_or d.group_of i 0) 0 group_below))).1
 
-  item_below : (i q : ℕ) → slice_get (lanes_of_items d b) i ≡ Some q → i < length d.group_of
-  item_below i q at = omega (arith, slice_get_within (lanes_of_items d b) i q at, length-map d.group_of (group_lane b))
+  item_below : (i q : ℕ) → slice_get (item_lanes b d.group_of) i ≡ Some q → i < length d.group_of
+  item_below i q at = omega (arith, slice_get_within (item_lanes b d.group_of) i q at, length-map d.group_of (group_lane b))
 
-  there : (i q : ℕ) → slice_get (lanes_of_items d b) i ≡ Some q → slice_get (lanes_of_items d a) i ≡ Some (group_lane a q)
+  there : (i q : ℕ) → slice_get (item_lanes b d.group_of) i ≡ Some q → slice_get (item_lanes a d.group_of) i ≡ Some (group_lane a q)
   there i q at =
       let item : i < length d.group_of = item_below i q at in
-      let read : lane_of (wiring d b) i ≡ q = get_or_from_slice_get (lanes_of_items d b) i q 0 at in
-      slice_get-get_or (lanes_of_items d a) i 0 (omega (arith, item, length-map d.group_of (group_lane a)))
+      let read : lane_of (wiring d b) i ≡ q = get_or_from_slice_get (item_lanes b d.group_of) i q 0 at in
+      slice_get-get_or (item_lanes a d.group_of) i 0 (omega (arith, item, length-map d.group_of (group_lane a)))
       ∙ ap (λ (l : ℕ). Some l) (sym (back i item) ∙ ap (group_lane a) read)
 
   LaneWaits-back : (p q : ℕ) → LaneWaits (wiring d b) p q → LaneWaits (wiring d a) (group_lane a p) (group_lane a q)
@@ -117,8 +118,8 @@ module _ (d : Declaration) (a : Assignment) (declaration : IsDeclaration d) (ass
   IsSafe-renumbered : (ranks : List ℕ) → AreRanks (lane_graph d b) ranks → IsSafe (wiring d a)
   IsSafe-renumbered ranks are =
       IsSafe-falls (wiring d a) (λ q. slice_index ranks (first_group q)) (λ i j declares.
-      let item : i < length d.group_of = omega (arith, item_waits d.waits i j declares, declaration.one_list_each) in
-      let target : j < length d.group_of = omega (arith, target_below d b declaration one_each i j declares, declaration.one_list_each) in
+      let item : i < length d.group_of = waiting-item d declaration i j declares in
+      let target : j < length d.group_of = awaited-item d declaration i j declares in
       subst (λ (p : ℕ). slice_index ranks p < slice_index ranks (first_group (lane_of (wiring d a) i))) (lane_b j target)
       (subst (λ (p : ℕ). slice_index ranks (lane_of (wiring d b) j) < slice_index ranks p) (lane_b i item) (fall d b declaration one_each few ranks are i j declares))
       )

@@ -1,19 +1,18 @@
 -- What ranks of the lanes, and circles of them, say of an assignment.
-use Rattle.std.proofs.Common.{◌≡◌, ℕ, ◌<◌, ◌≤◌, ◌↔◌, inl, inr, List, [], length, get_or, sym, ap, subst, ◌∙◌, arith}
+use Rattle.std.proofs.Common.{◌≡◌, ℕ, ◌<◌, ◌≤◌, List, length, subst, ◌∙◌, arith}
 use Rattle.std.specs.Prelude.{slice_index}
-use Rattle.std.proofs.lemmas.Bool.{cases_lt}
-use Rattle.std.proofs.lemmas.List.{length-map, get_or-map, get_or_past}
+use Rattle.std.proofs.lemmas.List.{length-map}
 use Rattle.std.proofs.lemmas.List.FromFn.{length-map-range_with_len}
-use Rattle.std.proofs.lemmas.Option.{slice_get-get_or}
-use Rattle.wq_items.specs.declared.target.Target.{Target}
 use Rattle.wq_items.specs.Chain.{Circle}
 use Rattle.wq_items.specs.Table.{ItemWaits}
-use Rattle.wq_items.proofs.Tables.{ItemWaits-below}
+use Rattle.wq_items.proofs.Tables.{VertexWaits-items}
 use Rattle.wq_groups.specs.Declaration.{Declaration, IsDeclaration}
-use Rattle.wq_groups.specs.Assignment.{Assignment, IsAssignment, group_lane, item_lane}
+use Rattle.wq_groups.specs.Assignment.{Assignment, IsAssignment, group_lane, item_lane, item_lanes}
+use Rattle.wq_groups.proofs.Declarations.{waiting-item, awaited-item}
+use Rattle.wq_groups.proofs.Lanes.{item_lanes-at, item_lanes-within}
 use Rattle.wq_graph.specs.declared.arc.WaitArc.{WaitArc}
-use Rattle.wq_graph.specs.Graph.{lane_graph, lanes_of_items, arcs_from, HasArc, IsGraph}
-use Rattle.wq_graph.proofs.Graphs.{VertexWaits-lane_graph, IsGraph-lane_graph, lanes_of_items-within}
+use Rattle.wq_graph.specs.Graph.{lane_graph, arcs_from, HasArc, IsGraph}
+use Rattle.wq_graph.proofs.Graphs.{VertexWaits-lane_graph, IsGraph-lane_graph}
 use Rattle.wq_levels.specs.Ranks.{AreRanks}
 use Rattle.wq_levels.specs.Walks.{IsWalkedCircle}
 use Rattle.wq_levels.proofs.Ranks.{AreRanks-fall}
@@ -28,52 +27,20 @@ use Rattle.wq_deadlock.specs.Verdict.{IsSafeByRanks, IsDeadlock}
 use Rattle.wq_deadlock.proofs.CircleRuns.{DeadlocksBy-circle_run}
 use Rattle.wq_deadlock.proofs.Queueings.{length-queue_order}
 
--- what waits is an item
-pub item_waits : (waits : List (List Target)) (i j : ℕ) → ItemWaits waits i j → i < length waits
-item_waits waits i j declares = elim (cases_lt i (length waits)) [
-  | inl within ↦ within
-  | inr past ↦ (
-      let none : length (get_or waits i []) ≡ 0 = ap (λ (ts : List Target). length ts) (get_or_past waits i [] past) in
-      absurd (omega (arith, none, declares.2))
-      )
-]
-
 module _ (d : Declaration) (a : Assignment) (declaration : IsDeclaration d) (assignment : IsAssignment d.groups a) where
-  -- a lane waits for a lane exactly where an arc leaves the one for the other
-  pub LaneWaits-HasArc : (p q : ℕ) → LaneWaits (wiring d a) p q ↔ HasArc (lane_graph d a) p q
-  LaneWaits-HasArc p q =
-      let both = VertexWaits-lane_graph d a declaration assignment p q in (
-        (λ waits. both.0 (record { item = waits.item; target = waits.target; declares = waits.declares; of_item = waits.of_item; of_target = waits.of_target })),
-        (λ arc. let waits = both.1 arc in record { item = waits.item; target = waits.target; declares = waits.declares; of_item = waits.of_item; of_target = waits.of_target }),
-      )
-
   long : length (lane_graph d a) ≡ a.lanes
-  long = length-map-range_with_len (arcs_from d.waits (lanes_of_items d a)) 0 a.lanes
+  long = length-map-range_with_len (arcs_from d.waits (item_lanes a d.group_of)) 0 a.lanes
 
   -- ---- items and their lanes
 
-  lanes_long : length (lanes_of_items d a) ≡ length d.waits
-  lanes_long = length-map d.group_of (group_lane a) ∙ sym declaration.one_list_each
-
-  -- the lane of an item, in the two ways of saying it
-  lane_of-item : (i : ℕ) → i < length d.waits → lane_of (wiring d a) i ≡ item_lane a d.group_of i
-  lane_of-item i lt = get_or-map (group_lane a) d.group_of i 0 0 (omega (arith, declaration.one_list_each))
-
-  pub target_below : (i j : ℕ) → ItemWaits d.waits i j → j < length d.waits
-  target_below i j declares = omega (arith, ItemWaits-below (length d.group_of) d.waits declaration.targets_are_items i j declares, declaration.one_list_each)
+  lanes_long : length (item_lanes a d.group_of) ≡ length d.group_of
+  lanes_long = length-map d.group_of (group_lane a)
 
   HasArc-items : (i j : ℕ) → ItemWaits d.waits i j → HasArc (lane_graph d a) (lane_of (wiring d a) i) (lane_of (wiring d a) j)
   HasArc-items i j declares =
-      let item : i < length (lanes_of_items d a) = omega (arith, item_waits d.waits i j declares, lanes_long) in
-      let target : j < length (lanes_of_items d a) = omega (arith, target_below i j declares, lanes_long) in
-      (LaneWaits-HasArc (lane_of (wiring d a) i) (lane_of (wiring d a) j)).0
-      (record {
-        item = i;
-        target = j;
-        declares = declares;
-        of_item = slice_get-get_or (lanes_of_items d a) i 0 item;
-        of_target = slice_get-get_or (lanes_of_items d a) j 0 target;
-      })
+      let item : i < length (item_lanes a d.group_of) = omega (arith, waiting-item d declaration i j declares, lanes_long) in
+      let target : j < length (item_lanes a d.group_of) = omega (arith, awaited-item d declaration i j declares, lanes_long) in
+      (VertexWaits-lane_graph d a declaration assignment (lane_of (wiring d a) i) (lane_of (wiring d a) j)).0 (VertexWaits-items d.waits (item_lanes a d.group_of) i j item target declares)
 
   module _ (few : a.lanes ≤ 4096) where
     sound : IsGraph (lane_graph d a)
@@ -84,8 +51,8 @@ module _ (d : Declaration) (a : Assignment) (declaration : IsDeclaration d) (ass
     module _ (ranks : List ℕ) (are : AreRanks (lane_graph d a) ranks) where
       pub fall : (i j : ℕ) → ItemWaits d.waits i j → slice_index ranks (lane_of (wiring d a) j) < slice_index ranks (lane_of (wiring d a) i)
       fall i j declares =
-          let item : i < length (lanes_of_items d a) = omega (arith, item_waits d.waits i j declares, lanes_long) in
-          let lane : lane_of (wiring d a) i < a.lanes = lanes_of_items-within d a declaration assignment i 0 item in
+          let item : i < length (item_lanes a d.group_of) = omega (arith, waiting-item d declaration i j declares, lanes_long) in
+          let lane : lane_of (wiring d a) i < a.lanes = item_lanes-within d.group_of d.groups a declaration.partition.within assignment i 0 item in
           AreRanks-fall (lane_graph d a) ranks sound are (lane_of (wiring d a) i) (lane_of (wiring d a) j) (omega (arith, lane, long)) (HasArc-items i j declares)
 
       pub IsSafeByRanks-ranks : IsSafeByRanks d a ranks
@@ -95,8 +62,8 @@ module _ (d : Declaration) (a : Assignment) (declaration : IsDeclaration d) (ass
         one_each = are.one_each ∙ long;
         are_ranks = are;
         fall = λ i j declares.
-            let item = lane_of-item i (item_waits d.waits i j declares) in
-            let target = lane_of-item j (target_below i j declares) in
+            let item = item_lanes-at a d.group_of i (waiting-item d declaration i j declares) in
+            let target = item_lanes-at a d.group_of j (awaited-item d declaration i j declares) in
             subst (λ (p : ℕ). slice_index ranks p < slice_index ranks (item_lane a d.group_of i)) target
             (subst (λ (p : ℕ). slice_index ranks (lane_of (wiring d a) j) < slice_index ranks p) item (fall i j declares));
       }
@@ -106,7 +73,7 @@ module _ (d : Declaration) (a : Assignment) (declaration : IsDeclaration d) (ass
     module _ (circle : List WaitArc) (walked : IsWalkedCircle (lane_graph d a) circle) where
       pub lanes_wait : Circle (LaneWaits (wiring d a))
       lanes_wait =
-          Circle-map (HasArc (lane_graph d a)) (LaneWaits (wiring d a)) (λ q. q) (λ p q arc. (LaneWaits-HasArc p q).1 arc) (HasCircle-walked (lane_graph d a) sound circle walked).0
+          Circle-map (HasArc (lane_graph d a)) (LaneWaits (wiring d a)) (λ q. q) (λ p q arc. (VertexWaits-lane_graph d a declaration assignment p q).1 arc) (HasCircle-walked (lane_graph d a) sound circle walked).0
 
       pub length-first_items : length (queue_order (wiring d a) (first_items circle)) ≤ 8192
       length-first_items =

@@ -8,9 +8,13 @@ use Rattle.wq_text.specs.Words.{WordView}
 abbrev pub is_name_byte : ℕ → Bool
 is_name_byte b = is_ascii_alphanumeric b || (b == 95 || (b == 45 || b == 46))
 
--- from 1 to 63 such bytes
+-- how many bytes a name may have
+abbrev pub max_name : ℕ
+max_name = 63
+
+-- from 1 to that many such bytes
 abbrev pub is_name : List ℕ → Bool
-is_name bytes = nat_le 1 (length bytes) && (nat_le (length bytes) 63 && list_all is_name_byte bytes)
+is_name bytes = nat_le 1 (length bytes) && (nat_le (length bytes) max_name && list_all is_name_byte bytes)
 
 -- each word is a name
 abbrev pub are_names : List WordView → Bool

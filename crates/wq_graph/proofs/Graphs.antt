@@ -10,12 +10,13 @@ use Rattle.std.proofs.lemmas.List.FromFn.{length-map-range_with_len, get_or-map-
 use Rattle.std.proofs.lemmas.List.Kept.{AllPairs-filter, AllPairs-from_increasing}
 use Rattle.std.proofs.lemmas.Option.{get_or_from_slice_get, slice_get-get_or}
 use Rattle.wq_items.specs.declared.target.Target.{Target}
-use Rattle.wq_items.specs.Table.{TargetsBelow, flush_count, places}
+use Rattle.wq_items.specs.Table.{TargetsBelow, flush_count, places, VertexWaits}
 use Rattle.wq_items.proofs.Tables.{ItemWaits-below}
 use Rattle.wq_groups.specs.Declaration.{Declaration, GroupWaits, IsDeclaration}
-use Rattle.wq_groups.specs.Assignment.{Assignment, IsAssignment, group_lane}
+use Rattle.wq_groups.specs.Assignment.{Assignment, IsAssignment, group_lane, item_lanes}
+use Rattle.wq_groups.proofs.Lanes.{item_lanes-within}
 use Rattle.wq_graph.specs.declared.arc.WaitArc.{WaitArc}
-use Rattle.wq_graph.specs.Graph.{arc_of, arcs_by_item, arcs_by_place, arcs_from, graph_of, group_graph, lanes_of_items, lane_graph, arcs_at, VertexWaits, HasArc, IsArc, AreArcsFrom, IsGraph}
+use Rattle.wq_graph.specs.Graph.{arc_of, arcs_by_item, arcs_by_place, arcs_from, graph_of, group_graph, lane_graph, arcs_at, HasArc, IsArc, AreArcsFrom, IsGraph}
 use Rattle.wq_graph.proofs.ListLemmas.{Contains-filter, IsStrictlyIncreasing-map, AllPairs-from_map, same_from_rising}
 use Rattle.wq_graph.proofs.Arcs.{IsArc-by_item, Contains-by_item, src-below, ByPlace, ByPlace-arc, ByPlace-arcs_by_place, place-below}
 
@@ -160,41 +161,30 @@ module _ (d : Declaration) (h : IsDeclaration d) where
 
   -- a group waits for a group exactly where an arc leaves the one for the other
   pub GroupWaits-HasArc : (v w : ℕ) → GroupWaits d v w ↔ HasArc (group_graph d) v w
-  GroupWaits-HasArc v w =
-      let both = VertexWaits-HasArc d.waits d.group_of d.groups AreVertices-groups v w in (
-        (λ waits. both.0 (record { item = waits.item; target = waits.target; declares = waits.declares; of_item = waits.of_item; of_target = waits.of_target })),
-        (λ arc. let waits = both.1 arc in record { item = waits.item; target = waits.target; declares = waits.declares; of_item = waits.of_item; of_target = waits.of_target }),
-      )
+  GroupWaits-HasArc v w = VertexWaits-HasArc d.waits d.group_of d.groups AreVertices-groups v w
 
 -- ---- graphs of lanes
 
 module _ (d : Declaration) (a : Assignment) (h : IsDeclaration d) (assignment : IsAssignment d.groups a) where
-  pub lanes_of_items-within : All (λ q. q < a.lanes) (lanes_of_items d a)
-  lanes_of_items-within =
-      All-map (λ q. q < a.lanes) (group_lane a) d.group_of (λ k e below.
-      let inside : get_or d.group_of k e < d.groups = h.partition.within k e below in
-      assignment.within (get_or d.group_of k e) 0 (omega (arith, assignment.one_each, inside))
-      )
-
-  AreVertices-lanes : AreVertices d.waits (lanes_of_items d a) a.lanes
+  AreVertices-lanes : AreVertices d.waits (item_lanes a d.group_of) a.lanes
   AreVertices-lanes =
-      let long : length (lanes_of_items d a) ≡ length d.group_of = length-map d.group_of (group_lane a) in
+      let long : length (item_lanes a d.group_of) ≡ length d.group_of = length-map d.group_of (group_lane a) in
       record {
         one_each = h.one_list_each ∙ sym long;
-        within = lanes_of_items-within;
+        within = item_lanes-within d.group_of d.groups a h.partition.within assignment;
         targets_are_items = subst (λ n. All (TargetsBelow n) d.waits) (sym long) h.targets_are_items;
         numbered = h.places_are_numbered;
       }
 
   pub IsGraph-lane_graph : a.lanes ≤ 4096 → IsGraph (lane_graph d a)
-  IsGraph-lane_graph few = IsGraph-graph_of d.waits (lanes_of_items d a) a.lanes AreVertices-lanes few
+  IsGraph-lane_graph few = IsGraph-graph_of d.waits (item_lanes a d.group_of) a.lanes AreVertices-lanes few
 
-  pub AreArcsFrom-lane_graph : (q : ℕ) → AreArcsFrom d.waits (lanes_of_items d a) q (arcs_at (lane_graph d a) q)
-  AreArcsFrom-lane_graph q = AreArcsFrom-graph_of d.waits (lanes_of_items d a) a.lanes AreVertices-lanes q
+  pub AreArcsFrom-lane_graph : (q : ℕ) → AreArcsFrom d.waits (item_lanes a d.group_of) q (arcs_at (lane_graph d a) q)
+  AreArcsFrom-lane_graph q = AreArcsFrom-graph_of d.waits (item_lanes a d.group_of) a.lanes AreVertices-lanes q
 
   -- a lane waits for a lane exactly where an arc leaves the one for the other
-  pub VertexWaits-lane_graph : (p q : ℕ) → VertexWaits d.waits (lanes_of_items d a) p q ↔ HasArc (lane_graph d a) p q
-  VertexWaits-lane_graph p q = VertexWaits-HasArc d.waits (lanes_of_items d a) a.lanes AreVertices-lanes p q
+  pub VertexWaits-lane_graph : (p q : ℕ) → VertexWaits d.waits (item_lanes a d.group_of) p q ↔ HasArc (lane_graph d a) p q
+  VertexWaits-lane_graph p q = VertexWaits-HasArc d.waits (item_lanes a d.group_of) a.lanes AreVertices-lanes p q
 
 -- what making a graph asks of the arcs that it spreads: each leaves an item with a vertex
 pub src-by_place : (waits : List (List Target)) (vertex_of : List ℕ) (arcs : List WaitArc) (n : ℕ) → IsPermutation (range_with_len 0 (flush_count waits)) (places waits) → arcs ≡ arcs_by_place waits vertex_of → length waits ≡ n

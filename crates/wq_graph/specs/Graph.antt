@@ -1,11 +1,11 @@
 -- Wait graphs: of each vertex the declared flushes that leave it. Vertices are groups, or lanes.
-use Rattle.std.specs.Prelude.{◌≡◌, ℕ, ◌<◌, ◌≤◌, ◌==◌, List, [], length, map, flat_map, filter, filter_map, find, slice_index, slice_index_or, slice_get, Option, Some, Contains}
+use Rattle.std.specs.Prelude.{◌≡◌, ℕ, ◌<◌, ◌≤◌, ◌==◌, List, [], length, map, flat_map, filter, filter_map, find, slice_index, slice_index_or, Option, Contains}
 use Rattle.std.specs.List.{All, Any, range_with_len}
 use Rattle.std.specs.List.Sorted.{IsStrictlyIncreasing}
 use Rattle.wq_items.specs.declared.target.Target.{Target}
-use Rattle.wq_items.specs.Table.{ItemWaits, targets_of, flush_count}
+use Rattle.wq_items.specs.Table.{targets_of, flush_count}
 use Rattle.wq_groups.specs.Declaration.{Declaration}
-use Rattle.wq_groups.specs.Assignment.{Assignment, group_lane}
+use Rattle.wq_groups.specs.Assignment.{Assignment, max_lanes, item_lanes}
 use Rattle.wq_graph.specs.declared.arc.WaitArc.{WaitArc}
 
 -- the arc of a flush that item `src` declares, where `vertex_of` has of each item in turn its vertex
@@ -36,13 +36,9 @@ graph_of waits vertex_of n = map (arcs_from waits vertex_of) (range_with_len 0 n
 abbrev pub group_graph : Declaration → List (List WaitArc)
 group_graph d = graph_of d.waits d.group_of d.groups
 
--- of each item in turn its lane, that of its group
-abbrev pub lanes_of_items : Declaration → Assignment → List ℕ
-lanes_of_items d a = map (group_lane a) d.group_of
-
 -- the wait graph of the lanes of an assignment
 abbrev pub lane_graph : Declaration → Assignment → List (List WaitArc)
-lane_graph d a = graph_of d.waits (lanes_of_items d a) a.lanes
+lane_graph d a = graph_of d.waits (item_lanes a d.group_of) a.lanes
 
 -- ---- the same without lists of all arcs
 
@@ -50,14 +46,6 @@ lane_graph d a = graph_of d.waits (lanes_of_items d a) a.lanes
 pub record IsArc (waits : List (List Target)) (vertex_of : List ℕ) (a : WaitArc) : Type 0 where
   pub declared : Any (λ (t : Target). (t.item ≡ a.dst) × (t.place ≡ a.place)) (targets_of waits a.src)
   pub head : a.head ≡ slice_index vertex_of a.dst
-
--- a vertex waits for a vertex, which may be the same: an item of the one declares a flush of an item of the other
-pub record VertexWaits (waits : List (List Target)) (vertex_of : List ℕ) (v w : ℕ) : Type 0 where
-  pub item : ℕ
-  pub target : ℕ
-  pub declares : ItemWaits waits item target
-  pub of_item : slice_get vertex_of item ≡ Some v
-  pub of_target : slice_get vertex_of target ≡ Some w
 
 -- each is the arc of a declared flush that leaves v; each such flush has its arc; and their places rise
 pub record AreArcsFrom (waits : List (List Target)) (vertex_of : List ℕ) (v : ℕ) (arcs : List WaitArc) : Type 0 where
@@ -78,6 +66,6 @@ HasArc graph v w = Any (λ (a : WaitArc). a.head ≡ w) (arcs_at graph v)
 -- what holds of every wait graph: at most 4,096 vertices; each arc leads to one of them; the places of a vertex's arcs
 -- rise
 pub record IsGraph (graph : List (List WaitArc)) : Type 0 where
-  pub few : length graph ≤ 4096
+  pub few : length graph ≤ max_lanes
   pub heads : All (λ (arcs : List WaitArc). All (λ (a : WaitArc). a.head < length graph) arcs) graph
   pub places_rise : All (λ (arcs : List WaitArc). IsStrictlyIncreasing (map (λ (a : WaitArc). a.place) arcs)) graph

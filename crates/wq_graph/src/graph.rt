@@ -10,7 +10,7 @@ ghost use Rattle.wq_groups.specs.Declaration.{declaration_of};
 ghost use Rattle.wq_graph.specs.Graph.{IsGraph, arcs_at, graph_of, group_graph, lane_graph};
 
 use crate::arc::WaitArc;
-use crate::building::{arcs_by_place, arcs_by_vertex, groups_of_items, lanes_of_items};
+use crate::building::{arcs_by_place, arcs_by_vertex, groups_of_items, item_lanes};
 use std::alloc::{AllocError, Allocator};
 use std::marker::Model;
 use wq_groups::{Assignment, Groups};
@@ -81,7 +81,7 @@ impl<A: Allocator + Copy> WaitGraph<A> {
         requires assigned { length assignment.now.lane_of_group ≡ groups.now.groups }
         ensures { IfOk result (λ g. g ≡ lane_graph (declaration_of table.now groups.now) assignment.now) }
     {
-        let vertex_of = lanes_of_items(alloc, table.len(), groups, assignment)?;
+        let vertex_of = item_lanes(alloc, table.len(), groups, assignment)?;
         Self::of_vertices(alloc, table, vertex_of.as_slice(), assignment.lanes())
     }
 

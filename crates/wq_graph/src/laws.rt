@@ -5,9 +5,10 @@
 ghost use Rattle.std.specs.Prelude.{◌≡◌, ◌≤◌, ◌↔◌, ℕ, List};
 ghost use Rattle.wq_items.specs.declared.target.Target.{Target};
 ghost use Rattle.wq_groups.specs.Declaration.{Declaration, IsDeclaration, GroupWaits};
-ghost use Rattle.wq_groups.specs.Assignment.{Assignment, IsAssignment};
+ghost use Rattle.wq_groups.specs.Assignment.{Assignment, IsAssignment, item_lanes};
 ghost use Rattle.wq_graph.specs.declared.arc.WaitArc.{WaitArc};
-ghost use Rattle.wq_graph.specs.Graph.{arcs_from, arcs_at, group_graph, lane_graph, lanes_of_items, AreArcsFrom, VertexWaits, HasArc, IsGraph};
+ghost use Rattle.wq_items.specs.Table.{VertexWaits};
+ghost use Rattle.wq_graph.specs.Graph.{arcs_from, arcs_at, group_graph, lane_graph, AreArcsFrom, HasArc, IsGraph};
 
 /// The arcs that leave a vertex are the declared flushes that do, one for each, in order of place: whatever the vertices
 /// of the items are, and so in the graphs of the groups and of the lanes.
@@ -17,7 +18,7 @@ pub fn arcs_are_the_declared_flushes()
     ensures graph { (d : Declaration) (g : ℕ) →
         IsDeclaration d → AreArcsFrom d.waits d.group_of g (arcs_at (group_graph d) g) }
     ensures lanes { (d : Declaration) (a : Assignment) (q : ℕ) → IsDeclaration d → IsAssignment d.groups a →
-        AreArcsFrom d.waits (lanes_of_items d a) q (arcs_at (lane_graph d a) q) }
+        AreArcsFrom d.waits (item_lanes a d.group_of) q (arcs_at (lane_graph d a) q) }
 {}
 
 /// No other list has the arcs of the flushes that leave a vertex in order of place.
@@ -36,7 +37,7 @@ pub fn groups_wait_along_arcs()
 /// the one for the other.
 pub fn lanes_wait_along_arcs()
     ensures { (d : Declaration) (a : Assignment) (p q : ℕ) → IsDeclaration d → IsAssignment d.groups a →
-        (VertexWaits d.waits (lanes_of_items d a) p q ↔ HasArc (lane_graph d a) p q) }
+        (VertexWaits d.waits (item_lanes a d.group_of) p q ↔ HasArc (lane_graph d a) p q) }
 {}
 
 /// What holds of every wait graph holds of the graph of the groups of a declaration, and of that of the lanes of an

@@ -1,5 +1,6 @@
 pub mod MemberLemmas
 pub mod Declarations
+pub mod Lanes
 pub mod Heads
 pub mod Among
 pub mod Regrouped

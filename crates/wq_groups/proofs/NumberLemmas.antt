@@ -7,7 +7,8 @@ use Rattle.std.proofs.lemmas.Bool.{cases_eq, cond-true, cond-false, eq-eqb, ne_e
 use Rattle.std.proofs.lemmas.List.{length_push, length-set, get_or_append_left, get_or_push, get_or-set_same, get_or-set_other, get_or-map, map-set, map_push, get_or_default}
 use Rattle.std.proofs.lemmas.List.FromFn.{length-map-range_with_len, get_or-map-range_with_len, map-range_with_len_more, fill_by_all}
 use Rattle.std.proofs.lemmas.List.Elements.{filter-append}
-use Rattle.wq_groups.specs.Partition.{Partition, members_of}
+use Rattle.wq_items.specs.Table.{items_at}
+use Rattle.wq_groups.specs.Partition.{Partition}
 use Rattle.wq_groups.specs.Numbering.{AreHeads, heads_below, head_number, headed}
 use Rattle.wq_groups.proofs.Heads.{range_with_len-push, heads_below-head, heads_below-other, heads_below-lt, head_number-below}
 
@@ -29,8 +30,8 @@ filter-none_below p n none = filter-agree_below p (λ j. false) n none ∙ nothi
     nothing (x ∷ xs) = nothing xs
 
 -- one item more, in group g
-members_of-push : (group_of : List ℕ) (g h : ℕ) → members_of (group_of ++ (g ∷ [])) h ≡ members_of group_of h ++ cond (eqb g h) (length group_of ∷ []) []
-members_of-push group_of g h =
+items_at-push : (group_of : List ℕ) (g h : ℕ) → items_at (group_of ++ (g ∷ [])) h ≡ items_at group_of h ++ cond (eqb g h) (length group_of ∷ []) []
+items_at-push group_of g h =
     ap (λ n. filter (λ i. eqb (slice_index (group_of ++ (g ∷ [])) i) h) (range_with_len 0 n)) (length_push group_of g)
     ∙ ap (filter (λ i. eqb (slice_index (group_of ++ (g ∷ [])) i) h)) (range_with_len-push (length group_of))
     ∙ filter-append (λ i. eqb (slice_index (group_of ++ (g ∷ [])) i) h) (range_with_len 0 (length group_of)) (length group_of ∷ [])
@@ -38,12 +39,12 @@ members_of-push group_of g h =
     (filter-agree_below (λ i. eqb (slice_index (group_of ++ (g ∷ [])) i) h) (λ i. eqb (slice_index group_of i) h) (length group_of) (λ j lt. ap (λ k. eqb k h) (get_or_append_left group_of (g ∷ []) 0 j lt)))
     (ap (λ k. cond (eqb k h) (length group_of ∷ []) []) (get_or_push group_of g 0 (length group_of) refl))
 
-members_of-own : (group_of : List ℕ) (g : ℕ) → members_of (group_of ++ (g ∷ [])) g ≡ members_of group_of g ++ (length group_of ∷ [])
-members_of-own group_of g = members_of-push group_of g g ∙ ap (λ (xs : List ℕ). members_of group_of g ++ xs) (cond-true (eqb g g) (length group_of ∷ []) [] (eq-eqb g g refl))
+items_at-own : (group_of : List ℕ) (g : ℕ) → items_at (group_of ++ (g ∷ [])) g ≡ items_at group_of g ++ (length group_of ∷ [])
+items_at-own group_of g = items_at-push group_of g g ∙ ap (λ (xs : List ℕ). items_at group_of g ++ xs) (cond-true (eqb g g) (length group_of ∷ []) [] (eq-eqb g g refl))
 
-members_of-other : (group_of : List ℕ) (g h : ℕ) → g ≢ h → members_of (group_of ++ (g ∷ [])) h ≡ members_of group_of h
-members_of-other group_of g h other =
-    members_of-push group_of g h ∙ ap (λ (xs : List ℕ). members_of group_of h ++ xs) (cond-false (eqb g h) (length group_of ∷ []) [] (ne_eqb g h other)) ∙ append-nil (members_of group_of h)
+items_at-other : (group_of : List ℕ) (g h : ℕ) → g ≢ h → items_at (group_of ++ (g ∷ [])) h ≡ items_at group_of h
+items_at-other group_of g h other =
+    items_at-push group_of g h ∙ ap (λ (xs : List ℕ). items_at group_of h ++ xs) (cond-false (eqb g h) (length group_of ∷ []) [] (ne_eqb g h other)) ∙ append-nil (items_at group_of h)
 
 -- ---- the items below i
 
@@ -51,7 +52,7 @@ members_of-other group_of g h other =
 pub record Numbered (F : ℕ → ℕ) (i : ℕ) (group_of : List ℕ) (members : List (List ℕ)) : Type 0 where
   pub numbers : group_of ≡ map (head_number F) (range_with_len 0 i)
   pub count : length members ≡ heads_below F i
-  pub lists : members ≡ map (members_of group_of) (range_with_len 0 (length members))
+  pub lists : members ≡ map (items_at group_of) (range_with_len 0 (length members))
 
 pub Numbered-none : (F : ℕ → ℕ) → Numbered F 0 [] []
 Numbered-none F = record { numbers = refl; count = refl; lists = refl }
@@ -60,8 +61,8 @@ module _ (n : ℕ) (F : ℕ → ℕ) (are : AreHeads n F) (i : ℕ) (group_of : 
   long : length group_of ≡ i
   long = ap length so_far.numbers ∙ length-map-range_with_len (head_number F) 0 i
 
-  list_of : (h : ℕ) → h < length members → get_or members h [] ≡ members_of group_of h
-  list_of h lt = ap (λ (lists : List (List ℕ)). get_or lists h []) so_far.lists ∙ get_or-map-range_with_len (members_of group_of) 0 (length members) h h [] lt (omega arith)
+  list_of : (h : ℕ) → h < length members → get_or members h [] ≡ items_at group_of h
+  list_of h lt = ap (λ (lists : List (List ℕ)). get_or lists h []) so_far.lists ∙ get_or-map-range_with_len (items_at group_of) 0 (length members) h h [] lt (omega arith)
 
   number_of : (j : ℕ) → j < i → slice_index group_of j ≡ head_number F j
   number_of j lt = ap (slice_index group_of) refl ∙ ap (λ (gs : List ℕ). get_or gs j 0) so_far.numbers ∙ get_or-map-range_with_len (head_number F) 0 i j j 0 lt (omega arith)
@@ -74,21 +75,21 @@ module _ (n : ℕ) (F : ℕ → ℕ) (are : AreHeads n F) (i : ℕ) (group_of : 
   Numbered-head within head = record {
     numbers = numbers_more (length members) (so_far.count ∙ ap (heads_below F) (sym head));
     count = let step : i + 1 ≡ suc i = omega arith in length_push members (i ∷ []) ∙ ap (λ k. k + 1) so_far.count ∙ sym (heads_below-head F i head) ∙ ap (heads_below F) (sym step);
-    lists = fill_by_all (members_of (group_of ++ (length members ∷ []))) (members ++ ((i ∷ []) ∷ [])) (length (members ++ ((i ∷ []) ∷ []))) [] refl
+    lists = fill_by_all (items_at (group_of ++ (length members ∷ []))) (members ++ ((i ∷ []) ∷ [])) (length (members ++ ((i ∷ []) ∷ []))) [] refl
         (λ k lt. at k (omega (arith, lt, length_push members (i ∷ []))));
   }
     where
-      none : members_of group_of (length members) ≡ []
+      none : items_at group_of (length members) ≡ []
       none =
           filter-none_below (λ j. eqb (slice_index group_of j) (length members)) (length group_of)
           (λ j lt. ne_eqb (slice_index group_of j) (length members) (λ same. absurd (omega (arith, same, number_of j (omega (arith, long)), so_far.count, head_number-below n F are j i (omega (arith, within, long)) (omega (arith, long))))))
 
-      at : (k : ℕ) → k < length members + 1 → get_or (members ++ ((i ∷ []) ∷ [])) k [] ≡ members_of (group_of ++ (length members ∷ [])) k
+      at : (k : ℕ) → k < length members + 1 → get_or (members ++ ((i ∷ []) ∷ [])) k [] ≡ items_at (group_of ++ (length members ∷ [])) k
       at k lt = elim (cases_eq (length members) k) [
         | inl last ↦
             get_or_push members (i ∷ []) [] k last
-            ∙ sym (ap (members_of (group_of ++ (length members ∷ []))) (sym last) ∙ members_of-own group_of (length members) ∙ ap₂ (λ (xs : List ℕ) (j : ℕ). xs ++ (j ∷ [])) none long)
-        | inr other ↦ get_or_append_left members ((i ∷ []) ∷ []) [] k (omega (arith, lt)) ∙ list_of k (omega (arith, lt)) ∙ sym (members_of-other group_of (length members) k other)
+            ∙ sym (ap (items_at (group_of ++ (length members ∷ []))) (sym last) ∙ items_at-own group_of (length members) ∙ ap₂ (λ (xs : List ℕ) (j : ℕ). xs ++ (j ∷ [])) none long)
+        | inr other ↦ get_or_append_left members ((i ∷ []) ∷ []) [] k (omega (arith, lt)) ∙ list_of k (omega (arith, lt)) ∙ sym (items_at-other group_of (length members) k other)
       ]
 
   -- item i joins the group of its head
@@ -109,19 +110,19 @@ module _ (n : ℕ) (F : ℕ → ℕ) (are : AreHeads n F) (i : ℕ) (group_of : 
     Numbered-join g is = record {
       numbers = numbers_more g (is ∙ group_is);
       count = let step : i + 1 ≡ suc i = omega arith in length-set members g (get_or members g [] ++ (i ∷ [])) ∙ so_far.count ∙ sym (heads_below-other F i other) ∙ ap (heads_below F) (sym step);
-      lists = fill_by_all (members_of (group_of ++ (g ∷ []))) (set members g (get_or members g [] ++ (i ∷ []))) (length (set members g (get_or members g [] ++ (i ∷ [])))) [] refl
+      lists = fill_by_all (items_at (group_of ++ (g ∷ []))) (set members g (get_or members g [] ++ (i ∷ []))) (length (set members g (get_or members g [] ++ (i ∷ [])))) [] refl
           (λ k lt. at k (omega (arith, lt, length-set members g (get_or members g [] ++ (i ∷ [])))));
     }
       where
         g_in : g < length members
         g_in = omega (arith, is, group-within)
 
-        at : (k : ℕ) → k < length members → get_or (set members g (get_or members g [] ++ (i ∷ []))) k [] ≡ members_of (group_of ++ (g ∷ [])) k
+        at : (k : ℕ) → k < length members → get_or (set members g (get_or members g [] ++ (i ∷ []))) k [] ≡ items_at (group_of ++ (g ∷ [])) k
         at k lt = elim (cases_eq g k) [
           | inl own ↦
               ap (λ j. get_or (set members g (get_or members g [] ++ (i ∷ []))) j []) (sym own) ∙ get_or-set_same members g (get_or members g [] ++ (i ∷ [])) [] g_in
-              ∙ ap₂ (λ (xs : List ℕ) (j : ℕ). xs ++ (j ∷ [])) (list_of g g_in) (sym long) ∙ sym (members_of-own group_of g) ∙ ap (members_of (group_of ++ (g ∷ []))) own
-          | inr apart ↦ get_or-set_other members g k (get_or members g [] ++ (i ∷ [])) [] (λ same. apart (sym same)) ∙ list_of k lt ∙ sym (members_of-other group_of g k apart)
+              ∙ ap₂ (λ (xs : List ℕ) (j : ℕ). xs ++ (j ∷ [])) (list_of g g_in) (sym long) ∙ sym (items_at-own group_of g) ∙ ap (items_at (group_of ++ (g ∷ []))) own
+          | inr apart ↦ get_or-set_other members g k (get_or members g [] ++ (i ∷ [])) [] (λ same. apart (sym same)) ∙ list_of k lt ∙ sym (items_at-other group_of g k apart)
         ]
 
 pub Numbered-all : (F : ℕ → ℕ) (n : ℕ) (group_of : List ℕ) (members : List (List ℕ)) → Numbered F n group_of members → ◌≡◌ {A = Partition} (record { group_of = group_of; groups = length members }) (headed n F)

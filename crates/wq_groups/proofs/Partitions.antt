@@ -114,7 +114,7 @@ module _ (ds : List (ℕ × Directive)) (t : Table) (made : table_of ds ≡ Ok t
         ap (λ (p : Partition). get_or p.group_of k 0) (partition_of-headed ds t.names)
         ∙ head_number-at (length t.names) (first_of ds t.names) (AreHeads-first_of ds t.names (Differ-all_ordered ds once)) k 0 lt
 
-    together_to : ShareGroup (partition_of ds t.names) i j → (i ≡ j) ⊎ ShareLine ds a b
+    together_to : ShareGroup (partition_of ds t.names).group_of i j → (i ≡ j) ⊎ ShareLine ds a b
     together_to same =
         let differ = Differ-all_ordered ds once in
         let first = head_number-same (length t.names) (first_of ds t.names) (AreHeads-first_of ds t.names differ) i j i_in j_in (sym (number_at i i_in) ∙ same ∙ number_at j j_in) in
@@ -124,7 +124,7 @@ module _ (ds : List (ℕ × Directive)) (t : Table) (made : table_of ds ≡ Ok t
           | inr line ↦ inr (ShareLine-on_one_line ds a b line)
         ]
 
-    together_from : (i ≡ j) ⊎ ShareLine ds a b → ShareGroup (partition_of ds t.names) i j
+    together_from : (i ≡ j) ⊎ ShareLine ds a b → ShareGroup (partition_of ds t.names).group_of i j
     together_from (inl one) = ap (slice_index (partition_of ds t.names).group_of) one
     together_from (inr line) =
         let together : are_together ds (get_or t.names i []) (get_or t.names j []) ≡ true =
@@ -132,7 +132,7 @@ module _ (ds : List (ℕ × Directive)) (t : Table) (made : table_of ds ≡ Ok t
         number_at i i_in ∙ ap (heads_below (first_of ds t.names)) (first_of-same ds t.names (Differ-all_ordered ds once) i j i_in j_in together) ∙ sym (number_at j j_in)
 
 pub ShareGroup-partition_of : (ds : List (ℕ × Directive)) (t : Table) (i j : ℕ) (a b : List ℕ) → table_of ds ≡ Ok t → first_regrouped [] ds ≡ None → slice_get t.names i ≡ Some a → slice_get t.names j ≡ Some b
-    → ShareGroup (partition_of ds t.names) i j ↔ ((i ≡ j) ⊎ ShareLine ds a b)
+    → ShareGroup (partition_of ds t.names).group_of i j ↔ ((i ≡ j) ⊎ ShareLine ds a b)
 ShareGroup-partition_of ds t i j a b made once i_is j_is = (together_to ds t made once i j a b i_is j_is, together_from ds t made once i j a b i_is j_is)
 
 -- ---- no other partition is alike

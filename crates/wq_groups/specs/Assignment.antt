@@ -1,11 +1,15 @@
 -- Assignments: which workqueue serves each group. A lane is a workqueue by its number.
-use Rattle.std.specs.Prelude.{◌≡◌, ℕ, ◌<◌, List, length, slice_index}
+use Rattle.std.specs.Prelude.{◌≡◌, ℕ, ◌<◌, List, length, map, slice_index}
 use Rattle.std.specs.List.{All}
 
 -- how many lanes there are, and of each group in turn the number of its lane; a lane may serve no group
 pub record Assignment : Type 0 where
   pub lanes : ℕ
   pub lane_of_group : List ℕ
+
+-- how many lanes there may be
+abbrev pub max_lanes : ℕ
+max_lanes = 4096
 
 -- one lane for each group, and each is one of the lanes
 pub record IsAssignment (groups : ℕ) (a : Assignment) : Type 0 where
@@ -19,3 +23,7 @@ group_lane a g = slice_index a.lane_of_group g
 -- the lane of item i, that of its group
 abbrev pub item_lane : Assignment → List ℕ → ℕ → ℕ
 item_lane a group_of i = group_lane a (slice_index group_of i)
+
+-- of each item in turn its lane
+abbrev pub item_lanes : Assignment → List ℕ → List ℕ
+item_lanes a group_of = map (group_lane a) group_of

@@ -7,7 +7,8 @@
 
 ghost use Rattle.std.specs.Prelude.{◌≡◌, ◌<◌, ◌≤◌, length, Ok, IfOk, IfErr, slice_get, slice_index, Some};
 ghost use Rattle.wq_items.specs.Building.{table_of};
-ghost use Rattle.wq_groups.specs.Partition.{IsPartition, members_of};
+ghost use Rattle.wq_items.specs.Table.{items_at};
+ghost use Rattle.wq_groups.specs.Partition.{IsPartition};
 ghost use Rattle.wq_groups.specs.declared.fault.GroupError.TheVariants.{OutOfMemory};
 ghost use Rattle.wq_groups.specs.Grouping.{groups_of, IsGroupFaultOf};
 
@@ -30,14 +31,15 @@ pub struct Groups<A: Allocator> {
 impl<A: Allocator> Model for Groups<A> {
     ghost use Rattle.std.specs.Prelude.{◌≡◌, length, map};
     ghost use Rattle.std.specs.List.{range_with_len};
-    ghost use Rattle.wq_groups.specs.Partition.{Partition, IsPartition, members_of};
+    ghost use Rattle.wq_items.specs.Table.{items_at};
+    ghost use Rattle.wq_groups.specs.Partition.{Partition, IsPartition};
 
     ghost Value = { Partition };
 
     ghost view = { λ g. record { group_of = g.group_of.items; groups = length g.members.items } };
 
     ghost invariant = { λ g. IsPartition (record { group_of = g.group_of.items; groups = length g.members.items })
-        × (map (λ m. m.items) g.members.items ≡ map (members_of g.group_of.items) (range_with_len 0 (length g.members.items))) };
+        × (map (λ m. m.items) g.members.items ≡ map (items_at g.group_of.items) (range_with_len 0 (length g.members.items))) };
 }
 
 impl<A: Allocator + Copy> Groups<A> {
@@ -77,7 +79,7 @@ impl<A: Allocator + Copy> Groups<A> {
     /// The items of a group below `len()`, in declaration order; there is one at least.
     pub fn members(&self, group: GroupId) -> &[ItemId]
         requires { group < self.now.groups }
-        ensures { result.now ≡ members_of self.now.group_of group }
+        ensures { result.now ≡ items_at self.now.group_of group }
     {
         self.members[usize::from(group.get())].as_slice()
     }

@@ -11,7 +11,7 @@ ghost use Rattle.wq_groups.specs.Grouping.{all_ordered, first_regrouped, IsLowes
 
 /// Two items are in one group exactly where they are one item, or an `ordered` line has the names of both.
 pub fn items_are_together_that_share_a_line()
-    ensures { (ds : List (ℕ × Directive)) (t : Table) (i j : ℕ) (a b : List ℕ) → table_of ds ≡ Ok t → first_regrouped [] ds ≡ None → slice_get t.names i ≡ Some a → slice_get t.names j ≡ Some b → ShareGroup (partition_of ds t.names) i j ↔ ((i ≡ j) ⊎ ShareLine ds a b) }
+    ensures { (ds : List (ℕ × Directive)) (t : Table) (i j : ℕ) (a b : List ℕ) → table_of ds ≡ Ok t → first_regrouped [] ds ≡ None → slice_get t.names i ≡ Some a → slice_get t.names j ≡ Some b → ShareGroup (partition_of ds t.names).group_of i j ↔ ((i ≡ j) ⊎ ShareLine ds a b) }
 {}
 
 /// The groups of a declaration are a partition of its items, numbered in the order of their first-declared members.

@@ -4,7 +4,7 @@
 
 ghost use Rattle.std.specs.Prelude.{◌≡◌, ◌<◌, ◌≤◌, length, map, slice_index, IfOk, IfErr};
 ghost use Rattle.std.specs.List.{range_with_len};
-ghost use Rattle.wq_groups.specs.Partition.{members_of};
+ghost use Rattle.wq_items.specs.Table.{items_at};
 ghost use Rattle.wq_groups.specs.Numbering.{AreHeads, headed};
 
 use crate::group_id::GroupId;
@@ -19,7 +19,7 @@ pub(crate) fn number<A: Allocator + Copy>(
     requires few { length first.now ≤ 4096 }
     requires heads { AreHeads (length first.now) (slice_index first.now) }
     ensures groups { IfOk result (λ r. record { group_of = r.0.items; groups = length r.1.items } ≡ headed (length first.now) (slice_index first.now)) }
-    ensures members { IfOk result (λ r. map (λ m. m.items) r.1.items ≡ map (members_of r.0.items) (range_with_len 0 (length r.1.items))) }
+    ensures members { IfOk result (λ r. map (λ m. m.items) r.1.items ≡ map (items_at r.0.items) (range_with_len 0 (length r.1.items))) }
     ensures memory { IfErr result (λ _. 0 < length first.now) }
 {
     let mut group_of: Vec<GroupId, A> = Vec::new(alloc);

@@ -86,7 +86,7 @@ pub record Taken (r : Result Table ItemError) (step : Table → Result Table Ite
   pub taken : r ≡ Ok next
   pub rest : step next ≡ Ok w
 
-pub and_then-Ok : (r : Result Table ItemError) (step : Table → Result Table ItemError) (w : Table) → and_then r step ≡ Ok w → Taken r step w
+pub and_then-Ok : (r : Result Table ItemError) (step : Table → Result Table ItemError) (w : Table) → and_then step r ≡ Ok w → Taken r step w
 and_then-Ok (Ok u) step w e = record { next = u; taken = refl; rest = e }
 and_then-Ok (Err f) step w e = absurd cc
 
@@ -151,12 +151,12 @@ IsTable-table_of ds t named e = table_after-keeps IsTable (λ (d : ℕ × Direct
 
 -- ---- the first fault
 
-and_then-assoc : (r : Result Table ItemError) (xs ys : List (ℕ × Directive)) → ((u : Table) → table_after u (xs ++ ys) ≡ and_then (table_after u xs) (λ (v : Table). table_after v ys))
-    → and_then r (λ (u : Table). table_after u (xs ++ ys)) ≡ and_then (and_then r (λ (u : Table). table_after u xs)) (λ (u : Table). table_after u ys)
+and_then-assoc : (r : Result Table ItemError) (xs ys : List (ℕ × Directive)) → ((u : Table) → table_after u (xs ++ ys) ≡ and_then (λ (v : Table). table_after v ys) (table_after u xs))
+    → and_then (λ (u : Table). table_after u (xs ++ ys)) r ≡ and_then (λ (u : Table). table_after u ys) (and_then (λ (u : Table). table_after u xs) r)
 and_then-assoc (Ok u) xs ys h = h u
 and_then-assoc (Err e) xs ys h = refl
 
-pub table_after-append : (t : Table) (xs ys : List (ℕ × Directive)) → table_after t (xs ++ ys) ≡ and_then (table_after t xs) (λ (u : Table). table_after u ys)
+pub table_after-append : (t : Table) (xs ys : List (ℕ × Directive)) → table_after t (xs ++ ys) ≡ and_then (λ (u : Table). table_after u ys) (table_after t xs)
 table_after-append t [] ys = refl
 table_after-append t (d ∷ xs) ys = and_then-assoc (declared t d.0 d.1) xs ys (λ (u : Table). table_after-append u xs ys)
 
@@ -171,7 +171,7 @@ pub record IsFirstFault (t : Table) (ds : List (ℕ × Directive)) (e : ItemErro
   pub makes : table_after t before ≡ Ok table
   pub refused : declared table line directive ≡ Err e
 
-fault_in : (t : Table) (n : ℕ) (d : Directive) (ds : List (ℕ × Directive)) (e : ItemError) (r : Result Table ItemError) → declared t n d ≡ r → and_then r (λ (u : Table). table_after u ds) ≡ Err e
+fault_in : (t : Table) (n : ℕ) (d : Directive) (ds : List (ℕ × Directive)) (e : ItemError) (r : Result Table ItemError) → declared t n d ≡ r → and_then (λ (u : Table). table_after u ds) r ≡ Err e
     → ((u : Table) → table_after u ds ≡ Err e → IsFirstFault u ds e) → IsFirstFault t ((n, d) ∷ ds) e
 fault_in t n d ds e (Ok u) was is rest =
     let f = rest u is in
@@ -182,7 +182,7 @@ fault_in t n d ds e (Ok u) was is rest =
       after = f.after;
       table = f.table;
       parts = ap (λ (l : List (ℕ × Directive)). (n, d) ∷ l) f.parts;
-      makes = ap (λ (r : Result Table ItemError). and_then r (λ (v : Table). table_after v f.before)) was ∙ f.makes;
+      makes = ap (λ (r : Result Table ItemError). and_then (λ (v : Table). table_after v f.before) r) was ∙ f.makes;
       refused = f.refused;
     }
 fault_in t n d ds e (Err f) was is rest = record { before = []; line = n; directive = d; after = ds; table = t; parts = refl; makes = refl; refused = was ∙ is }
@@ -194,8 +194,8 @@ IsFirstFault-table_after t ((n, d) ∷ ds) e is = fault_in t n d ds e (declared 
 pub table_of-first_fault : (ds : List (ℕ × Directive)) (e : ItemError) → IsFirstFault empty_table ds e → table_of ds ≡ Err e
 table_of-first_fault ds e f =
     ap table_of f.parts ∙ table_after-append empty_table f.before ((f.line, f.directive) ∷ f.after)
-    ∙ ap (λ (r : Result Table ItemError). and_then r (λ (u : Table). table_after u ((f.line, f.directive) ∷ f.after))) f.makes
-    ∙ ap (λ (r : Result Table ItemError). and_then r (λ (u : Table). table_after u f.after)) f.refused
+    ∙ ap (λ (r : Result Table ItemError). and_then (λ (u : Table). table_after u ((f.line, f.directive) ∷ f.after)) r) f.makes
+    ∙ ap (λ (r : Result Table ItemError). and_then (λ (u : Table). table_after u f.after) r) f.refused
 
 -- the directives before this one make a table, and it can be added
 pub record IsAccepted (before : List (ℕ × Directive)) (d : ℕ × Directive) : Type 0 where

@@ -21,18 +21,18 @@ pub Made-more : (t u : Table) (n : ℕ) (d : Directive) (left rest ds : List (�
 Made-more t u n d left rest ds step taken m = record {
   before = m.before ++ ((n, d) ∷ []);
   parts = m.parts ∙ ap (λ (ds : List (ℕ × Directive)). m.before ++ ds) step ∙ sym (append_assoc m.before ((n, d) ∷ []) rest);
-  makes = table_after-append empty_table m.before ((n, d) ∷ []) ∙ ap (λ (r : Result Table ItemError). and_then r (λ (v : Table). table_after v ((n, d) ∷ []))) m.makes
-      ∙ ap (λ (r : Result Table ItemError). and_then r (λ (v : Table). table_after v [])) taken;
+  makes = table_after-append empty_table m.before ((n, d) ∷ []) ∙ ap (λ (r : Result Table ItemError). and_then (λ (v : Table). table_after v ((n, d) ∷ [])) r) m.makes
+      ∙ ap (λ (r : Result Table ItemError). and_then (λ (v : Table). table_after v []) r) taken;
 }
 
-is_read : (r : Result Table ItemError) → IsOk r → IsOk (and_then r (λ (u : Table). Ok u))
+is_read : (r : Result Table ItemError) → IsOk r → IsOk (and_then (λ (u : Table). Ok u) r)
 is_read (Ok u) ok = ok
 is_read (Err e) ok = ok
 
 pub Made-ran_out : (t : Table) (n : ℕ) (d : Directive) (left rest ds : List (ℕ × Directive)) → left ≡ (n, d) ∷ rest → IsOk (declared t n d) → Made t left ds → RanOut ds
 Made-ran_out t n d left rest ds step ok m =
-    let whole : table_of (m.before ++ ((n, d) ∷ [])) ≡ and_then (declared t n d) (λ (u : Table). Ok u) =
-    table_after-append empty_table m.before ((n, d) ∷ []) ∙ ap (λ (r : Result Table ItemError). and_then r (λ (u : Table). table_after u ((n, d) ∷ []))) m.makes in
+    let whole : table_of (m.before ++ ((n, d) ∷ [])) ≡ and_then (λ (u : Table). Ok u) (declared t n d) =
+    table_after-append empty_table m.before ((n, d) ∷ []) ∙ ap (λ (r : Result Table ItemError). and_then (λ (u : Table). table_after u ((n, d) ∷ [])) r) m.makes in
     record {
       before = m.before;
       line = (n, d);

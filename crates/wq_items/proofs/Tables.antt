@@ -1,12 +1,14 @@
 -- Laws of tables: what an item waits for is an item, and its targets stand in order of place.
-use Rattle.std.proofs.Common.{◌≡◌, ℕ, ◌<◌, ◌≤◌, inl, inr, List, [], length, map, get_or, subst, arith}
+use Rattle.std.proofs.Common.{◌≡◌, ℕ, ◌<◌, ◌≤◌, inl, inr, List, [], length, map, get_or, ap, subst, ◌∙◌, arith}
+use Rattle.std.specs.Prelude.{Option, Some, option_map, slice_get, slice_index}
 use Rattle.std.specs.List.{All}
 use Rattle.std.proofs.lemmas.Bool.{cases_lt, cases_eq}
 use Rattle.std.proofs.lemmas.List.{get_or_past, get_or-map, length-map}
 use Rattle.std.proofs.lemmas.List.Elements.{All-contains}
 use Rattle.std.proofs.lemmas.List.Kept.{AllPairs-from_increasing}
+use Rattle.std.proofs.lemmas.Option.{slice_get-map, slice_get-get_or}
 use Rattle.wq_items.specs.declared.target.Target.{Target}
-use Rattle.wq_items.specs.Table.{ItemWaits, TargetsBelow, PlacesRise, targets_of}
+use Rattle.wq_items.specs.Table.{ItemWaits, VertexWaits, TargetsBelow, PlacesRise, targets_of}
 
 -- the targets of any number, also past the last item
 pub targets_of-below : (n : ℕ) (waits : List (List Target)) (i : ℕ) → All (TargetsBelow n) waits → TargetsBelow n (targets_of waits i)
@@ -17,6 +19,39 @@ targets_of-below n waits i each = elim (cases_lt i (length waits)) [
 
 pub ItemWaits-below : (n : ℕ) (waits : List (List Target)) → All (TargetsBelow n) waits → (i j : ℕ) → ItemWaits waits i j → j < n
 ItemWaits-below n waits each i j declared = subst (λ item. item < n) declared.4 (All-contains (λ t. t.item < n) (targets_of waits i) declared.1 (targets_of-below n waits i each) (declared.0, declared.2, declared.3))
+
+-- what waits is an item
+pub ItemWaits-item : (waits : List (List Target)) (i j : ℕ) → ItemWaits waits i j → i < length waits
+ItemWaits-item waits i j declared = elim (cases_lt i (length waits)) [
+  | inl within ↦ within
+  | inr past ↦
+      let none : length (targets_of waits i) ≡ 0 = ap (λ (ts : List Target). length ts) (get_or_past waits i [] past) in
+      absurd (omega (arith, none, declared.2))
+]
+
+-- the vertex of an item waits for that of its target
+pub VertexWaits-items : (waits : List (List Target)) (vertex_of : List ℕ) (i j : ℕ) → i < length vertex_of → j < length vertex_of → ItemWaits waits i j
+    → VertexWaits waits vertex_of (slice_index vertex_of i) (slice_index vertex_of j)
+VertexWaits-items waits vertex_of i j item target declared = record {
+  item = i;
+  target = j;
+  declares = declared;
+  of_item = slice_get-get_or vertex_of i 0 item;
+  of_target = slice_get-get_or vertex_of j 0 target;
+}
+
+-- so it is where other numbers stand for the vertices
+pub VertexWaits-map : (waits : List (List Target)) (vertex_of : List ℕ) (f : ℕ → ℕ) (v w : ℕ) → VertexWaits waits vertex_of v w → VertexWaits waits (map f vertex_of) (f v) (f w)
+VertexWaits-map waits vertex_of f v w waiting = record {
+  item = waiting.item;
+  target = waiting.target;
+  declares = waiting.declares;
+  of_item = mapped waiting.item v waiting.of_item;
+  of_target = mapped waiting.target w waiting.of_target;
+}
+  where
+    mapped : (k x : ℕ) → slice_get vertex_of k ≡ Some x → slice_get (map f vertex_of) k ≡ Some (f x)
+    mapped k x at = slice_get-map f vertex_of k ∙ ap (λ (o : Option ℕ). option_map f o) at
 
 -- also past the last item
 pub targets_of-rise : (waits : List (List Target)) (i : ℕ) → All PlacesRise waits → PlacesRise (targets_of waits i)

@@ -8,7 +8,7 @@ use Rattle.wq_decl.specs.declared.directive.Directive.TheVariants.{Item, Flush, 
 use Rattle.wq_items.specs.declared.target.Target.{Target}
 use Rattle.wq_items.specs.declared.fault.ItemError.{ItemError}
 use Rattle.wq_items.specs.declared.fault.ItemError.TheVariants.{ItemTwice, UnknownItem, TooManyItems, TooManyFlushes, OutOfMemory}
-use Rattle.wq_items.specs.Table.{Table, item_named, targets_of, flush_count}
+use Rattle.wq_items.specs.Table.{Table, item_named, targets_of, flush_count, max_items, max_flushes}
 
 -- no item
 abbrev pub empty_table : Table
@@ -50,14 +50,14 @@ items_named names (word ∷ words) = and_item (item_named names word.bytes) (ite
 abbrev pub item_declared : Table → ℕ → WordView → Result Table ItemError
 item_declared t n name =
     if is_some (item_named t.names name.bytes) then Err (ItemTwice n)
-    else (if nat_le 4096 (length t.names) then Err (TooManyItems n) else Ok (with_item t name))
+    else (if nat_le max_items (length t.names) then Err (TooManyItems n) else Ok (with_item t name))
 
 -- line n declares that the first of these items flushes the others, where all names on it are known
 abbrev pub flushes_declared : Table → ℕ → Option (List ℕ) → Result Table ItemError
 flushes_declared t n None = Err (UnknownItem n)
 flushes_declared t n (Some []) = Ok t
 flushes_declared t n (Some (i ∷ items)) =
-    if nat_lt 16384 (flush_count t.waits + length items) then Err (TooManyFlushes n) else Ok (with_flushes t i items)
+    if nat_lt max_flushes (flush_count t.waits + length items) then Err (TooManyFlushes n) else Ok (with_flushes t i items)
 
 -- line n puts these items into one group, where all names on it are known; the table stays as it is
 abbrev pub items_ordered : Table → ℕ → Option (List ℕ) → Result Table ItemError
@@ -70,15 +70,15 @@ declared t n (Item name) = item_declared t n name
 declared t n (Flush name targets) = flushes_declared t n (items_named t.names (name ∷ targets))
 declared t n (Ordered names) = items_ordered t n (items_named t.names names)
 
--- a step after one that may have failed
-abbrev pub and_then : Result Table ItemError → (Table → Result Table ItemError) → Result Table ItemError
-and_then (Ok t) step = step t
-and_then (Err e) step = Err e
+-- what follows a value, where there is one; an error stays
+abbrev pub and_then : {V W E : Type 0} → (V → Result W E) → Result V E → Result W E
+and_then next (Ok v) = next v
+and_then next (Err e) = Err e
 
 -- the table after these directives, or the first fault
 abbrev pub table_after : Table → List (ℕ × Directive) → Result Table ItemError
 table_after t [] = Ok t
-table_after t (d ∷ ds) = and_then (declared t d.0 d.1) (λ u. table_after u ds)
+table_after t (d ∷ ds) = and_then (λ u. table_after u ds) (declared t d.0 d.1)
 
 -- the table that directives declare, or their first fault
 abbrev pub table_of : List (ℕ × Directive) → Result Table ItemError

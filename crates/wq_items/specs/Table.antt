@@ -1,5 +1,5 @@
 -- Tables: what a declaration declares, item by item.
-use Rattle.std.specs.Prelude.{◌≡◌, ◌≢◌, ℕ, ◌<◌, ◌≤◌, List, [], length, slice_index_or, IsTrue, Option, map, position, bytes_eq, sum_by, AllPairs, IsPermutation, flat_map}
+use Rattle.std.specs.Prelude.{◌≡◌, ◌≢◌, ℕ, ◌<◌, ◌≤◌, ◌==◌, List, [], length, filter, slice_get, slice_index, slice_index_or, IsTrue, Option, Some, map, position, bytes_eq, sum_by, AllPairs, IsPermutation, flat_map}
 use Rattle.std.specs.List.{All, Any, range_with_len}
 use Rattle.std.specs.List.Sorted.{IsStrictlyIncreasing}
 use Rattle.wq_text.specs.declared.span.Span.{Span}
@@ -24,6 +24,18 @@ targets_of waits i = slice_index_or waits i []
 abbrev pub ItemWaits : List (List Target) → ℕ → ℕ → Type 0
 ItemWaits waits i j = Any (λ (t : Target). t.item ≡ j) (targets_of waits i)
 
+-- the items at vertex v, in declaration order, where `vertex_of` has of each item in turn its vertex: its group or its lane
+abbrev pub items_at : List ℕ → ℕ → List ℕ
+items_at vertex_of v = filter (λ i. slice_index vertex_of i == v) (range_with_len 0 (length vertex_of))
+
+-- a vertex waits for a vertex, which may be the same: an item of the one declares a flush of an item of the other
+pub record VertexWaits (waits : List (List Target)) (vertex_of : List ℕ) (v w : ℕ) : Type 0 where
+  pub item : ℕ
+  pub target : ℕ
+  pub declares : ItemWaits waits item target
+  pub of_item : slice_get vertex_of item ≡ Some v
+  pub of_target : slice_get vertex_of target ≡ Some w
+
 -- how many flushes are declared, all items together
 abbrev pub flush_count : List (List Target) → ℕ
 flush_count waits = sum_by length waits
@@ -40,15 +52,23 @@ places waits = flat_map (λ (targets : List Target). map (λ (t : Target). t.pla
 abbrev pub PlacesRise : List Target → Type 0
 PlacesRise targets = IsStrictlyIncreasing (map (λ (t : Target). t.place) targets)
 
+-- how many items may be declared
+abbrev pub max_items : ℕ
+max_items = 4096
+
+-- how many flushes may be declared, all items together
+abbrev pub max_flushes : ℕ
+max_flushes = 16384
+
 -- what holds of every table: one span and one list of targets for each name; at most 4,096 names, which differ and
 -- are names; at most 16,384 flushes, each of an item, at the places 0, 1, 2 and so on, which rise within each item
 pub record IsTable (t : Table) : Type 0 where
   pub one_span_each : length t.spans ≡ length t.names
   pub one_list_each : length t.waits ≡ length t.names
-  pub few_items : length t.names ≤ 4096
+  pub few_items : length t.names ≤ max_items
   pub named : All (λ (name : List ℕ). IsTrue (is_name name)) t.names
   pub distinct : AllPairs (λ (a b : List ℕ). a ≢ b) t.names
   pub targets_are_items : All (TargetsBelow (length t.names)) t.waits
-  pub few_flushes : flush_count t.waits ≤ 16384
+  pub few_flushes : flush_count t.waits ≤ max_flushes
   pub places_are_numbered : IsPermutation (range_with_len 0 (flush_count t.waits)) (places t.waits)
   pub places_rise : All PlacesRise t.waits

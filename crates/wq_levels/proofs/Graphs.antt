@@ -13,8 +13,8 @@ abbrev pub HeadsBelow : ℕ → List WaitArc → Type 0
 HeadsBelow n arcs = All (λ (a : WaitArc). a.head < n) arcs
 
 -- each arc stands further on than the one before it
-abbrev pub PlacesRise : List WaitArc → Type 0
-PlacesRise arcs = IsStrictlyIncreasing (map (λ (a : WaitArc). a.place) arcs)
+abbrev pub ArcsRise : List WaitArc → Type 0
+ArcsRise arcs = IsStrictlyIncreasing (map (λ (a : WaitArc). a.place) arcs)
 
 module _ (graph : List (List WaitArc)) (sound : IsGraph graph) where
   -- the arcs of any number, also past the last vertex
@@ -24,7 +24,7 @@ module _ (graph : List (List WaitArc)) (sound : IsGraph graph) where
     | inr past ↦ rw (get_or_past graph v [] past) (λ k d none. absurd (omega arith))
   ]
 
-  pub arcs_at-rise : (v : ℕ) → PlacesRise (arcs_at graph v)
+  pub arcs_at-rise : (v : ℕ) → ArcsRise (arcs_at graph v)
   arcs_at-rise v = elim (cases_lt v (length graph)) [
     | inl vertex ↦ sound.places_rise v [] vertex
     | inr past ↦ rw (get_or_past graph v [] past) (λ k none. absurd (omega arith))

@@ -8,12 +8,12 @@ use Rattle.std.proofs.lemmas.List.Quantifiers.{position-Some}
 use Rattle.wq_graph.specs.declared.arc.WaitArc.{WaitArc}
 use Rattle.wq_graph.specs.Graph.{IsGraph, HasArc, arcs_at}
 use Rattle.wq_levels.specs.Walks.{Remains, MarkRemaining, IsLeastRemaining, IsWayOn}
-use Rattle.wq_levels.proofs.Graphs.{PlacesRise, HasArc-below, arcs_at-rise}
+use Rattle.wq_levels.proofs.Graphs.{ArcsRise, HasArc-below, arcs_at-rise}
 use Rattle.wq_levels.proofs.Endless.{IsEndless, IsEndless-next}
 use Rattle.wq_levels.proofs.First.{IsFirst, IsFirst-find, Tells, position-is}
 
 -- an arc that stands further on has a greater place
-later_place : (arcs : List WaitArc) (i j : ℕ) (d e : WaitArc) → PlacesRise arcs → i < j → j < length arcs → (get_or arcs i d).place < (get_or arcs j e).place
+pub later_place : (arcs : List WaitArc) (i j : ℕ) (d e : WaitArc) → ArcsRise arcs → i < j → j < length arcs → (get_or arcs i d).place < (get_or arcs j e).place
 later_place arcs i j d e rise lt fits =
     let place_of : WaitArc → ℕ = λ (a : WaitArc). a.place in
     let own = get_or-map place_of arcs i d 0 (omega arith) in
@@ -21,7 +21,7 @@ later_place arcs i j d e rise lt fits =
     omega (arith, own, other, AllPairs-from_increasing (map place_of arcs) rise i j 0 lt (omega (arith, length-map arcs place_of)))
 
 -- two arcs of one vertex with one place are one
-same_place : (arcs : List WaitArc) (a b : WaitArc) → PlacesRise arcs → Contains arcs a → Contains arcs b → a.place ≡ b.place → a ≡ b
+pub same_place : (arcs : List WaitArc) (a b : WaitArc) → ArcsRise arcs → Contains arcs a → Contains arcs b → a.place ≡ b.place → a ≡ b
 same_place arcs a b rise one other same = elim (cases_order one.0 other.0) [
   | inl here ↦ sym one.2 ∙ get_or_default arcs one.0 a b one.1 ∙ ap (λ (k : ℕ). get_or arcs k b) here ∙ other.2
   | inr apart ↦ elim apart [

@@ -11,7 +11,7 @@ use Rattle.wq_plan.specs.LongestChain.{IsStepDown, IsFirstOnLast, IsLongestChain
 use Rattle.wq_plan.specs.CircleOfGroups.{tail_of}
 use Rattle.wq_levels.proofs.Graphs.{arcs_at-rise}
 use Rattle.wq_plan.proofs.Paths.{Follows, Follows-from_joined}
-use Rattle.wq_plan.proofs.Places.{same_place}
+use Rattle.wq_levels.proofs.WaysOn.{same_place}
 use Rattle.wq_graph.proofs.Graphs.{IsGraph-group_graph, AreArcsFrom-group_graph}
 
 module _ (d : Declaration) (a : Assignment) where

@@ -1,7 +1,6 @@
 use Rattle.std.proofs.Common.{◌∙◌}
 use Rattle.std.proofs.lemmas.List.{length-map}
-use Rattle.wq_groups.specs.Assignment.{group_lane}
-use Rattle.wq_cert.specs.PlanText.{item_lanes}
+use Rattle.wq_groups.specs.Assignment.{group_lane, item_lanes}
 use Rattle.wq_cert.proofs.PrintedPlans.{length-plan_text-most, IsShort-plan}
 use Rattle.wq_cert.proofs.laws.a_plan_text_is_within_the_limits.Goals as goal
 

@@ -1,6 +1,6 @@
-use Rattle.std.proofs.Common.{◌≡◌, ◌++◌, ◌∷◌, [], ℕ, List, sym, ap, subst, ◌∙◌, arith}
+use Rattle.std.proofs.Common.{◌≡◌, ℕ, sym, subst, arith}
 use Rattle.std.specs.Prelude.{slice_get, Some}
-use Rattle.wq_cert.proofs.ItemLanes.{item_lanes-more}
+use Rattle.wq_groups.proofs.Lanes.{item_lanes-more}
 use Rattle.wq_cert.proofs.plan_printing.item_lanes.Goals as goal
 
 pub lane-requires : goal.lane-requires
@@ -12,5 +12,4 @@ loop-i-preserved g c =
     let group_of = c.args.groups.now.group_of in
     let group = subst (λ (i : ℕ). slice_get group_of i ≡ Some c.of-group.result) c.new.ensures c.of-group.ensures.group in
     let lane = subst (λ (l : ℕ). slice_get a.lane_of_group c.of-group.result ≡ Some l) (sym c.get.ensures) c.lane.ensures in
-    c.in_ok-push.ensures.items ∙ ap (λ (ls : List ℕ). ls ++ (c.get.result ∷ [])) c.loop-i.invariant
-    ∙ sym (item_lanes-more a group_of c.loop-i.i c.of-group.result c.get.result (omega (arith, c.requires.items)) group lane)
+    item_lanes-more a group_of c.loop-i.lane.items c.push.new.self.items c.loop-i.i c.of-group.result c.get.result (omega (arith, c.requires.items)) group lane c.loop-i.invariant c.in_ok-push.ensures.items

@@ -1,5 +1,5 @@
 use Rattle.std.proofs.Common.{◌≡◌, take}
-use Rattle.wq_cert.specs.PlanText.{item_lanes}
+use Rattle.wq_groups.specs.Assignment.{item_lanes}
 use Rattle.wq_cert.proofs.plan_printing.item_lanes.Given as goal
 
 -- the workqueues of the items below i

@@ -1,9 +1,11 @@
 use Rattle.std.proofs.Common.{ℕ, List, map, ap, ◌∙◌, arith}
-use Rattle.wq_groups.specs.Assignment.{IsAssignment, group_lane}
+use Rattle.wq_groups.specs.Assignment.{IsAssignment, item_lanes}
 use Rattle.wq_groups.specs.Declaration.{Declaration, IsDeclaration, declaration_of}
 use Rattle.wq_groups.proofs.Declarations.{IsDeclaration-of}
-use Rattle.wq_core.specs.Building.{idle_with_room, count_on}
-use Rattle.wq_core.proofs.Wirings.{lanes_within, All-below}
+use Rattle.wq_groups.proofs.Lanes.{item_lanes-within}
+use Rattle.wq_core.specs.Wiring.{count_on}
+use Rattle.wq_core.specs.Building.{idle_with_room}
+use Rattle.wq_core.proofs.Wirings.{All-below}
 use Rattle.wq_core.proofs.FirstMachines.{machine_of-first, IsHeld-first}
 use Rattle.wq_core.proofs.machine.Core.new.Goals as goal
 
@@ -12,8 +14,8 @@ count_items-requires-clause-within g c =
     let groups = c.args.groups.now in
     let a = c.args.assignment.now in
     let assignment : IsAssignment groups.groups a = record { one_each = c.requires.assigned; within = c.lanes.ensures.within } in
-    let within = lanes_within groups.group_of groups.groups a c.in_ok-lane_of_item.ensures.partition.within assignment in
-    All-below a.lanes c.lanes.result (map (group_lane a) groups.group_of) c.in_ok-lane_of_item.lane_of_item.items c.as_slice.result.now c.lanes.ensures.lanes c.as_slice.ensures.value c.in_ok-lane_of_item.ensures.lanes within
+    let within = item_lanes-within groups.group_of groups.groups a c.in_ok-lane_of_item.ensures.partition.within assignment in
+    All-below a.lanes c.lanes.result (item_lanes a groups.group_of) c.in_ok-lane_of_item.lane_of_item.items c.as_slice.result.now c.lanes.ensures.lanes c.as_slice.ensures.value c.in_ok-lane_of_item.ensures.lanes within
 
 pub invariant_of-result : goal.invariant_of-result
 invariant_of-result g c =
