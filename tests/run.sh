@@ -4,6 +4,8 @@
 set -eu
 cd "$(dirname "$0")/.."
 rt ci
+bash tests/definitions.sh
+bash tests/pages.sh
 bash tests/outlives.sh
 bash tests/program.sh
 bash tests/rows.sh

@@ -40,20 +40,23 @@ abbrev pub text_or_titles : List Row → Option Row → List ℕ
 text_or_titles rows (Some row) = explanation_text row
 text_or_titles rows None = unknown_text rows
 
+-- the same, where these are the rows of the table
 abbrev pub text_in : List Row → ℕ → List ℕ
 text_in rows code = text_or_titles rows (explanation_in rows code)
 
--- whether a number has an explanation
+-- whether there is an explanation
 abbrev pub known_or_not : Option Row → Explained
 known_or_not (Some row) = Known
 known_or_not None = Unknown
 
+-- whether a number has an explanation, where these are the rows of the table
 abbrev pub end_in : List Row → ℕ → Explained
 end_in rows code = known_or_not (explanation_in rows code)
 
--- both of the table
+-- what is printed for a number
 abbrev pub explained_text : ℕ → List ℕ
 explained_text code = text_in explanations code
 
+-- whether a number has an explanation in the table
 abbrev pub explained_end : ℕ → Explained
 explained_end code = end_in explanations code
