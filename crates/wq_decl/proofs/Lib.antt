@@ -1,3 +1,4 @@
 pub mod NameLemmas
 pub mod FaultLemmas
 pub mod OriginLemmas
+pub mod RowLemmas

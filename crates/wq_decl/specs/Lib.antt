@@ -5,3 +5,4 @@ pub mod Names
 pub mod Reading
 pub mod Faults
 pub mod Origins
+pub mod Rows

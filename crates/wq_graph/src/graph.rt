@@ -4,7 +4,7 @@
 //! declares the flush. Making a graph takes time and memory in the items, the vertices and the flushes; each other call
 //! takes constant time.
 
-ghost use Rattle.std.specs.Prelude.{◌≡◌, ◌<◌, ◌≤◌, length, IfOk};
+ghost use Rattle.std.specs.Prelude.{◌≡◌, ◌<◌, ◌≤◌, length, IfOk, IfErr};
 ghost use Rattle.std.specs.List.{All};
 ghost use Rattle.wq_groups.specs.Declaration.{declaration_of};
 ghost use Rattle.wq_graph.specs.Graph.{IsGraph, arcs_at, graph_of, group_graph, lane_graph};
@@ -45,7 +45,8 @@ impl<A: Allocator + Copy> WaitGraph<A> {
         requires one_each { length vertex_of.now ≡ length table.now.names }
         requires within { All (λ v. v < vertices) vertex_of.now }
         requires few { vertices ≤ 4096 }
-        ensures { IfOk result (λ g. g ≡ graph_of table.now.waits vertex_of.now vertices) }
+        ensures graph { IfOk result (λ g. g ≡ graph_of table.now.waits vertex_of.now vertices) }
+        ensures memory { IfErr result (λ _. 0 < vertices) }
     {
         let arcs = arcs_by_place(alloc, table, vertex_of)?;
         let arcs = arcs_by_vertex(alloc, arcs.as_slice(), vertex_of, vertices)?;
@@ -54,14 +55,15 @@ impl<A: Allocator + Copy> WaitGraph<A> {
 
     /// The wait graph of the groups of a table's items. The groups are those of this table.
     ///
-    /// The only error is want of memory (20).
+    /// The only error is that memory ran out (20). Without a group nothing grows.
     pub fn of_groups(
         alloc: A,
         table: &ItemTable<'_, A>,
         groups: &Groups<A>,
     ) -> Result<Self, AllocError>
         requires { length groups.now.group_of ≡ length table.now.names }
-        ensures { IfOk result (λ g. g ≡ group_graph (declaration_of table.now groups.now)) }
+        ensures graph { IfOk result (λ g. g ≡ group_graph (declaration_of table.now groups.now)) }
+        ensures memory { IfErr result (λ _. 0 < groups.now.groups) }
     {
         let vertex_of = groups_of_items(alloc, table.len(), groups)?;
         Self::of_vertices(alloc, table, vertex_of.as_slice(), groups.len())
@@ -70,7 +72,7 @@ impl<A: Allocator + Copy> WaitGraph<A> {
     /// The wait graph of the lanes of an assignment. The groups are those of this table, and the assignment has a lane for
     /// each of them. A lane that serves no group has no arc.
     ///
-    /// The only error is want of memory (20).
+    /// The only error is that memory ran out (20). Without a lane nothing grows.
     pub fn of_lanes(
         alloc: A,
         table: &ItemTable<'_, A>,
@@ -79,10 +81,12 @@ impl<A: Allocator + Copy> WaitGraph<A> {
     ) -> Result<Self, AllocError>
         requires grouped { length groups.now.group_of ≡ length table.now.names }
         requires assigned { length assignment.now.lane_of_group ≡ groups.now.groups }
-        ensures { IfOk result (λ g. g ≡ lane_graph (declaration_of table.now groups.now) assignment.now) }
+        ensures graph { IfOk result (λ g. g ≡ lane_graph (declaration_of table.now groups.now) assignment.now) }
+        ensures memory { IfErr result (λ _. 0 < assignment.now.lanes) }
     {
+        let lanes = assignment.lanes();
         let vertex_of = item_lanes(alloc, table.len(), groups, assignment)?;
-        Self::of_vertices(alloc, table, vertex_of.as_slice(), assignment.lanes())
+        Self::of_vertices(alloc, table, vertex_of.as_slice(), lanes)
     }
 
     /// How many vertices there are, at most 4,096.

@@ -54,13 +54,6 @@ found_item names word bytes o id number i read found some as_number as_index = a
 
 -- ---- words that all name items
 
-pub known_first : (names : List (List ℕ)) (w : WordView) (rest : List WordView) → IsSome (items_named names (w ∷ rest)) → IsSome (item_named names w.bytes)
-known_first names w rest known = chosen (item_named names w.bytes) known
-  where
-    chosen : (o : Option ℕ) → IsSome (and_item o (items_named names rest)) → IsSome o
-    chosen None none = none
-    chosen (Some i) some = refl
-
 pub known_rest : (names : List (List ℕ)) (w : WordView) (rest : List WordView) → IsSome (items_named names (w ∷ rest)) → IsSome (items_named names rest)
 known_rest names w rest known = chosen (item_named names w.bytes) (items_named names rest) known
   where
@@ -178,9 +171,6 @@ pub record FirstSet (names : List (List ℕ)) (old new : List ℕ) (lowest : ℕ
   pub long : length new ≡ length names
   pub firsts : (before : List ℕ → ℕ) → old ≡ map before names → new ≡ map (λ (name : List ℕ). cond (is_among name front) lowest (before name)) names
 
-pub FirstSet-none : (names : List (List ℕ)) (old : List ℕ) (lowest : ℕ) (words : List WordView) → length old ≡ length names → IsSome (items_named names words) → FirstSet names old old lowest words words
-FirstSet-none names old lowest words long known = record { front = []; parts = refl; known = known; long = long; firsts = λ before is. is }
-
 pub FirstSet-more : (names : List (List ℕ)) (old mid : List ℕ) (lowest : ℕ) (w : WordView) (rest words : List WordView) (i : ℕ) → Differ names → item_named names w.bytes ≡ Some i
     → FirstSet names old mid lowest (w ∷ rest) words → FirstSet names old (set mid i lowest) lowest rest words
 FirstSet-more names old mid lowest w rest words i differ found m = record {
@@ -197,7 +187,3 @@ FirstSet-more names old mid lowest w rest words i differ found m = record {
     either : (first : ℕ) (a b : Bool) → cond a lowest (cond b lowest first) ≡ cond (cond a true b) lowest first
     either first true b = refl
     either first false b = refl
-
-pub FirstSet-all : (names : List (List ℕ)) (old new : List ℕ) (lowest : ℕ) (words : List WordView) → FirstSet names old new lowest [] words
-    → (before : List ℕ → ℕ) → old ≡ map before names → new ≡ map (λ (name : List ℕ). cond (is_among name (names_in words)) lowest (before name)) names
-FirstSet-all names old new lowest words m before is = subst (λ (line : List (List ℕ)). new ≡ map (λ (name : List ℕ). cond (is_among name line) lowest (before name)) names) (sym (m.parts ∙ append-nil m.front)) (m.firsts before is)

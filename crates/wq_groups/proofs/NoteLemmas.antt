@@ -186,9 +186,6 @@ pub record NotedSoFar (ds rest : List (ℕ × Directive)) (names : List (List �
   pub parts : ds ≡ before ++ rest
   pub noted : IsNoted before names first marks
 
-pub length-firsts : (ds rest : List (ℕ × Directive)) (names : List (List ℕ)) (first : List ℕ) (marks : List Bool) → NotedSoFar ds rest names first marks → length first ≡ length names
-length-firsts ds rest names first marks so_far = ap length so_far.noted.firsts ∙ length-map names (first_member so_far.before names)
-
 pub length-marks : (ds rest : List (ℕ × Directive)) (names : List (List ℕ)) (first : List ℕ) (marks : List Bool) → NotedSoFar ds rest names first marks → length marks ≡ length names
 length-marks ds rest names first marks so_far = ap length so_far.noted.marks ∙ length-map names (λ (name : List ℕ). is_among name (all_ordered so_far.before))
 

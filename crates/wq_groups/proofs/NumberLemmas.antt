@@ -8,8 +8,8 @@ use Rattle.std.proofs.lemmas.List.{length_push, length-set, get_or_append_left, 
 use Rattle.std.proofs.lemmas.List.FromFn.{length-map-range_with_len, get_or-map-range_with_len, map-range_with_len_more, fill_by_all}
 use Rattle.std.proofs.lemmas.List.Elements.{filter-append}
 use Rattle.wq_items.specs.Table.{items_at}
-use Rattle.wq_groups.specs.Partition.{Partition}
-use Rattle.wq_groups.specs.Numbering.{AreHeads, heads_below, head_number, headed}
+
+use Rattle.wq_groups.specs.Numbering.{AreHeads, heads_below, head_number}
 use Rattle.wq_groups.proofs.Heads.{range_with_len-push, heads_below-head, heads_below-other, heads_below-lt, head_number-below}
 
 -- ---- members
@@ -53,9 +53,6 @@ pub record Numbered (F : ℕ → ℕ) (i : ℕ) (group_of : List ℕ) (members :
   pub numbers : group_of ≡ map (head_number F) (range_with_len 0 i)
   pub count : length members ≡ heads_below F i
   pub lists : members ≡ map (items_at group_of) (range_with_len 0 (length members))
-
-pub Numbered-none : (F : ℕ → ℕ) → Numbered F 0 [] []
-Numbered-none F = record { numbers = refl; count = refl; lists = refl }
 
 module _ (n : ℕ) (F : ℕ → ℕ) (are : AreHeads n F) (i : ℕ) (group_of : List ℕ) (members : List (List ℕ)) (so_far : Numbered F i group_of members) where
   long : length group_of ≡ i
@@ -124,9 +121,6 @@ module _ (n : ℕ) (F : ℕ → ℕ) (are : AreHeads n F) (i : ℕ) (group_of : 
               ∙ ap₂ (λ (xs : List ℕ) (j : ℕ). xs ++ (j ∷ [])) (list_of g g_in) (sym long) ∙ sym (items_at-own group_of g) ∙ ap (items_at (group_of ++ (g ∷ []))) own
           | inr apart ↦ get_or-set_other members g k (get_or members g [] ++ (i ∷ [])) [] (λ same. apart (sym same)) ∙ list_of k lt ∙ sym (items_at-other group_of g k apart)
         ]
-
-pub Numbered-all : (F : ℕ → ℕ) (n : ℕ) (group_of : List ℕ) (members : List (List ℕ)) → Numbered F n group_of members → ◌≡◌ {A = Partition} (record { group_of = group_of; groups = length members }) (headed n F)
-Numbered-all F n group_of members so_far = ap₂ (λ (gs : List ℕ) (k : ℕ). record { group_of = gs; groups = k }) so_far.numbers so_far.count
 
 -- ---- members kept as vectors
 

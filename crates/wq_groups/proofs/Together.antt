@@ -124,9 +124,6 @@ abbrev pub first_of : List (ℕ × Directive) → List (List ℕ) → ℕ → �
 first_of ds names i = first_member ds names (get_or names i [])
 
 module _ (ds : List (ℕ × Directive)) (names : List (List ℕ)) where
-  name_at : ℕ → List ℕ
-  name_at i = get_or names i []
-
   pub first_of-is : (i : ℕ) → i < length names → first_of ds names i ≡ position_or_len (are_together ds (get_or names i [])) names
   first_of-is i within = first_place (are_together ds (get_or names i [])) names i [] within (are_together-same ds (get_or names i []) (get_or names i []) refl)
 

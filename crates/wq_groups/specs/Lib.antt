@@ -5,5 +5,6 @@ pub mod Partition
 pub mod Grouping
 pub mod Reading
 pub mod Numbering
+pub mod OutOfMemory
 pub mod Declaration
 pub mod Assignment

@@ -9,7 +9,7 @@ ghost use Rattle.wq_groups.specs.declared.fault.GroupError.TheVariants.{OutOfMem
 use std::alloc::{AllocError, AllocFailed};
 use thiserror::Error;
 
-/// The first fault of the `ordered` lines, or want of memory.
+/// The first fault of the `ordered` lines, or out of memory.
 #[derive(Clone, Copy, Debug, PartialEq, Eq, Error)]
 pub enum GroupError {
     /// A name that already stands on this or an earlier `ordered` line (11).

@@ -11,6 +11,7 @@ ghost use Rattle.wq_items.specs.Table.{items_at};
 ghost use Rattle.wq_groups.specs.Partition.{IsPartition};
 ghost use Rattle.wq_groups.specs.declared.fault.GroupError.TheVariants.{OutOfMemory};
 ghost use Rattle.wq_groups.specs.Grouping.{groups_of, IsGroupFaultOf};
+ghost use Rattle.wq_groups.specs.OutOfMemory.{RanOutOfGroups};
 
 use crate::fault::GroupError;
 use crate::group_id::GroupId;
@@ -46,14 +47,15 @@ impl<A: Allocator + Copy> Groups<A> {
     /// The groups that the directives of a view declare of the items of its table. The table was read from this view.
     ///
     /// The error is `GroupedTwice` (11) with the lowest `ordered` line that has a name twice, or one that stands on an
-    /// earlier `ordered` line; or `OutOfMemory` (20) where a growth was refused. Without an item nothing grows.
+    /// earlier `ordered` line; or `OutOfMemory` (20) where a growth was refused. Nothing grows before all lines are
+    /// judged, nor without an item.
     pub fn read(alloc: A, view: &DeclView<'_>, table: &ItemTable<'_, A>) -> Result<Self, GroupError>
         requires { table_of view.now ≡ Ok table.now }
         ensures groups { IfOk result (λ g. groups_of view.now table.now.names ≡ Ok g) }
         ensures fault { IfErr result (λ e. IsGroupFaultOf e (groups_of view.now table.now.names)) }
-        ensures memory { IfErr result (λ e. e ≡ OutOfMemory → 0 < length table.now.names) }
+        ensures memory { IfErr result (λ e. e ≡ OutOfMemory → RanOutOfGroups view.now table.now.names) }
     {
-        let first = first_members(alloc, view, table)?;
+        let first = first_members(view, table)?;
         let (group_of, members) = number(alloc, first.as_slice())?;
         Ok(Groups { group_of, members })
     }

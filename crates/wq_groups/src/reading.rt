@@ -1,7 +1,7 @@
 //! Going over the `ordered` lines: of each item the first-declared one of its group.
 //!
 //! The rules are those of "Items and groups" in docs/FORMAT.md. The words of each line are gone over twice, so this takes time in the
-//! number of the words, and memory in the number of items.
+//! number of the words. What is noted of the items lies on the stack: no memory is taken before all lines are judged.
 
 ghost use Rattle.std.specs.Prelude.{◌≡◌, ◌≢◌, ◌↔◌, ◌++◌, ◌∷◌, ◌<◌, [], ℕ, List, length, map, Ok, IfOk, IfErr, IfSome, IsSome, OnSome, IsTrue, AllPairs, None, if◌then◌else◌, bytes_eq};
 ghost use Rattle.std.specs.List.{list_any};
@@ -14,10 +14,14 @@ ghost use Rattle.wq_groups.specs.Grouping.{all_ordered, first_regrouped, first_m
 ghost use Rattle.wq_groups.specs.Reading.{names_in, marks_of, lowest_of, IsNoted};
 
 use crate::fault::GroupError;
+use arrayvec::ArrayVec;
 use std::alloc::Allocator;
 use wq_decl::{DeclView, Directive};
 use wq_items::{ItemId, ItemTable};
 use wq_text::Words;
+
+/// How many items a table has at most.
+const MAX_ITEMS: usize = 4096;
 
 /// Marks the items of these names. The answer is the first-declared of them, or `None` where one is marked already or
 /// stands there twice; those before it are marked then.
@@ -91,23 +95,22 @@ fn put_together<A: Allocator + Copy>(
 
 /// Of each item of a table the first-declared item of its group. The table was read from this view.
 ///
-/// The errors are those of `Groups::read`.
+/// The error is the `GroupedTwice` of `Groups::read`.
 pub(crate) fn first_members<A: Allocator + Copy>(
-    alloc: A,
     view: &DeclView<'_>,
     table: &ItemTable<'_, A>,
-) -> Result<Vec<ItemId, A>, GroupError>
+) -> Result<ArrayVec<ItemId, MAX_ITEMS>, GroupError>
     requires { table_of view.now ≡ Ok table.now }
     ensures once { IfOk result (λ _. first_regrouped [] view.now ≡ None) }
     ensures first { IfOk result (λ first. first.items ≡ map (first_member view.now table.now.names) table.now.names) }
     ensures fault { IfErr result (λ e. IsGroupFaultOf e (groups_of view.now table.now.names)) }
-    ensures memory { IfErr result (λ e. e ≡ OutOfMemory → 0 < length table.now.names) }
+    ensures memory { IfErr result (λ e. e ≢ OutOfMemory) }
 {
-    let mut first = Vec::new(alloc);
-    let mut ordered = Vec::new(alloc);
+    let mut first = ArrayVec::new();
+    let mut ordered = ArrayVec::<bool, MAX_ITEMS>::new();
     for i in 0..table.len() {
-        first.push(ItemId::new(i))?;
-        ordered.push(false)?;
+        first.push(ItemId::new(i));
+        ordered.push(false);
     }
     for (line, directive) in view.directives() {
         if let Directive::Ordered(names) = directive {

@@ -1,11 +1,11 @@
 -- Going over the directives of a declaration: what those so far have made.
-use Rattle.std.proofs.Common.{◌≡◌, ℕ, List, [], ◌∷◌, ◌++◌, Result, Ok, Err, refl, sym, ap, subst, ◌∙◌, append_assoc}
+use Rattle.std.proofs.Common.{◌≡◌, ℕ, List, [], ◌∷◌, ◌++◌, Result, Ok, Err, sym, ap, subst, ◌∙◌, append_assoc}
 use Rattle.std.specs.Prelude.{IsOk}
 use Rattle.wq_decl.specs.declared.directive.Directive.{Directive}
 use Rattle.wq_items.specs.declared.fault.ItemError.{ItemError}
 use Rattle.wq_items.specs.Table.{Table}
 use Rattle.wq_items.specs.Building.{empty_table, declared, and_then, table_after, table_of}
-use Rattle.wq_items.specs.FirstFault.{RanOut}
+use Rattle.wq_items.specs.FirstFault.{RanOut, DeclaresMore}
 use Rattle.wq_items.proofs.BuildingLemmas.{table_after-append}
 
 -- the directives before `rest` made the table t
@@ -29,8 +29,8 @@ is_read : (r : Result Table ItemError) → IsOk r → IsOk (and_then (λ (u : Ta
 is_read (Ok u) ok = ok
 is_read (Err e) ok = ok
 
-pub Made-ran_out : (t : Table) (n : ℕ) (d : Directive) (left rest ds : List (ℕ × Directive)) → left ≡ (n, d) ∷ rest → IsOk (declared t n d) → Made t left ds → RanOut ds
-Made-ran_out t n d left rest ds step ok m =
+pub Made-ran_out : (t : Table) (n : ℕ) (d : Directive) (left rest ds : List (ℕ × Directive)) → left ≡ (n, d) ∷ rest → IsOk (declared t n d) → DeclaresMore (n, d) → Made t left ds → RanOut ds
+Made-ran_out t n d left rest ds step ok grows m =
     let whole : table_of (m.before ++ ((n, d) ∷ [])) ≡ and_then (λ (u : Table). Ok u) (declared t n d) =
     table_after-append empty_table m.before ((n, d) ∷ []) ∙ ap (λ (r : Result Table ItemError). and_then (λ (u : Table). table_after u ((n, d) ∷ [])) r) m.makes in
     record {
@@ -39,4 +39,5 @@ Made-ran_out t n d left rest ds step ok m =
       after = rest;
       parts = m.parts ∙ ap (λ (ds : List (ℕ × Directive)). m.before ++ ds) step;
       faultless = subst IsOk (sym whole) (is_read (declared t n d) ok);
+      grows = grows;
     }

@@ -1,7 +1,7 @@
 -- Going over the words of a `flush` or an `ordered` line: how many were known, and what the targets of a flush added.
-use Rattle.std.proofs.Common.{◌≡◌, ℕ, zero, suc, ◌+◌, ◌<◌, List, [], ◌∷◌, ◌++◌, length, set, Option, Some, None, refl, sym, ap, subst, ◌∙◌, arith, append_assoc, append-nil}
-use Rattle.std.specs.Prelude.{IsSome, IfSome, option_map}
-use Rattle.std.proofs.lemmas.List.{get_or-set_same, set-get_or, length-append}
+use Rattle.std.proofs.Common.{◌≡◌, ℕ, zero, suc, ◌+◌, ◌<◌, List, [], ◌∷◌, ◌++◌, length, set, Option, Some, None, refl, sym, ap, subst, ◌∙◌, arith, append_assoc}
+use Rattle.std.specs.Prelude.{IsSome, option_map}
+use Rattle.std.proofs.lemmas.List.{get_or-set_same, length-append}
 use Rattle.wq_text.specs.Words.{WordView}
 use Rattle.wq_items.specs.declared.target.Target.{Target}
 use Rattle.wq_items.specs.Table.{item_named, targets_of}
@@ -14,13 +14,6 @@ pub record Counted (names : List (List ℕ)) (count : ℕ) (rest words : List Wo
   pub known : option_map (λ (is : List ℕ). count + length is) (items_named names rest) ≡ option_map length (items_named names words)
   pub all : count + length rest ≡ length words
 
-same_count : (o : Option (List ℕ)) → option_map (λ (is : List ℕ). 0 + length is) o ≡ option_map length o
-same_count None = refl
-same_count (Some is) = ap (λ (n : ℕ). Some n) (omega arith)
-
-pub Counted-none : (names : List (List ℕ)) (words : List WordView) → Counted names 0 words words
-Counted-none names words = record { known = same_count (items_named names words); all = omega arith }
-
 one_more : (i count : ℕ) (o : Option (List ℕ)) → option_map (λ (is : List ℕ). (count + 1) + length is) o ≡ option_map (λ (is : List ℕ). count + length is) (and_item (Some i) o)
 one_more i count None = refl
 one_more i count (Some is) = ap (λ (n : ℕ). Some n) (omega arith)
@@ -31,14 +24,6 @@ Counted-more names count w rest words i found h = record {
   known = one_more i count (items_named names rest) ∙ ap (λ (o : Option ℕ). option_map (λ (is : List ℕ). count + length is) (and_item o (items_named names rest))) (sym found) ∙ h.known;
   all = omega (arith, h.all);
 }
-
-pub Counted-unknown : (names : List (List ℕ)) (count : ℕ) (w : WordView) (rest words : List WordView) → item_named names w.bytes ≡ None → Counted names count (w ∷ rest) words
-    → option_map length (items_named names words) ≡ None
-Counted-unknown names count w rest words absent h =
-    sym h.known ∙ ap (λ (o : Option ℕ). option_map (λ (is : List ℕ). count + length is) (and_item o (items_named names rest))) absent
-
-pub Counted-all : (names : List (List ℕ)) (count : ℕ) (words : List WordView) → Counted names count [] words → Some count ≡ option_map length (items_named names words)
-Counted-all names count words h = ap (λ (n : ℕ). Some n) (omega arith) ∙ h.known
 
 -- ---- adding
 
@@ -53,15 +38,6 @@ pub record Added (names : List (List ℕ)) (old new : List (List Target)) (item 
 same_items : (o : Option (List ℕ)) → option_map (λ (is : List ℕ). [] ++ is) o ≡ o
 same_items None = refl
 same_items (Some is) = refl
-
-pub Added-none : (names : List (List ℕ)) (old : List (List Target)) (item first : ℕ) (words : List WordView) → Added names old old item first first words words
-Added-none names old item first words = record {
-  front = [];
-  known = same_items (items_named names words);
-  lists = sym (ap (set old item) (append-nil (targets_of old item)) ∙ set-get_or old item []);
-  next = omega arith;
-  all = omega arith;
-}
 
 pub targets_from-append : (place : ℕ) (is js : List ℕ) → targets_from place (is ++ js) ≡ targets_from place is ++ targets_from (place + length is) js
 targets_from-append place [] js = ap (λ (p : ℕ). targets_from p js) (omega arith)
@@ -100,14 +76,3 @@ Added-more names old mid new item first place w rest words i within found grown 
 found_first : (o : Option ℕ) (others : Option (List ℕ)) (front : List ℕ) (all : Option (List ℕ)) → option_map (λ (is : List ℕ). front ++ is) (and_item o others) ≡ all → IsSome all → IsSome o
 found_first None others front all e known = subst IsSome (sym e) known
 found_first (Some i) others front all e known = refl
-
--- a word that is left is known where all are
-pub Added-known : (names : List (List ℕ)) (old new : List (List Target)) (item first place : ℕ) (w : WordView) (rest words : List WordView) → IsSome (items_named names words)
-    → Added names old new item first place (w ∷ rest) words → IsSome (item_named names w.bytes)
-Added-known names old new item first place w rest words known h = found_first (item_named names w.bytes) (items_named names rest) h.front (items_named names words) h.known known
-
-pub Added-all : (names : List (List ℕ)) (old new : List (List Target)) (item first place : ℕ) (words : List WordView) → Added names old new item first place [] words
-    → IfSome (items_named names words) (λ items. new ≡ set old item (targets_of old item ++ targets_from first items))
-Added-all names old new item first place words h =
-    let whole : Some h.front ≡ items_named names words = ap (λ (is : List ℕ). Some is) (sym (append-nil h.front)) ∙ h.known in
-    subst (λ (o : Option (List ℕ)). IfSome o (λ items. new ≡ set old item (targets_of old item ++ targets_from first items))) whole h.lists

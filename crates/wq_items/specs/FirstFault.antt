@@ -1,11 +1,11 @@
 -- First faults: which line of a declaration has one, said of the lines alone.
-use Rattle.std.specs.Prelude.{◌≡◌, ◌≢◌, ℕ, ◌<◌, ◌≤◌, List, [], ◌∷◌, ◌++◌, length, filter_map, IsOk, IsSomeAnd, Contains, AllPairs}
+use Rattle.std.specs.Prelude.{◌≡◌, ◌≢◌, ◌⊎◌, ℕ, ◌<◌, ◌≤◌, List, [], ◌∷◌, ◌++◌, length, filter_map, IsOk, IsSome, IsSomeAnd, Contains, AllPairs}
 use Rattle.std.specs.List.{All, Any}
 use Rattle.wq_decl.specs.declared.directive.Directive.{Directive}
 use Rattle.wq_items.specs.declared.fault.ItemError.{ItemError}
 use Rattle.wq_items.specs.declared.fault.ItemError.TheVariants.{ItemTwice, UnknownItem, TooManyItems, TooManyFlushes, OutOfMemory}
 use Rattle.wq_items.specs.Building.{table_of}
-use Rattle.wq_items.specs.Flushes.{item_name, flushes, names_used}
+use Rattle.wq_items.specs.Flushes.{item_name, line_flushes, flushes, names_used}
 use Rattle.wq_items.specs.Table.{max_items, max_flushes}
 
 -- one of these lines declares an item of this name
@@ -37,12 +37,17 @@ pub record IsLowestItemFault (ds : List (ℕ × Directive)) (e : ItemError) : Ty
   pub faultless : IsFaultless before
   pub fault : IsFaultOfLine before line e
 
--- ---- want of memory
+-- ---- out of memory
 
--- memory ran out at a line: the directives before it and its own have no fault
+-- the line declares an item, or at least one flush: the table grows with it
+abbrev pub DeclaresMore : ℕ × Directive → Type 0
+DeclaresMore d = IsSome (item_name d) ⊎ (0 < length (line_flushes d))
+
+-- memory ran out at a line that declares an item or a flush: the directives before it and its own have no fault
 pub record RanOut (ds : List (ℕ × Directive)) : Type 0 where
   pub before : List (ℕ × Directive)
   pub line : ℕ × Directive
   pub after : List (ℕ × Directive)
   pub parts : ds ≡ before ++ (line ∷ after)
   pub faultless : IsOk (table_of (before ++ (line ∷ [])))
+  pub grows : DeclaresMore line

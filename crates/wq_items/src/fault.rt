@@ -10,7 +10,7 @@ ghost use Rattle.wq_items.specs.declared.fault.ItemError.TheVariants.{OutOfMemor
 use std::alloc::{AllocError, AllocFailed};
 use thiserror::Error;
 
-/// The first fault of the directives, in a line by the rows of the table of refusals in docs/FORMAT.md, or want of
+/// The first fault of the directives, in a line by the rows of the table of refusals in docs/FORMAT.md, or out of
 /// memory.
 #[derive(Clone, Copy, Debug, PartialEq, Eq, Error)]
 pub enum ItemError {

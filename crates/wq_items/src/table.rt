@@ -6,12 +6,12 @@
 //! Reading takes time in the number of the words of the declaration, and memory in the number of items and flushes.
 //! Afterwards each question is answered in constant time, but for `find`, which takes the time to hash a name.
 
-ghost use Rattle.std.specs.Prelude.{◌≡◌, ◌+◌, ◌^◌, ◌<◌, ◌≤◌, ℕ, length, Ok, IfOk, IfErr, IfSome, IsOk, IsSome, OnOk, slice_get, slice_set, Some, IsTrue, ◌↔◌, ◌∷◌, ◌++◌, option_map};
+ghost use Rattle.std.specs.Prelude.{◌≡◌, ◌+◌, ◌^◌, ◌<◌, ◌≤◌, ℕ, length, Ok, Err, IfOk, IfErr, IfSome, IsOk, IsSome, OnOk, slice_get, slice_set, Some, IsTrue, ◌↔◌, ◌∷◌, ◌++◌, option_map};
 ghost use Rattle.wq_decl.specs.Names.{is_name};
 ghost use Rattle.wq_decl.specs.Reading.{HasNames};
 ghost use Rattle.wq_items.specs.Table.{IsTable, item_named, targets_of, flush_count};
 ghost use Rattle.wq_items.specs.declared.fault.ItemError.TheVariants.{OutOfMemory};
-ghost use Rattle.wq_items.specs.FirstFault.{RanOut};
+ghost use Rattle.wq_items.specs.FirstFault.{RanOut, DeclaresMore};
 ghost use Rattle.wq_items.specs.Building.{table_of, declared, item_declared, flushes_declared, items_ordered, items_named, targets_from, empty_table, IsFaultOf};
 
 use crate::fault::ItemError;
@@ -61,8 +61,9 @@ fn push_targets<'a, A: Allocator + Copy>(
     requires known { IsSome (items_named names.now targets) }
     requires items { length names.now ≤ 4096 }
     requires room { place + length targets ≤ 16384 }
-    ensures { OnOk result (IfSome (items_named names.now targets.entry) (λ items.
+    ensures added { OnOk result (IfSome (items_named names.now targets.entry) (λ items.
         waits.new ≡ slice_set waits.old item (targets_of waits.old item ++ targets_from place items))) }
+    ensures memory { IfErr result (λ _. 0 < length targets.entry) }
 {
     let mut next = place;
     for word in targets {
@@ -97,7 +98,7 @@ impl<'a, A: Allocator + Copy> ItemTable<'a, A> {
     ///
     /// Else the answer is the first fault, of the lowest line that has one: `ItemTwice` (7), `TooManyItems` (9),
     /// `UnknownItem` (8) or `TooManyFlushes` (10), in this order in a line; or `OutOfMemory` (20) where a growth was
-    /// refused before it.
+    /// refused before it, at a line that declares an item or a flush.
     pub fn read(alloc: A, view: &DeclView<'a>) -> Result<Self, ItemError>
         ensures table { IfOk result (λ t. table_of view.now ≡ Ok t) }
         ensures fault { IfErr result (λ e. IsFaultOf e (table_of view.now)) }
@@ -116,6 +117,7 @@ impl<'a, A: Allocator + Copy> ItemTable<'a, A> {
         ensures table { IfOk result (λ t. declared self.entry line directive.entry ≡ Ok t) }
         ensures fault { IfErr result (λ e. IsFaultOf e (declared self.entry line directive.entry)) }
         ensures memory { IfErr result (λ e. e ≡ OutOfMemory → IsOk (declared self.entry line directive.entry)) }
+        ensures grows { IfErr result (λ e. e ≡ OutOfMemory → DeclaresMore (line, directive.entry)) }
     {
         match directive {
             Directive::Item(name) => self.declare_item(alloc, line, name),
@@ -177,6 +179,7 @@ impl<'a, A: Allocator + Copy> ItemTable<'a, A> {
         ensures table { IfOk result (λ t. flushes_declared self.entry line (items_named self.entry.names (name.entry ∷ targets.entry)) ≡ Ok t) }
         ensures fault { IfErr result (λ e. IsFaultOf e (flushes_declared self.entry line (items_named self.entry.names (name.entry ∷ targets.entry)))) }
         ensures memory { IfErr result (λ e. e ≡ OutOfMemory → IsOk (flushes_declared self.entry line (items_named self.entry.names (name.entry ∷ targets.entry)))) }
+        ensures grows { IfErr result (λ e. e ≡ OutOfMemory → 0 < length targets.entry) }
     {
         let Some(item) = self.names.find(name.bytes()) else {
             return Err(ItemError::UnknownItem { line });
@@ -205,8 +208,7 @@ impl<'a, A: Allocator + Copy> ItemTable<'a, A> {
     /// The table as it is, if each of these words names an item.
     fn declare_order(self, line: u32, names: Words<'a>) -> Result<Self, ItemError>
         ensures table { IfOk result (λ t. items_ordered self.entry line (items_named self.entry.names names.entry) ≡ Ok t) }
-        ensures fault { IfErr result (λ e. IsFaultOf e (items_ordered self.entry line (items_named self.entry.names names.entry))) }
-        ensures memory { IfErr result (λ e. e ≡ OutOfMemory → IsOk (items_ordered self.entry line (items_named self.entry.names names.entry))) }
+        ensures fault { IfErr result (λ e. items_ordered self.entry line (items_named self.entry.names names.entry) ≡ Err e) }
     {
         if self.count_known(names.again()).is_none() {
             return Err(ItemError::UnknownItem { line });

@@ -70,10 +70,6 @@ not_true : (b : Bool) → not b ≡ true → b ≡ false
 not_true true h = absurd cc
 not_true false h = refl
 
-not_false : (b : Bool) → not b ≡ false → b ≡ true
-not_false true h = refl
-not_false false h = absurd cc
-
 pub NoBlank-from_filled : (bs : List ℕ) → AllByRecursion (λ b. is_filled b ≡ true) bs → NoBlank bs
 NoBlank-from_filled [] h = tt
 NoBlank-from_filled (b ∷ bs) h = (not_true (is_blank b) h.0, NoBlank-from_filled bs h.1)

@@ -80,6 +80,13 @@ impl<'a> Text<'a> {
         }
     }
 
+    /// The same text once more.
+    pub fn again(&self) -> Text<'a>
+        ensures { result ≡ self.now }
+    {
+        Text { bytes: self.bytes }
+    }
+
     /// The bytes.
     pub fn bytes(&self) -> &'a [u8]
         ensures { result.now ≡ self.now }

@@ -10,7 +10,7 @@ returns-in-Ranks g c =
     let p = c.args.groups.now in
     let a = c.args.assignment.now in
     let is = IsDeclaration-of t p c.len-2.ensures.table c.len.ensures.partition c.requires.grouped in
-    let ranking = rw (c.in-Ranks.is, c.in_ok-graph.ensures) at c.in_ok-ranks.ensures in
+    let ranking = rw (c.in-Ranks.is, c.in_ok-graph.ensures.graph) at c.in_ok-ranks.ensures in
     IsSafeByRanks-ranks (declaration_of t p) a is (record { one_each = c.requires.assigned; within = c.lanes.ensures.within }) (omega (arith, c.lanes.ensures.lanes, c.lanes.ensures.few)) c.in-Ranks.ranks.items ranking.0
 
 pub returns : goal.returns
@@ -19,6 +19,6 @@ returns g c =
     let p = c.args.groups.now in
     let a = c.args.assignment.now in
     let is = IsDeclaration-of t p c.len-2.ensures.table c.len.ensures.partition c.requires.grouped in
-    let walked = rw (c.in-Circle.is, c.in_ok-graph.ensures) at c.in_ok-ranks.ensures in
+    let walked = rw (c.in-Circle.is, c.in_ok-graph.ensures.graph) at c.in_ok-ranks.ensures in
     IsDeadlock-walked (declaration_of t p) a is (record { one_each = c.requires.assigned; within = c.lanes.ensures.within }) (omega (arith, c.lanes.ensures.lanes, c.lanes.ensures.few)) c.in-Circle.circle.items walked
     c.in_ok-steps-in-Circle.steps.items (rw c.as_slice.ensures.value at c.in_ok-steps-in-Circle.ensures)

@@ -1,8 +1,9 @@
-use Rattle.std.proofs.Common.{◌≡◌, ◌++◌, ◌∷◌, [], Bool, true, false, length, take, drop, ℕ, List, sym, ap, subst, subst₂, ◌∙◌, arith, rules}
+use Rattle.std.proofs.Common.{◌≡◌, ◌++◌, ◌∷◌, [], Bool, true, false, length, take, drop, ℕ, List, refl, sym, ap, subst, subst₂, ◌∙◌, arith, rules}
 use Rattle.std.specs.Prelude.{replicate}
 use Rattle.std.specs.List.{range_with_len}
 use Rattle.std.proofs.lemmas.Bool.{both_ways}
 use Rattle.std.proofs.lemmas.List.{replicate_more}
+use Rattle.std.proofs.lemmas.List.FromFn.{length-range_with_len}
 use Rattle.wq_decl.specs.declared.directive.Directive.{Directive}
 use Rattle.wq_decl.specs.declared.directive.Directive.TheVariants.{Ordered}
 use Rattle.wq_groups.specs.Grouping.{names_ordered}
@@ -12,10 +13,14 @@ use Rattle.wq_groups.proofs.Regrouped.{first_regrouped-none}
 use Rattle.wq_groups.proofs.NoteLemmas.{NotedSoFar, NotedSoFar-none, NotedSoFar-known, NotedSoFar-more, NotedSoFar-twice, NotedSoFar-all, IsNoted-other, names_ordered-other, written_back}
 use Rattle.wq_groups.proofs.reading.first_members.Goals as goal
 
+pub push-requires : goal.push-requires
+push-requires g c =
+    omega (arith, ap length c.loop-i.invariant.0, length-range_with_len 0 c.loop-i.i, c.loop-i-test.true, c.len-i-end.ensures.len, c.len-i-end.ensures.table.few_items)
+
 pub loop-i-preserved : goal.loop-i-preserved
 loop-i-preserved g c = (
-  c.in_ok-push.ensures.items ∙ ap (λ (i : ℕ). c.loop-i.first.items ++ (i ∷ [])) c.new.ensures ∙ ap (λ (is : List ℕ). is ++ (c.loop-i.i ∷ [])) c.loop-i.invariant.0 ∙ sym (range_with_len-push c.loop-i.i),
-  c.in_ok-push-2.ensures.items ∙ ap (λ (bs : List Bool). bs ++ (false ∷ [])) c.loop-i.invariant.1 ∙ replicate_more c.loop-i.i false,
+  c.push.ensures.items ∙ ap (λ (i : ℕ). c.loop-i.first.items ++ (i ∷ [])) c.new.ensures ∙ ap (λ (is : List ℕ). is ++ (c.loop-i.i ∷ [])) c.loop-i.invariant.0 ∙ sym (range_with_len-push c.loop-i.i),
+  c.push-in-loop-i.ensures.items ∙ ap (λ (bs : List Bool). bs ++ (false ∷ [])) c.loop-i.invariant.1 ∙ replicate_more c.loop-i.i false,
 )
 
 pub loop-line-init : goal.loop-line-init
@@ -48,8 +53,8 @@ loop-line-preserved-else-not-put_together g c =
     let names = c.args.table.now.names in
     let so_far = subst (λ (ds : List (ℕ × Directive)). NotedSoFar c.args.view.now ds names c.loop-line.first.items c.loop-line.ordered.items)
     (c.in-Some.ensures.steps ∙ ap (λ (d : Directive). (c.in-Some.line, d) ∷ c.next.new.self) c.in-Ordered.is) c.loop-line.invariant in
-    let first : take c.loop-line.first.len (c.put_together.new.first ++ drop (length c.put_together.new.first) c.loop-line.first.items) ≡ c.put_together.new.first = written_back c.put_together.new.first c.loop-line.first.items c.loop-line.first.len (omega (arith, c.put_together.auto.first, ap length c.as_mut_slice.ensures.value)) (omega (arith, c.as_mut_slice.ensures.len, ap length c.as_mut_slice.ensures.value)) in
-    let ordered : take c.loop-line.ordered.len (c.put_together.new.ordered ++ drop (length c.put_together.new.ordered) c.loop-line.ordered.items) ≡ c.put_together.new.ordered = written_back c.put_together.new.ordered c.loop-line.ordered.items c.loop-line.ordered.len (omega (arith, c.put_together.auto.ordered, ap length c.as_mut_slice-in-Ordered.ensures.value)) (omega (arith, c.as_mut_slice-in-Ordered.ensures.len, ap length c.as_mut_slice-in-Ordered.ensures.value)) in
+    let first : take (length c.loop-line.first.items) (c.put_together.new.first ++ drop (length c.put_together.new.first) c.loop-line.first.items) ≡ c.put_together.new.first = written_back c.put_together.new.first c.loop-line.first.items (length c.loop-line.first.items) (omega (arith, c.put_together.auto.first, ap length c.as_mut_slice.ensures.value)) refl in
+    let ordered : take (length c.loop-line.ordered.items) (c.put_together.new.ordered ++ drop (length c.put_together.new.ordered) c.loop-line.ordered.items) ≡ c.put_together.new.ordered = written_back c.put_together.new.ordered c.loop-line.ordered.items (length c.loop-line.ordered.items) (omega (arith, c.put_together.auto.ordered, ap length c.as_mut_slice-in-Ordered.ensures.value)) refl in
     subst₂ (λ (f : List ℕ) (m : List Bool). NotedSoFar c.args.view.now c.next.new.self names f m) (sym first) (sym ordered)
     (NotedSoFar-more c.args.view.now names (c.in-Some.line, Ordered c.in-Ordered.names) c.next.new.self c.loop-line.first.items c.put_together.new.first c.loop-line.ordered.items c.put_together.new.ordered
     (λ before noted. c.put_together.ensures.noted before c.in-Some.line (subst₂ (λ (f : List ℕ) (m : List Bool). IsNoted before names f m) (sym c.as_mut_slice.ensures.value) (sym c.as_mut_slice-in-Ordered.ensures.value) noted) c.if-not-put_together.false)

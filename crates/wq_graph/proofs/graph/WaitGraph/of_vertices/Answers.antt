@@ -20,7 +20,7 @@ invariant_of-result g c =
     let vertices = c.args.vertices in
     subst IsGraph (
     sym (
-    c.in_ok-arcs-2.ensures ∙ ap (λ (arcs : List WaitArc). map (arcs_leaving vertex_of arcs) (range_with_len 0 vertices)) (c.as_slice.ensures.value ∙ c.in_ok-arcs.ensures.arcs)
+    c.in_ok-arcs-2.ensures.lists ∙ ap (λ (arcs : List WaitArc). map (arcs_leaving vertex_of arcs) (range_with_len 0 vertices)) (c.as_slice.ensures.value ∙ c.in_ok-arcs.ensures.arcs)
     )
     ) (IsGraph-graph_of waits vertex_of vertices (
     record {

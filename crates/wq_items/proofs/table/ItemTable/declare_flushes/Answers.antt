@@ -28,6 +28,6 @@ invariant_of-result g c =
     let room : flush_count s.waits + count ≤ 16384 = omega (arith, c.self.invariant.1, c.self.invariant.0.few_flushes, c.if-count-self.false) in
     let grown : IfSome (items_named s.names c.args.targets) (λ items. c.push_targets.new.waits ≡ slice_set s.waits c.in-Some.item (targets_of s.waits c.in-Some.item ++ targets_from (flush_count s.waits) items)) =
     subst (λ (first : ℕ). IfSome (items_named s.names c.args.targets) (λ items. c.push_targets.new.waits ≡ slice_set s.waits c.in-Some.item (targets_of s.waits c.in-Some.item ++ targets_from first items)))
-    c.self.invariant.1 c.in_ok-push_targets.ensures in
+    c.self.invariant.1 c.in_ok-push_targets.ensures.added in
     let both = IsTable-flushes_added t c.in-Some.item c.args.targets count c.push_targets.new.waits c.self.invariant.0 within known room grown in
     (both.0, ap (λ (n : ℕ). n + count) c.self.invariant.1 ∙ both.1)

@@ -24,4 +24,4 @@ loop-line-preserved g c = (
 pub returns-in_err-table-clause-memory : goal.returns-in_err-table-clause-memory
 returns-in_err-table-clause-memory g c =
     let p = err_from_is_err_and c.from_residual.result c.from_residual.ensures.1 in
-    rw (p.1, p.2) (λ out. Made-ran_out c.loop-line.table c.in-Some.line c.in-Some.directive c.loop-line.line-iterator c.next.new.self c.args.view.now c.in-Some.ensures.steps (c.in_err-table.ensures.memory out) c.loop-line.invariant.0)
+    rw (p.1, p.2) (λ out. Made-ran_out c.loop-line.table c.in-Some.line c.in-Some.directive c.loop-line.line-iterator c.next.new.self c.args.view.now c.in-Some.ensures.steps (c.in_err-table.ensures.memory out) (c.in_err-table.ensures.grows out) c.loop-line.invariant.0)

@@ -1,4 +1,4 @@
-use Rattle.std.proofs.Common.{◌≡◌, ap, ◌∙◌}
+use Rattle.std.proofs.Common.{ap, ◌∙◌}
 use Rattle.wq_text.specs.Comments.{before_comment}
 use Rattle.wq_text.specs.Lines.{LineView}
 use Rattle.wq_text.proofs.CommentLemmas.{before_comment-at_hash, before_comment-no_hash}

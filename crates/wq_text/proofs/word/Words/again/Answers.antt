@@ -1,4 +1,4 @@
-use Rattle.std.proofs.Common.{◌<◌, ◌≤◌, ◌^◌, List, length, subst, arith}
+use Rattle.std.proofs.Common.{◌<◌, ◌^◌, List, length, subst, arith}
 use Rattle.wq_text.specs.Words.{WordView, words_from}
 use Rattle.wq_text.proofs.WordLemmas.{length-words_from-le}
 use Rattle.wq_text.proofs.word.Words.again.Goals as goal
