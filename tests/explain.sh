@@ -1,5 +1,6 @@
 #!/usr/bin/env bash
-# Runs `wqplan explain` for each number, and the example that it prints, whose answer has to be that number.
+# Runs `wqplan explain` for each number, and the example that it prints, whose answer has to be that number. The figures in
+# an explanation have to be those of docs/FORMAT.md.
 # Run it once the gate or `rt run` has built the program. The argument, if there is one, names another program.
 set -u
 program=$(realpath -- "${1:-$(dirname "$0")/../crates/wqplan/out/wqplan}")
@@ -46,6 +47,21 @@ has() {
     fi
 }
 
+# figures: the numbers of two or more digits in what is read, and those that begin with 0x, each once.
+figures() {
+    grep -oE '0x[0-9A-F]+|[0-9][0-9,]*[0-9]' | sort -u
+}
+
+# limits: those of the numbers in what is read that have a comma.
+limits() {
+    grep -oE '\b[0-9]+(,[0-9]{3})+\b' | sort -u
+}
+
+# prose: what `out` says in words: without its first line, the commands, and the number that it is about.
+prose() {
+    sed -E '1d; /^    /d; s/`(refused|no) [0-9]+/`/g' out
+}
+
 # below HEADING: the lines of `out` behind this line, up to an empty one.
 below() {
     awk -v heading="$1" '$0 == heading { on = 1; next } on && $0 == "" { exit } on' out
@@ -60,6 +76,9 @@ explained() {
     local section
     section=$(sed -n 's/^The rule: docs\/FORMAT\.md, "\(.*\)"$/\1/p' out)
     is "explain $1: the section is there" "## $section" "$(grep -Fx -- "## $section" "$format")"
+    awk -v heading="## $section" '/^## / { on = $0 == heading } on' "$format" >section
+    is "explain $1: its figures stand in the section" '' "$(comm -23 <(prose | figures) <(figures <section))"
+    is "explain $1: its limits are those of its row" "$(grep -F -- "| $2 |" "$format" | limits)" "$(prose | limits)"
     has "explain $1: how to mend it" . "$(below 'To mend it:')"
     mkdir "example$1"
     below 'To see it:' >"example$1/commands"

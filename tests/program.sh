@@ -17,9 +17,11 @@ passed=0
 failed=0
 status=0
 
+seconds=60
+
 # run ARGS..: runs the program on the standard input that it is given, and keeps what it writes and its status.
 run() {
-    timeout 60 "$program" "$@" >out 2>err
+    timeout "$seconds" "$program" "$@" >out 2>err
     status=$?
 }
 
@@ -164,6 +166,43 @@ check 'replay: a run with a cancelled item that is stuck' 1 'stuck\n' ''
 run replay <(cat chain) <(cat lanes) <(cat deadlock) </dev/null
 check 'replay: three pipes' 1 'deadlock\n' ''
 
+# Files are opened in the order of the arguments, all of them before one is read, and none behind one that can't be
+# opened. A pipe with a name is open only once both its ends are, so in any other order each side waits for the other.
+mkfifo first second third
+
+# feed FILE..: opens as many of the pipes in turn, and then writes these files to them.
+feed() {
+    exec 3>first 4>second
+    [ $# -lt 3 ] || exec 5>third
+    cat -- "$1" >&3
+    cat -- "$2" >&4
+    [ $# -lt 3 ] || cat -- "$3" >&5
+}
+
+# run_fed COMMAND FILE..: runs a command over the pipes, which are fed with these files.
+run_fed() {
+    local pipes=(first second third)
+    feed "${@:2}" &
+    run "$1" "${pipes[@]:0:$#-1}" </dev/null
+    kill "$!" 2>/dev/null
+    wait "$!" 2>/dev/null
+}
+
+seconds=20
+run_fed check declaration plan_of_two
+check 'check: two pipes that are opened in turn' 0 'yes 2\n' ''
+run_fed deadlock chain lanes
+check 'deadlock: two pipes that are opened in turn' 1 "$hangs" ''
+run_fed replay chain lanes deadlock
+check 'replay: three pipes that are opened in turn' 1 'deadlock\n' ''
+for words in 'check missing second' 'deadlock missing second' 'replay missing second third' \
+    'replay chain missing third'; do
+    # Each word is an argument of its own.
+    run $words </dev/null
+    check "$words: a pipe behind a FILE that is missing" 3 '' 'fault read\n'
+done
+seconds=60
+
 # Refusals come in the order of the arguments, each text as a whole before the next one.
 printf 'wq 0 a b\nwq 1\n' >without_c
 run check refused too_large_certificate </dev/null
@@ -276,6 +315,34 @@ for words in --help -h help 'help plan' 'plan --help' 'plan -h' 'help check' 'ch
     run $words </dev/null
     check "$words" 0 some ''
 done
+
+# shows COMMAND ARGUMENT SUBJECTS: counts whether each form of the command's help has a line for the argument that speaks
+# of these subjects and of no other one. So it tells the argument from all others, however it is worded.
+shows() {
+    local words found
+    for words in "help $1" "$1 --help" "$1 -h"; do
+        run $words </dev/null
+        found=$(grep -E "^ +[[<]$2[]>] " out | grep -oE 'declaration|standard input|circle|workqueue|step|number' |
+            sort -u | paste -sd, -)
+        if [ "$found" = "$3" ]; then
+            passed=$((passed + 1))
+            echo "ok      $words: $2"
+        else
+            failed=$((failed + 1))
+            echo "FAILED  $words: wanted a line on $2 that speaks of $3, found '$(grep -F -- "$2" out)'"
+        fi
+    done
+}
+
+shows plan FILE 'declaration,standard input'
+shows check DECL declaration
+shows check CERT circle
+shows deadlock DECL declaration
+shows deadlock ASSIGN workqueue
+shows replay DECL declaration
+shows replay ASSIGN workqueue
+shows replay RUN step
+shows explain CODE number
 run --version </dev/null
 check '--version' 0 'wqplan 0.1.0\n' ''
 

@@ -8,17 +8,28 @@ def name(i):
     return f"i{i:04}"
 
 
-def items(count):
+def long_name(i):
+    """A name of 63 bytes."""
+    return f"{'i' * 59}{i:04}"
+
+
+def items(count, called=name):
     """The lines of so many items, each with an LF."""
-    return "".join(f"item {name(i)}\n" for i in range(count))
+    return "".join(f"item {called(i)}\n" for i in range(count))
 
 
-def pairs(word, pairs_of_items):
-    return "".join(f"{word} {name(i)} {name(j)}\n" for i, j in pairs_of_items)
+def pairs(word, pairs_of_items, called=name):
+    return "".join(f"{word} {called(i)} {called(j)}\n" for i, j in pairs_of_items)
 
 
 def run(steps):
     return f"run {len(steps)}\n" + "".join(step + "\n" for step in steps)
+
+
+def filled(text, size):
+    """The text, and blank lines behind it up to so many bytes."""
+    assert len(text) < size
+    return text + b"\n" * (size - len(text))
 
 
 EMPTY = "plan 0 / chain 0"
@@ -91,13 +102,22 @@ FLUSHES = [
 
 # All items, each of which flushes the next one.
 NEXT = [(i, i + 1) for i in range(4_095)]
-CHAIN = items(4_096) + pairs("flush", NEXT)
-CHAIN_PLAN = (
-    "plan 4096\n"
-    + "".join(f"wq {q} {name(4_095 - q)}\n" for q in range(4_096))
-    + "chain 4096\n"
-    + pairs("arc", NEXT)
-)
+
+
+def chain(called):
+    return items(4_096, called) + pairs("flush", NEXT, called)
+
+
+def chain_plan(called):
+    return (
+        "plan 4096\n"
+        + "".join(f"wq {q} {called(4_095 - q)}\n" for q in range(4_096))
+        + "chain 4096\n"
+        + pairs("arc", NEXT, called)
+    )
+
+
+CHAIN = chain(name)
 
 # The same, and the last one flushes the first one: each item starts and waits for the next one.
 ROUND = NEXT + [(4_095, 0)]
@@ -122,17 +142,59 @@ GROUPS_PLAN = (
     + pairs("arc", STEPS)
 )
 
+# The longest run: 4,096 items, of which all but a and z have names of 63 bytes, and 16,384 flushes, all
+# by z, the last of which is of z itself. So z waits for itself when it has waited for all others, which are
+# through by then, and only its last `over` and its `finish` are never made: 45,054 steps. A line of the
+# declaration has 62 targets with long names and 25 times a; with more long ones it had too many bytes.
+OTHERS = ["a"] + [long_name(i) for i in range(1, 4_095)]
+FLUSHED = [long_name(1 + n % 4_094) if n % 87 < 62 else "a" for n in range(16_383)] + ["z"]
+LONGEST = "".join(f"item {item}\n" for item in OTHERS + ["z"]) + "".join(
+    f"flush z {' '.join(FLUSHED[at:at + 87])}\n" for at in range(0, 16_384, 87)
+)
+
+
+def longest_run(lane_of_other):
+    """Its run where z is on workqueue 4,095 and the others, in turn, on these lower ones, or all on one."""
+    return run(
+        [f"queue {item}" for item in ["z"] + OTHERS]
+        + [f"{step} {lane} {item}"
+           for lane, item in zip(lane_of_other, OTHERS) for step in ("start", "finish")]
+        + ["start 4095 z"]
+        + [f"{step} 4095 {target}" for target in FLUSHED[:-1] for step in ("wait", "over")]
+        + ["wait 4095 z"]
+    )
+
+
+LONGEST_TEXT = filled(LONGEST.encode(), 1_048_576)
+LONGEST_CIRCLE = f"circle 1\narc z z\n{longest_run(range(4_095))}".encode()
+
 LARGEST = [
-    (CHAIN.encode(), CHAIN_PLAN.encode()),
+    (CHAIN.encode(), chain_plan(name).encode()),
     (CHAIN.encode() + b"flush i4095 i0000\n", CIRCLE.encode()),
     (GROUPS.encode(), GROUPS_PLAN.encode()),
+    # With names of 63 bytes.
+    (chain(long_name).encode(), chain_plan(long_name).encode()),
+    (LONGEST_TEXT, LONGEST_CIRCLE),
 ]
 
 PLANS = TEXTS + LINES + ITEMS + FLUSHES + LARGEST
 
+# Runs of one item, a, as long as a text may be: it is queued and cancelled again and again, which takes 17
+# bytes each time, and then some last steps are made, three at most.
+LARGEST_SIZE = 8_388_608
+ROUNDS = 493_440
+LAST = 2 * ROUNDS
+
+
+def long_run(*last, before=b""):
+    """Such a run with these steps at its end, behind these lines, as large as a text may be."""
+    steps = [b"queue a", b"cancel a"] * ROUNDS + list(last)
+    return filled(before + b"run %d\n%s\n" % (len(steps), b"\n".join(steps)), LARGEST_SIZE)
+
+
 # Certificates of the empty declaration, and the line that the checker answers.
 ANSWER = b"plan 0\nchain 0\n"
-CHECKS = [
+EMPTY_CHECKS = [
     # A line of 524,288 bytes, and one more: a comment.
     (ANSWER + b"#" + b"x" * 524_287, "yes 0"),
     (ANSWER + b"#" + b"x" * 524_287 + b"\n", "yes 0"),
@@ -150,17 +212,57 @@ CHECKS = [
     (b"x" * 8_388_609, "refused 40 line 0"),
 ]
 
+# The same of an item that flushes itself: circles with runs that are as long as they may be. No run that
+# cancels deadlocks. The last step stands in line LAST + 4.
+ARCS = b"circle 1\narc a a\n"
+HANGS = (b"queue a", b"start 0 a", b"wait 0 a")
+ITSELF_CHECKS = [
+    (filled(ARCS + b"run 3\n" + b"\n".join(HANGS) + b"\n", LARGEST_SIZE), "yes circle 1"),
+    (long_run(before=ARCS), "no 54"),
+    (long_run(*HANGS, before=ARCS), "no 54"),
+    (long_run(*HANGS, before=ARCS) + b"\n", "refused 40 line 0"),
+    (long_run(b"start 4096 a", before=ARCS), f"refused 43 line {LAST + 4}"),
+    (long_run(b"nope", before=ARCS), f"refused 40 line {LAST + 4}"),
+]
+CHECKS = [
+    ("", EMPTY_CHECKS),
+    ("item a / flush a a", ITSELF_CHECKS),
+    (LONGEST_TEXT, [
+        (filled(LONGEST_CIRCLE, LARGEST_SIZE), "yes circle 1"),
+        (filled(LONGEST_CIRCLE, LARGEST_SIZE + 1), "refused 40 line 0"),
+        # Its last step is left out.
+        (LONGEST_CIRCLE.replace(b"run 45054", b"run 45053")[:-len(b"wait 4095 z\n")], "no 54"),
+    ]),
+]
+
 
 def workqueues(count):
     """An assignment of so many workqueues, of which only the last one has an item, a."""
     return " / ".join(f"wq {q}" for q in range(count)) + " a"
 
 
-# A declaration of one item, an assignment, a run, and how it ends.
+ITSELF = "item a / flush a a"
+LONGEST_LANES = (
+    "".join(f"wq {q}\n" for q in range(4_094)) + f"wq 4094 {' '.join(OTHERS)}\nwq 4095 z\n"
+).encode()
+LONGEST_RUN = longest_run([4_094] * 4_095).encode()
+
+# A declaration, an assignment, a run, and how it ends.
 REPLAYS = [
     ("item a", workqueues(4_096), "run 2 / queue a / start 4095 a", "open"),
     ("item a", workqueues(4_096), "run 2 / queue a / start 4094 a", "not lawful 2"),
     ("item a", workqueues(4_097), "run 0", "refused 43 line 4097"),
+    # Runs that are as long as they may be, and one byte more. The last step stands in line LAST + 2.
+    (ITSELF, "wq 0 a", long_run(), "open"),
+    (ITSELF, "wq 0 a", long_run() + b"\n", "refused 40 line 0"),
+    (ITSELF, "wq 0 a", long_run(b"queue a"), "open"),
+    (ITSELF, "wq 0 a", long_run(*HANGS), "stuck"),
+    (ITSELF, "wq 0 a", long_run(*HANGS) + b"\n", "refused 40 line 0"),
+    (ITSELF, "wq 0 a", long_run(b"cancel a"), f"not lawful {LAST + 1}"),
+    (ITSELF, "wq 0 a", long_run(b"start 4096 a"), f"refused 43 line {LAST + 2}"),
+    (ITSELF, "wq 0 a", long_run(b"nope"), f"refused 40 line {LAST + 2}"),
+    (LONGEST_TEXT, LONGEST_LANES, filled(LONGEST_RUN, LARGEST_SIZE), "deadlock"),
+    (LONGEST_TEXT, LONGEST_LANES, filled(LONGEST_RUN, LARGEST_SIZE + 1), "refused 40 line 0"),
 ]
 
 # The same of deadlocks, and all items that wait in a circle: on workqueues of their own, where each
@@ -175,4 +277,5 @@ DEADLOCKS = [
     (ROUND_TEXT, OWN.encode(), run(CIRCLE_RUN).encode()),
     (ROUND_TEXT, f"wq 0 {' '.join(map(name, range(4_096)))}\n".encode(),
      run(CIRCLE_RUN[:4_098]).encode()),
+    (LONGEST_TEXT, LONGEST_LANES, LONGEST_RUN),
 ]

@@ -58,7 +58,7 @@ def table_cases():
         for text, answer in rows:
             yield case(table, "plan", [text], answer)
     for table, groups in [
-        ("certificates", checks.CHECKS), ("limits of certificates", [("", limits.CHECKS)])
+        ("certificates", checks.CHECKS), ("limits of certificates", limits.CHECKS)
     ]:
         for text, rows in groups:
             for certificate, answer in rows:

@@ -181,6 +181,14 @@ const CASES: &[Case] = &[
         end: End::Bad,
         answer: "no 54\n",
     },
+    // Nothing is taken for steps that are said and don't stand there.
+    Case {
+        name: "a circle with a run of four thousand million steps",
+        command: Command::Check,
+        texts: &[ITSELF, "circle 1\narc a a\nrun 4294967295\n"],
+        end: End::Refused,
+        answer: "refused 40 line 0\n",
+    },
     Case {
         name: "a certificate that is none",
         command: Command::Check,
@@ -279,6 +287,13 @@ const CASES: &[Case] = &[
         texts: &[TWO, "wq 0 a\n", "run 0\n"],
         end: End::Refused,
         answer: "refused 41 line 0\n",
+    },
+    Case {
+        name: "a run of four thousand million steps",
+        command: Command::Replay,
+        texts: &[TWO, "wq 0 a b\n", "run 4294967295\n"],
+        end: End::Refused,
+        answer: "refused 40 line 0\n",
     },
     Case {
         name: "a run that is none",

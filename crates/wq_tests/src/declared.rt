@@ -1,4 +1,4 @@
-//! The items of a declaration and their groups, through each pass in turn.
+//! The items of a declaration and their groups, with what the tests need to know of them.
 //!
 //! Takes time in the length of the text.
 
@@ -6,11 +6,7 @@ ghost use Rattle.std.specs.Prelude.{◌≡◌, length, IfOk};
 
 use std::alloc::Allocator;
 use std::test::Fail;
-use wq_commands::Declaration;
-use wq_decl::DeclView;
-use wq_groups::Groups;
-use wq_items::ItemTable;
-use wq_text::Text;
+use wq_commands::{Declaration, read_declaration};
 
 /// The items that a text declares, and their groups.
 pub(crate) fn declared<'a, A: Allocator + Copy>(
@@ -19,9 +15,5 @@ pub(crate) fn declared<'a, A: Allocator + Copy>(
 ) -> Result<Declaration<'a, A>, Fail>
     ensures { IfOk result (λ d. length d.groups.group_of ≡ length d.table.names) }
 {
-    let text = Text::new(text.as_bytes(), 4096, 4096)?;
-    let view = DeclView::new(text)?;
-    let table = ItemTable::read(alloc, &view)?;
-    let groups = Groups::read(alloc, &view, &table)?;
-    Ok(Declaration { table, groups })
+    Ok(read_declaration(alloc, text.as_bytes())?)
 }
