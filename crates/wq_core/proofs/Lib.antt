@@ -14,6 +14,7 @@ pub mod QueueOrder
 pub mod Plays
 pub mod Playing
 pub mod Room
+pub mod Results
 pub mod RunLemmas
 pub mod Sound
 pub mod Unfinished

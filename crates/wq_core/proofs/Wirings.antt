@@ -1,5 +1,5 @@
 -- The wiring of a declaration and an assignment.
-use Rattle.std.proofs.Common.{◌≡◌, ℕ, ◌<◌, List, sym, subst, ◌∙◌}
+use Rattle.std.proofs.Common.{◌≡◌, ℕ, ◌<◌, List, length, get_or, sym, subst, ◌∙◌, arith}
 use Rattle.std.specs.List.{All}
 use Rattle.std.proofs.lemmas.List.{length-map}
 use Rattle.wq_items.specs.Table.{TargetsBelow}
@@ -18,3 +18,10 @@ IsWiring-wiring d a declaration assignment = record {
   within = item_lanes-within d.group_of d.groups a declaration.partition.within assignment;
   targets_are_items = subst (λ n. All (TargetsBelow n) d.waits) (sym declaration.one_list_each) declaration.targets_are_items;
 }
+
+-- where there is an item there is a lane
+pub lanes-some : (group_of : List ℕ) (groups : ℕ) (a : Assignment) → All (λ g. g < groups) group_of → IsAssignment groups a → 0 < length group_of → 0 < a.lanes
+lanes-some group_of groups a within assignment some =
+    let group : get_or group_of 0 0 < groups = within 0 0 some in
+    let lane : get_or a.lane_of_group 0 0 < a.lanes = assignment.within 0 0 (omega (arith, group, assignment.one_each)) in
+    omega (arith, lane)

@@ -1,8 +1,9 @@
 //! The parts of a machine, made of a declaration and an assignment.
 //!
-//! Each part takes time and memory in the number of what it lists: the items and their flushes, or the lanes.
+//! Each part takes time and memory in the number of what it lists: the items and their flushes, or the lanes. A list of
+//! nothing takes no memory.
 
-ghost use Rattle.std.specs.Prelude.{◌≡◌, ◌<◌, ◌≤◌, ℕ, length, map, slice_index, IfOk};
+ghost use Rattle.std.specs.Prelude.{◌≡◌, ◌<◌, ◌≤◌, ℕ, length, map, replicate, slice_index, IfOk, OnErr};
 ghost use Rattle.std.specs.List.{All};
 ghost use Rattle.wq_items.specs.Table.{IsTable};
 ghost use Rattle.wq_groups.specs.Partition.{IsPartition};
@@ -20,6 +21,7 @@ pub(crate) fn copy_waits<A: Allocator + Copy>(
 ) -> Result<Vec<Vec<Target, A>, A>, AllocError>
     ensures waits { IfOk result (λ waits. map (λ l. l.items) waits.items ≡ table.now.waits) }
     ensures table { IsTable table.now }
+    ensures memory { OnErr result (0 < length table.now.names) }
 {
     let items = table.len();
     let mut waits = Vec::with_capacity(alloc, usize::from(items))?;
@@ -40,6 +42,7 @@ pub(crate) fn item_lanes<A: Allocator + Copy>(
     requires assigned { length assignment.now.lane_of_group ≡ groups.now.groups }
     ensures lanes { IfOk result (λ lanes. lanes.items ≡ item_lanes assignment.now groups.now.group_of) }
     ensures partition { IsPartition groups.now }
+    ensures memory { OnErr result (0 < items) }
 {
     let _groups = groups.len();
     let mut lanes = Vec::with_capacity(alloc, usize::from(items))?;
@@ -47,6 +50,16 @@ pub(crate) fn item_lanes<A: Allocator + Copy>(
         lanes.push(assignment.lane(groups.of(ItemId::new(i))))?;
     }
     Ok(lanes)
+}
+
+/// So many counts of 0.
+fn zeros<A: Allocator + Copy>(alloc: A, count: u16) -> Result<Vec<usize, A>, AllocError>
+    ensures counts { IfOk result (λ counts. counts.items ≡ replicate count 0) }
+    ensures memory { OnErr result (0 < count) }
+{
+    let mut counts = Vec::with_capacity(alloc, usize::from(count))?;
+    counts.resize(usize::from(count), 0)?;
+    Ok(counts)
 }
 
 /// Of each lane in turn how many items stand on it.
@@ -59,8 +72,9 @@ pub(crate) fn count_items<A: Allocator + Copy>(
     requires within { All (λ l. l < lanes) lane_of_item.now }
     ensures len { IfOk result (λ counts. length counts.items ≡ lanes) }
     ensures counts { IfOk result (λ counts. (q : ℕ) → q < lanes → slice_index counts.items q ≡ count_on lane_of_item.now q) }
+    ensures memory { OnErr result (0 < lanes) }
 {
-    let mut counts = vec![in alloc; 0; usize::from(lanes)]?;
+    let mut counts = zeros(alloc, lanes)?;
     for lane in lane_of_item {
         counts[usize::from(lane.get())] += 1;
     }

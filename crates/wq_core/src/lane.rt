@@ -4,7 +4,7 @@
 //! `has_unfinished_below` take time in the number of pending entries, each other call takes constant time. Only `new`
 //! takes memory.
 
-ghost use Rattle.std.specs.Prelude.{◌≡◌, ◌<◌, ◌+◌, ◌^◌, ◌==◌, ◌↔◌, length, IfOk, IfSome, IsTrue, slice_get};
+ghost use Rattle.std.specs.Prelude.{◌≡◌, ◌<◌, ◌+◌, ◌^◌, ◌==◌, ◌↔◌, length, IfOk, OnErr, IfSome, IsTrue, slice_get};
 ghost use Rattle.std.specs.List.{find, list_any};
 ghost use Rattle.std.specs.VecDeque.Iter.{deque_iter_rest};
 ghost use Rattle.wq_core.specs.declared.entry.Entry.{Entry};
@@ -36,10 +36,11 @@ impl<A: Allocator> Model for Lane<A> {
 }
 
 impl<A: Allocator> Lane<A> {
-    /// An idle lane with room for so many entries. The only error is want of memory (20).
+    /// An idle lane with room for so many entries. The only error is out of memory (20), never for no entry.
     pub fn new(alloc: A, room: usize) -> Result<Self, AllocError>
         ensures idle { IfOk result (λ l. l.lane ≡ idle_lane) }
         ensures room { IfOk result (λ l. l.room ≡ room) }
+        ensures memory { OnErr result (0 < room) }
     {
         let pending = VecDeque::with_capacity(alloc, room)?;
         Ok(Lane {

@@ -4,7 +4,7 @@
 //! are. `new` and `are_idle` take time in the number of lanes, each other call takes constant time. Only `new` takes
 //! memory.
 
-ghost use Rattle.std.specs.Prelude.{◌≡◌, ◌<◌, ◌↔◌, length, map, slice_get, Some, IfOk, IsTrue};
+ghost use Rattle.std.specs.Prelude.{◌≡◌, ◌<◌, ◌↔◌, length, map, slice_get, Some, IfOk, OnErr, IsTrue};
 ghost use Rattle.std.specs.List.{All};
 ghost use Rattle.std.specs.Borrow.{sem};
 ghost use Rattle.wq_core.specs.State.{idle_lane};
@@ -33,9 +33,10 @@ impl<A: Allocator> Model for Lanes<A> {
 }
 
 impl<A: Allocator + Copy> Lanes<A> {
-    /// Idle lanes, each with room for so many entries. The only error is want of memory (20).
+    /// Idle lanes, each with room for so many entries. The only error is out of memory (20), never for no lane.
     pub fn new(alloc: A, rooms: &[usize]) -> Result<Self, AllocError>
-        ensures { IfOk result (λ lanes. lanes ≡ map idle_with_room rooms.now) }
+        ensures lanes { IfOk result (λ lanes. lanes ≡ map idle_with_room rooms.now) }
+        ensures memory { OnErr result (0 < length rooms.now) }
     {
         let mut lanes = Vec::with_capacity(alloc, rooms.len())?;
         for room in rooms {

@@ -5,7 +5,7 @@
 //! wait in the number of the targets of an item. Only `new` takes memory; it takes time and memory in the number of
 //! items, flushes and lanes.
 
-ghost use Rattle.std.specs.Prelude.{◌≡◌, ◌<◌, ◌≤◌, length, slice_get, Some, IfSome, IfNone, OnSome, IfOk, IfErr, IsTrue, ◌↔◌, take};
+ghost use Rattle.std.specs.Prelude.{◌≡◌, ◌<◌, ◌≤◌, length, slice_get, Some, IfSome, IfNone, OnSome, IfOk, OnErr, IfErr, IsTrue, ◌↔◌, take};
 ghost use Rattle.std.specs.List.{Any};
 ghost use Rattle.wq_items.specs.declared.target.Target.{Target};
 ghost use Rattle.wq_groups.specs.Declaration.{declaration_of};
@@ -56,7 +56,7 @@ impl<A: Allocator + Copy> Core<A> {
     /// The machine of a declaration and an assignment, before anything is queued: of a table, the groups of its items,
     /// and the lane of each group.
     ///
-    /// The only error is want of memory (20).
+    /// The only error is out of memory (20), never where there is no lane; any other machine holds lanes in memory.
     pub fn new(
         alloc: A,
         table: &ItemTable<'_, A>,
@@ -65,11 +65,13 @@ impl<A: Allocator + Copy> Core<A> {
     ) -> Result<Self, AllocError>
         requires grouped { length groups.now.group_of ≡ length table.now.names }
         requires assigned { length assignment.now.lane_of_group ≡ groups.now.groups }
-        ensures { IfOk result (λ m. m ≡ first_machine (declaration_of table.now groups.now) assignment.now) }
+        ensures machine { IfOk result (λ m. m ≡ first_machine (declaration_of table.now groups.now) assignment.now) }
+        ensures memory { OnErr result (0 < assignment.now.lanes) }
     {
-        let waits = copy_waits(alloc, table)?;
+        let count = assignment.lanes();
         let lane_of_item = item_lanes(alloc, table.len(), groups, assignment)?;
-        let rooms = count_items(alloc, assignment.lanes(), lane_of_item.as_slice())?;
+        let waits = copy_waits(alloc, table)?;
+        let rooms = count_items(alloc, count, lane_of_item.as_slice())?;
         let lanes = Lanes::new(alloc, rooms.as_slice())?;
         Ok(Core {
             waits,

@@ -111,9 +111,6 @@ less_by_work lanes old new q p less =
     let most : suc new * (lanes + 1) ≤ old * (lanes + 1) = mul-le-mul_right {m = suc new} {n = old} (lanes + 1) (omega arith) in
     omega (arith, one_more, most)
 
-pub play_left-still : (m : Machine) (lanes q : ℕ) → q < lanes → play_left m lanes (q + 1) < play_left m lanes q
-play_left-still m lanes q within = omega arith
-
 pub play_left-move : (m : Machine) (lanes q p : ℕ) (step : Step) → IsMachine m → IsDeclaredStep m.wiring m.state q step
     → play_left (machine_after m step) lanes p < play_left m lanes q
 play_left-move m lanes q p step machine is =

@@ -3,7 +3,7 @@
 //! Where groups wait in a circle no assignment is safe, not even that with as many lanes as there are groups. It takes as
 //! long as a verdict on that.
 
-ghost use Rattle.std.specs.Prelude.{◌≡◌, length, IfOk};
+ghost use Rattle.std.specs.Prelude.{◌≡◌, ◌<◌, length, IfOk, OnErr};
 ghost use Rattle.std.specs.List.{range_with_len};
 ghost use Rattle.std.specs.Option.{option_map};
 ghost use Rattle.wq_groups.specs.Declaration.{declaration_of};
@@ -19,7 +19,8 @@ use wq_items::ItemTable;
 
 /// So many lanes in turn, from 0.
 fn lanes_in_turn<A: Allocator + Copy>(alloc: A, count: u16) -> Result<Vec<LaneId, A>, AllocError>
-    ensures { IfOk result (λ lanes. lanes.items ≡ range_with_len 0 count) }
+    ensures lanes { IfOk result (λ lanes. lanes.items ≡ range_with_len 0 count) }
+    ensures memory { OnErr result (0 < count) }
 {
     let mut lanes = Vec::with_capacity(alloc, usize::from(count))?;
     for q in 0..count {
@@ -30,7 +31,8 @@ fn lanes_in_turn<A: Allocator + Copy>(alloc: A, count: u16) -> Result<Vec<LaneId
 
 /// The assignment in which group g has lane g.
 fn own_lanes<A: Allocator + Copy>(alloc: A, groups: &Groups<A>) -> Result<Assignment<A>, AllocError>
-    ensures { IfOk result (λ a. a ≡ own_lanes groups.now.groups) }
+    ensures lanes { IfOk result (λ a. a ≡ own_lanes groups.now.groups) }
+    ensures memory { OnErr result (0 < groups.now.groups) }
 {
     let lanes = lanes_in_turn(alloc, groups.len())?;
     Ok(Assignment::new(groups.len(), lanes).unwrap())
@@ -39,14 +41,15 @@ fn own_lanes<A: Allocator + Copy>(alloc: A, groups: &Groups<A>) -> Result<Assign
 /// The run by which the assignment deadlocks in which group g has lane g; `None` exactly where that is safe, and so where
 /// the groups wait in no circle. The groups are those of this table.
 ///
-/// The only error is want of memory (20).
+/// The only error is out of memory (20), never where there is no group.
 pub fn circle_run<A: Allocator + Copy>(
     alloc: A,
     table: &ItemTable<'_, A>,
     groups: &Groups<A>,
 ) -> Result<Option<Vec<Step, A>>, AllocError>
     requires { length groups.now.group_of ≡ length table.now.names }
-    ensures { IfOk result (λ run. IsGroupsRun (declaration_of table.now groups.now) (option_map (λ steps. steps.items) run)) }
+    ensures run { IfOk result (λ run. IsGroupsRun (declaration_of table.now groups.now) (option_map (λ steps. steps.items) run)) }
+    ensures memory { OnErr result (0 < groups.now.groups) }
 {
     let assignment = own_lanes(alloc, groups)?;
     match verdict(alloc, table, groups, &assignment)? {

@@ -5,7 +5,7 @@
 //! The time is that of the graph and its ranks, and where the lanes wait in a circle that of the run: each of its steps
 //! asks a lane what it can do, and each finish all lanes below the one that moves next.
 
-ghost use Rattle.std.specs.Prelude.{◌≡◌, length, IfOk};
+ghost use Rattle.std.specs.Prelude.{◌≡◌, ◌<◌, length, IfOk, OnErr};
 ghost use Rattle.wq_graph.specs.Graph.{lane_graph};
 ghost use Rattle.wq_groups.specs.Declaration.{declaration_of};
 ghost use Rattle.wq_levels.specs.Walks.{IsWalkedCircle};
@@ -52,7 +52,8 @@ fn run_of_circle<A: Allocator + Copy>(
 /// each of them.
 ///
 /// `Safe` has a rank for each lane, and ranks fall along every declared flush. `Deadlock` has the run of the circle in which
-/// the lanes wait, which ends stuck. The only error is want of memory (20).
+/// the lanes wait, which ends stuck. The only error is out of memory (20), never where there is no lane; any other verdict
+/// is a list that takes memory.
 pub fn verdict<A: Allocator + Copy>(
     alloc: A,
     table: &ItemTable<'_, A>,
@@ -61,7 +62,8 @@ pub fn verdict<A: Allocator + Copy>(
 ) -> Result<Verdict<A>, AllocError>
     requires grouped { length groups.now.group_of ≡ length table.now.names }
     requires assigned { length assignment.now.lane_of_group ≡ groups.now.groups }
-    ensures { IfOk result (IsVerdict (declaration_of table.now groups.now) assignment.now) }
+    ensures verdict { IfOk result (IsVerdict (declaration_of table.now groups.now) assignment.now) }
+    ensures memory { OnErr result (0 < assignment.now.lanes) }
 {
     // Each group has a member.
     prove!(groups.len() <= table.len());

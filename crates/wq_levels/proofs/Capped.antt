@@ -16,10 +16,6 @@ pub record TellsRaised (rounds : ℕ) (ranks : List ℕ) (raised : Bool) : Type 
   pub none : raised ≡ false → EachIndex ranks (λ i. slice_index ranks i ≤ rounds)
 
 module _ (R : ℕ → ℕ → Type 0) where
-  -- before the first round
-  pub IsCapped-zero : (vertex rank : ℕ) → rank ≡ 0 → IsCapped R 0 vertex rank
-  IsCapped-zero vertex rank lowest = record { begins = BeginsChain-at R vertex 1 (rank + 1) (omega arith) (BeginsChain-one R vertex); within = omega arith; ends = λ less. absurd (omega arith) }
-
   -- a vertex is raised that waits for one of this rank or above
   IsCapped-raised : (rounds vertex w cap rank : ℕ) → R vertex w → IsCapped R cap w rank → rounds ≤ rank → IsCapped R (rounds + 1) vertex (rounds + 1)
   IsCapped-raised rounds vertex w cap rank waits capped le = record {

@@ -130,10 +130,6 @@ pub record IsNoted (graph : List (List WaitArc)) (walked : List WaitArc) (left :
   pub so_far : IsUnderWay graph start walked at
   pub tells : TellsLeft (length graph) (vertices_walked start walked) left
 
--- before the first arc
-pub IsNoted-start : (graph : List (List WaitArc)) (left : List (Option ℕ)) (start : ℕ) → IsLeastRemaining graph start → left ≡ replicate (length graph) None → IsNoted graph [] left start
-IsNoted-start graph left start least none = record { start = start; so_far = IsUnderWay-start graph start least; tells = TellsLeft-none (length graph) left none }
-
 module _ (graph : List (List WaitArc)) (walked : List WaitArc) (left : List (Option ℕ)) (at : ℕ) (noted : IsNoted graph walked left at) where
   pub IsNoted-remains : Remains graph at
   IsNoted-remains = IsUnderWay-remains graph noted.start walked at noted.so_far

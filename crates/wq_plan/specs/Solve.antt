@@ -1,10 +1,10 @@
 -- What it means that a declaration is solved.
-use Rattle.std.specs.Prelude.{◌≡◌, List}
+use Rattle.std.specs.Prelude.{◌≡◌, ◌<◌, List}
 use Rattle.wq_items.specs.Chain.{HasCircle}
 use Rattle.wq_groups.specs.Declaration.{Declaration, GroupWaits}
 use Rattle.wq_groups.specs.Assignment.{Assignment, IsAssignment}
 use Rattle.wq_core.specs.Wiring.{wiring}
-use Rattle.wq_core.specs.Deadlock.{Deadlocks, IsLeast}
+use Rattle.wq_core.specs.Deadlock.{IsSafe, Deadlocks, IsLeast}
 use Rattle.wq_graph.specs.declared.arc.WaitArc.{WaitArc}
 use Rattle.wq_graph.specs.Graph.{group_graph}
 use Rattle.wq_levels.specs.Walks.{IsWalkedCircle}
@@ -30,3 +30,13 @@ pub record IsCircled (d : Declaration) (circle : List WaitArc) : Type 0 where
 abbrev pub Solves : {A : Type 0} → Declaration → Answer A → Type 0
 Solves d (answer.Plan assignment chain) = IsPlanned d assignment chain.items
 Solves d (answer.Circle arcs) = IsCircled d arcs.items
+
+-- no run of a plan ends stuck
+abbrev pub PlanIsSafe : {A : Type 0} → Declaration → Answer A → Type 0
+PlanIsSafe d (answer.Plan assignment chain) = IsSafe (wiring d assignment)
+PlanIsSafe d (answer.Circle arcs) = Unit {0}
+
+-- every assignment to fewer lanes than a plan has deadlocks, and every assignment where the answer is a circle
+abbrev pub FewerDeadlock : {A : Type 0} → Declaration → Answer A → Type 0
+FewerDeadlock d (answer.Plan assignment chain) = (b : Assignment) → IsAssignment d.groups b → b.lanes < assignment.lanes → Deadlocks (wiring d b)
+FewerDeadlock d (answer.Circle arcs) = (b : Assignment) → IsAssignment d.groups b → Deadlocks (wiring d b)

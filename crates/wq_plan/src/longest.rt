@@ -3,7 +3,7 @@
 //! The rule is that of "Plan texts" in docs/FORMAT.md: the chain begins at the lowest-numbered group on the last lane, and
 //! leaves each group by its first arc, in order of place, that leads to the next lane. An arc may be declared by any item
 //! of its group. It takes time in the groups and in the arcs of those on the chain.
-ghost use Rattle.std.specs.Prelude.{◌≡◌, ◌+◌, ◌-◌, ◌<◌, ◌≤◌, ◌==◌, ◌^◌, ℕ, length, slice_index, IfOk};
+ghost use Rattle.std.specs.Prelude.{◌≡◌, ◌+◌, ◌-◌, ◌<◌, ◌≤◌, ◌==◌, ◌^◌, ℕ, length, slice_index, IfOk, OnErr};
 ghost use Rattle.std.specs.List.{All, find, position};
 ghost use Rattle.std.specs.Option.{option_copied};
 ghost use Rattle.wq_graph.specs.declared.arc.WaitArc.{WaitArc};
@@ -53,7 +53,8 @@ fn follow<A: Allocator + Copy>(
     requires graph { IsGraph graph.now }
     requires one_each { length lane.now ≡ length graph.now }
     requires vertex { first < length graph.now }
-    ensures { IfOk result (λ chain. chain.items ≡ chain_from graph.now lane.now below first) }
+    ensures chain { IfOk result (λ chain. chain.items ≡ chain_from graph.now lane.now below first) }
+    ensures memory { OnErr result (0 < below) }
 {
     let mut chain = Vec::new(alloc);
     let mut vertex = first;
@@ -77,7 +78,8 @@ pub(crate) fn longest_chain<A: Allocator + Copy>(
     requires graph { IsGraph graph.now }
     requires one_each { length lane.now ≡ length graph.now }
     requires lanes { lanes ≡ lanes_of lane.now }
-    ensures { IfOk result (λ chain. chain.items ≡ chain_of graph.now lane.now) }
+    ensures chain { IfOk result (λ chain. chain.items ≡ chain_of graph.now lane.now) }
+    ensures memory { OnErr result (0 < length lane.now) }
 {
     match first_on_last(lane, lanes) {
         Some(first) => follow(alloc, graph, lane, lanes - 1, first as u16),

@@ -4,10 +4,10 @@
 //! Where the groups wait in a circle none of it has a rank, and the circle is answered in place of a plan. The time is
 //! that of the graph and of the ranks.
 
-ghost use Rattle.std.specs.Prelude.{◌≡◌, ◌<◌, ◌≤◌, length, IfOk};
+ghost use Rattle.std.specs.Prelude.{◌≡◌, ◌<◌, ◌≤◌, length, IfOk, OnErr};
 ghost use Rattle.std.specs.List.{All};
 ghost use Rattle.wq_groups.specs.Declaration.{declaration_of};
-ghost use Rattle.wq_plan.specs.Solve.{Solves};
+ghost use Rattle.wq_plan.specs.Solve.{Solves, PlanIsSafe, FewerDeadlock};
 
 use crate::answer::Answer;
 use crate::longest::{lanes_used, longest_chain};
@@ -16,6 +16,18 @@ use wq_graph::WaitGraph;
 use wq_groups::{Assignment, Groups, LaneId};
 use wq_items::ItemTable;
 use wq_levels::{Ranked, rank};
+
+/// Lanes by their numbers.
+fn lane_ids<A: Allocator + Copy>(alloc: A, lane: &[u16]) -> Result<Vec<LaneId, A>, AllocError>
+    ensures ids { IfOk result (λ ids. ids.items ≡ lane.now) }
+    ensures memory { OnErr result (0 < length lane.now) }
+{
+    let mut ids = Vec::with_capacity(alloc, lane.len())?;
+    for number in lane {
+        ids.push(LaneId::new(*number))?;
+    }
+    Ok(ids)
+}
 
 /// The assignment with so many lanes in which group g is on lane `lane[g]`.
 fn assign<A: Allocator + Copy>(
@@ -27,21 +39,26 @@ fn assign<A: Allocator + Copy>(
     requires within { All (λ l. l < lanes) lane.now }
     ensures lanes { IfOk result (λ a. a.lanes ≡ lanes) }
     ensures of_groups { IfOk result (λ a. a.lane_of_group ≡ lane.now) }
+    ensures memory { OnErr result (0 < length lane.now) }
 {
-    let ids = lane.iter().map(|l| LaneId::new(*l)).collect(alloc)?;
+    let ids = lane_ids(alloc, lane)?;
     Ok(Assignment::new(lanes, ids).unwrap())
 }
 
 /// The plan of the groups of a table's items, or the circle in which they wait. The groups are those of this table.
 ///
-/// The only error is want of memory (20).
+/// No run of a plan ends stuck, and every assignment to fewer workqueues deadlocks. The only error is out of memory (20),
+/// never where there is no group; any other answer is a list that takes memory.
 pub fn solve<A: Allocator + Copy>(
     alloc: A,
     table: &ItemTable<'_, A>,
     groups: &Groups<A>,
 ) -> Result<Answer<A>, AllocError>
     requires { length groups.now.group_of ≡ length table.now.names }
-    ensures { IfOk result (Solves (declaration_of table.now groups.now)) }
+    ensures answer { IfOk result (Solves (declaration_of table.now groups.now)) }
+    ensures safe { IfOk result (PlanIsSafe (declaration_of table.now groups.now)) }
+    ensures fewer { IfOk result (FewerDeadlock (declaration_of table.now groups.now)) }
+    ensures memory { OnErr result (0 < groups.now.groups) }
 {
     // Each group has a member.
     prove!(groups.len() <= table.len());

@@ -6,4 +6,4 @@ use Rattle.wq_deadlock.proofs.circles.circle_run.Goals as goal
 pub verdict-requires-clause-assigned : goal.verdict-requires-clause-assigned
 verdict-requires-clause-assigned g c =
     let groups = c.args.groups.now.groups in
-    ap (λ (a : Assignment). length a.lane_of_group) c.in_ok-assignment.ensures ∙ length-range_with_len 0 groups
+    ap (λ (a : Assignment). length a.lane_of_group) c.in_ok-assignment.ensures.lanes ∙ length-range_with_len 0 groups

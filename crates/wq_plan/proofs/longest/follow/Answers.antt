@@ -8,8 +8,8 @@ use Rattle.wq_plan.proofs.longest.follow.Goals as goal
 pub first_on-requires : goal.first_on-requires
 first_on-requires g c = rw (c.arcs.ensures, c.requires.one_each) (arcs_at-below c.args.graph.now c.requires.graph c.loop-on.vertex)
 
-pub returns-in_default : goal.returns-in_default
-returns-in_default g c =
+pub returns-in_default-clause-chain : goal.returns-in_default-clause-chain
+returns-in_default-clause-chain g c =
     let graph = c.args.graph.now in
     let lane = c.args.lane.now in
     let on = c.loop-on.on in
