@@ -1,11 +1,10 @@
 -- A plan or a run that is cut before its end.
-use Rattle.std.proofs.Common.{◌≡◌, ◌≢◌, ℕ, zero, suc, ◌-◌, List, [], ◌∷◌, ◌++◌, Result, Ok, Err, refl, sym, ap, ◌∙◌, append_assoc}
+use Rattle.std.proofs.Common.{◌≡◌, ◌≢◌, ℕ, zero, suc, ◌-◌, List, [], ◌∷◌, ◌++◌, Result, Ok, Err, refl, sym, ap, ◌∙◌}
 use Rattle.std.specs.Prelude.{codes, ok_or}
 use Rattle.wq_core.specs.declared.step.Step.{Step}
 use Rattle.wq_groups.specs.Partition.{Partition}
-use Rattle.wq_cert.proofs.FirstLines.{ReadsInOrder, read_and, of_no_line, ReadsInOrder-next_line, ReadsInOrder-next_lines}
-use Rattle.wq_cert.proofs.FirstReaders.{at-count, at-run, at-arc, at-step, at-wq, ReadsInOrder-next_workqueues, ReadsInOrder-counted}
-use Rattle.wq_cert.proofs.LinesBehind.{plan_made}
+use Rattle.wq_cert.proofs.FirstLines.{ReadsInOrder, with_more, read_and, of_no_line, ReadsInOrder-next_line, ReadsInOrder-next_lines}
+use Rattle.wq_cert.proofs.FirstReaders.{plan_made, at-count, at-run, at-arc, at-step, at-wq, ReadsInOrder-next_workqueues, ReadsInOrder-counted}
 use Rattle.wq_cert.proofs.SpelledLines.{Follows-and_then, FollowsRead-and_read, at_end-Ok}
 use Rattle.wq_cert.specs.Certificate.{PlanCertificate}
 use Rattle.wq_cert.specs.declared.fault.CertError.{CertError}
@@ -29,11 +28,6 @@ record MayBeShort {V : Type 0} (read : List CertLine → Read V) : Type 0 where
 -- where a value is read of more lines, the lines end too early
 record EndsEarly {V : Type 0} (read : List CertLine → Result V CertError) : Type 0 where
   early : (lines more : List CertLine) (v : V) → more ≢ [] → read (lines ++ more) ≡ Ok v → read lines ≡ Err (BadCertLine 0)
-
-with_more : {V : Type 0} (read : List CertLine → Read V) (lines more : List CertLine) (v : V) (rest : List CertLine) → ReadsInOrder read → read lines ≡ Ok (v, rest) → read (lines ++ more) ≡ Ok (v, rest ++ more)
-with_more read lines more v rest first e =
-    let f = first.reads lines v rest e in
-    ap (λ (ls : List CertLine). read (ls ++ more)) f.lines_are ∙ ap read (append_assoc f.front rest more) ∙ f.is_read (rest ++ more)
 
 -- ---- one thing after the other
 

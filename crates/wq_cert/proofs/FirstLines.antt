@@ -57,6 +57,12 @@ pub record ReadsInOrder {V : Type 0} (read : List CertLine → Read V) : Type 0 
   pub reads : (lines : List CertLine) (v : V) (rest : List CertLine) → read lines ≡ Ok (v, rest) → IsReadOfFront read lines v rest
   pub refuses : Settles read
 
+-- what is read stays so where more lines stand behind
+pub with_more : {V : Type 0} (read : List CertLine → Read V) (lines more : List CertLine) (v : V) (rest : List CertLine) → ReadsInOrder read → read lines ≡ Ok (v, rest) → read (lines ++ more) ≡ Ok (v, rest ++ more)
+with_more read lines more v rest first e =
+    let f = first.reads lines v rest e in
+    ap (λ (ls : List CertLine). read (ls ++ more)) f.lines_are ∙ ap read (append_assoc f.front rest more) ∙ f.is_read (rest ++ more)
+
 -- ---- a value and what follows it
 
 abbrev pub read_and : {V W : Type 0} → (List CertLine → Read V) → (V → List CertLine → Result W CertError) → List CertLine → Result W CertError

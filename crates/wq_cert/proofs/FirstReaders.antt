@@ -15,6 +15,14 @@ use Rattle.wq_cert.specs.Lines.{CertLine}
 use Rattle.wq_items.specs.Building.{and_then}
 use Rattle.wq_cert.specs.Reading.{and_read, next_line, next_lines, at_end, count_reading, circle_count_reading, arc_reading, names_far_lane, step_reading, has_stood, splits_group, fresh_items, wq_items, wq_reading, next_workqueues, all_workqueues, hold_all, assignment_of, whole_assignment, chain_reading, counted_assignment, plan_reading, run_reading, run_behind, circle_reading, answer_reading, workqueues_reading, assignment_reading}
 
+-- ---- what is made of what is read
+
+abbrev pub circle_made : List (ℕ × ℕ) → Option (List Step) → CircleCertificate
+circle_made arcs steps = record { arcs = arcs; steps = steps }
+
+abbrev pub plan_made : Assignment → ℕ × List (ℕ × ℕ) → PlanCertificate
+plan_made assignment chain = record { assignment = assignment; length = chain.0; arcs = chain.1 }
+
 -- ---- lines
 
 pub at-count : (keyword : List ℕ) (line : CertLine) → IsAt line.no (count_reading keyword line)
@@ -85,17 +93,19 @@ IsSettled-first read other line lines fault same h = placed h.before h.lines_are
 -- ---- runs and circles
 
 module _ (names : List (List ℕ)) where
+  pub Settles-steps : (m : ℕ) → Settles (λ behind_run. and_read (λ steps rest. at_end steps rest) (next_lines (step_reading names) m behind_run))
+  Settles-steps m = Settles-and_read (next_lines (step_reading names) m) (λ steps rest. at_end steps rest) (ReadsInOrder-next_lines (step_reading names) (at-step names) m) Settles-at_end
+
   pub Settles-run_reading : Settles (run_reading names)
   Settles-run_reading =
       Settles-and_read (next_line (λ line. ok_or (count_form (codes "run") line.words) (BadCertLine line.no)))
       (λ m behind_run. and_read (λ steps rest. at_end steps rest) (next_lines (step_reading names) m behind_run))
-      (ReadsInOrder-next_line (λ line. ok_or (count_form (codes "run") line.words) (BadCertLine line.no)) at-run)
-      (λ m. Settles-and_read (next_lines (step_reading names) m) (λ steps rest. at_end steps rest) (ReadsInOrder-next_lines (step_reading names) (at-step names) m) Settles-at_end)
+      (ReadsInOrder-next_line (λ line. ok_or (count_form (codes "run") line.words) (BadCertLine line.no)) at-run) Settles-steps
 
   run_if_some : List CertLine → Result (Option (List Step)) CertError
   run_if_some lines = and_then (λ steps. Ok (Some steps)) (run_reading names lines)
 
-  Settles-run_behind : Settles (run_behind names)
+  pub Settles-run_behind : Settles (run_behind names)
   unfolding run_if_some
   Settles-run_behind = record { refuses = refused }
     where
@@ -105,18 +115,21 @@ module _ (names : List (List ℕ)) where
           IsSettled-first run_if_some (run_behind names) line lines fault (λ rest. refl)
           ((Settles-and_then (run_reading names) (λ (steps : List Step). Some steps) Settles-run_reading).refuses (line ∷ lines) fault e some)
 
-  circle_made : List (ℕ × ℕ) → Option (List Step) → CircleCertificate
-  circle_made arcs steps = record { arcs = arcs; steps = steps }
+  -- what is read behind the arcs of a circle, and behind its number
+  abbrev pub behind_arcs : List (ℕ × ℕ) → List CertLine → Result CircleCertificate CertError
+  behind_arcs arcs rest = and_then (λ steps. Ok (circle_made arcs steps)) (run_behind names rest)
+
+  abbrev pub behind_circle : ℕ → List CertLine → Result CircleCertificate CertError
+  behind_circle n lines = and_read behind_arcs (next_lines (arc_reading names) n lines)
+
+  pub Settles-behind_arcs : (arcs : List (ℕ × ℕ)) → Settles (behind_arcs arcs)
+  Settles-behind_arcs arcs = Settles-and_then (run_behind names) (circle_made arcs) Settles-run_behind
+
+  pub Settles-behind_circle : (n : ℕ) → Settles (behind_circle n)
+  Settles-behind_circle n = Settles-and_read (next_lines (arc_reading names) n) behind_arcs (ReadsInOrder-next_lines (arc_reading names) (at-arc names) n) Settles-behind_arcs
 
   pub Settles-circle_reading : Settles (circle_reading names)
-  unfolding circle_made
-  Settles-circle_reading =
-      Settles-and_read (next_line circle_count_reading)
-      (λ n behind_circle. and_read (λ arcs rest. and_then (λ steps. Ok (circle_made arcs steps)) (run_behind names rest)) (next_lines (arc_reading names) n behind_circle))
-      (ReadsInOrder-next_line circle_count_reading at-circle)
-      (λ n. Settles-and_read (next_lines (arc_reading names) n) (λ arcs rest. and_then (λ steps. Ok (circle_made arcs steps)) (run_behind names rest))
-      (ReadsInOrder-next_lines (arc_reading names) (at-arc names) n)
-      (λ arcs. Settles-and_then (run_behind names) (circle_made arcs) Settles-run_behind))
+  Settles-circle_reading = Settles-and_read (next_line circle_count_reading) behind_circle (ReadsInOrder-next_line circle_count_reading at-circle) Settles-behind_circle
 
 -- ---- workqueues
 
@@ -143,25 +156,34 @@ module _ (names : List (List ℕ)) (p : Partition) where
 
   -- ---- plans
 
-  Settles-chain_reading : Settles (chain_reading names)
-  Settles-chain_reading =
-      Settles-and_read (next_line (count_reading (codes "chain")))
-      (λ n behind_chain. and_read (λ arcs rest. at_end (n, arcs) rest) (next_lines (arc_reading names) (n - 1) behind_chain))
-      (ReadsInOrder-next_line (count_reading (codes "chain")) (at-count (codes "chain")))
-      (λ n. Settles-and_read (next_lines (arc_reading names) (n - 1)) (λ arcs rest. at_end (n, arcs) rest) (ReadsInOrder-next_lines (arc_reading names) (at-arc names) (n - 1))
-      (λ arcs. Settles-at_end {V = ℕ × List (ℕ × ℕ)} (n, arcs)))
+  -- what is read behind the number of a chain
+  abbrev pub behind_chain : ℕ → List CertLine → Result (ℕ × List (ℕ × ℕ)) CertError
+  behind_chain n lines = and_read (λ arcs rest. at_end (n, arcs) rest) (next_lines (arc_reading names) (n - 1) lines)
 
-  plan_made : Assignment → ℕ × List (ℕ × ℕ) → PlanCertificate
-  plan_made assignment chain = record { assignment = assignment; length = chain.0; arcs = chain.1 }
+  pub Settles-behind_chain : (n : ℕ) → Settles (behind_chain n)
+  Settles-behind_chain n =
+      Settles-and_read (next_lines (arc_reading names) (n - 1)) (λ arcs rest. at_end (n, arcs) rest) (ReadsInOrder-next_lines (arc_reading names) (at-arc names) (n - 1))
+      (λ arcs. Settles-at_end {V = ℕ × List (ℕ × ℕ)} (n, arcs))
+
+  pub Settles-chain_reading : Settles (chain_reading names)
+  Settles-chain_reading =
+      Settles-and_read (next_line (count_reading (codes "chain"))) behind_chain (ReadsInOrder-next_line (count_reading (codes "chain")) (at-count (codes "chain"))) Settles-behind_chain
+
+  -- what is read behind the workqueues of a plan, and behind their number
+  abbrev pub behind_assignment : Assignment → List CertLine → Result PlanCertificate CertError
+  behind_assignment assignment lines = and_then (λ chain. Ok (plan_made assignment chain)) (chain_reading names lines)
+
+  abbrev pub behind_lanes : ℕ → List CertLine → Result PlanCertificate CertError
+  behind_lanes lanes lines = and_read behind_assignment (counted_assignment names p lanes lines)
+
+  pub Settles-behind_assignment : (assignment : Assignment) → Settles (behind_assignment assignment)
+  Settles-behind_assignment assignment = Settles-and_then (chain_reading names) (plan_made assignment) Settles-chain_reading
+
+  pub Settles-behind_lanes : (lanes : ℕ) → Settles (behind_lanes lanes)
+  Settles-behind_lanes lanes = Settles-and_read (counted_assignment names p lanes) behind_assignment (ReadsInOrder-counted lanes) Settles-behind_assignment
 
   pub Settles-plan_reading : Settles (plan_reading names p)
-  unfolding plan_made
-  Settles-plan_reading =
-      Settles-and_read (next_line (count_reading (codes "plan")))
-      (λ lanes behind_plan. and_read (λ assignment behind_workqueues. and_then (λ chain. Ok (plan_made assignment chain)) (chain_reading names behind_workqueues)) (counted_assignment names p lanes behind_plan))
-      (ReadsInOrder-next_line (count_reading (codes "plan")) (at-count (codes "plan")))
-      (λ lanes. Settles-and_read (counted_assignment names p lanes) (λ assignment behind_workqueues. and_then (λ chain. Ok (plan_made assignment chain)) (chain_reading names behind_workqueues)) (ReadsInOrder-counted lanes)
-      (λ assignment. Settles-and_then (chain_reading names) (plan_made assignment) Settles-chain_reading))
+  Settles-plan_reading = Settles-and_read (next_line (count_reading (codes "plan"))) behind_lanes (ReadsInOrder-next_line (count_reading (codes "plan")) (at-count (codes "plan"))) Settles-behind_lanes
 
   -- ---- workqueues alone
 

@@ -33,3 +33,6 @@ pub mod WorkqueueRows
 pub mod MissingItems
 pub mod LinesBehind
 pub mod CutShort
+pub mod JudgedLines
+pub mod LineRows
+pub mod GrowthLemmas

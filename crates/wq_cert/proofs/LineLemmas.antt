@@ -7,20 +7,13 @@ use Rattle.std.proofs.lemmas.List.{map-append}
 use Rattle.std.proofs.lemmas.List.Elements.{filter-append}
 use Rattle.std.proofs.lemmas.Grind.{flat_map-append}
 use Rattle.wq_items.proofs.TableLemmas.{range_with_len-append}
-use Rattle.wq_cert.specs.LineText.{spaced, line_text}
+use Rattle.wq_lines.specs.LineText.{spaced, line_text}
 use Rattle.wq_items.specs.Table.{items_at}
 use Rattle.wq_cert.specs.PlanText.{name_of, wq_line}
 
 -- the numbers below n + 1 are those below n, and n
 pub range_with_len-more : (n : ℕ) → range_with_len 0 (n + 1) ≡ range_with_len 0 n ++ (n ∷ [])
 range_with_len-more n = range_with_len-append 0 n 1 ∙ ap (λ (k : ℕ). range_with_len 0 n ++ (k ∷ [])) (omega arith)
-
--- a line of three words
-pub line_text-three : (out w a b : List ℕ) → (((out ++ w) ++ spaced a) ++ spaced b) ++ (10 ∷ []) ≡ out ++ line_text (w ∷ a ∷ b ∷ [])
-line_text-three out w a b =
-    let end : List ℕ = 10 ∷ [] in
-    append_assoc ((out ++ w) ++ spaced a) (spaced b) end ∙ append_assoc (out ++ w) (spaced a) (spaced b ++ end) ∙ append_assoc out w (spaced a ++ (spaced b ++ end))
-    ∙ ap (λ (ls : List ℕ). out ++ (w ++ ls)) (sym (append_assoc (spaced a) (spaced b ++ []) end ∙ ap (λ (l : List ℕ). spaced a ++ (l ++ end)) (append-nil (spaced b))))
 
 -- ---- `wq Q` and names
 

@@ -2,10 +2,9 @@
 use Rattle.std.proofs.Common.{◌≡◌, ◌≢◌, ℕ, ◌-◌, List, [], ◌∷◌, ◌++◌, Option, Some, None, Result, Ok, Err, refl, sym, ap, subst, ◌∙◌, append_assoc}
 use Rattle.std.specs.Prelude.{codes, ok_or}
 use Rattle.wq_core.specs.declared.step.Step.{Step}
-use Rattle.wq_groups.specs.Assignment.{Assignment}
 use Rattle.wq_groups.specs.Partition.{Partition}
 use Rattle.wq_cert.proofs.FirstLines.{ReadsInOrder, read_and, ReadsInOrder-next_line, ReadsInOrder-next_lines}
-use Rattle.wq_cert.proofs.FirstReaders.{at-count, at-circle, at-run, at-arc, at-step, ReadsInOrder-counted}
+use Rattle.wq_cert.proofs.FirstReaders.{circle_made, plan_made, at-count, at-circle, at-run, at-arc, at-step, ReadsInOrder-counted}
 use Rattle.wq_cert.proofs.SpelledLines.{same_ok, at_end-Ok}
 use Rattle.wq_cert.specs.Certificate.{PlanCertificate, CircleCertificate}
 use Rattle.wq_cert.specs.declared.fault.CertError.{CertError}
@@ -52,12 +51,6 @@ Ends-and_then {V} {W} P Q read made holds_of ends = record { refused = λ lines 
         ap (and_then (λ v. Ok (made v))) (ends.refused lines v line behind is (holds_of v (subst Q (sym (same_ok (made v) w e)) holds)))
 
 -- ---- plans, runs and circles
-
-abbrev pub plan_made : Assignment → ℕ × List (ℕ × ℕ) → PlanCertificate
-plan_made assignment chain = record { assignment = assignment; length = chain.0; arcs = chain.1 }
-
-abbrev circle_made : List (ℕ × ℕ) → Option (List Step) → CircleCertificate
-circle_made arcs steps = record { arcs = arcs; steps = steps }
 
 module _ (names : List (List ℕ)) (p : Partition) where
   Ends-chain_reading : Ends AnyValue (chain_reading names)

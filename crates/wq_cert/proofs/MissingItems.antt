@@ -7,7 +7,7 @@ use Rattle.wq_groups.specs.Partition.{Partition}
 use Rattle.wq_cert.proofs.PlanTurns.{behind_workqueues, behind_plan, plan_reading-turn}
 use Rattle.wq_cert.proofs.WorkqueueLists.{Contains-hold_all, AreGrown-workqueues}
 use Rattle.wq_cert.proofs.WorkqueueRows.{AreGrown-first, lines_from, GrownBy, and_all, all_by}
-use Rattle.wq_cert.proofs.SpelledLines.{begun_line, count_words, IsCount, IsReadBy-count}
+use Rattle.wq_cert.proofs.SpelledLines.{begun_line, IsCount, IsReadBy-count}
 use Rattle.wq_cert.proofs.SpelledWorkqueues.{said_next, first_grown, GrowsTo-lines, whole_assignment-workqueues}
 use Rattle.wq_cert.specs.declared.fault.CertError.{CertError}
 use Rattle.wq_cert.specs.declared.fault.CertError.TheVariants.{BadCertLine, NotAllItems}
@@ -17,6 +17,7 @@ use Rattle.wq_cert.specs.PlanText.{plan_line, workqueue_line}
 use Rattle.wq_cert.specs.WorkqueueRows.{AreFirstWorkqueues, AllStand, begins_workqueue}
 use Rattle.wq_items.specs.Building.{and_then}
 use Rattle.wq_cert.specs.Reading.{Read, and_read, at_end, count_reading, all_workqueues, hold_all, assignment_of, whole_assignment, plan_reading, workqueues_reading}
+use Rattle.wq_cert.specs.LineRows.{count_words}
 use Rattle.wq_cert.specs.Spelled.{words_in, workqueue_lines, AreWorkqueues}
 
 -- ---- where the workqueues end

@@ -1,37 +1,33 @@
 -- What a line says: its words are those of the form.
-use Rattle.std.proofs.Common.{◌≡◌, ◌≢◌, ℕ, ◌<◌, ◌≤◌, ◌^◌, inl, inr, Bool, cond, List, [], ◌∷◌, length, map, Option, Some, None, refl, ap, ap₂, subst, ◌∙◌, arith}
-use Rattle.std.specs.Prelude.{AllPairs, bytes_eq, codes, decimal}
+use Rattle.std.proofs.Common.{◌≡◌, ◌≢◌, ℕ, ◌<◌, ◌^◌, inl, inr, Bool, true, false, cond, List, [], ◌∷◌, length, map, Option, Some, None, refl, ap, ap₂, subst, ◌∙◌, arith}
+use Rattle.std.specs.Prelude.{AllPairs, bytes_eq, codes, decimal, IfSome, IsSomeAnd}
 use Rattle.std.specs.List.{AllByRecursion}
 use Rattle.std.specs.Option.{option_zip, option_and_then}
-use Rattle.std.proofs.lemmas.Bool.{ltb-false}
+use Rattle.std.proofs.lemmas.Bool.{ltb-false, lt-ltb, le-ltb}
 use Rattle.wq_items.specs.Table.{item_named}
 use Rattle.wq_groups.proofs.Among.{same_name, bytes_eq-same}
 use Rattle.wq_core.specs.declared.step.Step.{Step}
 use Rattle.wq_core.specs.declared.step.Step.TheVariants.{Queue, Cancel, Start, Wait, Over, Finish}
 use Rattle.wq_cert.specs.Forms.{number_of, items_of, count_form, wq_form, arc_form, item_step, lane_step, step_form}
-use Rattle.wq_cert.specs.PlanText.{name_of, arc_line, workqueue_line}
+use Rattle.wq_cert.specs.PlanText.{name_of, workqueue_line}
 use Rattle.wq_cert.specs.RunText.{item_in, step_line}
-use Rattle.wq_cert.specs.Ranges.{IsArcOf, IsStepOf}
+use Rattle.wq_cert.specs.LineRows.{SpellsCount, SpellsArc, SpellsStep, lane_in}
+use Rattle.wq_cert.specs.Reading.{names_far_lane}
 use Rattle.wq_cert.proofs.SpelledNumbers.{guarded, one_of, AreBoth-zip, zip-AreBoth, Spells-number_of, number_of-Spells, Names-item_named, item_named-name_of, AreNames-items_of, items_of-names_of}
 
 -- ---- counts
 
--- `KEYWORD N`
-pub record IsCountLine (keyword : List ℕ) (words : List (List ℕ)) (n : ℕ) : Type 0 where
-  pub words_are : words ≡ keyword ∷ decimal n ∷ []
-  pub fits : n < 2 ^ 32
-
-pub IsCountLine-count_form : (keyword : List ℕ) (words : List (List ℕ)) (n : ℕ) → count_form keyword words ≡ Some n → IsCountLine keyword words n
-IsCountLine-count_form keyword [] n e = absurd cc
-IsCountLine-count_form keyword (word ∷ []) n e = absurd cc
-IsCountLine-count_form keyword (word ∷ number ∷ []) n e =
+pub SpellsCount-count_form : (keyword : List ℕ) (words : List (List ℕ)) (n : ℕ) → count_form keyword words ≡ Some n → SpellsCount keyword words n
+SpellsCount-count_form keyword [] n e = absurd cc
+SpellsCount-count_form keyword (word ∷ []) n e = absurd cc
+SpellsCount-count_form keyword (word ∷ number ∷ []) n e =
     let found = guarded (bytes_eq word keyword) (number_of number) n e in
     let spelled = Spells-number_of number n found.1 in
     record { words_are = ap₂ (λ (w m : List ℕ). w ∷ m ∷ []) (same_name word keyword found.0) spelled.digits; fits = spelled.fits }
-IsCountLine-count_form keyword (word ∷ number ∷ more ∷ words) n e = absurd cc
+SpellsCount-count_form keyword (word ∷ number ∷ more ∷ words) n e = absurd cc
 
-pub count_form-IsCountLine : (keyword : List ℕ) (words : List (List ℕ)) (n : ℕ) → IsCountLine keyword words n → count_form keyword words ≡ Some n
-count_form-IsCountLine keyword words n line =
+pub count_form-SpellsCount : (keyword : List ℕ) (words : List (List ℕ)) (n : ℕ) → SpellsCount keyword words n → count_form keyword words ≡ Some n
+count_form-SpellsCount keyword words n line =
     ap (count_form keyword) line.words_are ∙ ap (λ (b : Bool). cond b (number_of (decimal n)) None) (bytes_eq-same keyword keyword refl)
     ∙ number_of-Spells (decimal n) n (record { fits = line.fits; digits = refl })
 
@@ -66,16 +62,11 @@ wq_form-IsWorkqueueLine names words differ workqueue line =
 
 -- ---- arcs
 
--- `arc NAME TARGET`
-pub record IsArcLine (names words : List (List ℕ)) (arc : ℕ × ℕ) : Type 0 where
-  pub words_are : words ≡ arc_line names arc
-  pub known : IsArcOf (length names) arc
-
-pub IsArcLine-arc_form : (names words : List (List ℕ)) (arc : ℕ × ℕ) → arc_form names words ≡ Some arc → IsArcLine names words arc
-IsArcLine-arc_form names [] arc e = absurd cc
-IsArcLine-arc_form names (word ∷ []) arc e = absurd cc
-IsArcLine-arc_form names (word ∷ item ∷ []) arc e = absurd cc
-IsArcLine-arc_form names (word ∷ item ∷ target ∷ []) arc e =
+pub SpellsArc-arc_form : (names words : List (List ℕ)) (arc : ℕ × ℕ) → arc_form names words ≡ Some arc → SpellsArc names words arc
+SpellsArc-arc_form names [] arc e = absurd cc
+SpellsArc-arc_form names (word ∷ []) arc e = absurd cc
+SpellsArc-arc_form names (word ∷ item ∷ []) arc e = absurd cc
+SpellsArc-arc_form names (word ∷ item ∷ target ∷ []) arc e =
     let found = guarded (bytes_eq word (codes "arc")) (option_zip (item_named names item) (item_named names target)) arc e in
     let both = AreBoth-zip (item_named names item) (item_named names target) arc found.1 in
     let one = Names-item_named names item arc.0 both.left in
@@ -84,10 +75,10 @@ IsArcLine-arc_form names (word ∷ item ∷ target ∷ []) arc e =
       words_are = ap (λ (w : List ℕ). w ∷ item ∷ target ∷ []) (same_name word (codes "arc") found.0) ∙ ap₂ (λ (a b : List ℕ). codes "arc" ∷ a ∷ b ∷ []) one.name other.name;
       known = (one.known, other.known);
     }
-IsArcLine-arc_form names (word ∷ item ∷ target ∷ more ∷ words) arc e = absurd cc
+SpellsArc-arc_form names (word ∷ item ∷ target ∷ more ∷ words) arc e = absurd cc
 
-pub arc_form-IsArcLine : (names words : List (List ℕ)) → AllPairs (λ (a b : List ℕ). a ≢ b) names → (arc : ℕ × ℕ) → IsArcLine names words arc → arc_form names words ≡ Some arc
-arc_form-IsArcLine names words differ arc line =
+pub arc_form-SpellsArc : (names words : List (List ℕ)) → AllPairs (λ (a b : List ℕ). a ≢ b) names → (arc : ℕ × ℕ) → SpellsArc names words arc → arc_form names words ≡ Some arc
+arc_form-SpellsArc names words differ arc line =
     ap (arc_form names) line.words_are ∙ zip-AreBoth (item_named names (name_of names arc.0)) (item_named names (name_of names arc.1)) arc (record {
       left = item_named-name_of names differ arc.0 line.known.0;
       right = item_named-name_of names differ arc.1 line.known.1;
@@ -95,42 +86,41 @@ arc_form-IsArcLine names words differ arc line =
 
 -- ---- steps
 
--- the line of a step
-pub record IsStepLine (names words : List (List ℕ)) (step : Step) : Type 0 where
-  pub words_are : words ≡ step_line names step
-  pub known : item_in step < length names
+-- the workqueue of a step, if it names one, is a number
+abbrev pub IsNumbered : Step → Type 0
+IsNumbered step = IfSome (lane_in step) (λ q. q < 2 ^ 32)
 
-IsStepLine-at : (names words others : List (List ℕ)) (step other : Step) → words ≡ others → other ≡ step → others ≡ step_line names other → item_in other < length names → IsStepLine names words step
-IsStepLine-at names words others step other same is line known =
-    subst (IsStepLine names words) is (record { words_are = same ∙ line; known = known })
+SpellsStep-at : (names words others : List (List ℕ)) (step other : Step) → words ≡ others → other ≡ step → others ≡ step_line names other → item_in other < length names → IsNumbered other → SpellsStep names words step
+SpellsStep-at names words others step other same is line known fits =
+    subst (SpellsStep names words) is (record { words_are = same ∙ line; known = known; fits = fits })
 
 module _ (names : List (List ℕ)) (i : ℕ) (known : i < length names) where
-  item_line : (word : List ℕ) (step : Step) → item_step word i ≡ Some step → IsStepLine names (word ∷ name_of names i ∷ []) step
+  item_line : (word : List ℕ) (step : Step) → item_step word i ≡ Some step → SpellsStep names (word ∷ name_of names i ∷ []) step
   item_line word step e =
       let words : List ℕ → List (List ℕ) = λ w. w ∷ name_of names i ∷ [] in
       let rest : Option Step = cond (bytes_eq word (codes "cancel")) (Some (Cancel i)) None in
       elim (one_of (bytes_eq word (codes "queue")) (Queue i) step rest e) [
-        | inl (here, is) ↦ IsStepLine-at names (words word) (words (codes "queue")) step (Queue i) (ap words (same_name word (codes "queue") here)) is refl known
+        | inl (here, is) ↦ SpellsStep-at names (words word) (words (codes "queue")) step (Queue i) (ap words (same_name word (codes "queue") here)) is refl known tt
         | inr later ↦ elim (one_of (bytes_eq word (codes "cancel")) (Cancel i) step None later) [
-          | inl (here, is) ↦ IsStepLine-at names (words word) (words (codes "cancel")) step (Cancel i) (ap words (same_name word (codes "cancel") here)) is refl known
+          | inl (here, is) ↦ SpellsStep-at names (words word) (words (codes "cancel")) step (Cancel i) (ap words (same_name word (codes "cancel") here)) is refl known tt
           | inr none ↦ absurd (cc)
         ]
       ]
 
-  lane_line : (word : List ℕ) (q : ℕ) (step : Step) → lane_step word q i ≡ Some step → IsStepLine names (word ∷ decimal q ∷ name_of names i ∷ []) step
-  lane_line word q step e =
+  lane_line : (word : List ℕ) (q : ℕ) (step : Step) → q < 2 ^ 32 → lane_step word q i ≡ Some step → SpellsStep names (word ∷ decimal q ∷ name_of names i ∷ []) step
+  lane_line word q step fits e =
       let words : List ℕ → List (List ℕ) = λ w. w ∷ decimal q ∷ name_of names i ∷ [] in
       let finish : Option Step = cond (bytes_eq word (codes "finish")) (Some (Finish q i)) None in
       let over : Option Step = cond (bytes_eq word (codes "over")) (Some (Over q i)) finish in
       let wait : Option Step = cond (bytes_eq word (codes "wait")) (Some (Wait q i)) over in
       elim (one_of (bytes_eq word (codes "start")) (Start q i) step wait e) [
-        | inl (here, is) ↦ IsStepLine-at names (words word) (words (codes "start")) step (Start q i) (ap words (same_name word (codes "start") here)) is refl known
+        | inl (here, is) ↦ SpellsStep-at names (words word) (words (codes "start")) step (Start q i) (ap words (same_name word (codes "start") here)) is refl known fits
         | inr a ↦ elim (one_of (bytes_eq word (codes "wait")) (Wait q i) step over a) [
-          | inl (here, is) ↦ IsStepLine-at names (words word) (words (codes "wait")) step (Wait q i) (ap words (same_name word (codes "wait") here)) is refl known
+          | inl (here, is) ↦ SpellsStep-at names (words word) (words (codes "wait")) step (Wait q i) (ap words (same_name word (codes "wait") here)) is refl known fits
           | inr b ↦ elim (one_of (bytes_eq word (codes "over")) (Over q i) step finish b) [
-            | inl (here, is) ↦ IsStepLine-at names (words word) (words (codes "over")) step (Over q i) (ap words (same_name word (codes "over") here)) is refl known
+            | inl (here, is) ↦ SpellsStep-at names (words word) (words (codes "over")) step (Over q i) (ap words (same_name word (codes "over") here)) is refl known fits
             | inr d ↦ elim (one_of (bytes_eq word (codes "finish")) (Finish q i) step None d) [
-              | inl (here, is) ↦ IsStepLine-at names (words word) (words (codes "finish")) step (Finish q i) (ap words (same_name word (codes "finish") here)) is refl known
+              | inl (here, is) ↦ SpellsStep-at names (words word) (words (codes "finish")) step (Finish q i) (ap words (same_name word (codes "finish") here)) is refl known fits
               | inr none ↦ absurd (cc)
             ]
           ]
@@ -142,42 +132,68 @@ chained : {X Y : Type 0} (f : X → Option Y) (o : Option X) (y : Y) → option_
 chained f None y e = absurd cc
 chained f (Some x) y e = (x, refl, e)
 
-IsStepLine-words : (names words others : List (List ℕ)) (step : Step) → words ≡ others → IsStepLine names others step → IsStepLine names words step
-IsStepLine-words names words others step same line = record { words_are = same ∙ line.words_are; known = line.known }
+SpellsStep-words : (names words others : List (List ℕ)) (step : Step) → words ≡ others → SpellsStep names others step → SpellsStep names words step
+SpellsStep-words names words others step same line = record { words_are = same ∙ line.words_are; known = line.known; fits = line.fits }
 
-pub IsStepLine-step_form : (names words : List (List ℕ)) (step : Step) → step_form names words ≡ Some step → IsStepLine names words step
-IsStepLine-step_form names [] step e = absurd cc
-IsStepLine-step_form names (word ∷ []) step e = absurd cc
-IsStepLine-step_form names (word ∷ item ∷ []) step e =
+pub SpellsStep-step_form : (names words : List (List ℕ)) (step : Step) → step_form names words ≡ Some step → SpellsStep names words step
+SpellsStep-step_form names [] step e = absurd cc
+SpellsStep-step_form names (word ∷ []) step e = absurd cc
+SpellsStep-step_form names (word ∷ item ∷ []) step e =
     let found = chained (item_step word) (item_named names item) step e in
     let named = Names-item_named names item found.0 found.1 in
-    IsStepLine-words names (word ∷ item ∷ []) (word ∷ name_of names found.0 ∷ []) step (ap (λ (w : List ℕ). word ∷ w ∷ []) named.name)
+    SpellsStep-words names (word ∷ item ∷ []) (word ∷ name_of names found.0 ∷ []) step (ap (λ (w : List ℕ). word ∷ w ∷ []) named.name)
     (item_line names found.0 named.known word step found.2)
-IsStepLine-step_form names (word ∷ lane ∷ item ∷ []) step e =
+SpellsStep-step_form names (word ∷ lane ∷ item ∷ []) step e =
     let found = chained {X = ℕ × ℕ} (λ p. lane_step word p.0 p.1) (option_zip (number_of lane) (item_named names item)) step e in
     let both = AreBoth-zip (number_of lane) (item_named names item) found.0 found.1 in
     let spelled = Spells-number_of lane found.0.0 both.left in
     let named = Names-item_named names item found.0.1 both.right in
-    IsStepLine-words names (word ∷ lane ∷ item ∷ []) (word ∷ decimal found.0.0 ∷ name_of names found.0.1 ∷ []) step (ap₂ (λ (n w : List ℕ). word ∷ n ∷ w ∷ []) spelled.digits named.name)
-    (lane_line names found.0.1 named.known word found.0.0 step found.2)
-IsStepLine-step_form names (word ∷ lane ∷ item ∷ more ∷ words) step e = absurd cc
+    SpellsStep-words names (word ∷ lane ∷ item ∷ []) (word ∷ decimal found.0.0 ∷ name_of names found.0.1 ∷ []) step (ap₂ (λ (n w : List ℕ). word ∷ n ∷ w ∷ []) spelled.digits named.name)
+    (lane_line names found.0.1 named.known word found.0.0 step spelled.fits found.2)
+SpellsStep-step_form names (word ∷ lane ∷ item ∷ more ∷ words) step e = absurd cc
 
 module _ (names : List (List ℕ)) (differ : AllPairs (λ (a b : List ℕ). a ≢ b) names) where
   item_said : (word : List ℕ) (i : ℕ) → i < length names → step_form names (word ∷ name_of names i ∷ []) ≡ item_step word i
   item_said word i known = ap (option_and_then (item_step word)) (item_named-name_of names differ i known)
 
-  lane_said : (word : List ℕ) (q i : ℕ) → i < length names → q ≤ 4095 → step_form names (word ∷ decimal q ∷ name_of names i ∷ []) ≡ lane_step word q i
-  lane_said word q i known near =
+  lane_said : (word : List ℕ) (q i : ℕ) → i < length names → q < 2 ^ 32 → step_form names (word ∷ decimal q ∷ name_of names i ∷ []) ≡ lane_step word q i
+  lane_said word q i known fits =
       let step : ℕ × ℕ → Option Step = λ p. lane_step word p.0 p.1 in
       ap (λ (o : Option (ℕ × ℕ)). option_and_then step o) (zip-AreBoth (number_of (decimal q)) (item_named names (name_of names i)) (q, i) (record {
-        left = number_of-Spells (decimal q) q (record { fits = omega arith; digits = refl });
+        left = number_of-Spells (decimal q) q (record { fits = fits; digits = refl });
         right = item_named-name_of names differ i known;
       }))
 
-  pub step_form-line : (step : Step) → IsStepOf (length names) step → step_form names (step_line names step) ≡ Some step
-  step_form-line (Queue i) h = item_said (codes "queue") i h.0
-  step_form-line (Cancel i) h = item_said (codes "cancel") i h.0
-  step_form-line (Start q i) h = lane_said (codes "start") q i h.0 (ltb-false 4095 q h.1)
-  step_form-line (Wait q b) h = lane_said (codes "wait") q b h.0 (ltb-false 4095 q h.1)
-  step_form-line (Over q b) h = lane_said (codes "over") q b h.0 (ltb-false 4095 q h.1)
-  step_form-line (Finish q i) h = lane_said (codes "finish") q i h.0 (ltb-false 4095 q h.1)
+  pub step_form-line : (step : Step) → item_in step < length names → IsNumbered step → step_form names (step_line names step) ≡ Some step
+  step_form-line (Queue i) known fits = item_said (codes "queue") i known
+  step_form-line (Cancel i) known fits = item_said (codes "cancel") i known
+  step_form-line (Start q i) known fits = lane_said (codes "start") q i known fits
+  step_form-line (Wait q b) known fits = lane_said (codes "wait") q b known fits
+  step_form-line (Over q b) known fits = lane_said (codes "over") q b known fits
+  step_form-line (Finish q i) known fits = lane_said (codes "finish") q i known fits
+
+-- a workqueue that isn't far is a number
+pub IsNumbered-near : (step : Step) → names_far_lane step ≡ false → IsNumbered step
+IsNumbered-near (Queue i) near = tt
+IsNumbered-near (Cancel i) near = tt
+IsNumbered-near (Start q i) near = omega (arith, ltb-false 4095 q near)
+IsNumbered-near (Wait q b) near = omega (arith, ltb-false 4095 q near)
+IsNumbered-near (Over q b) near = omega (arith, ltb-false 4095 q near)
+IsNumbered-near (Finish q i) near = omega (arith, ltb-false 4095 q near)
+
+-- a step of which no workqueue above 4,095 is named
+pub names_far_lane-near : (step : Step) → (IsSomeAnd (lane_in step) (λ q. 4095 < q) → ⊥) → names_far_lane step ≡ false
+names_far_lane-near (Queue i) near = refl
+names_far_lane-near (Cancel i) near = refl
+names_far_lane-near (Start q i) near = le-ltb 4095 q (omega (arith, near))
+names_far_lane-near (Wait q b) near = le-ltb 4095 q (omega (arith, near))
+names_far_lane-near (Over q b) near = le-ltb 4095 q (omega (arith, near))
+names_far_lane-near (Finish q i) near = le-ltb 4095 q (omega (arith, near))
+
+pub names_far_lane-far : (step : Step) → IsSomeAnd (lane_in step) (λ q. 4095 < q) → names_far_lane step ≡ true
+names_far_lane-far (Queue i) far = absurd far
+names_far_lane-far (Cancel i) far = absurd far
+names_far_lane-far (Start q i) far = lt-ltb 4095 q far
+names_far_lane-far (Wait q b) far = lt-ltb 4095 q far
+names_far_lane-far (Over q b) far = lt-ltb 4095 q far
+names_far_lane-far (Finish q i) far = lt-ltb 4095 q far

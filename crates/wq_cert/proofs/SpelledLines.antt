@@ -1,6 +1,6 @@
 -- Lines that are read one after the other, where each value has words of its own.
 use Rattle.std.proofs.Common.{◌≡◌, ◌≢◌, ℕ, zero, suc, ◌<◌, ◌≤◌, ◌^◌, Bool, true, false, cond, ltb, eqb, List, [], ◌∷◌, ◌++◌, length, map, Option, Some, None, Result, Ok, Err, refl, sym, ap, ap₂, subst, ◌∙◌, arith}
-use Rattle.std.specs.Prelude.{AllPairs, codes, decimal, ok_or}
+use Rattle.std.specs.Prelude.{AllPairs, codes, ok_or}
 use Rattle.std.specs.List.{AllByRecursion}
 use Rattle.std.proofs.lemmas.Bool.{le-ltb, ltb-false, eqb-false, ne_eqb}
 use Rattle.wq_core.specs.declared.step.Step.{Step}
@@ -13,8 +13,9 @@ use Rattle.wq_cert.specs.RunText.{step_line}
 use Rattle.wq_cert.specs.Ranges.{IsArcOf, IsStepOf}
 use Rattle.wq_items.specs.Building.{and_then}
 use Rattle.wq_cert.specs.Reading.{Read, and_read, next_line, next_lines, at_end, count_reading, circle_count_reading, arc_reading, names_far_lane, step_reading}
+use Rattle.wq_cert.specs.LineRows.{SpellsCount, count_words}
 use Rattle.wq_cert.specs.Spelled.{words_in}
-use Rattle.wq_cert.proofs.SpelledForms.{IsCountLine, IsCountLine-count_form, count_form-IsCountLine, IsArcLine-arc_form, arc_form-IsArcLine, IsStepLine-step_form, step_form-line}
+use Rattle.wq_cert.proofs.SpelledForms.{SpellsCount-count_form, count_form-SpellsCount, SpellsArc-arc_form, arc_form-SpellsArc, SpellsStep-step_form, step_form-line, IsNumbered-near}
 
 -- ---- what follows a value
 
@@ -159,9 +160,6 @@ module _ {V : Type 0} (read : CertLine → Result V CertError) (show : V → Lis
 
 -- ---- counts
 
-abbrev pub count_words : List ℕ → ℕ → List (List ℕ)
-count_words keyword n = keyword ∷ decimal n ∷ []
-
 abbrev pub IsCount : ℕ → Type 0
 IsCount n = n ≤ 4096
 
@@ -169,12 +167,12 @@ module _ (keyword : List ℕ) where
   abbrev near : ℕ → ℕ → Result ℕ CertError
   near line n = cond (ltb 4096 n) (Err (NumberOutOfRange line)) (Ok n)
 
-  count_found : (line : CertLine) (n : ℕ) → count_reading keyword line ≡ Ok n → IsCountLine keyword line.words n × (n ≤ 4096)
+  count_found : (line : CertLine) (n : ℕ) → count_reading keyword line ≡ Ok n → SpellsCount keyword line.words n × (n ≤ 4096)
   count_found line n e =
       let found = Follows-and_then (near line.no) (ok_or (count_form keyword line.words) (BadCertLine line.no)) n e in
       let small = passed (ltb 4096 found.value) (NumberOutOfRange line.no) found.value n found.then in
       let is : count_form keyword line.words ≡ Some n = Some-ok_or (count_form keyword line.words) (BadCertLine line.no) found.value found.first ∙ ap (λ (m : ℕ). Some m) small.1 in
-      (IsCountLine-count_form keyword line.words n is, omega (arith, ltb-false 4096 found.value small.0, small.1))
+      (SpellsCount-count_form keyword line.words n is, omega (arith, ltb-false 4096 found.value small.0, small.1))
 
   pub Shows-count : Shows (count_reading keyword) (count_words keyword) IsCount
   Shows-count = record { words_are = λ line n e. (count_found line n e).0.words_are; holds = λ line n e. (count_found line n e).1 }
@@ -182,7 +180,7 @@ module _ (keyword : List ℕ) where
   pub IsReadBy-count : IsReadBy (count_reading keyword) (count_words keyword) IsCount
   IsReadBy-count = record {
     said = λ line n words few.
-        ap (λ (o : Option ℕ). and_then (near line.no) (ok_or o (BadCertLine line.no))) (count_form-IsCountLine keyword line.words n (record { words_are = words; fits = omega arith }))
+        ap (λ (o : Option ℕ). and_then (near line.no) (ok_or o (BadCertLine line.no))) (count_form-SpellsCount keyword line.words n (record { words_are = words; fits = omega arith }))
         ∙ ap (λ (b : Bool). cond b (Err (NumberOutOfRange line.no)) (Ok n)) (le-ltb 4096 n few);
   }
 
@@ -219,8 +217,8 @@ run_count line = ok_or (count_form (codes "run") line.words) (BadCertLine line.n
 abbrev pub IsNumber : ℕ → Type 0
 IsNumber n = n < 2 ^ 32
 
-run_found : (line : CertLine) (n : ℕ) → run_count line ≡ Ok n → IsCountLine (codes "run") line.words n
-run_found line n e = IsCountLine-count_form (codes "run") line.words n (Some-ok_or (count_form (codes "run") line.words) (BadCertLine line.no) n e)
+run_found : (line : CertLine) (n : ℕ) → run_count line ≡ Ok n → SpellsCount (codes "run") line.words n
+run_found line n e = SpellsCount-count_form (codes "run") line.words n (Some-ok_or (count_form (codes "run") line.words) (BadCertLine line.no) n e)
 
 pub Shows-run : Shows run_count (count_words (codes "run")) IsNumber
 Shows-run = record { words_are = λ line n e. (run_found line n e).words_are; holds = λ line n e. (run_found line n e).fits }
@@ -228,7 +226,7 @@ Shows-run = record { words_are = λ line n e. (run_found line n e).words_are; ho
 pub IsReadBy-run : IsReadBy run_count (count_words (codes "run")) IsNumber
 IsReadBy-run = record {
   said = λ line n words fits.
-      ap (λ (o : Option ℕ). ok_or o (BadCertLine line.no)) (count_form-IsCountLine (codes "run") line.words n (record { words_are = words; fits = fits }));
+      ap (λ (o : Option ℕ). ok_or o (BadCertLine line.no)) (count_form-SpellsCount (codes "run") line.words n (record { words_are = words; fits = fits }));
 }
 
 -- ---- arcs and steps
@@ -239,8 +237,8 @@ module _ (names : List (List ℕ)) where
 
   pub Shows-arc : Shows (arc_reading names) (arc_line names) (IsArcOf (length names))
   Shows-arc = record {
-    words_are = λ line arc e. (IsArcLine-arc_form names line.words arc (arc_found line arc e)).words_are;
-    holds = λ line arc e. (IsArcLine-arc_form names line.words arc (arc_found line arc e)).known;
+    words_are = λ line arc e. (SpellsArc-arc_form names line.words arc (arc_found line arc e)).words_are;
+    holds = λ line arc e. (SpellsArc-arc_form names line.words arc (arc_found line arc e)).known;
   }
 
   abbrev near_step : ℕ → Step → Result Step CertError
@@ -255,20 +253,20 @@ module _ (names : List (List ℕ)) where
 
   pub Shows-step : Shows (step_reading names) (step_line names) (IsStepOf (length names))
   Shows-step = record {
-    words_are = λ line step e. (IsStepLine-step_form names line.words step (step_found line step e).0).words_are;
-    holds = λ line step e. ((IsStepLine-step_form names line.words step (step_found line step e).0).known, (step_found line step e).1);
+    words_are = λ line step e. (SpellsStep-step_form names line.words step (step_found line step e).0).words_are;
+    holds = λ line step e. ((SpellsStep-step_form names line.words step (step_found line step e).0).known, (step_found line step e).1);
   }
 
   module _ (differ : AllPairs (λ (a b : List ℕ). a ≢ b) names) where
     pub IsReadBy-arc : IsReadBy (arc_reading names) (arc_line names) (IsArcOf (length names))
     IsReadBy-arc = record {
       said = λ line arc words known.
-          ap (λ (o : Option (ℕ × ℕ)). ok_or o (BadCertLine line.no)) (arc_form-IsArcLine names line.words differ arc (record { words_are = words; known = known }));
+          ap (λ (o : Option (ℕ × ℕ)). ok_or o (BadCertLine line.no)) (arc_form-SpellsArc names line.words differ arc (record { words_are = words; known = known }));
     }
 
     pub IsReadBy-step : IsReadBy (step_reading names) (step_line names) (IsStepOf (length names))
     IsReadBy-step = record {
       said = λ line step words known.
-          ap (λ (o : Option Step). and_then (near_step line.no) (ok_or o (BadCertLine line.no))) (ap (step_form names) words ∙ step_form-line names differ step known)
+          ap (λ (o : Option Step). and_then (near_step line.no) (ok_or o (BadCertLine line.no))) (ap (step_form names) words ∙ step_form-line names differ step known.0 (IsNumbered-near step known.1))
           ∙ ap (λ (b : Bool). cond b (Err (NumberOutOfRange line.no)) (Ok step)) known.1;
     }

@@ -14,8 +14,9 @@ use Rattle.wq_cert.specs.RunText.{step_line}
 use Rattle.wq_cert.specs.Ranges.{IsArcOf, IsStepOf}
 use Rattle.wq_items.specs.Building.{and_then}
 use Rattle.wq_cert.specs.Reading.{and_read, next_line, next_lines, at_end, count_reading, circle_count_reading, arc_reading, step_reading, next_workqueues, all_workqueues, assignment_of, whole_assignment, plan_reading, run_reading, run_behind, circle_reading, workqueues_reading}
+use Rattle.wq_cert.specs.LineRows.{count_words}
 use Rattle.wq_cert.specs.Spelled.{words_in, workqueue_lines, count_line, SpellsPlan, SpellsRun, SpellsRunBehind, SpellsCircle, SpellsWorkqueues}
-use Rattle.wq_cert.proofs.SpelledLines.{Follows-and_then, FollowsRead-and_read, and_read-Ok, same_ok, at_end-Ok, no_words, shown_line, shown_lines, begun_line, begun_lines, count_words, IsCount, IsCircleCount, IsNumber, run_count, Shows-count, IsReadBy-count, Shows-circle, IsReadBy-circle, Shows-run, IsReadBy-run, Shows-arc, IsReadBy-arc, Shows-step, IsReadBy-step}
+use Rattle.wq_cert.proofs.SpelledLines.{Follows-and_then, FollowsRead-and_read, and_read-Ok, same_ok, at_end-Ok, no_words, shown_line, shown_lines, begun_line, begun_lines, IsCount, IsCircleCount, IsNumber, run_count, Shows-count, IsReadBy-count, Shows-circle, IsReadBy-circle, Shows-run, IsReadBy-run, Shows-arc, IsReadBy-arc, Shows-step, IsReadBy-step}
 use Rattle.wq_cert.proofs.WorkqueueLists.{AreGrown-none, AreGrown-workqueues}
 use Rattle.wq_cert.proofs.SpelledWorkqueues.{Grows-next_workqueues, Grows-all_workqueues, GrowsTo-lines, all_workqueues-lines, AreWhole-grown, whole_assignment-workqueues}
 

@@ -8,7 +8,6 @@ pub mod Forms
 pub mod Reading
 pub mod Noted
 pub mod Texts
-pub mod LineText
 pub mod PlanText
 pub mod RunText
 pub mod CircleText
@@ -16,3 +15,5 @@ pub mod Ranges
 pub mod Spelled
 pub mod FirstFaults
 pub mod WorkqueueRows
+pub mod LineRows
+pub mod Growth

@@ -2,7 +2,7 @@
 use Rattle.std.specs.Prelude.{ℕ, List, [], ◌∷◌, length, map, flat_map, codes, decimal}
 use Rattle.wq_core.specs.declared.step.Step.{Step}
 use Rattle.wq_core.specs.declared.step.Step.TheVariants.{Queue, Cancel, Start, Wait, Over, Finish}
-use Rattle.wq_cert.specs.LineText.{line_text}
+use Rattle.wq_lines.specs.LineText.{line_text}
 use Rattle.wq_cert.specs.PlanText.{name_of}
 
 -- `run M`: how many steps there are

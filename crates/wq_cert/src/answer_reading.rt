@@ -6,7 +6,9 @@
 ghost use Rattle.std.specs.Prelude.{◌≡◌, length, map, Ok, Err, None, IfOk, IfErr};
 ghost use Rattle.wq_text.specs.Limits.{limit_fault};
 ghost use Rattle.wq_cert.specs.Certificate.{certificate};
-ghost use Rattle.wq_cert.specs.Lines.{cert_line};
+ghost use Rattle.wq_text.specs.Lines.{lines_of};
+ghost use Rattle.wq_cert.specs.Growth.{BeginsWell, lines_before_memory};
+ghost use Rattle.wq_cert.specs.Lines.{cert_line, cert_lines};
 ghost use Rattle.wq_cert.specs.Reading.{plan_reading, answer_reading};
 ghost use Rattle.wq_cert.specs.Texts.{max_certificate, max_certificate_line, answer_of, IsCertFaultOf};
 ghost use Rattle.wq_cert.specs.declared.fault.CertError.TheVariants.{OutOfMemory};
@@ -33,6 +35,7 @@ pub(crate) fn read_plan<A: Allocator + Copy>(
     requires { length groups.now.group_of ≡ length table.now.names }
     ensures plan { IfOk result (λ plan. plan_reading table.now.names groups.now (map cert_line lines.entry) ≡ Ok (record { assignment = plan.0; length = plan.1; arcs = plan.2.items })) }
     ensures fault { IfErr result (λ e. IsCertFaultOf e (plan_reading table.now.names groups.now (map cert_line lines.entry))) }
+    ensures memory { result ≡ Err OutOfMemory → BeginsWell (plan_reading table.now.names groups.now) 1 (map cert_line lines.entry) }
 {
     let Some(first) = lines.next() else {
         return Err(CertError::BadCertLine { line: 0 });
@@ -53,6 +56,7 @@ fn read_answer_lines<A: Allocator + Copy>(
     requires { length groups.now.group_of ≡ length table.now.names }
     ensures answer { IfOk result (λ c. answer_reading table.now.names groups.now (map cert_line view.now) ≡ Ok (certificate c)) }
     ensures fault { IfErr result (λ e. IsCertFaultOf e (answer_reading table.now.names groups.now (map cert_line view.now))) }
+    ensures memory { result ≡ Err OutOfMemory → BeginsWell (answer_reading table.now.names groups.now) (lines_before_memory (map cert_line view.now)) (map cert_line view.now) }
 {
     let Some(first) = view.lines().next() else {
         return Err(CertError::BadCertLine { line: 0 });
@@ -85,8 +89,10 @@ pub fn read_answer<A: Allocator + Copy>(
     requires { length groups.now.group_of ≡ length table.now.names }
     ensures answer { IfOk result (λ c. answer_of table.now.names groups.now text.now ≡ Ok (certificate c)) }
     ensures fault { IfErr result (λ e. IsCertFaultOf e (answer_of table.now.names groups.now text.now)) }
-    // The limits are judged without memory.
+    // The limits are judged without memory, and so are `plan K`, or `circle N` and the first arc.
     ensures memory { result ≡ Err OutOfMemory → limit_fault max_certificate max_certificate_line text.now ≡ None }
+    ensures first_lines { result ≡ Err OutOfMemory
+        → BeginsWell (answer_reading table.now.names groups.now) (lines_before_memory (cert_lines (lines_of text.now))) (cert_lines (lines_of text.now)) }
 {
     let view = open(text)?;
     read_answer_lines(alloc, table, groups, &view)

@@ -4,12 +4,12 @@
 //! printed.
 
 ghost use Rattle.std.specs.Prelude.{◌≡◌, ◌<◌, ◌++◌, ℕ, length, OnOk};
-ghost use Rattle.wq_cert.specs.LineText.{line_text};
+ghost use Rattle.wq_lines.specs.LineText.{line_text};
 ghost use Rattle.wq_cert.specs.PlanText.{arc_line};
 
-use crate::lines::{put, put_end, put_word};
 use std::alloc::{AllocError, Allocator};
 use wq_items::{ItemId, ItemTable};
+use wq_lines::{put, put_end, put_word};
 
 /// Adds `arc NAME TARGET`.
 pub(crate) fn put_arc_line<A: Allocator + Copy>(

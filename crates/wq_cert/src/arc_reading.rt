@@ -3,10 +3,12 @@
 //! The texts are those of "Certificates" in docs/FORMAT.md. Reading takes time in the length of the lines, and memory in
 //! the number of the arcs and steps that stand there.
 
-ghost use Rattle.std.specs.Prelude.{◌≡◌, Ok, IfOk, IfErr, map, option_map};
+ghost use Rattle.std.specs.Prelude.{◌≡◌, Ok, Err, IfOk, IfErr, map, option_map};
+ghost use Rattle.wq_cert.specs.Growth.{ReadsOne, BeginsWell};
 ghost use Rattle.wq_cert.specs.Lines.{cert_line};
 ghost use Rattle.wq_cert.specs.Reading.{next_lines, arc_reading, chain_reading, circle_reading};
 ghost use Rattle.wq_cert.specs.Texts.{IsCertFaultOf};
+ghost use Rattle.wq_cert.specs.declared.fault.CertError.TheVariants.{OutOfMemory};
 
 use crate::fault::CertError;
 use crate::line_reading::{read_arc, read_circle_count, read_count};
@@ -25,6 +27,7 @@ fn read_arcs<A: Allocator + Copy>(
 ) -> Result<Vec<(ItemId, ItemId), A>, CertError>
     ensures arcs { IfOk result (λ arcs. next_lines (arc_reading table.now.names) count (map cert_line lines.old) ≡ Ok (arcs.items, map cert_line lines.new)) }
     ensures fault { IfErr result (λ e. IsCertFaultOf e (next_lines (arc_reading table.now.names) count (map cert_line lines.old))) }
+    ensures memory { result ≡ Err OutOfMemory → ReadsOne (arc_reading table.now.names) count (map cert_line lines.old) }
 {
     let mut arcs = Vec::new(alloc);
     for i in 0..count {
@@ -65,6 +68,7 @@ pub(crate) fn read_circle<A: Allocator + Copy>(
 ) -> Result<(Vec<(ItemId, ItemId), A>, Option<Vec<Step, A>>), CertError>
     ensures circle { IfOk result (λ circle. circle_reading table.now.names (map cert_line lines.entry) ≡ Ok (record { arcs = circle.0.items; steps = option_map (λ s. s.items) circle.1 })) }
     ensures fault { IfErr result (λ e. IsCertFaultOf e (circle_reading table.now.names (map cert_line lines.entry))) }
+    ensures memory { result ≡ Err OutOfMemory → BeginsWell (circle_reading table.now.names) 2 (map cert_line lines.entry) }
 {
     let Some(first) = lines.next() else {
         return Err(CertError::BadCertLine { line: 0 });

@@ -3,9 +3,11 @@
 //! The texts are those of "Certificates" in docs/FORMAT.md. Reading takes time in the length of the text and the number
 //! of items, and memory in the number of the items and arcs and in the length of the longest line.
 
-ghost use Rattle.std.specs.Prelude.{◌≡◌, length, map, Ok, Err, None, IfOk, IfErr};
+ghost use Rattle.std.specs.Prelude.{◌≡◌, true, length, map, Ok, Err, None, IfOk, IfErr};
 ghost use Rattle.wq_text.specs.Limits.{limit_fault};
-ghost use Rattle.wq_cert.specs.Lines.{cert_line};
+ghost use Rattle.wq_text.specs.Lines.{lines_of};
+ghost use Rattle.wq_cert.specs.Growth.{BeginsWell};
+ghost use Rattle.wq_cert.specs.Lines.{cert_line, cert_lines};
 ghost use Rattle.wq_cert.specs.Reading.{begins_plan, assignment_reading};
 ghost use Rattle.wq_cert.specs.Texts.{max_certificate, max_certificate_line, assignment_of_text, IsCertFaultOf};
 ghost use Rattle.wq_cert.specs.declared.fault.CertError.TheVariants.{OutOfMemory};
@@ -40,6 +42,8 @@ fn read_assignment_lines<A: Allocator + Copy>(
     requires { length groups.now.group_of ≡ length table.now.names }
     ensures assignment { IfOk result (λ a. assignment_reading table.now.names groups.now (map cert_line view.now) ≡ Ok a) }
     ensures fault { IfErr result (λ e. IsCertFaultOf e (assignment_reading table.now.names groups.now (map cert_line view.now))) }
+    ensures memory { result ≡ Err OutOfMemory → begins_plan (map cert_line view.now) ≡ true
+        → BeginsWell (assignment_reading table.now.names groups.now) 1 (map cert_line view.now) }
 {
     if begins_plan(view) {
         let (assignment, _, _) = read_plan(alloc, table, groups, view.lines())?;
@@ -62,8 +66,10 @@ pub fn read_assignment<A: Allocator + Copy>(
     requires { length groups.now.group_of ≡ length table.now.names }
     ensures assignment { IfOk result (λ a. assignment_of_text table.now.names groups.now text.now ≡ Ok a) }
     ensures fault { IfErr result (λ e. IsCertFaultOf e (assignment_of_text table.now.names groups.now text.now)) }
-    // The limits are judged without memory.
+    // The limits are judged without memory, and so is `plan K`.
     ensures memory { result ≡ Err OutOfMemory → limit_fault max_certificate max_certificate_line text.now ≡ None }
+    ensures first_line { result ≡ Err OutOfMemory → begins_plan (cert_lines (lines_of text.now)) ≡ true
+        → BeginsWell (assignment_reading table.now.names groups.now) 1 (cert_lines (lines_of text.now)) }
 {
     let view = open(text)?;
     read_assignment_lines(alloc, table, groups, &view)

@@ -5,16 +5,16 @@
 ghost use Rattle.std.specs.Prelude.{◌≡◌, ◌<◌, ◌++◌, ◌^◌, ℕ, length, OnOk, IfOk, IfSome, option_copied};
 ghost use Rattle.std.specs.List.{All};
 ghost use Rattle.wq_core.specs.declared.step.Step.{Step};
-ghost use Rattle.wq_cert.specs.LineText.{line_text};
+ghost use Rattle.wq_lines.specs.LineText.{line_text};
 ghost use Rattle.wq_cert.specs.CircleText.{circle_line, circle_text};
 ghost use Rattle.wq_cert.specs.RunText.{item_in};
 
 use crate::arc_printing::put_arc_line;
-use crate::lines::{put, put_end, put_number};
 use crate::run_printing::put_run;
 use std::alloc::{AllocError, Allocator};
 use wq_core::Step;
 use wq_items::{ItemId, ItemTable};
+use wq_lines::{put, put_end, put_number};
 
 /// Adds `circle N`.
 fn put_circle_line<A: Allocator + Copy>(
@@ -52,7 +52,7 @@ fn put_circle<A: Allocator + Copy>(
 /// run, where there is one.
 ///
 /// There are fewer than 4,294,967,296 arcs, each from an item of the table to one of it, and as many steps, each of an
-/// item of the table. The only error is want of memory (20).
+/// item of the table. The only error is out of memory (20).
 pub fn circle_text<A: Allocator + Copy>(
     alloc: A,
     table: &ItemTable<'_, A>,

@@ -9,7 +9,7 @@ ghost use Rattle.wq_cert.specs.declared.fault.CertError.TheVariants.{OutOfMemory
 use std::alloc::{AllocError, AllocFailed};
 use thiserror::Error;
 
-/// The first fault of a certificate, in a line by the rows of "Refusals of certificates" in docs/FORMAT.md, or want of
+/// The first fault of a certificate, in a line by the rows of "Refusals of certificates" in docs/FORMAT.md, or out of
 /// memory.
 #[derive(Clone, Copy, Debug, PartialEq, Eq, Error)]
 pub enum CertError {

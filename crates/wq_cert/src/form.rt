@@ -41,7 +41,7 @@ pub(crate) fn count_form(keyword: &[u8], mut words: Words<'_>) -> Option<u32>
     number_of(count.bytes())
 }
 
-/// The items of these names, if each is declared. The only error is want of memory.
+/// The items of these names, if each is declared. The only error is out of memory.
 pub(crate) fn items_of<A: Allocator + Copy>(
     alloc: A,
     table: &ItemTable<'_, A>,
@@ -59,7 +59,7 @@ pub(crate) fn items_of<A: Allocator + Copy>(
     Ok(Some(items))
 }
 
-/// `wq Q NAME..`: the number and the items. The only error is want of memory.
+/// `wq Q NAME..`: the number and the items. The only error is out of memory.
 pub(crate) fn wq_form<A: Allocator + Copy>(
     alloc: A,
     table: &ItemTable<'_, A>,

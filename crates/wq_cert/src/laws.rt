@@ -18,9 +18,10 @@ ghost use Rattle.wq_cert.specs.RunText.{run_text};
 ghost use Rattle.wq_cert.specs.Texts.{max_certificate, max_certificate_line, answer_of, assignment_of_text, run_of};
 ghost use Rattle.wq_cert.specs.declared.fault.CertError.{CertError};
 ghost use Rattle.wq_cert.specs.declared.fault.CertError.TheVariants.{BadCertLine, NotAllItems};
-ghost use Rattle.wq_cert.specs.FirstFaults.{line_of, IsOfTheFirstLine};
+ghost use Rattle.wq_cert.specs.FirstFaults.{line_of, NoLineIsAtFault, IsOfTheFirstLine};
 ghost use Rattle.wq_cert.specs.Forms.{number_of, begins_with};
 ghost use Rattle.wq_cert.specs.Ranges.{IsArcOf, IsStepOf, IsAssignmentOf, IsRunOf, IsCertificateOf};
+ghost use Rattle.wq_cert.specs.LineRows.{LineForm, StandsInPlan, StandsInCircle, StandsInRun, BreaksLine, KeepsLine};
 ghost use Rattle.wq_cert.specs.Lines.{CertLine};
 ghost use Rattle.wq_cert.specs.Reading.{assignment_of, plan_reading, circle_reading, run_reading, workqueues_reading};
 ghost use Rattle.wq_cert.specs.WorkqueueRows.{AreFirstWorkqueues, BreaksRow, AllStand, begins_workqueue};
@@ -110,6 +111,37 @@ pub fn the_line_of_a_workqueue_is_refused_by_its_first_row()
         words_in before ≡ workqueue_lines names workqueues → begins_with (codes "wq") line.words ≡ true →
         AreFirstWorkqueues (length names) p.group_of workqueues → BreaksRow names p.group_of workqueues line fault →
         workqueues_reading names p (before ++ (line ∷ behind)) ≡ Err fault }
+{}
+
+/// Where a `plan`, `chain`, `circle`, `arc` or `run` line stands next, or that of a step, a line is refused by the first row
+/// that it breaks: its form (40), its number (43), whatever stands behind it.
+pub fn each_other_line_is_refused_by_its_first_row()
+    ensures plan { (names : List (List ℕ)) (p : Partition) (form : LineForm) (before : List CertLine) (line : CertLine)
+        (behind : List CertLine) (fault : CertError) → AllPairs (λ (a b : List ℕ). a ≢ b) names → length names ≡ length p.group_of →
+        StandsInPlan names p (words_in before) form → BreaksLine names form line fault →
+        plan_reading names p (before ++ (line ∷ behind)) ≡ Err fault }
+    ensures circle { (names : List (List ℕ)) (form : LineForm) (before : List CertLine) (line : CertLine)
+        (behind : List CertLine) (fault : CertError) → AllPairs (λ (a b : List ℕ). a ≢ b) names →
+        StandsInCircle names (words_in before) form → BreaksLine names form line fault →
+        circle_reading names (before ++ (line ∷ behind)) ≡ Err fault }
+    ensures run { (names : List (List ℕ)) (form : LineForm) (before : List CertLine) (line : CertLine)
+        (behind : List CertLine) (fault : CertError) → AllPairs (λ (a b : List ℕ). a ≢ b) names →
+        StandsInRun names (words_in before) form → BreaksLine names form line fault →
+        run_reading names (before ++ (line ∷ behind)) ≡ Err fault }
+{}
+
+/// A line that stands there and breaks no row is no fault: of the lines up to it none is.
+pub fn a_line_that_breaks_no_row_is_no_fault()
+    ensures plan { (names : List (List ℕ)) (p : Partition) (form : LineForm) (before : List CertLine) (line : CertLine) →
+        AllPairs (λ (a b : List ℕ). a ≢ b) names → length names ≡ length p.group_of →
+        StandsInPlan names p (words_in before) form → KeepsLine names form line →
+        NoLineIsAtFault (plan_reading names p (before ++ (line ∷ []))) }
+    ensures circle { (names : List (List ℕ)) (form : LineForm) (before : List CertLine) (line : CertLine) →
+        AllPairs (λ (a b : List ℕ). a ≢ b) names → StandsInCircle names (words_in before) form →
+        KeepsLine names form line → NoLineIsAtFault (circle_reading names (before ++ (line ∷ []))) }
+    ensures run { (names : List (List ℕ)) (form : LineForm) (before : List CertLine) (line : CertLine) →
+        AllPairs (λ (a b : List ℕ). a ≢ b) names → StandsInRun names (words_in before) form →
+        KeepsLine names form line → NoLineIsAtFault (run_reading names (before ++ (line ∷ []))) }
 {}
 
 /// Behind the lines of the workqueues an item that stands on none is answered first (41, of no line), whatever stands

@@ -17,7 +17,6 @@ mod fault;
 mod form;
 pub mod laws;
 mod line_reading;
-pub mod lines;
 mod opening;
 mod plan_printing;
 mod run_printing;

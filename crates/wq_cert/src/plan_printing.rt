@@ -5,15 +5,15 @@
 
 ghost use Rattle.std.specs.Prelude.{◌≡◌, ◌<◌, ◌+◌, ◌++◌, ◌^◌, ℕ, length, OnOk, IfOk};
 ghost use Rattle.std.specs.List.{All};
-ghost use Rattle.wq_cert.specs.LineText.{line_text};
+ghost use Rattle.wq_lines.specs.LineText.{line_text};
 ghost use Rattle.wq_groups.specs.Assignment.{item_lanes};
 ghost use Rattle.wq_cert.specs.PlanText.{plan_line, wq_line, chain_line, plan_text};
 
 use crate::arc_printing::put_arc_line;
-use crate::lines::{put, put_end, put_number, put_word};
 use std::alloc::{AllocError, Allocator};
 use wq_groups::{Assignment, Groups};
 use wq_items::{ItemId, ItemTable};
+use wq_lines::{put, put_end, put_number, put_word};
 
 /// Adds `plan K`.
 fn put_plan_line<A: Allocator + Copy>(
@@ -91,7 +91,7 @@ fn item_lanes<A: Allocator + Copy>(
 /// The text of a plan: the number of the workqueues, the items of each, and the arcs of a waiting chain.
 ///
 /// The groups are those of the table's items, and each has a workqueue. The chain has fewer than 4,294,967,295 arcs, each from
-/// an item of the table to one of it. The only error is want of memory (20).
+/// an item of the table to one of it. The only error is out of memory (20).
 pub fn plan_text<A: Allocator + Copy>(
     alloc: A,
     table: &ItemTable<'_, A>,

@@ -5,15 +5,15 @@
 ghost use Rattle.std.specs.Prelude.{◌≡◌, ◌<◌, ◌++◌, ◌∷◌, [], ◌^◌, ℕ, length, flat_map, decimal, OnOk, IfOk};
 ghost use Rattle.std.specs.List.{All};
 ghost use Rattle.wq_core.specs.declared.step.Step.{Step};
-ghost use Rattle.wq_cert.specs.LineText.{line_text};
+ghost use Rattle.wq_lines.specs.LineText.{line_text};
 ghost use Rattle.wq_cert.specs.PlanText.{name_of};
 ghost use Rattle.wq_cert.specs.RunText.{item_in, run_line, step_line, run_lines, run_text};
 
-use crate::lines::{put, put_end, put_number, put_word};
 use std::alloc::{AllocError, Allocator};
 use wq_core::Step;
 use wq_groups::LaneId;
 use wq_items::{ItemId, ItemTable};
+use wq_lines::{put, put_end, put_number, put_word};
 
 /// Adds `run M`.
 fn put_run_line<A: Allocator + Copy>(
@@ -103,7 +103,7 @@ pub(crate) fn put_run<A: Allocator + Copy>(
 
 /// The text of a run: how many steps it has, and these.
 ///
-/// There are fewer than 4,294,967,296 steps, each of an item of the table. The only error is want of memory (20).
+/// There are fewer than 4,294,967,296 steps, each of an item of the table. The only error is out of memory (20).
 pub fn run_text<A: Allocator + Copy>(
     alloc: A,
     table: &ItemTable<'_, A>,

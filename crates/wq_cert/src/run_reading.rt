@@ -5,7 +5,9 @@
 
 ghost use Rattle.std.specs.Prelude.{◌≡◌, ◌∷◌, Ok, Err, None, IfOk, IfErr, map, option_map};
 ghost use Rattle.wq_text.specs.Limits.{limit_fault};
-ghost use Rattle.wq_cert.specs.Lines.{cert_line};
+ghost use Rattle.wq_text.specs.Lines.{lines_of};
+ghost use Rattle.wq_cert.specs.Growth.{ReadsOne, BeginsWell};
+ghost use Rattle.wq_cert.specs.Lines.{cert_line, cert_lines};
 ghost use Rattle.wq_cert.specs.Reading.{next_lines, step_reading, run_reading, run_behind};
 ghost use Rattle.wq_cert.specs.Texts.{max_certificate, max_certificate_line, run_of, IsCertFaultOf};
 ghost use Rattle.wq_cert.specs.declared.fault.CertError.TheVariants.{OutOfMemory};
@@ -28,6 +30,7 @@ fn read_steps<A: Allocator + Copy>(
 ) -> Result<Vec<Step, A>, CertError>
     ensures steps { IfOk result (λ steps. next_lines (step_reading table.now.names) count (map cert_line lines.old) ≡ Ok (steps.items, map cert_line lines.new)) }
     ensures fault { IfErr result (λ e. IsCertFaultOf e (next_lines (step_reading table.now.names) count (map cert_line lines.old))) }
+    ensures memory { result ≡ Err OutOfMemory → ReadsOne (step_reading table.now.names) count (map cert_line lines.old) }
 {
     let mut steps = Vec::new(alloc);
     for i in 0..count {
@@ -49,6 +52,7 @@ fn read_run_from<A: Allocator + Copy>(
 ) -> Result<Vec<Step, A>, CertError>
     ensures steps { IfOk result (λ steps. run_reading table.now.names (cert_line first.now ∷ map cert_line lines.entry) ≡ Ok steps.items) }
     ensures fault { IfErr result (λ e. IsCertFaultOf e (run_reading table.now.names (cert_line first.now ∷ map cert_line lines.entry))) }
+    ensures memory { result ≡ Err OutOfMemory → BeginsWell (run_reading table.now.names) 2 (cert_line first.now ∷ map cert_line lines.entry) }
 {
     let count = read_any_count(first)?;
     let steps = read_steps(alloc, table, count, &mut lines)?;
@@ -82,6 +86,7 @@ fn read_run_lines<A: Allocator + Copy>(
 ) -> Result<Vec<Step, A>, CertError>
     ensures steps { IfOk result (λ steps. run_reading table.now.names (map cert_line lines.entry) ≡ Ok steps.items) }
     ensures fault { IfErr result (λ e. IsCertFaultOf e (run_reading table.now.names (map cert_line lines.entry))) }
+    ensures memory { result ≡ Err OutOfMemory → BeginsWell (run_reading table.now.names) 2 (map cert_line lines.entry) }
 {
     let Some(first) = lines.next() else {
         return Err(CertError::BadCertLine { line: 0 });
@@ -102,8 +107,9 @@ pub fn read_run<A: Allocator + Copy>(
 ) -> Result<Vec<Step, A>, CertError>
     ensures steps { IfOk result (λ steps. run_of table.now.names text.now ≡ Ok steps.items) }
     ensures fault { IfErr result (λ e. IsCertFaultOf e (run_of table.now.names text.now)) }
-    // The limits are judged without memory.
+    // The limits are judged without memory, and so are `run M` and the first step.
     ensures memory { result ≡ Err OutOfMemory → limit_fault max_certificate max_certificate_line text.now ≡ None }
+    ensures first_step { result ≡ Err OutOfMemory → BeginsWell (run_reading table.now.names) 2 (cert_lines (lines_of text.now)) }
 {
     let view = open(text)?;
     read_run_lines(alloc, table, view.lines())

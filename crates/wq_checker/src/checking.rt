@@ -164,7 +164,7 @@ fn check_certificate<A: Allocator + Copy>(
 /// are of items, and their number is one less than the length of the chain (none for 0), or from 1 to 4,096 in a circle;
 /// and it has fewer than 4,294,967,295 steps. A yes to a plan implies that it is safe, and that in every assignment to
 /// fewer workqueues these wait in a circle, and some run deadlocks; a yes to a circle, that both are so in every assignment.
-/// The only error is want of memory (20), and it comes only where the arcs of a circle go round and steps stand behind
+/// The only error is out of memory (20), and it comes only where the arcs of a circle go round and steps stand behind
 /// them.
 pub fn check_answer<A: Allocator + Copy>(
     alloc: A,

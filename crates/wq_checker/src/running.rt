@@ -91,7 +91,7 @@ fn end_of<A: Allocator + Copy>(
     }
 }
 
-/// How a list of fewer than 4,294,967,295 steps ends under an assignment of the groups. The only error is want of memory
+/// How a list of fewer than 4,294,967,295 steps ends under an assignment of the groups. The only error is out of memory
 /// (20).
 pub fn check_run<A: Allocator + Copy>(
     alloc: A,

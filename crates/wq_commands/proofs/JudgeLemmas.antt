@@ -22,7 +22,7 @@ use Rattle.wq_deadlock.proofs.Renumbered.{not_safe-deadlocks}
 use Rattle.wq_deadlock.proofs.Verdicts.{IsSafeByRanks-ranks, IsDeadlock-walked}
 use Rattle.wq_meter.specs.Meter.{Meter}
 use Rattle.wq_cert.specs.declared.fault.CertError.{CertError}
-use Rattle.wq_cert.specs.LineText.{line_text}
+use Rattle.wq_lines.specs.LineText.{line_text}
 use Rattle.wq_cert.specs.Ranges.{IsAssignmentOf}
 use Rattle.wq_cert.specs.Reading.{assignment_reading}
 use Rattle.wq_cert.specs.RunText.{run_text}

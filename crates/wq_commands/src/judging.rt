@@ -13,12 +13,12 @@ use crate::declaration::{Stop, read_declaration};
 use crate::end::End;
 use crate::refusal::refuse;
 use std::alloc::{AllocError, Allocator};
-use wq_cert::lines::{put, put_end};
 use wq_cert::{CertError, read_assignment, run_text};
 use wq_core::Step;
 use wq_deadlock::{Verdict, verdict};
 use wq_groups::{Assignment, Groups};
 use wq_items::ItemTable;
+use wq_lines::{put, put_end};
 
 /// `safe`.
 fn safe_text<A: Allocator + Copy>(alloc: A) -> Result<Vec<u8, A>, AllocError>

@@ -15,7 +15,7 @@ ghost use Rattle.wq_graph.specs.declared.arc.WaitArc.{WaitArc};
 ghost use Rattle.wq_graph.specs.Graph.{group_graph};
 ghost use Rattle.wq_levels.specs.Walks.{IsWalkedCircle};
 ghost use Rattle.wq_plan.specs.Plan.{IsPlan};
-ghost use Rattle.wq_cert.specs.LineText.{line_text};
+ghost use Rattle.wq_lines.specs.LineText.{line_text};
 ghost use Rattle.wq_checker.specs.declared.run.RunEnd.TheVariants.{Deadlock};
 ghost use Rattle.wq_deadlock.specs.CircleRun.{IsCircleRun};
 ghost use Rattle.wq_commands.specs.Answer.{Answers, declared_waits, text_of_plan, text_of_circle};

@@ -3,19 +3,19 @@
 //! Takes the time and the memory of reading the three and of making the steps.
 
 ghost use Rattle.std.specs.Prelude.{◌≡◌, ◌∷◌, [], ◌<◌, IfOk, length, codes, decimal};
-ghost use Rattle.wq_cert.specs.LineText.{line_text};
+ghost use Rattle.wq_lines.specs.LineText.{line_text};
 ghost use Rattle.wq_commands.specs.Replaying.{replay_words, replay_end, AnswersReplay, ReplaysAssigned, ReplaysDeclared, Replays};
 
 use crate::declaration::{Stop, read_declaration};
 use crate::end::End;
 use crate::refusal::refuse;
 use std::alloc::{AllocError, Allocator};
-use wq_cert::lines::{put, put_end, put_number};
 use wq_cert::{CertError, read_assignment, read_run};
 use wq_checker::{RunEnd, check_run};
 use wq_core::Step;
 use wq_groups::{Assignment, Groups};
 use wq_items::ItemTable;
+use wq_lines::{put, put_end, put_number};
 
 /// `not lawful N`.
 fn unlawful_text<A: Allocator + Copy>(alloc: A, number: u32) -> Result<Vec<u8, A>, AllocError>

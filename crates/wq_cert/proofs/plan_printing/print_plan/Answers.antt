@@ -1,6 +1,6 @@
 use Rattle.std.proofs.Common.{◌++◌, ℕ, List, sym, ap, ◌∙◌}
 use Rattle.std.specs.List.{range_with_len}
-use Rattle.wq_cert.specs.LineText.{line_text}
+use Rattle.wq_lines.specs.LineText.{line_text}
 use Rattle.wq_cert.specs.PlanText.{plan_line, wq_line}
 use Rattle.wq_cert.proofs.LineLemmas.{lines, lines-push, range_with_len-more}
 use Rattle.wq_cert.proofs.plan_printing.print_plan.Goals as goal

@@ -2,7 +2,7 @@ use Rattle.std.proofs.Common.{get_or, ◌≡◌, ◌++◌, ◌∷◌, [], ℕ, L
 use Rattle.std.specs.Prelude.{decimal, slice_index, Vec}
 use Rattle.std.proofs.lemmas.Option.{get_or_from_slice_get}
 use Rattle.std.proofs.lemmas.Result.{on_ok_weaker}
-use Rattle.wq_cert.specs.LineText.{spaced}
+use Rattle.wq_lines.specs.LineText.{spaced}
 use Rattle.wq_cert.specs.PlanText.{name_of}
 use Rattle.wq_cert.proofs.LineLemmas.{wq_front-none, wq_front-on, wq_front-off, wq_front-all}
 use Rattle.wq_cert.proofs.plan_printing.put_wq_line.Goals as goal

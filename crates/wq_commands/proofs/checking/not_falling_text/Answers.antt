@@ -2,9 +2,9 @@ use Rattle.std.proofs.Common.{◌≡◌, ◌++◌, ◌∷◌, [], ℕ, List, sym
 use Rattle.std.specs.Prelude.{codes}
 use Rattle.std.proofs.lemmas.Option.{get_or_from_slice_get}
 use Rattle.std.proofs.lemmas.Result.{on_ok_weaker}
-use Rattle.wq_cert.specs.LineText.{spaced}
+use Rattle.wq_lines.specs.LineText.{spaced}
 use Rattle.wq_cert.specs.PlanText.{name_of}
-use Rattle.wq_cert.proofs.LineLemmas.{line_text-three}
+use Rattle.wq_lines.proofs.LineTextLemmas.{line_text-three}
 use Rattle.wq_commands.proofs.checking.not_falling_text.Goals as goal
 
 pub returns : goal.returns

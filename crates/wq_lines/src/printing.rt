@@ -1,14 +1,14 @@
-//! Lines as they are printed: words with one space between them, and a line feed.
+//! A line, word by word: one space between two words, and a line feed behind the last.
 //!
 //! So each line of "Plan texts", "Circle texts" and "Run texts" in docs/FORMAT.md is printed, and what the commands answer.
 //! Each call takes time and memory in what it adds; where memory runs out, a part of that may stand there.
 
 ghost use Rattle.std.specs.Prelude.{◌≡◌, ◌++◌, ◌∷◌, [], OnOk, decimal};
-ghost use Rattle.wq_cert.specs.LineText.{spaced};
+ghost use Rattle.wq_lines.specs.LineText.{spaced};
 
 use std::alloc::{AllocError, Allocator};
 
-/// Adds bytes. The only error is want of memory (20).
+/// Adds bytes. The only error is out of memory (20).
 pub fn put<A: Allocator + Copy>(out: &mut Vec<u8, A>, bytes: &[u8]) -> Result<(), AllocError>
     ensures { OnOk result (out.new.items ≡ out.old.items ++ bytes.now) }
 {
@@ -16,7 +16,7 @@ pub fn put<A: Allocator + Copy>(out: &mut Vec<u8, A>, bytes: &[u8]) -> Result<()
     Ok(())
 }
 
-/// Adds a space and a word. The only error is want of memory (20).
+/// Adds a space and a word. The only error is out of memory (20).
 pub fn put_word<A: Allocator + Copy>(out: &mut Vec<u8, A>, word: &[u8]) -> Result<(), AllocError>
     ensures { OnOk result (out.new.items ≡ out.old.items ++ spaced word.now) }
 {
@@ -25,7 +25,7 @@ pub fn put_word<A: Allocator + Copy>(out: &mut Vec<u8, A>, word: &[u8]) -> Resul
     Ok(())
 }
 
-/// Adds a space and a number. The only error is want of memory (20).
+/// Adds a space and a number. The only error is out of memory (20).
 pub fn put_number<A: Allocator + Copy>(
     alloc: A,
     out: &mut Vec<u8, A>,
@@ -37,7 +37,7 @@ pub fn put_number<A: Allocator + Copy>(
     put_word(out, digits.as_bytes())
 }
 
-/// Ends a line. The only error is want of memory (20).
+/// Ends a line. The only error is out of memory (20).
 pub fn put_end<A: Allocator + Copy>(out: &mut Vec<u8, A>) -> Result<(), AllocError>
     ensures { OnOk result (out.new.items ≡ out.old.items ++ (10 ∷ [])) }
 {
