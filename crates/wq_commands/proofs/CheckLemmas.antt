@@ -27,10 +27,6 @@ use Rattle.wq_commands.proofs.AnswerLemmas.{IsSound}
 pub MatchResult-ok : {V E : Type 0} (r : Result V E) (v : V) (Good : V → Type 0) (Bad : E → Type 0) → r ≡ Ok v → Good v → MatchResult r Good Bad
 MatchResult-ok {V} {E} r v Good Bad is good = subst (λ (s : Result V E). MatchResult s Good Bad) (sym is) good
 
--- and of its error
-pub MatchResult-err : {V E : Type 0} (r : Result V E) (e : E) (Good : V → Type 0) (Bad : E → Type 0) → r ≡ Err e → Bad e → MatchResult r Good Bad
-MatchResult-err {V} {E} r e Good Bad is bad = subst (λ (s : Result V E). MatchResult s Good Bad) (sym is) bad
-
 -- what is in range can be asked about
 IsAsked-in_range : (s : Declared) (c : Certificate) → IsSound s → IsCertificateOf (length s.table.names) s.partition.groups c → IsAsked (declared_waits s) c
 IsAsked-in_range s (OfPlan c) sound is = record {

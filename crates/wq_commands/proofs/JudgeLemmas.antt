@@ -20,7 +20,6 @@ use Rattle.wq_deadlock.proofs.CircleRuns.{IsCircleRun-exists}
 use Rattle.wq_deadlock.proofs.OnlyRun.{same_circle_run}
 use Rattle.wq_deadlock.proofs.Renumbered.{not_safe-deadlocks}
 use Rattle.wq_deadlock.proofs.Verdicts.{IsSafeByRanks-ranks, IsDeadlock-walked}
-use Rattle.wq_meter.specs.Meter.{Meter}
 use Rattle.wq_cert.specs.declared.fault.CertError.{CertError}
 use Rattle.wq_lines.specs.LineText.{line_text}
 use Rattle.wq_cert.specs.Ranges.{IsAssignmentOf}
@@ -36,12 +35,10 @@ use Rattle.wq_commands.specs.declared.end.End.{End}
 use Rattle.wq_commands.specs.declared.end.End.TheVariants.{Good, Bad, Refused}
 use Rattle.wq_commands.specs.Answer.{declared_waits, refusal_text, IsRefused}
 use Rattle.wq_commands.specs.Deadlocking.{safe_text, JudgesAssigned, JudgesDeclared, Judges}
-use Rattle.wq_commands.specs.DeadlockInput.{JudgesInput}
 use Rattle.wq_commands.specs.Declaration.{Declared, declaration, max_declaration}
 use Rattle.wq_commands.specs.Replaying.{replay_words, AnswersReplay, ReplaysAssigned, ReplaysDeclared, Replays}
 use Rattle.wq_commands.proofs.AnswerLemmas.{IsSound, IsSound-declaration, IsDeclaration-sound, declaration-take}
 use Rattle.wq_commands.proofs.CheckLemmas.{MatchResult-ok}
-use Rattle.wq_commands.proofs.InputLemmas.{IsFrontOf}
 use Rattle.wq_commands.proofs.NamedSteps.{IsStepOf-deadlock, length-deadlock}
 
 -- ---- a declaration and an assignment of it
@@ -168,30 +165,3 @@ replays (Err refusal) sound text out refused = absurd cc
 -- a run that is printed is answered with `deadlock`
 pub Replays-judged : (declared text out : List ℕ) → Judges declared text Bad out → Replays declared text out Bad (line_text (replay_words Deadlock))
 Replays-judged declared = replays (declaration declared) (IsSound-declaration declared)
-
--- ---- verdicts on fronts
-
-module _ (end : End) (out : List ℕ) where
-  JudgesDeclared-take : (text : List ℕ) (s : Declared) → JudgesDeclared s (take (max_certificate + 1) text) end out → JudgesDeclared s text end out
-  JudgesDeclared-take text s answer =
-      subst (λ (r : Result Assignment CertError). MatchResult r (λ a. JudgesAssigned s a end out) (λ fault. IsRefused (cert_refusal fault) end out))
-      (text_reading-take (assignment_reading s.table.names s.partition) text) answer
-
-  Judges-take : (declared text : List ℕ) → Judges (take (max_declaration + 1) declared) (take (max_certificate + 1) text) end out → Judges declared text end out
-  Judges-take declared text answer =
-      MatchResult-weaker (declaration declared)
-      (subst (λ (d : Result Declared Refusal). MatchResult d (λ s. JudgesDeclared s (take (max_certificate + 1) text) end out) (λ r. IsRefused r end out)) (declaration-take declared) answer)
-      (JudgesDeclared-take text) (λ r refused. refused)
-
-pub JudgesInput-read : {D S : Type 0} (known : D → Option (List ℕ)) (assigned : S → Option (List ℕ)) (old new : Meter D) (a_old a_new : Meter S) (end : End) (out text lanes : List ℕ)
-    → IsFrontOf known old new max_declaration text → IsFrontOf assigned a_old a_new max_certificate lanes → Judges text lanes end out
-    → JudgesInput known assigned old new a_old a_new end out
-JudgesInput-read known assigned old new a_old a_new end out text lanes declared assignment answer = record {
-  text = declared.given.text;
-  declaration = declared.given.gives;
-  lanes = assignment.given.text;
-  assignment = assignment.given.gives;
-  answer =
-      Judges-take end out declared.given.text assignment.given.text
-      (subst (λ (t : List ℕ). Judges t (take (max_certificate + 1) assignment.given.text) end out) declared.front (subst (λ (l : List ℕ). Judges text l end out) assignment.front answer));
-}

@@ -12,3 +12,4 @@ pub mod PromiseLemmas
 pub mod Refusals
 pub mod CheckAnswers
 pub mod ReplayAnswers
+pub mod LineLemmas

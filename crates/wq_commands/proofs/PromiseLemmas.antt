@@ -7,6 +7,7 @@ use Rattle.std.proofs.lemmas.List.{length-map, get_or_past}
 use Rattle.std.proofs.lemmas.Option.{slice_get-map, slice_get_within, slice_get-get_or, get_or_from_slice_get}
 use Rattle.wq_text.specs.Refusal.{Refusal}
 use Rattle.wq_groups.specs.Assignment.{Assignment}
+use Rattle.wq_groups.specs.Declaration.{Declaration}
 use Rattle.wq_graph.specs.declared.arc.WaitArc.{WaitArc}
 use Rattle.wq_graph.specs.Graph.{IsArc, group_graph}
 use Rattle.wq_levels.specs.Walks.{IsWalkedCircle}
@@ -22,17 +23,18 @@ use Rattle.wq_deadlock.specs.CircleRun.{IsCircleRun}
 use Rattle.wq_cert.specs.declared.fault.CertError.{CertError}
 use Rattle.wq_cert.specs.Certificate.{Certificate, PlanCertificate, CircleCertificate, OfPlan, OfCircle}
 use Rattle.wq_cert.specs.Texts.{answer_of, cert_refusal}
-use Rattle.wq_cert.proofs.PrintedPlans.{answer_of-plan, assignment_of_text-plan}
+use Rattle.wq_cert.proofs.PrintedPlans.{answer_of-plan}
 use Rattle.wq_cert.proofs.PrintedCircles.{answer_of-circle}
+use Rattle.wq_cert.proofs.SpelledAnswers.{SpellsCertificate-answer_of, answer_of-spelled, assignment_of_text-spelled}
 use Rattle.wq_items.specs.declared.target.Target.{Target}
 use Rattle.wq_items.specs.Table.{ItemWaits, targets_of}
 use Rattle.wq_groups.proofs.Declarations.{waiting-item, GroupWaits-items}
-use Rattle.wq_checker.specs.Chains.{Joins, AllJoin, before_from, before_in_chain, before_in_circle}
+use Rattle.wq_checker.specs.Chains.{IsChainAlong, Joins, AllJoin, before_from, before_in_chain, before_in_circle}
 use Rattle.wq_checker.specs.Falling.{AllFall}
 use Rattle.wq_checker.specs.declared.answer.Yes.{Yes}
 use Rattle.wq_checker.specs.declared.answer.Yes.TheVariants as yes
 use Rattle.wq_checker.specs.declared.answer.No.{No}
-use Rattle.wq_checker.specs.Answers.{IsGoodPlan, AnswersPlan, AnswersCircle}
+use Rattle.wq_checker.specs.Answers.{IsGoodPlan, ShowsDeadlock, AnswersPlan, AnswersCircle}
 use Rattle.wq_checker.proofs.GoodAnswers.{IsChainAlong-good, IsLeast-good, IsCircleAlong-good, Deadlocks-any}
 use Rattle.wq_commands.specs.declared.end.End.{End}
 use Rattle.wq_commands.specs.declared.end.End.TheVariants.{Good, Bad, Refused}
@@ -43,6 +45,10 @@ use Rattle.wq_commands.specs.Checking.{yes_words, PrintsCheck, AnswersCheck, Che
 use Rattle.wq_commands.specs.PrintedChecked.{ChecksYesPlan, ChecksYesCircle, ChecksYesOf, ChecksYes}
 use Rattle.wq_commands.proofs.CheckLemmas.{MatchResult-ok, IsAsked-read}
 use Rattle.wq_commands.specs.Promise.{KeepsPlan, KeepsCircle, KeepsDeclared, KeepsPromise}
+use Rattle.wq_meter.specs.Meter.{Meter}
+use Rattle.wq_commands.specs.CheckInput.{ChecksInput, KeepsYesOfInput}
+use Rattle.wq_commands.specs.Run.{AnswersInput, KeepsPromiseOfInput}
+use Rattle.wq_commands.specs.PromiseRead.{IsReadAsGoodPlan, IsReadAsGoodCircle}
 use Rattle.wq_commands.specs.YesIsTrue.{IsTrueOfPlan, IsTrueOfCircle, YesIsTrue}
 use Rattle.wq_commands.proofs.TextLength.{length-circled}
 use Rattle.wq_commands.proofs.AnswerLemmas.{IsSound, IsSound-declaration, IsDeclaration-sound, ArePrintable, ArePrintable-plan, ArePrintable-walked}
@@ -144,6 +150,7 @@ module _ (s : Declared) (sound : IsSound s) where
       let lanes : a.lanes ≤ 4096 = omega (arith, few, is.partition.few_groups, is.partition.few_items) in
       let said : PlanCertificate = record { assignment = a; length = if a.lanes == 0 then 0 else length arcs + 1; arcs = arcs } in
       let read = answer_of-plan s.table s.partition a arcs sound.table sound.partition sound.one_group_each least.assignment lanes prints.items short none in
+      let spells = SpellsCertificate-answer_of s.table.names s.partition (sym sound.one_group_each) (text_of_plan s a) (OfPlan said) read in
       let good : IsGoodPlan d said = record {
         falls = AllFall-plan s sound a plan;
         long = long;
@@ -153,12 +160,13 @@ module _ (s : Declared) (sound : IsSound s) where
       let along = IsChainAlong-good d is said (IsAsked-read s (text_of_plan s a) (OfPlan said) sound read) good in
       record {
         plan = said;
-        read = read;
-        assignment = assignment_of_text-plan s.table s.partition a arcs sound.table sound.partition sound.one_group_each least.assignment lanes prints.items short none;
+        limits = spells.0;
+        spelled = spells.1;
+        falls = good.falls;
         least = least;
-        good = good;
         chain = along.0;
         is_chain = along.1;
+        said = long;
         long = along.2;
       }
 
@@ -175,11 +183,12 @@ module _ (s : Declared) (sound : IsSound s) where
       let deadlocks = DeadlocksBy-own_lanes s sound circle steps walked is_run in
       let said : CircleCertificate = record { arcs = arcs; steps = Some steps } in
       let read = answer_of-circle s.table sound.table s.partition arcs (Some steps) (omega (arith, some, many)) prints.few prints.items (IsStepOf-deadlock s sound (own_lanes s.partition.groups) (IsAssignmentOf-own_lanes s sound) steps deadlocks) (length-circled s sound circle steps walked is_run) in
+      let spells = SpellsCertificate-answer_of s.table.names s.partition (sym sound.one_group_each) (text_of_circle s circle steps) (OfCircle said) read in
       let joined = AllJoin-circle s circle round in
       record {
         circle = said;
-        read = read;
-        good = record { joined = joined; deadlocks = deadlocks };
+        limits = spells.0;
+        spelled = spells.1;
         goes_round = IsCircleAlong-good d is said (IsAsked-read s (text_of_circle s circle steps) (OfCircle said) sound read) joined;
         steps = steps;
         has_run = refl;
@@ -203,34 +212,85 @@ keeps (Err r) end out sound answers = answers.0
 pub KeepsPromise-answers : (text : List ℕ) (end : End) (out : List ℕ) → Answers text end out → KeepsPromise text end out
 KeepsPromise-answers text end out answers = keeps (declaration text) end out (IsSound-declaration text) answers
 
--- ---- what the checker says of it
+pub KeepsPromiseOfInput-answered : {R : Type 0} {remaining : R → Option (List ℕ)} {old new : Meter R} (end : End) (out : List ℕ)
+    → AnswersInput remaining old new end out → KeepsPromiseOfInput remaining old new end out
+KeepsPromiseOfInput-answered end out answered = record { answered = answered; promise = KeepsPromise-answers answered.text end out answered.answer }
+
+-- ---- what the readers read of it, and what the checker says
+
+-- a chain along arcs follows them: each arc leaves the group where the one before it led
+AllJoin-along : (d : Declaration) (arcs : List (ℕ × ℕ)) (groups : List ℕ) → IsChainAlong d arcs groups → AllJoin d (before_in_chain arcs) arcs
+AllJoin-along d arcs groups is zero arc stands = (is.along 0 arc stands).0
+AllJoin-along d arcs groups is (suc k) arc stands =
+    let here : k < length arcs = omega (arith, slice_get_within arcs (suc k) arc stands) in
+    let before = get_or arcs k arc in
+    let there : slice_get arcs k ≡ Some before = slice_get-get_or arcs k arc here in
+    let less : suc k - 1 ≡ k = omega arith in
+    let next : k + 1 ≡ suc k = omega arith in
+    let found : before_in_chain arcs (suc k) ≡ Some before =
+    ap (λ (b : Bool). cond b None (slice_get arcs (suc k - 1))) (ne_eqb (suc k) 0 (λ is. omega (arith, is))) ∙ ap (slice_get arcs) less ∙ there in
+    let led = is.along k before there in
+    let leaves = is.along (suc k) arc stands in
+    let same : slice_index d.group_of before.1 ≡ slice_index d.group_of arc.0 =
+    same_number _ _ (sym led.2 ∙ ap (slice_get groups) next ∙ leaves.1) in
+    subst (λ (o : Option (ℕ × ℕ)). Joins d o arc) (sym found) (leaves.0, same)
+  where
+    same_number : (m n : ℕ) → Some m ≡ Some n → m ≡ n
+    same_number m n e = cc
+
+module _ (s : Declared) (sound : IsSound s) (out : List ℕ) where
+  pub IsReadAsGoodPlan-kept : (kept : KeepsPlan s out) → IsReadAsGoodPlan s out kept.plan
+  IsReadAsGoodPlan-kept kept = record {
+    read = answer_of-spelled s.table.names s.partition (sym sound.one_group_each) sound.table.distinct out (OfPlan kept.plan) (kept.limits, kept.spelled);
+    assignment = assignment_of_text-spelled s.table.names s.partition (sym sound.one_group_each) sound.table.distinct out kept.plan.assignment (kept.limits, inr (kept.plan, kept.spelled, refl));
+    good = record {
+      falls = kept.falls;
+      long = kept.said;
+      has_group = λ lacks. absurd (omega (arith, kept.is_chain.within 0 0 (omega (arith, kept.long, kept.said, lacks.0)), lacks.1));
+      joined = AllJoin-along (declared_waits s) kept.plan.arcs kept.chain kept.is_chain;
+    };
+  }
+
+  pub IsReadAsGoodCircle-kept : (kept : KeepsCircle s out) → IsReadAsGoodCircle s out kept.circle
+  IsReadAsGoodCircle-kept kept = record {
+    read = answer_of-spelled s.table.names s.partition (sym sound.one_group_each) sound.table.distinct out (OfCircle kept.circle) (kept.limits, kept.spelled);
+    good = record {
+      joined = kept.goes_round.joined;
+      deadlocks = subst (ShowsDeadlock (declared_waits s)) (sym kept.has_run) kept.run_deadlocks;
+    };
+  }
 
 -- the line that the checker answers to what is printed
 pub Checks-answers : (text out : List ℕ) (end : End) → Answers text end out → ChecksYes text out end
-Checks-answers text out end answers = checked (declaration text) end (keeps (declaration text) end out (IsSound-declaration text) answers)
+Checks-answers text out end answers = checked (declaration text) end (IsSound-declaration text) (keeps (declaration text) end out (IsSound-declaration text) answers)
   where
-    plan_checked : (s : Declared) → KeepsPlan s out → ChecksYesPlan s out
-    plan_checked s kept = record {
-      plan = kept.plan;
-      read = kept.read;
-      assignment = kept.assignment;
-      checked = MatchResult-ok (answer_of s.table.names s.partition out) (OfPlan kept.plan) _ _ kept.read (Ok (yes.Plan kept.plan.assignment.lanes), (kept.good, refl), (refl, refl));
-    }
+    plan_checked : (s : Declared) → IsSound s → KeepsPlan s out → ChecksYesPlan s out
+    plan_checked s sound kept =
+        let is = IsReadAsGoodPlan-kept s sound out kept in
+        record {
+          plan = kept.plan;
+          read = is.read;
+          assignment = is.assignment;
+          checked = MatchResult-ok (answer_of s.table.names s.partition out) (OfPlan kept.plan) _ _ is.read (Ok (yes.Plan kept.plan.assignment.lanes), (is.good, refl), (refl, refl));
+        }
 
-    circle_checked : (s : Declared) → KeepsCircle s out → ChecksYesCircle s out
-    circle_checked s kept = record {
-      circle = kept.circle;
-      read = kept.read;
-      checked = MatchResult-ok (answer_of s.table.names s.partition out) (OfCircle kept.circle) _ _ kept.read (Ok (yes.Circle (length kept.circle.arcs)), (kept.good, refl), (refl, refl));
-    }
+    circle_checked : (s : Declared) → IsSound s → KeepsCircle s out → ChecksYesCircle s out
+    circle_checked s sound kept =
+        let is = IsReadAsGoodCircle-kept s sound out kept in
+        record {
+          circle = kept.circle;
+          read = is.read;
+          checked = MatchResult-ok (answer_of s.table.names s.partition out) (OfCircle kept.circle) _ _ is.read (Ok (yes.Circle (length kept.circle.arcs)), (is.good, refl), (refl, refl));
+        }
 
-    checked : (declared : Result Declared Refusal) (end : End) → MatchResult declared (λ s. KeepsDeclared s end out) (λ r. end ≡ Refused) → ChecksYesOf declared out end
-    checked (Ok s) Good kept = plan_checked s kept
-    checked (Ok s) Bad kept = circle_checked s kept
-    checked (Ok s) Refused kept = absurd kept
-    checked (Err r) Good kept = absurd cc
-    checked (Err r) Bad kept = absurd cc
-    checked (Err r) Refused kept = tt
+    checked : (declared : Result Declared Refusal) (end : End) → ((s : Declared) → declared ≡ Ok s → IsSound s)
+        → MatchResult declared (λ s. KeepsDeclared s end out) (λ r. end ≡ Refused) → ChecksYesOf declared out end
+    checked (Ok s) Good sound kept = plan_checked s (sound s refl) kept
+    checked (Ok s) Bad sound kept = circle_checked s (sound s refl) kept
+    checked (Ok s) Refused sound kept = absurd kept
+    checked (Err r) Good sound kept = absurd cc
+    checked (Err r) Bad sound kept = absurd cc
+    checked (Err r) Refused sound kept = tt
 
 -- ---- a yes is true
 
@@ -291,3 +351,10 @@ yes_to_declared (Err r) claim out sound refused = absurd cc
 -- a yes that is printed is true
 pub YesIsTrue-checks : (text claim out : List ℕ) → Checks text claim Good out → YesIsTrue text claim out
 YesIsTrue-checks text claim out checks = yes_to_declared (declaration text) claim out (IsSound-declaration text) checks
+
+pub KeepsYesOfInput-answered : {D C : Type 0} {known : D → Option (List ℕ)} {certified : C → Option (List ℕ)} {old new : Meter D} {c_old c_new : Meter C} (end : End) (out : List ℕ)
+    → ChecksInput known certified old new c_old c_new end out → KeepsYesOfInput known certified old new c_old c_new end out
+KeepsYesOfInput-answered end out answered = record {
+  answered = answered;
+  promise = λ good. YesIsTrue-checks answered.text answered.claim out (subst (λ (e : End). Checks answered.text answered.claim e out) good answered.answer);
+}

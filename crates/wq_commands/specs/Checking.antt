@@ -9,6 +9,7 @@ use Rattle.wq_checker.specs.declared.answer.Yes.TheVariants as yes
 use Rattle.wq_checker.specs.declared.answer.No.{No}
 use Rattle.wq_checker.specs.declared.answer.No.TheVariants.{NotFalling, LengthDiffers, ChainBroken, CircleBroken, RunBroken}
 use Rattle.wq_checker.specs.Answers.{AnswersCertificate}
+use Rattle.wq_checker.specs.Codes.{no_code}
 use Rattle.wq_commands.specs.declared.end.End.{End}
 use Rattle.wq_commands.specs.declared.end.End.TheVariants.{Good, Bad}
 use Rattle.wq_commands.specs.Answer.{declared_waits, IsRefused}
@@ -19,13 +20,17 @@ abbrev pub yes_words : Yes → List (List ℕ)
 yes_words (yes.Plan number) = codes "yes" ∷ decimal number ∷ []
 yes_words (yes.Circle n) = codes "yes" ∷ codes "circle" ∷ decimal n ∷ []
 
+-- what a no speaks of: an item and its target, a place, or nothing
+abbrev pub no_details : List (List ℕ) → No → List (List ℕ)
+no_details names (NotFalling item target) = name_of names item ∷ name_of names target ∷ []
+no_details names (ChainBroken at) = decimal at ∷ []
+no_details names LengthDiffers = []
+no_details names (CircleBroken at) = decimal at ∷ []
+no_details names RunBroken = []
+
 -- the words of a no: `no 50 ITEM TARGET`, `no 51 AT`, `no 52`, `no 53 AT` or `no 54`
 abbrev pub no_words : List (List ℕ) → No → List (List ℕ)
-no_words names (NotFalling item target) = codes "no" ∷ codes "50" ∷ name_of names item ∷ name_of names target ∷ []
-no_words names (ChainBroken at) = codes "no" ∷ codes "51" ∷ decimal at ∷ []
-no_words names LengthDiffers = codes "no" ∷ codes "52" ∷ []
-no_words names (CircleBroken at) = codes "no" ∷ codes "53" ∷ decimal at ∷ []
-no_words names RunBroken = codes "no" ∷ codes "54" ∷ []
+no_words names reason = codes "no" ∷ decimal (no_code reason) ∷ no_details names reason
 
 -- the items that a no names exist
 abbrev pub NamesItems : List (List ℕ) → No → Type 0

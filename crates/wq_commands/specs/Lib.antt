@@ -7,8 +7,8 @@ pub use Rattle.wq_graph.specs.Graph
 pub use Rattle.wq_levels.specs.Walks
 pub use Rattle.wq_plan.specs.Plan
 pub mod Answer
-pub mod Input
 pub mod Promise
+pub mod PromiseRead
 pub mod PrintedChecked
 pub mod Checking
 pub mod YesIsTrue
@@ -20,3 +20,4 @@ pub mod Declaration
 pub mod End
 pub mod Run
 pub mod Stop
+pub mod Numbers

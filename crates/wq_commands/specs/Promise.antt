@@ -1,38 +1,40 @@
 -- What an answer promises, said of the bytes that are printed.
-use Rattle.std.specs.Prelude.{◌≡◌, ℕ, List, length, Some, Ok, MatchResult}
+use Rattle.std.specs.Prelude.{◌≡◌, ℕ, List, length, Some, MatchResult}
 use Rattle.wq_groups.specs.Assignment.{Assignment, IsAssignment}
 use Rattle.wq_core.specs.declared.step.Step.{Step}
 use Rattle.wq_core.specs.Wiring.{wiring, own_lanes}
 use Rattle.wq_core.specs.Deadlock.{DeadlocksBy, Deadlocks, IsLeast}
-use Rattle.wq_cert.specs.Certificate.{PlanCertificate, CircleCertificate, OfPlan, OfCircle}
-use Rattle.wq_cert.specs.Texts.{answer_of, assignment_of_text}
-use Rattle.wq_checker.specs.Answers.{IsGoodPlan, IsGoodCircle}
+use Rattle.wq_cert.specs.Certificate.{PlanCertificate, CircleCertificate}
+use Rattle.wq_cert.specs.Spelled.{SpellsPlan, SpellsCircle, KeepsLimits, words_of_text}
 use Rattle.wq_checker.specs.Chains.{IsChainAlong, IsCircleAlong}
+use Rattle.wq_checker.specs.Falling.{AllFall}
 use Rattle.wq_commands.specs.declared.end.End.{End}
 use Rattle.wq_commands.specs.declared.end.End.TheVariants.{Good, Bad, Refused}
 use Rattle.wq_commands.specs.Answer.{declared_waits}
 use Rattle.wq_commands.specs.Declaration.{Declared, declaration}
 
--- a plan is read from the bytes; its assignment lets no run end stuck, and every assignment to fewer workqueues has a run
--- that ends stuck, with each item queued once and flushing as declared; the checker calls it good; and the printed arcs are
--- those of a chain of as many groups as there are workqueues, each of which waits for the next
+-- the bytes spell a plan within the limits of a certificate; each flush falls to a workqueue with a lower number; no run of its
+-- assignment ends stuck, and every assignment to fewer workqueues has a run that ends stuck, with each item queued once and
+-- flushing as declared; and the printed arcs are those of a chain of as many groups as the text says and as there are
+-- workqueues, each of which waits for the next
 pub record KeepsPlan (s : Declared) (out : List ℕ) : Type 0 where
   pub plan : PlanCertificate
-  pub read : answer_of s.table.names s.partition out ≡ Ok (OfPlan plan)
-  pub assignment : assignment_of_text s.table.names s.partition out ≡ Ok plan.assignment
+  pub limits : KeepsLimits out
+  pub spelled : SpellsPlan s.table.names s.partition (words_of_text out) plan
+  pub falls : AllFall (declared_waits s) plan.assignment
   pub least : IsLeast (declared_waits s) plan.assignment
-  pub good : IsGoodPlan (declared_waits s) plan
   pub chain : List ℕ
   pub is_chain : IsChainAlong (declared_waits s) plan.arcs chain
+  pub said : plan.length ≡ plan.assignment.lanes
   pub long : length chain ≡ plan.assignment.lanes
 
--- a circle is read from the bytes, with a run behind it; the checker calls it good; the printed arcs go round groups, one for
+-- the bytes spell a circle with a run behind it, within the limits of a certificate; the printed arcs go round groups, one for
 -- each arc, each of which waits for the next; the run deadlocks where each group has a workqueue of its own; and every
 -- assignment has a run that deadlocks
 pub record KeepsCircle (s : Declared) (out : List ℕ) : Type 0 where
   pub circle : CircleCertificate
-  pub read : answer_of s.table.names s.partition out ≡ Ok (OfCircle circle)
-  pub good : IsGoodCircle (declared_waits s) circle
+  pub limits : KeepsLimits out
+  pub spelled : SpellsCircle s.table.names (words_of_text out) circle
   pub goes_round : IsCircleAlong (declared_waits s) circle.arcs
   pub steps : List Step
   pub has_run : circle.steps ≡ Some steps

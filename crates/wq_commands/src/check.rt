@@ -8,18 +8,16 @@ ghost use Rattle.wq_meter.specs.Meter.{count_after, LosesFront, WritesFront, Wri
 ghost use Rattle.wq_cert.specs.Texts.{max_certificate};
 ghost use Rattle.wq_commands.specs.Declaration.{max_declaration};
 ghost use Rattle.wq_commands.specs.CheckInput.{ChecksInput, KeepsYesOfInput};
-ghost use Rattle.wq_commands.specs.Input.{AfterGiven, HasFailed, HasGiven};
+ghost use Rattle.wq_meter.specs.Input.{AfterGiven, HasFailed, HasGiven};
 ghost use Rattle.wq_commands.specs.declared.end.End.{End};
 
 use crate::checking::check;
-use crate::declaration::MAX_DECLARATION;
 use crate::end::End;
+use crate::inputs::read_two;
+use crate::outputs::write_answer;
 use std::alloc::Allocator;
 use std::io::{Read, Write};
-use wq_meter::{Fault, Metered, read_text, write_text};
-
-/// How many bytes a certificate may have.
-pub(crate) const MAX_CERTIFICATE: u32 = 8_388_608;
+use wq_meter::{Fault, Metered};
 
 /// Reads a declaration and then a certificate to their ends, and writes what the checker answers: `yes K`, `yes circle N`
 /// or `no ..`, or the refusal of the first of the two that is refused.
@@ -70,9 +68,7 @@ pub fn check_cmd<D: Read, C: Read, W: Write, A: Allocator + Copy>(
     ensures write_failed { result ≡ Err Fault.Write → writer.new.failures ≡ count_after writer.old.failures 1 }
     ensures no_write_failed { result ≢ Err Fault.Write → writer.new.failures ≡ writer.old.failures }
 {
-    let text = read_text(alloc, declaration, MAX_DECLARATION)?;
-    let claim = read_text(alloc, certificate, MAX_CERTIFICATE)?;
-    let (end, answer) = check(alloc, &text, &claim)?;
-    write_text(writer, &answer)?;
-    Ok(end)
+    let (text, claim) = read_two(alloc, declaration, certificate)?;
+    let answer = check(alloc, &text, &claim);
+    write_answer(writer, answer)
 }

@@ -2,13 +2,13 @@
 //!
 //! Takes the time and the memory of reading both and of checking.
 
-ghost use Rattle.std.specs.Prelude.{◌≡◌, ◌<◌, ◌++◌, ◌∷◌, [], IfOk, IfErr, length, codes, decimal};
+ghost use Rattle.std.specs.Prelude.{◌≡◌, ◌<◌, ◌++◌, ◌∷◌, [], IfOk, IfErr, OnOk, length, codes, decimal, flat_map};
 ghost use Rattle.wq_groups.specs.Declaration.{declaration_of};
 ghost use Rattle.wq_lines.specs.LineText.{spaced, line_text};
 ghost use Rattle.wq_cert.specs.Certificate.{certificate};
 ghost use Rattle.wq_checker.specs.Answers.{IsAsked};
 ghost use Rattle.wq_checker.specs.declared.answer.No.TheVariants.{NotFalling};
-ghost use Rattle.wq_commands.specs.Checking.{yes_words, no_words, NamesItems, PrintsCheck, AnswersCheck, ChecksDeclared, Checks};
+ghost use Rattle.wq_commands.specs.Checking.{yes_words, no_details, no_words, NamesItems, PrintsCheck, AnswersCheck, ChecksDeclared, Checks};
 
 use crate::declaration::{Stop, read_declaration};
 use crate::end::End;
@@ -42,46 +42,6 @@ fn yes_circle_text<A: Allocator + Copy>(alloc: A, length: u32) -> Result<Vec<u8,
     Ok(out)
 }
 
-/// `no 50 ITEM TARGET`.
-fn not_falling_text<A: Allocator + Copy>(
-    alloc: A,
-    table: &ItemTable<'_, A>,
-    item: ItemId,
-    target: ItemId,
-) -> Result<Vec<u8, A>, AllocError>
-    requires item { item < length table.now.names }
-    requires target { target < length table.now.names }
-    ensures { IfOk result (λ text. text.items ≡ line_text (no_words table.now.names (NotFalling item target))) }
-{
-    let mut out = Vec::new(alloc);
-    put(&mut out, b"no 50")?;
-    put_word(&mut out, table.name(item))?;
-    put_word(&mut out, table.name(target))?;
-    put_end(&mut out)?;
-    Ok(out)
-}
-
-/// `no CODE AT`, behind the two words that are given.
-fn broken_text<A: Allocator + Copy>(alloc: A, no: &[u8], at: u32) -> Result<Vec<u8, A>, AllocError>
-    ensures { IfOk result (λ text. text.items ≡ no.now ++ (spaced (decimal at) ++ (10 ∷ []))) }
-{
-    let mut out = Vec::new(alloc);
-    put(&mut out, no)?;
-    put_number(alloc, &mut out, at)?;
-    put_end(&mut out)?;
-    Ok(out)
-}
-
-/// `no CODE`, the words that are given.
-fn no_text<A: Allocator + Copy>(alloc: A, no: &[u8]) -> Result<Vec<u8, A>, AllocError>
-    ensures { IfOk result (λ text. text.items ≡ no.now ++ (10 ∷ [])) }
-{
-    let mut out = Vec::new(alloc);
-    put(&mut out, no)?;
-    put_end(&mut out)?;
-    Ok(out)
-}
-
 /// The line of a yes.
 fn yes_line<A: Allocator + Copy>(alloc: A, yes: Yes) -> Result<Vec<u8, A>, AllocError>
     ensures { IfOk result (λ text. text.items ≡ line_text (yes_words yes)) }
@@ -92,7 +52,50 @@ fn yes_line<A: Allocator + Copy>(alloc: A, yes: Yes) -> Result<Vec<u8, A>, Alloc
     }
 }
 
-/// The line of a no.
+/// Adds the name of an item and that of its target.
+fn put_flush<A: Allocator + Copy>(
+    table: &ItemTable<'_, A>,
+    out: &mut Vec<u8, A>,
+    item: ItemId,
+    target: ItemId,
+) -> Result<(), AllocError>
+    requires item { item < length table.now.names }
+    requires target { target < length table.now.names }
+    ensures { OnOk result (out.new.items ≡ out.old.items ++ flat_map spaced (no_details table.now.names (NotFalling item target))) }
+{
+    put_word(out, table.name(item))?;
+    put_word(out, table.name(target))?;
+    Ok(())
+}
+
+/// Adds a place.
+fn put_place<A: Allocator + Copy>(alloc: A, out: &mut Vec<u8, A>, at: u32) -> Result<(), AllocError>
+    ensures { OnOk result (out.new.items ≡ out.old.items ++ flat_map spaced (decimal at ∷ [])) }
+{
+    put_number(alloc, out, at)?;
+    Ok(())
+}
+
+/// Adds what a no speaks of: an item and its target, a place, or nothing.
+fn put_details<A: Allocator + Copy>(
+    alloc: A,
+    table: &ItemTable<'_, A>,
+    out: &mut Vec<u8, A>,
+    no: &No,
+) -> Result<(), AllocError>
+    requires { NamesItems table.now.names no.now }
+    ensures { OnOk result (out.new.items ≡ out.old.items ++ flat_map spaced (no_details table.now.names no.now)) }
+{
+    match *no {
+        No::NotFalling { item, target } => put_flush(table, out, item, target),
+        No::ChainBroken { at } => put_place(alloc, out, at),
+        No::LengthDiffers => Ok(()),
+        No::CircleBroken { at } => put_place(alloc, out, at),
+        No::RunBroken => Ok(()),
+    }
+}
+
+/// The line of a no: `no 50 ITEM TARGET`, `no 51 AT`, `no 52`, `no 53 AT` or `no 54`.
 fn no_line<A: Allocator + Copy>(
     alloc: A,
     table: &ItemTable<'_, A>,
@@ -101,13 +104,12 @@ fn no_line<A: Allocator + Copy>(
     requires { NamesItems table.now.names no }
     ensures { IfOk result (λ text. text.items ≡ line_text (no_words table.now.names no)) }
 {
-    match no {
-        No::NotFalling { item, target } => not_falling_text(alloc, table, item, target),
-        No::ChainBroken { at } => broken_text(alloc, b"no 51", at),
-        No::LengthDiffers => no_text(alloc, b"no 52"),
-        No::CircleBroken { at } => broken_text(alloc, b"no 53", at),
-        No::RunBroken => no_text(alloc, b"no 54"),
-    }
+    let mut out = Vec::new(alloc);
+    put(&mut out, b"no")?;
+    put_number(alloc, &mut out, no.code())?;
+    put_details(alloc, table, &mut out, &no)?;
+    put_end(&mut out)?;
+    Ok(out)
 }
 
 /// How a run ends that has this answer, and what it prints.

@@ -8,16 +8,16 @@ ghost use Rattle.wq_meter.specs.Meter.{count_after, LosesFront, WritesFront, Wri
 ghost use Rattle.wq_cert.specs.Texts.{max_certificate};
 ghost use Rattle.wq_commands.specs.Declaration.{max_declaration};
 ghost use Rattle.wq_commands.specs.DeadlockInput.{JudgesInput};
-ghost use Rattle.wq_commands.specs.Input.{AfterGiven, HasFailed, HasGiven};
+ghost use Rattle.wq_meter.specs.Input.{AfterGiven, HasFailed, HasGiven};
 ghost use Rattle.wq_commands.specs.declared.end.End.{End};
 
-use crate::check::MAX_CERTIFICATE;
-use crate::declaration::MAX_DECLARATION;
 use crate::end::End;
+use crate::inputs::read_two;
 use crate::judging::judge;
+use crate::outputs::write_answer;
 use std::alloc::Allocator;
 use std::io::{Read, Write};
-use wq_meter::{Fault, Metered, read_text, write_text};
+use wq_meter::{Fault, Metered};
 
 /// Reads a declaration and then an assignment to their ends, and writes whether the assignment is safe: `safe`, or else the
 /// text of a run by which it deadlocks, or the refusal of the first of the two that is refused.
@@ -60,9 +60,7 @@ pub fn deadlock_cmd<D: Read, S: Read, W: Write, A: Allocator + Copy>(
     ensures write_failed { result ≡ Err Fault.Write → writer.new.failures ≡ count_after writer.old.failures 1 }
     ensures no_write_failed { result ≢ Err Fault.Write → writer.new.failures ≡ writer.old.failures }
 {
-    let text = read_text(alloc, declaration, MAX_DECLARATION)?;
-    let lanes = read_text(alloc, assignment, MAX_CERTIFICATE)?;
-    let (end, answer) = judge(alloc, &text, &lanes)?;
-    write_text(writer, &answer)?;
-    Ok(end)
+    let (text, lanes) = read_two(alloc, declaration, assignment)?;
+    let answer = judge(alloc, &text, &lanes);
+    write_answer(writer, answer)
 }

@@ -19,7 +19,8 @@ ghost use Rattle.wq_lines.specs.LineText.{line_text};
 ghost use Rattle.wq_checker.specs.declared.run.RunEnd.TheVariants.{Deadlock};
 ghost use Rattle.wq_deadlock.specs.CircleRun.{IsCircleRun};
 ghost use Rattle.wq_commands.specs.Answer.{Answers, declared_waits, text_of_plan, text_of_circle};
-ghost use Rattle.wq_commands.specs.Promise.{KeepsPromise};
+ghost use Rattle.wq_commands.specs.Promise.{KeepsPlan, KeepsCircle, KeepsPromise};
+ghost use Rattle.wq_commands.specs.PromiseRead.{IsReadAsGoodPlan, IsReadAsGoodCircle};
 ghost use Rattle.wq_commands.specs.PrintedChecked.{ChecksYes};
 ghost use Rattle.wq_commands.specs.Checking.{Checks};
 ghost use Rattle.wq_commands.specs.YesIsTrue.{YesIsTrue};
@@ -35,13 +36,21 @@ pub fn a_text_has_one_answer()
     ensures out { (text : List ℕ) (end other : End) (out printed : List ℕ) → Answers text end out → Answers text other printed → out ≡ printed }
 {}
 
-/// An answer keeps what it promises. Of a plan text: the assignment that is read from it lets no run end stuck, every
-/// assignment to fewer workqueues has a run that ends stuck, with each item queued once and flushing as declared, and the
-/// printed arcs are those of a chain of as many groups as there are workqueues. Of a circle text: its arcs go round groups,
-/// the run that is read from it is such a run where each group has a workqueue of its own, and every assignment has such a
-/// run.
+/// An answer keeps what it promises. Of a plan text: the assignment that it spells lets no run end stuck, every assignment
+/// to fewer workqueues has a run that ends stuck, with each item queued once and flushing as declared, and the printed arcs
+/// are those of a chain of as many groups as there are workqueues. Of a circle text: its arcs go round groups, the run that
+/// it spells is such a run where each group has a workqueue of its own, and every assignment has such a run.
 pub fn an_answer_keeps_its_promise()
     ensures { (text : List ℕ) (end : End) (out : List ℕ) → Answers text end out → KeepsPromise text end out }
+{}
+
+/// What is promised of the printed bytes, that they spell a plan or a circle, is so of what is read from them: `read_answer`
+/// reads just this plan or this circle, `read_assignment` the assignment of the plan, and the checker calls it good.
+pub fn what_is_promised_is_read()
+    ensures plan { (text out : List ℕ) (s : Declared) → declaration text ≡ Ok s → (kept : KeepsPlan s out) →
+        IsReadAsGoodPlan s out kept.plan }
+    ensures circle { (text out : List ℕ) (s : Declared) → declaration text ≡ Ok s → (kept : KeepsCircle s out) →
+        IsReadAsGoodCircle s out kept.circle }
 {}
 
 /// What `plan` prints is answered with yes: of a plan of K workqueues `check` prints `yes K`, and of a circle of N arcs with

@@ -11,9 +11,10 @@ ghost use Rattle.wq_commands.specs.declared.end.End.{End};
 use crate::answer::answer;
 use crate::declaration::MAX_DECLARATION;
 use crate::end::End;
+use crate::outputs::write_answer;
 use std::alloc::Allocator;
 use std::io::{Read, Write};
-use wq_meter::{Fault, Metered, read_text, write_text};
+use wq_meter::{Fault, Metered, read_text};
 
 /// Reads a declaration to its end and writes its answer: the text of its plan, that of the circle in which its groups
 /// wait, with a run that shows it, or its refusal.
@@ -55,7 +56,6 @@ pub fn plan_cmd<R: Read, W: Write, A: Allocator + Copy>(
     ensures no_write_failed { result ≢ Err Fault.Write → writer.new.failures ≡ writer.old.failures }
 {
     let text = read_text(alloc, reader, MAX_DECLARATION)?;
-    let (end, answer) = answer(alloc, &text)?;
-    write_text(writer, &answer)?;
-    Ok(end)
+    let answer = answer(alloc, &text);
+    write_answer(writer, answer)
 }

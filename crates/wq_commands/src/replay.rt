@@ -9,16 +9,16 @@ ghost use Rattle.wq_meter.specs.Meter.{count_after, LosesFront, WritesFront, Wri
 ghost use Rattle.wq_cert.specs.Texts.{max_certificate};
 ghost use Rattle.wq_commands.specs.Declaration.{max_declaration};
 ghost use Rattle.wq_commands.specs.CheckInput.{ReplaysInput};
-ghost use Rattle.wq_commands.specs.Input.{AfterGiven, HasFailed, HasGiven};
+ghost use Rattle.wq_meter.specs.Input.{AfterGiven, HasFailed, HasGiven};
 ghost use Rattle.wq_commands.specs.declared.end.End.{End};
 
-use crate::check::MAX_CERTIFICATE;
-use crate::declaration::MAX_DECLARATION;
 use crate::end::End;
+use crate::inputs::read_three;
+use crate::outputs::write_answer;
 use crate::replaying::replay;
 use std::alloc::Allocator;
 use std::io::{Read, Write};
-use wq_meter::{Fault, Metered, read_text, write_text};
+use wq_meter::{Fault, Metered};
 
 /// Reads a declaration, an assignment and a run to their ends, makes the steps of the run, and writes how that ends:
 /// `open`, `deadlock`, `stuck` or `not lawful N`, or the refusal of the first of the three that is refused.
@@ -68,10 +68,7 @@ pub fn replay_cmd<D: Read, S: Read, R: Read, W: Write, A: Allocator + Copy>(
     ensures write_failed { result ≡ Err Fault.Write → writer.new.failures ≡ count_after writer.old.failures 1 }
     ensures no_write_failed { result ≢ Err Fault.Write → writer.new.failures ≡ writer.old.failures }
 {
-    let text = read_text(alloc, declaration, MAX_DECLARATION)?;
-    let lanes = read_text(alloc, assignment, MAX_CERTIFICATE)?;
-    let steps = read_text(alloc, run, MAX_CERTIFICATE)?;
-    let (end, answer) = replay(alloc, &text, &lanes, &steps)?;
-    write_text(writer, &answer)?;
-    Ok(end)
+    let (text, lanes, steps) = read_three(alloc, declaration, assignment, run)?;
+    let answer = replay(alloc, &text, &lanes, &steps);
+    write_answer(writer, answer)
 }

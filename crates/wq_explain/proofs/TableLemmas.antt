@@ -1,20 +1,8 @@
 -- Rows as a program holds them, and the rows of the table.
-use Rattle.std.proofs.Common.{◌≡◌, ◌==◌, ◌++◌, ◌∙◌, ℕ, Bool, true, false, cond, List, [], ◌∷◌, Option, Some, None, codes, map, refl, sym, ap, append_assoc, append-nil}
-use Rattle.std.specs.Prelude.{find, flat_map, option_map}
+use Rattle.std.proofs.Common.{◌≡◌, ◌==◌, ◌∙◌, ℕ, Bool, true, false, cond, List, [], ◌∷◌, Option, Some, None, map, refl, sym, ap}
+use Rattle.std.specs.Prelude.{find, option_map}
 use Rattle.std.specs.Borrow.{Bor}
-use Rattle.std.proofs.lemmas.List.{map-append}
-use Rattle.std.proofs.lemmas.Grind.{flat_map-append}
-use Rattle.wq_explain.specs.Explaining.{Row, explanation_in, row_of, unknown_text}
-
--- the titles of rows and of one more
-pub unknown_text-push : (rows : List (ℕ × Bor (List ℕ) × Bor (List ℕ))) (row : ℕ × Bor (List ℕ) × Bor (List ℕ))
-    → unknown_text (map row_of rows) ++ row.1.now ≡ unknown_text (map row_of (rows ++ (row ∷ [])))
-unknown_text-push rows row =
-    let first = codes "This number has no explanation. These have one:\n" in
-    let titles = flat_map (λ (r : Row). r.title) (map row_of rows) in
-    append_assoc first titles row.1.now
-    ∙ ap (λ (l : List ℕ). first ++ l) (ap (λ (l : List ℕ). titles ++ l) (sym (append-nil row.1.now))
-    ∙ sym (flat_map-append (λ (r : Row). r.title) (map row_of rows) (row_of row ∷ [])) ∙ ap (flat_map (λ (r : Row). r.title)) (sym (map-append row_of rows (row ∷ []))))
+use Rattle.wq_explain.specs.Explaining.{Row, explanation_in, row_of}
 
 -- to look for a number among rows is to look for it among what they say
 pub explanation_in-row_of : (rows : List (ℕ × Bor (List ℕ) × Bor (List ℕ))) (code : ℕ) → explanation_in (map row_of rows) code ≡ option_map row_of (find (λ row. row.0 == code) rows)

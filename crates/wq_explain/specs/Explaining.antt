@@ -5,7 +5,7 @@ use Rattle.wq_explain.specs.declared.explain.Explained.{Explained}
 use Rattle.wq_explain.specs.declared.explain.Explained.TheVariants.{Known, Unknown}
 use Rattle.wq_explain.specs.declared.table.TheConstants.{EXPLANATIONS}
 
--- the numbers that are printed: of a declaration that is refused, of a certificate that is, and of a `no`
+-- the numbers that have an explanation: of a declaration that is refused, of a certificate that is, and of a `no`
 abbrev pub numbers : List ℕ
 numbers = 1 ∷ 2 ∷ 3 ∷ 4 ∷ 5 ∷ 6 ∷ 7 ∷ 8 ∷ 9 ∷ 10 ∷ 11 ∷ 12 ∷ 40 ∷ 41 ∷ 42 ∷ 43 ∷ 50 ∷ 51 ∷ 52 ∷ 53 ∷ 54 ∷ []
 

@@ -5,7 +5,7 @@
 ghost use Rattle.std.specs.Prelude.{◌≡◌, map};
 ghost use Rattle.wq_explain.specs.Explaining.{explanations, numbers};
 
-/// Each number that is printed has one explanation, and no other number has one.
-pub fn each_printed_number_has_one_explanation()
+/// Each of these numbers has one explanation, and no other number has one.
+pub fn each_number_has_one_explanation()
     ensures { map (λ row. row.code) explanations ≡ numbers }
 {}

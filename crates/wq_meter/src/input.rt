@@ -1,9 +1,10 @@
 //! Reading a text to its end, or to one byte past a limit: the extra byte shows that the text is too
 //! long, and the limit stops a reader without end. The time and the memory are linear in the bytes
 //! that come. Each call of the reader but the last brings at least one of them.
-ghost use Rattle.std.specs.Prelude.{◌≡◌, ◌≢◌, ◌+◌, ◌<◌, ◌≤◌, length, take, min, vec_len, Err, IfOk, IfSome, OnOk, OnErr, IsOkUnless};
+ghost use Rattle.std.specs.Prelude.{◌≡◌, ◌≢◌, ◌+◌, ◌<◌, ◌≤◌, length, take, min, Err, IfOk, OnOk, OnErr, IsOkUnless};
 ghost use Rattle.std.specs.Result.{result_unwrap_or};
 ghost use Rattle.std.specs.Io.KnownBytes.{Consumes, IsAtEnd, Keeps};
+ghost use Rattle.wq_meter.specs.Input.{HasGivenBytes};
 ghost use Rattle.wq_meter.specs.Meter.{count_after, LosesFront};
 
 use crate::fault::Fault;
@@ -24,18 +25,12 @@ pub fn read_text<R: Read, A: Allocator + Copy>(
     limit: u32,
 ) -> Result<Vec<u8, A>, Fault>
     // What comes, and what is left.
-    ensures text { IfOk result (λ text. IfSome (R.remaining reader.old.device)
-        (λ known. text.items ≡ take (limit + 1) known)) }
-    ensures within { IfOk result (λ text. vec_len text ≤ limit + 1) }
-    ensures rest { IfOk result (λ text. Consumes (R.remaining reader.old.device)
-        (R.remaining reader.new.device) text.items) }
-    ensures lost { OnErr result (LosesFront R.remaining reader.old reader.new (limit + 1)) }
+    ensures given { IfOk result (λ text. HasGivenBytes R.remaining reader.old reader.new limit text.items) }
+    ensures lost { LosesFront R.remaining reader.old reader.new (limit + 1) }
 
     // What is asked of the reader, whatever the result.
     ensures calls { reader.new.calls ≤ reader.old.calls + (limit + 1) }
     ensures bytes { reader.new.bytes ≤ reader.old.bytes + (limit + 1) }
-    ensures few_calls { IfOk result (λ text. reader.new.calls ≤ reader.old.calls + (vec_len text + 1)) }
-    ensures counted { IfOk result (λ text. reader.new.bytes ≡ count_after reader.old.bytes (vec_len text)) }
 
     // Which fault it is.
     ensures failed { result ≡ Err Fault.Read → reader.new.failures ≡ count_after reader.old.failures 1 }

@@ -5,11 +5,13 @@
 
 ghost use Rattle.std.specs.Prelude.{ℕ, List, IfOk};
 ghost use Rattle.wq_commands.specs.Checking.{Checks};
-ghost use Rattle.wq_commands.specs.Input.{IsInput};
+ghost use Rattle.wq_meter.specs.Input.{IsInput};
+ghost use Rattle.wq_meter.specs.Meter.{WritesWhole};
 
-use std::io::{Read, Write};
+use crate::files::open;
+use std::alloc::Global;
+use std::io::{self, Read, Write};
 use std::rt::Files;
-use std::{fs, io};
 use wq_commands::{End, Fault, Metered, check_cmd};
 
 /// Answers the declaration in the file of the first path and the certificate in that of the second.
@@ -19,27 +21,26 @@ pub(crate) fn check<R: Files + Print + AllocGlobal>(
     rt: &R,
     declaration: &str,
     certificate: &str,
-) -> Result<End, Fault> {
-    let Ok(declared) = fs::open(rt, declaration) else {
-        return Err(Fault::Read);
-    };
-    let Ok(certified) = fs::open(rt, certificate) else {
-        return Err(Fault::Read);
-    };
-    check_input(rt, declared, certified)
+) -> Result<End, Fault>
+    ensures { IfOk result (λ end. (text claim out : List ℕ) × Checks text claim end out) }
+{
+    let declared = open(rt, declaration)?;
+    let certified = open(rt, certificate)?;
+    let mut writer = Metered::new(io::writer(rt));
+    check_input(rt.alloc(), declared, certified, &mut writer)
 }
 
-/// Answers the declaration that the first input has and the certificate that the second has, on standard output.
-fn check_input<R: Print + AllocGlobal, D: Read + Drop, C: Read + Drop>(
-    rt: &R,
+/// Writes the answer to the declaration that the first input has and the certificate that the second has.
+fn check_input<D: Read + Drop, C: Read + Drop, W: Write>(
+    alloc: Global,
     declaration: D,
     certificate: C,
+    writer: &mut Metered<W>,
 ) -> Result<End, Fault>
     ensures { IfOk result (λ end. (text claim out : List ℕ) × IsInput (D.remaining declaration) text
-        × IsInput (C.remaining certificate) claim × Checks text claim end out) }
+        × IsInput (C.remaining certificate) claim × Checks text claim end out × WritesWhole W.contents writer.old writer.new out) }
 {
     let mut declared = Metered::new(declaration);
     let mut certified = Metered::new(certificate);
-    let mut writer = Metered::new(io::writer(rt));
-    check_cmd(rt.alloc(), &mut declared, &mut certified, &mut writer)
+    check_cmd(alloc, &mut declared, &mut certified, writer)
 }

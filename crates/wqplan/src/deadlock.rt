@@ -5,11 +5,13 @@
 
 ghost use Rattle.std.specs.Prelude.{ℕ, List, IfOk};
 ghost use Rattle.wq_commands.specs.Deadlocking.{Judges};
-ghost use Rattle.wq_commands.specs.Input.{IsInput};
+ghost use Rattle.wq_meter.specs.Input.{IsInput};
+ghost use Rattle.wq_meter.specs.Meter.{WritesWhole};
 
-use std::io::{Read, Write};
+use crate::files::open;
+use std::alloc::Global;
+use std::io::{self, Read, Write};
 use std::rt::Files;
-use std::{fs, io};
 use wq_commands::{End, Fault, Metered, deadlock_cmd};
 
 /// Answers the declaration in the file of the first path and the assignment in that of the second.
@@ -19,27 +21,26 @@ pub(crate) fn deadlock<R: Files + Print + AllocGlobal>(
     rt: &R,
     declaration: &str,
     assignment: &str,
-) -> Result<End, Fault> {
-    let Ok(declared) = fs::open(rt, declaration) else {
-        return Err(Fault::Read);
-    };
-    let Ok(assigned) = fs::open(rt, assignment) else {
-        return Err(Fault::Read);
-    };
-    deadlock_input(rt, declared, assigned)
+) -> Result<End, Fault>
+    ensures { IfOk result (λ end. (text lanes out : List ℕ) × Judges text lanes end out) }
+{
+    let declared = open(rt, declaration)?;
+    let assigned = open(rt, assignment)?;
+    let mut writer = Metered::new(io::writer(rt));
+    deadlock_input(rt.alloc(), declared, assigned, &mut writer)
 }
 
-/// Answers the declaration that the first input has and the assignment that the second has, on standard output.
-fn deadlock_input<R: Print + AllocGlobal, D: Read + Drop, A: Read + Drop>(
-    rt: &R,
+/// Writes the verdict on the declaration that the first input has and the assignment that the second has.
+fn deadlock_input<D: Read + Drop, A: Read + Drop, W: Write>(
+    alloc: Global,
     declaration: D,
     assignment: A,
+    writer: &mut Metered<W>,
 ) -> Result<End, Fault>
     ensures { IfOk result (λ end. (text lanes out : List ℕ) × IsInput (D.remaining declaration) text
-        × IsInput (A.remaining assignment) lanes × Judges text lanes end out) }
+        × IsInput (A.remaining assignment) lanes × Judges text lanes end out × WritesWhole W.contents writer.old writer.new out) }
 {
     let mut declared = Metered::new(declaration);
     let mut assigned = Metered::new(assignment);
-    let mut writer = Metered::new(io::writer(rt));
-    deadlock_cmd(rt.alloc(), &mut declared, &mut assigned, &mut writer)
+    deadlock_cmd(alloc, &mut declared, &mut assigned, writer)
 }

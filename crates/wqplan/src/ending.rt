@@ -3,7 +3,7 @@
 //! The statuses are those of docs/FORMAT.md: 0 to 2 as `End` has them, 2 for a wrong command line too, and 3 for a
 //! fault. A line that can't be written to standard error is lost: the status says the same.
 
-ghost use Rattle.std.specs.Prelude.{◌≡◌, ◌≢◌, ◌⊎◌};
+ghost use Rattle.std.specs.Prelude.{◌≡◌, ◌≢◌, ◌⊎◌, OnOk, OnErr};
 ghost use Rattle.std.specs.IoError.{error_kind};
 ghost use Rattle.std.specs.declared.io.ErrorKind.TheVariants.{OutOfMemory as NoMemory};
 ghost use Rattle.clap.specs.Words.{kind_of};
@@ -69,6 +69,14 @@ pub(crate) fn unasked<R: Print + Eprint>(rt: &R, error: &Error) -> u8
     if error.use_stderr() {
         return MISUSED;
     }
+    shown(rt, &printed)
+}
+
+/// The status where help or the version was to be printed.
+fn shown(rt: &impl Eprint, printed: &io::Result<()>) -> u8
+    ensures worked { OnOk printed.now (result ≡ 0) }
+    ensures failed { OnErr printed.now (result ≡ 3) }
+{
     match printed {
         Ok(()) => SHOWN,
         Err(_) => faulted(rt, Fault::Write),

@@ -6,12 +6,18 @@
 //! of the command.
 #![tactic(auto)]
 
+ghost use Rattle.std.specs.Prelude.{IfOk};
+ghost use Rattle.wqplan.specs.CommandLine.{spelled};
+ghost use Rattle.wqplan.specs.Ended.{EndsAsAsked};
+
 mod check;
 mod command_line;
 mod deadlock;
 mod ending;
 mod explain;
+mod files;
 mod help;
+pub mod laws;
 mod plan;
 mod replay;
 
@@ -24,7 +30,9 @@ use wq_commands::{End, Fault};
 fn perform<R: Files + Input + Print + AllocGlobal>(
     rt: &R,
     request: Request<'_>,
-) -> Result<End, Fault> {
+) -> Result<End, Fault>
+    ensures { IfOk result (λ end. EndsAsAsked (spelled request.entry) end) }
+{
     match request {
         Request::Plan { file } => plan::plan(rt, file),
         Request::Check {

@@ -4,12 +4,14 @@
 //! seen.
 
 ghost use Rattle.std.specs.Prelude.{ℕ, List, IfOk};
+ghost use Rattle.wq_meter.specs.Meter.{WritesWhole};
 ghost use Rattle.wq_commands.specs.Answer.{Answers};
-ghost use Rattle.wq_commands.specs.Input.{IsInput};
+ghost use Rattle.wq_meter.specs.Input.{IsInput};
 
-use std::io::{Read, Write};
+use crate::files::open;
+use std::alloc::Global;
+use std::io::{self, Read, Write};
 use std::rt::Files;
-use std::{fs, io};
 use wq_commands::{End, Fault, Metered, plan_cmd};
 
 /// Answers the declaration in the file of this path, or in standard input where there is none.
@@ -18,22 +20,25 @@ use wq_commands::{End, Fault, Metered, plan_cmd};
 pub(crate) fn plan<R: Files + Input + Print + AllocGlobal>(
     rt: &R,
     file: Option<&str>,
-) -> Result<End, Fault> {
+) -> Result<End, Fault>
+    ensures { IfOk result (λ end. (text out : List ℕ) × Answers text end out) }
+{
+    let mut writer = Metered::new(io::writer(rt));
     match file {
-        Some(path) => match fs::open(rt, path) {
-            Ok(input) => plan_input(rt, input),
-            Err(_) => Err(Fault::Read),
-        },
-        None => plan_input(rt, rt.reader()),
+        Some(path) => plan_input(rt.alloc(), open(rt, path)?, &mut writer),
+        None => plan_input(rt.alloc(), rt.reader(), &mut writer),
     }
 }
 
-/// Answers the declaration that `input` has, on standard output.
-fn plan_input<R: Print + AllocGlobal, I: Read + Drop>(rt: &R, input: I) -> Result<End, Fault>
+/// Writes the answer to the declaration that `input` has.
+fn plan_input<I: Read + Drop, W: Write>(
+    alloc: Global,
+    input: I,
+    writer: &mut Metered<W>,
+) -> Result<End, Fault>
     ensures { IfOk result (λ end. (text out : List ℕ) × IsInput (I.remaining input) text
-        × Answers text end out) }
+        × Answers text end out × WritesWhole W.contents writer.old writer.new out) }
 {
     let mut reader = Metered::new(input);
-    let mut writer = Metered::new(io::writer(rt));
-    plan_cmd(rt.alloc(), &mut reader, &mut writer)
+    plan_cmd(alloc, &mut reader, writer)
 }

@@ -4,12 +4,14 @@
 //! `plan`.
 
 ghost use Rattle.std.specs.Prelude.{ℕ, List, IfOk};
-ghost use Rattle.wq_commands.specs.Input.{IsInput};
+ghost use Rattle.wq_meter.specs.Input.{IsInput};
+ghost use Rattle.wq_meter.specs.Meter.{WritesWhole};
 ghost use Rattle.wq_commands.specs.Replaying.{Replays};
 
-use std::io::{Read, Write};
+use crate::files::open;
+use std::alloc::Global;
+use std::io::{self, Read, Write};
 use std::rt::Files;
-use std::{fs, io};
 use wq_commands::{End, Fault, Metered, replay_cmd};
 
 /// Answers the declaration, the assignment and the run in the files of these paths.
@@ -20,38 +22,30 @@ pub(crate) fn replay<R: Files + Print + AllocGlobal>(
     declaration: &str,
     assignment: &str,
     run: &str,
-) -> Result<End, Fault> {
-    let Ok(declared) = fs::open(rt, declaration) else {
-        return Err(Fault::Read);
-    };
-    let Ok(assigned) = fs::open(rt, assignment) else {
-        return Err(Fault::Read);
-    };
-    let Ok(listed) = fs::open(rt, run) else {
-        return Err(Fault::Read);
-    };
-    replay_input(rt, declared, assigned, listed)
+) -> Result<End, Fault>
+    ensures { IfOk result (λ end. (text lanes steps out : List ℕ) × Replays text lanes steps end out) }
+{
+    let declared = open(rt, declaration)?;
+    let assigned = open(rt, assignment)?;
+    let listed = open(rt, run)?;
+    let mut writer = Metered::new(io::writer(rt));
+    replay_input(rt.alloc(), declared, assigned, listed, &mut writer)
 }
 
-/// Answers the declaration, the assignment and the run that these inputs have, on standard output.
-fn replay_input<R: Print + AllocGlobal, D: Read + Drop, A: Read + Drop, S: Read + Drop>(
-    rt: &R,
+/// Writes the answer to the declaration, the assignment and the run that these inputs have.
+fn replay_input<D: Read + Drop, A: Read + Drop, S: Read + Drop, W: Write>(
+    alloc: Global,
     declaration: D,
     assignment: A,
     run: S,
+    writer: &mut Metered<W>,
 ) -> Result<End, Fault>
     ensures { IfOk result (λ end. (text lanes steps out : List ℕ) × IsInput (D.remaining declaration) text
-        × IsInput (A.remaining assignment) lanes × IsInput (S.remaining run) steps × Replays text lanes steps end out) }
+        × IsInput (A.remaining assignment) lanes × IsInput (S.remaining run) steps × Replays text lanes steps end out
+        × WritesWhole W.contents writer.old writer.new out) }
 {
     let mut declared = Metered::new(declaration);
     let mut assigned = Metered::new(assignment);
     let mut listed = Metered::new(run);
-    let mut writer = Metered::new(io::writer(rt));
-    replay_cmd(
-        rt.alloc(),
-        &mut declared,
-        &mut assigned,
-        &mut listed,
-        &mut writer,
-    )
+    replay_cmd(alloc, &mut declared, &mut assigned, &mut listed, writer)
 }

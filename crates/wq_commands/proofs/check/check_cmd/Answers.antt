@@ -1,99 +1,63 @@
-use Rattle.std.proofs.Common.{List, ℕ, Err, subst, ap, inr}
-use Rattle.wq_cert.specs.Texts.{max_certificate}
+use Rattle.std.proofs.Common.{ap, refl, Err}
+use Rattle.std.proofs.lemmas.Result.{IfOk-weaker}
 use Rattle.wq_meter.specs.Meter.{WritesFront, WritesWhole}
 use Rattle.wq_meter.specs.declared.fault.Fault.TheVariants.{Read}
-use Rattle.wq_commands.specs.Checking.{Checks}
-use Rattle.wq_commands.specs.CheckInput.{ChecksInput}
-use Rattle.wq_commands.specs.Declaration.{max_declaration}
-use Rattle.wq_commands.specs.declared.end.End.{End}
-use Rattle.wq_commands.proofs.PromiseLemmas.{YesIsTrue-checks}
-use Rattle.wq_commands.proofs.InputLemmas.{IsFrontOf, IsFrontOf-vec, Err-passed, ChecksInput-read}
+use Rattle.wq_commands.specs.CheckInput.{ChecksInput, KeepsYesOfInput}
+use Rattle.wq_commands.proofs.PromiseLemmas.{KeepsYesOfInput-answered}
+use Rattle.wq_commands.proofs.InputLemmas.{Err-passed, Err-kept, ChecksInput-read, written_answer, begun_answer}
 use Rattle.wq_commands.proofs.check.check_cmd.Goals as goal
 
-pub returns-in_err-claim-clause-order : goal.returns-in_err-claim-clause-order
-returns-in_err-claim-clause-order g c =
-    let text_front : IsFrontOf g.D.Read.remaining c.args.declaration.now c.read_text.new.reader max_declaration c.in_ok-text.text.items =
-    let read = c.in_ok-text.ensures in
-    IsFrontOf-vec _ _ _ _ _ _ c.in_ok-text.text.ok.0 read.text read.within read.rest read.counted read.few_calls (read.not_failed (λ is. cc)) in
-    inr text_front.given
+pub returns-in_err-text-clause-lost : goal.returns-in_err-text-clause-lost
+returns-in_err-text-clause-lost g c = c.in_err-text.ensures.lost
 
-pub returns-in_err-claim-clause-read_failed : goal.returns-in_err-claim-clause-read_failed
-returns-in_err-claim-clause-read_failed g c =
-    let text_front : IsFrontOf g.D.Read.remaining c.args.declaration.now c.read_text.new.reader max_declaration c.in_ok-text.text.items =
-    let read = c.in_ok-text.ensures in
-    IsFrontOf-vec _ _ _ _ _ _ c.in_ok-text.text.ok.0 read.text read.within read.rest read.counted read.few_calls (read.not_failed (λ is. cc)) in
-    λ is. inr (text_front.given, c.in_err-claim.ensures.failed (ap Err (Err-passed _ _ Read c.from_residual-in_err-claim.ensures.1 is)))
+pub returns-in_err-text-clause-order : goal.returns-in_err-text-clause-order
+returns-in_err-text-clause-order g c = c.in_err-text.ensures.order
 
-pub returns-in_err-end-clause-order : goal.returns-in_err-end-clause-order
-returns-in_err-end-clause-order g c =
-    let text_front : IsFrontOf g.D.Read.remaining c.args.declaration.now c.read_text.new.reader max_declaration c.in_ok-text.text.items =
-    let read = c.in_ok-text.ensures in
-    IsFrontOf-vec _ _ _ _ _ _ c.in_ok-text.text.ok.0 read.text read.within read.rest read.counted read.few_calls (read.not_failed (λ is. cc)) in
-    inr text_front.given
+pub returns-in_err-text-clause-reads : goal.returns-in_err-text-clause-reads
+returns-in_err-text-clause-reads g c = c.in_err-text.ensures.reads
 
-pub returns-in_err-write_text-clause-order : goal.returns-in_err-write_text-clause-order
-returns-in_err-write_text-clause-order g c =
-    let text_front : IsFrontOf g.D.Read.remaining c.args.declaration.now c.read_text.new.reader max_declaration c.in_ok-text.text.items =
-    let read = c.in_ok-text.ensures in
-    IsFrontOf-vec _ _ _ _ _ _ c.in_ok-text.text.ok.0 read.text read.within read.rest read.counted read.few_calls (read.not_failed (λ is. cc)) in
-    inr text_front.given
+pub returns-in_err-text-clause-bytes_read : goal.returns-in_err-text-clause-bytes_read
+returns-in_err-text-clause-bytes_read g c = c.in_err-text.ensures.bytes_read
 
-pub returns-in_err-write_text-clause-front : goal.returns-in_err-write_text-clause-front
-returns-in_err-write_text-clause-front g c =
-    let text_front : IsFrontOf g.D.Read.remaining c.args.declaration.now c.read_text.new.reader max_declaration c.in_ok-text.text.items =
-    let read = c.in_ok-text.ensures in
-    IsFrontOf-vec _ _ _ _ _ _ c.in_ok-text.text.ok.0 read.text read.within read.rest read.counted read.few_calls (read.not_failed (λ is. cc)) in
-    let claim_front : IsFrontOf g.C.Read.remaining c.args.certificate.now c.read_text-2.new.reader max_certificate c.in_ok-claim.claim.items =
-    let read = c.in_ok-claim.ensures in
-    IsFrontOf-vec _ _ _ _ _ _ c.in_ok-claim.claim.ok.0 read.text read.within read.rest read.counted read.few_calls (read.not_failed (λ is. cc)) in
-    let answered : ChecksInput g.D.Read.remaining g.C.Read.remaining c.args.declaration.now c.read_text.new.reader c.args.certificate.now c.read_text-2.new.reader c.in_ok-end.end c.in_ok-end.answer.items =
-    ChecksInput-read g.D.Read.remaining g.C.Read.remaining c.args.declaration.now c.read_text.new.reader c.args.certificate.now c.read_text-2.new.reader c.in_ok-end.end c.in_ok-end.answer.items c.in_ok-text.text.items c.in_ok-claim.claim.items text_front claim_front
-    (subst (λ (bytes : List ℕ). Checks c.in_ok-text.text.items bytes c.in_ok-end.end c.in_ok-end.answer.items) c.deref-2.ensures.value
-    (subst (λ (bytes : List ℕ). Checks bytes c.deref-2.result.now c.in_ok-end.end c.in_ok-end.answer.items) c.deref.ensures.value
-    (c.in_ok-end.ensures))) in
-    let written = subst (λ (bytes : List ℕ). WritesFront g.W.Write.contents c.args.writer.now c.write_text.new.writer bytes) c.deref-3.ensures.value c.in_err-write_text.ensures.front in
-    λ is. (c.in_ok-end.end, c.in_ok-end.answer.items, answered, written)
+pub returns-in_err-text-clause-read_failed : goal.returns-in_err-text-clause-read_failed
+returns-in_err-text-clause-read_failed g c = λ is. c.in_err-text.ensures.read_failed (ap Err (Err-passed _ _ Read c.from_residual.ensures.1 is))
+
+pub returns-in_err-text-clause-no_read_failed : goal.returns-in_err-text-clause-no_read_failed
+returns-in_err-text-clause-no_read_failed g c = λ not. c.in_err-text.ensures.no_read_failed (λ is. not (Err-kept _ _ _ Read c.from_residual.ensures.1 refl is))
+
+pub returns-clause-unwritten : goal.returns-clause-unwritten
+returns-clause-unwritten g c = λ is. absurd (c.write_answer.ensures.never_reads is)
+
+pub returns-clause-read_failed : goal.returns-clause-read_failed
+returns-clause-read_failed g c = λ is. absurd (c.write_answer.ensures.never_reads is)
+
+pub returns-clause-no_read_failed : goal.returns-clause-no_read_failed
+returns-clause-no_read_failed g c = λ _. (c.in_ok-text.ensures.declared.given.none_failed, c.in_ok-text.ensures.certified.given.none_failed)
+
+pub returns-clause-lost : goal.returns-clause-lost
+returns-clause-lost g c = c.in_ok-text.ensures.lost
 
 pub returns-clause-order : goal.returns-clause-order
-returns-clause-order g c =
-    let text_front : IsFrontOf g.D.Read.remaining c.args.declaration.now c.read_text.new.reader max_declaration c.in_ok-text.text.items =
-    let read = c.in_ok-text.ensures in
-    IsFrontOf-vec _ _ _ _ _ _ c.in_ok-text.text.ok.0 read.text read.within read.rest read.counted read.few_calls (read.not_failed (λ is. cc)) in
-    inr text_front.given
+returns-clause-order g c = c.in_ok-text.ensures.order
+
+pub returns-clause-reads : goal.returns-clause-reads
+returns-clause-reads g c = c.in_ok-text.ensures.reads
+
+pub returns-clause-bytes_read : goal.returns-clause-bytes_read
+returns-clause-bytes_read g c = c.in_ok-text.ensures.bytes_read
+
+pub returns-clause-front : goal.returns-clause-front
+returns-clause-front g c =
+    let made = IfOk-weaker c.check-answer.result _ _ (λ m answers. ChecksInput-read m.0 m.1.items c.deref.result.now c.deref-2.result.now c.in_ok-text.ensures.declared c.in_ok-text.ensures.certified c.deref.ensures.value c.deref-2.ensures.value answers) c.check-answer.ensures in
+    λ is. begun_answer c.check-answer.result (λ end out. ChecksInput g.D.Read.remaining g.C.Read.remaining c.args.declaration.now c.read_two.new.declaration c.args.certificate.now c.read_two.new.certificate end out) (WritesFront g.W.Write.contents c.args.writer.now c.write_answer.new.writer) made (c.write_answer.ensures.front is)
 
 pub returns-clause-answered : goal.returns-clause-answered
 returns-clause-answered g c =
-    let text_front : IsFrontOf g.D.Read.remaining c.args.declaration.now c.read_text.new.reader max_declaration c.in_ok-text.text.items =
-    let read = c.in_ok-text.ensures in
-    IsFrontOf-vec _ _ _ _ _ _ c.in_ok-text.text.ok.0 read.text read.within read.rest read.counted read.few_calls (read.not_failed (λ is. cc)) in
-    let claim_front : IsFrontOf g.C.Read.remaining c.args.certificate.now c.read_text-2.new.reader max_certificate c.in_ok-claim.claim.items =
-    let read = c.in_ok-claim.ensures in
-    IsFrontOf-vec _ _ _ _ _ _ c.in_ok-claim.claim.ok.0 read.text read.within read.rest read.counted read.few_calls (read.not_failed (λ is. cc)) in
-    let answered : ChecksInput g.D.Read.remaining g.C.Read.remaining c.args.declaration.now c.read_text.new.reader c.args.certificate.now c.read_text-2.new.reader c.in_ok-end.end c.in_ok-end.answer.items =
-    ChecksInput-read g.D.Read.remaining g.C.Read.remaining c.args.declaration.now c.read_text.new.reader c.args.certificate.now c.read_text-2.new.reader c.in_ok-end.end c.in_ok-end.answer.items c.in_ok-text.text.items c.in_ok-claim.claim.items text_front claim_front
-    (subst (λ (bytes : List ℕ). Checks c.in_ok-text.text.items bytes c.in_ok-end.end c.in_ok-end.answer.items) c.deref-2.ensures.value
-    (subst (λ (bytes : List ℕ). Checks bytes c.deref-2.result.now c.in_ok-end.end c.in_ok-end.answer.items) c.deref.ensures.value
-    (c.in_ok-end.ensures))) in
-    (c.in_ok-end.answer.items, answered, subst (λ (bytes : List ℕ). WritesWhole g.W.Write.contents c.args.writer.now c.write_text.new.writer bytes) c.deref-3.ensures.value c.in_ok-write_text.ensures.whole)
+    let made = IfOk-weaker c.check-answer.result _ _ (λ m answers. ChecksInput-read m.0 m.1.items c.deref.result.now c.deref-2.result.now c.in_ok-text.ensures.declared c.in_ok-text.ensures.certified c.deref.ensures.value c.deref-2.ensures.value answers) c.check-answer.ensures in
+    IfOk-weaker c.write_answer.result _ _ (λ end written. written_answer c.check-answer.result end (λ end out. ChecksInput g.D.Read.remaining g.C.Read.remaining c.args.declaration.now c.read_two.new.declaration c.args.certificate.now c.read_two.new.certificate end out) (WritesWhole g.W.Write.contents c.args.writer.now c.write_answer.new.writer) made written) c.write_answer.ensures.written
 
 pub returns-clause-promised : goal.returns-clause-promised
 returns-clause-promised g c =
-    let text_front : IsFrontOf g.D.Read.remaining c.args.declaration.now c.read_text.new.reader max_declaration c.in_ok-text.text.items =
-    let read = c.in_ok-text.ensures in
-    IsFrontOf-vec _ _ _ _ _ _ c.in_ok-text.text.ok.0 read.text read.within read.rest read.counted read.few_calls (read.not_failed (λ is. cc)) in
-    let claim_front : IsFrontOf g.C.Read.remaining c.args.certificate.now c.read_text-2.new.reader max_certificate c.in_ok-claim.claim.items =
-    let read = c.in_ok-claim.ensures in
-    IsFrontOf-vec _ _ _ _ _ _ c.in_ok-claim.claim.ok.0 read.text read.within read.rest read.counted read.few_calls (read.not_failed (λ is. cc)) in
-    let answered : ChecksInput g.D.Read.remaining g.C.Read.remaining c.args.declaration.now c.read_text.new.reader c.args.certificate.now c.read_text-2.new.reader c.in_ok-end.end c.in_ok-end.answer.items =
-    ChecksInput-read g.D.Read.remaining g.C.Read.remaining c.args.declaration.now c.read_text.new.reader c.args.certificate.now c.read_text-2.new.reader c.in_ok-end.end c.in_ok-end.answer.items c.in_ok-text.text.items c.in_ok-claim.claim.items text_front claim_front
-    (subst (λ (bytes : List ℕ). Checks c.in_ok-text.text.items bytes c.in_ok-end.end c.in_ok-end.answer.items) c.deref-2.ensures.value
-    (subst (λ (bytes : List ℕ). Checks bytes c.deref-2.result.now c.in_ok-end.end c.in_ok-end.answer.items) c.deref.ensures.value
-    (c.in_ok-end.ensures))) in (
-      c.in_ok-end.answer.items,
-      record {
-        answered = answered;
-        promise = λ good. YesIsTrue-checks answered.text answered.claim c.in_ok-end.answer.items
-            (subst (λ (end : End). Checks answered.text answered.claim end c.in_ok-end.answer.items) good answered.answer);
-      },
-      subst (λ (bytes : List ℕ). WritesWhole g.W.Write.contents c.args.writer.now c.write_text.new.writer bytes) c.deref-3.ensures.value c.in_ok-write_text.ensures.whole,
-    )
+    let made =
+    IfOk-weaker c.check-answer.result _ _ (λ m answers. KeepsYesOfInput-answered m.0 m.1.items (ChecksInput-read m.0 m.1.items c.deref.result.now c.deref-2.result.now c.in_ok-text.ensures.declared c.in_ok-text.ensures.certified c.deref.ensures.value c.deref-2.ensures.value answers)) c.check-answer.ensures in
+    IfOk-weaker c.write_answer.result _ _ (λ end written. written_answer c.check-answer.result end (λ end out. KeepsYesOfInput g.D.Read.remaining g.C.Read.remaining c.args.declaration.now c.read_two.new.declaration c.args.certificate.now c.read_two.new.certificate end out) (WritesWhole g.W.Write.contents c.args.writer.now c.write_answer.new.writer) made written) c.write_answer.ensures.written

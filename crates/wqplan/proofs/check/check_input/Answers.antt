@@ -1,6 +1,6 @@
 use Rattle.std.proofs.Common.{ap, subst}
 use Rattle.std.proofs.lemmas.Result.{IfOk-weaker}
-use Rattle.wq_commands.specs.Input.{IsInput}
+use Rattle.wq_meter.specs.Input.{IsInput}
 use Rattle.wqplan.proofs.check.check_input.Goals as goal
 
 pub returns : goal.returns
@@ -15,4 +15,5 @@ returns g c =
       subst (λ device. IsInput (g.D.Read.remaining device) answer.text) declared answer.declaration.input,
       subst (λ device. IsInput (g.C.Read.remaining device) answer.claim) certified answer.certificate.input,
       answer.answer,
+      h.2,
     )) c.check_cmd.ensures.answered

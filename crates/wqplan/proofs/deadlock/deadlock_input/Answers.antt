@@ -1,6 +1,6 @@
 use Rattle.std.proofs.Common.{ap, subst}
 use Rattle.std.proofs.lemmas.Result.{IfOk-weaker}
-use Rattle.wq_commands.specs.Input.{IsInput}
+use Rattle.wq_meter.specs.Input.{IsInput}
 use Rattle.wqplan.proofs.deadlock.deadlock_input.Goals as goal
 
 pub returns : goal.returns
@@ -15,4 +15,5 @@ returns g c =
       subst (λ device. IsInput (g.D.Read.remaining device) answer.text) declared answer.declaration.input,
       subst (λ device. IsInput (g.A.Read.remaining device) answer.lanes) assigned answer.assignment.input,
       answer.answer,
+      h.2,
     )) c.deadlock_cmd.ensures.answered

@@ -1,6 +1,6 @@
 use Rattle.std.proofs.Common.{ap, subst}
 use Rattle.std.proofs.lemmas.Result.{IfOk-weaker}
-use Rattle.wq_commands.specs.Input.{IsInput}
+use Rattle.wq_meter.specs.Input.{IsInput}
 use Rattle.wqplan.proofs.plan.plan_input.Goals as goal
 
 pub returns : goal.returns
@@ -12,4 +12,5 @@ returns g c =
       h.0,
       subst (λ device. IsInput (g.I.Read.remaining device) answer.text) reader answer.given.input,
       answer.answer,
+      h.2,
     )) c.plan_cmd.ensures.answered

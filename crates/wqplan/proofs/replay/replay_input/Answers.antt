@@ -1,6 +1,6 @@
 use Rattle.std.proofs.Common.{ap, subst}
 use Rattle.std.proofs.lemmas.Result.{IfOk-weaker}
-use Rattle.wq_commands.specs.Input.{IsInput}
+use Rattle.wq_meter.specs.Input.{IsInput}
 use Rattle.wqplan.proofs.replay.replay_input.Goals as goal
 
 pub returns : goal.returns
@@ -18,4 +18,5 @@ returns g c =
       subst (λ device. IsInput (g.A.Read.remaining device) answer.lanes) assigned answer.assignment.input,
       subst (λ device. IsInput (g.S.Read.remaining device) answer.steps) listed answer.run.input,
       answer.answer,
+      h.2,
     )) c.replay_cmd.ensures.answered

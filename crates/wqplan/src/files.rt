@@ -1,0 +1,14 @@
+//! Files that are read.
+//!
+//! Takes the time of a call of the system.
+
+use std::fs;
+use std::rt::Files;
+use wq_commands::Fault;
+
+/// The file of this path.
+///
+/// One that can't be opened is `Fault::Read`.
+pub(crate) fn open<R: Files>(rt: &R, path: &str) -> Result<R::File, Fault> {
+    fs::open(rt, path).map_err(|_| Fault::Read)
+}

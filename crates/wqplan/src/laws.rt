@@ -1,0 +1,13 @@
+//! What holds of the numbers that are printed and of those that are explained.
+//!
+//! Each law is a function without effect, whose contract is the law.
+
+ghost use Rattle.std.specs.Prelude.{◌≡◌, ◌↔◌, ℕ};
+ghost use Rattle.wq_commands.specs.Numbers.{IsPrinted};
+ghost use Rattle.wq_explain.specs.Explaining.{explained_end};
+ghost use Rattle.wq_explain.specs.declared.explain.Explained.TheVariants.{Known};
+
+/// `explain` knows just the numbers that a refusal or a `no` can have.
+pub fn each_printed_number_is_explained()
+    ensures { (code : ℕ) → IsPrinted code ↔ (explained_end code ≡ Known) }
+{}
