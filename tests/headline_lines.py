@@ -3,8 +3,8 @@
 
 From `KeepsPromise` (crates/wq_commands/specs/Promise.antt) it follows each definition in crates/*/specs that is cited,
 directly or over others, and prints how many there are, how many lines they have, and how many the comments above them
-have: without blank lines, and a line of more than 120 columns as the lines that it would fill. std's words aren't
-counted, and the enums of src/ that are cited are named by themselves.
+have, without blank lines; beside it how many lines they would be if one of more than 120 columns were broken. std's words
+aren't counted, and the enums of src/ that are cited are named by themselves.
 
     tests/headline_lines.py [--list] [CRATE.MODULE.NAME]
 
@@ -77,7 +77,8 @@ def module_of(crate, name):
     return MODULES[crate, name]
 
 
-def lines_of(block):
+def broken(block):
+    """How many lines these are where each long one is broken."""
     return sum(-(-len(line) // COLUMNS) for line in block)
 
 
@@ -113,10 +114,9 @@ def main():
                 at = (c, m)
             print("\n" + "\n".join(block))
         print()
-    said = [line for _, _, block in blocks for line in block]
-    above = [line for line in said if line.startswith("--")]
-    whole, comments = lines_of(said), lines_of(above)
-    print(f"{len(blocks)} definitions: {whole - comments} lines, and {comments} of comments, {whole} in all")
+    said = [line for _, _, block in blocks for line in block if not line.startswith("--")]
+    above = [line for _, _, block in blocks for line in block if line.startswith("--")]
+    print(f"{len(blocks)} definitions: {len(said)} lines ({broken(said)} of at most {COLUMNS} columns), {len(above)} of comments above them")
     print(f"enums of src/: {', '.join(sorted(types))}")
 
 

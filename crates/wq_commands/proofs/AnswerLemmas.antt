@@ -5,13 +5,11 @@ use Rattle.std.proofs.lemmas.List.{length-take, take_all, length-map}
 use Rattle.std.proofs.lemmas.List.Elements.{All-map, All-weaker}
 use Rattle.std.specs.List.{All}
 use Rattle.std.specs.Prelude.{MatchResult, take}
-use Rattle.wq_text.specs.declared.text.TextError.{TextError}
 use Rattle.wq_text.specs.Lines.{lines_of}
-use Rattle.wq_text.specs.Limits.{limit_fault}
+use Rattle.wq_text.specs.Limits.{limit_fault, text_refusal}
 use Rattle.wq_text.specs.Refusal.{Refusal}
 use Rattle.wq_decl.specs.declared.directive.Directive.{Directive}
-use Rattle.wq_decl.specs.declared.fault.DeclError.{DeclError}
-use Rattle.wq_decl.specs.Reading.{directives, first_fault}
+use Rattle.wq_decl.specs.Reading.{decl_refusal, directives, first_fault}
 use Rattle.wq_decl.proofs.NameLemmas.{HasNames-directives}
 use Rattle.wq_items.specs.declared.fault.ItemError.{ItemError}
 use Rattle.wq_items.specs.Table.{Table, IsTable, ItemWaits}
@@ -40,15 +38,12 @@ use Rattle.wq_commands.specs.declared.end.End.{End}
 use Rattle.wq_commands.specs.declared.end.End.TheVariants.{Refused}
 use Rattle.wq_commands.specs.Answer.{ends_of}
 use Rattle.wq_commands.specs.Answer.{Answers, AnswersDeclared, refusal_text, declared_waits}
-use Rattle.wq_commands.specs.Declaration.{Declared, max_declaration, max_declaration_line, by_limits, by_directives, by_table, by_groups, declaration}
+use Rattle.wq_commands.specs.Declaration.{Declared, max_declaration, max_declaration_line, unless_refused, by_table, by_groups, declaration}
 
-past_limits : (fault : Option TextError) (rest : Result Declared Refusal) (s : Declared) → by_limits fault rest ≡ Ok s → rest ≡ Ok s
-past_limits None rest s e = e
-past_limits (Some fault) rest s e = absurd cc
-
-past_directives : (fault : Option DeclError) (rest : Result Declared Refusal) (s : Declared) → by_directives fault rest ≡ Ok s → rest ≡ Ok s
-past_directives None rest s e = e
-past_directives (Some fault) rest s e = absurd cc
+past_faults : {F : Type 0} (refusal : F → Refusal) (fault : Option F) (rest : Result Declared Refusal) (s : Declared)
+    → unless_refused refusal fault rest ≡ Ok s → rest ≡ Ok s
+past_faults refusal None rest s e = e
+past_faults refusal (Some fault) rest s e = absurd cc
 
 past_groups : (t : Table) (r : Result Partition GroupError) (s : Declared) → by_groups t r ≡ Ok s → (t ≡ s.table) × (r ≡ Ok s.partition)
 past_groups t (Ok p) s e =
@@ -77,8 +72,8 @@ pub record IsSound (s : Declared) : Type 0 where
 pub IsSound-declaration : (text : List ℕ) (s : Declared) → declaration text ≡ Ok s → IsSound s
 IsSound-declaration text s e =
     let ds = directives (lines_of text) in
-    let made = past_table ds (table_of ds) s refl (past_directives (first_fault (lines_of text)) (by_table ds (table_of ds)) s
-    (past_limits (limit_fault max_declaration max_declaration_line text) (by_directives (first_fault (lines_of text)) (by_table ds (table_of ds))) s e)) in
+    let made = past_table ds (table_of ds) s refl (past_faults decl_refusal (first_fault (lines_of text)) (by_table ds (table_of ds)) s
+    (past_faults text_refusal (limit_fault max_declaration max_declaration_line text) (unless_refused decl_refusal (first_fault (lines_of text)) (by_table ds (table_of ds))) s e)) in
     record {
       table = IsTable-table_of ds s.table (HasNames-directives (lines_of text)) made.table;
       partition = IsPartition-groups_of ds s.table s.partition made.table made.groups;

@@ -37,18 +37,14 @@ abbrev pub by_table : List (ℕ × Directive) → Result Table ItemError → Res
 by_table ds (Ok table) = by_groups table (groups_of ds table.names)
 by_table ds (Err fault) = Err (item_refusal fault)
 
--- the refusal of the second pass, or what the other two say
-abbrev pub by_directives : Option DeclError → Result Declared Refusal → Result Declared Refusal
-by_directives (Some fault) rest = Err (decl_refusal fault)
-by_directives None rest = rest
-
--- the refusal of the first pass, or what the other three say
-abbrev pub by_limits : Option TextError → Result Declared Refusal → Result Declared Refusal
-by_limits (Some fault) rest = Err (text_refusal fault)
-by_limits None rest = rest
+-- the refusal of a pass that finds a fault, or what the passes after it say
+abbrev pub unless_refused : {F : Type 0} → (F → Refusal) → Option F → Result Declared Refusal → Result Declared Refusal
+unless_refused refusal (Some fault) rest = Err (refusal fault)
+unless_refused refusal None rest = rest
 
 -- what a text declares, or the first fault of the first pass that has one
 abbrev pub declaration : List ℕ → Result Declared Refusal
 declaration text =
-    by_limits (limit_fault max_declaration max_declaration_line text)
-    (by_directives (first_fault (lines_of text)) (by_table (directives (lines_of text)) (table_of (directives (lines_of text)))))
+    unless_refused text_refusal (limit_fault max_declaration max_declaration_line text)
+    (unless_refused decl_refusal (first_fault (lines_of text))
+    (by_table (directives (lines_of text)) (table_of (directives (lines_of text)))))

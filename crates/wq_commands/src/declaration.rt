@@ -5,7 +5,8 @@
 ghost use Rattle.std.specs.Prelude.{◌≡◌, Ok, Err, None, Result, IfOk, IfErr};
 ghost use Rattle.wq_text.specs.Lines.{lines_of};
 ghost use Rattle.wq_text.specs.Limits.{limit_fault, text_refusal};
-ghost use Rattle.wq_decl.specs.Reading.{first_fault, decl_refusal};
+ghost use Rattle.wq_decl.specs.Reading.{first_fault, directives, decl_refusal};
+ghost use Rattle.wq_groups.specs.OutOfMemory.{RanOutReading};
 ghost use Rattle.wq_commands.specs.Declaration.{declaration, max_declaration, max_declaration_line};
 ghost use Rattle.wq_commands.specs.Stop.{StopsAt, item_stop, group_stop};
 ghost use Rattle.wq_commands.specs.declared.declaration.Stop.TheVariants.{Refused, OutOfMemory};
@@ -91,7 +92,7 @@ impl From<GroupError> for Stop {
 /// What a text declares.
 ///
 /// The answer is the first fault of the first pass that has one, or `OutOfMemory` where a growth was refused before
-/// it.
+/// it: no earlier pass has a fault, and neither has any line up to the one at which memory ran out.
 pub fn read_declaration<A: Allocator + Copy>(
     alloc: A,
     text: &[u8],
@@ -101,6 +102,7 @@ pub fn read_declaration<A: Allocator + Copy>(
     // The first two passes take no memory.
     ensures first_passes { result ≡ Err OutOfMemory → (limit_fault max_declaration max_declaration_line text.now ≡ None)
         × (first_fault (lines_of text.now) ≡ None) }
+    ensures memory { result ≡ Err OutOfMemory → RanOutReading (directives (lines_of text.now)) }
 {
     let text = Text::new(text, MAX_DECLARATION, MAX_DECLARATION_LINE)?;
     let view = DeclView::new(text)?;
