@@ -1,3 +1,4 @@
+pub mod TextWords
 pub mod FormLemmas
 pub mod ReadLemmas
 pub mod StoodLemmas

@@ -1,5 +1,5 @@
 -- Circles as they are printed, read back.
-use Rattle.std.proofs.Common.{◌≡◌, ℕ, ◌<◌, ◌≤◌, ◌^◌, List, [], length, map, Option, Some, None, Ok, refl, sym, subst, arith, length-append, IfSome}
+use Rattle.std.proofs.Common.{◌≡◌, ℕ, ◌<◌, ◌≤◌, ◌^◌, List, [], length, map, Option, Some, None, Ok, refl, sym, subst, ◌∙◌, arith, length-append, IfSome}
 use Rattle.std.specs.Prelude.{codes}
 use Rattle.std.specs.List.{All, AllByRecursion}
 use Rattle.std.specs.Option.{option_map_or}
@@ -24,6 +24,7 @@ use Rattle.wq_cert.proofs.PrintedLines.{IsPrintableLine, IsShort-printed, words_
 use Rattle.wq_cert.proofs.PrintedRuns.{IsPrintableLine-run}
 use Rattle.wq_cert.proofs.PrintedWords.{IsPrintable-keyword, IsPrintableLine-count}
 use Rattle.wq_cert.proofs.SpelledAnswers.{text_reading-KeepsLimits, answer_reading-circle}
+use Rattle.wq_cert.proofs.TextWords.{words_in-text}
 
 module _ (t : Table) (table : IsTable t) where
   -- the lines of the run, where there is one
@@ -76,4 +77,4 @@ module _ (t : Table) (table : IsTable t) where
         run = SpellsRunBehind-printed steps steps_named few_steps;
       } in
       text_reading-KeepsLimits (answer_reading t.names p) text (OfCircle circle) (KeepsLimits-printed lines printable most)
-      (answer_reading-circle t.names p table.distinct (cert_lines (lines_of text)) circle (subst (λ (ws : List (List (List ℕ))). SpellsCircle t.names ws circle) (sym (words_of_text-printed lines printable)) spells))
+      (answer_reading-circle t.names p table.distinct (cert_lines (lines_of text)) circle (subst (λ (ws : List (List (List ℕ))). SpellsCircle t.names ws circle) (sym (words_in-text text ∙ words_of_text-printed lines printable)) spells))

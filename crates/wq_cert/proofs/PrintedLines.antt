@@ -18,6 +18,7 @@ use Rattle.wq_cert.specs.Lines.{bytes_of, holds_word, cert_line, cert_lines}
 use Rattle.wq_cert.proofs.ListLemmas.{AllByRecursion-append, AllByRecursion-weaker}
 use Rattle.wq_cert.specs.Spelled.{words_in, words_of_text, KeepsLimits}
 use Rattle.wq_cert.specs.Texts.{max_certificate}
+use Rattle.wq_cert.proofs.TextWords.{words_in-text}
 
 -- ---- what can be printed
 
@@ -156,7 +157,7 @@ lines_from-printed n start (words ∷ lines) h =
 
 -- the words of a printed text are those that were printed
 pub words_of_text-printed : (lines : List (List (List ℕ))) → AllByRecursion IsPrintableLine lines → words_of_text (flat_map line_text lines) ≡ lines
-words_of_text-printed lines h = lines_from-printed 1 0 lines h
+words_of_text-printed lines h = sym (words_in-text (flat_map line_text lines)) ∙ lines_from-printed 1 0 lines h
 
 -- ---- limits
 

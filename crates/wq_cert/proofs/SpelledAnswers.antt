@@ -1,5 +1,5 @@
 -- Which texts are read as an answer, an assignment or a run.
-use Rattle.std.proofs.Common.{◌≡◌, ◌≢◌, ℕ, inl, inr, Bool, false, cond, List, [], ◌∷◌, length, map, get_or, Option, None, Result, Ok, ap, ◌∙◌}
+use Rattle.std.proofs.Common.{◌≡◌, ◌≢◌, ℕ, inl, inr, Bool, false, cond, List, [], ◌∷◌, length, map, get_or, Option, None, Result, Ok, sym, subst, ap, ◌∙◌}
 use Rattle.std.specs.Prelude.{AllPairs, codes, decimal}
 use Rattle.wq_text.specs.declared.text.TextError.{TextError}
 use Rattle.wq_text.specs.Lines.{lines_of}
@@ -20,6 +20,7 @@ use Rattle.wq_cert.specs.Spelled.{words_in, words_of_text, workqueue_lines, Spel
 use Rattle.wq_cert.specs.Texts.{max_certificate, max_certificate_line, unless_too_long, text_reading, answer_of, assignment_of_text, run_of}
 use Rattle.wq_cert.proofs.SpelledTexts.{SpellsRun-run_reading, run_reading-SpellsRun, SpellsCircle-circle_reading, circle_reading-SpellsCircle, SpellsWorkqueues-workqueues_reading, workqueues_reading-SpellsWorkqueues, SpellsPlan-plan_reading, plan_reading-SpellsPlan}
 use Rattle.wq_cert.proofs.ReadRanges.{IsReadSo-text_reading, IsReadAs, IsReadAs-answer_reading, circle_answer, plan_answer, IsAssignedBy, IsAssignedBy-assignment_reading, of_plan}
+use Rattle.wq_cert.proofs.TextWords.{words_in-text}
 
 -- ---- limits
 
@@ -57,8 +58,11 @@ module _ (names : List (List ℕ)) (p : Partition) (one_group_each : length name
   pub SpellsCertificate-answer_of : (text : List ℕ) (c : Certificate) → answer_of names p text ≡ Ok c → KeepsLimits text × SpellsCertificate names p (words_of_text text) c
   SpellsCertificate-answer_of text c e =
       let found = KeepsLimits-text_reading (answer_reading names p) text c e in
-      let lines = cert_lines (lines_of text) in
-      (found.0, SpellsCertificate-read lines c (IsReadAs-answer_reading names p lines c found.1))
+      let lines = cert_lines (lines_of text) in (
+        found.0,
+        subst (λ (ws : List (List (List ℕ))). SpellsCertificate names p ws c) (words_in-text text)
+            (SpellsCertificate-read lines c (IsReadAs-answer_reading names p lines c found.1)),
+      )
 
   SpellsAssignment-read : (lines : List CertLine) (a : Assignment) → IsAssignedBy names p lines a → SpellsAssignment names p (words_in lines) a
   SpellsAssignment-read lines a (inl e) = inl (SpellsWorkqueues-workqueues_reading names p one_group_each lines a e)
@@ -67,8 +71,11 @@ module _ (names : List (List ℕ)) (p : Partition) (one_group_each : length name
   pub SpellsAssignment-assignment_of_text : (text : List ℕ) (a : Assignment) → assignment_of_text names p text ≡ Ok a → KeepsLimits text × SpellsAssignment names p (words_of_text text) a
   SpellsAssignment-assignment_of_text text a e =
       let found = KeepsLimits-text_reading (assignment_reading names p) text a e in
-      let lines = cert_lines (lines_of text) in
-      (found.0, SpellsAssignment-read lines a (IsAssignedBy-assignment_reading names p lines a found.1))
+      let lines = cert_lines (lines_of text) in (
+        found.0,
+        subst (λ (ws : List (List (List ℕ))). SpellsAssignment names p ws a) (words_in-text text)
+            (SpellsAssignment-read lines a (IsAssignedBy-assignment_reading names p lines a found.1)),
+      )
 
   module _ (differ : AllPairs (λ (a b : List ℕ). a ≢ b) names) where
     -- the first word decides what is read
@@ -85,7 +92,8 @@ module _ (names : List (List ℕ)) (p : Partition) (one_group_each : length name
 
     pub answer_of-spelled : (text : List ℕ) (c : Certificate) → KeepsLimits text × SpellsCertificate names p (words_of_text text) c → answer_of names p text ≡ Ok c
     answer_of-spelled text c h =
-        text_reading-KeepsLimits (answer_reading names p) text c h.0 (answer_reading-spelled (cert_lines (lines_of text)) c h.1)
+        let spells = subst (λ (ws : List (List (List ℕ))). SpellsCertificate names p ws c) (sym (words_in-text text)) h.1 in
+        text_reading-KeepsLimits (answer_reading names p) text c h.0 (answer_reading-spelled (cert_lines (lines_of text)) c spells)
 
     no_plan : (workqueues : List (List ℕ)) (line : CertLine) (lines : List CertLine) → words_in (line ∷ lines) ≡ workqueue_lines names workqueues → begins_with (codes "plan") line.words ≡ false
     no_plan [] line lines e = absurd cc
@@ -112,16 +120,21 @@ module _ (names : List (List ℕ)) (p : Partition) (one_group_each : length name
 
     pub assignment_of_text-spelled : (text : List ℕ) (a : Assignment) → KeepsLimits text × SpellsAssignment names p (words_of_text text) a → assignment_of_text names p text ≡ Ok a
     assignment_of_text-spelled text a h =
-        text_reading-KeepsLimits (assignment_reading names p) text a h.0 (assignment_reading-spelled (cert_lines (lines_of text)) a h.1)
+        let spells = subst (λ (ws : List (List (List ℕ))). SpellsAssignment names p ws a) (sym (words_in-text text)) h.1 in
+        text_reading-KeepsLimits (assignment_reading names p) text a h.0 (assignment_reading-spelled (cert_lines (lines_of text)) a spells)
 
 -- ---- runs
 
 module _ (names : List (List ℕ)) where
   pub SpellsRun-run_of : (text : List ℕ) (steps : List Step) → run_of names text ≡ Ok steps → KeepsLimits text × SpellsRun names (words_of_text text) steps
   SpellsRun-run_of text steps e =
-      let found = KeepsLimits-text_reading (run_reading names) text steps e in
-      (found.0, SpellsRun-run_reading names (cert_lines (lines_of text)) steps found.1)
+      let found = KeepsLimits-text_reading (run_reading names) text steps e in (
+        found.0,
+        subst (λ (ws : List (List (List ℕ))). SpellsRun names ws steps) (words_in-text text)
+            (SpellsRun-run_reading names (cert_lines (lines_of text)) steps found.1),
+      )
 
   pub run_of-spelled : AllPairs (λ (a b : List ℕ). a ≢ b) names → (text : List ℕ) (steps : List Step) → KeepsLimits text × SpellsRun names (words_of_text text) steps → run_of names text ≡ Ok steps
   run_of-spelled differ text steps h =
-      text_reading-KeepsLimits (run_reading names) text steps h.0 (run_reading-SpellsRun names differ (cert_lines (lines_of text)) steps h.1)
+      let spells = subst (λ (ws : List (List (List ℕ))). SpellsRun names ws steps) (sym (words_in-text text)) h.1 in
+      text_reading-KeepsLimits (run_reading names) text steps h.0 (run_reading-SpellsRun names differ (cert_lines (lines_of text)) steps spells)

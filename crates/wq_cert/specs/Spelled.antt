@@ -1,12 +1,13 @@
 -- Spelled: which lines are read, said without a reader: their words are those of the forms, one behind the other.
-use Rattle.std.specs.Prelude.{◌≡◌, ◌≢◌, ℕ, ◌-◌, ◌^◌, ◌<◌, ◌≤◌, List, [], ◌∷◌, ◌++◌, ◌⊎◌, length, map, slice_index_or, Contains, AllPairs, codes, decimal, Option, Some, None}
+use Rattle.std.specs.Prelude.{◌≡◌, ◌≢◌, ℕ, ◌-◌, ◌^◌, ◌<◌, ◌≤◌, List, [], ◌∷◌, ◌++◌, ◌⊎◌, length, map, filter, slice_index_or, Contains, AllPairs, codes, decimal, Option, Some, None}
 use Rattle.std.specs.List.{All, concat, enumerate_from}
 use Rattle.wq_text.specs.Lines.{LineView, lines_of}
+use Rattle.wq_text.specs.Words.{words_of}
 use Rattle.wq_groups.specs.Partition.{Partition, ShareGroup}
 use Rattle.wq_groups.specs.Assignment.{Assignment, max_lanes}
 use Rattle.wq_core.specs.declared.step.Step.{Step}
 use Rattle.wq_cert.specs.Certificate.{PlanCertificate, CircleCertificate, Certificate, OfPlan, OfCircle}
-use Rattle.wq_cert.specs.Lines.{CertLine, cert_lines}
+use Rattle.wq_cert.specs.Lines.{CertLine, bytes_of, holds_word}
 use Rattle.wq_cert.specs.Ranges.{IsArcOf, IsStepOf}
 use Rattle.wq_cert.specs.Reading.{max_count, assignment_of}
 use Rattle.wq_cert.specs.PlanText.{plan_line, workqueue_line, arc_line}
@@ -26,8 +27,7 @@ IsOnWorkqueue workqueues q i = Contains (slice_index_or workqueues q []) i
 
 -- two items of one group are on one workqueue
 abbrev pub GroupsAreWhole : List ℕ → List (List ℕ) → Type 0
-GroupsAreWhole group_of workqueues =
-    (q r i j : ℕ) → IsOnWorkqueue workqueues q i → IsOnWorkqueue workqueues r j → ShareGroup group_of i j → q ≡ r
+GroupsAreWhole group_of qs = (q r i j : ℕ) → IsOnWorkqueue qs q i → IsOnWorkqueue qs r j → ShareGroup group_of i j → q ≡ r
 
 -- at most 4,096 workqueues with these items, each on one of them and only once, and each group on one workqueue
 pub record AreWorkqueues (items : ℕ) (group_of : List ℕ) (workqueues : List (List ℕ)) : Type 0 where
@@ -102,4 +102,4 @@ pub record KeepsLimits (text : List ℕ) : Type 0 where
 
 -- the words of each line that holds one
 abbrev pub words_of_text : List ℕ → List (List (List ℕ))
-words_of_text text = words_in (cert_lines (lines_of text))
+words_of_text text = map (λ (line : LineView). bytes_of (words_of line)) (filter holds_word (lines_of text))

@@ -31,7 +31,7 @@ flush_reading n (name ∷ target ∷ others) = if are_names (name ∷ target ∷
 -- the words after `ordered` on line n: one name at least
 abbrev pub ordered_reading : ℕ → List WordView → Result (Option Directive) DeclError
 ordered_reading n [] = Err (MissingName n)
-ordered_reading n (name ∷ others) = if are_names (name ∷ others) then Ok (Some (Ordered (name ∷ others))) else Err (BadName n)
+ordered_reading n (name ∷ rest) = if are_names (name ∷ rest) then Ok (Some (Ordered (name ∷ rest))) else Err (BadName n)
 
 -- the words of line n: none on a blank line, else a directive
 abbrev pub words_reading : ℕ → List WordView → Result (Option Directive) DeclError
@@ -43,7 +43,7 @@ words_reading n (first ∷ others) =
 
 -- what a line says, or its first fault: its comment may hold any bytes
 abbrev pub reading : LineView → Result (Option Directive) DeclError
-reading line = if list_all is_text_byte (before_comment line.bytes) then words_reading line.no (words_of line) else Err (BadByte line.no)
+reading l = if list_all is_text_byte (before_comment l.bytes) then words_reading l.no (words_of l) else Err (BadByte l.no)
 
 -- the fault of a line that has one
 abbrev pub fault_in : Result (Option Directive) DeclError → Option DeclError

@@ -20,11 +20,8 @@ span_of word = record { start = word.start; end = word.start + length word.bytes
 
 -- the table with one item more, which flushes nothing
 abbrev pub with_item : Table → WordView → Table
-with_item t name = record {
-  names = t.names ++ (name.bytes ∷ []);
-  spans = t.spans ++ (span_of name ∷ []);
-  waits = t.waits ++ ([] ∷ []);
-}
+with_item t name =
+    record { names = t.names ++ (name.bytes ∷ []); spans = t.spans ++ (span_of name ∷ []); waits = t.waits ++ ([] ∷ []) }
 
 -- targets, the first of which is at this place
 abbrev pub targets_from : ℕ → List ℕ → List Target

@@ -35,8 +35,8 @@ taken p = length p.bytes + (if p.ended then 1 else 0)
 
 -- the pieces as lines, the first of which has this number and begins at this offset
 abbrev pub lines_from : ℕ → ℕ → List Piece → List LineView
-lines_from n start [] = []
-lines_from n start (p ∷ ps) = record { no = n; start = start; bytes = line_bytes p } ∷ lines_from (n + 1) (start + taken p) ps
+lines_from n at [] = []
+lines_from n at (p ∷ ps) = record { no = n; start = at; bytes = line_bytes p } ∷ lines_from (n + 1) (at + taken p) ps
 
 -- the lines of a text
 abbrev pub lines_of : List ℕ → List LineView

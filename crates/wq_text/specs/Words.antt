@@ -32,8 +32,8 @@ longer at b (w ∷ ws) = record { start = at; bytes = b ∷ w.bytes } ∷ ws
 abbrev pub words_from : ℕ → List ℕ → List WordView
 words_from at [] = []
 words_from at (b ∷ bs) =
-    let others = words_from (at + 1) bs in
-    if is_blank b then others else (if begins_word bs then longer at b others else record { start = at; bytes = b ∷ [] } ∷ others)
+    let ws = words_from (at + 1) bs in
+    if is_blank b then ws else (if begins_word bs then longer at b ws else record { start = at; bytes = b ∷ [] } ∷ ws)
 
 -- the words of a line: those of the bytes before its comment
 abbrev pub words_of : LineView → List WordView
