@@ -414,7 +414,7 @@ def look_at_replay(declaration_text, assignment_text, run_text):
     demand(not (falls and stuck), "where the numbers fall no run ends stuck")
     demand(not (stuck and is_safe(declared, assignment)), "no run of a safe assignment ends stuck")
 
-    # The fronts of the run.
+    # The prefixes of the run.
     lines = tidy(run_text).split(b"\n")[1:-1]
     if len(lines) > 60:
         return

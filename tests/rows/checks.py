@@ -6,7 +6,7 @@
 CHECKS = [
     # Two items, one of which flushes the other.
     ("item a / item b / flush a b", [
-        # The fronts of an answer.
+        # The prefixes of an answer.
         ("", "refused 40 line 0"),
         ("plan 2", "refused 40 line 0"),
         ("plan 2 / wq 0 b", "refused 40 line 0"),
@@ -130,7 +130,7 @@ CHECKS = [
     # An item that flushes itself.
     ("item a / flush a a", [
         ("plan 1 / wq 0 a / chain 1", "no 50 a a"),
-        # The fronts of a circle and its run.
+        # The prefixes of a circle and its run.
         ("circle 1", "refused 40 line 0"),
         ("circle 1 / arc a a", "yes circle 1"),
         ("circle 1 / arc a a / run 3", "refused 40 line 0"),

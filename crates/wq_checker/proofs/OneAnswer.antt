@@ -148,7 +148,7 @@ module _ (d : Declaration) where
 
 -- ---- ends
 
--- the steps of a front of a list
+-- the steps of a prefix of a list
 IsRunFrom-front : (w : Wiring) (s : State) (steps : List Step) (m k : ℕ) (step : Step) → IsRunFrom w s (take m steps) → k < m → slice_get steps k ≡ Some step → Lawful w (after w s (take k steps)) step
 IsRunFrom-front w s [] m k step run less stands = absurd cc
 IsRunFrom-front w s (first ∷ steps) zero k step run less stands = absurd (omega arith)

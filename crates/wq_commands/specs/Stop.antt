@@ -11,12 +11,12 @@ use Rattle.wq_commands.specs.Declaration.{Declared}
 use Rattle.wq_commands.specs.declared.declaration.Stop.{Stop}
 use Rattle.wq_commands.specs.declared.declaration.Stop.TheVariants.{Refused, OutOfMemory}
 
--- a refusal of this number and line, or want of memory, which says nothing of the text
+-- a refusal of this number and line, or out of memory, which says nothing of the text
 abbrev pub StopsAt : Stop → Result Declared Refusal → Type 0
 StopsAt (Refused code line) declared = declared ≡ Err (record { code = code; line = line })
 StopsAt OutOfMemory declared = Unit {0}
 
--- a fault of the third pass, or want of memory
+-- a fault of the third pass, or out of memory
 abbrev pub item_stop : ItemError → Stop
 item_stop items.OutOfMemory = OutOfMemory
 item_stop (items.ItemTwice line) = Refused (item_refusal (items.ItemTwice line)).code line
@@ -24,7 +24,7 @@ item_stop (items.UnknownItem line) = Refused (item_refusal (items.UnknownItem li
 item_stop (items.TooManyItems line) = Refused (item_refusal (items.TooManyItems line)).code line
 item_stop (items.TooManyFlushes line) = Refused (item_refusal (items.TooManyFlushes line)).code line
 
--- a fault of the fourth pass, or want of memory
+-- a fault of the fourth pass, or out of memory
 abbrev pub group_stop : GroupError → Stop
 group_stop groups.OutOfMemory = OutOfMemory
 group_stop (groups.GroupedTwice line) = Refused (group_refusal (groups.GroupedTwice line)).code line

@@ -24,7 +24,7 @@ use wq_meter::{Fault, Metered};
 ///
 /// At most 1,048,577 bytes of the declaration and 8,388,609 of the certificate are read, in at most as many calls; the
 /// certificate is untouched until the declaration has been read to its end. The errors are `Fault::Read`, where a read
-/// failed, `Fault::Memory`, and `Fault::Write`, where a write failed or took no byte; after the last one a front of the
+/// failed, `Fault::Memory`, and `Fault::Write`, where a write failed or took no byte; after the last one a prefix of the
 /// answer is written, and after the others nothing.
 pub fn check_cmd<D: Read, C: Read, W: Write, A: Allocator + Copy>(
     alloc: A,

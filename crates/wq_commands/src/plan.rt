@@ -20,7 +20,7 @@ use wq_meter::{Fault, Metered, read_text};
 /// wait, with a run that shows it, or its refusal.
 ///
 /// At most 1,048,577 bytes are read, in at most as many calls. The errors are `Fault::Read`, where a read failed,
-/// `Fault::Memory`, and `Fault::Write`, where a write failed or took no byte; after the last one a front of the answer
+/// `Fault::Memory`, and `Fault::Write`, where a write failed or took no byte; after the last one a prefix of the answer
 /// is written, and after the others nothing.
 pub fn plan_cmd<R: Read, W: Write, A: Allocator + Copy>(
     alloc: A,

@@ -25,7 +25,7 @@ use wq_meter::{Fault, Metered};
 ///
 /// At most 1,048,577 bytes of the declaration and 8,388,609 of each of the others are read, in at most as many calls; each
 /// is untouched until those before it have been read to their ends. The errors are `Fault::Read`, where a read failed,
-/// `Fault::Memory`, and `Fault::Write`, where a write failed or took no byte; after the last one a front of the answer is
+/// `Fault::Memory`, and `Fault::Write`, where a write failed or took no byte; after the last one a prefix of the answer is
 /// written, and after the others nothing.
 pub fn replay_cmd<D: Read, S: Read, R: Read, W: Write, A: Allocator + Copy>(
     alloc: A,

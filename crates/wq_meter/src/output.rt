@@ -9,7 +9,7 @@ use std::io::Write;
 
 /// Writes all of `text`, in no more calls than it has bytes.
 ///
-/// The only error is `Fault::Write`, where a write failed or took no byte. Then a front of the text,
+/// The only error is `Fault::Write`, where a write failed or took no byte. Then a prefix of the text,
 /// and not all of it, is written.
 pub fn write_text<W: Write>(writer: &mut Metered<W>, text: &[u8]) -> Result<(), Fault>
     // What is written.

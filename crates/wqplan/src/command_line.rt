@@ -220,7 +220,7 @@ fn entered<'a>(matches: &ArgMatches<'a>) -> Option<Request<'a>>
 
 /// What these words ask for.
 ///
-/// The error is a mistake in the words, a request for help or the version, or want of memory.
+/// The error is a mistake in the words, a request for help or the version, or out of memory.
 pub(crate) fn parse<'a, S: AsStr>(alloc: Global, words: &'a [S]) -> Result<Request<'a>, Error>
     ensures asked { IfOk result (λ request. Asks (map S.text words.entry.now) (spelled request)) }
     ensures called { (wanted : Asked) → Calls (map S.text words.entry.now) wanted

@@ -1,4 +1,4 @@
--- A front of the text is written, in no more calls than it has bytes, and none of them failed.
+-- A prefix of the text is written, in no more calls than it has bytes, and none of them failed.
 use Rattle.std.proofs.Common.{◌≡◌, ◌+◌, ◌-◌, ◌≤◌, length, take}
 use Rattle.std.specs.Io.KnownBytes.{Appends}
 use Rattle.wq_meter.specs.Meter.{count_after}
