@@ -47,14 +47,14 @@ pub record Settles {V : Type 0} (read : List CertLine → Result V CertError) : 
   pub refuses : (lines : List CertLine) (fault : CertError) → read lines ≡ Err fault → 0 < line_of fault → IsSettled read lines fault
 
 -- a value is read of the front of the lines, whatever stands behind it
-pub record IsReadOfFront {V : Type 0} (read : List CertLine → Read V) (lines : List CertLine) (v : V) (rest : List CertLine) : Type 0 where
+pub record IsReadOfPrefix {V : Type 0} (read : List CertLine → Read V) (lines : List CertLine) (v : V) (rest : List CertLine) : Type 0 where
   pub front : List CertLine
   pub lines_are : lines ≡ front ++ rest
   pub is_read : (others : List CertLine) → read (front ++ others) ≡ Ok (v, others)
 
 -- values are read in order, and each fault of a line is settled
 pub record ReadsInOrder {V : Type 0} (read : List CertLine → Read V) : Type 0 where
-  pub reads : (lines : List CertLine) (v : V) (rest : List CertLine) → read lines ≡ Ok (v, rest) → IsReadOfFront read lines v rest
+  pub reads : (lines : List CertLine) (v : V) (rest : List CertLine) → read lines ≡ Ok (v, rest) → IsReadOfPrefix read lines v rest
   pub refuses : Settles read
 
 -- what is read stays so where more lines stand behind
@@ -106,7 +106,7 @@ module _ {V W : Type 0} (read : List CertLine → Read V) (next : V → List Cer
     refuses = Settles-and_read read next first (λ v. (then v).refuses);
   }
     where
-      judged : (lines : List CertLine) (w : W) (rest : List CertLine) → (r : Read V) → read lines ≡ r → and_read next r ≡ Ok (w, rest) → IsReadOfFront (read_and read next) lines w rest
+      judged : (lines : List CertLine) (w : W) (rest : List CertLine) → (r : Read V) → read lines ≡ r → and_read next r ≡ Ok (w, rest) → IsReadOfPrefix (read_and read next) lines w rest
       judged lines w rest (Err found) is e = absurd cc
       judged lines w rest (Ok p) is e =
           let f = first.reads lines p.0 p.1 is in
@@ -158,7 +158,7 @@ module _ {V : Type 0} (read : CertLine → Result V CertError) (at : (line : Cer
   pub ReadsInOrder-next_line : ReadsInOrder (next_line read)
   ReadsInOrder-next_line = record { reads = taken; refuses = record { refuses = refused } }
     where
-      of_one : (line : CertLine) (lines : List CertLine) (w : V) (rest : List CertLine) (r : Result V CertError) → read line ≡ r → of_no_line r lines ≡ Ok (w, rest) → IsReadOfFront (next_line read) (line ∷ lines) w rest
+      of_one : (line : CertLine) (lines : List CertLine) (w : V) (rest : List CertLine) (r : Result V CertError) → read line ≡ r → of_no_line r lines ≡ Ok (w, rest) → IsReadOfPrefix (next_line read) (line ∷ lines) w rest
       of_one line lines w rest (Err found) is e = absurd cc
       of_one line lines w rest (Ok v) is e =
           let same = same_read v w lines rest e in
@@ -168,7 +168,7 @@ module _ {V : Type 0} (read : CertLine → Result V CertError) (at : (line : Cer
             is_read = λ others. ap (λ (r : Result V CertError). of_no_line r others) is ∙ ap (λ (u : V). read_with u others) same.0;
           }
 
-      taken : (lines : List CertLine) (w : V) (rest : List CertLine) → next_line read lines ≡ Ok (w, rest) → IsReadOfFront (next_line read) lines w rest
+      taken : (lines : List CertLine) (w : V) (rest : List CertLine) → next_line read lines ≡ Ok (w, rest) → IsReadOfPrefix (next_line read) lines w rest
       taken [] w rest e = absurd cc
       taken (line ∷ lines) w rest e = of_one line lines w rest (read line) refl e
 

@@ -40,17 +40,17 @@ pub fn what_is_read_is_in_range()
 
 /// Certificates that are too long are all refused alike, and the bytes up to the first one too many show it: what comes
 /// after them changes nothing that is read.
-pub fn a_long_certificate_is_refused_by_its_front()
+pub fn a_long_certificate_is_refused_by_its_prefix()
     ensures answer { (names : List (List ℕ)) (p : Partition) (text : List ℕ) → max_certificate < length text →
         answer_of names p text ≡ Err (BadCertLine 0) }
     ensures assignment { (names : List (List ℕ)) (p : Partition) (text : List ℕ) → max_certificate < length text →
         assignment_of_text names p text ≡ Err (BadCertLine 0) }
     ensures run { (names : List (List ℕ)) (text : List ℕ) → max_certificate < length text → run_of names text ≡ Err (BadCertLine 0) }
-    ensures front_of_answer { (names : List (List ℕ)) (p : Partition) (text : List ℕ) →
+    ensures prefix_of_answer { (names : List (List ℕ)) (p : Partition) (text : List ℕ) →
         answer_of names p (take (max_certificate + 1) text) ≡ answer_of names p text }
-    ensures front_of_assignment { (names : List (List ℕ)) (p : Partition) (text : List ℕ) →
+    ensures prefix_of_assignment { (names : List (List ℕ)) (p : Partition) (text : List ℕ) →
         assignment_of_text names p (take (max_certificate + 1) text) ≡ assignment_of_text names p text }
-    ensures front_of_run { (names : List (List ℕ)) (text : List ℕ) → run_of names (take (max_certificate + 1) text) ≡ run_of names text }
+    ensures prefix_of_run { (names : List (List ℕ)) (text : List ℕ) → run_of names (take (max_certificate + 1) text) ≡ run_of names text }
 {}
 
 /// A word is read as a number just where it is the one spelling of it.

@@ -4,7 +4,7 @@
 //! the first byte is written. Takes the time of reading the texts, of judging them and of writing the answer.
 
 ghost use Rattle.std.specs.Prelude.{◌≡◌, ◌≢◌, ◌≤◌, ◌+◌, ◌⊎◌, ℕ, List, Err, IfOk};
-ghost use Rattle.wq_meter.specs.Meter.{count_after, LosesFront, WritesFront, WritesWhole};
+ghost use Rattle.wq_meter.specs.Meter.{count_after, LosesPrefix, WritesPrefix, WritesWhole};
 ghost use Rattle.wq_cert.specs.Texts.{max_certificate};
 ghost use Rattle.wq_commands.specs.Declaration.{max_declaration};
 ghost use Rattle.wq_commands.specs.CheckInput.{ChecksInput, KeepsYesOfInput};
@@ -46,15 +46,15 @@ pub fn check_cmd<D: Read, C: Read, W: Write, A: Allocator + Copy>(
         × WritesWhole W.contents writer.old writer.new out) }
 
     // What a fault leaves.
-    ensures front { result ≡ Err Fault.Write → (end : End) × (out : List ℕ)
+    ensures prefix { result ≡ Err Fault.Write → (end : End) × (out : List ℕ)
         × ChecksInput D.remaining C.remaining declaration.old declaration.new certificate.old certificate.new end out
-        × WritesFront W.contents writer.old writer.new out }
+        × WritesPrefix W.contents writer.old writer.new out }
     ensures untouched { result ≡ Err Fault.Memory → writer.new ≡ writer.old }
     ensures unwritten { result ≡ Err Fault.Read → writer.new ≡ writer.old }
 
     // What is asked of the readers, whatever the result.
-    ensures lost { LosesFront D.remaining declaration.old declaration.new (max_declaration + 1)
-        × LosesFront C.remaining certificate.old certificate.new (max_certificate + 1) }
+    ensures lost { LosesPrefix D.remaining declaration.old declaration.new (max_declaration + 1)
+        × LosesPrefix C.remaining certificate.old certificate.new (max_certificate + 1) }
     ensures order { AfterGiven D.remaining declaration.old declaration.new max_declaration certificate.old certificate.new }
     ensures reads { (declaration.new.calls ≤ declaration.old.calls + (max_declaration + 1)) × (certificate.new.calls ≤ certificate.old.calls + (max_certificate + 1)) }
     ensures bytes_read { (declaration.new.bytes ≤ declaration.old.bytes + (max_declaration + 1)) × (certificate.new.bytes ≤ certificate.old.bytes + (max_certificate + 1)) }

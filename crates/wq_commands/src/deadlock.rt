@@ -4,7 +4,7 @@
 //! the first byte is written. Takes the time of reading the texts, of the verdict and of writing the answer.
 
 ghost use Rattle.std.specs.Prelude.{◌≡◌, ◌≢◌, ◌≤◌, ◌+◌, ◌⊎◌, ℕ, List, Err, IfOk};
-ghost use Rattle.wq_meter.specs.Meter.{count_after, LosesFront, WritesFront, WritesWhole};
+ghost use Rattle.wq_meter.specs.Meter.{count_after, LosesPrefix, WritesPrefix, WritesWhole};
 ghost use Rattle.wq_cert.specs.Texts.{max_certificate};
 ghost use Rattle.wq_commands.specs.Declaration.{max_declaration};
 ghost use Rattle.wq_commands.specs.DeadlockInput.{JudgesInput};
@@ -38,15 +38,15 @@ pub fn deadlock_cmd<D: Read, S: Read, W: Write, A: Allocator + Copy>(
         × WritesWhole W.contents writer.old writer.new out) }
 
     // What a fault leaves.
-    ensures front { result ≡ Err Fault.Write → (end : End) × (out : List ℕ)
+    ensures prefix { result ≡ Err Fault.Write → (end : End) × (out : List ℕ)
         × JudgesInput D.remaining S.remaining declaration.old declaration.new assignment.old assignment.new end out
-        × WritesFront W.contents writer.old writer.new out }
+        × WritesPrefix W.contents writer.old writer.new out }
     ensures untouched { result ≡ Err Fault.Memory → writer.new ≡ writer.old }
     ensures unwritten { result ≡ Err Fault.Read → writer.new ≡ writer.old }
 
     // What is asked of the readers, whatever the result.
-    ensures lost { LosesFront D.remaining declaration.old declaration.new (max_declaration + 1)
-        × LosesFront S.remaining assignment.old assignment.new (max_certificate + 1) }
+    ensures lost { LosesPrefix D.remaining declaration.old declaration.new (max_declaration + 1)
+        × LosesPrefix S.remaining assignment.old assignment.new (max_certificate + 1) }
     ensures order { AfterGiven D.remaining declaration.old declaration.new max_declaration assignment.old assignment.new }
     ensures reads { (declaration.new.calls ≤ declaration.old.calls + (max_declaration + 1)) × (assignment.new.calls ≤ assignment.old.calls + (max_certificate + 1)) }
     ensures bytes_read { (declaration.new.bytes ≤ declaration.old.bytes + (max_declaration + 1)) × (assignment.new.bytes ≤ assignment.old.bytes + (max_certificate + 1)) }

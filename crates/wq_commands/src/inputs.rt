@@ -3,7 +3,7 @@
 //! Takes time and memory in the bytes that come.
 
 ghost use Rattle.std.specs.Prelude.{◌≡◌, ◌≢◌, ◌≤◌, ◌+◌, ◌⊎◌, Err, IfOk};
-ghost use Rattle.wq_meter.specs.Meter.{LosesFront};
+ghost use Rattle.wq_meter.specs.Meter.{LosesPrefix};
 ghost use Rattle.wq_meter.specs.Input.{AfterGiven, HasFailed, HasGiven, HasGivenBytes};
 ghost use Rattle.wq_cert.specs.Texts.{max_certificate};
 ghost use Rattle.wq_commands.specs.Declaration.{max_declaration};
@@ -29,8 +29,8 @@ pub(crate) fn read_two<D: Read, C: Read, A: Allocator + Copy>(
     ensures certified { IfOk result (λ texts. HasGivenBytes C.remaining certificate.old certificate.new max_certificate texts.1.items) }
 
     // What is asked of the readers, whatever the result.
-    ensures lost { LosesFront D.remaining declaration.old declaration.new (max_declaration + 1)
-        × LosesFront C.remaining certificate.old certificate.new (max_certificate + 1) }
+    ensures lost { LosesPrefix D.remaining declaration.old declaration.new (max_declaration + 1)
+        × LosesPrefix C.remaining certificate.old certificate.new (max_certificate + 1) }
     ensures order { AfterGiven D.remaining declaration.old declaration.new max_declaration certificate.old certificate.new }
     ensures reads { (declaration.new.calls ≤ declaration.old.calls + (max_declaration + 1)) × (certificate.new.calls ≤ certificate.old.calls + (max_certificate + 1)) }
     ensures bytes_read { (declaration.new.bytes ≤ declaration.old.bytes + (max_declaration + 1)) × (certificate.new.bytes ≤ certificate.old.bytes + (max_certificate + 1)) }
@@ -63,9 +63,9 @@ pub(crate) fn read_three<D: Read, S: Read, R: Read, A: Allocator + Copy>(
     ensures listed { IfOk result (λ texts. HasGivenBytes R.remaining run.old run.new max_certificate texts.2.items) }
 
     // What is asked of the readers, whatever the result.
-    ensures lost { LosesFront D.remaining declaration.old declaration.new (max_declaration + 1)
-        × LosesFront S.remaining assignment.old assignment.new (max_certificate + 1)
-        × LosesFront R.remaining run.old run.new (max_certificate + 1) }
+    ensures lost { LosesPrefix D.remaining declaration.old declaration.new (max_declaration + 1)
+        × LosesPrefix S.remaining assignment.old assignment.new (max_certificate + 1)
+        × LosesPrefix R.remaining run.old run.new (max_certificate + 1) }
     ensures order { AfterGiven D.remaining declaration.old declaration.new max_declaration assignment.old assignment.new
         × AfterGiven D.remaining declaration.old declaration.new max_declaration run.old run.new
         × AfterGiven S.remaining assignment.old assignment.new max_certificate run.old run.new }

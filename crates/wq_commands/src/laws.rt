@@ -74,9 +74,9 @@ pub fn a_text_has_an_answer()
 
 /// Texts that are too long are all refused alike, and the bytes up to the first one too many show it: what comes after
 /// them changes no answer.
-pub fn a_long_text_is_refused_by_its_front()
+pub fn a_long_text_is_refused_by_its_prefix()
     ensures refused { (text : List ℕ) → max_declaration < length text → declaration text ≡ Err (record { code = 1; line = 0 }) }
-    ensures front { (text : List ℕ) → declaration (take (max_declaration + 1) text) ≡ declaration text }
+    ensures prefix { (text : List ℕ) → declaration (take (max_declaration + 1) text) ≡ declaration text }
 {}
 
 /// The text of a plan has at most 8,388,608 bytes, and no line of it has more than 524,288, so whoever reads it back can

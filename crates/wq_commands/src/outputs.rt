@@ -3,7 +3,7 @@
 //! Takes time in the bytes that are written.
 
 ghost use Rattle.std.specs.Prelude.{◌≡◌, ◌≢◌, Err, IfOk, IsOkAnd};
-ghost use Rattle.wq_meter.specs.Meter.{count_after, WritesFront, WritesWhole};
+ghost use Rattle.wq_meter.specs.Meter.{count_after, WritesPrefix, WritesWhole};
 
 use crate::end::End;
 use std::alloc::{AllocError, Allocator};
@@ -18,7 +18,7 @@ pub(crate) fn write_answer<W: Write, A: Allocator + Copy>(
     answer: Result<(End, Vec<u8, A>), AllocError>,
 ) -> Result<End, Fault>
     ensures written { IfOk result (λ end. IsOkAnd answer (λ made. (made.0 ≡ end) × WritesWhole W.contents writer.old writer.new made.1.items)) }
-    ensures front { result ≡ Err Fault.Write → IsOkAnd answer (λ made. WritesFront W.contents writer.old writer.new made.1.items) }
+    ensures prefix { result ≡ Err Fault.Write → IsOkAnd answer (λ made. WritesPrefix W.contents writer.old writer.new made.1.items) }
     ensures untouched { result ≡ Err Fault.Memory → writer.new ≡ writer.old }
     ensures never_reads { result ≢ Err Fault.Read }
     ensures write_failed { result ≡ Err Fault.Write → writer.new.failures ≡ count_after writer.old.failures 1 }

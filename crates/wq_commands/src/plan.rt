@@ -4,7 +4,7 @@
 
 ghost use Rattle.std.specs.Prelude.{◌≡◌, ◌≢◌, ◌≤◌, ◌+◌, ℕ, List, Err, IfOk};
 ghost use Rattle.wq_commands.specs.Declaration.{max_declaration};
-ghost use Rattle.wq_meter.specs.Meter.{count_after, LosesFront, WritesFront, WritesWhole};
+ghost use Rattle.wq_meter.specs.Meter.{count_after, LosesPrefix, WritesPrefix, WritesWhole};
 ghost use Rattle.wq_commands.specs.Run.{AnswersInput, KeepsPromiseOfInput};
 ghost use Rattle.wq_commands.specs.declared.end.End.{End};
 
@@ -39,13 +39,13 @@ pub fn plan_cmd<R: Read, W: Write, A: Allocator + Copy>(
         × WritesWhole W.contents writer.old writer.new out) }
 
     // What a fault leaves.
-    ensures front { result ≡ Err Fault.Write → (end : End) × (out : List ℕ) × AnswersInput R.remaining reader.old reader.new end out
-        × WritesFront W.contents writer.old writer.new out }
+    ensures prefix { result ≡ Err Fault.Write → (end : End) × (out : List ℕ) × AnswersInput R.remaining reader.old reader.new end out
+        × WritesPrefix W.contents writer.old writer.new out }
     ensures untouched { result ≡ Err Fault.Memory → writer.new ≡ writer.old }
     ensures unwritten { result ≡ Err Fault.Read → writer.new ≡ writer.old }
 
     // What is asked of the reader, whatever the result.
-    ensures lost { LosesFront R.remaining reader.old reader.new (max_declaration + 1) }
+    ensures lost { LosesPrefix R.remaining reader.old reader.new (max_declaration + 1) }
     ensures reads { reader.new.calls ≤ reader.old.calls + (max_declaration + 1) }
     ensures bytes_read { reader.new.bytes ≤ reader.old.bytes + (max_declaration + 1) }
 

@@ -4,7 +4,7 @@
 
 ghost use Rattle.std.specs.Prelude.{◌≡◌, ◌≢◌, Err, IfOk, map};
 ghost use Rattle.wq_explain.specs.Explaining.{end_in, explained_end, explained_text, explanation_text, row_of, text_in, unknown_text};
-ghost use Rattle.wq_meter.specs.Meter.{count_after, WritesFront, WritesWhole};
+ghost use Rattle.wq_meter.specs.Meter.{count_after, WritesPrefix, WritesWhole};
 
 use crate::table::{EXPLANATIONS, Explanation, with_number};
 use std::alloc::{AllocError, Allocator};
@@ -78,7 +78,7 @@ pub fn explain_cmd<W: Write, A: Allocator + Copy>(
     ensures written { IfOk result (λ end. WritesWhole W.contents writer.old writer.new (explained_text code)) }
 
     // What a fault leaves.
-    ensures front { result ≡ Err Fault.Write → WritesFront W.contents writer.old writer.new (explained_text code) }
+    ensures prefix { result ≡ Err Fault.Write → WritesPrefix W.contents writer.old writer.new (explained_text code) }
     ensures untouched { result ≡ Err Fault.Memory → writer.new ≡ writer.old }
     ensures never_reads { result ≢ Err Fault.Read }
 

@@ -1,6 +1,6 @@
 -- Input: texts that are taken from readers, one after another.
 use Rattle.std.specs.Prelude.{◌≡◌, ◌⊎◌, ℕ, ◌+◌, List, IfSome, Option, take}
-use Rattle.wq_meter.specs.Meter.{Meter, TakesFront, count_after}
+use Rattle.wq_meter.specs.Meter.{Meter, TakesPrefix, count_after}
 
 -- the text is what a reader has left, where that is known
 abbrev pub IsInput : Option (List ℕ) → List ℕ → Type 0
@@ -9,7 +9,7 @@ IsInput known text = IfSome known (λ bytes. text ≡ bytes)
 -- a reader had this text, and gave it up to the first byte past the limit
 pub record Gives {R : Type 0} (remaining : R → Option (List ℕ)) (old new : Meter R) (limit : ℕ) (text : List ℕ) : Type 0 where
   pub input : IsInput (remaining old.device) text
-  pub taken : TakesFront remaining old new (limit + 1) text
+  pub taken : TakesPrefix remaining old new (limit + 1) text
 
 -- a reader gave a text in this way, and no call failed
 pub record HasGiven {R : Type 0} (remaining : R → Option (List ℕ)) (old new : Meter R) (limit : ℕ) : Type 0 where

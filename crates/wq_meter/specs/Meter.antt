@@ -22,14 +22,14 @@ abbrev pub count_after : ℕ → ℕ → ℕ
 count_after count n = max count (min (count + n) (2 ^ 64 - 1))
 
 -- a reader lost some bytes, no more than `most`, and they were counted
-pub record LosesFront {R : Type 0} (remaining : R → Option (List ℕ)) (old new : Meter R) (most : ℕ) : Type 0 where
+pub record LosesPrefix {R : Type 0} (remaining : R → Option (List ℕ)) (old new : Meter R) (most : ℕ) : Type 0 where
   pub lost : List ℕ
   pub within : length lost ≤ most
   pub consumed : Consumes (remaining old.device) (remaining new.device) lost
   pub counted : new.bytes ≡ count_after old.bytes (length lost)
 
 -- a reader gave the front of a text, up to `most` bytes, and they were counted; each call but the last gave one at least
-pub record TakesFront {R : Type 0} (remaining : R → Option (List ℕ)) (old new : Meter R) (most : ℕ) (text : List ℕ) : Type 0 where
+pub record TakesPrefix {R : Type 0} (remaining : R → Option (List ℕ)) (old new : Meter R) (most : ℕ) (text : List ℕ) : Type 0 where
   pub consumed : Consumes (remaining old.device) (remaining new.device) (take most text)
   pub counted : new.bytes ≡ count_after old.bytes (length (take most text))
   pub few_calls : new.calls ≤ old.calls + (length (take most text) + 1)
@@ -41,7 +41,7 @@ pub record WritesWhole {W : Type 0} (contents : W → Option (List ℕ)) (old ne
   pub few_calls : new.calls ≤ old.calls + length text
 
 -- a writer took the front of a text, and not all of it, and the bytes were counted; each call but the last took one at least
-pub record WritesFront {W : Type 0} (contents : W → Option (List ℕ)) (old new : Meter W) (text : List ℕ) : Type 0 where
+pub record WritesPrefix {W : Type 0} (contents : W → Option (List ℕ)) (old new : Meter W) (text : List ℕ) : Type 0 where
   pub written : ℕ
   pub short : written < length text
   pub appended : Appends (contents old.device) (contents new.device) (take written text)

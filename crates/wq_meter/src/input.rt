@@ -5,7 +5,7 @@ ghost use Rattle.std.specs.Prelude.{◌≡◌, ◌≢◌, ◌+◌, ◌<◌, ◌�
 ghost use Rattle.std.specs.Result.{result_unwrap_or};
 ghost use Rattle.std.specs.Io.KnownBytes.{Consumes, IsAtEnd, Keeps};
 ghost use Rattle.wq_meter.specs.Input.{HasGivenBytes};
-ghost use Rattle.wq_meter.specs.Meter.{count_after, LosesFront};
+ghost use Rattle.wq_meter.specs.Meter.{count_after, LosesPrefix};
 
 use crate::fault::Fault;
 use crate::metered::Metered;
@@ -26,7 +26,7 @@ pub fn read_text<R: Read, A: Allocator + Copy>(
 ) -> Result<Vec<u8, A>, Fault>
     // What comes, and what is left.
     ensures given { IfOk result (λ text. HasGivenBytes R.remaining reader.old reader.new limit text.items) }
-    ensures lost { LosesFront R.remaining reader.old reader.new (limit + 1) }
+    ensures lost { LosesPrefix R.remaining reader.old reader.new (limit + 1) }
 
     // What is asked of the reader, whatever the result.
     ensures calls { reader.new.calls ≤ reader.old.calls + (limit + 1) }

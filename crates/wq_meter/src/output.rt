@@ -1,7 +1,7 @@
 //! Writing a text whole, a call at a time. The time is linear in the text, and each call that another
 //! one follows takes at least one byte.
 ghost use Rattle.std.specs.Prelude.{◌≡◌, ◌+◌, ◌≤◌, length, OnOk, OnErr, IsOkUnless};
-ghost use Rattle.wq_meter.specs.Meter.{count_after, WritesFront, WritesWhole};
+ghost use Rattle.wq_meter.specs.Meter.{count_after, WritesPrefix, WritesWhole};
 
 use crate::fault::Fault;
 use crate::metered::Metered;
@@ -14,7 +14,7 @@ use std::io::Write;
 pub fn write_text<W: Write>(writer: &mut Metered<W>, text: &[u8]) -> Result<(), Fault>
     // What is written.
     ensures whole { OnOk result (WritesWhole W.contents writer.old writer.new text.now) }
-    ensures front { OnErr result (WritesFront W.contents writer.old writer.new text.now) }
+    ensures prefix { OnErr result (WritesPrefix W.contents writer.old writer.new text.now) }
 
     // What is asked of the writer, whatever the result.
     ensures calls { writer.new.calls ≤ writer.old.calls + length text.now }

@@ -1,6 +1,6 @@
 use Rattle.std.proofs.Common.{ap, refl, Err}
 use Rattle.std.proofs.lemmas.Result.{IfOk-weaker}
-use Rattle.wq_meter.specs.Meter.{WritesFront, WritesWhole}
+use Rattle.wq_meter.specs.Meter.{WritesPrefix, WritesWhole}
 use Rattle.wq_meter.specs.declared.fault.Fault.TheVariants.{Read}
 use Rattle.wq_commands.specs.DeadlockInput.{JudgesInput}
 use Rattle.wq_commands.proofs.InputLemmas.{Err-passed, Err-kept, JudgesInput-read, written_answer, begun_answer}
@@ -45,10 +45,10 @@ returns-clause-reads g c = c.in_ok-text.ensures.reads
 pub returns-clause-bytes_read : goal.returns-clause-bytes_read
 returns-clause-bytes_read g c = c.in_ok-text.ensures.bytes_read
 
-pub returns-clause-front : goal.returns-clause-front
-returns-clause-front g c =
+pub returns-clause-prefix : goal.returns-clause-prefix
+returns-clause-prefix g c =
     let made = IfOk-weaker c.judge-answer.result _ _ (λ m answers. JudgesInput-read m.0 m.1.items c.deref.result.now c.deref-2.result.now c.in_ok-text.ensures.declared c.in_ok-text.ensures.certified c.deref.ensures.value c.deref-2.ensures.value answers) c.judge-answer.ensures in
-    λ is. begun_answer c.judge-answer.result (λ end out. JudgesInput g.D.Read.remaining g.S.Read.remaining c.args.declaration.now c.read_two.new.declaration c.args.assignment.now c.read_two.new.certificate end out) (WritesFront g.W.Write.contents c.args.writer.now c.write_answer.new.writer) made (c.write_answer.ensures.front is)
+    λ is. begun_answer c.judge-answer.result (λ end out. JudgesInput g.D.Read.remaining g.S.Read.remaining c.args.declaration.now c.read_two.new.declaration c.args.assignment.now c.read_two.new.certificate end out) (WritesPrefix g.W.Write.contents c.args.writer.now c.write_answer.new.writer) made (c.write_answer.ensures.prefix is)
 
 pub returns-clause-answered : goal.returns-clause-answered
 returns-clause-answered g c =

@@ -1,6 +1,6 @@
 use Rattle.std.proofs.Common.{ap, refl, Err}
 use Rattle.std.proofs.lemmas.Result.{IfOk-weaker}
-use Rattle.wq_meter.specs.Meter.{WritesFront, WritesWhole}
+use Rattle.wq_meter.specs.Meter.{WritesPrefix, WritesWhole}
 use Rattle.wq_meter.specs.declared.fault.Fault.TheVariants.{Read}
 use Rattle.wq_commands.specs.CheckInput.{ReplaysInput}
 use Rattle.wq_commands.proofs.InputLemmas.{Err-passed, Err-kept, ReplaysInput-read, written_answer, begun_answer}
@@ -45,10 +45,10 @@ returns-clause-reads g c = c.in_ok-text.ensures.reads
 pub returns-clause-bytes_read : goal.returns-clause-bytes_read
 returns-clause-bytes_read g c = c.in_ok-text.ensures.bytes_read
 
-pub returns-clause-front : goal.returns-clause-front
-returns-clause-front g c =
+pub returns-clause-prefix : goal.returns-clause-prefix
+returns-clause-prefix g c =
     let made = IfOk-weaker c.replay-answer.result _ _ (λ m answers. ReplaysInput-read m.0 m.1.items c.deref.result.now c.deref-2.result.now c.deref-3.result.now c.in_ok-text.ensures.declared c.in_ok-text.ensures.assigned c.in_ok-text.ensures.listed c.deref.ensures.value c.deref-2.ensures.value c.deref-3.ensures.value answers) c.replay-answer.ensures in
-    λ is. begun_answer c.replay-answer.result (λ end out. ReplaysInput g.D.Read.remaining g.S.Read.remaining g.R.Read.remaining c.args.declaration.now c.read_three.new.declaration c.args.assignment.now c.read_three.new.assignment c.args.run.now c.read_three.new.run end out) (WritesFront g.W.Write.contents c.args.writer.now c.write_answer.new.writer) made (c.write_answer.ensures.front is)
+    λ is. begun_answer c.replay-answer.result (λ end out. ReplaysInput g.D.Read.remaining g.S.Read.remaining g.R.Read.remaining c.args.declaration.now c.read_three.new.declaration c.args.assignment.now c.read_three.new.assignment c.args.run.now c.read_three.new.run end out) (WritesPrefix g.W.Write.contents c.args.writer.now c.write_answer.new.writer) made (c.write_answer.ensures.prefix is)
 
 pub returns-clause-answered : goal.returns-clause-answered
 returns-clause-answered g c =

@@ -1,5 +1,5 @@
 use Rattle.std.proofs.Common.{rules, arith}
-use Rattle.wq_meter.proofs.MeterLemmas.{LosesFront-more, Consumes-nothing, HasGivenBytes-read, all_read, prefix_read}
+use Rattle.wq_meter.proofs.MeterLemmas.{LosesPrefix-more, Consumes-nothing, HasGivenBytes-read, all_read, prefix_read}
 use Rattle.wq_meter.proofs.input.read_text.Goals as goal
 
 pub returns-in_err-extend_from_slice-clause-lost :
@@ -7,7 +7,7 @@ pub returns-in_err-extend_from_slice-clause-lost :
 returns-in_err-extend_from_slice-clause-lost g c =
     let before = c.loop-room.invariant in
     let one = c.in_ok-count.ensures in
-    LosesFront-more g.R.Read.remaining c.args.reader.now c.loop-room.reader c.read_chunk.new.reader _ c.in_ok-count.count _ c.loop-room.text.items c.read_chunk.new.chunk
+    LosesPrefix-more g.R.Read.remaining c.args.reader.now c.loop-room.reader c.read_chunk.new.reader _ c.in_ok-count.count _ c.loop-room.text.items c.read_chunk.new.chunk
     before.consumed c.loop-room.text.ok.0 before.counted one.consumed one.bytes (omega arith) (search rules)
 
 pub returns-then-count-eq0-clause-given : goal.returns-then-count-eq0-clause-given
