@@ -1,6 +1,6 @@
 -- Which steps a lane can make, and which of them where its executions flush as declared.
-use Rattle.std.proofs.Common.{◌≡◌, ℕ, ◌<◌, ◌≤◌, inl, inr, ◌↔◌, Bool, true, false, not, List, [], ◌∷◌, length, Option, Some, None, refl, sym, ap, subst, ◌∙◌, arith}
-use Rattle.std.specs.Prelude.{slice_get, is_some, Contains, IsTrue}
+use Rattle.std.proofs.Common.{◌≡◌, ℕ, ◌<◌, ◌≤◌, inl, inr, ◌↔◌, Bool, true, false, not, List, length, Option, Some, None, refl, sym, ap, subst, ◌∙◌, arith}
+use Rattle.std.specs.Prelude.{slice_get, is_some, IsTrue}
 use Rattle.std.proofs.lemmas.Option.{slice_get_within, slice_get_past, slice_get_cases, get_or_from_slice_get}
 use Rattle.wq_items.specs.declared.target.Target.{Target}
 use Rattle.wq_items.specs.Table.{ItemWaits}
@@ -15,7 +15,7 @@ use Rattle.wq_core.specs.Rules.{MayStart, Lawful}
 use Rattle.wq_core.specs.Runs.{KeepsOrder}
 use Rattle.wq_core.specs.Held.{IsSoundRunning, IsSoundState}
 use Rattle.wq_core.specs.Played.{IsStepOfLane, CanMove, IsDeclaredStep}
-use Rattle.wq_core.proofs.LaneLemmas.{lane_within}
+use Rattle.wq_core.proofs.LaneLemmas.{runs_within, starts_within}
 
 -- ---- steps of a lane
 
@@ -210,12 +210,5 @@ module _ (w : Wiring) (s : State) (q : ℕ) where
   -- a lane that can move exists
   pub CanMove-within : CanMove w s q → q < length s.lanes
   CanMove-within (step, of_lane, lawful) =
-      by_kind q (λ (x : Step). Lawful w s x → q < length s.lanes) (λ i may. lane_within s q may.entry (inl (first_is (lane_at s q).pending may.entry may.first)))
-      (λ b may. runs_within may.0 may.1) (λ b may. runs_within may.0 may.1) (λ i may. runs_within may.0 may.1) step of_lane lawful
-    where
-      first_is : (ps : List Entry) (e : Entry) → slice_get ps 0 ≡ Some e → Contains ps e
-      first_is [] e is = absurd cc
-      first_is (p ∷ ps) e is = (0, omega arith, cc)
-
-      runs_within : (r : Running) → Runs (lane_at s q) r → q < length s.lanes
-      runs_within r runs = lane_within s q r.entry (inr (r, runs, refl))
+      by_kind q (λ (x : Step). Lawful w s x → q < length s.lanes) (λ i may. starts_within s q i may)
+      (λ b may. runs_within s q may.0 may.1) (λ b may. runs_within s q may.0 may.1) (λ i may. runs_within s q may.0 may.1) step of_lane lawful
