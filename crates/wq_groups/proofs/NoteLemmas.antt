@@ -3,6 +3,7 @@ use Rattle.std.proofs.Common.{◌≡◌, ℕ, ◌+◌, ◌<◌, ◌⊎◌, inl, 
 use Rattle.std.specs.Prelude.{IsSome, is_some, Contains, bytes_eq, replicate}
 use Rattle.std.specs.List.{All, position, position_or_len, range_with_len, filter_map}
 use Rattle.std.specs.Option.{unwrap_or}
+use Rattle.std.proofs.Math.Bool.{or-false}
 use Rattle.std.proofs.lemmas.Bool.{cases_Bool, or_cases, or_left, or_right, and_parts, and_from, cond-true, cond-false, lt-ltb, false_from_ne_true}
 use Rattle.std.proofs.lemmas.List.{length-map, get_or-map, ext_get_or, get_or-replicate, length-replicate, drop_all, take_all}
 use Rattle.std.proofs.lemmas.List.Folds.{list_any-append}
@@ -38,11 +39,7 @@ module _ (ds : List (ℕ × Directive)) (d : ℕ × Directive) (names : List (Li
   -- a name that isn't on the line
   together_other : (a b : List ℕ) → is_among a (names_ordered d) ≡ false → are_together (ds ++ (d ∷ [])) a b ≡ are_together ds a b
   together_other a b other =
-      ap (λ (t : Bool). bytes_eq a b || t) (line_is a b ∙ ap (λ (t : Bool). on_one_line ds a b || ((t && is_among b (names_ordered d)) || false)) other ∙ or_false (on_one_line ds a b))
-    where
-      or_false : (t : Bool) → (t || false) ≡ t
-      or_false true = refl
-      or_false false = refl
+      ap (λ (t : Bool). bytes_eq a b || t) (line_is a b ∙ ap (λ (t : Bool). on_one_line ds a b || ((t && is_among b (names_ordered d)) || false)) other ∙ or-false (on_one_line ds a b))
 
   -- a name that is on the line, and on none before it
   together_line : (a b : List ℕ) → Differ (all_ordered ds ++ names_ordered d) → is_among a (names_ordered d) ≡ true → are_together (ds ++ (d ∷ [])) a b ≡ is_among b (names_ordered d)
