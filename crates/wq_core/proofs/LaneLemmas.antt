@@ -1,5 +1,5 @@
 -- Lanes of a state, after one of them has changed; entries of a lane, after its pending list has.
-use Rattle.std.proofs.Common.{◌≡◌, ◌≢◌, ℕ, zero, suc, ◌<◌, ◌≤◌, ◌⊎◌, inl, inr, Bool, List, [], ◌∷◌, length, get_or, set, replicate, refl, ap, subst, arith}
+use Rattle.std.proofs.Common.{◌≡◌, ◌≢◌, ℕ, zero, suc, ◌<◌, ◌≤◌, ◌⊎◌, inl, inr, Bool, List, [], ◌∷◌, length, get_or, set, replicate, refl, ap, subst, None, Some, sym, ◌∙◌, arith}
 use Rattle.std.specs.Prelude.{AllPairs, Contains}
 use Rattle.std.specs.List.{filter}
 use Rattle.std.proofs.lemmas.Bool.{cases_lt}
@@ -65,6 +65,13 @@ lane_within s q e h = elim (cases_lt q (length s.lanes)) [
   | inl within ↦ within
   | inr past ↦ absurd (idle_lane-unfinished e (subst (λ (lane : Lane). IsUnfinishedOn lane e) (lane_at_past s q past) h))
 ]
+
+-- one execution runs on a lane at most, and none where it is idle
+pub same_running : (lane : Lane) (r x : Running) → Runs lane r → Runs lane x → r ≡ x
+same_running lane r x one other = let both : Some r ≡ Some x = sym one ∙ other in cc
+
+pub nothing_runs : (lane : Lane) → lane.running ≡ None → (r : Running) → ¬ Runs lane r
+nothing_runs lane idle r runs = let never : None ≡ Some r = sym idle ∙ runs in cc
 
 pub runs_within : (s : State) (q : ℕ) (r : Running) → Runs (lane_at s q) r → q < length s.lanes
 runs_within s q r runs = lane_within s q r.entry (inr (r, runs, refl))

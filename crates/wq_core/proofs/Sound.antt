@@ -17,7 +17,7 @@ use Rattle.wq_core.specs.State.{Lane, State, idle_lane, lane_at, with_lane, empt
 use Rattle.wq_core.specs.Rules.{MayWait, MayStart, Lawful, with_queued, with_cancelled, with_started, with_wait, with_over, with_finished, effect}
 use Rattle.wq_core.specs.Runs.{after, IsRunFrom, IsRun, end_of}
 use Rattle.wq_core.specs.Held.{IsSoundRunning, IsSoundState}
-use Rattle.wq_core.proofs.LaneLemmas.{cases_with_lane, lane_at-empty_state, idle_lane-unfinished, Contains-filter, AllPairs-nil}
+use Rattle.wq_core.proofs.LaneLemmas.{cases_with_lane, same_running, lane_at-empty_state, idle_lane-unfinished, Contains-filter, AllPairs-nil}
 
 -- two entries of one lane that may both be pending
 abbrev pub Differ : Entry → Entry → Type 0
@@ -182,9 +182,6 @@ IsSoundLane-finished w next q lane sound = IsSoundLane-less w next q lane (with_
   | inl pending ↦ inl pending
   | inr (x, runs, same) ↦ absurd cc
 ]) sound.once (λ x runs. absurd cc)
-
-pub same_running : (lane : Lane) (r x : Running) → Runs lane r → Runs lane x → r ≡ x
-same_running lane r x one other = let both : Some r ≡ Some x = sym one ∙ other in cc
 
 IsSoundRunning-wait : (w : Wiring) (b mark : ℕ) (r : Running) → MayWait w b r
     → IsSoundRunning w (record r { made = r.made + 1; waiting = Some (record { target = b; mark = mark }) })
