@@ -4,15 +4,17 @@ use Rattle.std.specs.Prelude.{AllPairs, Contains}
 use Rattle.std.specs.List.{Any, list_any}
 use Rattle.std.proofs.lemmas.Bool.{cases_Bool, eqb-true, eq-eqb, false≢true}
 use Rattle.std.proofs.lemmas.List.Elements.{Contains-get_or}
+use Rattle.std.proofs.lemmas.List.Kept.{AllPairs-cons}
 use Rattle.std.proofs.lemmas.List.Folds.{Any-from_list_any, list_any-from_Any}
 use Rattle.std.proofs.lemmas.Option.{get_or_from_slice_get}
 use Rattle.wq_items.specs.declared.target.Target.{Target}
 use Rattle.wq_items.specs.Chain.{IsChain, last_of, Circle}
+use Rattle.wq_items.proofs.Lists.{Contains-later}
 use Rattle.wq_core.specs.Wiring.{Wiring, IsWiring, LaneWaits, lane_of, declared_by}
 use Rattle.wq_core.specs.Deadlock.{Deadlocks}
 use Rattle.wq_core.specs.Knot.{HasLane, WaitsAmong, IsKnot}
 use Rattle.wq_core.proofs.KnotRuns.{Deadlocks-knot}
-use Rattle.wq_core.proofs.LaneLemmas.{Contains-tail, AllPairs-nil, AllPairs-cons}
+use Rattle.wq_core.proofs.LaneLemmas.{AllPairs-nil}
 
 module _ (w : Wiring) where
   -- ---- items and their lanes
@@ -54,7 +56,7 @@ module _ (w : Wiring) where
           ones,
           record {
             apart = rest.1.apart;
-            among = λ j there. Contains-tail i is j (rest.1.among j there);
+            among = λ j there. Contains-later i is j (rest.1.among j there);
             lanes = λ q some. elim (HasLane-cases i is q some) [
               | inl same ↦ subst (λ (p : ℕ). HasLane w ones p) same has
               | inr later ↦ rest.1.lanes q later
@@ -76,7 +78,7 @@ module _ (w : Wiring) where
     where
       among : (i : ℕ) (is ones : List ℕ) → ((j : ℕ) → Contains ones j → Contains is j) → (j : ℕ) → Contains (i ∷ ones) j → Contains (i ∷ is) j
       among i is ones rest j (zero, lt, at) = (0, omega arith, at)
-      among i is ones rest j (suc k, lt, at) = Contains-tail i is j (rest j (k, omega arith, at))
+      among i is ones rest j (suc k, lt, at) = Contains-later i is j (rest j (k, omega arith, at))
 
   -- ---- the items of a circle
 

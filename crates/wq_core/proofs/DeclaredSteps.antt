@@ -1,6 +1,6 @@
 -- Which steps a lane can make, and which of them where its executions flush as declared.
-use Rattle.std.proofs.Common.{◌≡◌, ℕ, ◌<◌, ◌≤◌, inl, inr, ◌↔◌, Bool, true, false, not, List, [], ◌∷◌, length, Option, Some, None, refl, sym, ap, subst, ◌∙◌, arith}
-use Rattle.std.specs.Prelude.{slice_get, is_some, Contains, IsTrue}
+use Rattle.std.proofs.Common.{◌≡◌, ℕ, ◌<◌, ◌≤◌, inl, inr, ◌↔◌, Bool, true, false, not, List, length, Option, Some, None, refl, sym, ap, subst, ◌∙◌, arith}
+use Rattle.std.specs.Prelude.{slice_get, is_some, IsTrue}
 use Rattle.std.proofs.lemmas.Option.{slice_get_within, slice_get_past, slice_get_cases, get_or_from_slice_get}
 use Rattle.wq_items.specs.declared.target.Target.{Target}
 use Rattle.wq_items.specs.Table.{ItemWaits}
@@ -15,7 +15,7 @@ use Rattle.wq_core.specs.Rules.{MayStart, Lawful}
 use Rattle.wq_core.specs.Runs.{KeepsOrder}
 use Rattle.wq_core.specs.Held.{IsSoundRunning, IsSoundState}
 use Rattle.wq_core.specs.Played.{IsStepOfLane, CanMove, IsDeclaredStep}
-use Rattle.wq_core.proofs.LaneLemmas.{lane_within}
+use Rattle.wq_core.proofs.LaneLemmas.{same_running, nothing_runs, runs_within, starts_within}
 
 -- ---- steps of a lane
 
@@ -31,16 +31,9 @@ by_kind q P starts waits goes_on finishes (Finish p i) is = subst (λ (n : ℕ).
 
 -- ---- what a lane runs
 
--- it runs one entry at most
-same_running : (lane : Lane) (r t : Running) → Runs lane r → Runs lane t → t ≡ r
-same_running lane r t runs there = let e : Some r ≡ Some t = sym runs ∙ there in cc
-
-idle-runs : (lane : Lane) (r : Running) → lane.running ≡ None → ¬ Runs lane r
-idle-runs lane r idle runs = let e : None ≡ Some r = sym idle ∙ runs in cc
-
 waits-awake : (lane : Lane) (r t : Running) (flush : Waiting) → Runs lane r → r.waiting ≡ Some flush → Runs lane t → ¬ t.waiting ≡ None
 waits-awake lane r t flush runs waits there awake =
-    let same : t.waiting ≡ r.waiting = ap (λ (x : Running). x.waiting) (same_running lane r t runs there) in
+    let same : t.waiting ≡ r.waiting = ap (λ (x : Running). x.waiting) (same_running lane t r there runs) in
     let e : Some flush ≡ None = sym waits ∙ sym same ∙ awake in
     cc
 
@@ -57,8 +50,8 @@ module _ (w : Wiring) (s : State) (q : ℕ) where
     starts_only =
         by_kind q (λ (step : Step). Lawful w s step → (e : Entry) × (slice_get (lane_at s q).pending 0 ≡ Some e) × (step ≡ Start q e.item))
         (λ i may. (may.entry, may.first, ap (λ (n : ℕ). Start q n) (sym may.of_item)))
-        (λ b may. absurd (idle-runs (lane_at s q) may.0 idle may.1)) (λ b may. absurd (idle-runs (lane_at s q) may.0 idle may.1))
-        (λ i may. absurd (idle-runs (lane_at s q) may.0 idle may.1))
+        (λ b may. absurd (nothing_runs (lane_at s q) idle may.0 may.1)) (λ b may. absurd (nothing_runs (lane_at s q) idle may.0 may.1))
+        (λ i may. absurd (nothing_runs (lane_at s q) idle may.0 may.1))
 
     MayStart-first : (e : Entry) → slice_get (lane_at s q).pending 0 ≡ Some e → MayStart (lane_at s q) e.item
     MayStart-first e first = record { idle = idle; entry = e; first = first; of_item = refl }
@@ -83,13 +76,13 @@ module _ (w : Wiring) (s : State) (q : ℕ) where
         → (¬ HasUnfinishedBelow s flush.target flush.mark) × (step ≡ Over q flush.target)
     over_only flush waits =
         by_kind q (λ (step : Step). Lawful w s step → (¬ HasUnfinishedBelow s flush.target flush.mark) × (step ≡ Over q flush.target))
-        (λ i may. absurd (idle-runs (lane_at s q) r may.idle runs))
+        (λ i may. absurd (nothing_runs (lane_at s q) may.idle r runs))
         (λ b may. absurd (waits-awake (lane_at s q) r may.0 flush runs waits may.1 may.2.awake)) over
         (λ i may. absurd (waits-awake (lane_at s q) r may.0 flush runs waits may.1 may.2.awake))
       where
         same_flush : (t : Running) → Runs (lane_at s q) t → (f : Waiting) → t.waiting ≡ Some f → f ≡ flush
         same_flush t there f begun =
-            let same : t.waiting ≡ r.waiting = ap (λ (x : Running). x.waiting) (same_running (lane_at s q) r t runs there) in
+            let same : t.waiting ≡ r.waiting = ap (λ (x : Running). x.waiting) (same_running (lane_at s q) t r there runs) in
             let e : Some f ≡ Some flush = sym begun ∙ same ∙ waits in
             cc
 
@@ -127,19 +120,19 @@ module _ (w : Wiring) (s : State) (q : ℕ) where
       next_only : (step : Step) → IsDeclaredStep w s q step → step ≡ next_step (slice_get targets r.made)
       next_only step is =
           by_kind q (λ (x : Step). Lawful w s x → KeepsOrder w s x → x ≡ next_step (slice_get targets r.made))
-          (λ i may order. absurd (idle-runs (lane_at s q) r may.idle runs)) wait
+          (λ i may order. absurd (nothing_runs (lane_at s q) may.idle r runs)) wait
           (λ b may order. absurd (awake-waits (lane_at s q) r may.0 may.2.flush runs awake may.1 may.2.waits)) finish step is.of_lane is.lawful is.in_order
         where
           wait : (b : ℕ) → Lawful w s (Wait q b) → KeepsOrder w s (Wait q b) → Wait q b ≡ next_step (slice_get targets r.made)
           wait b may (t, there, (x, next, item)) =
-              let same : t ≡ r = same_running (lane_at s q) r t runs there in
+              let same : t ≡ r = same_running (lane_at s q) t r there runs in
               let here : slice_get targets r.made ≡ Some x = subst (λ (y : Running). slice_get (declared_by w y.entry.item) y.made ≡ Some x) same next in
               ap (λ (n : ℕ). Wait q n) (sym item) ∙ sym (ap (λ (o : Option Target). next_step o) here)
 
           finish : (i : ℕ) → Lawful w s (Finish q i) → KeepsOrder w s (Finish q i) → Finish q i ≡ next_step (slice_get targets r.made)
           finish i (t, there, may) (u, runs_too, last) =
-              let same : t ≡ r = same_running (lane_at s q) r t runs there in
-              let made : r.made ≡ length targets = subst (λ (y : Running). y.made ≡ length (declared_by w y.entry.item)) (same_running (lane_at s q) r u runs runs_too) last in
+              let same : t ≡ r = same_running (lane_at s q) t r there runs in
+              let made : r.made ≡ length targets = subst (λ (y : Running). y.made ≡ length (declared_by w y.entry.item)) (same_running (lane_at s q) u r runs_too runs) last in
               let past : slice_get targets r.made ≡ None = slice_get_past targets r.made (omega (arith, made)) in
               let of_item : i ≡ r.entry.item = sym may.entry ∙ ap (λ (y : Running). y.entry.item) same in
               ap (λ (n : ℕ). Finish q n) of_item ∙ sym (ap (λ (o : Option Target). next_step o) past)
@@ -210,12 +203,5 @@ module _ (w : Wiring) (s : State) (q : ℕ) where
   -- a lane that can move exists
   pub CanMove-within : CanMove w s q → q < length s.lanes
   CanMove-within (step, of_lane, lawful) =
-      by_kind q (λ (x : Step). Lawful w s x → q < length s.lanes) (λ i may. lane_within s q may.entry (inl (first_is (lane_at s q).pending may.entry may.first)))
-      (λ b may. runs_within may.0 may.1) (λ b may. runs_within may.0 may.1) (λ i may. runs_within may.0 may.1) step of_lane lawful
-    where
-      first_is : (ps : List Entry) (e : Entry) → slice_get ps 0 ≡ Some e → Contains ps e
-      first_is [] e is = absurd cc
-      first_is (p ∷ ps) e is = (0, omega arith, cc)
-
-      runs_within : (r : Running) → Runs (lane_at s q) r → q < length s.lanes
-      runs_within r runs = lane_within s q r.entry (inr (r, runs, refl))
+      by_kind q (λ (x : Step). Lawful w s x → q < length s.lanes) (λ i may. starts_within s q i may)
+      (λ b may. runs_within s q may.0 may.1) (λ b may. runs_within s q may.0 may.1) (λ i may. runs_within s q may.0 may.1) step of_lane lawful

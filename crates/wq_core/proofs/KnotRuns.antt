@@ -9,6 +9,7 @@ use Rattle.std.proofs.lemmas.List.Sums.{sum_by-append}
 use Rattle.std.proofs.lemmas.Option.{slice_get_read, slice_get_within, get_or_from_slice_get}
 use Rattle.wq_items.specs.declared.target.Target.{Target}
 use Rattle.wq_items.proofs.Tables.{targets_of-below}
+use Rattle.wq_items.proofs.Lists.{Contains-filtered}
 use Rattle.wq_core.specs.declared.entry.Entry.{Entry}
 use Rattle.wq_core.specs.declared.step.Step.{Step}
 use Rattle.wq_core.specs.Wiring.{Wiring, IsWiring, items, lane_of, declared_by}
@@ -24,7 +25,7 @@ use Rattle.wq_core.proofs.LaneLemmas.{lane_at-empty_state, idle_lane-unfinished}
 use Rattle.wq_core.proofs.Plays.{after-append, IsRunFrom-append, AsDeclaredFrom-append, AsDeclaredFrom-queued, no_cancel-queued, IsRunFrom-played, AsDeclaredFrom-played, no_cancel-played, count_by-queues_played, no_step-played}
 use Rattle.wq_core.proofs.Playing.{IsPlayedFrom-exists}
 use Rattle.wq_core.proofs.Queued.{one_if, pending_items, on_lane, pending_items-all_queued, running-all_queued, IsRunFrom-queued, count_by-queues_one}
-use Rattle.wq_core.proofs.QueueOrder.{Contains-filtered, others_in_order, in_order, All-in_order, AllPairs-in_order, Contains-in_order, first_on_lane}
+use Rattle.wq_core.proofs.QueueOrder.{others_in_order, in_order, All-in_order, AllPairs-in_order, Contains-in_order, first_on_lane}
 use Rattle.wq_core.proofs.Sound.{IsSoundState-end_of, IsSoundState-after}
 
 -- ---- entries by their items

@@ -13,8 +13,7 @@ use Rattle.wq_core.specs.Wiring.{Wiring, items, lane_of, declared_by}
 use Rattle.wq_core.specs.State.{Lane, State, lane_at, with_lane, Runs, IsUnfinishedOn}
 use Rattle.wq_core.specs.Rules.{MayWait, MayBeOver, MayStart, MayFinish, with_started, with_wait, with_over, with_finished, effect}
 use Rattle.wq_core.specs.Played.{IsDeclaredStep}
-use Rattle.wq_core.proofs.LaneLemmas.{cases_with_lane}
-use Rattle.wq_core.proofs.Sound.{same_running}
+use Rattle.wq_core.proofs.LaneLemmas.{cases_with_lane, same_running}
 
 -- ---- what stays unfinished on a lane
 

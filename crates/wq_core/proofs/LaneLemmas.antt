@@ -1,13 +1,16 @@
 -- Lanes of a state, after one of them has changed; entries of a lane, after its pending list has.
-use Rattle.std.proofs.Common.{◌≡◌, ◌≢◌, ℕ, zero, suc, ◌<◌, ◌≤◌, ◌⊎◌, inl, inr, Bool, List, [], ◌∷◌, length, get_or, set, replicate, refl, ap, subst, arith}
+use Rattle.std.proofs.Common.{◌≡◌, ◌≢◌, ℕ, zero, suc, ◌<◌, ◌≤◌, ◌⊎◌, inl, inr, Bool, List, [], ◌∷◌, length, get_or, set, replicate, refl, ap, subst, None, Some, sym, ◌∙◌, arith}
 use Rattle.std.specs.Prelude.{AllPairs, Contains}
-use Rattle.std.specs.List.{All, filter}
-use Rattle.std.proofs.lemmas.Bool.{cases_lt, cond_both}
+use Rattle.std.specs.List.{filter}
+use Rattle.std.proofs.lemmas.Bool.{cases_lt}
 use Rattle.std.proofs.lemmas.List.{get_or-set_same, get_or-set_other, get_or_past, get_or-replicate, length-replicate}
 use Rattle.std.proofs.lemmas.List.Elements.{All-contains, All-contains_itself, All-filter}
+use Rattle.wq_items.proofs.Lists.{Contains-first}
 use Rattle.wq_core.specs.declared.entry.Entry.{Entry}
+use Rattle.wq_core.specs.declared.entry.Running.{Running}
 use Rattle.wq_core.specs.Wiring.{Wiring}
-use Rattle.wq_core.specs.State.{Lane, State, idle_lane, lane_at, with_lane, empty_state, IsUnfinishedOn}
+use Rattle.wq_core.specs.State.{Lane, State, idle_lane, lane_at, with_lane, empty_state, IsUnfinishedOn, Runs}
+use Rattle.wq_core.specs.Rules.{MayStart}
 
 -- ---- lanes of a state
 
@@ -63,35 +66,24 @@ lane_within s q e h = elim (cases_lt q (length s.lanes)) [
   | inr past ↦ absurd (idle_lane-unfinished e (subst (λ (lane : Lane). IsUnfinishedOn lane e) (lane_at_past s q past) h))
 ]
 
+-- one execution runs on a lane at most, and none where it is idle
+pub same_running : (lane : Lane) (r x : Running) → Runs lane r → Runs lane x → r ≡ x
+same_running lane r x one other = let both : Some r ≡ Some x = sym one ∙ other in cc
+
+pub nothing_runs : (lane : Lane) → lane.running ≡ None → (r : Running) → ¬ Runs lane r
+nothing_runs lane idle r runs = let never : None ≡ Some r = sym idle ∙ runs in cc
+
+pub runs_within : (s : State) (q : ℕ) (r : Running) → Runs (lane_at s q) r → q < length s.lanes
+runs_within s q r runs = lane_within s q r.entry (inr (r, runs, refl))
+
+pub starts_within : (s : State) (q i : ℕ) → MayStart (lane_at s q) i → q < length s.lanes
+starts_within s q i may = lane_within s q may.entry (inl (Contains-first (lane_at s q).pending may.entry may.first))
+
 -- ---- pending entries
 
 pub Contains-filter : {X : Type 0} (p : X → Bool) (xs : List X) (x : X) → Contains (filter p xs) x → Contains xs x
 Contains-filter {X} p xs x h =
     All-contains (Contains xs) (filter p xs) x (All-filter p (Contains xs) xs (All-contains_itself xs)) h
 
-pub Contains-tail : {X : Type 0} (y : X) (xs : List X) (x : X) → Contains xs x → Contains (y ∷ xs) x
-Contains-tail y xs x (k, lt, at) = (suc k, omega arith, at)
-
-pub AllPairs-cons : {X : Type 0} (R : X → X → Type 0) (x : X) (xs : List X) → All (R x) xs → AllPairs R xs
-    → AllPairs R (x ∷ xs)
-AllPairs-cons R x xs first rest i zero d lt within = absurd (omega arith)
-AllPairs-cons R x xs first rest zero (suc j) d lt within = first j d (omega arith)
-AllPairs-cons R x xs first rest (suc i) (suc j) d lt within = rest i j d (omega arith) (omega arith)
-
-pub AllPairs-head : {X : Type 0} (R : X → X → Type 0) (x : X) (xs : List X) → AllPairs R (x ∷ xs) → All (R x) xs
-AllPairs-head R x xs h k d within = h 0 (suc k) d (omega arith) (omega arith)
-
-pub AllPairs-tail : {X : Type 0} (R : X → X → Type 0) (x : X) (xs : List X) → AllPairs R (x ∷ xs) → AllPairs R xs
-AllPairs-tail R x xs h i j d lt within = h (suc i) (suc j) d (omega arith) (omega arith)
-
 pub AllPairs-nil : {X : Type 0} (R : X → X → Type 0) → AllPairs R []
 AllPairs-nil R i j d lt within = absurd (omega arith)
-
-pub AllPairs-filter : {X : Type 0} (R : X → X → Type 0) (p : X → Bool) (xs : List X) → AllPairs R xs
-    → AllPairs R (filter p xs)
-AllPairs-filter R p [] h = AllPairs-nil R
-AllPairs-filter {X} R p (x ∷ xs) h =
-    let rest : AllPairs R (filter p xs) = AllPairs-filter R p xs (AllPairs-tail R x xs h) in
-    let first : All (R x) (filter p xs) = All-filter p (R x) xs (AllPairs-head R x xs h) in
-    let both : AllPairs R (x ∷ filter p xs) = AllPairs-cons R x (filter p xs) first rest in
-    cond_both (p x) (x ∷ filter p xs) (filter p xs) (λ (ys : List X). AllPairs R ys) (λ _. both) (λ _. rest)

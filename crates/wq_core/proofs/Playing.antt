@@ -14,9 +14,9 @@ use Rattle.wq_core.specs.Rules.{MayStart, MayBeOver, effect}
 use Rattle.wq_core.specs.Held.{LaneHasUnfinishedBelow, IsSoundState, is_below, runs_below}
 use Rattle.wq_core.specs.Played.{IsDeclaredStep, HasNoDeclaredStep, IsPlayedFrom}
 use Rattle.wq_core.specs.Work.{work_left}
-use Rattle.wq_core.proofs.LaneLemmas.{lane_within, lane_at_past}
+use Rattle.wq_core.proofs.LaneLemmas.{lane_within, lane_at_past, same_running, nothing_runs}
 use Rattle.wq_core.proofs.Plays.{IsRescuerStep-of_lane, awake_moves}
-use Rattle.wq_core.proofs.Sound.{IsSoundState-effect, same_running}
+use Rattle.wq_core.proofs.Sound.{IsSoundState-effect}
 use Rattle.wq_core.proofs.Unfinished.{unfinished_below}
 use Rattle.wq_core.proofs.WorkLemmas.{work_left-rescuer}
 
@@ -50,9 +50,6 @@ cases_below s item mark = elim (cases_lanes_below s item mark (length s.lanes)) 
 ]
 
 -- ---- the step of a lane
-
-nothing_runs : (lane : Lane) → lane.running ≡ None → (r : Running) → ¬ Runs lane r
-nothing_runs lane idle r runs = let never : None ≡ Some r = sym idle ∙ runs in cc
 
 -- an idle lane on which nothing is pending makes no step
 HasNoDeclaredStep-idle : (w : Wiring) (s : State) (q : ℕ) → (lane_at s q).running ≡ None → (lane_at s q).pending ≡ [] → HasNoDeclaredStep w s q

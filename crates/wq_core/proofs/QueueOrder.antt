@@ -2,12 +2,13 @@
 use Rattle.std.proofs.Common.{◌≡◌, ◌≢◌, ℕ, zero, suc, ◌+◌, ◌<◌, inl, inr, Bool, true, false, not, eqb, List, [], ◌∷◌, ◌++◌, length, get_or, Some, refl, sym, ap, subst, ◌∙◌, arith}
 use Rattle.std.specs.Prelude.{AllPairs, Contains, slice_get}
 use Rattle.std.specs.List.{All, filter, list_any, range_with_len}
-use Rattle.std.proofs.lemmas.Bool.{cases_Bool, cond-true, cond-false, cond_both, eqb-true, eq-eqb, ne_eqb, not-true, not_from_false, false≢true}
+use Rattle.std.proofs.lemmas.Bool.{cases_Bool, cond-true, cond-false, eqb-true, eq-eqb, ne_eqb, not-true, not_from_false, false≢true}
 use Rattle.std.proofs.lemmas.List.Elements.{All-append, All-filter, All-contains, filter_passes, Contains-get_or, Contains-append_left, Contains-append_right}
 use Rattle.std.proofs.lemmas.List.Folds.{Any-from_list_any, list_any-from_Any}
+use Rattle.std.proofs.lemmas.List.Kept.{AllPairs-cons, AllPairs-filter}
 use Rattle.std.proofs.lemmas.List.FromFn.{get_or-range_with_len, length-range_with_len}
+use Rattle.wq_items.proofs.Lists.{Contains-later, Contains-filtered, Contains-range_with_len, AllPairs-head, AllPairs-tail, range_with_len-below}
 use Rattle.wq_core.specs.Wiring.{Wiring, lane_of}
-use Rattle.wq_core.proofs.LaneLemmas.{Contains-tail, AllPairs-cons, AllPairs-head, AllPairs-tail, AllPairs-filter}
 use Rattle.wq_core.proofs.Queued.{on_lane}
 
 -- ---- lists
@@ -20,31 +21,13 @@ AllPairs-append : {X : Type 0} (R : X → X → Type 0) (xs ys : List X) → All
 AllPairs-append R [] ys one other across = other
 AllPairs-append {X} R (x ∷ xs) ys one other across =
     AllPairs-cons R x (xs ++ ys) (All-append (R x) xs ys (AllPairs-head R x xs one) (All-from_Contains (R x) ys (λ y h. across x y (0, omega arith, refl) h)))
-    (AllPairs-append R xs ys (AllPairs-tail R x xs one) other (λ a y h k. across a y (Contains-tail x xs a h) k))
-
-pub Contains-filtered : {X : Type 0} (p : X → Bool) (xs : List X) (x : X) → p x ≡ true → Contains xs x → Contains (filter p xs) x
-Contains-filtered p [] x passes (k, lt, at) = absurd (omega arith)
-Contains-filtered {X} p (y ∷ ys) x passes (zero, lt, at) =
-    let here : p y ≡ true = ap p at ∙ passes in
-    subst (λ (zs : List X). Contains zs x) (sym (cond-true (p y) (y ∷ filter p ys) (filter p ys) here)) (0, omega arith, at)
-Contains-filtered {X} p (y ∷ ys) x passes (suc k, lt, at) =
-    let later : Contains (filter p ys) x = Contains-filtered p ys x passes (k, omega arith, at) in
-    cond_both (p y) (y ∷ filter p ys) (filter p ys) (λ (zs : List X). Contains zs x) (λ _. Contains-tail y (filter p ys) x later) (λ _. later)
-
-Contains-range_with_len : (n i : ℕ) → i < n → Contains (range_with_len 0 n) i
-Contains-range_with_len n i lt = (i, omega (arith, length-range_with_len 0 n), omega (arith, get_or-range_with_len 0 n i i lt))
+    (AllPairs-append R xs ys (AllPairs-tail R x xs one) other (λ a y h k. across a y (Contains-later x xs a h) k))
 
 AllPairs-range_with_len : (n : ℕ) → AllPairs (λ i j. i ≢ j) (range_with_len 0 n)
 AllPairs-range_with_len n i j d lt within same =
     let size : length (range_with_len 0 n) ≡ n = length-range_with_len 0 n in
     let one : get_or (range_with_len 0 n) i d ≡ 0 + i = get_or-range_with_len 0 n i d (omega arith) in
     let other : get_or (range_with_len 0 n) j d ≡ 0 + j = get_or-range_with_len 0 n j d (omega arith) in
-    omega arith
-
-All-range_with_len : (n : ℕ) → All (λ i. i < n) (range_with_len 0 n)
-All-range_with_len n k d within =
-    let size : length (range_with_len 0 n) ≡ n = length-range_with_len 0 n in
-    let at : get_or (range_with_len 0 n) k d ≡ 0 + k = get_or-range_with_len 0 n k d (omega arith) in
     omega arith
 
 -- ---- the order
@@ -62,7 +45,7 @@ abbrev pub in_order : List ℕ → ℕ → List ℕ
 in_order first n = first ++ others_in_order first n
 
 pub All-in_order : (first : List ℕ) (n : ℕ) → All (λ i. i < n) first → All (λ i. i < n) (in_order first n)
-All-in_order first n below = All-append (λ i. i < n) first (others_in_order first n) below (All-filter (λ i. is_other first i) (λ i. i < n) (range_with_len 0 n) (All-range_with_len n))
+All-in_order first n below = All-append (λ i. i < n) first (others_in_order first n) below (All-filter (λ i. is_other first i) (λ i. i < n) (range_with_len 0 n) (range_with_len-below n))
 
 pub AllPairs-in_order : (first : List ℕ) (n : ℕ) → AllPairs (λ i j. i ≢ j) first → AllPairs (λ i j. i ≢ j) (in_order first n)
 AllPairs-in_order first n differ =

@@ -6,6 +6,7 @@ use Rattle.std.proofs.lemmas.Bool.{cases_eq, cond-true, cond-false, eq-eqb, ne_e
 use Rattle.std.proofs.lemmas.List.{append-nil, length-set}
 use Rattle.std.proofs.lemmas.List.Elements.{All-head, All-tail, Contains-push_cases}
 use Rattle.std.proofs.lemmas.List.Sums.{sum_by-cons}
+use Rattle.wq_items.proofs.Lists.{Contains-later, AllPairs-head, AllPairs-tail}
 use Rattle.wq_core.specs.declared.entry.Entry.{Entry}
 use Rattle.wq_core.specs.declared.step.Step.{Step}
 use Rattle.wq_core.specs.declared.step.Step.TheVariants.{Queue}
@@ -13,7 +14,7 @@ use Rattle.wq_core.specs.Wiring.{Wiring, items, lane_of}
 use Rattle.wq_core.specs.State.{Lane, State, lane_at, with_lane, IsPendingOn, HasPending}
 use Rattle.wq_core.specs.Rules.{with_queued, effect}
 use Rattle.wq_core.specs.Runs.{after, IsRunFrom, queues}
-use Rattle.wq_core.proofs.LaneLemmas.{cases_with_lane, lane_at-with_lane_same, lane_at-with_lane_other, Contains-tail, AllPairs-head, AllPairs-tail}
+use Rattle.wq_core.proofs.LaneLemmas.{cases_with_lane, lane_at-with_lane_same, lane_at-with_lane_other}
 
 -- the items whose entries are pending on lane q, in their order
 abbrev pub pending_items : State → ℕ → List ℕ
@@ -102,7 +103,7 @@ IsRunFrom-queued w (i ∷ is) s below differ none =
   where
     later : (j : ℕ) → Contains is j → ¬ HasPending (effect w s (Queue i)) j
     later j there pending = elim (HasPending-queued w s i j pending) [
-      | inl before ↦ none j (Contains-tail i is j there) before
+      | inl before ↦ none j (Contains-later i is j there) before
       | inr same ↦ AllPairs-head (λ a b. a ≢ b) i is differ there.0 j there.1 (same ∙ sym there.2)
     ]
 

@@ -5,6 +5,8 @@ use Rattle.std.proofs.lemmas.List.{length-set, length-replicate}
 use Rattle.std.proofs.lemmas.List.Elements.{Contains-get_or, Contains-push_cases}
 use Rattle.std.proofs.lemmas.List.Quantifiers.{all_pairs_push}
 use Rattle.wq_items.specs.Table.{ItemWaits}
+use Rattle.std.proofs.lemmas.List.Kept.{AllPairs-filter}
+use Rattle.wq_items.proofs.Lists.{Contains-later, AllPairs-tail}
 use Rattle.wq_core.specs.declared.entry.Entry.{Entry}
 use Rattle.wq_core.specs.declared.entry.Waiting.{Waiting}
 use Rattle.wq_core.specs.declared.entry.Running.{Running}
@@ -15,7 +17,7 @@ use Rattle.wq_core.specs.State.{Lane, State, idle_lane, lane_at, with_lane, empt
 use Rattle.wq_core.specs.Rules.{MayWait, MayStart, Lawful, with_queued, with_cancelled, with_started, with_wait, with_over, with_finished, effect}
 use Rattle.wq_core.specs.Runs.{after, IsRunFrom, IsRun, end_of}
 use Rattle.wq_core.specs.Held.{IsSoundRunning, IsSoundState}
-use Rattle.wq_core.proofs.LaneLemmas.{cases_with_lane, lane_at-empty_state, idle_lane-unfinished, Contains-filter, Contains-tail, AllPairs-nil, AllPairs-tail, AllPairs-filter}
+use Rattle.wq_core.proofs.LaneLemmas.{cases_with_lane, same_running, lane_at-empty_state, idle_lane-unfinished, Contains-filter, AllPairs-nil}
 
 -- two entries of one lane that may both be pending
 abbrev pub Differ : Entry → Entry → Type 0
@@ -150,7 +152,7 @@ IsSoundLane-started w next q i lane may sound = started lane.pending lane.runnin
         let lane : Lane = record { pending = p ∷ ps; running = o } in
         let new : Lane = record { pending = ps; running = Some r } in
         IsSoundLane-less w next q lane new sound (λ e h. elim h [
-          | inl pending ↦ inl (Contains-tail p ps e pending)
+          | inl pending ↦ inl (Contains-later p ps e pending)
           | inr (x, runs, same) ↦ inl (0, omega arith, (let is : r ≡ x = cc in ap (λ (y : Running). y.entry) is ∙ same))
         ]) (AllPairs-tail Differ p ps sound.once) (λ x runs.
         let is : r ≡ x = cc in
@@ -180,9 +182,6 @@ IsSoundLane-finished w next q lane sound = IsSoundLane-less w next q lane (with_
   | inl pending ↦ inl pending
   | inr (x, runs, same) ↦ absurd cc
 ]) sound.once (λ x runs. absurd cc)
-
-pub same_running : (lane : Lane) (r x : Running) → Runs lane r → Runs lane x → r ≡ x
-same_running lane r x one other = let both : Some r ≡ Some x = sym one ∙ other in cc
 
 IsSoundRunning-wait : (w : Wiring) (b mark : ℕ) (r : Running) → MayWait w b r
     → IsSoundRunning w (record r { made = r.made + 1; waiting = Some (record { target = b; mark = mark }) })

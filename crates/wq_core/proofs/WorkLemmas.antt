@@ -1,6 +1,6 @@
 -- Each rescuer step lowers the work that is left, and a cancellation doesn't raise it.
 use Rattle.std.proofs.Common.{◌≡◌, ℕ, ◌+◌, ◌-◌, ◌<◌, ◌≤◌, ◌⊎◌, inl, inr, Bool, cond, not, eqb, List, [], ◌∷◌, length, set, Option, Some, None, refl, ap, ◌∙◌, arith}
-use Rattle.std.specs.Prelude.{Contains, slice_get, option_map, sum_by}
+use Rattle.std.specs.Prelude.{slice_get, option_map, sum_by}
 use Rattle.std.specs.List.{All, count_by}
 use Rattle.std.proofs.lemmas.Bool.{cases_lt}
 use Rattle.std.proofs.lemmas.List.{set_past}
@@ -18,7 +18,7 @@ use Rattle.wq_core.specs.Rules.{MayWait, MayStart, Lawful, with_cancelled, with_
 use Rattle.wq_core.specs.Runs.{IsRunFrom, IsRun, end_of, IsRescuerStep, IsCancel, is_rescuer_step}
 use Rattle.wq_core.specs.Work.{whole_work, waits_over, running_work, lane_work, work_left}
 use Rattle.wq_core.specs.Held.{IsSoundRunning, IsSoundState}
-use Rattle.wq_core.proofs.LaneLemmas.{lane_within}
+use Rattle.wq_core.proofs.LaneLemmas.{runs_within, starts_within}
 use Rattle.wq_core.proofs.Sound.{IsSoundState-effect, IsSoundState-end_of}
 
 -- ---- lanes
@@ -96,16 +96,6 @@ work_left-not_more w s q lane less = elim (cases_lt q (length s.lanes)) [
       omega (arith, ap (λ (ls : List Lane). sum_by (lane_work w) ls) same)
       )
 ]
-
-runs_within : (s : State) (q : ℕ) (r : Running) → Runs (lane_at s q) r → q < length s.lanes
-runs_within s q r runs = lane_within s q r.entry (inr (r, runs, refl))
-
-starts_within : (s : State) (q i : ℕ) → MayStart (lane_at s q) i → q < length s.lanes
-starts_within s q i may = lane_within s q may.entry (inl (first_is (lane_at s q).pending may.entry may.first))
-  where
-    first_is : (ps : List Entry) (e : Entry) → slice_get ps 0 ≡ Some e → Contains ps e
-    first_is [] e is = absurd cc
-    first_is (p ∷ ps) e is = (0, omega arith, cc)
 
 -- a rescuer step leaves less
 pub work_left-rescuer : (w : Wiring) (s : State) (step : Step) → IsSoundState w s → Lawful w s step

@@ -1,8 +1,8 @@
 -- The steps of a run name items and lanes that exist.
-use Rattle.std.proofs.Common.{◌≡◌, ℕ, ◌<◌, inl, inr, List, [], ◌∷◌, length, Some, refl, subst, arith}
-use Rattle.std.specs.Prelude.{Contains, slice_get}
+use Rattle.std.proofs.Common.{ℕ, ◌<◌, inl, inr, List, [], ◌∷◌, length, refl, subst, arith}
 use Rattle.std.specs.List.{All}
 use Rattle.std.proofs.lemmas.List.Elements.{All-nil, All-cons}
+use Rattle.wq_items.proofs.Lists.{Contains-first}
 use Rattle.wq_items.proofs.Tables.{ItemWaits-below}
 use Rattle.wq_core.specs.declared.entry.Entry.{Entry}
 use Rattle.wq_core.specs.declared.step.Step.{Step}
@@ -15,10 +15,6 @@ use Rattle.wq_core.specs.Held.{IsSoundState}
 use Rattle.wq_core.proofs.LaneLemmas.{lane_within}
 use Rattle.wq_core.proofs.Sound.{IsSoundState-effect, IsSoundState-empty}
 use Rattle.wq_deadlock.specs.Bounds.{IsNamed}
-
-Contains-first : (es : List Entry) (e : Entry) → slice_get es 0 ≡ Some e → Contains es e
-Contains-first [] e is = absurd cc
-Contains-first (x ∷ es) e is = (0, omega arith, cc)
 
 module _ (w : Wiring) (wiring : IsWiring w) (s : State) (sound : IsSoundState w s) where
   -- a lane on which something is unfinished is one of the wiring's

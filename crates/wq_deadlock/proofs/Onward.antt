@@ -47,19 +47,6 @@ pub record IsPlaying (start now : Machine) (steps : List Step) (q : ℕ) : Type 
 pub IsPlaying-start : (start : Machine) → IsSoundState start.wiring start.state → IsPlaying start start [] 0
 IsPlaying-start start sound = record { wiring = refl; play = tt; state = refl; sound = sound; below = λ p lt. absurd (omega arith) }
 
--- a lane more that can't move
-pub IsPlaying-still : (start now : Machine) (steps : List Step) (q : ℕ) → IsPlaying start now steps q → HasNoDeclaredStep now.wiring now.state q → IsPlaying start now steps (q + 1)
-IsPlaying-still start now steps q playing still = record {
-  wiring = playing.wiring;
-  play = playing.play;
-  state = playing.state;
-  sound = playing.sound;
-  below = λ p lt. elim (cases_lt p q) [
-    | inl before ↦ playing.below p before
-    | inr past ↦ (let same : q ≡ p = omega arith in subst (λ (k : ℕ). HasNoDeclaredStep now.wiring now.state k) same still)
-  ];
-}
-
 -- a step more
 pub IsPlaying-move : (start now : Machine) (steps : List Step) (q : ℕ) (step : Step) → IsPlaying start now steps q → IsDeclaredStep now.wiring now.state q step
     → IsPlaying start (machine_after now step) (steps ++ (step ∷ [])) (search_from q step)

@@ -6,7 +6,7 @@ use Rattle.std.proofs.lemmas.List.FromFn.{length-range_with_len, get_or-range_wi
 use Rattle.wq_groups.specs.Declaration.{Declaration, IsDeclaration}
 use Rattle.wq_groups.specs.Assignment.{Assignment, IsAssignment, group_lane, item_lanes}
 use Rattle.wq_graph.specs.Graph.{graph_of, group_graph, lane_graph}
-use Rattle.wq_graph.proofs.ListLemmas.{range_with_len-below}
+use Rattle.wq_items.proofs.Lists.{range_with_len-below}
 use Rattle.wq_core.specs.Wiring.{own_lanes}
 
 pub IsAssignment-own_lanes : (n : ℕ) → IsAssignment n (own_lanes n)

@@ -6,20 +6,16 @@ use Rattle.std.proofs.lemmas.List.{append-nil, map-append, length-append, length
 use Rattle.std.proofs.lemmas.List.Elements.{filter-append}
 use Rattle.std.proofs.lemmas.List.FromFn.{length-range_with_len}
 use Rattle.std.proofs.lemmas.List.Sums.{length-filter, count_by-le-length}
-use Rattle.wq_items.proofs.TableLemmas.{range_with_len-append}
+use Rattle.wq_groups.proofs.Heads.{range_with_len-push}
 use Rattle.wq_core.specs.declared.step.Step.{Step}
 use Rattle.wq_core.specs.declared.step.Step.TheVariants.{Queue}
 use Rattle.wq_core.specs.Wiring.{Wiring, items}
 use Rattle.wq_core.specs.Played.{queue_order}
 use Rattle.wq_core.proofs.QueueOrder.{is_other, others_in_order, in_order}
 
--- one item more, which comes among the others
-pub range_more : (n : ℕ) → range_with_len 0 (n + 1) ≡ range_with_len 0 n ++ (n ∷ [])
-range_more n = let here : 0 + n ≡ n = omega arith in range_with_len-append 0 n 1 ∙ ap (λ (k : ℕ). range_with_len 0 n ++ (k ∷ [])) here
-
 others_more : (first : List ℕ) (n : ℕ) (last : List ℕ) → filter (λ i. is_other first i) (n ∷ []) ≡ last → others_in_order first (n + 1) ≡ others_in_order first n ++ last
 others_more first n last is =
-    ap (filter (λ i. is_other first i)) (range_more n)
+    ap (filter (λ i. is_other first i)) (range_with_len-push n)
     ∙ filter-append (λ i. is_other first i) (range_with_len 0 n) (n ∷ [])
     ∙ ap (λ (l : List ℕ). others_in_order first n ++ l) is
 

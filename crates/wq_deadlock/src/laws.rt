@@ -5,21 +5,15 @@ ghost use Rattle.wq_items.specs.Table.{flush_count};
 ghost use Rattle.wq_groups.specs.Declaration.{Declaration, IsDeclaration};
 ghost use Rattle.wq_groups.specs.Assignment.{Assignment, IsAssignment};
 ghost use Rattle.wq_graph.specs.declared.arc.WaitArc.{WaitArc};
-ghost use Rattle.wq_graph.specs.Graph.{group_graph, lane_graph, HasArc};
+ghost use Rattle.wq_graph.specs.Graph.{group_graph, lane_graph};
 ghost use Rattle.wq_levels.specs.Walks.{IsWalkedCircle};
 ghost use Rattle.wq_core.specs.declared.step.Step.{Step};
-ghost use Rattle.wq_core.specs.Wiring.{Wiring, LaneWaits, wiring, own_lanes};
+ghost use Rattle.wq_core.specs.Wiring.{Wiring, wiring, own_lanes};
 ghost use Rattle.wq_core.specs.State.{State};
 ghost use Rattle.wq_core.specs.Deadlock.{IsSafe, DeadlocksBy, Deadlocks};
 ghost use Rattle.wq_core.specs.Played.{IsPlayedFrom};
 ghost use Rattle.wq_deadlock.specs.Bounds.{IsNamed};
 ghost use Rattle.wq_deadlock.specs.CircleRun.{IsCircleRun};
-
-/// A lane waits for a lane exactly where an arc of the wait graph of the lanes leaves the one for the other.
-pub fn lanes_wait_along_arcs()
-    ensures { (d : Declaration) (a : Assignment) (p q : ℕ) → IsDeclaration d → IsAssignment d.groups a →
-        (LaneWaits (wiring d a) p q ↔ HasArc (lane_graph d a) p q) }
-{}
 
 /// Where group g has lane g, the lanes wait as the groups do, arc by arc.
 pub fn own_lanes_wait_as_groups_do()

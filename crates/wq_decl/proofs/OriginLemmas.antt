@@ -1,11 +1,12 @@
 -- The words of directives are words of the lines.
-use Rattle.std.proofs.Common.{◌≡◌, ℕ, suc, Bool, true, false, cond, List, [], ◌∷◌, Option, Some, None, Result, Ok, Err, refl, arith}
+use Rattle.std.proofs.Common.{◌≡◌, ℕ, Bool, true, false, cond, List, [], ◌∷◌, Option, Some, None, Result, Ok, Err, refl, arith}
 use Rattle.std.specs.Prelude.{codes, bytes_eq}
 use Rattle.std.specs.List.{All, Any, list_all, cons_option}
 use Rattle.std.proofs.lemmas.List.Elements.{All-nil, All-cons, All-weaker}
 use Rattle.wq_text.specs.Lines.{LineView}
 use Rattle.wq_text.specs.Comments.{before_comment}
 use Rattle.wq_text.specs.Words.{WordView, words_of}
+use Rattle.wq_text.proofs.LimitLaws.{Any-later}
 use Rattle.wq_decl.specs.declared.directive.Directive.{Directive}
 use Rattle.wq_decl.specs.declared.directive.Directive.TheVariants.{Item, Flush, Ordered}
 use Rattle.wq_decl.specs.declared.fault.DeclError.{DeclError}
@@ -68,16 +69,13 @@ line_words line = cond_words (words_of line) (list_all is_text_byte (before_comm
 abbrev IsFromSome : List LineView → ℕ × Directive → Type 0
 IsFromSome lines d = Any (IsFrom d) lines
 
-later : (line : LineView) (lines : List LineView) (d : ℕ × Directive) → IsFromSome lines d → IsFromSome (line ∷ lines) d
-later line lines d (k, from, lt, at, is) = (suc k, from, omega arith, at, is)
-
 with_first : (line : LineView) (lines : List LineView) (r : Result (Option Directive) DeclError) → WordsAmong (words_of line) r → All (IsFromSome lines) (directives lines)
     → All (IsFromSome (line ∷ lines)) (cons_option (directive_in line.no r) (directives lines))
 with_first line lines (Ok (Some d)) words rest =
     All-cons (IsFromSome (line ∷ lines)) (line.no, d) (directives lines) (0, line, omega arith, refl, record { number = refl; first = words.first; words = words.words })
-    (All-weaker (IsFromSome lines) (IsFromSome (line ∷ lines)) (later line lines) (directives lines) rest)
-with_first line lines (Ok None) words rest = All-weaker (IsFromSome lines) (IsFromSome (line ∷ lines)) (later line lines) (directives lines) rest
-with_first line lines (Err e) words rest = All-weaker (IsFromSome lines) (IsFromSome (line ∷ lines)) (later line lines) (directives lines) rest
+    (All-weaker (IsFromSome lines) (IsFromSome (line ∷ lines)) (λ (d : ℕ × Directive). Any-later (IsFrom d) line lines) (directives lines) rest)
+with_first line lines (Ok None) words rest = All-weaker (IsFromSome lines) (IsFromSome (line ∷ lines)) (λ (d : ℕ × Directive). Any-later (IsFrom d) line lines) (directives lines) rest
+with_first line lines (Err e) words rest = All-weaker (IsFromSome lines) (IsFromSome (line ∷ lines)) (λ (d : ℕ × Directive). Any-later (IsFrom d) line lines) (directives lines) rest
 
 -- each directive comes from a line
 pub IsFrom-directives : (lines : List LineView) → All (λ (d : ℕ × Directive). Any (IsFrom d) lines) (directives lines)

@@ -1,5 +1,5 @@
 -- Which row of the table a line breaks first.
-use Rattle.std.proofs.Common.{◌≡◌, ◌≢◌, ◌↔◌, ℕ, suc, ◌≤◌, inl, inr, Bool, true, false, cond, ◌&&◌, List, [], ◌∷◌, Option, Some, Result, Ok, Err, IsOk, refl, sym, ap, subst, ◌∙◌, arith}
+use Rattle.std.proofs.Common.{◌≡◌, ◌≢◌, ◌↔◌, ℕ, ◌≤◌, inl, inr, Bool, true, false, cond, ◌&&◌, List, [], ◌∷◌, Option, Some, Result, Ok, Err, IsOk, refl, sym, ap, subst, ◌∙◌, arith}
 use Rattle.std.specs.Prelude.{IsTrue, codes, bytes_eq}
 use Rattle.std.specs.List.{Any, list_all}
 use Rattle.std.proofs.lemmas.Bool.{false≢true, both_ways, false_from_ne_true}
@@ -8,6 +8,7 @@ use Rattle.std.proofs.lemmas.Slice.Eq.{bytes_eq-Decides}
 use Rattle.wq_text.specs.Lines.{LineView}
 use Rattle.wq_text.specs.Comments.{before_comment}
 use Rattle.wq_text.specs.Words.{WordView, words_of}
+use Rattle.wq_text.proofs.LimitLaws.{Any-later}
 use Rattle.wq_decl.specs.declared.directive.Directive.{Directive}
 use Rattle.wq_decl.specs.declared.directive.Directive.TheVariants.{Item, Flush, Ordered}
 use Rattle.wq_decl.specs.declared.fault.DeclError.{DeclError}
@@ -18,11 +19,8 @@ use Rattle.wq_decl.specs.Rows.{HasBadByte, IsUnknown, LacksName, HasExtraWord, H
 
 -- ---- a test that some element fails
 
-later : {X : Type 0} (P : X → Type 0) (x : X) (xs : List X) → Any P xs → Any P (x ∷ xs)
-later P x xs h = (suc h.0, h.1, omega (arith, h.2), h.3, h.4)
-
 failed : {X : Type 0} (p : X → Bool) (x : X) (xs : List X) (b : Bool) → p x ≡ b → (list_all p xs ≡ false → Any (λ (y : X). ¬ IsTrue (p y)) xs) → (p x && list_all p xs) ≡ false → Any (λ (y : X). ¬ IsTrue (p y)) (x ∷ xs)
-failed p x xs true is rest e = later (λ (y : _). ¬ IsTrue (p y)) x xs (rest (subst (λ (b : Bool). (b && list_all p xs) ≡ false) is e))
+failed p x xs true is rest e = Any-later (λ (y : _). ¬ IsTrue (p y)) x xs (rest (subst (λ (b : Bool). (b && list_all p xs) ≡ false) is e))
 failed p x xs false is rest e = (0, x, omega arith, refl, λ passes. false≢true (sym is ∙ passes))
 
 fails : {X : Type 0} (p : X → Bool) (xs : List X) → list_all p xs ≡ false → Any (λ (x : X). ¬ IsTrue (p x)) xs

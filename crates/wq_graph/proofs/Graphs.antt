@@ -11,13 +11,14 @@ use Rattle.std.proofs.lemmas.List.Kept.{AllPairs-filter, AllPairs-from_increasin
 use Rattle.std.proofs.lemmas.Option.{get_or_from_slice_get, slice_get-get_or}
 use Rattle.wq_items.specs.declared.target.Target.{Target}
 use Rattle.wq_items.specs.Table.{TargetsBelow, flush_count, places, VertexWaits}
+use Rattle.wq_items.proofs.Lists.{Contains-filtered}
 use Rattle.wq_items.proofs.Tables.{ItemWaits-below}
 use Rattle.wq_groups.specs.Declaration.{Declaration, GroupWaits, IsDeclaration}
 use Rattle.wq_groups.specs.Assignment.{Assignment, IsAssignment, group_lane, item_lanes}
 use Rattle.wq_groups.proofs.Lanes.{item_lanes-within}
 use Rattle.wq_graph.specs.declared.arc.WaitArc.{WaitArc}
 use Rattle.wq_graph.specs.Graph.{arc_of, arcs_by_item, arcs_by_place, arcs_from, graph_of, group_graph, lane_graph, arcs_at, HasArc, IsArc, AreArcsFrom, IsGraph}
-use Rattle.wq_graph.proofs.ListLemmas.{Contains-filter, IsStrictlyIncreasing-map, AllPairs-from_map, same_from_rising}
+use Rattle.wq_graph.proofs.ListLemmas.{IsStrictlyIncreasing-map, AllPairs-from_map, same_from_rising}
 use Rattle.wq_graph.proofs.Arcs.{IsArc-by_item, Contains-by_item, src-below, ByPlace, ByPlace-arc, ByPlace-arcs_by_place, place-below}
 
 -- ---- the arcs of a vertex
@@ -47,7 +48,7 @@ module _ (waits : List (List Target)) (vertex_of : List ℕ) (numbered : IsPermu
       let arcs : List WaitArc = arcs_by_place waits vertex_of in
       record {
         declared = λ k d within. (All-filter leaves (IsArc waits vertex_of) arcs IsArc-by_place k d within, eqb-true (slice_index vertex_of (get_or (filter leaves arcs) k d).src) v (filter_passes leaves arcs k d within));
-        all = λ a h leaves_v. Contains-filter leaves arcs a (Contains-by_place a h) (eq-eqb (slice_index vertex_of a.src) v leaves_v);
+        all = λ a h leaves_v. Contains-filtered leaves arcs a (eq-eqb (slice_index vertex_of a.src) v leaves_v) (Contains-by_place a h);
         in_order =
             IsStrictlyIncreasing-map (λ (a : WaitArc). a.place) (filter leaves arcs) (record { src = 0; dst = 0; head = 0; place = 0 }) (
             AllPairs-filter (λ (a b : WaitArc). a.place < b.place) leaves arcs rise-by_place
@@ -56,15 +57,6 @@ module _ (waits : List (List Target)) (vertex_of : List ℕ) (numbered : IsPermu
 
 pub arcs_at-graph_of : (waits : List (List Target)) (vertex_of : List ℕ) (n v : ℕ) → v < n → arcs_at (graph_of waits vertex_of n) v ≡ arcs_from waits vertex_of v
 arcs_at-graph_of waits vertex_of n v lt = get_or-map-range_with_len (arcs_from waits vertex_of) 0 n v v [] lt (omega arith)
-
--- a vertex with an arc is one of the graph's
-pub HasArc-below : (graph : List (List WaitArc)) (v w : ℕ) → HasArc graph v w → v < length graph
-HasArc-below graph v w h = elim (cases_lt v (length graph)) [
-  | inl vertex ↦ vertex
-  | inr past ↦
-      let none : length (arcs_at graph v) ≡ 0 = ap length (get_or_past graph v [] past) in
-      absurd (omega (arith, h.2))
-]
 
 -- ---- graphs by the vertices of the items
 

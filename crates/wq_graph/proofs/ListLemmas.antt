@@ -1,6 +1,6 @@
 -- Lists in general: what they contain, in which order, and what is found in them.
 use Rattle.std.proofs.Common.{◌≡◌, ◌≢◌, ℕ, zero, suc, ◌+◌, ◌<◌, Bool, true, cond, eqb, ◌⊎◌, inl, inr, List, [], ◌∷◌, ◌++◌, length, map, get_or, set, Option, Some, refl, sym, ap, subst, ◌∙◌, arith}
-use Rattle.std.specs.Prelude.{IsPermutation, AllPairs, Contains, find, filter, filter_map}
+use Rattle.std.specs.Prelude.{IsPermutation, AllPairs, Contains, find, filter_map}
 use Rattle.std.specs.List.{All, range_with_len, flat_map, swap, cons_option}
 use Rattle.std.specs.List.Sorted.{IsStrictlyIncreasing}
 use Rattle.std.proofs.lemmas.Bool.{cases_Bool, cases_eq, both_ways, cond-true, cond-false}
@@ -10,14 +10,9 @@ use Rattle.std.proofs.lemmas.List.Edits.{swap_is, length-swap}
 use Rattle.std.proofs.lemmas.List.Elements.{All-nil, All-append, All-contains, Contains-append_left, Contains-append_right}
 use Rattle.std.proofs.lemmas.List.FromFn.{fill_by_all, get_or-range_with_len, length-range_with_len}
 use Rattle.std.proofs.lemmas.List.Sorted.{IsPermutation-keeps}
+use Rattle.wq_items.proofs.Lists.{Contains-here, Contains-later, AllPairs-head, AllPairs-tail}
 
 -- ---- elements
-
-pub Contains-here : {X : Type 0} (x : X) (xs : List X) → Contains (x ∷ xs) x
-Contains-here x xs = (0, omega arith, refl)
-
-pub Contains-later : {X : Type 0} (y : X) (xs : List X) (x : X) → Contains xs x → Contains (y ∷ xs) x
-Contains-later y xs x h = (suc h.0, omega (arith, h.1), h.2)
 
 pub Contains-cases : {X : Type 0} (y : X) (xs : List X) (x : X) → Contains (y ∷ xs) x → (y ≡ x) ⊎ Contains xs x
 Contains-cases y xs x (zero, within, is) = inl is
@@ -40,26 +35,6 @@ Contains-flat_map f (z ∷ zs) x y h own = elim (Contains-cases z zs x h) [
   | inl here ↦ Contains-append_left (f z) (flat_map f zs) y (subst (λ w. Contains (f w) y) (sym here) own)
   | inr later ↦ Contains-append_right (f z) (flat_map f zs) y (Contains-flat_map f zs x y later own)
 ]
-
-pub Contains-filter : {X : Type 0} (p : X → Bool) (xs : List X) (x : X) → Contains xs x → p x ≡ true → Contains (filter p xs) x
-Contains-filter p [] x h passes = absurd (omega (arith, h.1))
-Contains-filter p (y ∷ ys) x h passes = elim (cases_Bool (p y)) [
-  | inl stays ↦ subst (λ l. Contains l x) (sym (cond-true (p y) (y ∷ filter p ys) (filter p ys) stays)) (
-      elim (Contains-cases y ys x h) [
-        | inl here ↦ subst (Contains (y ∷ filter p ys)) here (Contains-here y (filter p ys))
-        | inr later ↦ Contains-later y (filter p ys) x (Contains-filter p ys x later passes)
-      ]
-      )
-  | inr goes ↦ subst (λ l. Contains l x) (sym (cond-false (p y) (y ∷ filter p ys) (filter p ys) goes)) (
-      elim (Contains-cases y ys x h) [
-        | inl here ↦ absurd (both_ways (p y) goes (ap p here ∙ passes))
-        | inr later ↦ Contains-filter p ys x later passes
-      ]
-      )
-]
-
-pub Contains-range_with_len : (n k : ℕ) → k < n → Contains (range_with_len 0 n) k
-Contains-range_with_len n k lt = (k, omega (arith, length-range_with_len 0 n), get_or-range_with_len 0 n k k lt ∙ omega arith)
 
 pub All-flat_map : {X Y : Type 0} (P : Y → Type 0) (f : X → List Y) (xs : List X) → ((x : X) → All P (f x)) → All P (flat_map f xs)
 All-flat_map P f [] each = All-nil P
@@ -113,12 +88,6 @@ filter_map-range_with_len {X} h n (x ∷ xs) gives =
     ∙ ap (λ (l : List X). x ∷ l) (filter_map-range_with_len h (n + 1) xs (λ k m d within e. gives (suc k) m d (omega arith) (omega (arith, e))))
 
 -- ---- pairs
-
-pub AllPairs-head : {X : Type 0} (R : X → X → Type 0) (x : X) (xs : List X) → AllPairs R (x ∷ xs) → All (R x) xs
-AllPairs-head R x xs h = λ k d within. h 0 (suc k) d (omega arith) (omega arith)
-
-pub AllPairs-tail : {X : Type 0} (R : X → X → Type 0) (x : X) (xs : List X) → AllPairs R (x ∷ xs) → AllPairs R xs
-AllPairs-tail R x xs h = λ i j d lt within. h (suc i) (suc j) d (omega arith) (omega arith)
 
 pub AllPairs-from_map : {X Y : Type 0} (R : Y → Y → Type 0) (f : X → Y) (xs : List X) → AllPairs R (map f xs) → AllPairs (λ a b. R (f a) (f b)) xs
 AllPairs-from_map R f xs h i j d lt within =
@@ -194,11 +163,6 @@ pub AllPairs-numbered : (n : ℕ) (xs : List ℕ) → IsPermutation (range_with_
 AllPairs-numbered n xs numbered i j d lt within same =
     IsPermutation-keeps (range_with_len 0 n) Differ (Differ-range_with_len n) (λ l a b in-a in-b h. Differ-swap l a b in-a in-b h) xs numbered i j (omega arith) within (omega arith)
     (get_or_default xs i 0 d (omega arith) ∙ same ∙ get_or_default xs j d 0 within)
-
-pub range_with_len-below : (n : ℕ) → All (λ p. p < n) (range_with_len 0 n)
-range_with_len-below n k d within =
-    let fits : k < n = omega (arith, within, length-range_with_len 0 n) in
-    omega (arith, get_or-range_with_len 0 n k d fits)
 
 -- ---- lists that rise
 

@@ -10,7 +10,7 @@ use Rattle.wq_text.specs.Words.{WordView}
 use Rattle.wq_items.specs.Table.{item_named}
 use Rattle.wq_items.specs.Building.{items_named, and_item}
 use Rattle.wq_items.proofs.FlushLemmas.{item_named-is}
-use Rattle.wq_items.proofs.GrownTables.{item_named-within}
+use Rattle.wq_items.proofs.TableLemmas.{item_named-below}
 use Rattle.wq_groups.specs.Reading.{names_in, marks_of, lowest_of}
 use Rattle.wq_groups.proofs.Among.{is_among, same_name, bytes_eq-same, Contains-is_among, is_among-Contains, Differ, Differ-places, Differ-push, Differ-parts}
 
@@ -31,7 +31,7 @@ set-named {X} f names w i v differ found =
     g name = cond (bytes_eq name w) v (f name)
 
     i_in : i < length names
-    i_in = item_named-within names w i found
+    i_in = item_named-below names w i found
 
     at : (k : ℕ) → k < length names → get_or (set (map f names) i v) k v ≡ get_or (map g names) k v
     at k lt = elim (cases_eq k i) [
@@ -46,7 +46,7 @@ set-named {X} f names w i v differ found =
 
 -- what is noted at the item of a name
 pub get_or-named : {X : Type 0} (f : List ℕ → X) (names : List (List ℕ)) (w : List ℕ) (i : ℕ) (d : X) → item_named names w ≡ Some i → get_or (map f names) i d ≡ f w
-get_or-named f names w i d found = get_or-map f names i [] d (item_named-within names w i found) ∙ ap f (item_named-is names w i found)
+get_or-named f names w i d found = get_or-map f names i [] d (item_named-below names w i found) ∙ ap f (item_named-is names w i found)
 
 -- the item that a look-up of a word's bytes gave, as an index
 pub found_item : (names : List (List ℕ)) (word bytes : List ℕ) (o : Option ℕ) (id number i : ℕ) → bytes ≡ word → o ≡ item_named names bytes → o ≡ Some id → number ≡ id → i ≡ number → item_named names word ≡ Some i
@@ -85,7 +85,7 @@ lowest_of-push names front w i low found le_own le_front one =
     sym (position_or_len_is (λ (name : List ℕ). is_among name (front ++ (w ∷ []))) names low [] (omega (arith, le_own, i_in)) before at)
   where
     i_in : i < length names
-    i_in = item_named-within names w i found
+    i_in = item_named-below names w i found
 
     before : (k : ℕ) → k < low → is_among (get_or names k []) (front ++ (w ∷ [])) ≡ false
     before k lt =
@@ -157,9 +157,6 @@ Marked-twice names old mid lowest w rest words i found marked m before is differ
     (sym (get_or-named (λ (name : List ℕ). is_among name (before ++ m.front)) names w.bytes i false found) ∙ ap (λ (marks : List Bool). get_or marks i false) (sym (m.marks before is)) ∙ marked) in
     let whole : before ++ names_in words ≡ (before ++ m.front) ++ (w.bytes ∷ names_in rest) = ap (λ (l : List (List ℕ)). before ++ l) m.parts ∙ sym (append_assoc before m.front (w.bytes ∷ names_in rest)) in
     Differ-parts (before ++ m.front) (w.bytes ∷ names_in rest) w.bytes (subst Differ whole differ) stood (0, omega arith, refl)
-
-pub Marked-all : (names : List (List ℕ)) (old new : List Bool) (lowest : ℕ) (words : List WordView) → (m : Marked names old new lowest [] words) → m.front ≡ names_in words
-Marked-all names old new lowest words m = sym (m.parts ∙ append-nil m.front)
 
 -- ---- setting the first
 

@@ -3,6 +3,7 @@ use Rattle.std.proofs.Common.{◌≡◌, ℕ, ◌+◌, ◌<◌, ◌⊎◌, inl, 
 use Rattle.std.specs.Prelude.{IsSome, is_some, Contains, bytes_eq, replicate}
 use Rattle.std.specs.List.{All, position, position_or_len, range_with_len, filter_map}
 use Rattle.std.specs.Option.{unwrap_or}
+use Rattle.std.proofs.Math.Bool.{or-false}
 use Rattle.std.proofs.lemmas.Bool.{cases_Bool, or_cases, or_left, or_right, and_parts, and_from, cond-true, cond-false, lt-ltb, false_from_ne_true}
 use Rattle.std.proofs.lemmas.List.{length-map, get_or-map, ext_get_or, get_or-replicate, length-replicate, drop_all, take_all}
 use Rattle.std.proofs.lemmas.List.Folds.{list_any-append}
@@ -17,13 +18,14 @@ use Rattle.wq_items.specs.Building.{table_of, items_named, and_item}
 use Rattle.wq_items.specs.Flushes.{item_name}
 use Rattle.wq_items.specs.FirstFault.{IsDeclared}
 use Rattle.wq_items.proofs.BuildingLemmas.{names-table_of}
+use Rattle.wq_items.proofs.FaultLemmas.{IsFaultless-table_of}
 use Rattle.wq_groups.specs.declared.fault.GroupError.TheVariants.{GroupedTwice}
 use Rattle.wq_groups.specs.Grouping.{names_ordered, all_ordered, are_together, first_member, groups_of}
 use Rattle.wq_groups.specs.Reading.{names_in, marks_of, lowest_of, IsNoted}
 use Rattle.wq_groups.proofs.Among.{is_among, same_name, bytes_eq-same, Contains-is_among, Differ, Differ-parts}
 use Rattle.wq_groups.proofs.Regrouped.{all_ordered-push, first_regrouped-lowest}
 use Rattle.wq_groups.proofs.Together.{same_test, position_or_len-agree, position_or_len-le, first_place, on_one_line, on_one_line-ordered, are_together-same, together_cases}
-use Rattle.wq_groups.proofs.Partitions.{faultless, groups_of-some}
+use Rattle.wq_groups.proofs.Partitions.{groups_of-some}
 
 -- ---- one directive more
 
@@ -37,11 +39,7 @@ module _ (ds : List (ℕ × Directive)) (d : ℕ × Directive) (names : List (Li
   -- a name that isn't on the line
   together_other : (a b : List ℕ) → is_among a (names_ordered d) ≡ false → are_together (ds ++ (d ∷ [])) a b ≡ are_together ds a b
   together_other a b other =
-      ap (λ (t : Bool). bytes_eq a b || t) (line_is a b ∙ ap (λ (t : Bool). on_one_line ds a b || ((t && is_among b (names_ordered d)) || false)) other ∙ or_false (on_one_line ds a b))
-    where
-      or_false : (t : Bool) → (t || false) ≡ t
-      or_false true = refl
-      or_false false = refl
+      ap (λ (t : Bool). bytes_eq a b || t) (line_is a b ∙ ap (λ (t : Bool). on_one_line ds a b || ((t && is_among b (names_ordered d)) || false)) other ∙ or-false (on_one_line ds a b))
 
   -- a name that is on the line, and on none before it
   together_line : (a b : List ℕ) → Differ (all_ordered ds ++ names_ordered d) → is_among a (names_ordered d) ≡ true → are_together (ds ++ (d ∷ [])) a b ≡ is_among b (names_ordered d)
@@ -166,7 +164,7 @@ known_names ds t before n words after made parts =
     items_named-known t.names words
     (All-weaker (IsDeclared before) (Contains t.names)
     (λ (name : List ℕ) (h : IsDeclared before name). subst (λ (names : List (List ℕ)). Contains names name) (sym whole) (Contains-append_left (filter_map item_name before) (filter_map item_name ((n, Ordered words) ∷ after)) name h))
-    (names_in words) ((faultless ds t made).known before (n, Ordered words) after parts))
+    (names_in words) ((IsFaultless-table_of ds t made).known before (n, Ordered words) after parts))
 
 -- ---- going over them
 
@@ -185,9 +183,6 @@ pub record NotedSoFar (ds rest : List (ℕ × Directive)) (names : List (List �
   pub before : List (ℕ × Directive)
   pub parts : ds ≡ before ++ rest
   pub noted : IsNoted before names first marks
-
-pub length-marks : (ds rest : List (ℕ × Directive)) (names : List (List ℕ)) (first : List ℕ) (marks : List Bool) → NotedSoFar ds rest names first marks → length marks ≡ length names
-length-marks ds rest names first marks so_far = ap length so_far.noted.marks ∙ length-map names (λ (name : List ℕ). is_among name (all_ordered so_far.before))
 
 pub NotedSoFar-none : (ds : List (ℕ × Directive)) (names : List (List ℕ)) (first : List ℕ) (marks : List Bool) → Differ names → first ≡ range_with_len 0 (length names) → marks ≡ replicate (length names) false
     → NotedSoFar ds ds names first marks

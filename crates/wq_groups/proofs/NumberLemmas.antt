@@ -8,7 +8,6 @@ use Rattle.std.proofs.lemmas.List.{length_push, length-set, get_or_append_left, 
 use Rattle.std.proofs.lemmas.List.FromFn.{length-map-range_with_len, get_or-map-range_with_len, map-range_with_len_more, fill_by_all}
 use Rattle.std.proofs.lemmas.List.Elements.{filter-append}
 use Rattle.wq_items.specs.Table.{items_at}
-
 use Rattle.wq_groups.specs.Numbering.{AreHeads, heads_below, head_number}
 use Rattle.wq_groups.proofs.Heads.{range_with_len-push, heads_below-head, heads_below-other, heads_below-lt, head_number-below}
 

@@ -1,5 +1,5 @@
 -- The groups of a declaration: that they are a partition, which items share one, and that no other is alike.
-use Rattle.std.proofs.Common.{◌≡◌, ◌↔◌, ℕ, zero, suc, ◌<◌, ◌≤◌, ◌⊎◌, inl, inr, true, ◌&&◌, List, [], ◌∷◌, length, get_or, Option, Some, None, Result, Ok, Err, IsOk, refl, sym, ap, ap₂, subst, subst₂, ◌∙◌, arith}
+use Rattle.std.proofs.Common.{◌≡◌, ◌↔◌, ℕ, zero, suc, ◌<◌, ◌≤◌, ◌⊎◌, inl, inr, true, ◌&&◌, List, [], ◌∷◌, length, get_or, Option, Some, None, Result, Ok, Err, refl, sym, ap, ap₂, subst, subst₂, ◌∙◌, arith}
 use Rattle.std.specs.Prelude.{Contains, slice_get, slice_index}
 use Rattle.std.proofs.lemmas.Bool.{cases_order, or_cases, or_left, or_right, and_parts, and_from}
 use Rattle.std.proofs.lemmas.List.{length-map, length-take-le, get_or-take, get_or_default, ext_get_or}
@@ -7,9 +7,8 @@ use Rattle.std.proofs.lemmas.Option.{get_or_from_slice_get, slice_get_within}
 use Rattle.wq_decl.specs.declared.directive.Directive.{Directive}
 use Rattle.wq_items.specs.Table.{Table}
 use Rattle.wq_items.specs.Building.{table_of}
-use Rattle.wq_items.specs.FirstFault.{IsFaultless}
 use Rattle.wq_items.proofs.BuildingLemmas.{names-table_of}
-use Rattle.wq_items.proofs.FaultLemmas.{IsOk-table_of}
+use Rattle.wq_items.proofs.FaultLemmas.{IsFaultless-table_of}
 use Rattle.wq_groups.specs.declared.fault.GroupError.{GroupError}
 use Rattle.wq_groups.specs.declared.fault.GroupError.TheVariants.{GroupedTwice}
 use Rattle.wq_groups.specs.Partition.{Partition, IsPartition, ShareGroup, AreAlike}
@@ -22,14 +21,11 @@ use Rattle.wq_groups.proofs.Together.{on_one_line, are_together-line, together_c
 
 -- ---- what a table says of the names
 
-pub faultless : (ds : List (ℕ × Directive)) (t : Table) → table_of ds ≡ Ok t → IsFaultless ds
-faultless ds t made = (IsOk-table_of ds).0 (subst (λ (r : Result Table _). IsOk r) (sym made) refl)
-
 pub Differ-table_of : (ds : List (ℕ × Directive)) (t : Table) → table_of ds ≡ Ok t → Differ t.names
-Differ-table_of ds t made = subst Differ (sym (names-table_of ds t made)) (faultless ds t made).once
+Differ-table_of ds t made = subst Differ (sym (names-table_of ds t made)) (IsFaultless-table_of ds t made).once
 
 pub few-table_of : (ds : List (ℕ × Directive)) (t : Table) → table_of ds ≡ Ok t → length t.names ≤ 4096
-few-table_of ds t made = subst (λ (names : List (List ℕ)). length names ≤ 4096) (sym (names-table_of ds t made)) (faultless ds t made).items
+few-table_of ds t made = subst (λ (names : List (List ℕ)). length names ≤ 4096) (sym (names-table_of ds t made)) (IsFaultless-table_of ds t made).items
 
 -- ---- a partition
 

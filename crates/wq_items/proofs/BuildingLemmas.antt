@@ -98,6 +98,11 @@ table_after-keeps P Q step t (d ∷ ds) w q p e =
     let s = and_then-Ok (declared t d.0 d.1) (λ (u : Table). table_after u ds) w e in
     table_after-keeps P Q step s.next ds w q.1 (step t d s.next q.0 p s.taken) s.rest
 
+-- what asks nothing of a line holds of every line
+pub every_line : (ds : List (ℕ × Directive)) → AllByRecursion (λ (d : ℕ × Directive). Unit {0}) ds
+every_line [] = tt
+every_line (d ∷ ds) = (tt, every_line ds)
+
 cons_option-append : {X : Type 0} (o : Option X) (xs : List X) → cons_option o [] ++ xs ≡ cons_option o xs
 cons_option-append None xs = refl
 cons_option-append (Some x) xs = refl

@@ -58,7 +58,7 @@ module _ (R : ℕ → ℕ → Type 0) where
   circle_from_length n xs chain below long = let each = recursion_from_All (λ v. v < n) xs below in circle_from_again n xs chain each (has_again n xs each long)
 
   -- vertices that are waited for are below n
-  each_below : (n v : ℕ) (vs : List ℕ) → ((a b : ℕ) → R a b → b < n) → v < n → IsChain R (v ∷ vs) → AllByRecursion (λ w. w < n) (v ∷ vs)
+  pub each_below : (n v : ℕ) (vs : List ℕ) → ((a b : ℕ) → R a b → b < n) → v < n → IsChain R (v ∷ vs) → AllByRecursion (λ w. w < n) (v ∷ vs)
   each_below n v [] targets below chain = (below, tt)
   each_below n v (w ∷ ws) targets below chain = (below, each_below n w ws targets (targets v w chain.0) chain.1)
 

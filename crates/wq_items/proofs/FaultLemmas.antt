@@ -1,7 +1,7 @@
 -- Faults of lines, without tables.
 use Rattle.std.proofs.Common.{◌≡◌, ◌≢◌, ◌↔◌, ℕ, suc, ◌+◌, ◌<◌, ◌≤◌, Bool, true, false, cond, leb, ltb, List, [], ◌∷◌, ◌++◌, length, map, Option, Some, None, Result, Ok, Err, IsOk, is_ok, is_some, refl, sym, ap, subst, ◌∙◌, arith, append-nil, le-leb, leb-true, lt-ltb, ltb-true}
 use Rattle.std.specs.Prelude.{AllPairs, Contains}
-use Rattle.std.specs.List.{All, Any, AllByRecursion, filter_map}
+use Rattle.std.specs.List.{All, Any, filter_map}
 use Rattle.std.proofs.lemmas.List.{length-append, length-map, get_or_append_left, get_or_at, get_or_default}
 use Rattle.std.proofs.lemmas.List.Concat.{flat_map-append}
 use Rattle.std.proofs.lemmas.List.Elements.{All-nil, All-cons, filter_map-append}
@@ -15,7 +15,7 @@ use Rattle.wq_items.specs.Building.{empty_table, with_item, with_flushes, and_it
 use Rattle.wq_items.specs.Flushes.{item_name, line_flushes, flushes, names_used}
 use Rattle.wq_items.specs.FirstFault.{IsDeclared, IsFaultless, IsFaultOfLine, IsLowestItemFault}
 use Rattle.wq_items.proofs.TableLemmas.{differs-from-item_named, parts, item_named-below, length-items_named, flush_count-with_item}
-use Rattle.wq_items.proofs.BuildingLemmas.{item_step, flush_step, order_step, table_after-keeps, names-table_of, IsFirstFault-table_after, table_of-first_fault, IsAccepted-table_of}
+use Rattle.wq_items.proofs.BuildingLemmas.{item_step, flush_step, order_step, table_after-keeps, every_line, names-table_of, IsFirstFault-table_after, table_of-first_fault, IsAccepted-table_of}
 use Rattle.wq_items.proofs.FlushLemmas.{item_named-is, IsEven, IsEven-empty, IsEven-step, count_step, flush_count-table_of}
 
 words_bytes : List WordView → List (List ℕ)
@@ -119,13 +119,9 @@ IsWithin-step t (n, Flush name targets) u q h e =
     }
 IsWithin-step t (n, Ordered names) u q h e = subst IsWithin (sym (order_step t n names u e).after) h
 
-every : (ds : List (ℕ × Directive)) → AllByRecursion (λ (d : ℕ × Directive). Unit {0}) ds
-every [] = tt
-every (d ∷ ds) = (tt, every ds)
-
 IsWithin-table_of : (ds : List (ℕ × Directive)) (t : Table) → table_of ds ≡ Ok t → IsWithin t
 IsWithin-table_of ds t e =
-    table_after-keeps IsWithin (λ (d : ℕ × Directive). Unit {0}) IsWithin-step empty_table ds t (every ds) (record { even = IsEven-empty; items = omega arith; flushes = omega arith }) e
+    table_after-keeps IsWithin (λ (d : ℕ × Directive). Unit {0}) IsWithin-step empty_table ds t (every_line ds) (record { even = IsEven-empty; items = omega arith; flushes = omega arith }) e
 
 names_known : (t : Table) (d : ℕ × Directive) (u : Table) → declared t d.0 d.1 ≡ Ok u → All (Contains t.names) (names_used d)
 unfolding words_bytes
@@ -135,7 +131,7 @@ names_known t (n, Flush name targets) u e =
     All-cons (Contains t.names) name.bytes (words_bytes targets) (Contains-item_named t.names name.bytes s.item s.first) (All-items_named t.names targets s.items s.others)
 names_known t (n, Ordered names) u e = let s = order_step t n names u e in All-items_named t.names names s.items s.known
 
-IsFaultless-table_of : (ds : List (ℕ × Directive)) (t : Table) → table_of ds ≡ Ok t → IsFaultless ds
+pub IsFaultless-table_of : (ds : List (ℕ × Directive)) (t : Table) → table_of ds ≡ Ok t → IsFaultless ds
 IsFaultless-table_of ds t e =
     let within = IsWithin-table_of ds t e in
     let names : t.names ≡ filter_map item_name ds = names-table_of ds t e in

@@ -1,7 +1,7 @@
 -- The targets in a table are the flushes that the lines declare.
 use Rattle.std.proofs.Common.{◌≡◌, ◌≢◌, inl, inr, ℕ, zero, suc, ◌+◌, ◌<◌, Bool, true, false, cond, List, [], ◌∷◌, ◌++◌, length, map, get_or, set, Some, None, Ok, refl, sym, ap, subst, ◌∙◌, arith, append_assoc, append-nil}
 use Rattle.std.specs.Prelude.{bytes_eq, AllPairs, slice_get}
-use Rattle.std.specs.List.{AllByRecursion, filter_map, cons_option, enumerate_from}
+use Rattle.std.specs.List.{filter_map, cons_option, enumerate_from}
 use Rattle.std.proofs.lemmas.Bool.{cases_order, false_from_ne_true}
 use Rattle.std.proofs.lemmas.List.{length_push, length-set, length-append, length-map, map-append, get_or_append_left, get_or-set_same, get_or-set_other}
 use Rattle.std.proofs.lemmas.List.Elements.{filter_map-append}
@@ -16,7 +16,7 @@ use Rattle.wq_items.specs.Table.{Table, item_named, targets_of, flush_count}
 use Rattle.wq_items.specs.Building.{empty_table, with_item, with_flushes, targets_from, items_named, declared, table_after, table_of}
 use Rattle.wq_items.specs.Flushes.{item_name, line_flushes, flushes, flushes_of, named_targets}
 use Rattle.wq_items.proofs.TableLemmas.{differs-from-item_named, parts, item_named-below, length-items_named, flush_count-with_item, flush_count-with_flushes}
-use Rattle.wq_items.proofs.BuildingLemmas.{item_step, flush_step, order_step, and_then-Ok, table_after-keeps, names-table_after}
+use Rattle.wq_items.proofs.BuildingLemmas.{item_step, flush_step, order_step, and_then-Ok, table_after-keeps, every_line, names-table_after}
 
 -- ---- lists
 
@@ -63,12 +63,8 @@ IsEven-step t (n, Flush name targets) u q h e =
     )
 IsEven-step t (n, Ordered names) u q h e = subst IsEven (sym (order_step t n names u e).after) h
 
-all : (ds : List (ℕ × Directive)) → AllByRecursion (λ (d : ℕ × Directive). Unit {0}) ds
-all [] = tt
-all (d ∷ ds) = (tt, all ds)
-
 pub IsEven-table_after : (t : Table) (ds : List (ℕ × Directive)) (u : Table) → IsEven t → table_after t ds ≡ Ok u → IsEven u
-IsEven-table_after t ds u h e = table_after-keeps IsEven (λ (d : ℕ × Directive). Unit {0}) IsEven-step t ds u (all ds) h e
+IsEven-table_after t ds u h e = table_after-keeps IsEven (λ (d : ℕ × Directive). Unit {0}) IsEven-step t ds u (every_line ds) h e
 
 -- ---- counts
 

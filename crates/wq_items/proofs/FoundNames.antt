@@ -39,7 +39,7 @@ pub list_any-is : {X : Type 0} (p : X → Bool) (xs : List X) → list_any p xs 
 list_any-is p [] = refl
 list_any-is p (x ∷ xs) = list_any-step p x xs (p x) refl (list_any-is p xs)
 
-none_is : {X : Type 0} (b : Bool) (n : X) → cond b (Some n) None ≡ None → b ≡ false
+pub none_is : {X : Type 0} (b : Bool) (n : X) → cond b (Some n) None ≡ None → b ≡ false
 none_is true n e = absurd cc
 none_is false n e = refl
 

@@ -1,7 +1,6 @@
 -- A table that has grown, part by part, is a table.
 use Rattle.std.proofs.Common.{◌≡◌, ℕ, ◌+◌, ◌<◌, ◌≤◌, List, [], ◌∷◌, ◌++◌, length, Option, Some, None, refl, sym, ap, subst, ◌∙◌, arith}
-use Rattle.std.specs.Prelude.{IsTrue, IfSome, option_map, slice_set, bytes_eq}
-use Rattle.std.proofs.lemmas.List.Quantifiers.{position-Some}
+use Rattle.std.specs.Prelude.{IsTrue, IfSome, option_map, slice_set}
 use Rattle.wq_text.specs.declared.span.Span.{Span}
 use Rattle.wq_text.specs.Words.{WordView}
 use Rattle.wq_decl.specs.Names.{is_name}
@@ -9,9 +8,6 @@ use Rattle.wq_items.specs.declared.target.Target.{Target}
 use Rattle.wq_items.specs.Table.{Table, IsTable, item_named, targets_of, flush_count}
 use Rattle.wq_items.specs.Building.{items_named, targets_from, span_of}
 use Rattle.wq_items.proofs.TableLemmas.{IsTable-with_item, IsTable-with_flushes, flush_count-with_item, flush_count-with_flushes, items_named-below, length-items_named}
-
-pub item_named-within : (names : List (List ℕ)) (name : List ℕ) (i : ℕ) → item_named names name ≡ Some i → i < length names
-item_named-within names name i found = (position-Some (bytes_eq name) names i [] found).0
 
 pub IsTable-item_added : (t : Table) (name : WordView) (names : List (List ℕ)) (spans : List Span) (waits : List (List Target)) → IsTable t → item_named t.names name.bytes ≡ None → length t.names < 4096
     → IsTrue (is_name name.bytes) → names ≡ t.names ++ (name.bytes ∷ []) → spans ≡ t.spans ++ (span_of name ∷ []) → waits ≡ t.waits ++ ([] ∷ [])

@@ -1,3 +1,4 @@
+pub mod Lists
 pub mod FoundNames
 pub mod WaitLemmas
 pub mod TargetLemmas

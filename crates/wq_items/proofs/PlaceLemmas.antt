@@ -10,6 +10,7 @@ use Rattle.std.proofs.lemmas.List.FromFn.{length-range_with_len, get_or-range_wi
 use Rattle.std.proofs.lemmas.List.Sorted.{All-permutation}
 use Rattle.wq_items.specs.declared.target.Target.{Target}
 use Rattle.wq_items.specs.Table.{PlacesRise, targets_of, places}
+use Rattle.wq_items.proofs.Lists.{range_with_len-below}
 
 -- ---- numbers that rise
 
@@ -37,11 +38,6 @@ IsStrictlyIncreasing-range_with_len a n k within =
 
 range_with_len-from : (a n : ℕ) → All (λ p. a ≤ p) (range_with_len a n)
 range_with_len-from a n k d within = rw (get_or-range_with_len a n k d (omega (arith, within, length-range_with_len a n))) (omega arith)
-
-range_with_len-below : (n : ℕ) → All (λ p. p < n) (range_with_len 0 n)
-range_with_len-below n k d within =
-    let fits : k < n = omega (arith, within, length-range_with_len 0 n) in
-    rw (get_or-range_with_len 0 n k d fits) (omega arith)
 
 -- ---- the places of an item
 

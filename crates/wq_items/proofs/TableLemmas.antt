@@ -1,5 +1,5 @@
 -- What each step of building a table keeps.
-use Rattle.std.proofs.Common.{◌≡◌, ◌≢◌, ℕ, zero, suc, ◌+◌, ◌<◌, ◌≤◌, Bool, true, false, ltb, List, [], ◌∷◌, ◌++◌, length, map, get_or, set, Option, Some, None, refl, sym, ap, subst, ◌∙◌, arith, cond, IsTrue, append_assoc, append-nil, ltb-false}
+use Rattle.std.proofs.Common.{◌≡◌, ◌≢◌, ℕ, zero, suc, ◌+◌, ◌<◌, ◌≤◌, Bool, ltb, List, [], ◌∷◌, ◌++◌, length, map, get_or, set, Option, Some, None, refl, sym, ap, subst, ◌∙◌, arith, IsTrue, append_assoc, append-nil, ltb-false}
 use Rattle.std.specs.Prelude.{bytes_eq, IsPermutation}
 use Rattle.std.specs.List.{All, range_with_len, position_or_len}
 use Rattle.std.proofs.lemmas.Bool.{both_ways}
@@ -15,13 +15,10 @@ use Rattle.wq_decl.specs.Names.{is_name}
 use Rattle.wq_items.specs.declared.target.Target.{Target}
 use Rattle.wq_items.specs.Table.{Table, IsTable, TargetsBelow, PlacesRise, item_named, targets_of, flush_count, places}
 use Rattle.wq_items.specs.Building.{empty_table, span_of, with_item, with_flushes, targets_from, and_item, items_named}
+use Rattle.wq_items.proofs.FoundNames.{none_is}
 use Rattle.wq_items.proofs.PlaceLemmas.{PlacesRise-set}
 
 -- ---- names
-
-none_is : (b : Bool) (n : ℕ) → cond b (Some n) None ≡ None → b ≡ false
-none_is true n e = absurd cc
-none_is false n e = refl
 
 -- a name that isn't found differs from each name that is there
 pub differs-from-item_named : (names : List (List ℕ)) (name : List ℕ) → item_named names name ≡ None → (k : ℕ) (d : List ℕ) → k < length names → get_or names k d ≢ name

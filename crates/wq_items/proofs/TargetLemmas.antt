@@ -1,6 +1,6 @@
 -- Going over the words of a `flush` or an `ordered` line: how many were known, and what the targets of a flush added.
-use Rattle.std.proofs.Common.{◌≡◌, ℕ, zero, suc, ◌+◌, ◌<◌, List, [], ◌∷◌, ◌++◌, length, set, Option, Some, None, refl, sym, ap, subst, ◌∙◌, arith, append_assoc}
-use Rattle.std.specs.Prelude.{IsSome, option_map}
+use Rattle.std.proofs.Common.{◌≡◌, ℕ, zero, suc, ◌+◌, ◌<◌, List, [], ◌∷◌, ◌++◌, length, set, Option, Some, None, refl, sym, ap, ◌∙◌, arith, append_assoc}
+use Rattle.std.specs.Prelude.{option_map}
 use Rattle.std.proofs.lemmas.List.{get_or-set_same, length-append}
 use Rattle.wq_text.specs.Words.{WordView}
 use Rattle.wq_items.specs.declared.target.Target.{Target}
@@ -14,17 +14,6 @@ pub record Counted (names : List (List ℕ)) (count : ℕ) (rest words : List Wo
   pub known : option_map (λ (is : List ℕ). count + length is) (items_named names rest) ≡ option_map length (items_named names words)
   pub all : count + length rest ≡ length words
 
-one_more : (i count : ℕ) (o : Option (List ℕ)) → option_map (λ (is : List ℕ). (count + 1) + length is) o ≡ option_map (λ (is : List ℕ). count + length is) (and_item (Some i) o)
-one_more i count None = refl
-one_more i count (Some is) = ap (λ (n : ℕ). Some n) (omega arith)
-
-pub Counted-more : (names : List (List ℕ)) (count : ℕ) (w : WordView) (rest words : List WordView) (i : ℕ) → item_named names w.bytes ≡ Some i → Counted names count (w ∷ rest) words
-    → Counted names (count + 1) rest words
-Counted-more names count w rest words i found h = record {
-  known = one_more i count (items_named names rest) ∙ ap (λ (o : Option ℕ). option_map (λ (is : List ℕ). count + length is) (and_item o (items_named names rest))) (sym found) ∙ h.known;
-  all = omega (arith, h.all);
-}
-
 -- ---- adding
 
 -- the items in front were added to those of one item, and `rest` of all the words are left
@@ -34,10 +23,6 @@ pub record Added (names : List (List ℕ)) (old new : List (List Target)) (item 
   pub lists : new ≡ set old item (targets_of old item ++ targets_from first front)
   pub next : place ≡ first + length front
   pub all : length front + length rest ≡ length words
-
-same_items : (o : Option (List ℕ)) → option_map (λ (is : List ℕ). [] ++ is) o ≡ o
-same_items None = refl
-same_items (Some is) = refl
 
 pub targets_from-append : (place : ℕ) (is js : List ℕ) → targets_from place (is ++ js) ≡ targets_from place is ++ targets_from (place + length is) js
 targets_from-append place [] js = ap (λ (p : ℕ). targets_from p js) (omega arith)
@@ -72,7 +57,3 @@ Added-more names old mid new item first place w rest words i within found grown 
       next = omega (arith, h.next, length-append h.front (i ∷ []));
       all = omega (arith, h.all, length-append h.front (i ∷ []));
     }
-
-found_first : (o : Option ℕ) (others : Option (List ℕ)) (front : List ℕ) (all : Option (List ℕ)) → option_map (λ (is : List ℕ). front ++ is) (and_item o others) ≡ all → IsSome all → IsSome o
-found_first None others front all e known = subst IsSome (sym e) known
-found_first (Some i) others front all e known = refl

@@ -2,7 +2,7 @@
 use Rattle.std.proofs.Common.{◌≡◌, ◌≢◌, ℕ, ◌+◌, ◌<◌, ◌≤◌, inl, inr, List, length, subst, sym, arith, slice_index, slice_set, EachIndex, SomeIndex, Bool, true, false, get_or-set_same, get_or-set_other, length-set, true≢false}
 use Rattle.std.proofs.lemmas.Bool.{cases_lt, cases_eq}
 use Rattle.wq_items.specs.Chain.{IsRank}
-use Rattle.wq_items.proofs.Chains.{BeginsChain-one, BeginsChain-at, BeginsChain-more, BeginsChain-less, BeginsChain-next}
+use Rattle.wq_items.proofs.Chains.{BeginsChain-more, BeginsChain-less, BeginsChain-next}
 use Rattle.wq_levels.specs.Rounds.{IsCapped}
 
 -- within a round: the vertices before i are done, and the others stand as the round before left them

@@ -1,8 +1,8 @@
 -- Chains that get as long as one likes, by any relation.
 use Rattle.std.proofs.Common.{◌≡◌, ℕ, zero, suc, ◌+◌, ◌<◌, inl, inr, List, [], ◌∷◌, length, sym, subst, arith}
-use Rattle.std.specs.List.{AllByRecursion}
 use Rattle.wq_items.specs.Chain.{IsChain, BeginsChain}
 use Rattle.wq_items.proofs.Chains.{BeginsChain-one, BeginsChain-at, BeginsChain-more, BeginsChain-less}
+use Rattle.wq_items.proofs.Circles.{each_below}
 use Rattle.wq_items.proofs.Pigeonhole.{IsIn, HasAgain, has_again}
 
 -- chains of every length begin at v
@@ -37,15 +37,10 @@ module _ (R : ℕ → ℕ → Type 0) where
   endless_second v w ws chain (inl (inr later)) =
       λ m. BeginsChain-less R w (m + 1) (m + 2) (omega arith) (omega arith) (reaches v m w ws chain.1 later (endless_again v (w ∷ ws) chain (inr later) m))
 
-  -- vertices that are waited for are below n
-  each_below : (n v : ℕ) (vs : List ℕ) → ((a b : ℕ) → R a b → b < n) → v < n → IsChain R (v ∷ vs) → AllByRecursion (λ w. w < n) (v ∷ vs)
-  each_below n v [] targets below chain = (below, tt)
-  each_below n v (w ∷ ws) targets below chain = (below, each_below n w ws targets (targets v w chain.0) chain.1)
-
   next_endless : (n v : ℕ) (others : List ℕ) → ((a b : ℕ) → R a b → b < n) → v < n → IsChain R (v ∷ others) → length (v ∷ others) ≡ n + 1 → (w : ℕ) × R v w × IsEndless R w
   next_endless n v [] targets below chain size = absurd (omega arith)
   next_endless n v (w ∷ ws) targets below chain size =
-      (w, chain.0, endless_second v w ws chain (has_again n (v ∷ w ∷ ws) (each_below n v (w ∷ ws) targets below chain) (omega arith)))
+      (w, chain.0, endless_second v w ws chain (has_again n (v ∷ w ∷ ws) (each_below R n v (w ∷ ws) targets below chain) (omega arith)))
 
   -- from a vertex below n at which a chain of n + 1 vertices begins the way goes on to an endless one, where all that is
   -- waited for is below n

@@ -1,8 +1,8 @@
 -- The walk from the least remaining vertex, under way: no vertex was left twice so far.
-use Rattle.std.proofs.Common.{◌≡◌, ◌≢◌, ℕ, zero, suc, ◌<◌, ◌≤◌, ◌⊎◌, inl, inr, List, [], ◌∷◌, ◌++◌, length, get_or, set, take, drop, replicate, AllPairs, Option, Some, None, MatchOption, refl, sym, ◌∙◌, subst, ap, arith}
+use Rattle.std.proofs.Common.{◌≡◌, ◌≢◌, ℕ, zero, suc, ◌<◌, ◌≤◌, ◌⊎◌, inl, inr, List, [], ◌∷◌, ◌++◌, length, get_or, set, take, drop, AllPairs, Option, Some, None, MatchOption, refl, sym, ◌∙◌, subst, ap, arith}
 use Rattle.std.specs.List.{All}
 use Rattle.std.proofs.lemmas.Bool.{cases_lt, cases_eq}
-use Rattle.std.proofs.lemmas.List.{length_push, length-drop, get_or_push, get_or_append_left, get_or_default, get_or-set_same, get_or-set_other, length-set, length-replicate, get_or-replicate, take-append-drop}
+use Rattle.std.proofs.lemmas.List.{length_push, length-drop, get_or_push, get_or_append_left, get_or_default, get_or-set_same, get_or-set_other, length-set, take-append-drop}
 use Rattle.std.proofs.lemmas.List.Elements.{All-push}
 use Rattle.std.proofs.lemmas.List.Quantifiers.{all_pairs_push}
 use Rattle.wq_items.proofs.Pigeonhole.{repeats_from_length}
@@ -96,12 +96,6 @@ module _ (graph : List (List WaitArc)) (start : ℕ) where
 pub record TellsLeft (n : ℕ) (vs : List ℕ) (left : List (Option ℕ)) : Type 0 where
   pub one_each : length left ≡ n
   pub told : (v : ℕ) → v < n → MatchOption (get_or left v None) (IsNew vs v) (λ k. (k < length vs) × (get_or vs k 0 ≡ v))
-
-pub TellsLeft-none : (n : ℕ) (left : List (Option ℕ)) → left ≡ replicate n None → TellsLeft n [] left
-TellsLeft-none n left same = record {
-  one_each = ap (λ (l : List (Option ℕ)). length l) same ∙ length-replicate n None;
-  told = λ v vertex. rw (same, get_or-replicate {A = Option ℕ} n v None None vertex) (λ k fits. absurd (omega arith));
-}
 
 told_more : (vs : List ℕ) (v u : ℕ) (o : Option ℕ) → u ≢ v → MatchOption o (IsNew vs u) (λ k. (k < length vs) × (get_or vs k 0 ≡ u))
     → MatchOption o (IsNew (vs ++ v ∷ []) u) (λ k. (k < length (vs ++ v ∷ [])) × (get_or (vs ++ v ∷ []) k 0 ≡ u))

@@ -1,10 +1,11 @@
 -- Plans are least: the longest chain has as many groups as there are lanes.
-use Rattle.std.proofs.Common.{◌≡◌, ℕ, zero, suc, ◌+◌, ◌<◌, List, [], ◌∷◌, length, inl, inr, refl, subst, sym, ap, ◌∙◌, arith}
-use Rattle.std.specs.Prelude.{slice_index, slice_get, Some}
+use Rattle.std.proofs.Common.{◌≡◌, ℕ, ◌<◌, List, [], ◌∷◌, length, inl, inr, subst, sym, ap, ◌∙◌, arith}
+use Rattle.std.specs.Prelude.{slice_get, Some}
 use Rattle.std.specs.List.{All}
 use Rattle.std.proofs.lemmas.Bool.{cases_lt}
 use Rattle.std.proofs.lemmas.List.Elements.{All-nil, All-cons}
 use Rattle.std.proofs.lemmas.Option.{get_or_from_slice_get, slice_get_within}
+use Rattle.std.proofs.lemmas.List.{nil_from_length}
 use Rattle.wq_items.specs.Chain.{IsChain}
 use Rattle.wq_groups.specs.Declaration.{Declaration, GroupWaits, IsDeclaration}
 use Rattle.wq_groups.specs.Assignment.{Assignment, IsAssignment, group_lane}
@@ -12,11 +13,6 @@ use Rattle.wq_core.specs.Deadlock.{IsLeast}
 use Rattle.wq_core.proofs.Least.{IsLeast-chain}
 use Rattle.wq_plan.specs.Plan.{IsPlan, lanes_of}
 use Rattle.wq_plan.proofs.Lanes.{lanes_of-above, lanes_of-some}
-
--- a list of no length is empty
-length_zero : (xs : List ℕ) → length xs ≡ 0 → xs ≡ []
-length_zero [] e = refl
-length_zero (x ∷ xs) e = absurd (omega (arith, e))
 
 module _ (d : Declaration) (is : IsDeclaration d) where
   -- the group of an item is one of the groups
@@ -48,7 +44,7 @@ module _ (d : Declaration) (is : IsDeclaration d) where
           let begins = (plan.ranks last.0 first).0 in
           IsLeast-chain d a (last.0 ∷ begins.0) is IsAssignment-plan all_fall begins.1 (chain-below last.0 begins.0 first begins.1) (begins.2 ∙ last.2 ∙ sym plan.count)
       | inr none ↦
-          let empty : a.lane_of_group ≡ [] = length_zero a.lane_of_group (omega (arith, none)) in
+          let empty : a.lane_of_group ≡ [] = nil_from_length a.lane_of_group (omega (arith, none)) in
           let lanes : 0 ≡ a.lanes = sym (plan.count ∙ ap lanes_of empty) in
           IsLeast-chain d a [] is IsAssignment-plan all_fall tt (All-nil (λ v. v < d.groups)) lanes
     ]

@@ -51,7 +51,7 @@ NoFrom-lines_from n start (p ∷ ps) =
     All-cons (NoFrom n) (record { no = n; start = start; bytes = line_bytes p }) (lines_from (n + 1) (start + taken p) ps) (omega arith)
     (All-weaker (NoFrom (n + 1)) (NoFrom n) (λ line h. omega arith) (lines_from (n + 1) (start + taken p) ps) (NoFrom-lines_from (n + 1) (start + taken p) ps))
 
-Any-later : (P : LineView → Type 0) (x : LineView) (xs : List LineView) → Any P xs → Any P (x ∷ xs)
+pub Any-later : {X : Type 0} (P : X → Type 0) (x : X) (xs : List X) → Any P xs → Any P (x ∷ xs)
 Any-later P x xs (k, y, lt, at, h) = (suc k, y, omega arith, at, h)
 
 -- the first line that is too long has this number

@@ -4,9 +4,7 @@ use Rattle.std.specs.List.{AllByRecursion, Contains, flat_map}
 use Rattle.std.proofs.lemmas.Bool.{eqb-true, eqb-false, false≢true}
 use Rattle.wq_text.specs.Lines.{Piece, pieces, in_front, piece_text, OnlyTheLastIsOpen, AreThePieces}
 use Rattle.wq_text.proofs.PieceLemmas.{NoFeed, is_false, pieces-feed, pieces-whole}
-
-cons_not_nil : (x : ℕ) (xs : List ℕ) → x ∷ xs ≡ [] → ⊥
-cons_not_nil x xs e = cc
+use Rattle.wq_text.proofs.WordLemmas.{cons_not_nil}
 
 -- no piece holds a line feed
 abbrev HoldNoFeed : List Piece → Type 0

@@ -1,6 +1,6 @@
 use Rattle.std.proofs.Common.{ℕ, ◌<◌, sym, subst, ◌∙◌}
 use Rattle.std.specs.List.{All}
-use Rattle.wq_graph.proofs.ListLemmas.{range_with_len-below}
+use Rattle.wq_items.proofs.Lists.{range_with_len-below}
 use Rattle.wq_deadlock.proofs.OwnLanes.{same_own_lanes}
 use Rattle.wq_deadlock.proofs.circles.own_lanes.Goals as goal
 

@@ -3,7 +3,8 @@ use Rattle.std.specs.Prelude.{IfSome, slice_set, option_map}
 use Rattle.wq_text.specs.Words.{WordView}
 use Rattle.wq_items.specs.Table.{Table, item_named, flush_count, targets_of}
 use Rattle.wq_items.specs.Building.{items_named, targets_from}
-use Rattle.wq_items.proofs.GrownTables.{IsTable-flushes_added, item_named-within, count_is}
+use Rattle.wq_items.proofs.TableLemmas.{item_named-below}
+use Rattle.wq_items.proofs.GrownTables.{IsTable-flushes_added, count_is}
 use Rattle.wq_items.proofs.table.ItemTable.declare_flushes.Goals as goal
 
 pub push_targets-requires-clause-room : goal.push_targets-requires-clause-room
@@ -24,7 +25,7 @@ invariant_of-result g c =
     c.in-Some-count_known.ensures ∙ ap (λ (ws : List WordView). option_map length (items_named c.args.self.names ws)) c.again.ensures.same
     ∙ ap (λ (u : Table). option_map length (items_named u.names c.args.targets)) (sym c.self.view_is) in
     let found : item_named s.names c.args.name.bytes ≡ Some c.in-Some.item = ap (item_named s.names) (sym c.bytes.ensures) ∙ sym c.in-Some.ensures in
-    let within : c.in-Some.item < length s.names = item_named-within s.names c.args.name.bytes c.in-Some.item found in
+    let within : c.in-Some.item < length s.names = item_named-below s.names c.args.name.bytes c.in-Some.item found in
     let room : flush_count s.waits + count ≤ 16384 = omega (arith, c.self.invariant.1, c.self.invariant.0.few_flushes, c.if-count-self.false) in
     let grown : IfSome (items_named s.names c.args.targets) (λ items. c.push_targets.new.waits ≡ slice_set s.waits c.in-Some.item (targets_of s.waits c.in-Some.item ++ targets_from (flush_count s.waits) items)) =
     subst (λ (first : ℕ). IfSome (items_named s.names c.args.targets) (λ items. c.push_targets.new.waits ≡ slice_set s.waits c.in-Some.item (targets_of s.waits c.in-Some.item ++ targets_from first items)))
