@@ -33,6 +33,11 @@ IsAt-cond n false fault r h then = then
 
 -- ---- what is settled
 
+-- no line stands in an empty list
+pub nothing_stands : (before : List CertLine) (line : CertLine) (behind : List CertLine) → [] ≡ before ++ (line ∷ behind) → ⊥
+nothing_stands [] line behind e = cc
+nothing_stands (front ∷ before) line behind e = cc
+
 -- a fault of one of the lines is settled by those up to it
 pub record IsSettled {V : Type 0} (read : List CertLine → Result V CertError) (lines : List CertLine) (fault : CertError) : Type 0 where
   pub before : List CertLine

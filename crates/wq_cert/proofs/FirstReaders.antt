@@ -6,6 +6,7 @@ use Rattle.wq_core.specs.declared.step.Step.{Step}
 use Rattle.wq_groups.specs.Assignment.{Assignment}
 use Rattle.wq_groups.specs.Partition.{Partition}
 use Rattle.wq_cert.proofs.FirstLines.{IsAt, IsAt-Err, IsAt-ok_or, IsAt-and_then, IsAt-cond, IsSettled, Settles, ReadsInOrder, Settles-and_read, ReadsInOrder-and_read, ReadsInOrder-of_no_line, ReadsInOrder-next_line, ReadsInOrder-next_lines, Settles-at_end, Settles-and_then}
+use Rattle.wq_cert.proofs.PlanTurns.{assigned}
 use Rattle.wq_cert.specs.Certificate.{PlanCertificate, CircleCertificate, Certificate, OfPlan, OfCircle}
 use Rattle.wq_cert.specs.declared.fault.CertError.{CertError}
 use Rattle.wq_cert.specs.declared.fault.CertError.TheVariants.{BadCertLine, NotAllItems, GroupSplit, NumberOutOfRange}
@@ -92,14 +93,21 @@ IsSettled-first read other line lines fault same h = placed h.before h.lines_are
 
 -- ---- runs and circles
 
+abbrev pub last_step : List Step → List CertLine → Result (List Step) CertError
+last_step steps rest = at_end steps rest
+
 module _ (names : List (List ℕ)) where
-  pub Settles-steps : (m : ℕ) → Settles (λ behind_run. and_read (λ steps rest. at_end steps rest) (next_lines (step_reading names) m behind_run))
-  Settles-steps m = Settles-and_read (next_lines (step_reading names) m) (λ steps rest. at_end steps rest) (ReadsInOrder-next_lines (step_reading names) (at-step names) m) Settles-at_end
+  -- what is read behind the number of a run
+  abbrev pub steps_behind : ℕ → List CertLine → Result (List Step) CertError
+  steps_behind m lines = and_read last_step (next_lines (step_reading names) m lines)
+
+  pub Settles-steps : (m : ℕ) → Settles (steps_behind m)
+  Settles-steps m = Settles-and_read (next_lines (step_reading names) m) last_step (ReadsInOrder-next_lines (step_reading names) (at-step names) m) Settles-at_end
 
   pub Settles-run_reading : Settles (run_reading names)
   Settles-run_reading =
       Settles-and_read (next_line (λ line. ok_or (count_form (codes "run") line.words) (BadCertLine line.no)))
-      (λ m behind_run. and_read (λ steps rest. at_end steps rest) (next_lines (step_reading names) m behind_run))
+      steps_behind
       (ReadsInOrder-next_line (λ line. ok_or (count_form (codes "run") line.words) (BadCertLine line.no)) at-run) Settles-steps
 
   run_if_some : List CertLine → Result (Option (List Step)) CertError
@@ -187,11 +195,8 @@ module _ (names : List (List ℕ)) (p : Partition) where
 
   -- ---- workqueues alone
 
-  abbrev assigned : List (List ℕ) → List CertLine → Result Assignment CertError
-  assigned workqueues rest = and_then (λ assignment. at_end assignment rest) (whole_assignment p workqueues)
-
   abbrev workqueues_behind : List (List ℕ) → List CertLine → Result Assignment CertError
-  workqueues_behind workqueues lines = and_read assigned (all_workqueues names p.group_of workqueues lines)
+  workqueues_behind workqueues lines = and_read (assigned p) (all_workqueues names p.group_of workqueues lines)
 
   ended : (workqueues : List (List ℕ)) (line : CertLine) (lines : List CertLine) (fault : CertError) → begins_with (codes "wq") line.words ≡ false → (r : Result Assignment CertError) → whole_assignment p workqueues ≡ r → NoLineIsAtFault r
       → and_then (λ assignment. at_end assignment (line ∷ lines)) r ≡ Err fault → 0 < line_of fault → IsSettled (workqueues_behind workqueues) (line ∷ lines) fault
@@ -208,17 +213,17 @@ module _ (names : List (List ℕ)) (p : Partition) where
         lines_are = refl;
         number = ap line_of same;
         settled = λ others.
-            ap (λ (b : Bool). and_read assigned (cond b (and_then (λ items. all_workqueues names p.group_of (workqueues ++ (items ∷ [])) others) (wq_reading names p.group_of workqueues line)) (Ok (workqueues, line ∷ others)))) other
+            ap (λ (b : Bool). and_read (assigned p) (cond b (and_then (λ items. all_workqueues names p.group_of (workqueues ++ (items ∷ [])) others) (wq_reading names p.group_of workqueues line)) (Ok (workqueues, line ∷ others)))) other
             ∙ ap (and_then (λ assignment. at_end assignment (line ∷ others))) is
             ∙ ap (λ (x : CertError). Err x) same;
       }
 
   -- the reader of one line more, where it is of a workqueue
   abbrev one_more : List (List ℕ) → List CertLine → Result (List ℕ) CertError → Result Assignment CertError
-  one_more workqueues lines r = and_read assigned (and_then (λ items. all_workqueues names p.group_of (workqueues ++ (items ∷ [])) lines) r)
+  one_more workqueues lines r = and_read (assigned p) (and_then (λ items. all_workqueues names p.group_of (workqueues ++ (items ∷ [])) lines) r)
 
   abbrev by_word : List (List ℕ) → CertLine → List CertLine → Bool → Result Assignment CertError
-  by_word workqueues line lines b = and_read assigned (cond b (and_then (λ items. all_workqueues names p.group_of (workqueues ++ (items ∷ [])) lines) (wq_reading names p.group_of workqueues line)) (Ok (workqueues, line ∷ lines)))
+  by_word workqueues line lines b = and_read (assigned p) (cond b (and_then (λ items. all_workqueues names p.group_of (workqueues ++ (items ∷ [])) lines) (wq_reading names p.group_of workqueues line)) (Ok (workqueues, line ∷ lines)))
 
   refused-line : (line : CertLine) (lines : List CertLine) (workqueues : List (List ℕ)) (fault : CertError)
       → ((more : List (List ℕ)) → workqueues_behind more lines ≡ Err fault → IsSettled (workqueues_behind more) lines fault) → begins_with (codes "wq") line.words ≡ true
@@ -263,12 +268,9 @@ module _ (names : List (List ℕ)) (p : Partition) where
   refused-workqueues (line ∷ lines) workqueues fault e some =
       refused-word line lines workqueues fault (λ more again. refused-workqueues lines more fault again some) (begins_with (codes "wq") line.words) refl e some
 
-  pub Settles-workqueues_reading : Settles (workqueues_reading names p)
-  Settles-workqueues_reading = record { refuses = λ lines fault e some. refused-workqueues lines [] fault e some }
-
   -- ---- whole texts, by their first word
 
-  abbrev plan_or : List CertLine → Bool → Result Certificate CertError
+  abbrev pub plan_or : List CertLine → Bool → Result Certificate CertError
   plan_or lines b = cond b (and_then (λ circle. Ok (OfCircle circle)) (circle_reading names lines)) (and_then (λ plan. Ok (OfPlan plan)) (plan_reading names p lines))
 
   answer_by : (line : CertLine) (lines : List CertLine) (fault : CertError) (b : Bool) → begins_with (codes "circle") line.words ≡ b → plan_or (line ∷ lines) b ≡ Err fault → 0 < line_of fault → IsSettled (answer_reading names p) (line ∷ lines) fault
@@ -289,7 +291,7 @@ module _ (names : List (List ℕ)) (p : Partition) where
           absurd (omega (arith, some, zero_is))
       refused (line ∷ lines) fault e some = answer_by line lines fault (begins_with (codes "circle") line.words) refl e some
 
-  abbrev workqueues_or : List CertLine → Bool → Result Assignment CertError
+  abbrev pub workqueues_or : List CertLine → Bool → Result Assignment CertError
   workqueues_or lines b = cond b (and_then (λ (plan : PlanCertificate). Ok plan.assignment) (plan_reading names p lines)) (workqueues_reading names p lines)
 
   assignment_by : (line : CertLine) (lines : List CertLine) (fault : CertError) (b : Bool) → begins_with (codes "plan") line.words ≡ b → workqueues_or (line ∷ lines) b ≡ Err fault → 0 < line_of fault → IsSettled (assignment_reading names p) (line ∷ lines) fault

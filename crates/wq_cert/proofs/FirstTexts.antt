@@ -8,7 +8,7 @@ use Rattle.wq_text.specs.Comments.{before_comment}
 use Rattle.wq_text.specs.Limits.{limit_fault}
 use Rattle.wq_text.specs.Lines.{Piece, LineView, taken, line_bytes, lines_from, lines_of, pieces}
 use Rattle.wq_text.specs.Words.{WordView, is_blank, begins_word, longer, words_from, words_of}
-use Rattle.wq_cert.proofs.FirstLines.{Settles}
+use Rattle.wq_cert.proofs.FirstLines.{Settles, nothing_stands}
 use Rattle.wq_cert.specs.declared.fault.CertError.{CertError}
 use Rattle.wq_cert.specs.FirstFaults.{line_of, line_texts, first_lines, NoLineIsAtFault, IsOfTheFirstLine}
 use Rattle.wq_cert.specs.Lines.{CertLine, bytes_of, holds_word, filled, cert_line, cert_lines}
@@ -82,10 +82,6 @@ record StandsAt (n : ℕ) (texts : List (List ℕ)) (before : List CertLine) (li
   number : line.no ≡ n + place
   kept : (others : List (List ℕ)) → take (suc place) others ≡ take (suc place) texts → (rest : List CertLine) × (numbered n others ≡ before ++ (line ∷ rest))
 
-no_lines : (before : List CertLine) (line : CertLine) (behind : List CertLine) → [] ≡ before ++ (line ∷ behind) → ⊥
-no_lines [] line behind e = cc
-no_lines (front ∷ before) line behind e = cc
-
 -- the same, of what stands behind a line of bytes
 numbered-same : (n : ℕ) (bytes : List ℕ) (texts : List (List ℕ)) (k : ℕ) (before : List CertLine) (line : CertLine)
     → (behind : (others : List (List ℕ)) → take k others ≡ take k texts → (rest : List CertLine) × (with_line n (words_in_bytes bytes) (numbered (n + 1) others) ≡ before ++ (line ∷ rest)))
@@ -153,7 +149,7 @@ placed n bytes texts line behind more true is (first ∷ before) e =
     behind_line n bytes texts first before line is said (more before others)
 
 StandsAt-numbered : (texts : List (List ℕ)) (n : ℕ) (before : List CertLine) (line : CertLine) (behind : List CertLine) → numbered n texts ≡ before ++ (line ∷ behind) → StandsAt n texts before line
-StandsAt-numbered [] n before line behind e = absurd (no_lines before line behind e)
+StandsAt-numbered [] n before line behind e = absurd (nothing_stands before line behind e)
 StandsAt-numbered (bytes ∷ texts) n before line behind e =
     placed n bytes texts line behind (λ front h. StandsAt-numbered texts (n + 1) front line behind h) (not (eqb (length (words_in_bytes bytes)) 0)) refl before e
 

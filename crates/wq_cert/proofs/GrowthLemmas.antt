@@ -1,23 +1,22 @@
 -- What is read without a fault before memory is taken.
 use Rattle.std.proofs.Common.{◌≡◌, ◌≢◌, ℕ, zero, suc, ◌+◌, ◌-◌, ◌<◌, Bool, true, false, cond, ltb, eqb, List, [], ◌∷◌, ◌++◌, map, take, Option, Some, None, Result, Ok, Err, refl, sym, ap, subst, ◌∙◌, arith}
 use Rattle.std.specs.Prelude.{codes, ok_or, IfErr, IsErrAnd}
-use Rattle.wq_groups.specs.Assignment.{Assignment}
 use Rattle.wq_groups.specs.Partition.{Partition}
 use Rattle.wq_text.specs.declared.text.TextError.{TextError}
 use Rattle.wq_text.specs.Limits.{limit_fault}
 use Rattle.wq_text.specs.Lines.{LineView, lines_of}
 use Rattle.wq_cert.specs.declared.fault.CertError.{CertError}
 use Rattle.wq_cert.specs.declared.fault.CertError.TheVariants.{BadCertLine, NumberOutOfRange, OutOfMemory}
-use Rattle.wq_cert.specs.Certificate.{PlanCertificate, Certificate, OfPlan, OfCircle}
+use Rattle.wq_cert.specs.Certificate.{PlanCertificate, OfPlan, OfCircle}
 use Rattle.wq_cert.specs.FirstFaults.{NoLineIsAtFault}
 use Rattle.wq_cert.specs.Forms.{begins_with, count_form, arc_form, step_form}
 use Rattle.wq_cert.specs.Growth.{BeginsWell, ReadsOne, lines_before_memory}
 use Rattle.wq_cert.specs.Lines.{CertLine, cert_line, cert_lines}
 use Rattle.wq_items.specs.Building.{and_then}
-use Rattle.wq_cert.specs.Reading.{Read, and_read, next_line, next_lines, at_end, count_reading, circle_count_reading, arc_reading, names_far_lane, step_reading, plan_reading, run_reading, circle_reading, answer_reading, begins_plan, workqueues_reading, assignment_reading}
+use Rattle.wq_cert.specs.Reading.{Read, and_read, next_line, next_lines, at_end, count_reading, circle_count_reading, arc_reading, names_far_lane, step_reading, plan_reading, run_reading, circle_reading, answer_reading, begins_plan, assignment_reading}
 use Rattle.wq_cert.specs.Texts.{max_certificate, max_certificate_line, unless_too_long, text_reading}
 use Rattle.wq_cert.proofs.FirstLines.{IsAt, Settles, read_and, of_no_line, Settles-at_end}
-use Rattle.wq_cert.proofs.FirstReaders.{at-circle, at-run, at-arc, at-step, behind_arcs, Settles-behind_arcs, behind_lanes, Settles-behind_lanes}
+use Rattle.wq_cert.proofs.FirstReaders.{at-circle, at-run, at-arc, at-step, behind_arcs, Settles-behind_arcs, behind_lanes, Settles-behind_lanes, plan_or, workqueues_or}
 use Rattle.wq_cert.proofs.JudgedLines.{IsJudged, JudgesNext-next_line, JudgesNext-first_line, Judges-first}
 use Rattle.wq_cert.proofs.ReadLemmas.{GoesOn, GoesOn-none, goes_on-more}
 use Rattle.wq_cert.proofs.SpelledLines.{Follows-and_then, FollowsRead-and_read, run_count, Shows-circle}
@@ -184,9 +183,6 @@ made_of made (Ok v) h = tt
 made_of made (Err fault) h = h
 
 module _ (names : List (List ℕ)) (p : Partition) (first : CertLine) (rest : List CertLine) where
-  abbrev by_word : List CertLine → Bool → Result Certificate CertError
-  by_word lines b = cond b (and_then (λ circle. Ok (OfCircle circle)) (circle_reading names lines)) (and_then (λ plan. Ok (OfPlan plan)) (plan_reading names p lines))
-
   abbrev IsFarIn : Bool → Type 0
   IsFarIn b = BeginsWell (answer_reading names p) (cond b 2 1) (first ∷ rest)
 
@@ -195,26 +191,23 @@ module _ (names : List (List ℕ)) (p : Partition) (first : CertLine) (rest : Li
       subst IsFarIn (sym is) (record {
         stand = h.stand;
         no_fault =
-            subst (λ (b : Bool). NoLineIsAtFault (by_word (first ∷ take 1 rest) b)) (sym is) (made_of (λ circle. OfCircle circle) (circle_reading names (first ∷ take 1 rest)) h.no_fault);
+            subst (λ (b : Bool). NoLineIsAtFault (plan_or names p (first ∷ take 1 rest) b)) (sym is) (made_of (λ circle. OfCircle circle) (circle_reading names (first ∷ take 1 rest)) h.no_fault);
       })
 
   pub BeginsWell-answer_plan : begins_with (codes "circle") first.words ≡ false → BeginsWell (plan_reading names p) 1 (first ∷ rest) → BeginsWell (answer_reading names p) (lines_before_memory (first ∷ rest)) (first ∷ rest)
   BeginsWell-answer_plan is h =
       subst IsFarIn (sym is) (record {
         stand = h.stand;
-        no_fault = subst (λ (b : Bool). NoLineIsAtFault (by_word (first ∷ []) b)) (sym is) (made_of (λ plan. OfPlan plan) (plan_reading names p (first ∷ [])) h.no_fault);
+        no_fault = subst (λ (b : Bool). NoLineIsAtFault (plan_or names p (first ∷ []) b)) (sym is) (made_of (λ plan. OfPlan plan) (plan_reading names p (first ∷ [])) h.no_fault);
       })
 
 module _ (names : List (List ℕ)) (p : Partition) where
-  abbrev plan_or_workqueues : List CertLine → Bool → Result Assignment CertError
-  plan_or_workqueues lines b = cond b (and_then (λ (plan : PlanCertificate). Ok plan.assignment) (plan_reading names p lines)) (workqueues_reading names p lines)
-
   pub BeginsWell-assignment : (lines : List CertLine) → begins_plan lines ≡ true → BeginsWell (plan_reading names p) 1 lines → BeginsWell (assignment_reading names p) 1 lines
   BeginsWell-assignment [] is h = absurd cc
   BeginsWell-assignment (first ∷ rest) is h = record {
     stand = h.stand;
     no_fault =
-        subst (λ (b : Bool). NoLineIsAtFault (plan_or_workqueues (first ∷ []) b)) (sym is) (made_of (λ (plan : PlanCertificate). plan.assignment) (plan_reading names p (first ∷ [])) h.no_fault);
+        subst (λ (b : Bool). NoLineIsAtFault (workqueues_or names p (first ∷ []) b)) (sym is) (made_of (λ (plan : PlanCertificate). plan.assignment) (plan_reading names p (first ∷ [])) h.no_fault);
   }
 
 -- ---- texts

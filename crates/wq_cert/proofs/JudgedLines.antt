@@ -7,14 +7,10 @@ use Rattle.wq_cert.specs.Lines.{CertLine}
 use Rattle.wq_items.specs.Building.{and_then}
 use Rattle.wq_cert.specs.Reading.{Read, and_read, next_line, next_lines}
 use Rattle.wq_cert.specs.Spelled.{words_in}
-use Rattle.wq_cert.proofs.FirstLines.{IsAt, Settles, ReadsInOrder, with_more, read_and, of_no_line, ReadsInOrder-and_read, ReadsInOrder-of_no_line, ReadsInOrder-next_line, ReadsInOrder-next_lines}
+use Rattle.wq_cert.proofs.FirstLines.{nothing_stands, IsAt, Settles, ReadsInOrder, with_more, read_and, of_no_line, ReadsInOrder-and_read, ReadsInOrder-of_no_line, ReadsInOrder-next_line, ReadsInOrder-next_lines}
 use Rattle.wq_cert.proofs.SpelledLines.{IsReadBy}
 
 -- ---- where nothing stands
-
-nothing_stands : (before : List CertLine) (line : CertLine) (behind : List CertLine) → [] ≡ before ++ (line ∷ behind) → ⊥
-nothing_stands [] line behind e = cc
-nothing_stands (front ∷ before) line behind e = cc
 
 nothing_left : (front rest : List CertLine) → [] ≡ front ++ rest → rest ≡ []
 nothing_left [] rest e = sym e

@@ -2,6 +2,7 @@
 use Rattle.std.proofs.Common.{◌≡◌, ◌≢◌, ℕ, ◌+◌, ◌<◌, ◌≤◌, ◌⊎◌, ◌==◌, inl, inr, Bool, true, false, ◌||◌, not, cond, ltb, eqb, List, [], ◌∷◌, ◌++◌, length, get_or, set, take, Option, Some, None, refl, sym, ap, ap₂, subst, ◌∙◌, arith, lt-ltb}
 use Rattle.std.specs.List.{list_any, position, position_or_len, concat}
 use Rattle.std.specs.Prelude.{slice_get}
+use Rattle.std.proofs.Math.Bool.{or-false}
 use Rattle.std.proofs.lemmas.Bool.{cases_Bool, cases_eq, cases_lt, le-ltb, eq-eqb, ne_eqb, both_ways, cond-true, cond-false}
 use Rattle.std.proofs.lemmas.List.{length-set, length-append, get_or-set_same, get_or-set_other, take_all}
 use Rattle.std.proofs.lemmas.List.Folds.{list_any-append, list_any_more, list_any_at, Any-from_list_any, position_or_len_push}
@@ -11,7 +12,7 @@ use Rattle.std.proofs.lemmas.Option.{get_or_from_slice_get}
 use Rattle.wq_groups.specs.Partition.{Partition}
 use Rattle.wq_cert.specs.Reading.{holds_member, splits_group, workqueue_with}
 use Rattle.wq_cert.specs.Noted.{lanes_with, is_other}
-use Rattle.wq_cert.proofs.StoodLemmas.{take_one, any_push, or_true, or_false}
+use Rattle.wq_cert.proofs.StoodLemmas.{take_one, any_push, or_true}
 
 -- ---- the first that passes
 
@@ -216,7 +217,7 @@ module _ (p : Partition) (lane : ℕ) (old new : List (Option ℕ)) (items : Lis
               get_or-set_other new g j (Some lane) None differs ∙ ap (λ (ls : List (Option ℕ)). get_or ls j None) (h.lanes workqueues here is)
               ∙ get_or-lanes_with p (workqueues ++ (take k items ∷ [])) j None lt
               ∙ push_alike p.group_of workqueues j (take k items) (take (k + 1) items)
-              (sym (members j ∙ ap (λ b. holds_member p.group_of (take k items) j || b) (ne_eqb g j (λ e. differs (sym e))) ∙ or_false (holds_member p.group_of (take k items) j)))
+              (sym (members j ∙ ap (λ b. holds_member p.group_of (take k items) j || b) (ne_eqb g j (λ e. differs (sym e))) ∙ or-false (holds_member p.group_of (take k items) j)))
         ]
 
     more_apart : is_other held lane ≡ false → splits_group p.group_of (concat workqueues) (take (k + 1) items) ≡ false

@@ -1,19 +1,15 @@
 -- Lines of a plan text, as they grow word by word.
-use Rattle.std.proofs.Common.{◌≡◌, ◌≢◌, ℕ, ◌+◌, Bool, true, false, cond, List, [], ◌∷◌, ◌++◌, length, map, sym, ap, ◌∙◌, arith, append_assoc, append-nil}
+use Rattle.std.proofs.Common.{◌≡◌, ◌≢◌, ℕ, ◌+◌, Bool, true, false, cond, List, [], ◌∷◌, ◌++◌, length, map, sym, ap, ◌∙◌, append_assoc, append-nil}
 use Rattle.std.specs.Prelude.{codes, decimal, filter, flat_map, slice_index, ◌==◌}
 use Rattle.std.specs.List.{range_with_len}
 use Rattle.std.proofs.lemmas.Bool.{eq-eqb, ne_eqb}
 use Rattle.std.proofs.lemmas.List.{map-append}
 use Rattle.std.proofs.lemmas.List.Elements.{filter-append}
 use Rattle.std.proofs.lemmas.Grind.{flat_map-append}
-use Rattle.wq_items.proofs.TableLemmas.{range_with_len-append}
+use Rattle.wq_groups.proofs.Heads.{range_with_len-push}
 use Rattle.wq_lines.specs.LineText.{spaced, line_text}
 use Rattle.wq_items.specs.Table.{items_at}
 use Rattle.wq_cert.specs.PlanText.{name_of, wq_line}
-
--- the numbers below n + 1 are those below n, and n
-pub range_with_len-more : (n : ℕ) → range_with_len 0 (n + 1) ≡ range_with_len 0 n ++ (n ∷ [])
-range_with_len-more n = range_with_len-append 0 n 1 ∙ ap (λ (k : ℕ). range_with_len 0 n ++ (k ∷ [])) (omega arith)
 
 -- ---- `wq Q` and names
 
@@ -28,7 +24,7 @@ module _ (names : List (List ℕ)) (lane : List ℕ) (q : ℕ) where
 
   on_below-more : (n : ℕ) (b : Bool) → (slice_index lane n == q) ≡ b → on_below (n + 1) ≡ on_below n ++ cond b (n ∷ []) []
   on_below-more n b e =
-      ap (filter (λ i. slice_index lane i == q)) (range_with_len-more n) ∙ filter-append (λ i. slice_index lane i == q) (range_with_len 0 n) (n ∷ [])
+      ap (filter (λ i. slice_index lane i == q)) (range_with_len-push n) ∙ filter-append (λ i. slice_index lane i == q) (range_with_len 0 n) (n ∷ [])
       ∙ ap (λ (t : Bool). on_below n ++ cond t (n ∷ []) []) e
 
   pub wq_front-none : (out : List ℕ) → (out ++ codes "wq") ++ spaced (decimal q) ≡ out ++ wq_front 0

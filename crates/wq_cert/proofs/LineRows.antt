@@ -18,7 +18,7 @@ use Rattle.wq_cert.specs.Reading.{and_read, next_line, next_lines, at_end, count
 use Rattle.wq_cert.specs.RunText.{step_line}
 use Rattle.wq_cert.specs.Spelled.{words_in, workqueue_lines, count_line, AreWorkqueues}
 use Rattle.wq_cert.proofs.FirstLines.{ReadsInOrder-next_line, ReadsInOrder-next_lines, Settles-at_end}
-use Rattle.wq_cert.proofs.FirstReaders.{circle_made, plan_made, at-count, at-circle, at-run, at-arc, at-step, Settles-steps, behind_arcs, behind_circle, Settles-behind_arcs, Settles-behind_circle, ReadsInOrder-counted, behind_chain, Settles-behind_chain, behind_assignment, behind_lanes, Settles-behind_lanes}
+use Rattle.wq_cert.proofs.FirstReaders.{circle_made, plan_made, at-count, at-circle, at-run, at-arc, at-step, last_step, steps_behind, Settles-steps, behind_arcs, behind_circle, Settles-behind_arcs, Settles-behind_circle, ReadsInOrder-counted, behind_chain, Settles-behind_chain, behind_assignment, behind_lanes, Settles-behind_lanes}
 use Rattle.wq_cert.proofs.JudgedLines.{Judges, IsJudged, JudgesNext-next_line, Judges-first, Judges-behind, Judges-and_then, JudgesNext-next_lines}
 use Rattle.wq_cert.proofs.WorkqueueLists.{AreGrown-workqueues}
 use Rattle.wq_cert.proofs.SpelledForms.{SpellsCount-count_form, count_form-SpellsCount, SpellsArc-arc_form, SpellsStep-step_form, step_form-line, names_far_lane-near, names_far_lane-far}
@@ -161,9 +161,6 @@ module _ (names : List (List ℕ)) (line : CertLine) where
     abbrev JudgesForm : LineForm → {V : Type 0} → (List CertLine → Result V CertError) → List CertLine → Type 0
     JudgesForm form read before = Judges line (Breaks form) (KeepsLine names form line) read before
 
-    abbrev steps_of : ℕ → List CertLine → Result (List Step) CertError
-    steps_of m lines = and_read (λ steps rest. at_end steps rest) (next_lines (step_reading names) m lines)
-
     Judges-run : (form : LineForm) (before : List CertLine) → StandsInRun names (words_in before) form → JudgesForm form (run_reading names) before
     Judges-run PlanLine before stands = absurd stands
     Judges-run ChainLine before stands = absurd stands
@@ -171,13 +168,13 @@ module _ (names : List (List ℕ)) (line : CertLine) where
     Judges-run ArcLine before stands = absurd stands
     Judges-run RunLine before stands =
         subst (JudgesForm RunLine (run_reading names)) (sym (no_words before stands))
-        (Judges-first line (Breaks RunLine) (KeepsLine names RunLine line) (next_line run_count) [] steps_of (JudgesNext-next_line line (Breaks RunLine) (KeepsLine names RunLine line) run_count run_judged) (Settles-steps names))
+        (Judges-first line (Breaks RunLine) (KeepsLine names RunLine line) (next_line run_count) [] (steps_behind names) (JudgesNext-next_line line (Breaks RunLine) (KeepsLine names RunLine line) run_count run_judged) (Settles-steps names))
     Judges-run StepLine before stands =
         let m = stands.0 in
         let steps = stands.1 in
         let first = begun_line run_count (count_words (codes "run")) IsNumber IsReadBy-run before m (map (step_line names) steps) stands.5 stands.2 in
-        Judges-behind line (Breaks StepLine) (KeepsLine names StepLine line) (next_line run_count) before m first.rest (ReadsInOrder-next_line run_count at-run) first.is_read steps_of
-        (Judges-first line (Breaks StepLine) (KeepsLine names StepLine line) (next_lines (step_reading names) m) first.rest (λ found rest. at_end found rest)
+        Judges-behind line (Breaks StepLine) (KeepsLine names StepLine line) (next_line run_count) before m first.rest (ReadsInOrder-next_line run_count at-run) first.is_read (steps_behind names)
+        (Judges-first line (Breaks StepLine) (KeepsLine names StepLine line) (next_lines (step_reading names) m) first.rest last_step
         (JudgesNext-next_lines line (Breaks StepLine) (KeepsLine names StepLine line) (step_reading names) (at-step names) step_judged (step_line names) (IsStepOf (length names)) (IsReadBy-step names differ)
         steps m first.rest stands.3 first.behind (recursion_from_All (IsStepOf (length names)) steps stands.4))
         Settles-at_end)

@@ -4,11 +4,11 @@ use Rattle.std.specs.Prelude.{AllPairs, codes}
 use Rattle.std.proofs.lemmas.Bool.{false_from_ne_true}
 use Rattle.wq_groups.specs.Assignment.{Assignment}
 use Rattle.wq_groups.specs.Partition.{Partition}
-use Rattle.wq_cert.proofs.PlanTurns.{behind_workqueues, behind_plan, plan_reading-turn}
+use Rattle.wq_cert.proofs.PlanTurns.{ended, assigned, behind_workqueues, with_chain, behind_plan, plan_reading-turn}
 use Rattle.wq_cert.proofs.WorkqueueLists.{Contains-hold_all, AreGrown-workqueues}
-use Rattle.wq_cert.proofs.WorkqueueRows.{AreGrown-first, lines_from, GrownBy, and_all, all_by}
+use Rattle.wq_cert.proofs.WorkqueueRows.{AreGrown-first, GrownBy, and_all, all_by}
 use Rattle.wq_cert.proofs.SpelledLines.{begun_line, IsCount, IsReadBy-count}
-use Rattle.wq_cert.proofs.SpelledWorkqueues.{said_next, first_grown, GrowsTo-lines, whole_assignment-workqueues}
+use Rattle.wq_cert.proofs.SpelledWorkqueues.{lines_from, said_next, first_grown, GrowsTo-lines, whole_assignment-workqueues}
 use Rattle.wq_cert.specs.declared.fault.CertError.{CertError}
 use Rattle.wq_cert.specs.declared.fault.CertError.TheVariants.{BadCertLine, NotAllItems}
 use Rattle.wq_cert.specs.Forms.{begins_with}
@@ -16,7 +16,7 @@ use Rattle.wq_cert.specs.Lines.{CertLine}
 use Rattle.wq_cert.specs.PlanText.{plan_line, workqueue_line}
 use Rattle.wq_cert.specs.WorkqueueRows.{AreFirstWorkqueues, AllStand, begins_workqueue}
 use Rattle.wq_items.specs.Building.{and_then}
-use Rattle.wq_cert.specs.Reading.{Read, and_read, at_end, count_reading, all_workqueues, hold_all, assignment_of, whole_assignment, plan_reading, workqueues_reading}
+use Rattle.wq_cert.specs.Reading.{Read, and_read, count_reading, all_workqueues, hold_all, assignment_of, whole_assignment, plan_reading, workqueues_reading}
 use Rattle.wq_cert.specs.LineRows.{count_words}
 use Rattle.wq_cert.specs.Spelled.{words_in, workqueue_lines, AreWorkqueues}
 
@@ -63,23 +63,17 @@ module _ (names : List (List ℕ)) (p : Partition) (one_group_each : length name
       let said = GrowsTo-lines names p.group_of differ workqueues [] count.rest behind (AreGrown-first (length names) p.group_of workqueues first) count.behind in
       plan_reading-turn names p lines
       ∙ ap (and_read (behind_plan names p)) count.is_read
-      ∙ ap (λ (r : Read (List (List ℕ))). and_read (λ qs left. and_then (behind_workqueues names p left) (whole_assignment p qs)) r) said.is_read
+      ∙ ap (λ (r : Read (List (List ℕ))). and_read (with_chain names p) r) said.is_read
       ∙ ap (and_then (behind_workqueues names p said.rest)) (whole_assignment-missing workqueues missing)
-
-  abbrev ended_by : List CertLine → Assignment → Result Assignment CertError
-  ended_by rest assignment = at_end assignment rest
-
-  abbrev assigned_by : List (List ℕ) → List CertLine → Result Assignment CertError
-  assigned_by workqueues rest = and_then (ended_by rest) (whole_assignment p workqueues)
 
   pub workqueues_reading-missing : (workqueues : List (List ℕ)) (before behind : List CertLine) → words_in before ≡ workqueue_lines names workqueues → begins_workqueue behind ≡ false
       → AreFirstWorkqueues (length names) p.group_of workqueues → (AllStand (length names) workqueues → ⊥) → workqueues_reading names p (before ++ behind) ≡ Err (NotAllItems 0)
   workqueues_reading-missing workqueues before behind words stops first missing =
-      ap (and_read assigned_by) (all_workqueues-stop names p.group_of behind stops differ workqueues [] before (AreGrown-first (length names) p.group_of workqueues first) words)
-      ∙ ap (and_then (ended_by behind)) (whole_assignment-missing workqueues missing)
+      ap (and_read (assigned p)) (all_workqueues-stop names p.group_of behind stops differ workqueues [] before (AreGrown-first (length names) p.group_of workqueues first) words)
+      ∙ ap (and_then (ended behind)) (whole_assignment-missing workqueues missing)
 
   pub workqueues_reading-other : (workqueues : List (List ℕ)) (before : List CertLine) (line : CertLine) (behind : List CertLine) → words_in before ≡ workqueue_lines names workqueues
       → begins_with (codes "wq") line.words ≡ false → AreWorkqueues (length names) p.group_of workqueues → workqueues_reading names p (before ++ (line ∷ behind)) ≡ Err (BadCertLine line.no)
   workqueues_reading-other workqueues before line behind words stops are =
-      ap (and_read assigned_by) (all_workqueues-stop names p.group_of (line ∷ behind) stops differ workqueues [] before (AreGrown-workqueues (length names) p.group_of workqueues are) words)
-      ∙ ap (and_then (ended_by (line ∷ behind))) (whole_assignment-workqueues names p one_group_each workqueues are)
+      ap (and_read (assigned p)) (all_workqueues-stop names p.group_of (line ∷ behind) stops differ workqueues [] before (AreGrown-workqueues (length names) p.group_of workqueues are) words)
+      ∙ ap (and_then (ended (line ∷ behind))) (whole_assignment-workqueues names p one_group_each workqueues are)

@@ -1,10 +1,10 @@
 -- What is noted of the workqueues that are read so far, and the assignment that they are.
-use Rattle.std.proofs.Common.{◌≡◌, ℕ, zero, suc, ◌+◌, ◌-◌, ◌<◌, ◌≤◌, ◌==◌, inl, inr, Bool, true, false, not, ◌||◌, cond, leb, List, [], ◌∷◌, ◌++◌, length, map, Option, Some, None, Result, Ok, Err, refl, sym, ap, ap₂, subst, subst₂, ◌∙◌, arith, append-nil}
+use Rattle.std.proofs.Common.{◌≡◌, ℕ, zero, suc, ◌+◌, ◌-◌, ◌<◌, ◌≤◌, ◌==◌, inl, inr, Bool, true, false, not, ◌||◌, cond, leb, List, [], ◌∷◌, ◌++◌, length, map, Option, Some, None, Result, Ok, Err, refl, sym, ap, ap₂, subst, subst₂, ◌∙◌, arith}
 use Rattle.std.specs.Prelude.{replicate, option_map, ok_or, bytes_eq, codes}
 use Rattle.std.specs.List.{All, concat, range_with_len}
 use Rattle.std.specs.Option.{option_zip}
 use Rattle.std.proofs.lemmas.Bool.{cases_lt, both_ways, le-leb}
-use Rattle.std.proofs.lemmas.List.{length-append, append_assoc}
+use Rattle.std.proofs.lemmas.List.{length-append}
 use Rattle.std.proofs.lemmas.List.Elements.{All-nil, All-cons}
 use Rattle.wq_text.specs.Lines.{LineView}
 use Rattle.wq_items.specs.Table.{item_named}
@@ -19,6 +19,7 @@ use Rattle.wq_cert.specs.Reading.{Read, and_read, has_stood, splits_group, wq_it
 use Rattle.wq_cert.specs.Noted.{marks, lanes_with, AreNoted, IsNextNoted, AreRead, AreAllRead}
 use Rattle.wq_cert.specs.Texts.{IsCertFaultOf}
 use Rattle.wq_cert.proofs.ReadLemmas.{IsCertFaultOf-then}
+use Rattle.wq_cert.proofs.WorkqueueLists.{concat-push}
 
 -- ---- no workqueue
 
@@ -38,10 +39,6 @@ AreNoted-none p n stood lanes all unmarked free = record {
 
 pub fresh_items-fresh : (group_of before items : List ℕ) (n : ℕ) → has_stood before items ≡ false → splits_group group_of before items ≡ false → fresh_items group_of before n items ≡ Ok items
 fresh_items-fresh group_of before items n once apart = ap₂ (λ a b. cond a (Err (NotAllItems n)) (cond b (Err (GroupSplit n)) (Ok items))) once apart
-
-concat-push : (workqueues : List (List ℕ)) (items : List ℕ) → concat (workqueues ++ (items ∷ [])) ≡ concat workqueues ++ items
-concat-push [] items = append-nil items
-concat-push (front ∷ workqueues) items = ap (λ (is : List ℕ). front ++ is) (concat-push workqueues items) ∙ sym (append_assoc front (concat workqueues) items)
 
 pub AreNoted-more : (p : Partition) (workqueues : List (List ℕ)) (count : ℕ) (stood more_stood : List Bool) (lanes more_lanes : List (Option ℕ)) (items : List ℕ) → count < 4096 → AreNoted p workqueues count stood lanes
     → more_stood ≡ marks (length p.group_of) (concat workqueues ++ items) → more_lanes ≡ lanes_with p (workqueues ++ (items ∷ [])) → AreNoted p (workqueues ++ (items ∷ [])) (count + 1) more_stood more_lanes

@@ -36,8 +36,11 @@ module _ (names : List (List ℕ)) (a : Assignment) where
   abbrev plan_with_chain : ℕ × List (ℕ × ℕ) → Result PlanCertificate CertError
   plan_with_chain chain = Ok (record { assignment = a; length = chain.0; arcs = chain.1 })
 
-  abbrev last_arc : ℕ → List (ℕ × ℕ) → List CertLine → Result PlanCertificate CertError
+  abbrev pub last_arc : ℕ → List (ℕ × ℕ) → List CertLine → Result PlanCertificate CertError
   last_arc n arcs rest = at_end (record { assignment = a; length = n; arcs = arcs }) rest
+
+  abbrev pub arcs_behind : ℕ → List CertLine → Result PlanCertificate CertError
+  arcs_behind n lines = and_read (last_arc n) (next_lines (arc_reading names) (n - 1) lines)
 
   at_end-plan : (n : ℕ) (arcs : List (ℕ × ℕ)) (rest : List CertLine) → and_then plan_with_chain (at_end (n, arcs) rest) ≡ last_arc n arcs rest
   at_end-plan n arcs [] = refl
@@ -48,28 +51,39 @@ module _ (names : List (List ℕ)) (a : Assignment) where
   arcs-plan n (Err e) = refl
 
   count-plan : (r : Read ℕ) → and_then plan_with_chain (and_read (λ n behind. and_read (λ arcs rest. at_end (n, arcs) rest) (next_lines (arc_reading names) (n - 1) behind)) r)
-      ≡ and_read (λ n behind. and_read (last_arc n) (next_lines (arc_reading names) (n - 1) behind)) r
+      ≡ and_read arcs_behind r
   count-plan (Ok p) = arcs-plan p.0 (next_lines (arc_reading names) (p.0 - 1) p.1)
   count-plan (Err e) = refl
 
   chain_reading-plan : (lines : List CertLine) → and_then plan_with_chain (chain_reading names lines)
-      ≡ and_read (λ n behind. and_read (last_arc n) (next_lines (arc_reading names) (n - 1) behind)) (next_line (count_reading (codes "chain")) lines)
+      ≡ and_read arcs_behind (next_line (count_reading (codes "chain")) lines)
   chain_reading-plan lines = count-plan (next_line (count_reading (codes "chain")) lines)
+
+-- ---- workqueues alone
+
+abbrev pub ended : List CertLine → Assignment → Result Assignment CertError
+ended rest assignment = at_end assignment rest
+
+abbrev pub assigned : Partition → List (List ℕ) → List CertLine → Result Assignment CertError
+assigned p workqueues rest = and_then (ended rest) (whole_assignment p workqueues)
 
 -- ---- the whole
 
 module _ (names : List (List ℕ)) (p : Partition) where
   abbrev pub behind_workqueues : List CertLine → Assignment → Result PlanCertificate CertError
-  behind_workqueues rest a = and_read (λ n behind. and_read (last_arc names a n) (next_lines (arc_reading names) (n - 1) behind)) (next_line (count_reading (codes "chain")) rest)
+  behind_workqueues rest a = and_read (arcs_behind names a) (next_line (count_reading (codes "chain")) rest)
+
+  abbrev pub with_chain : List (List ℕ) → List CertLine → Result PlanCertificate CertError
+  with_chain workqueues rest = and_then (behind_workqueues rest) (whole_assignment p workqueues)
 
   abbrev pub behind_plan : ℕ → List CertLine → Result PlanCertificate CertError
-  behind_plan lanes lines = and_read (λ workqueues rest. and_then (behind_workqueues rest) (whole_assignment p workqueues)) (next_workqueues names p.group_of lanes [] lines)
+  behind_plan lanes lines = and_read with_chain (next_workqueues names p.group_of lanes [] lines)
 
   pub plan_reading-turn : (lines : List CertLine) → plan_reading names p lines ≡ and_read behind_plan (next_line (count_reading (codes "plan")) lines)
   plan_reading-turn lines =
       and_read-same _ behind_plan
       (λ lanes behind.
       in_one_turn (λ a rest. and_then (plan_with_chain names a) (chain_reading names rest)) (whole_assignment p) (next_workqueues names p.group_of lanes [] behind)
-      ∙ and_read-same _ (λ workqueues rest. and_then (behind_workqueues rest) (whole_assignment p workqueues))
+      ∙ and_read-same _ with_chain
       (λ workqueues rest. and_then-same _ (behind_workqueues rest) (λ a. chain_reading-plan names a rest) (whole_assignment p workqueues)) (next_workqueues names p.group_of lanes [] behind))
       (next_line (count_reading (codes "plan")) lines)

@@ -5,7 +5,8 @@ use Rattle.std.proofs.lemmas.List.Elements.{All-from_recursion, recursion_from_A
 use Rattle.wq_groups.specs.Partition.{Partition}
 use Rattle.wq_groups.specs.Assignment.{Assignment}
 use Rattle.wq_core.specs.declared.step.Step.{Step}
-use Rattle.wq_cert.proofs.PlanTurns.{plan_reading-turn}
+use Rattle.wq_cert.proofs.FirstReaders.{circle_made, last_step, steps_behind, behind_arcs, behind_circle}
+use Rattle.wq_cert.proofs.PlanTurns.{last_arc, arcs_behind, ended, assigned, behind_workqueues, with_chain, behind_plan, plan_reading-turn}
 use Rattle.wq_cert.specs.declared.fault.CertError.{CertError}
 use Rattle.wq_cert.specs.Certificate.{PlanCertificate, CircleCertificate}
 use Rattle.wq_cert.specs.Lines.{CertLine}
@@ -13,7 +14,7 @@ use Rattle.wq_cert.specs.PlanText.{arc_line}
 use Rattle.wq_cert.specs.RunText.{step_line}
 use Rattle.wq_cert.specs.Ranges.{IsArcOf, IsStepOf}
 use Rattle.wq_items.specs.Building.{and_then}
-use Rattle.wq_cert.specs.Reading.{and_read, next_line, next_lines, at_end, count_reading, circle_count_reading, arc_reading, step_reading, next_workqueues, all_workqueues, assignment_of, whole_assignment, plan_reading, run_reading, run_behind, circle_reading, workqueues_reading}
+use Rattle.wq_cert.specs.Reading.{next_line, next_lines, at_end, count_reading, circle_count_reading, arc_reading, step_reading, next_workqueues, all_workqueues, assignment_of, whole_assignment, plan_reading, run_reading, run_behind, circle_reading, workqueues_reading}
 use Rattle.wq_cert.specs.LineRows.{count_words}
 use Rattle.wq_cert.specs.Spelled.{words_in, workqueue_lines, count_line, SpellsPlan, SpellsRun, SpellsRunBehind, SpellsCircle, SpellsWorkqueues}
 use Rattle.wq_cert.proofs.SpelledLines.{Follows-and_then, FollowsRead-and_read, and_read-Ok, same_ok, at_end-Ok, no_words, shown_line, shown_lines, begun_line, begun_lines, IsCount, IsCircleCount, IsNumber, run_count, Shows-count, IsReadBy-count, Shows-circle, IsReadBy-circle, Shows-run, IsReadBy-run, Shows-arc, IsReadBy-arc, Shows-step, IsReadBy-step}
@@ -27,15 +28,9 @@ and_then-Ok next r v e = ap (and_then next) e
 -- ---- runs
 
 module _ (names : List (List ℕ)) where
-  abbrev last_step : List Step → List CertLine → Result (List Step) CertError
-  last_step steps rest = at_end steps rest
-
-  abbrev steps_of : ℕ → List CertLine → Result (List Step) CertError
-  steps_of m behind = and_read last_step (next_lines (step_reading names) m behind)
-
   pub SpellsRun-run_reading : (lines : List CertLine) (steps : List Step) → run_reading names lines ≡ Ok steps → SpellsRun names (words_in lines) steps
   SpellsRun-run_reading lines steps e =
-      let count = FollowsRead-and_read steps_of (next_line run_count lines) steps e in
+      let count = FollowsRead-and_read (steps_behind names) (next_line run_count lines) steps e in
       let said = FollowsRead-and_read last_step (next_lines (step_reading names) count.value count.rest) steps count.then in
       let ends = at_end-Ok said.value steps said.rest said.then in
       let first = shown_line run_count (count_words (codes "run")) IsNumber Shows-run lines count.rest count.value count.first in
@@ -54,7 +49,7 @@ module _ (names : List (List ℕ)) where
         let count = begun_line run_count (count_words (codes "run")) IsNumber IsReadBy-run lines (length steps) (map (step_line names) steps) spells.words spells.few in
         let said = begun_lines (step_reading names) (step_line names) (IsStepOf (length names)) (IsReadBy-step names differ) steps count.rest []
         (count.behind ∙ sym (append-nil (map (step_line names) steps))) (recursion_from_All (IsStepOf (length names)) steps spells.known) in
-        and_read-Ok steps_of (next_line run_count lines) (length steps) count.rest count.is_read
+        and_read-Ok (steps_behind names) (next_line run_count lines) (length steps) count.rest count.is_read
         ∙ and_read-Ok last_step (next_lines (step_reading names) (length steps) count.rest) steps said.rest said.is_read
         ∙ ap (at_end steps) (no_words said.rest said.behind)
 
@@ -72,18 +67,12 @@ module _ (names : List (List ℕ)) where
       subst (SpellsRunBehind names (words_in (line ∷ lines))) (same_ok (Some found.value) steps found.then) (SpellsRun-run_reading (line ∷ lines) found.value found.first)
 
   abbrev circle_with : List (ℕ × ℕ) → Option (List Step) → Result CircleCertificate CertError
-  circle_with arcs steps = Ok (record { arcs = arcs; steps = steps })
-
-  abbrev run_after : List (ℕ × ℕ) → List CertLine → Result CircleCertificate CertError
-  run_after arcs rest = and_then (circle_with arcs) (run_behind names rest)
-
-  abbrev arcs_of : ℕ → List CertLine → Result CircleCertificate CertError
-  arcs_of n behind = and_read run_after (next_lines (arc_reading names) n behind)
+  circle_with arcs steps = Ok (circle_made arcs steps)
 
   pub SpellsCircle-circle_reading : (lines : List CertLine) (c : CircleCertificate) → circle_reading names lines ≡ Ok c → SpellsCircle names (words_in lines) c
   SpellsCircle-circle_reading lines c e =
-      let count = FollowsRead-and_read arcs_of (next_line circle_count_reading lines) c e in
-      let said = FollowsRead-and_read run_after (next_lines (arc_reading names) count.value count.rest) c count.then in
+      let count = FollowsRead-and_read (behind_circle names) (next_line circle_count_reading lines) c e in
+      let said = FollowsRead-and_read (behind_arcs names) (next_lines (arc_reading names) count.value count.rest) c count.then in
       let run = Follows-and_then (circle_with said.value) (run_behind names said.rest) c said.then in
       let first = shown_line circle_count_reading (count_words (codes "circle")) IsCircleCount Shows-circle lines count.rest count.value count.first in
       let others = shown_lines (arc_reading names) (arc_line names) (IsArcOf (length names)) (Shows-arc names) count.value count.rest said.rest said.value said.first in
@@ -112,22 +101,16 @@ module _ (names : List (List ℕ)) where
         (recursion_from_All (IsArcOf (length names)) c.arcs spells.known) in
         let run : run_behind names said.rest ≡ Ok c.steps =
         run_behind-SpellsRunBehind said.rest c.steps (subst (λ (ws : List (List (List ℕ))). SpellsRunBehind names ws c.steps) (sym said.behind) spells.run) in
-        and_read-Ok arcs_of (next_line circle_count_reading lines) n count.rest count.is_read
-        ∙ and_read-Ok run_after (next_lines (arc_reading names) n count.rest) c.arcs said.rest said.is_read
+        and_read-Ok (behind_circle names) (next_line circle_count_reading lines) n count.rest count.is_read
+        ∙ and_read-Ok (behind_arcs names) (next_lines (arc_reading names) n count.rest) c.arcs said.rest said.is_read
         ∙ ap (and_then (circle_with c.arcs)) run
 
 -- ---- assignments and plans
 
 module _ (names : List (List ℕ)) (p : Partition) (one_group_each : length names ≡ length p.group_of) where
-  abbrev ended : List CertLine → Assignment → Result Assignment CertError
-  ended rest a = at_end a rest
-
-  abbrev assigned : List (List ℕ) → List CertLine → Result Assignment CertError
-  assigned workqueues rest = and_then (ended rest) (whole_assignment p workqueues)
-
   pub SpellsWorkqueues-workqueues_reading : (lines : List CertLine) (a : Assignment) → workqueues_reading names p lines ≡ Ok a → SpellsWorkqueues names p (words_in lines) a
   SpellsWorkqueues-workqueues_reading lines a e =
-      let found = FollowsRead-and_read assigned (all_workqueues names p.group_of [] lines) a e in
+      let found = FollowsRead-and_read (assigned p) (all_workqueues names p.group_of [] lines) a e in
       let made = Follows-and_then (ended found.rest) (whole_assignment p found.value) a found.then in
       let ends = at_end-Ok made.value a found.rest made.then in
       let grows = Grows-all_workqueues names p.group_of lines [] found.value found.rest (AreGrown-none (length names) p.group_of) found.first in
@@ -141,28 +124,13 @@ module _ (names : List (List ℕ)) (p : Partition) (one_group_each : length name
         assignment = sym ends.1 ∙ whole.assignment;
       }
 
-  abbrev last_arc : Assignment → ℕ → List (ℕ × ℕ) → List CertLine → Result PlanCertificate CertError
-  last_arc a n arcs rest = at_end (record { assignment = a; length = n; arcs = arcs }) rest
-
-  abbrev chain_of : Assignment → ℕ → List CertLine → Result PlanCertificate CertError
-  chain_of a n behind = and_read (last_arc a n) (next_lines (arc_reading names) (n - 1) behind)
-
-  abbrev chain_behind : List CertLine → Assignment → Result PlanCertificate CertError
-  chain_behind behind a = and_read (chain_of a) (next_line (count_reading (codes "chain")) behind)
-
-  abbrev plan_with : List (List ℕ) → List CertLine → Result PlanCertificate CertError
-  plan_with workqueues behind = and_then (chain_behind behind) (whole_assignment p workqueues)
-
-  abbrev plan_of : ℕ → List CertLine → Result PlanCertificate CertError
-  plan_of lanes behind = and_read plan_with (next_workqueues names p.group_of lanes [] behind)
-
   pub SpellsPlan-plan_reading : (lines : List CertLine) (c : PlanCertificate) → plan_reading names p lines ≡ Ok c → SpellsPlan names p (words_in lines) c
   SpellsPlan-plan_reading lines c e =
-      let lanes = FollowsRead-and_read plan_of (next_line (count_reading (codes "plan")) lines) c (sym (plan_reading-turn names p lines) ∙ e) in
-      let workqueues = FollowsRead-and_read plan_with (next_workqueues names p.group_of lanes.value [] lanes.rest) c lanes.then in
-      let made = Follows-and_then (chain_behind workqueues.rest) (whole_assignment p workqueues.value) c workqueues.then in
-      let count = FollowsRead-and_read (chain_of made.value) (next_line (count_reading (codes "chain")) workqueues.rest) c made.then in
-      let said = FollowsRead-and_read (last_arc made.value count.value) (next_lines (arc_reading names) (count.value - 1) count.rest) c count.then in
+      let lanes = FollowsRead-and_read (behind_plan names p) (next_line (count_reading (codes "plan")) lines) c (sym (plan_reading-turn names p lines) ∙ e) in
+      let workqueues = FollowsRead-and_read (with_chain names p) (next_workqueues names p.group_of lanes.value [] lanes.rest) c lanes.then in
+      let made = Follows-and_then (behind_workqueues names p workqueues.rest) (whole_assignment p workqueues.value) c workqueues.then in
+      let count = FollowsRead-and_read (arcs_behind names made.value) (next_line (count_reading (codes "chain")) workqueues.rest) c made.then in
+      let said = FollowsRead-and_read (last_arc names made.value count.value) (next_lines (arc_reading names) (count.value - 1) count.rest) c count.then in
       let plan : PlanCertificate = record { assignment = made.value; length = count.value; arcs = said.value } in
       let ends = at_end-Ok plan c said.rest said.then in
       let first = shown_line (count_reading (codes "plan")) (count_words (codes "plan")) IsCount (Shows-count (codes "plan")) lines lanes.rest lanes.value lanes.first in
@@ -191,7 +159,7 @@ module _ (names : List (List ℕ)) (p : Partition) (one_group_each : length name
     pub workqueues_reading-SpellsWorkqueues : (lines : List CertLine) (a : Assignment) → SpellsWorkqueues names p (words_in lines) a → workqueues_reading names p lines ≡ Ok a
     workqueues_reading-SpellsWorkqueues lines a spells =
         let none : List CertLine = [] in
-        and_read-Ok assigned (all_workqueues names p.group_of [] lines) spells.workqueues []
+        and_read-Ok (assigned p) (all_workqueues names p.group_of [] lines) spells.workqueues []
         (all_workqueues-lines names p.group_of differ spells.workqueues [] lines (AreGrown-workqueues (length names) p.group_of spells.workqueues spells.are) spells.words)
         ∙ ap (and_then (ended none)) (whole_assignment-workqueues names p one_group_each spells.workqueues spells.are)
         ∙ ap (λ (b : Assignment). Ok b) (sym spells.assignment)
@@ -211,10 +179,10 @@ module _ (names : List (List ℕ)) (p : Partition) (one_group_each : length name
         let arcs : next_lines (arc_reading names) (c.length - 1) count.rest ≡ Ok (c.arcs, said.rest) =
         ap (λ (n : ℕ). next_lines (arc_reading names) n count.rest) (sym spells.count) ∙ said.is_read in
         plan_reading-turn names p lines
-        ∙ and_read-Ok plan_of (next_line (count_reading (codes "plan")) lines) k lanes.rest lanes.is_read
-        ∙ and_read-Ok plan_with (next_workqueues names p.group_of k [] lanes.rest) spells.workqueues workqueues.rest workqueues.is_read
-        ∙ and_then-Ok (chain_behind workqueues.rest) (whole_assignment p spells.workqueues) a (whole_assignment-workqueues names p one_group_each spells.workqueues spells.are)
-        ∙ and_read-Ok (chain_of a) (next_line (count_reading (codes "chain")) workqueues.rest) c.length count.rest count.is_read
-        ∙ and_read-Ok (last_arc a c.length) (next_lines (arc_reading names) (c.length - 1) count.rest) c.arcs said.rest arcs
-        ∙ ap (last_arc a c.length c.arcs) (no_words said.rest said.behind)
+        ∙ and_read-Ok (behind_plan names p) (next_line (count_reading (codes "plan")) lines) k lanes.rest lanes.is_read
+        ∙ and_read-Ok (with_chain names p) (next_workqueues names p.group_of k [] lanes.rest) spells.workqueues workqueues.rest workqueues.is_read
+        ∙ and_then-Ok (behind_workqueues names p workqueues.rest) (whole_assignment p spells.workqueues) a (whole_assignment-workqueues names p one_group_each spells.workqueues spells.are)
+        ∙ and_read-Ok (arcs_behind names a) (next_line (count_reading (codes "chain")) workqueues.rest) c.length count.rest count.is_read
+        ∙ and_read-Ok (last_arc names a c.length) (next_lines (arc_reading names) (c.length - 1) count.rest) c.arcs said.rest arcs
+        ∙ ap (last_arc names a c.length c.arcs) (no_words said.rest said.behind)
         ∙ ap (λ (b : Assignment). Ok (record { assignment = b; length = c.length; arcs = c.arcs })) (sym spells.assignment)

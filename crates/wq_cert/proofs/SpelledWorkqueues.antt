@@ -1,10 +1,10 @@
 -- Workqueues that are read, line by line.
-use Rattle.std.proofs.Common.{◌≡◌, ◌≢◌, ℕ, zero, suc, ◌+◌, ◌<◌, Bool, true, false, ◌||◌, not, cond, leb, eqb, List, [], ◌∷◌, ◌++◌, length, map, Option, Some, Result, Ok, Err, refl, sym, ap, ap₂, subst, ◌∙◌, arith, append_assoc, append-nil, length-append}
+use Rattle.std.proofs.Common.{◌≡◌, ◌≢◌, ℕ, zero, suc, ◌+◌, ◌<◌, Bool, true, false, not, cond, leb, eqb, List, [], ◌∷◌, ◌++◌, length, map, Option, Some, Result, Ok, Err, refl, sym, ap, ap₂, subst, ◌∙◌, arith, append_assoc, append-nil, length-append}
 use Rattle.std.specs.Prelude.{AllPairs, codes, ok_or}
 use Rattle.std.specs.List.{All, concat, enumerate_from}
 use Rattle.std.proofs.lemmas.Bool.{or_parts, or_from, not-false, not_from_true, eqb-true, eq-eqb, leb-false, lt-leb}
 use Rattle.std.proofs.lemmas.List.Elements.{All-from_recursion, recursion_from_All}
-use Rattle.wq_cert.proofs.WorkqueueTurns.{wq_reading-turn}
+use Rattle.wq_cert.proofs.WorkqueueTurns.{in_groups, in_once, is_out, in_turn, wq_reading-turn}
 use Rattle.wq_cert.specs.declared.fault.CertError.{CertError}
 use Rattle.wq_cert.specs.declared.fault.CertError.TheVariants.{BadCertLine, NumberOutOfRange, NotAllItems, GroupSplit}
 use Rattle.wq_groups.specs.Partition.{Partition}
@@ -31,23 +31,11 @@ module _ (names : List (List ℕ)) (group_of : List ℕ) where
     pub next : IsNextWorkqueue items group_of workqueues workqueue
 
   module _ (workqueues : List (List ℕ)) where
-    abbrev in_place : ℕ → Bool
-    in_place n = not (eqb n (length workqueues)) || leb 4096 (length workqueues)
-
-    abbrev in_groups : ℕ → List ℕ → Result (List ℕ) CertError
-    in_groups line workqueue = cond (splits_group group_of (concat workqueues) workqueue) (Err (GroupSplit line)) (Ok workqueue)
-
-    abbrev in_once : ℕ → List ℕ → Result (List ℕ) CertError
-    in_once line workqueue = cond (has_stood (concat workqueues) workqueue) (Err (NotAllItems line)) (in_groups line workqueue)
-
-    abbrev in_turn : ℕ → ℕ × List ℕ → Result (List ℕ) CertError
-    in_turn line p = cond (in_place p.0) (Err (NumberOutOfRange line)) (in_once line p.1)
-
     pub SaysWorkqueue-wq_reading : (line : CertLine) (workqueue : List ℕ) → wq_reading names group_of workqueues line ≡ Ok workqueue → SaysWorkqueue workqueues line.words workqueue
     SaysWorkqueue-wq_reading line workqueue e =
-        let found = Follows-and_then (in_turn line.no) (ok_or (wq_form names line.words) (BadCertLine line.no)) workqueue (sym (wq_reading-turn names group_of workqueues line) ∙ e) in
-        let placed = past (in_place found.value.0) (NumberOutOfRange line.no) (in_once line.no found.value.1) workqueue found.then in
-        let fresh = past (has_stood (concat workqueues) found.value.1) (NotAllItems line.no) (in_groups line.no found.value.1) workqueue placed.1 in
+        let found = Follows-and_then (in_turn names group_of workqueues line.no) (ok_or (wq_form names line.words) (BadCertLine line.no)) workqueue (sym (wq_reading-turn names group_of workqueues line) ∙ e) in
+        let placed = past (is_out names group_of workqueues found.value.0) (NumberOutOfRange line.no) (in_once group_of workqueues line.no found.value.1) workqueue found.then in
+        let fresh = past (has_stood (concat workqueues) found.value.1) (NotAllItems line.no) (in_groups group_of workqueues line.no found.value.1) workqueue placed.1 in
         let apart = past (splits_group group_of (concat workqueues) found.value.1) (GroupSplit line.no) (Ok found.value.1) workqueue fresh.1 in
         let same : found.value.1 ≡ workqueue = same_ok found.value.1 workqueue apart.1 in
         let parts = or_parts (not (eqb found.value.0 (length workqueues))) (leb 4096 (length workqueues)) placed.0 in
@@ -72,17 +60,17 @@ module _ (names : List (List ℕ)) (group_of : List ℕ) where
           fits = omega arith;
           known = recursion_from_All (λ i. i < items) workqueue said.next.known;
         }) in
-        let placed : in_place place ≡ false = or_from (not (eqb place place)) (leb 4096 place) (not_from_true (eqb place place) (eq-eqb place place refl)) (lt-leb 4096 place room) in
+        let placed : is_out names group_of workqueues place ≡ false = or_from (not (eqb place place)) (leb 4096 place) (not_from_true (eqb place place) (eq-eqb place place refl)) (lt-leb 4096 place room) in
         wq_reading-turn names group_of workqueues line
-        ∙ ap (λ (o : Option (ℕ × List ℕ)). and_then (in_turn line.no) (ok_or o (BadCertLine line.no))) form
-        ∙ ap (λ (b : Bool). cond b (Err (NumberOutOfRange line.no)) (in_once line.no workqueue)) placed
-        ∙ ap (λ (b : Bool). cond b (Err (NotAllItems line.no)) (in_groups line.no workqueue)) said.next.fresh
+        ∙ ap (λ (o : Option (ℕ × List ℕ)). and_then (in_turn names group_of workqueues line.no) (ok_or o (BadCertLine line.no))) form
+        ∙ ap (λ (b : Bool). cond b (Err (NumberOutOfRange line.no)) (in_once group_of workqueues line.no workqueue)) placed
+        ∙ ap (λ (b : Bool). cond b (Err (NotAllItems line.no)) (in_groups group_of workqueues line.no workqueue)) said.next.fresh
         ∙ ap (λ (b : Bool). cond b (Err (GroupSplit line.no)) (Ok workqueue)) said.next.apart
 
   -- ---- so many workqueues
 
   -- the lines of these workqueues, numbered from here
-  abbrev lines_from : ℕ → List (List ℕ) → List (List (List ℕ))
+  abbrev pub lines_from : ℕ → List (List ℕ) → List (List (List ℕ))
   lines_from n more = map (workqueue_line names) (enumerate_from n more)
 
   -- these workqueues come behind, so many or as many as there are

@@ -1,6 +1,7 @@
 -- Marks of items that stand on a workqueue.
 use Rattle.std.proofs.Common.{◌≡◌, ℕ, suc, ◌+◌, ◌<◌, ◌≤◌, ◌==◌, inl, inr, Bool, true, false, ◌||◌, List, [], ◌∷◌, ◌++◌, length, get_or, set, take, drop, refl, sym, ap, ◌∙◌, arith, append_assoc, append-nil, add-one}
 use Rattle.std.specs.List.{All, list_any}
+use Rattle.std.proofs.Math.Bool.{or-false}
 use Rattle.std.proofs.Math.Seq.{take-suc, drop-cons}
 use Rattle.std.proofs.lemmas.Bool.{cases_eq, eq-eqb, ne_eqb}
 use Rattle.std.proofs.lemmas.List.{length-set, get_or-set_same, get_or-set_other, get_or_default, take_all, drop_all}
@@ -17,12 +18,8 @@ take_one {X} xs k x lt at = ap (λ n. take n xs) (add-one k) ∙ take-suc xs k x
 pub drop_one : {X : Type 0} (xs : List X) (k : ℕ) (x : X) → k < length xs → x ≡ get_or xs k x → drop k xs ≡ x ∷ drop (k + 1) xs
 drop_one {X} xs k x lt at = drop-cons xs k x lt ∙ ap (λ (y : X). y ∷ drop (suc k) xs) (sym at) ∙ ap (λ n. x ∷ drop n xs) (sym (add-one k))
 
-pub or_false : (b : Bool) → (b || false) ≡ b
-or_false true = refl
-or_false false = refl
-
 pub any_push : {X : Type 0} (p : X → Bool) (xs : List X) (x : X) → list_any p (xs ++ (x ∷ [])) ≡ (list_any p xs || p x)
-any_push p xs x = list_any-append p xs (x ∷ []) ∙ ap (λ b. list_any p xs || b) (or_false (p x))
+any_push p xs x = list_any-append p xs (x ∷ []) ∙ ap (λ b. list_any p xs || b) (or-false (p x))
 
 pub or_true : (b : Bool) → (b || true) ≡ true
 or_true true = refl
@@ -48,7 +45,7 @@ marks-set n items x within =
           ∙ sym (any_push (λ j. k == j) items x ∙ ap (λ b. stands_in items k || b) (eq-eqb k x same) ∙ or_true (stands_in items k))
       | inr other ↦
           get_or-set_other (marks n items) x k true true other ∙ get_or-marks n items k true lt
-          ∙ sym (any_push (λ j. k == j) items x ∙ ap (λ b. stands_in items k || b) (ne_eqb k x other) ∙ or_false (stands_in items k))
+          ∙ sym (any_push (λ j. k == j) items x ∙ ap (λ b. stands_in items k || b) (ne_eqb k x other) ∙ or-false (stands_in items k))
     ]
 
 -- ---- marking

@@ -176,7 +176,7 @@ AreGrown-none items group_of = record {
 pub AreGrown-workqueues : (items : ℕ) (group_of : List ℕ) (workqueues : List (List ℕ)) → AreWorkqueues items group_of workqueues → AreGrown items group_of workqueues
 AreGrown-workqueues items group_of workqueues h = record { few = h.few; known = h.known; once = h.once; whole = h.whole }
 
-concat-push : (workqueues : List (List ℕ)) (items : List ℕ) → concat (workqueues ++ (items ∷ [])) ≡ concat workqueues ++ items
+pub concat-push : (workqueues : List (List ℕ)) (items : List ℕ) → concat (workqueues ++ (items ∷ [])) ≡ concat workqueues ++ items
 concat-push workqueues items = concat-append workqueues (items ∷ []) ∙ ap (λ (l : List ℕ). concat workqueues ++ l) (append-nil items)
 
 All-front : (P : ℕ → Type 0) (xs ys : List ℕ) → All P (xs ++ ys) → All P xs

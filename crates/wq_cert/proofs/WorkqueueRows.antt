@@ -1,17 +1,16 @@
 -- Which fault the line of a workqueue has, by the first row that it breaks.
-use Rattle.std.proofs.Common.{◌≡◌, ◌≢◌, ℕ, zero, suc, ◌+◌, ◌<◌, ◌≤◌, ◌⊎◌, inl, inr, Bool, true, false, not, cond, leb, eqb, List, [], ◌∷◌, ◌++◌, length, map, Option, Some, None, Result, Ok, Err, refl, sym, ap, ◌∙◌, arith, append_assoc, append-nil, length-append}
+use Rattle.std.proofs.Common.{◌≡◌, ◌≢◌, ℕ, zero, suc, ◌+◌, ◌<◌, ◌≤◌, ◌⊎◌, inl, inr, Bool, true, false, not, cond, leb, eqb, List, [], ◌∷◌, ◌++◌, length, Option, Some, None, Result, Ok, Err, refl, sym, ap, ◌∙◌, arith, append_assoc, append-nil, length-append}
 use Rattle.std.specs.Prelude.{AllPairs, codes, ok_or}
-use Rattle.std.specs.List.{concat, enumerate_from}
+use Rattle.std.specs.List.{concat}
 use Rattle.std.proofs.lemmas.Bool.{or_from, or_left, or_right, not_from_true, not_from_false, true_from_ne_false, eq-eqb, ne_eqb, le-leb, lt-leb}
 use Rattle.std.proofs.lemmas.List.Elements.{All-from_recursion, recursion_from_All}
-use Rattle.wq_groups.specs.Assignment.{Assignment}
 use Rattle.wq_groups.specs.Partition.{Partition}
-use Rattle.wq_cert.proofs.PlanTurns.{behind_workqueues, behind_plan, plan_reading-turn}
+use Rattle.wq_cert.proofs.PlanTurns.{assigned, with_chain, behind_plan, plan_reading-turn}
 use Rattle.wq_cert.proofs.WorkqueueLists.{Once-has_stood, has_stood-Once, GroupsAreWhole-push, AreApart-splits_group, AreGrown}
-use Rattle.wq_cert.proofs.WorkqueueTurns.{is_out, in_turn, wq_reading-turn}
+use Rattle.wq_cert.proofs.WorkqueueTurns.{in_groups, in_once, is_out, in_turn, wq_reading-turn}
 use Rattle.wq_cert.proofs.SpelledForms.{IsWorkqueueLine-wq_form, wq_form-IsWorkqueueLine}
 use Rattle.wq_cert.proofs.SpelledLines.{IsReadBy-count}
-use Rattle.wq_cert.proofs.SpelledWorkqueues.{said_next, first_grown}
+use Rattle.wq_cert.proofs.SpelledWorkqueues.{lines_from, said_next, first_grown}
 use Rattle.wq_cert.specs.declared.fault.CertError.{CertError}
 use Rattle.wq_cert.specs.declared.fault.CertError.TheVariants.{BadCertLine, NotAllItems, GroupSplit, NumberOutOfRange, OutOfMemory}
 use Rattle.wq_cert.specs.Forms.{begins_with, wq_form}
@@ -19,7 +18,7 @@ use Rattle.wq_cert.specs.Lines.{CertLine}
 use Rattle.wq_cert.specs.PlanText.{plan_line, workqueue_line}
 use Rattle.wq_cert.specs.WorkqueueRows.{AreFirstWorkqueues, SpellsWorkqueue, SpellsNextWorkqueue, BreaksRow}
 use Rattle.wq_items.specs.Building.{and_then}
-use Rattle.wq_cert.specs.Reading.{Read, and_read, at_end, count_reading, has_stood, splits_group, wq_reading, next_workqueues, all_workqueues, whole_assignment, plan_reading, workqueues_reading}
+use Rattle.wq_cert.specs.Reading.{Read, and_read, count_reading, has_stood, splits_group, wq_reading, next_workqueues, all_workqueues, plan_reading, workqueues_reading}
 use Rattle.wq_cert.specs.Spelled.{words_in, workqueue_lines}
 
 pub AreGrown-first : (items : ℕ) (group_of : List ℕ) (workqueues : List (List ℕ)) → AreFirstWorkqueues items group_of workqueues → AreGrown items group_of workqueues
@@ -54,15 +53,9 @@ module _ (names : List (List ℕ)) (group_of : List ℕ) (workqueues : List (Lis
         or_from (not (eqb (length workqueues) (length workqueues))) (leb 4096 (length workqueues)) (not_from_true (eqb (length workqueues) (length workqueues)) (eq-eqb (length workqueues) (length workqueues) refl))
         (lt-leb 4096 (length workqueues) room)
 
-    abbrev by_groups : ℕ → List ℕ → Result (List ℕ) CertError
-    by_groups n items = cond (splits_group group_of (concat workqueues) items) (Err (GroupSplit n)) (Ok items)
-
-    abbrev by_items : ℕ → List ℕ → Result (List ℕ) CertError
-    by_items n items = cond (has_stood (concat workqueues) items) (Err (NotAllItems n)) (by_groups n items)
-
-    next_turn : (items : List ℕ) → SpellsNextWorkqueue names line.words workqueues items → wq_reading names group_of workqueues line ≡ by_items line.no items
+    next_turn : (items : List ℕ) → SpellsNextWorkqueue names line.words workqueues items → wq_reading names group_of workqueues line ≡ in_once group_of workqueues line.no items
     next_turn items h =
-        said_turn (length workqueues, items) h.says ∙ ap (λ (b : Bool). cond b (Err (NumberOutOfRange line.no)) (by_items line.no items)) (in_range h.room)
+        said_turn (length workqueues, items) h.says ∙ ap (λ (b : Bool). cond b (Err (NumberOutOfRange line.no)) (in_once group_of workqueues line.no items)) (in_range h.room)
 
     pub wq_reading-BreaksRow : AreFirstWorkqueues (length names) group_of workqueues → (fault : CertError) → BreaksRow names group_of workqueues line fault → wq_reading names group_of workqueues line ≡ Err fault
     wq_reading-BreaksRow first (BadCertLine n) h =
@@ -70,18 +63,18 @@ module _ (names : List (List ℕ)) (group_of : List ℕ) (workqueues : List (Lis
     wq_reading-BreaksRow first (NumberOutOfRange n) h =
         let items = h.1.1 in
         said_turn h.1 h.2
-        ∙ ap (λ (b : Bool). cond b (Err (NumberOutOfRange line.no)) (by_items line.no items)) (out_of_range h.1.0 h.3)
+        ∙ ap (λ (b : Bool). cond b (Err (NumberOutOfRange line.no)) (in_once group_of workqueues line.no items)) (out_of_range h.1.0 h.3)
         ∙ ap (λ (m : ℕ). Err (NumberOutOfRange m)) (sym h.0)
     wq_reading-BreaksRow first (NotAllItems n) h =
         let stood : has_stood (concat workqueues) h.1 ≡ true = true_from_ne_false (has_stood (concat workqueues) h.1) (λ fresh. h.3 (Once-has_stood (concat workqueues) h.1 first.once fresh)) in
         next_turn h.1 h.2
-        ∙ ap (λ (b : Bool). cond b (Err (NotAllItems line.no)) (by_groups line.no h.1)) stood
+        ∙ ap (λ (b : Bool). cond b (Err (NotAllItems line.no)) (in_groups group_of workqueues line.no h.1)) stood
         ∙ ap (λ (m : ℕ). Err (NotAllItems m)) (sym h.0)
     wq_reading-BreaksRow first (GroupSplit n) h =
         let split : splits_group group_of (concat workqueues) h.1 ≡ true =
         true_from_ne_false (splits_group group_of (concat workqueues) h.1) (λ apart. h.4 (GroupsAreWhole-push group_of workqueues h.1 first.whole (AreApart-splits_group group_of (concat workqueues) h.1 apart))) in
         next_turn h.1 h.2
-        ∙ ap (λ (b : Bool). cond b (Err (NotAllItems line.no)) (by_groups line.no h.1)) (has_stood-Once (concat workqueues) h.1 h.3)
+        ∙ ap (λ (b : Bool). cond b (Err (NotAllItems line.no)) (in_groups group_of workqueues line.no h.1)) (has_stood-Once (concat workqueues) h.1 h.3)
         ∙ ap (λ (b : Bool). cond b (Err (GroupSplit line.no)) (Ok h.1)) split
         ∙ ap (λ (m : ℕ). Err (GroupSplit m)) (sym h.0)
     wq_reading-BreaksRow first OutOfMemory h = absurd h
@@ -89,9 +82,6 @@ module _ (names : List (List ℕ)) (group_of : List ℕ) (workqueues : List (Lis
 -- ---- behind the lines of these workqueues
 
 module _ (names : List (List ℕ)) (group_of : List ℕ) where
-  abbrev pub lines_from : ℕ → List (List ℕ) → List (List (List ℕ))
-  lines_from n more = map (workqueue_line names) (enumerate_from n more)
-
   abbrev pub GrownBy : List (List ℕ) → List (List ℕ) → Type 0
   GrownBy workqueues more = AreGrown (length names) group_of (workqueues ++ more)
 
@@ -155,15 +145,12 @@ module _ (names : List (List ℕ)) (p : Partition) (differ : AllPairs (λ (a b :
       (wq_reading-BreaksRow names p.group_of workqueues line differ first fault breaks) in
       plan_reading-turn names p (opening ∷ rest)
       ∙ ap (λ (r : Result ℕ CertError). and_read (behind_plan names p) (and_then (λ n. Ok (n, rest)) r)) count
-      ∙ ap (λ (r : Read (List (List ℕ))). and_read (λ qs left. and_then (behind_workqueues names p left) (whole_assignment p qs)) r) refused
-
-  abbrev assigned : List (List ℕ) → List CertLine → Result Assignment CertError
-  assigned workqueues rest = and_then (λ assignment. at_end assignment rest) (whole_assignment p workqueues)
+      ∙ ap (λ (r : Read (List (List ℕ))). and_read (with_chain names p) r) refused
 
   pub workqueues_reading-BreaksRow : (workqueues : List (List ℕ)) (before : List CertLine) (line : CertLine) (behind : List CertLine) (fault : CertError)
       → words_in before ≡ workqueue_lines names workqueues → begins_with (codes "wq") line.words ≡ true → AreFirstWorkqueues (length names) p.group_of workqueues → BreaksRow names p.group_of workqueues line fault
       → workqueues_reading names p (before ++ (line ∷ behind)) ≡ Err fault
   workqueues_reading-BreaksRow workqueues before line behind fault words is_wq first breaks =
-      ap (and_read assigned)
+      ap (and_read (assigned p))
       (refused-all_workqueues names p.group_of differ line behind fault workqueues [] before (AreGrown-first (length names) p.group_of workqueues first) words is_wq
       (wq_reading-BreaksRow names p.group_of workqueues line differ first fault breaks))

@@ -9,15 +9,22 @@ use Rattle.wq_cert.specs.Lines.{CertLine}
 use Rattle.wq_items.specs.Building.{and_then}
 use Rattle.wq_cert.specs.Reading.{has_stood, splits_group, fresh_items, wq_reading}
 
+module _ (group_of : List ℕ) (workqueues : List (List ℕ)) where
+  -- groups that are split
+  abbrev pub in_groups : ℕ → List ℕ → Result (List ℕ) CertError
+  in_groups line items = cond (splits_group group_of (concat workqueues) items) (Err (GroupSplit line)) (Ok items)
+
+  -- items that stand again, and then groups
+  abbrev pub in_once : ℕ → List ℕ → Result (List ℕ) CertError
+  in_once line items = cond (has_stood (concat workqueues) items) (Err (NotAllItems line)) (in_groups line items)
+
 module _ (names : List (List ℕ)) (group_of : List ℕ) (workqueues : List (List ℕ)) where
   -- a number out of place, or above 4,095
   abbrev pub is_out : ℕ → Bool
   is_out n = not (n == length workqueues) || nat_le 4096 (length workqueues)
 
   abbrev pub in_turn : ℕ → ℕ × List ℕ → Result (List ℕ) CertError
-  in_turn line p =
-      cond (is_out p.0) (Err (NumberOutOfRange line))
-      (cond (has_stood (concat workqueues) p.1) (Err (NotAllItems line)) (cond (splits_group group_of (concat workqueues) p.1) (Err (GroupSplit line)) (Ok p.1)))
+  in_turn line p = cond (is_out p.0) (Err (NumberOutOfRange line)) (in_once group_of workqueues line p.1)
 
   out_first : (line : ℕ) (out : Bool) (items : List ℕ)
       → and_then (λ found. fresh_items group_of (concat workqueues) line found) (cond out (Err (NumberOutOfRange line)) (Ok items))
