@@ -3,7 +3,7 @@
 //! That is asked of a run that deadlocks, by "Steps" in docs/FORMAT.md. The queueings of all items are counted in one pass.
 //! It takes time in the number of steps and of items, and memory in the number of items.
 
-ghost use Rattle.std.specs.Prelude.{◌≡◌, ◌<◌, ◌↔◌, ℕ, IsTrue, IfOk, length, slice_index};
+ghost use Rattle.std.specs.Prelude.{◌≡◌, ◌<◌, ◌↔◌, ℕ, IsTrue, IfOk, OnErr, length, replicate, slice_index};
 ghost use Rattle.std.specs.List.{All, count_by};
 ghost use Rattle.wq_core.specs.declared.step.Step.{Step};
 ghost use Rattle.wq_core.specs.Runs.{queues, IsCancel, IsOnce};
@@ -29,6 +29,16 @@ fn none_cancels(steps: &[Step]) -> bool
     steps.iter().all(|step| cancels_none(*step))
 }
 
+/// So many counts of none.
+fn no_counts<A: Allocator + Copy>(alloc: A, items: usize) -> Result<Vec<u32, A>, AllocError>
+    ensures counts { IfOk result (λ counts. counts.items ≡ replicate items 0) }
+    ensures memory { OnErr result (0 < items) }
+{
+    let mut counts = Vec::with_capacity(alloc, items)?;
+    counts.resize(items, 0)?;
+    Ok(counts)
+}
+
 /// Of each of so many items in turn how often it is queued.
 fn count_queueings<A: Allocator + Copy>(
     alloc: A,
@@ -38,8 +48,9 @@ fn count_queueings<A: Allocator + Copy>(
     requires { length steps.now < 4294967295 }
     ensures len { IfOk result (λ counts. length counts.items ≡ items) }
     ensures counts { IfOk result (λ counts. (i : ℕ) → i < items → slice_index counts.items i ≡ count_by (λ (step : Step). queues i step) steps.now) }
+    ensures memory { OnErr result (0 < items) }
 {
-    let mut counts = vec![in alloc; 0; items]?;
+    let mut counts = no_counts(alloc, items)?;
     for step in steps {
         if let Step::Queue(item) = step {
             let item = usize::from(item.get());
@@ -65,7 +76,8 @@ pub(crate) fn is_once<A: Allocator + Copy>(
     steps: &[Step],
 ) -> Result<bool, AllocError>
     requires { length steps.now < 4294967295 }
-    ensures { IfOk result (λ b. IsTrue b ↔ IsOnce core.now.wiring steps.now) }
+    ensures once { IfOk result (λ b. IsTrue b ↔ IsOnce core.now.wiring steps.now) }
+    ensures memory { OnErr result (0 < core.now.wiring.lanes) }
 {
     if !none_cancels(steps) {
         return Ok(false);

@@ -4,7 +4,7 @@
 //! state on, by the rules of "Steps". It takes time in the number of steps, and for each of them in the entries that are
 //! pending on a workqueue or the flushes of an item, and time and memory in the number of items, flushes and workqueues.
 
-ghost use Rattle.std.specs.Prelude.{◌≡◌, ◌<◌, ◌↔◌, IsTrue, IfOk, IfErr, length};
+ghost use Rattle.std.specs.Prelude.{◌≡◌, ◌<◌, ◌↔◌, IsTrue, IfOk, OnErr, IfErr, length};
 ghost use Rattle.wq_groups.specs.Declaration.{declaration_of};
 ghost use Rattle.wq_core.specs.Wiring.{wiring};
 ghost use Rattle.wq_core.specs.State.{empty_state};
@@ -79,7 +79,8 @@ fn end_of<A: Allocator + Copy>(
 ) -> Result<RunEnd, AllocError>
     requires few { length steps.now < 4294967295 }
     requires played { IsPlayed core.now.wiring steps.now in_order core.now }
-    ensures { IfOk result (λ end. EndsAs core.now.wiring steps.now end) }
+    ensures end { IfOk result (λ end. EndsAs core.now.wiring steps.now end) }
+    ensures memory { OnErr result (0 < core.now.wiring.lanes) }
 {
     if !is_stuck(core) {
         return Ok(RunEnd::Free);
@@ -92,7 +93,7 @@ fn end_of<A: Allocator + Copy>(
 }
 
 /// How a list of fewer than 4,294,967,295 steps ends under an assignment of the groups. The only error is out of memory
-/// (20).
+/// (20), never where there is no lane.
 pub fn check_run<A: Allocator + Copy>(
     alloc: A,
     table: &ItemTable<'_, A>,
@@ -103,7 +104,8 @@ pub fn check_run<A: Allocator + Copy>(
     requires grouped { length groups.now.group_of ≡ length table.now.names }
     requires assigned { length assignment.now.lane_of_group ≡ groups.now.groups }
     requires few { length steps.now < 4294967295 }
-    ensures { IfOk result (λ end. EndsAs (wiring (declaration_of table.now groups.now) assignment.now) steps.now end) }
+    ensures end { IfOk result (λ end. EndsAs (wiring (declaration_of table.now groups.now) assignment.now) steps.now end) }
+    ensures memory { OnErr result (0 < assignment.now.lanes) }
 {
     let mut core = Core::new(alloc, table, groups, assignment)?;
     match play(&mut core, steps) {

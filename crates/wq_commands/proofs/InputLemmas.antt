@@ -68,11 +68,6 @@ module _ (end : End) (out : List ℕ) where
 
 -- ---- answers to what was read
 
--- the error that `?` returns is the one that it met
-pub Err-passed : {T E : Type 0} (r : Result T E) (met error : E) → IsErrAnd r (λ e. e ≡ met) → r ≡ Err error → met ≡ error
-Err-passed (Ok x) met error passed is = absurd passed
-Err-passed (Err e) met error passed is = sym passed ∙ cc
-
 pub Err-kept : {T S E : Type 0} (r : Result T E) (made : Result S E) (met error : E) → IsErrAnd r (λ e. e ≡ met) → made ≡ Err met → made ≡ Err error → r ≡ Err error
 Err-kept (Ok x) made met error passed is was = absurd passed
 Err-kept (Err e) made met error passed is was =

@@ -18,5 +18,5 @@ returns g c =
     let steps = c.args.steps.now in
     let same : a ≡ own_lanes c.args.groups.now.groups = c.in_ok-assignment.ensures ∙ ap own_lanes c.len.ensures.len in
     let is : (c.in_ok-end.end ≡ Deadlock) ↔ DeadlocksBy (wiring d (own_lanes d.groups)) steps =
-    subst (λ (b : Assignment). (c.in_ok-end.end ≡ Deadlock) ↔ DeadlocksBy (wiring d b) steps) same (EndsAs-deadlocks (wiring d a) steps c.in_ok-end.end c.in_ok-end.ensures) in
+    subst (λ (b : Assignment). (c.in_ok-end.end ≡ Deadlock) ↔ DeadlocksBy (wiring d b) steps) same (EndsAs-deadlocks (wiring d a) steps c.in_ok-end.end c.in_ok-end.ensures.end) in
     ((λ e. is.0 (c.is_deadlock.ensures.0 e)), (λ h. c.is_deadlock.ensures.1 (is.1 h)))

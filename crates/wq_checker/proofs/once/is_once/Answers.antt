@@ -5,8 +5,8 @@ use Rattle.wq_core.specs.Wiring.{items}
 use Rattle.wq_checker.proofs.QueueCounts.{Counted, IsOnce-counts}
 use Rattle.wq_checker.proofs.once.is_once.Goals as goal
 
-pub returns : goal.returns
-returns g c =
+pub returns-clause-once : goal.returns-clause-once
+returns-clause-once g c =
     let w = c.args.core.now.wiring in
     let counts = c.in_ok-counts.counts.items in
     let counted : Counted c.args.steps.now (items w) counts = record {

@@ -4,7 +4,8 @@ use Rattle.wq_meter.specs.Meter.{WritesPrefix, WritesWhole}
 use Rattle.wq_meter.specs.declared.fault.Fault.TheVariants.{Read}
 use Rattle.wq_commands.specs.CheckInput.{ChecksInput, KeepsYesOfInput}
 use Rattle.wq_commands.proofs.PromiseLemmas.{KeepsYesOfInput-answered}
-use Rattle.wq_commands.proofs.InputLemmas.{Err-passed, Err-kept, ChecksInput-read, written_answer, begun_answer}
+use Rattle.wq_cert.proofs.GrowthLemmas.{Err-passed}
+use Rattle.wq_commands.proofs.InputLemmas.{Err-kept, ChecksInput-read, written_answer, begun_answer}
 use Rattle.wq_commands.proofs.check.check_cmd.Goals as goal
 
 pub returns-in_err-text-clause-lost : goal.returns-in_err-text-clause-lost

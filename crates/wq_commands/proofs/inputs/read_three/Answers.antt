@@ -1,6 +1,7 @@
 use Rattle.std.proofs.Common.{Err, ap, inr, refl}
 use Rattle.wq_meter.specs.declared.fault.Fault.TheVariants.{Read, Write}
-use Rattle.wq_commands.proofs.InputLemmas.{Err-passed, Err-kept}
+use Rattle.wq_cert.proofs.GrowthLemmas.{Err-passed}
+use Rattle.wq_commands.proofs.InputLemmas.{Err-kept}
 use Rattle.wq_commands.proofs.inputs.read_three.Goals as goal
 
 pub returns-in_err-steps-clause-order : goal.returns-in_err-steps-clause-order

@@ -3,7 +3,8 @@ use Rattle.std.proofs.lemmas.Result.{IfOk-weaker}
 use Rattle.wq_meter.specs.Meter.{WritesPrefix, WritesWhole}
 use Rattle.wq_meter.specs.declared.fault.Fault.TheVariants.{Read}
 use Rattle.wq_commands.specs.CheckInput.{ReplaysInput}
-use Rattle.wq_commands.proofs.InputLemmas.{Err-passed, Err-kept, ReplaysInput-read, written_answer, begun_answer}
+use Rattle.wq_cert.proofs.GrowthLemmas.{Err-passed}
+use Rattle.wq_commands.proofs.InputLemmas.{Err-kept, ReplaysInput-read, written_answer, begun_answer}
 use Rattle.wq_commands.proofs.replay.replay_cmd.Goals as goal
 
 pub returns-in_err-text-clause-lost : goal.returns-in_err-text-clause-lost
