@@ -3,6 +3,7 @@
 use Rattle.std.specs.Prelude.{◌≡◌, ℕ, ◌-◌, ◌^◌, ◌<◌, ◌≤◌, List, [], ◌∷◌, ◌++◌, ◌⊎◌, length, map, codes, decimal, Option, Some, None, IfSome, IsSomeAnd}
 use Rattle.std.specs.List.{All}
 use Rattle.wq_groups.specs.Partition.{Partition}
+use Rattle.wq_groups.specs.Assignment.{max_lanes}
 use Rattle.wq_core.specs.declared.step.Step.{Step}
 use Rattle.wq_core.specs.declared.step.Step.TheVariants.{Queue, Cancel, Start, Wait, Over, Finish}
 use Rattle.wq_cert.specs.declared.fault.CertError.{CertError}
@@ -11,6 +12,7 @@ use Rattle.wq_cert.specs.CircleText.{circle_line}
 use Rattle.wq_cert.specs.Lines.{CertLine}
 use Rattle.wq_cert.specs.PlanText.{plan_line, arc_line}
 use Rattle.wq_cert.specs.Ranges.{IsArcOf, IsStepOf}
+use Rattle.wq_cert.specs.Reading.{max_count}
 use Rattle.wq_cert.specs.RunText.{step_line, item_in}
 use Rattle.wq_cert.specs.Spelled.{AreWorkqueues, workqueue_lines, count_line}
 
@@ -66,12 +68,12 @@ HasForm names StepLine words = (step : Step) × SpellsStep names words step
 -- the words have the form, with a number that is out of its range: a count of workqueues, groups or arcs above 4,096, a
 -- circle of none, a workqueue above 4,095; the number of steps may be any
 abbrev pub IsOutOfRange : List (List ℕ) → LineForm → List (List ℕ) → Type 0
-IsOutOfRange names PlanLine words = (k : ℕ) × SpellsCount (codes "plan") words k × (4096 < k)
-IsOutOfRange names ChainLine words = (n : ℕ) × SpellsCount (codes "chain") words n × (4096 < n)
-IsOutOfRange names CircleLine words = (n : ℕ) × SpellsCount (codes "circle") words n × ((n ≡ 0) ⊎ (4096 < n))
+IsOutOfRange names PlanLine words = (k : ℕ) × SpellsCount (codes "plan") words k × (max_count < k)
+IsOutOfRange names ChainLine words = (n : ℕ) × SpellsCount (codes "chain") words n × (max_count < n)
+IsOutOfRange names CircleLine words = (n : ℕ) × SpellsCount (codes "circle") words n × ((n ≡ 0) ⊎ (max_count < n))
 IsOutOfRange names ArcLine words = ⊥
 IsOutOfRange names RunLine words = ⊥
-IsOutOfRange names StepLine words = (step : Step) × SpellsStep names words step × IsSomeAnd (lane_in step) (λ q. 4095 < q)
+IsOutOfRange names StepLine words = (step : Step) × SpellsStep names words step × IsSomeAnd (lane_in step) (λ q. max_lanes ≤ q)
 
 -- the row of this fault is the first that the line breaks, where one of this form stands next
 abbrev pub BreaksLine : List (List ℕ) → LineForm → CertLine → CertError → Type 0
@@ -99,7 +101,7 @@ StandsInPlan names p before ChainLine =
     (workqueues : List (List ℕ)) × AreWorkqueues (length names) p.group_of workqueues × (before ≡ plan_line (length workqueues) ∷ workqueue_lines names workqueues)
 StandsInPlan names p before CircleLine = ⊥
 StandsInPlan names p before ArcLine =
-    (workqueues : List (List ℕ)) × (n : ℕ) × (arcs : List (ℕ × ℕ)) × AreWorkqueues (length names) p.group_of workqueues × (n ≤ 4096) × AreFirstArcs (length names) (n - 1) arcs
+    (workqueues : List (List ℕ)) × (n : ℕ) × (arcs : List (ℕ × ℕ)) × AreWorkqueues (length names) p.group_of workqueues × (n ≤ max_count) × AreFirstArcs (length names) (n - 1) arcs
     × (before ≡ plan_line (length workqueues) ∷ (workqueue_lines names workqueues ++ (count_line n ∷ map (arc_line names) arcs)))
 StandsInPlan names p before RunLine = ⊥
 StandsInPlan names p before StepLine = ⊥
@@ -119,7 +121,7 @@ pub record IsBehindArcs (names : List (List ℕ)) (before run : List (List (List
   pub arcs : List (ℕ × ℕ)
   pub words_are : before ≡ circle_line arcs ∷ (map (arc_line names) arcs ++ run)
   pub some : 0 < length arcs
-  pub few : length arcs ≤ 4096
+  pub few : length arcs ≤ max_count
   pub known : All (IsArcOf (length names)) arcs
 
 -- behind these lines of a circle: `circle` first, then as many arcs as it says, then a run
@@ -128,6 +130,6 @@ StandsInCircle names before PlanLine = ⊥
 StandsInCircle names before ChainLine = ⊥
 StandsInCircle names before CircleLine = before ≡ []
 StandsInCircle names before ArcLine =
-    (n : ℕ) × (arcs : List (ℕ × ℕ)) × (n ≤ 4096) × AreFirstArcs (length names) n arcs × (before ≡ count_words (codes "circle") n ∷ map (arc_line names) arcs)
+    (n : ℕ) × (arcs : List (ℕ × ℕ)) × (n ≤ max_count) × AreFirstArcs (length names) n arcs × (before ≡ count_words (codes "circle") n ∷ map (arc_line names) arcs)
 StandsInCircle names before RunLine = (run : List (List (List ℕ))) × IsBehindArcs names before run × StandsInRun names run RunLine
 StandsInCircle names before StepLine = (run : List (List (List ℕ))) × IsBehindArcs names before run × StandsInRun names run StepLine
