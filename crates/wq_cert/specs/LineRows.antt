@@ -89,7 +89,7 @@ KeepsLine names form line = HasForm names form line.words × (¬ IsOutOfRange na
 
 -- ---- where such a line stands next
 
--- some arcs of so many items, where so many arcs have to stand
+-- arcs of so many items, fewer of them than have to stand
 pub record AreFirstArcs (items count : ℕ) (arcs : List (ℕ × ℕ)) : Type 0 where
   pub known : All (IsArcOf items) arcs
   pub fewer : length arcs < count
@@ -116,7 +116,7 @@ StandsInRun names before RunLine = before ≡ []
 StandsInRun names before StepLine =
     (m : ℕ) × (steps : List Step) × (m < 2 ^ 32) × (length steps < m) × All (IsStepOf (length names)) steps × (before ≡ count_words (codes "run") m ∷ map (step_line names) steps)
 
--- behind these lines of a circle all its arcs stand, and these lines of a run
+-- these lines are `circle N`, all its arcs, and these lines of a run
 pub record IsBehindArcs (names : List (List ℕ)) (before run : List (List (List ℕ))) : Type 0 where
   pub arcs : List (ℕ × ℕ)
   pub words_are : before ≡ circle_line arcs ∷ (map (arc_line names) arcs ++ run)

@@ -92,7 +92,7 @@ impl From<GroupError> for Stop {
 /// What a text declares.
 ///
 /// The answer is the first fault of the first pass that has one, or `OutOfMemory` where a growth was refused before
-/// it: no earlier pass has a fault, and neither has any line up to the one at which memory ran out.
+/// it: then no earlier pass has a fault.
 pub fn read_declaration<A: Allocator + Copy>(
     alloc: A,
     text: &[u8],

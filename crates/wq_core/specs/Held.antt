@@ -88,7 +88,7 @@ pub record IsHeld (waits : List (List Target)) (lane_of_item : List ℕ) (lanes 
 abbrev pub IsNumberOf : Machine → Step → Option ℕ → Type 0
 IsNumberOf m step answer = MatchOption answer (¬ Lawful m.wiring m.state step) (λ n. Lawful m.wiring m.state step × Gives m.state step n)
 
--- a queueing would be given the number that nothing is given
+-- a queueing would be given the number that no entry is given
 abbrev pub UsesUp : State → Step → Type 0
 UsesUp s (Queue i) = s.next ≡ max_number
 UsesUp s (Cancel i) = ⊥

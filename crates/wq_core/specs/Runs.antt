@@ -36,7 +36,7 @@ is_rescuer_step (Wait q b) = true
 is_rescuer_step (Over q b) = true
 is_rescuer_step (Finish q i) = true
 
--- the same, said
+-- the step is one of a rescuer
 abbrev pub IsRescuerStep : Step → Type 0
 IsRescuerStep step = MatchBool (is_rescuer_step step) ⊤ ⊥
 

@@ -4,7 +4,7 @@ use Rattle.wq_core.specs.declared.entry.Entry.{Entry}
 use Rattle.wq_core.specs.declared.entry.Running.{Running}
 use Rattle.wq_core.specs.Wiring.{Wiring}
 
--- the entries that are queued on a lane, the next one first, and what its context runs
+-- the entries that are pending on a lane, the next one first, and what its context runs
 pub record Lane : Type 0 where
   pub pending : List Entry
   pub running : Option Running
@@ -14,11 +14,11 @@ pub record State : Type 0 where
   pub next : ℕ
   pub lanes : List Lane
 
--- the number that nothing is given: all numbers below it may be
+-- the number that no entry is given: a mark may be as great
 abbrev pub max_number : ℕ
 max_number = 4294967295
 
--- nothing is queued, and nothing runs
+-- nothing is pending, and nothing runs
 abbrev pub idle_lane : Lane
 idle_lane = record { pending = []; running = None }
 

@@ -25,7 +25,7 @@ own_lanes groups = record { lanes = groups; lane_of_group = range_with_len 0 gro
 abbrev pub items : Wiring → ℕ
 items w = length w.waits
 
--- the lane of item i, which exists
+-- the lane of item i, where there is such an item
 abbrev pub lane_of : Wiring → ℕ → ℕ
 lane_of w i = slice_index w.lane_of_item i
 

@@ -34,7 +34,7 @@ pub enum StepError {
     /// The step isn't lawful (30).
     #[error("the step isn't lawful")]
     NotLawful,
-    /// The queueing is lawful, but the next number is 4,294,967,295, which is never given (31).
+    /// The queueing is lawful, but the next number is 4,294,967,295, which no entry is given (31).
     #[error("the numbers are used up")]
     NumbersUsedUp,
 }

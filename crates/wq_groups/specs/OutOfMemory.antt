@@ -6,12 +6,12 @@ use Rattle.wq_items.specs.Building.{table_of}
 use Rattle.wq_items.specs.FirstFault.{RanOut}
 use Rattle.wq_groups.specs.Grouping.{groups_of}
 
--- memory ran out while the groups were numbered: no name is ordered twice, and there is an item
+-- memory can run out while the groups are numbered: no name is ordered twice, and there is an item
 pub record RanOutOfGroups (ds : List (ℕ × Directive)) (names : List (List ℕ)) : Type 0 where
   pub faultless : IsOk (groups_of ds names)
   pub grows : 0 < length names
 
--- memory ran out in the pass over the items, at a line up to which no line has a fault; or in the pass over the groups,
--- where no line has a fault of either pass
+-- memory can run out in the pass over the items, at a line up to which no line has a fault; or in the pass over the
+-- groups, where no line has a fault of either pass
 abbrev pub RanOutReading : List (ℕ × Directive) → Type 0
 RanOutReading ds = RanOut ds ⊎ ((t : Table) × (table_of ds ≡ Ok t) × RanOutOfGroups ds t.names)

@@ -43,7 +43,7 @@ pub record IsLowestItemFault (ds : List (ℕ × Directive)) (e : ItemError) : Ty
 abbrev pub DeclaresMore : ℕ × Directive → Type 0
 DeclaresMore d = IsSome (item_name d) ⊎ (0 < length (line_flushes d))
 
--- memory ran out at a line that declares an item or a flush: the directives before it and its own have no fault
+-- memory can run out at a line: it declares an item or a flush, and the directives before it and its own have no fault
 pub record RanOut (ds : List (ℕ × Directive)) : Type 0 where
   pub before : List (ℕ × Directive)
   pub line : ℕ × Directive
