@@ -74,8 +74,7 @@ impl<A: Allocator> History<A> {
 
     /// The bytes that hold the rows.
     pub fn packed(&self) -> &[u8]
-        ensures bytes { result.now ≡ packed_rows self.now.rows }
-        ensures history { IsHistory self.now }
+        ensures { result.now ≡ packed_rows self.now.rows }
     {
         self.bytes.as_slice()
     }
