@@ -4,14 +4,14 @@ use Rattle.wq_items.specs.Table.{ItemWaits}
 use Rattle.wq_core.specs.declared.entry.Waiting.{Waiting}
 use Rattle.wq_core.specs.declared.entry.Running.{Running}
 use Rattle.wq_core.specs.Wiring.{Wiring, IsWiring, items, declared_by}
-use Rattle.wq_core.specs.State.{State, Lane, idle_lane, lane_at, Runs, HasUnfinishedBelow}
+use Rattle.wq_core.specs.State.{State, idle_lane, lane_at, Runs, HasUnfinishedBelow}
 use Rattle.wq_rows.specs.declared.event.Event.{Event}
-use Rattle.wq_rows.specs.declared.event.Event.TheVariants.{Queue, Cancel, Start, Wait, Over, Finish, Ask, Told}
+use Rattle.wq_rows.specs.declared.event.Event.TheVariants.{Queue}
 use Rattle.wq_rows.specs.declared.event.Row.{Row}
 use Rattle.wq_rows.specs.Stored.{max_rows}
 use Rattle.wq_history.specs.declared.fault.BookError.{BookError}
 use Rattle.wq_history.specs.declared.fault.BookError.TheVariants.{HistoryFull, Closed, Undeclared, TooManyWaits, WrongLane, NoItem, TooManyRows, OutOfMemory}
-use Rattle.wq_history.specs.History.{state_after, asks_waiting, MayCome, MayFollow, IsLegal}
+use Rattle.wq_history.specs.History.{state_after, MayCome, IsLegal}
 use Rattle.wq_history.specs.Reserve.{reserved, free_rows, rows_needed}
 
 -- a book: whose machine it is of, the rows so far, how many there is room for, and whether it is closed. Its state is the
@@ -30,7 +30,8 @@ state b = state_after b.wiring b.rows
 abbrev pub free : BookView → ℕ
 free b = free_rows b.wiring b.room b.rows
 
--- what holds of every book: its rows are a legal history, and what is written and what is kept free are within its rows
+-- what holds of every book: its wiring is sound, its rows are a legal history, it has room for as many as a history may have,
+-- and those that are written and those that are kept have room
 pub record IsBook (b : BookView) : Type 0 where
   pub wiring : IsWiring b.wiring
   pub legal : IsLegal b.wiring b.rows
@@ -68,6 +69,17 @@ IsWaiting b q f = (r : Running) × LaneRuns b q r × (r.waiting ≡ Some f)
 
 -- ---- why a call is refused: the first cause that holds
 
+-- making a book of so many rows: they are too many; out of memory, which comes only where there are rows or items
+abbrev pub RefusesNew : Wiring → ℕ → BookError → Type 0
+RefusesNew w rows TooManyRows = max_rows < rows
+RefusesNew w rows OutOfMemory = (rows ≤ max_rows) × ((0 < rows) ⊎ (0 < items w))
+RefusesNew w rows HistoryFull = ⊥
+RefusesNew w rows Closed = ⊥
+RefusesNew w rows Undeclared = ⊥
+RefusesNew w rows TooManyWaits = ⊥
+RefusesNew w rows WrongLane = ⊥
+RefusesNew w rows NoItem = ⊥
+
 -- `queue` of item i: no such item; the book is closed; too few rows are free
 abbrev pub RefusesQueue : BookView → ℕ → BookError → Type 0
 RefusesQueue b i NoItem = items b.wiring ≤ i
@@ -79,10 +91,10 @@ RefusesQueue b i WrongLane = ⊥
 RefusesQueue b i TooManyRows = ⊥
 RefusesQueue b i OutOfMemory = ⊥
 
--- `cancel` and `ask`, whose event of item i this is: no such item; too few rows are free
-abbrev pub RefusesItem : BookView → ℕ → Event → BookError → Type 0
+-- `cancel` and `ask`, whose event this is of item i: no such item; too few rows are free
+abbrev pub RefusesItem : BookView → ℕ → (ℕ → Event) → BookError → Type 0
 RefusesItem b i event NoItem = items b.wiring ≤ i
-RefusesItem b i event HistoryFull = (i < items b.wiring) × LacksRows b event
+RefusesItem b i event HistoryFull = (i < items b.wiring) × LacksRows b (event i)
 RefusesItem b i event Closed = ⊥
 RefusesItem b i event Undeclared = ⊥
 RefusesItem b i event TooManyWaits = ⊥
@@ -113,7 +125,8 @@ IsNotAwake b q = (r : Running) → ¬ IsAwake b q r
 abbrev pub IsNotWaiting : BookView → ℕ → Type 0
 IsNotWaiting b q = (f : Waiting) → ¬ IsWaiting b q f
 
--- `wait` on lane q for item b: the wrong lane; what runs declares no flush of b; it has made as many waits as it declares
+-- `wait` on lane q for a target: the wrong lane; what runs declares no flush of it; it has made as many waits as its item
+-- declares flushes
 abbrev pub RefusesWait : BookView → ℕ → ℕ → BookError → Type 0
 RefusesWait b q target WrongLane = IsNotAwake b q
 RefusesWait b q target Undeclared = (r : Running) × IsAwake b q r × (¬ ItemWaits b.wiring.waits r.entry.item target)
@@ -127,7 +140,7 @@ RefusesWait b q target OutOfMemory = ⊥
 
 -- ---- answers without a row
 
--- lane q has nothing to start: it runs nothing, and nothing is pending
+-- lane q has nothing to start: there is such a lane, it runs nothing, and nothing is pending
 abbrev pub HasNothingToStart : BookView → ℕ → Type 0
 HasNothingToStart b q = (q < b.wiring.lanes) × (lane_at (state b) q ≡ idle_lane)
 

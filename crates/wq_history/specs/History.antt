@@ -35,7 +35,9 @@ SaysUnfinished s i said = IsTrue said ↔ HasUnfinishedOf s i
 -- after these rows an event may come with this `yes` and this number: a queueing is accepted exactly where the item isn't
 -- pending, a cancellation takes an entry off exactly where one is pending; a wait and an ask say whether the item has an
 -- unfinished entry; and a caller is told only where an ask of the item waits, and no entry of it below the number is
--- unfinished
+-- unfinished. All else has yes. The number is that of the step; of an ask it is the next number, and where nothing is
+-- queued or taken off it is 0. Lanes and items of legal histories exist, since their steps are lawful and those whom a
+-- caller is told of were asked for
 abbrev pub MayCome : Wiring → List Row → Event → Bool → ℕ → Type 0
 MayCome w rows (Queue i) said n = let s = state_after w rows in
     (i < items w) × MatchBool said (Makes w s (QueueStep i) n) (HasPending s i × (n ≡ 0))

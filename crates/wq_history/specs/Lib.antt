@@ -6,3 +6,4 @@ pub mod History
 pub mod Reserve
 pub mod Book
 pub mod Counts
+pub mod Answers

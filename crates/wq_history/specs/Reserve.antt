@@ -16,8 +16,8 @@ abbrev pub free_rows : Wiring → ℕ → List Row → ℕ
 free_rows w room rows = room - (length rows + reserved w rows)
 
 -- how many rows an event with this `yes` needs free: an accepted queueing its own and those of the execution, an ask that
--- waits its own and that of its end; a cancellation that takes an entry off writes one of those kept for it, and rescuers
--- and callers who are told write theirs
+-- waits its own and that of its end, and what comes to nothing its own; a cancellation that takes an entry off writes one
+-- of those kept for it, and rescuers and callers who are told write theirs
 abbrev pub rows_needed : Wiring → Event → Bool → ℕ
 rows_needed w (Queue i) true = 1 + whole_work w i
 rows_needed w (Queue i) false = 1

@@ -57,6 +57,6 @@ pub enum Told {
     Done,
     /// An entry that is waited for is unfinished.
     NotYet(Asked),
-    /// No ask of this item waits in this book (65). It is an ask of another book.
+    /// No ask of this item waits in this book (65). That comes only where an ask of another book is, or was, told here.
     NotAsked(Asked),
 }
