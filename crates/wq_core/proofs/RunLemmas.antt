@@ -17,7 +17,7 @@ use Rattle.wq_core.proofs.LaneLemmas.{lane_within, idle_lane-unfinished}
 
 -- ---- one step more
 
-after-more : (w : Wiring) (s : State) (steps : List Step) (step : Step) → after w s (steps ++ (step ∷ [])) ≡ effect w (after w s steps) step
+pub after-more : (w : Wiring) (s : State) (steps : List Step) (step : Step) → after w s (steps ++ (step ∷ [])) ≡ effect w (after w s steps) step
 after-more w s [] step = refl
 after-more w s (first ∷ steps) step = after-more w (effect w s first) steps step
 
@@ -36,7 +36,7 @@ next-effect w s (Wait q b) = omega arith
 next-effect w s (Over q b) = omega arith
 next-effect w s (Finish q i) = omega arith
 
-IsRunFrom-more : (w : Wiring) (s : State) (steps : List Step) (step : Step) → IsRunFrom w s steps → Lawful w (after w s steps) step → IsRunFrom w s (steps ++ (step ∷ []))
+pub IsRunFrom-more : (w : Wiring) (s : State) (steps : List Step) (step : Step) → IsRunFrom w s steps → Lawful w (after w s steps) step → IsRunFrom w s (steps ++ (step ∷ []))
 IsRunFrom-more w s [] step run lawful = (lawful, tt)
 IsRunFrom-more w s (first ∷ steps) step run lawful = (run.0, IsRunFrom-more w (effect w s first) steps step run.1 lawful)
 

@@ -53,6 +53,13 @@ pub record HasPending (s : State) (item : ℕ) : Type 0 where
   pub pending : IsPendingOn (lane_at s lane) entry
   pub of_item : entry.item ≡ item
 
+-- an entry of the item is unfinished, on some lane
+pub record HasUnfinishedOf (s : State) (item : ℕ) : Type 0 where
+  pub lane : ℕ
+  pub entry : Entry
+  pub unfinished : IsUnfinishedOn (lane_at s lane) entry
+  pub of_item : entry.item ≡ item
+
 -- an unfinished entry of the item has a number below the mark
 pub record HasUnfinishedBelow (s : State) (item mark : ℕ) : Type 0 where
   pub lane : ℕ

@@ -1,7 +1,7 @@
 //! A lane: what is queued on it, and what its context runs.
 //!
 //! It changes as "Rules" in the specs of this crate says, in words of one lane alone. `cancel`, `pending_of` and
-//! `has_unfinished_below` take time in the number of pending entries, each other call takes constant time. Only `new`
+//! `unfinished_below` take time in the number of pending entries, each other call takes constant time. Only `new`
 //! takes memory.
 
 ghost use Rattle.std.specs.Prelude.{◌≡◌, ◌<◌, ◌+◌, ◌^◌, ◌==◌, ◌↔◌, length, IfOk, OnErr, IfSome, IsTrue, slice_get};
@@ -104,7 +104,7 @@ impl<A: Allocator> Lane<A> {
     }
 
     /// Whether an unfinished entry of an item, pending or running, has a number below the mark.
-    pub fn has_unfinished_below(&self, item: ItemId, mark: u32) -> bool
+    pub fn unfinished_below(&self, item: ItemId, mark: u32) -> bool
         ensures { IsTrue result ↔ LaneHasUnfinishedBelow self.now.lane item mark }
     {
         self.has_pending_below(item, mark) || self.runs_below(item, mark)

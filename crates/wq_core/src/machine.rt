@@ -9,10 +9,11 @@ ghost use Rattle.std.specs.Prelude.{◌≡◌, ◌<◌, ◌≤◌, length, slice
 ghost use Rattle.std.specs.List.{Any};
 ghost use Rattle.wq_items.specs.declared.target.Target.{Target};
 ghost use Rattle.wq_groups.specs.Declaration.{declaration_of};
+ghost use Rattle.wq_core.specs.declared.step.StepError.{StepError};
 ghost use Rattle.wq_core.specs.declared.step.Step.TheVariants.{Queue, Cancel, Start, Wait, Over, Finish};
 ghost use Rattle.wq_core.specs.Wiring.{items, lane_of, declared_by};
-ghost use Rattle.wq_core.specs.State.{lane_at, IsPendingOn, HasPending, HasUnfinishedBelow, HasUnfinished};
-ghost use Rattle.wq_core.specs.Held.{IsMachine, IsNumberOf, IsDone, IsRefusal, AreDone};
+ghost use Rattle.wq_core.specs.State.{lane_at, IsPendingOn, HasPending, HasUnfinishedBelow, HasUnfinishedOf, HasUnfinished};
+ghost use Rattle.wq_core.specs.Held.{IsMachine, IsNumberOf, IsDone, IsRefusal, AreDone, machine_after};
 ghost use Rattle.wq_core.specs.Building.{first_machine};
 
 use crate::building::{copy_waits, count_items, item_lanes};
@@ -107,8 +108,9 @@ impl<A: Allocator> Core<A> {
         self.lanes.lane(q)
     }
 
-    /// What a lane runs; nothing, where there is no such lane.
-    pub(crate) fn running_on(&self, q: LaneId) -> Option<Running>
+    /// What a lane runs, with the waits that it has made and what it waits for; nothing where the lane runs nothing, or
+    /// where there is no such lane.
+    pub fn running_on(&self, q: LaneId) -> Option<Running>
         ensures running { result ≡ (lane_at self.now.state q).running }
         ensures machine { IsMachine self.now }
     {
@@ -119,8 +121,9 @@ impl<A: Allocator> Core<A> {
         }
     }
 
-    /// The entry that a lane starts next, if there is such a lane.
-    pub(crate) fn first_on(&self, q: LaneId) -> Option<Entry>
+    /// The entry that a lane starts next, the first of its pending ones; none where nothing is pending on it, or where
+    /// there is no such lane.
+    pub fn first_on(&self, q: LaneId) -> Option<Entry>
         ensures first { result ≡ slice_get (lane_at self.now.state q).pending 0 }
         ensures machine { IsMachine self.now }
     {
@@ -131,8 +134,8 @@ impl<A: Allocator> Core<A> {
         }
     }
 
-    /// The lane of an item.
-    fn lane_of(&self, item: ItemId) -> LaneId
+    /// The lane on which an item is queued, runs and is waited for: that of its group.
+    pub fn lane_of(&self, item: ItemId) -> LaneId
         requires { item < items self.now.wiring }
         ensures lane { result ≡ lane_of self.now.wiring item }
         ensures within { result < self.now.wiring.lanes }
@@ -154,20 +157,35 @@ impl<A: Allocator> Core<A> {
         }
     }
 
-    /// Whether an unfinished entry of an item has a number below the mark.
-    pub(crate) fn has_unfinished_below(&self, item: ItemId, mark: u32) -> bool
+    /// Whether an unfinished entry of an item, pending or running, has a number below the mark; none is of an item that
+    /// doesn't exist.
+    pub fn unfinished_below(&self, item: ItemId, mark: u32) -> bool
         ensures { IsTrue result ↔ HasUnfinishedBelow self.now.state item mark }
     {
         if usize::from(item.get()) < self.items() {
-            self.lane(self.lane_of(item))
-                .has_unfinished_below(item, mark)
+            self.lane(self.lane_of(item)).unfinished_below(item, mark)
         } else {
             false
         }
     }
 
-    /// The targets that an item declares.
-    pub(crate) fn targets(&self, item: ItemId) -> &[Target]
+    /// Whether an entry of an item is unfinished, pending or running; none is of an item that doesn't exist.
+    pub fn has_unfinished(&self, item: ItemId) -> bool
+        ensures { IsTrue result ↔ HasUnfinishedOf self.now.state item }
+    {
+        self.unfinished_below(item, self.next)
+    }
+
+    /// The number that the next accepted queueing is given: how many were accepted so far.
+    pub fn next_number(&self) -> u32
+        ensures number { result ≡ self.now.state.next }
+        ensures machine { IsMachine self.now }
+    {
+        self.next
+    }
+
+    /// The targets that an item declares, in order: what its execution waits for, where it flushes as declared.
+    pub fn waits(&self, item: ItemId) -> &[Target]
         requires { item < items self.now.wiring }
         ensures { result.now ≡ declared_by self.now.wiring item }
     {
@@ -211,7 +229,7 @@ impl<A: Allocator> Core<A> {
         ensures { IsNumberOf self.now (Wait q target) result }
     {
         let running = self.running_on(q)?;
-        let targets = self.targets(running.entry.item);
+        let targets = self.waits(running.entry.item);
         if running.waiting.is_none()
             && (running.made as usize) < targets.len()
             && have_target(targets, target)
@@ -228,7 +246,7 @@ impl<A: Allocator> Core<A> {
     {
         let running = self.running_on(q)?;
         let flush = running.waiting?;
-        if flush.target == target && !self.has_unfinished_below(target, flush.mark) {
+        if flush.target == target && !self.unfinished_below(target, flush.mark) {
             Some(flush.mark)
         } else {
             None
@@ -323,6 +341,25 @@ impl<A: Allocator> Core<A> {
         };
         self.lanes.lane_mut(q).finish();
         Ok(number)
+    }
+
+    /// The number that a step would give; none where it wouldn't be made, as it isn't lawful (30) or the numbers are used up
+    /// (31).
+    pub fn peek(&self, step: &Step) -> Option<u32>
+        ensures some { IfSome result (λ n. IsDone self.now step.now n (machine_after self.now step.now)) }
+        ensures none { IfNone result ((e : StepError) × IsRefusal self.now step.now e) }
+    {
+        match *step {
+            Step::Queue(item) => match self.may_queue(item) {
+                Some(u32::MAX) => None,
+                number => number,
+            },
+            Step::Cancel(item) => self.may_cancel(item),
+            Step::Start(q, item) => self.may_start(q, item),
+            Step::Wait(q, target) => self.may_wait(q, target),
+            Step::Over(q, target) => self.may_be_over(q, target),
+            Step::Finish(q, item) => self.may_finish(q, item),
+        }
     }
 
     /// A step is made, and gives the number of the entry that is queued, taken out, started or finished, or the mark of the

@@ -30,7 +30,7 @@ impl<A: Allocator> Core<A> {
         let Some(flush) = running.waiting else {
             return true;
         };
-        !self.has_unfinished_below(flush.target, flush.mark)
+        !self.unfinished_below(flush.target, flush.mark)
     }
 
     /// The lowest lane that can make a step: a start, a wait, the end of a wait or a finish. None only where no lane can.
@@ -55,7 +55,7 @@ impl<A: Allocator> Core<A> {
         requires { item < items self.now.wiring }
         ensures { result ≡ slice_get (declared_by self.now.wiring item) made }
     {
-        self.targets(item).get(made as usize).copied()
+        self.waits(item).get(made as usize).copied()
     }
 
     /// The step of an idle lane: it starts its first pending entry, if it has one.
@@ -84,7 +84,7 @@ impl<A: Allocator> Core<A> {
                 None => Some(Step::Finish(q, item)),
             };
         };
-        if self.has_unfinished_below(flush.target, flush.mark) {
+        if self.unfinished_below(flush.target, flush.mark) {
             None
         } else {
             Some(Step::Over(q, flush.target))

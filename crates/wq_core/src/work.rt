@@ -8,10 +8,12 @@ ghost use Rattle.std.specs.Prelude.{◌≡◌, ◌<◌, ◌≤◌, ◌*◌, sum_
 ghost use Rattle.wq_core.specs.declared.entry.Entry.{Entry};
 ghost use Rattle.wq_core.specs.Wiring.{items};
 ghost use Rattle.wq_core.specs.State.{lane_at};
+ghost use Rattle.wq_core.specs.Rules.{Lawful, effect};
 ghost use Rattle.wq_core.specs.Work.{whole_work, waits_over, running_work, lane_work, work_left};
 
 use crate::entry::Waiting;
 use crate::machine::Core;
+use crate::step::Step;
 use std::alloc::Allocator;
 use wq_groups::LaneId;
 use wq_items::ItemId;
@@ -34,7 +36,7 @@ impl<A: Allocator> Core<A> {
         ensures few { result ≤ 32770 }
     {
         let _items = self.items();
-        2 + 2 * self.targets(item).len() as u64
+        2 + 2 * self.waits(item).len() as u64
     }
 
     /// What is left of the pending entries of a lane.
@@ -75,12 +77,29 @@ impl<A: Allocator> Core<A> {
 
     /// How many starts, waits, ends of waits and finishes can still be made at most, where nothing more is queued.
     pub fn work_left(&self) -> u64
-        ensures { result ≡ work_left self.now.wiring self.now.state }
+        ensures work { result ≡ work_left self.now.wiring self.now.state }
+        ensures few { result ≤ 8192 * 32770 }
     {
         let mut work = 0;
         for q in 0..self.lanes() {
             work += self.lane_work(LaneId::new(q as u16));
         }
         work
+    }
+    /// How many are left after a lawful step, where so many are left before it: a queueing adds all steps of an execution,
+    /// a cancellation takes them off, a start, a wait and the end of a wait take off one, and a finish takes off the waits
+    /// that weren't made as well.
+    pub fn work_after(&self, step: &Step, work: u64) -> u64
+        requires lawful { Lawful self.now.wiring self.now.state step.now }
+        requires work { work ≡ work_left self.now.wiring self.now.state }
+        ensures work { result ≡ work_left self.now.wiring (effect self.now.wiring self.now.state step.now) }
+        ensures few { result ≤ 8192 * 32770 }
+    {
+        match *step {
+            Step::Queue(item) => work + self.whole_work(item),
+            Step::Cancel(item) => work - self.whole_work(item),
+            Step::Start(_, _) | Step::Wait(_, _) | Step::Over(_, _) => work - 1,
+            Step::Finish(q, _) => work - self.running_work(q),
+        }
     }
 }

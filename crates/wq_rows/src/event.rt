@@ -4,6 +4,9 @@
 //! flush from outside a workqueue: a caller asks whether an item has an unfinished entry, and is told once each entry that
 //! it waits for is finished (`flush_work` in kernel/workqueue.c). Nothing is computed here.
 
+ghost use Rattle.std.specs.Prelude.{◌≡◌};
+ghost use Rattle.wq_rows.specs.Packing.{kind_of, item_in, lane_in};
+
 use wq_groups::LaneId;
 use wq_items::ItemId;
 
@@ -39,4 +42,51 @@ pub struct Row {
     /// The number of the entry that was queued, taken off, started or finished; the mark of a wait or an ask. 0 where
     /// nothing was queued or taken off.
     pub number: u32,
+}
+
+impl Event {
+    /// The number of its kind.
+    pub(crate) fn kind(&self) -> u8
+        ensures { result ≡ kind_of self.now }
+    {
+        match self {
+            Event::Queue(_) => 1,
+            Event::Cancel(_) => 2,
+            Event::Start(..) => 3,
+            Event::Wait(..) => 4,
+            Event::Over(..) => 5,
+            Event::Finish(..) => 6,
+            Event::Ask(_) => 7,
+            Event::Told(_) => 8,
+        }
+    }
+
+    /// Its item: of Wait and Over, the one that is waited for.
+    pub fn item(&self) -> ItemId
+        ensures { result ≡ item_in self.now }
+    {
+        match *self {
+            Event::Queue(item) => item,
+            Event::Cancel(item) => item,
+            Event::Start(_, item) => item,
+            Event::Wait(_, target) => target,
+            Event::Over(_, target) => target,
+            Event::Finish(_, item) => item,
+            Event::Ask(item) => item,
+            Event::Told(item) => item,
+        }
+    }
+
+    /// The number of its lane, 0 where it has none.
+    pub(crate) fn lane(&self) -> u16
+        ensures { result ≡ lane_in self.now }
+    {
+        match *self {
+            Event::Start(lane, _)
+            | Event::Wait(lane, _)
+            | Event::Over(lane, _)
+            | Event::Finish(lane, _) => lane.get(),
+            Event::Queue(_) | Event::Cancel(_) | Event::Ask(_) | Event::Told(_) => 0,
+        }
+    }
 }

@@ -6,5 +6,9 @@
 #![tactic(auto)]
 
 mod event;
+mod history;
+mod packing;
 
 pub use event::{Event, Row};
+pub use history::{History, MAX_ROWS};
+pub use packing::{pack, unpack};

@@ -19,5 +19,5 @@ returns-in_default-waiting g c =
 pub returns : goal.returns
 returns g c =
     let m = c.args.self.now in
-    let left = subst (λ (f : Waiting). IsTrue c.has_unfinished_below.result ↔ HasUnfinishedBelow m.state f.target f.mark) c.in-Some-waiting.flush-is c.has_unfinished_below.ensures in
-    CanMove-waiting m.wiring m.state c.args.q c.in-Some.running (sym c.in-Some.ensures.running) c.in-Some-waiting.flush c.in-Some-waiting.is c.has_unfinished_below.result left
+    let left = subst (λ (f : Waiting). IsTrue c.unfinished_below.result ↔ HasUnfinishedBelow m.state f.target f.mark) c.in-Some-waiting.flush-is c.unfinished_below.ensures in
+    CanMove-waiting m.wiring m.state c.args.q c.in-Some.running (sym c.in-Some.ensures.running) c.in-Some-waiting.flush c.in-Some-waiting.is c.unfinished_below.result left

@@ -2,7 +2,7 @@ use Rattle.std.proofs.Common.{◌↔◌, subst, sym, ap, ◌∙◌, Bool}
 use Rattle.std.specs.Prelude.{IsTrue, ◌||◌}
 use Rattle.wq_core.specs.Held.{LaneHasUnfinishedBelow, is_below, runs_below}
 use Rattle.wq_core.proofs.Unfinished.{unfinished_below}
-use Rattle.wq_core.proofs.lane.Lane.has_unfinished_below.Goals as goal
+use Rattle.wq_core.proofs.lane.Lane.unfinished_below.Goals as goal
 
 pub returns-then-has_pending_below : goal.returns-then-has_pending_below
 returns-then-has_pending_below g c =

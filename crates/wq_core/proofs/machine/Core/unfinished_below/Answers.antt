@@ -1,12 +1,12 @@
 use Rattle.std.proofs.Common.{arith}
 use Rattle.wq_core.proofs.Machines.{unfinished_on_own_lane, unfinished-own_lane}
-use Rattle.wq_core.proofs.machine.Core.has_unfinished_below.Goals as goal
+use Rattle.wq_core.proofs.machine.Core.unfinished_below.Goals as goal
 
 pub returns-then-from-items : goal.returns-then-from-items
 returns-then-from-items g c =
     let m = c.args.self.now in
     let own = unfinished_on_own_lane m.wiring m.state c.lane_of.result c.args.item c.args.mark c.lane.result.now.lane c.items.ensures.machine.state c.lane_of.ensures.lane c.lane.ensures in
-    ((λ h. own.0 (c.has_unfinished_below.ensures.0 h)), (λ h. c.has_unfinished_below.ensures.1 (own.1 h)))
+    ((λ h. own.0 (c.unfinished_below.ensures.0 h)), (λ h. c.unfinished_below.ensures.1 (own.1 h)))
 
 pub returns-else-from-items : goal.returns-else-from-items
 returns-else-from-items g c =

@@ -1,0 +1,160 @@
+-- Books: a history with room for so many rows, and what each call answers.
+use Rattle.std.specs.Prelude.{◌≡◌, ℕ, ◌+◌, ◌<◌, ◌≤◌, ◌⊎◌, List, ◌∷◌, [], ◌++◌, length, Some, None, Bool, true, false}
+use Rattle.wq_items.specs.Table.{ItemWaits}
+use Rattle.wq_core.specs.declared.entry.Waiting.{Waiting}
+use Rattle.wq_core.specs.declared.entry.Running.{Running}
+use Rattle.wq_core.specs.Wiring.{Wiring, IsWiring, items, declared_by}
+use Rattle.wq_core.specs.State.{State, idle_lane, lane_at, Runs, HasUnfinishedBelow}
+use Rattle.wq_rows.specs.declared.event.Event.{Event}
+use Rattle.wq_rows.specs.declared.event.Event.TheVariants.{Queue}
+use Rattle.wq_rows.specs.declared.event.Row.{Row}
+use Rattle.wq_rows.specs.Stored.{max_rows}
+use Rattle.wq_history.specs.declared.fault.BookError.{BookError}
+use Rattle.wq_history.specs.declared.fault.BookError.TheVariants.{HistoryFull, Closed, Undeclared, TooManyWaits, WrongLane, NoItem, TooManyRows, OutOfMemory}
+use Rattle.wq_history.specs.History.{state_after, MayCome, IsLegal}
+use Rattle.wq_history.specs.Reserve.{reserved, free_rows, rows_needed}
+
+-- a book: whose machine it is of, the rows so far, how many there is room for, and whether it is closed. Its state is the
+-- replay of the rows
+pub record BookView : Type 0 where
+  pub wiring : Wiring
+  pub rows : List Row
+  pub room : ℕ
+  pub closed : Bool
+
+-- the state of a book
+abbrev pub state : BookView → State
+state b = state_after b.wiring b.rows
+
+-- how many rows are free
+abbrev pub free : BookView → ℕ
+free b = free_rows b.wiring b.room b.rows
+
+-- what holds of every book: its wiring is sound, its rows are a legal history, it has room for as many as a history may have,
+-- and those that are written and those that are kept have room
+pub record IsBook (b : BookView) : Type 0 where
+  pub wiring : IsWiring b.wiring
+  pub legal : IsLegal b.wiring b.rows
+  pub limit : b.room ≤ max_rows
+  pub enough : length b.rows + reserved b.wiring b.rows ≤ b.room
+
+-- exactly one row is appended, which may follow those before it, and as many rows were free as its event needs; nothing
+-- else is changed
+pub record Appends (old new : BookView) (event : Event) (said : Bool) (number : ℕ) : Type 0 where
+  pub may : MayCome old.wiring old.rows event said number
+  pub room : rows_needed old.wiring event said ≤ free old
+  pub is_new : new ≡ record old { rows = old.rows ++ (record { event = event; yes = said; number = number } ∷ []) }
+
+-- a row of this event is appended, with this `yes`
+abbrev pub AppendsOne : BookView → BookView → Event → Bool → Type 0
+AppendsOne old new event said = (n : ℕ) × Appends old new event said n
+
+-- a row of this event may follow, but fewer rows are free than it needs
+abbrev pub LacksRows : BookView → Event → Type 0
+LacksRows b event = (said : Bool) × (n : ℕ) × MayCome b.wiring b.rows event said n × (free b < rows_needed b.wiring event said)
+
+-- ---- lanes of a book
+
+-- lane q runs this
+abbrev pub LaneRuns : BookView → ℕ → Running → Type 0
+LaneRuns b q r = Runs (lane_at (state b) q) r
+
+-- lane q runs an entry that doesn't wait. A lane that doesn't exist runs none
+abbrev pub IsAwake : BookView → ℕ → Running → Type 0
+IsAwake b q r = LaneRuns b q r × (r.waiting ≡ None)
+
+-- lane q runs an entry that waits for this
+abbrev pub IsWaiting : BookView → ℕ → Waiting → Type 0
+IsWaiting b q f = (r : Running) × LaneRuns b q r × (r.waiting ≡ Some f)
+
+-- ---- why a call is refused: the first cause that holds
+
+-- making a book of so many rows: they are too many; out of memory, which comes only where there are rows or items
+abbrev pub RefusesNew : Wiring → ℕ → BookError → Type 0
+RefusesNew w rows TooManyRows = max_rows < rows
+RefusesNew w rows OutOfMemory = (rows ≤ max_rows) × ((0 < rows) ⊎ (0 < items w))
+RefusesNew w rows HistoryFull = ⊥
+RefusesNew w rows Closed = ⊥
+RefusesNew w rows Undeclared = ⊥
+RefusesNew w rows TooManyWaits = ⊥
+RefusesNew w rows WrongLane = ⊥
+RefusesNew w rows NoItem = ⊥
+
+-- `queue` of item i: no such item; the book is closed; too few rows are free
+abbrev pub RefusesQueue : BookView → ℕ → BookError → Type 0
+RefusesQueue b i NoItem = items b.wiring ≤ i
+RefusesQueue b i Closed = (i < items b.wiring) × (b.closed ≡ true)
+RefusesQueue b i HistoryFull = (i < items b.wiring) × (b.closed ≡ false) × LacksRows b (Queue i)
+RefusesQueue b i Undeclared = ⊥
+RefusesQueue b i TooManyWaits = ⊥
+RefusesQueue b i WrongLane = ⊥
+RefusesQueue b i TooManyRows = ⊥
+RefusesQueue b i OutOfMemory = ⊥
+
+-- `cancel` and `ask`, whose event this is of item i: no such item; too few rows are free
+abbrev pub RefusesItem : BookView → ℕ → (ℕ → Event) → BookError → Type 0
+RefusesItem b i event NoItem = items b.wiring ≤ i
+RefusesItem b i event HistoryFull = (i < items b.wiring) × LacksRows b (event i)
+RefusesItem b i event Closed = ⊥
+RefusesItem b i event Undeclared = ⊥
+RefusesItem b i event TooManyWaits = ⊥
+RefusesItem b i event WrongLane = ⊥
+RefusesItem b i event TooManyRows = ⊥
+RefusesItem b i event OutOfMemory = ⊥
+
+-- the call is refused because its lane is the wrong one, where this says so
+abbrev pub RefusesLane : Type 0 → BookError → Type 0
+RefusesLane wrong WrongLane = wrong
+RefusesLane wrong NoItem = ⊥
+RefusesLane wrong HistoryFull = ⊥
+RefusesLane wrong Closed = ⊥
+RefusesLane wrong Undeclared = ⊥
+RefusesLane wrong TooManyWaits = ⊥
+RefusesLane wrong TooManyRows = ⊥
+RefusesLane wrong OutOfMemory = ⊥
+
+-- `start` on lane q is wrong: there is no such lane, or it runs an entry
+abbrev pub IsWrongToStart : BookView → ℕ → Type 0
+IsWrongToStart b q = (b.wiring.lanes ≤ q) ⊎ ((r : Running) × LaneRuns b q r)
+
+-- `wait` and `finish` on lane q are wrong: there is no such lane, it runs none, or its entry waits
+abbrev pub IsNotAwake : BookView → ℕ → Type 0
+IsNotAwake b q = (r : Running) → ¬ IsAwake b q r
+
+-- `over` on lane q is wrong: there is no such lane, it runs none, or its entry doesn't wait
+abbrev pub IsNotWaiting : BookView → ℕ → Type 0
+IsNotWaiting b q = (f : Waiting) → ¬ IsWaiting b q f
+
+-- `wait` on lane q for a target: the wrong lane; what runs declares no flush of it; it has made as many waits as its item
+-- declares flushes
+abbrev pub RefusesWait : BookView → ℕ → ℕ → BookError → Type 0
+RefusesWait b q target WrongLane = IsNotAwake b q
+RefusesWait b q target Undeclared = (r : Running) × IsAwake b q r × (¬ ItemWaits b.wiring.waits r.entry.item target)
+RefusesWait b q target TooManyWaits = (r : Running) × IsAwake b q r × ItemWaits b.wiring.waits r.entry.item target
+    × (length (declared_by b.wiring r.entry.item) ≤ r.made)
+RefusesWait b q target NoItem = ⊥
+RefusesWait b q target HistoryFull = ⊥
+RefusesWait b q target Closed = ⊥
+RefusesWait b q target TooManyRows = ⊥
+RefusesWait b q target OutOfMemory = ⊥
+
+-- ---- answers without a row
+
+-- lane q has nothing to start: there is such a lane, it runs nothing, and nothing is pending
+abbrev pub HasNothingToStart : BookView → ℕ → Type 0
+HasNothingToStart b q = (q < b.wiring.lanes) × (lane_at (state b) q ≡ idle_lane)
+
+-- the wait of lane q isn't over
+abbrev pub WaitGoesOn : BookView → ℕ → Type 0
+WaitGoesOn b q = (f : Waiting) × IsWaiting b q f × HasUnfinishedBelow (state b) f.target f.mark
+
+-- the number of a refusal
+abbrev pub book_code : BookError → ℕ
+book_code OutOfMemory = 20
+book_code HistoryFull = 60
+book_code Closed = 61
+book_code Undeclared = 62
+book_code TooManyWaits = 63
+book_code WrongLane = 64
+book_code NoItem = 66
+book_code TooManyRows = 68

@@ -1,0 +1,59 @@
+-- Histories: lists of rows, and which of them are legal.
+use Rattle.std.specs.Prelude.{◌≡◌, ℕ, ◌-◌, ◌<◌, List, take, slice_get, Some, Bool, true, MatchBool, ◌&&◌, IsTrue, ◌↔◌}
+use Rattle.std.specs.List.{count_by}
+use Rattle.wq_core.specs.declared.step.Step.{Step}
+use Rattle.wq_core.specs.declared.step.Step.TheVariants.{Queue as QueueStep, Cancel as CancelStep, Start as StartStep, Wait as WaitStep, Over as OverStep, Finish as FinishStep}
+use Rattle.wq_core.specs.Wiring.{Wiring, items}
+use Rattle.wq_core.specs.State.{State, HasPending, HasUnfinishedOf, HasUnfinishedBelow}
+use Rattle.wq_core.specs.Rules.{Lawful, Gives}
+use Rattle.wq_core.specs.Runs.{end_of}
+use Rattle.wq_rows.specs.declared.event.Event.{Event}
+use Rattle.wq_rows.specs.declared.event.Event.TheVariants.{Queue, Cancel, Start, Wait, Over, Finish, Ask, Told}
+use Rattle.wq_rows.specs.declared.event.Row.{Row}
+use Rattle.wq_history.specs.Events.{steps_of, begins_to_wait, ends_a_wait, is_ask, is_told}
+
+-- the replay: the state that the steps of rows leave
+abbrev pub state_after : Wiring → List Row → State
+state_after w rows = end_of w (steps_of rows)
+
+-- how many asks of the item are waiting: those that were answered with yes, less those that were told
+abbrev pub asks_waiting : ℕ → List Row → ℕ
+asks_waiting i rows = count_by (begins_to_wait i) rows - count_by (ends_a_wait i) rows
+
+-- how many asks are waiting in all
+abbrev pub all_asks_waiting : List Row → ℕ
+all_asks_waiting rows = count_by (λ (row : Row). is_ask row.event && row.yes) rows - count_by (λ (row : Row). is_told row.event) rows
+
+-- the step is lawful in the state, and gives this number
+abbrev pub Makes : Wiring → State → Step → ℕ → Type 0
+Makes w s step number = Lawful w s step × Gives s step number
+
+-- `said` says whether the item has an unfinished entry
+abbrev pub SaysUnfinished : State → ℕ → Bool → Type 0
+SaysUnfinished s i said = IsTrue said ↔ HasUnfinishedOf s i
+
+-- after these rows an event may come with this `yes` and this number: a queueing is accepted exactly where the item isn't
+-- pending, a cancellation takes an entry off exactly where one is pending; a wait and an ask say whether the item has an
+-- unfinished entry; and a caller is told only where an ask of the item waits, and no entry of it below the number is
+-- unfinished. All else has yes. The number is that of the step; of an ask it is the next number, and where nothing is
+-- queued or taken off it is 0. Lanes and items of legal histories exist, since their steps are lawful and those whom a
+-- caller is told of were asked for
+abbrev pub MayCome : Wiring → List Row → Event → Bool → ℕ → Type 0
+MayCome w rows (Queue i) said n = let s = state_after w rows in
+    (i < items w) × MatchBool said (Makes w s (QueueStep i) n) (HasPending s i × (n ≡ 0))
+MayCome w rows (Cancel i) said n = let s = state_after w rows in
+    (i < items w) × MatchBool said (Makes w s (CancelStep i) n) ((¬ HasPending s i) × (n ≡ 0))
+MayCome w rows (Start q i) said n = (said ≡ true) × Makes w (state_after w rows) (StartStep q i) n
+MayCome w rows (Wait q b) said n = let s = state_after w rows in SaysUnfinished s b said × Makes w s (WaitStep q b) n
+MayCome w rows (Over q b) said n = (said ≡ true) × Makes w (state_after w rows) (OverStep q b) n
+MayCome w rows (Finish q i) said n = (said ≡ true) × Makes w (state_after w rows) (FinishStep q i) n
+MayCome w rows (Ask i) said n = let s = state_after w rows in (i < items w) × SaysUnfinished s i said × (n ≡ s.next)
+MayCome w rows (Told i) said n = (said ≡ true) × (0 < asks_waiting i rows) × (¬ HasUnfinishedBelow (state_after w rows) i n)
+
+-- a row may follow these rows
+abbrev pub MayFollow : Wiring → List Row → Row → Type 0
+MayFollow w rows row = MayCome w rows row.event row.yes row.number
+
+-- a history is legal: each row may follow the rows before it
+abbrev pub IsLegal : Wiring → List Row → Type 0
+IsLegal w rows = (n : ℕ) (row : Row) → slice_get rows n ≡ Some row → MayFollow w (take n rows) row

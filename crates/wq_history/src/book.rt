@@ -1,0 +1,448 @@
+//! The book: events are answered here, each by one row or none.
+//!
+//! A book holds a machine and the history of all that happened to it. Its rules are those of "Histories" in the specs of
+//! this crate; the rows that it keeps free are those of "Reserve". An event takes the time of the step that it makes and
+//! nothing that grows with the number of rows, of lanes or of asks. Only `new` takes memory: 12 bytes for each row and a
+//! count for each item.
+
+ghost use Rattle.std.specs.Prelude.{◌≡◌, ℕ, ◌<◌, ◌≤◌, ◌×◌, ◌↔◌, [], length, Some, None, true, false, IfOk, IfErr, IfSome, IfNone, IsTrue};
+ghost use Rattle.std.specs.List.{Any};
+ghost use Rattle.wq_items.specs.declared.target.Target.{Target as TargetOf};
+ghost use Rattle.wq_core.specs.declared.entry.Running.{Running};
+ghost use Rattle.wq_core.specs.declared.entry.Waiting.{Waiting};
+ghost use Rattle.wq_core.specs.Wiring.{IsWiring, items, lane_of, declared_by};
+ghost use Rattle.wq_core.specs.State.{empty_state, lane_at, HasPending, HasUnfinished};
+ghost use Rattle.wq_core.specs.Rules.{Lawful, Gives};
+ghost use Rattle.wq_rows.specs.declared.event.Event.TheVariants.{Queue, Cancel, Start, Wait, Over, Finish, Ask as AskEvent, Told as ToldEvent};
+ghost use Rattle.wq_rows.specs.Packing.{packed_rows};
+ghost use Rattle.wq_rows.specs.Stored.{max_rows};
+ghost use Rattle.wq_history.specs.Events.{step_of};
+ghost use Rattle.wq_history.specs.History.{MayCome};
+ghost use Rattle.wq_history.specs.Reserve.{rows_needed};
+ghost use Rattle.wq_history.specs.declared.fault.BookError.TheVariants.{HistoryFull};
+ghost use Rattle.wq_history.specs.Book.{BookView, state, free, IsBook, Appends, AppendsOne, LaneRuns, IsAwake, IsWaiting, IsNotWaiting, IsNotAwake, IsWrongToStart, RefusesNew, RefusesQueue, RefusesItem, RefusesLane, RefusesWait, WaitGoesOn};
+ghost use Rattle.wq_history.specs.Answers.{AnswersAsk, AnswersTold, AnswersStart, AnswersOver};
+
+use crate::ask_counts::AskCounts;
+use crate::asking::{Ask, Asked, Told};
+use crate::fault::BookError;
+use std::alloc::Allocator;
+use std::marker::Model;
+use wq_core::{Core, Running, Step, Waiting};
+use wq_groups::LaneId;
+use wq_items::{ItemId, Target};
+use wq_rows::{Event, History, MAX_ROWS, Row, Rows};
+
+/// The book. Contracts see whose machine it is of, its rows, how many there is room for, and whether it is closed; its
+/// state is the replay of its rows.
+#[derive(Drop)]
+pub struct Book<A: Allocator> {
+    core: Core<A>,
+    history: History<A>,
+    asks: AskCounts<A>,
+    work: u64,
+    closed: bool,
+}
+
+impl<A: Allocator> Model for Book<A> {
+    ghost use Rattle.wq_history.specs.Book.{BookView};
+    ghost use Rattle.wq_history.specs.Counts.{HoldsBook};
+
+    ghost Value = { BookView };
+
+    ghost view = { λ b. record { wiring = b.core.wiring; rows = b.history.rows; room = b.history.room; closed = b.closed } };
+
+    ghost invariant = { λ b. HoldsBook b.core b.history.rows b.history.room b.asks b.work };
+}
+
+/// Whether some target is of this item.
+fn have_target(targets: &[Target], item: ItemId) -> bool
+    ensures { IsTrue result ↔ Any (λ (t : TargetOf). t.item ≡ item) targets.now }
+{
+    targets.iter().any(|t| t.item == item)
+}
+
+impl<A: Allocator + Copy> Book<A> {
+    /// The book of a machine on which nothing has happened, with room for this many rows.
+    ///
+    /// The error is `TooManyRows` (68) exactly where there are more than 16,777,216 rows; else out of memory (20), never
+    /// where there are no rows and no items.
+    pub fn new(alloc: A, core: Core<A>, rows: u32) -> Result<Self, BookError>
+        requires { core.state ≡ empty_state core.wiring }
+        ensures book { IfOk result (λ b. b ≡ record { wiring = core.wiring; rows = []; room = rows; closed = false }) }
+        ensures limit { IfOk result (λ b. rows ≤ max_rows) }
+        ensures refused { IfErr result (λ e. RefusesNew core.wiring rows e) }
+    {
+        if rows > MAX_ROWS {
+            return Err(BookError::TooManyRows);
+        }
+        let asks = AskCounts::new(alloc, core.items())?;
+        let history = History::new(alloc, rows)?;
+        Ok(Book {
+            core,
+            history,
+            asks,
+            work: 0,
+            closed: false,
+        })
+    }
+}
+
+impl<A: Allocator> Book<A> {
+    /// What holds of every book: its rows are a legal history, and rows are kept free for what is to come.
+    pub fn legal(&self)
+        ensures { IsBook self.now }
+    {}
+
+    /// Makes a step, and appends the row of its event. Gives the number of the row.
+    fn make(&mut self, step: &Step, event: Event, yes: bool) -> u32
+        requires lawful { Lawful self.old.wiring (state self.old) step.now }
+        requires event { step_of event yes ≡ Some step.now }
+        requires may { (n : ℕ) → Gives (state self.old) step.now n → MayCome self.old.wiring self.old.rows event yes n }
+        requires room { rows_needed self.old.wiring event yes ≤ free self.old }
+        ensures { Appends self.old self.new event yes result }
+    {
+        let work = self.core.work_after(step, self.work);
+        let Ok(number) = self.core.step(*step) else {
+            unreachable!()
+        };
+        self.work = work;
+        self.history.push(&Row { event, yes, number });
+        number
+    }
+
+    /// Appends the row of an event that comes to nothing: it makes no step, and no caller waits.
+    fn note(&mut self, event: Event, number: u32)
+        requires event { step_of event false ≡ None }
+        requires may { MayCome self.old.wiring self.old.rows event false number }
+        requires room { rows_needed self.old.wiring event false ≤ free self.old }
+        ensures { Appends self.old self.new event false number }
+    {
+        self.history.push(&Row {
+            event,
+            yes: false,
+            number,
+        });
+    }
+
+    /// Appends the row of an ask of an item that has an unfinished entry.
+    fn begin_to_wait(&mut self, item: ItemId, mark: u32)
+        requires may { MayCome self.old.wiring self.old.rows (AskEvent item) true mark }
+        requires room { 2 ≤ free self.old }
+        ensures { Appends self.old self.new (AskEvent item) true mark }
+    {
+        self.asks.add(item);
+        self.history.push(&Row {
+            event: Event::Ask(item),
+            yes: true,
+            number: mark,
+        });
+    }
+
+    /// Appends the row of a caller who waited for an item, and is told that its wait is over.
+    fn end_a_wait(&mut self, item: ItemId, mark: u32)
+        requires { MayCome self.old.wiring self.old.rows (ToldEvent item) true mark }
+        ensures { Appends self.old self.new (ToldEvent item) true mark }
+    {
+        self.asks.take_off(item);
+        self.history.push(&Row {
+            event: Event::Told(item),
+            yes: true,
+            number: mark,
+        });
+    }
+
+    /// Refuses what needs more rows than are free.
+    fn demand(&self, rows: u64) -> Result<(), BookError>
+        ensures free { IfOk result (λ _. rows ≤ free self.now) }
+        ensures full { IfErr result (λ e. (e ≡ HistoryFull) × (free self.now < rows)) }
+    {
+        if u64::from(self.free_rows()) < rows {
+            return Err(BookError::HistoryFull);
+        }
+        Ok(())
+    }
+
+    /// Whether there is such an item.
+    fn is_item(&self, item: ItemId) -> bool
+        ensures { IsTrue result ↔ (item < items self.now.wiring) }
+    {
+        usize::from(item.get()) < self.core.items()
+    }
+
+    /// What a lane runs; nothing, where there is no such lane.
+    fn running_on(&self, q: LaneId) -> Option<Running>
+        ensures { result ≡ (lane_at (state self.now) q).running }
+    {
+        self.core.running_on(q)
+    }
+
+    /// What a lane runs, where it doesn't wait.
+    fn awake_on(&self, q: LaneId) -> Option<Running>
+        ensures some { IfSome result (λ r. IsAwake self.now q r) }
+        ensures none { IfNone result (IsNotAwake self.now q) }
+    {
+        let running = self.running_on(q)?;
+        if running.waiting.is_some() {
+            return None;
+        }
+        Some(running)
+    }
+
+    /// What the entry waits for that a lane runs.
+    fn wait_on(&self, q: LaneId) -> Option<Waiting>
+        ensures some { IfSome result (λ f. IsWaiting self.now q f) }
+        ensures none { IfNone result (IsNotWaiting self.now q) }
+    {
+        let running = self.running_on(q)?;
+        running.waiting
+    }
+
+    /// How many rows are free: neither written nor kept for steps and callers that are to come.
+    pub fn free_rows(&self) -> u32
+        ensures { result ≡ free self.now }
+    {
+        let kept = self.work + u64::from(self.asks.all());
+        self.history.room() - self.history.len() - kept as u32
+    }
+
+    /// Queues an item: true where it is accepted, false where it is pending already.
+    ///
+    /// The error is the first of these that holds: `NoItem` (66), `Closed` (61), `HistoryFull` (60). Then nothing is
+    /// changed.
+    pub fn queue(&mut self, item: ItemId) -> Result<bool, BookError>
+        ensures row { IfOk result (λ accepted. AppendsOne self.old self.new (Queue item) accepted) }
+        ensures open { IfOk result (λ _. self.old.closed ≡ false) }
+        ensures refused { IfErr result (λ e. RefusesQueue self.old item e × (self.new ≡ self.old)) }
+    {
+        if !self.is_item(item) {
+            return Err(BookError::NoItem);
+        }
+        if self.closed {
+            return Err(BookError::Closed);
+        }
+        if self.core.is_pending(item) {
+            self.demand(1)?;
+            self.note(Event::Queue(item), 0);
+            return Ok(false);
+        }
+        self.demand(3 + 2 * self.core.waits(item).len() as u64)?;
+        self.make(&Step::Queue(item), Event::Queue(item), true);
+        Ok(true)
+    }
+
+    /// Takes the pending entry of an item off: true where there is one.
+    ///
+    /// The error is `NoItem` (66), or else `HistoryFull` (60), which comes only where none is pending. Then nothing is
+    /// changed.
+    pub fn cancel(&mut self, item: ItemId) -> Result<bool, BookError>
+        ensures row { IfOk result (λ taken. AppendsOne self.old self.new (Cancel item) taken) }
+        ensures refused { IfErr result (λ e. RefusesItem self.old item Cancel e × (self.new ≡ self.old)) }
+    {
+        if !self.is_item(item) {
+            return Err(BookError::NoItem);
+        }
+        if self.core.is_pending(item) {
+            self.make(&Step::Cancel(item), Event::Cancel(item), true);
+            return Ok(true);
+        }
+        self.demand(1)?;
+        self.note(Event::Cancel(item), 0);
+        Ok(false)
+    }
+
+    /// Asks whether an item has an unfinished entry, to wait for it where it has.
+    ///
+    /// The error is `NoItem` (66), or else `HistoryFull` (60). Then nothing is changed.
+    pub fn ask(&mut self, item: ItemId) -> Result<Ask, BookError>
+        ensures row { IfOk result (λ answer. AnswersAsk self.old self.new item answer) }
+        ensures refused { IfErr result (λ e. RefusesItem self.old item AskEvent e × (self.new ≡ self.old)) }
+    {
+        if !self.is_item(item) {
+            return Err(BookError::NoItem);
+        }
+        let mark = self.core.next_number();
+        if self.core.has_unfinished(item) {
+            self.demand(2)?;
+            self.begin_to_wait(item, mark);
+            return Ok(Ask::Waiting(Asked::new(item, mark)));
+        }
+        self.demand(1)?;
+        self.note(Event::Ask(item), mark);
+        Ok(Ask::Idle)
+    }
+
+    /// Tells a caller who waits whether its wait is over: `NotAsked` (65) exactly where no ask of its item waits, else
+    /// `NotYet` exactly where an unfinished entry of the item has a number below the mark. Then nothing is changed, and
+    /// the ask is given back.
+    pub fn told(&mut self, asked: Asked) -> Told
+        ensures { AnswersTold self.old self.new asked result }
+    {
+        let item = asked.item();
+        let mark = asked.mark();
+        if self.asks.of(item) == 0 {
+            return Told::NotAsked(asked);
+        }
+        if self.core.unfinished_below(item, mark) {
+            return Told::NotYet(asked);
+        }
+        asked.give_up();
+        self.end_a_wait(item, mark);
+        Told::Done
+    }
+
+    /// A lane starts its first pending entry: its item, or nothing where none is pending; then nothing is changed.
+    ///
+    /// The error is `WrongLane` (64), exactly where there is no such lane or it runs an entry. Then nothing is changed.
+    pub fn start(&mut self, q: LaneId) -> Result<Option<ItemId>, BookError>
+        ensures row { IfOk result (λ answer. AnswersStart self.old self.new q answer) }
+        ensures refused { IfErr result (λ e. RefusesLane (IsWrongToStart self.old q) e × (self.new ≡ self.old)) }
+    {
+        if usize::from(q.get()) >= self.core.lanes() || self.running_on(q).is_some() {
+            return Err(BookError::WrongLane);
+        }
+        let Some(first) = self.core.first_on(q) else {
+            return Ok(None);
+        };
+        let item = first.item;
+        self.make(&Step::Start(q, item), Event::Start(q, item), true);
+        Ok(Some(item))
+    }
+
+    /// What a lane runs begins to wait for an item: whether that has an unfinished entry.
+    ///
+    /// The error is the first of these that holds: `WrongLane` (64), where there is no such lane, it runs nothing, or its
+    /// entry waits; `Undeclared` (62); `TooManyWaits` (63). Then nothing is changed.
+    pub fn wait(&mut self, q: LaneId, target: ItemId) -> Result<bool, BookError>
+        ensures row { IfOk result (λ unfinished. AppendsOne self.old self.new (Wait q target) unfinished) }
+        ensures refused { IfErr result (λ e. RefusesWait self.old q target e × (self.new ≡ self.old)) }
+    {
+        let Some(running) = self.awake_on(q) else {
+            return Err(BookError::WrongLane);
+        };
+        let targets = self.core.waits(running.entry.item);
+        if !have_target(targets, target) {
+            return Err(BookError::Undeclared);
+        }
+        if running.made as usize >= targets.len() {
+            return Err(BookError::TooManyWaits);
+        }
+        let unfinished = self.core.has_unfinished(target);
+        self.make(&Step::Wait(q, target), Event::Wait(q, target), unfinished);
+        Ok(unfinished)
+    }
+
+    /// What a lane runs goes on, where its wait is over; false where it isn't, and then nothing is changed.
+    ///
+    /// The error is `WrongLane` (64), exactly where there is no such lane, it runs nothing, or its entry doesn't wait.
+    /// Then nothing is changed.
+    pub fn over(&mut self, q: LaneId) -> Result<bool, BookError>
+        ensures row { IfOk result (λ answer. AnswersOver self.old self.new q answer) }
+        ensures refused { IfErr result (λ e. RefusesLane (IsNotWaiting self.old q) e × (self.new ≡ self.old)) }
+    {
+        let Some(flush) = self.wait_on(q) else {
+            return Err(BookError::WrongLane);
+        };
+        let target = flush.target;
+        if self.core.unfinished_below(target, flush.mark) {
+            return Ok(false);
+        }
+        self.make(&Step::Over(q, target), Event::Over(q, target), true);
+        Ok(true)
+    }
+
+    /// A lane finishes what it runs.
+    ///
+    /// The error is `WrongLane` (64), exactly where there is no such lane, it runs nothing, or its entry waits. Then
+    /// nothing is changed.
+    pub fn finish(&mut self, q: LaneId) -> Result<(), BookError>
+        ensures row { IfOk result (λ _. (item : ℕ) × AppendsOne self.old self.new (Finish q item) true) }
+        ensures refused { IfErr result (λ e. RefusesLane (IsNotAwake self.old q) e × (self.new ≡ self.old)) }
+    {
+        let Some(running) = self.awake_on(q) else {
+            return Err(BookError::WrongLane);
+        };
+        let item = running.entry.item;
+        self.make(&Step::Finish(q, item), Event::Finish(q, item), true);
+        Ok(())
+    }
+
+    /// Nothing is queued from now on. It writes no row, and closing twice is as closing once.
+    pub fn close(&mut self)
+        ensures { self.new ≡ record self.old { closed = true } }
+    {
+        self.closed = true;
+    }
+
+    /// Whether the book is closed.
+    pub fn is_closed(&self) -> bool
+        ensures { result ≡ self.now.closed }
+    {
+        self.closed
+    }
+
+    /// Whether no entry is unfinished.
+    pub fn is_idle(&self) -> bool
+        ensures { IsTrue result ↔ (¬ HasUnfinished (state self.now)) }
+    {
+        self.core.is_idle()
+    }
+
+    /// Whether an entry of an item is pending; none is of an item that doesn't exist.
+    pub fn is_pending(&self, item: ItemId) -> bool
+        ensures { IsTrue result ↔ HasPending (state self.now) item }
+    {
+        self.core.is_pending(item)
+    }
+
+    /// The item that a lane runs; nothing where it runs none, or there is no such lane.
+    pub fn running(&self, q: LaneId) -> Option<ItemId>
+        ensures some { IfSome result (λ item. (r : Running) × LaneRuns self.now q r × (r.entry.item ≡ item)) }
+        ensures none { IfNone result ((r : Running) → ¬ LaneRuns self.now q r) }
+    {
+        let running = self.running_on(q)?;
+        Some(running.entry.item)
+    }
+
+    /// The item that a lane waits for; nothing where it doesn't wait, runs none, or there is no such lane.
+    pub fn waiting(&self, q: LaneId) -> Option<ItemId>
+        ensures some { IfSome result (λ target. (f : Waiting) × IsWaiting self.now q f × (f.target ≡ target)) }
+        ensures none { IfNone result (IsNotWaiting self.now q) }
+    {
+        let flush = self.wait_on(q)?;
+        Some(flush.target)
+    }
+
+    /// The lane of an item, where there is such an item.
+    pub fn lane_of(&self, item: ItemId) -> Option<LaneId>
+        ensures some { IfSome result (λ q. (item < items self.now.wiring) × (q ≡ lane_of self.now.wiring item)) }
+        ensures none { IfNone result (items self.now.wiring ≤ item) }
+    {
+        if self.is_item(item) {
+            Some(self.core.lane_of(item))
+        } else {
+            None
+        }
+    }
+
+    /// How many items there are, at most 4,096.
+    pub fn items(&self) -> usize
+        ensures { result ≡ items self.now.wiring }
+    {
+        self.core.items()
+    }
+
+    /// How many lanes there are, at most 4,096.
+    pub fn lanes(&self) -> usize
+        ensures { result ≡ self.now.wiring.lanes }
+    {
+        self.core.lanes()
+    }
+
+    /// The bytes of the rows, 12 for each.
+    pub fn packed(&self) -> &[u8]
+        ensures { result.now ≡ packed_rows self.now.rows }
+    {
+        self.history.packed()
+    }
+}

@@ -1,0 +1,2 @@
+mod PackingLemmas
+mod StoredLemmas

@@ -1,0 +1,85 @@
+-- Packing: the 12 bytes that hold a row.
+--
+-- Byte 0 is the kind of the event; byte 1 is 1 where the answer is yes, else 0; bytes 2 and 3 are the item; bytes 4 and 5
+-- are the lane, 0 where the event has none; bytes 6 and 7 are 0; bytes 8 to 11 are the number. The least byte of a number
+-- stands first.
+use Rattle.std.specs.Prelude.{◌≡◌, ℕ, ◌<◌, ◌^◌, Bool, true, false, IsTrue, List, [], ◌∷◌, ◌++◌}
+use Rattle.std.specs.Int.{w16, w32, to_le_bytes}
+use Rattle.std.specs.List.{flat_map}
+use Rattle.wq_rows.specs.declared.event.Event.{Event}
+use Rattle.wq_rows.specs.declared.event.Event.TheVariants.{Queue, Cancel, Start, Wait, Over, Finish, Ask, Told}
+use Rattle.wq_rows.specs.declared.event.Row.{Row}
+
+-- the number of the kind of an event
+abbrev pub kind_of : Event → ℕ
+kind_of (Queue item) = 1
+kind_of (Cancel item) = 2
+kind_of (Start lane item) = 3
+kind_of (Wait lane target) = 4
+kind_of (Over lane target) = 5
+kind_of (Finish lane item) = 6
+kind_of (Ask item) = 7
+kind_of (Told item) = 8
+
+-- the item of an event: of Wait and Over, the one that is waited for
+abbrev pub item_in : Event → ℕ
+item_in (Queue item) = item
+item_in (Cancel item) = item
+item_in (Start lane item) = item
+item_in (Wait lane target) = target
+item_in (Over lane target) = target
+item_in (Finish lane item) = item
+item_in (Ask item) = item
+item_in (Told item) = item
+
+-- the lane of an event, 0 where it has none
+abbrev pub lane_in : Event → ℕ
+lane_in (Queue item) = 0
+lane_in (Cancel item) = 0
+lane_in (Start lane item) = lane
+lane_in (Wait lane target) = lane
+lane_in (Over lane target) = lane
+lane_in (Finish lane item) = lane
+lane_in (Ask item) = 0
+lane_in (Told item) = 0
+
+-- 1 where the answer is yes, else 0
+abbrev pub answer_byte : Bool → ℕ
+answer_byte true = 1
+answer_byte false = 0
+
+-- the 12 bytes that hold a row
+abbrev pub packed : Row → List ℕ
+packed row =
+    kind_of row.event ∷ answer_byte row.yes ∷ (to_le_bytes w16 (item_in row.event) ++ (to_le_bytes w16 (lane_in row.event) ++ (0 ∷ 0 ∷ to_le_bytes w32 row.number)))
+
+-- the bytes that hold some rows, one after the other
+abbrev pub packed_rows : List Row → List ℕ
+packed_rows rows = flat_map packed rows
+
+-- an event may have this answer: those that can't come to nothing have yes
+abbrev pub MayAnswer : Event → Bool → Type 0
+MayAnswer (Queue item) said = Unit {0}
+MayAnswer (Cancel item) said = Unit {0}
+MayAnswer (Start lane item) said = IsTrue said
+MayAnswer (Wait lane target) said = Unit {0}
+MayAnswer (Over lane target) said = IsTrue said
+MayAnswer (Finish lane item) said = IsTrue said
+MayAnswer (Ask item) said = Unit {0}
+MayAnswer (Told item) said = IsTrue said
+
+-- a row that may be packed: its event may have its answer
+abbrev pub IsPackable : Row → Type 0
+IsPackable row = MayAnswer row.event row.yes
+
+-- the numbers of a row fit the bytes that hold them
+pub record IsRowInRange (row : Row) : Type 0 where
+  pub item : item_in row.event < 2 ^ 16
+  pub lane : lane_in row.event < 2 ^ 16
+  pub number : row.number < 2 ^ 32
+
+-- these bytes hold this row
+pub record IsPackedRow (bytes : List ℕ) (row : Row) : Type 0 where
+  pub packable : IsPackable row
+  pub in_range : IsRowInRange row
+  pub holds : packed row ≡ bytes

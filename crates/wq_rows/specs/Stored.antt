@@ -1,0 +1,63 @@
+-- Stored: the bytes of a history, and the rows that they hold.
+use Rattle.std.specs.Prelude.{◌≡◌, ℕ, ◌*◌, ◌≤◌, Bool, ◌==◌, if◌then◌else◌, List, [], ◌∷◌, ◌++◌, length, Option, Some, None, option_map}
+use Rattle.std.specs.Int.{w16, w32, from_le_bytes}
+use Rattle.std.specs.List.{All}
+use Rattle.std.specs.Option.{option_to_list}
+use Rattle.wq_rows.specs.declared.event.Event.{Event}
+use Rattle.wq_rows.specs.declared.event.Event.TheVariants.{Queue, Cancel, Start, Wait, Over, Finish, Ask, Told}
+use Rattle.wq_rows.specs.declared.event.Row.{Row}
+use Rattle.wq_rows.specs.Packing.{packed_rows, IsPackable, IsRowInRange}
+
+-- how many rows a history may have
+abbrev pub max_rows : ℕ
+max_rows = 16777216
+
+-- the event of this kind, item and lane; none where no event is of this kind
+abbrev pub event_of : ℕ → ℕ → ℕ → Option Event
+event_of kind item lane =
+    if kind == 1 then Some (Queue item)
+    else if kind == 2 then Some (Cancel item)
+    else if kind == 3 then Some (Start lane item)
+    else if kind == 4 then Some (Wait lane item)
+    else if kind == 5 then Some (Over lane item)
+    else if kind == 6 then Some (Finish lane item)
+    else if kind == 7 then Some (Ask item)
+    else if kind == 8 then Some (Told item)
+    else None
+
+-- the rows that some bytes hold, 12 bytes each. It is meant of bytes that hold rows; of others it reads what it can:
+-- 12 bytes that begin with no kind are no row, nor are fewer than 12 bytes at the end
+abbrev pub rows_of : List ℕ → List Row
+rows_of (kind ∷ answer ∷ item0 ∷ item1 ∷ lane0 ∷ lane1 ∷ zero0 ∷ zero1 ∷ number0 ∷ number1 ∷ number2 ∷ number3 ∷ rest) =
+    option_to_list (option_map
+    (λ event. record { event = event; yes = answer == 1; number = from_le_bytes w32 (number0 ∷ number1 ∷ number2 ∷ number3 ∷ []) })
+    (event_of kind (from_le_bytes w16 (item0 ∷ item1 ∷ [])) (from_le_bytes w16 (lane0 ∷ lane1 ∷ []))))
+    ++ rows_of rest
+rows_of _ = []
+
+-- these bytes hold these rows
+pub record IsStored (bytes : List ℕ) (rows : List Row) : Type 0 where
+  pub packable : All IsPackable rows
+  pub in_range : All IsRowInRange rows
+  pub holds : packed_rows rows ≡ bytes
+
+-- what holds of the bytes of a history, with the number of bytes that there is memory for and of rows that there is room for:
+-- the bytes hold rows, and there is memory for as many rows as there is room for, and at most so many rows
+pub record IsRoomy (bytes : List ℕ) (capacity room : ℕ) : Type 0 where
+  pub stored : IsStored bytes (rows_of bytes)
+  pub within : length bytes ≤ 12 * room
+  pub memory : 12 * room ≤ capacity
+  pub few : room ≤ max_rows
+
+-- a history: its rows, and how many rows there is room for
+pub record HistoryView : Type 0 where
+  pub rows : List Row
+  pub room : ℕ
+
+-- what holds of every history: each row can be packed, there are no more rows than there is room for, and no more room
+-- than a history may have
+pub record IsHistory (history : HistoryView) : Type 0 where
+  pub packable : All IsPackable history.rows
+  pub in_range : All IsRowInRange history.rows
+  pub within : length history.rows ≤ history.room
+  pub few : history.room ≤ max_rows

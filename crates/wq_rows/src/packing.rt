@@ -1,0 +1,101 @@
+//! Packing: a row as 12 bytes, and back.
+//!
+//! | Bytes | What they hold |
+//! |---|---|
+//! | 0 | the kind: 1 Queue, 2 Cancel, 3 Start, 4 Wait, 5 Over, 6 Finish, 7 Ask, 8 Told |
+//! | 1 | 1 where the answer is yes, else 0; Start, Over, Finish and Told always have yes |
+//! | 2, 3 | the item, or the target of Wait and Over |
+//! | 4, 5 | the lane; 0 for Queue, Cancel, Ask and Told |
+//! | 6, 7 | 0 |
+//! | 8 to 11 | the number of the row |
+//!
+//! The least byte of a number stands first. A wait on lane 1 for item 1 that was answered by no, with the mark 1, is
+//! 040001000100000001000000 in hexadecimal digits. Each row is held by one run of 12 bytes, and each run of bytes holds
+//! one row at most. Both calls take constant time.
+
+ghost use Rattle.std.specs.Prelude.{◌≡◌, ◌<◌, ◌^◌, ℕ, IfSome, IfNone, Some, None, Bool};
+ghost use Rattle.wq_rows.specs.declared.event.Event.{Event as EventValue};
+ghost use Rattle.wq_rows.specs.declared.event.Row.{Row as RowValue};
+ghost use Rattle.wq_rows.specs.Packing.{kind_of, item_in, lane_in, answer_byte, packed, MayAnswer, IsPackable, IsRowInRange, IsPackedRow};
+
+use crate::event::{Event, Row};
+use wq_groups::LaneId;
+use wq_items::ItemId;
+
+/// How many bytes hold a row.
+pub(crate) const ROW_LEN: usize = 12;
+
+/// The 12 bytes that hold a row.
+pub fn pack(row: &Row) -> [u8; ROW_LEN]
+    requires packable { IsPackable row.now }
+    ensures bytes { result ≡ packed row.now }
+    ensures in_range { IsRowInRange row.now }
+{
+    let item = row.event.item().get().to_le_bytes();
+    let lane = row.event.lane().to_le_bytes();
+    let number = row.number.to_le_bytes();
+    [
+        row.event.kind(),
+        u8::from(row.yes),
+        item[0],
+        item[1],
+        lane[0],
+        lane[1],
+        0,
+        0,
+        number[0],
+        number[1],
+        number[2],
+        number[3],
+    ]
+}
+
+/// What a byte says was the answer.
+fn answer_of(byte: u8) -> Option<bool>
+    ensures some { IfSome result (λ said. answer_byte said ≡ byte) }
+    ensures none { IfNone result ((said : Bool) → ¬ (answer_byte said ≡ byte)) }
+{
+    match byte {
+        0 => Some(false),
+        1 => Some(true),
+        _ => None,
+    }
+}
+
+/// The event of a kind, an item and the number of a lane, where it may have this answer.
+fn event_of(kind: u8, item: ItemId, lane: u16, yes: bool) -> Option<Event>
+    ensures kind { IfSome result (λ event. kind_of event ≡ kind) }
+    ensures item { IfSome result (λ event. item_in event ≡ item) }
+    ensures lane { IfSome result (λ event. lane_in event ≡ lane) }
+    ensures answer { IfSome result (λ event. MayAnswer event yes) }
+    ensures none { IfNone result ((event : EventValue) → kind_of event ≡ kind → lane_in event ≡ lane → ¬ MayAnswer event yes) }
+{
+    let on = LaneId::new(lane);
+    match kind {
+        1 if lane == 0 => Some(Event::Queue(item)),
+        2 if lane == 0 => Some(Event::Cancel(item)),
+        3 if yes => Some(Event::Start(on, item)),
+        4 => Some(Event::Wait(on, item)),
+        5 if yes => Some(Event::Over(on, item)),
+        6 if yes => Some(Event::Finish(on, item)),
+        7 if lane == 0 => Some(Event::Ask(item)),
+        8 if lane == 0 && yes => Some(Event::Told(item)),
+        _ => None,
+    }
+}
+
+/// The row that these bytes hold; none exactly where they hold no row.
+pub fn unpack(bytes: &[u8]) -> Option<Row>
+    ensures some { IfSome result (λ row. IsPackedRow bytes.now row) }
+    ensures none { IfNone result ((row : RowValue) → ¬ IsPackedRow bytes.now row) }
+{
+    if bytes.len() != ROW_LEN || bytes[6] != 0 || bytes[7] != 0 {
+        return None;
+    }
+    let yes = answer_of(bytes[1])?;
+    let item = ItemId::new(u16::from_le_bytes([bytes[2], bytes[3]]));
+    let lane = u16::from_le_bytes([bytes[4], bytes[5]]);
+    let number = u32::from_le_bytes([bytes[8], bytes[9], bytes[10], bytes[11]]);
+    let event = event_of(bytes[0], item, lane, yes)?;
+    Some(Row { event, yes, number })
+}
