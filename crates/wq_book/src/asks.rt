@@ -14,7 +14,7 @@ pub(crate) fn ask(
 ) -> Result<(), AllocError> {
     asks.reserve(1)?;
     match book.ask(item) {
-        Ok(Ask::Idle) => write!(out, "idle"),
+        Ok(Ask::Idle) => out.push_str("idle"),
         Ok(Ask::Waiting(asked)) => {
             let mark = asked.mark();
             asks.push_reserved(Some(asked));
@@ -42,14 +42,14 @@ pub(crate) fn tell(
     let slot = asks.get_mut(number as usize).ok_or(Mistake::Input)?;
     let asked = slot.take().ok_or(Mistake::Input)?;
     match book.told(asked) {
-        Told::Done => write!(out, "done")?,
+        Told::Done => out.push_str("done")?,
         Told::NotYet(asked) => {
             put_back(slot, asked);
-            write!(out, "not yet")?;
+            out.push_str("not yet")?;
         }
         Told::NotAsked(asked) => {
             asked.give_up();
-            write!(out, "refused 65")?;
+            out.push_str("refused 65")?;
         }
     }
     Ok(())

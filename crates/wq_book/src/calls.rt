@@ -4,7 +4,9 @@ ghost use Rattle.std.specs.Prelude.{◌≡◌};
 ghost use Rattle.wq_core.specs.State.{empty_state};
 
 use crate::asks::{ask, give_up_all, tell};
-use crate::printing::{mistake, put_code, put_item, put_rows, put_said, put_state};
+use crate::printing::{
+    mistake, put_code, put_finished, put_rows, put_said, put_started, put_state,
+};
 use std::alloc::{AllocError, Global};
 use wq_core::Core;
 use wq_groups::LaneId;
@@ -13,7 +15,7 @@ use wq_items::{ItemId, ItemTable};
 use wq_text::{Text, Words, number};
 
 /// Why a line isn't answered.
-#[derive(Clone, Copy, Debug, PartialEq, Eq)]
+#[derive(Clone, Copy)]
 pub(crate) enum Mistake {
     /// It isn't of the form of a call, or hands in an ask that isn't there.
     Input,
@@ -43,21 +45,47 @@ fn lane_of(digits: &[u8]) -> Result<LaneId, Mistake> {
     Ok(LaneId::new(q))
 }
 
-/// Starts an entry on a lane.
-fn start(
-    table: &ItemTable<'_, Global>,
+/// `queue a`, `cancel a` or `ask a`. False where it is none of these.
+fn call_item(
     book: &mut Book<Global>,
-    q: LaneId,
+    asks: &mut Vec<Option<Asked>>,
+    word: &[u8],
+    item: ItemId,
     out: &mut String,
-) -> Result<(), AllocError> {
-    match book.start(q) {
-        Ok(None) => write!(out, "none"),
-        Ok(item) => put_item(out, table, item),
-        Err(error) => put_code(out, error),
+) -> Result<bool, AllocError> {
+    if word == b"queue".as_slice() {
+        put_said(out, book.queue(item))?;
+    } else if word == b"cancel".as_slice() {
+        put_said(out, book.cancel(item))?;
+    } else if word == b"ask".as_slice() {
+        ask(book, asks, item, out)?;
+    } else {
+        return Ok(false);
     }
+    Ok(true)
 }
 
-/// `queue a`, `cancel a`, `ask a`, `told K`, `start Q`, `over Q` or `finish Q`.
+/// `start Q`, `over Q` or `finish Q`. False where it is none of these.
+fn call_lane(
+    table: &ItemTable<'_, Global>,
+    book: &mut Book<Global>,
+    word: &[u8],
+    q: LaneId,
+    out: &mut String,
+) -> Result<bool, AllocError> {
+    if word == b"start".as_slice() {
+        put_started(out, table, book.start(q))?;
+    } else if word == b"over".as_slice() {
+        put_said(out, book.over(q))?;
+    } else if word == b"finish".as_slice() {
+        put_finished(out, book.finish(q))?;
+    } else {
+        return Ok(false);
+    }
+    Ok(true)
+}
+
+/// `told K`, or a call of an item or of a lane.
 fn call_of_two(
     table: &ItemTable<'_, Global>,
     book: &mut Book<Global>,
@@ -66,27 +94,16 @@ fn call_of_two(
     what: &[u8],
     out: &mut String,
 ) -> Result<(), Mistake> {
-    if word == b"queue".as_slice() {
-        put_said(out, book.queue(item_of(table, what)))?;
-    } else if word == b"cancel".as_slice() {
-        put_said(out, book.cancel(item_of(table, what)))?;
-    } else if word == b"ask".as_slice() {
-        ask(book, asks, item_of(table, what), out)?;
-    } else if word == b"told".as_slice() {
-        tell(book, asks, number_of(what)?, out)?;
-    } else if word == b"start".as_slice() {
-        start(table, book, lane_of(what)?, out)?;
-    } else if word == b"over".as_slice() {
-        put_said(out, book.over(lane_of(what)?))?;
-    } else if word == b"finish".as_slice() {
-        match book.finish(lane_of(what)?) {
-            Ok(()) => write!(out, "ok")?,
-            Err(error) => put_code(out, error)?,
-        }
-    } else {
-        return Err(Mistake::Input);
+    if call_item(book, asks, word, item_of(table, what), out)? {
+        return Ok(());
     }
-    Ok(())
+    if word == b"told".as_slice() {
+        return tell(book, asks, number_of(what)?, out);
+    }
+    if call_lane(table, book, word, lane_of(what)?, out)? {
+        return Ok(());
+    }
+    Err(Mistake::Input)
 }
 
 /// Makes the call that a line asks for by this word and those behind it, and prints the answer.
@@ -103,7 +120,7 @@ fn call(
             return Err(Mistake::Input);
         }
         book.close();
-        write!(out, "ok")?;
+        out.push_str("ok")?;
         return Ok(());
     };
     let Some(third) = words.next() else {

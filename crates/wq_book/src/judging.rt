@@ -39,20 +39,21 @@ fn put_lane(
     core: &Core<Global>,
     q: LaneId,
 ) -> Result<(), AllocError> {
-    let running = core.running_on(q);
     write!(out, "lane {} runs ", q.get())?;
+    let running = core.running_on(q);
     put_item(out, table, running.map(|r| r.entry.item))?;
-    write!(out, " waits ")?;
-    put_item(out, table, running.and_then(|r| r.waiting).map(|w| w.target))?;
-    write!(out, " pending")?;
+    out.push_str(" waits ")?;
+    let waiting = core.running_on(q).and_then(|r| r.waiting);
+    put_item(out, table, waiting.map(|w| w.target))?;
+    out.push_str(" pending")?;
     for i in 0..table.len() {
         let item = ItemId::new(i);
         if usize::from(i) < core.items() && core.lane_of(item) == q && core.is_pending(item) {
-            write!(out, " ")?;
+            out.push(' ')?;
             put_item(out, table, Some(item))?;
         }
     }
-    writeln!(out)
+    out.push('\n')
 }
 
 /// The state of a machine.
@@ -69,10 +70,7 @@ fn put_replay(
 }
 
 /// Prints a judgement, and gives the status.
-fn put_judgement(
-    out: &mut String,
-    judgement: Result<u32, RowError>,
-) -> Result<u8, AllocError> {
+fn put_judgement(out: &mut String, judgement: Result<u32, RowError>) -> Result<u8, AllocError> {
     match judgement {
         Ok(rows) => {
             writeln!(out, "legal {rows}")?;
@@ -104,7 +102,7 @@ pub(crate) fn judge(
             Ok(status)
         }
         _ => {
-            writeln!(out, "mistake")?;
+            out.push_str("mistake\n")?;
             Ok(2)
         }
     }

@@ -29,7 +29,14 @@ fn perform<R: Files + Print + AllocGlobal>(rt: &R, request: &Request<'_>) -> Res
     let assigned = read_file(rt, request.assignment, 8_388_608)?;
     let text = read_file(rt, request.text, 8_388_608)?;
     let mut out = String::new(rt.alloc());
-    let status = answering::answer(rt.alloc(), request.task, &declared, &assigned, &text, &mut out)?;
+    let status = answering::answer(
+        rt.alloc(),
+        request.task,
+        &declared,
+        &assigned,
+        &text,
+        &mut out,
+    )?;
     write_text(&mut Metered::new(io::writer(rt)), out.as_bytes())?;
     Ok(status)
 }
@@ -42,7 +49,9 @@ fn faulted(rt: &impl Eprint, fault: Fault) -> u8 {
 
 /// Says that the command line is wrong.
 fn misused(rt: &impl Eprint) -> u8 {
-    let _ = rt.eprintln("usage: wq_book book DECL ASSIGN ROWS EVENTS | wq_book check DECL ASSIGN HEX");
+    let _ = rt.eprintln(
+        "usage: wq_book book DECL ASSIGN ROWS EVENTS | wq_book check DECL ASSIGN HEX",
+    );
     2
 }
 

@@ -26,7 +26,32 @@ pub(crate) fn put_code(out: &mut String, error: BookError) -> Result<(), AllocEr
 /// The answer of `queue`, `cancel`, `wait` and `over`.
 pub(crate) fn put_said(out: &mut String, said: Result<bool, BookError>) -> Result<(), AllocError> {
     match said {
-        Ok(said) => write!(out, "{said}"),
+        Ok(true) => out.push_str("true"),
+        Ok(false) => out.push_str("false"),
+        Err(error) => put_code(out, error),
+    }
+}
+
+/// The answer of `finish`.
+pub(crate) fn put_finished(
+    out: &mut String,
+    finished: Result<(), BookError>,
+) -> Result<(), AllocError> {
+    match finished {
+        Ok(()) => out.push_str("ok"),
+        Err(error) => put_code(out, error),
+    }
+}
+
+/// The answer of `start`.
+pub(crate) fn put_started(
+    out: &mut String,
+    table: &ItemTable<'_, Global>,
+    started: Result<Option<ItemId>, BookError>,
+) -> Result<(), AllocError> {
+    match started {
+        Ok(None) => out.push_str("none"),
+        Ok(item) => put_item(out, table, item),
         Err(error) => put_code(out, error),
     }
 }
@@ -56,12 +81,12 @@ pub(crate) fn put_state(
     let door = if book.is_closed() { "closed" } else { "open" };
     write!(out, " free {} {entries} {door}", book.free_rows())?;
     for q in 0..u16::try_from(book.lanes()).unwrap_or(u16::MAX) {
-        write!(out, " ")?;
+        out.push(' ')?;
         put_item(out, table, book.running(LaneId::new(q)))?;
-        write!(out, " ")?;
+        out.push(' ')?;
         put_item(out, table, book.waiting(LaneId::new(q)))?;
     }
-    writeln!(out)
+    out.push('\n')
 }
 
 /// The number of rows, and each of them in hexadecimal digits. Gives the status.
@@ -71,7 +96,7 @@ pub(crate) fn put_rows(out: &mut String, packed: &[u8]) -> Result<u8, AllocError
         for byte in row {
             write!(out, "{byte:02x}")?;
         }
-        writeln!(out)?;
+        out.push('\n')?;
     }
     Ok(0)
 }

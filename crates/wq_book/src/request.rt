@@ -5,18 +5,16 @@ use std::{env, io};
 use wq_text::number;
 
 /// What is to be done.
-#[derive(Clone, Copy, Debug, PartialEq, Eq)]
+#[derive(Clone, Copy)]
 pub(crate) enum Task {
     /// The calls of a text are made, of a book with so many rows.
-    Book {
-        rows: u32,
-    },
+    Book { rows: u32 },
     /// The rows of a history are judged.
     Check,
 }
 
 /// What is to be done, and the files that say of what.
-#[derive(Clone, Copy, Debug, PartialEq, Eq)]
+#[derive(Clone, Copy)]
 pub(crate) struct Request<'a> {
     pub(crate) task: Task,
     pub(crate) declaration: &'a str,
