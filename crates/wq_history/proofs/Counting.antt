@@ -80,7 +80,7 @@ CountsAsks-asked rows asks new i n within counts set_is all_is = record {
 
     each_of : (j : ℕ) → (i ≡ j) ⊎ (i ≢ j) → get_or new.counts j 0 + count_by (ends_a_wait j) (rows ++ (row ∷ [])) ≡ count_by (begins_to_wait j) (rows ++ (row ∷ []))
     each_of j (inl same) =
-        let is : eqb i j ≡ true = eq-eqb same in
+        let is : eqb i j ≡ true = eq-eqb i j same in
         let begun = count-more (begins_to_wait j) rows row ∙ ap (λ b. count_by (begins_to_wait j) rows + cond (b && true) 1 0) is in
         let ended = count-more (ends_a_wait j) rows row in
         let at : get_or new.counts j 0 ≡ get_or asks.counts i 0 + 1 =
@@ -89,7 +89,7 @@ CountsAsks-asked rows asks new i n within counts set_is all_is = record {
         let here : get_or asks.counts i 0 ≡ get_or asks.counts j 0 = ap (λ k. get_or asks.counts k 0) same in
         omega (arith, begun, ended, at, old, here)
     each_of j (inr other) =
-        let is : eqb i j ≡ false = ne_eqb other in
+        let is : eqb i j ≡ false = ne_eqb i j other in
         let begun = count-more (begins_to_wait j) rows row ∙ ap (λ b. count_by (begins_to_wait j) rows + cond (b && true) 1 0) is in
         let ended = count-more (ends_a_wait j) rows row in
         let at : get_or new.counts j 0 ≡ get_or asks.counts j 0 =
@@ -113,7 +113,7 @@ CountsAsks-told rows asks new i n within some some_in_all counts set_is all_is =
 
     each_of : (j : ℕ) → (i ≡ j) ⊎ (i ≢ j) → get_or new.counts j 0 + count_by (ends_a_wait j) (rows ++ (row ∷ [])) ≡ count_by (begins_to_wait j) (rows ++ (row ∷ []))
     each_of j (inl same) =
-        let is : eqb i j ≡ true = eq-eqb same in
+        let is : eqb i j ≡ true = eq-eqb i j same in
         let begun = count-more (begins_to_wait j) rows row in
         let ended = count-more (ends_a_wait j) rows row ∙ ap (λ b. count_by (ends_a_wait j) rows + cond b 1 0) is in
         let at : get_or new.counts j 0 ≡ get_or asks.counts i 0 - 1 =
@@ -121,7 +121,7 @@ CountsAsks-told rows asks new i n within some some_in_all counts set_is all_is =
         let here : get_or asks.counts i 0 ≡ get_or asks.counts j 0 = ap (λ k. get_or asks.counts k 0) same in
         omega (arith, begun, ended, at, counts.each j, here, some)
     each_of j (inr other) =
-        let is : eqb i j ≡ false = ne_eqb other in
+        let is : eqb i j ≡ false = ne_eqb i j other in
         let begun = count-more (begins_to_wait j) rows row in
         let ended = count-more (ends_a_wait j) rows row ∙ ap (λ b. count_by (ends_a_wait j) rows + cond b 1 0) is in
         let at : get_or new.counts j 0 ≡ get_or asks.counts j 0 =

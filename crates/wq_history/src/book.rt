@@ -5,7 +5,7 @@
 //! nothing that grows with the number of rows, of lanes or of asks. Only `new` takes memory: 12 bytes for each row and a
 //! count for each item.
 
-ghost use Rattle.std.specs.Prelude.{◌≡◌, ℕ, ◌<◌, ◌≤◌, ◌×◌, ◌↔◌, [], length, Some, None, true, false, IfOk, IfErr, IfSome, IfNone, IsTrue};
+ghost use Rattle.std.specs.Prelude.{◌≡◌, ℕ, ◌<◌, ◌≤◌, ◌↔◌, [], length, Some, None, true, false, IfOk, IfErr, IfSome, IfNone, IsTrue};
 ghost use Rattle.std.specs.List.{Any};
 ghost use Rattle.wq_items.specs.declared.target.Target.{Target as TargetOf};
 ghost use Rattle.wq_core.specs.declared.entry.Running.{Running};
