@@ -1,5 +1,5 @@
 -- Asks that wait: what one row more does to their counts.
-use Rattle.std.proofs.Common.{◌≡◌, ◌≢◌, ℕ, ◌+◌, ◌-◌, ◌<◌, ◌≤◌, ◌⊎◌, inl, inr, Bool, true, false, cond, eqb, List, [], ◌∷◌, ◌++◌, length, get_or, set, refl, sym, ap, subst, ◌∙◌, arith}
+use Rattle.std.proofs.Common.{◌≡◌, ◌≢◌, ℕ, zero, suc, ◌+◌, ◌-◌, ◌<◌, ◌≤◌, ◌⊎◌, inl, inr, Bool, true, false, cond, eqb, List, [], ◌∷◌, ◌++◌, length, get_or, set, refl, sym, ap, subst, ◌∙◌, arith}
 use Rattle.std.specs.Prelude.{Option, Some, None, ◌&&◌, ◌==◌}
 use Rattle.std.specs.List.{count_by}
 use Rattle.std.proofs.lemmas.Bool.{cases_eq, eq-eqb, ne_eqb}
@@ -135,3 +135,9 @@ asks_waiting-count rows asks i counts = omega (arith, counts.each i)
 
 pub all_asks_waiting-count : (rows : List Row) (asks : AskView) → CountsAsks rows asks → asks.all ≡ all_asks_waiting rows
 all_asks_waiting-count rows asks counts = omega (arith, counts.in_all)
+
+-- an item of which some wait is one of the table
+pub within-some : (counts : List ℕ) (i : ℕ) → 0 < get_or counts i 0 → i < length counts
+within-some [] i some = omega (arith, some)
+within-some (n ∷ counts) zero some = omega arith
+within-some (n ∷ counts) (suc i) some = omega (arith, within-some counts i some)

@@ -10,9 +10,8 @@ mod ask_counts;
 mod asking;
 mod book;
 mod fault;
-pub mod laws;
 
 pub use asking::{Ask, Asked, Told};
 pub use book::Book;
 pub use fault::BookError;
-pub use wq_rows::{Event, MAX_ROWS, Row, Rows, pack, unpack};
+pub use wq_rows::{Event, MAX_ROWS, Row, pack, unpack};
