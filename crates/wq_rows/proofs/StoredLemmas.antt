@@ -2,12 +2,12 @@
 use Rattle.std.proofs.Common.{◌≡◌, ℕ, suc, ◌+◌, ◌*◌, ◌<◌, ◌≤◌, List, [], ◌∷◌, ◌++◌, length, take, drop, refl, sym, ◌∙◌, ap, subst, arith, length-append, Option, Some, None, take-append-drop}
 use Rattle.std.specs.Prelude.{IfSome, IfNone, is_some, true, false}
 use Rattle.std.specs.Iterator.{YieldsFirst}
-use Rattle.std.specs.List.{All, IsSplitAt}
+use Rattle.std.specs.List.{IsSplitAt}
 use Rattle.std.proofs.lemmas.List.Elements.{All-push, All-nil, All-cons}
 use Rattle.std.proofs.lemmas.List.{take_at, drop_at}
 use Rattle.wq_rows.specs.declared.event.Row.{Row}
 use Rattle.wq_rows.specs.Packing.{packed, packed_rows, IsPackable, IsRowInRange, IsPackedRow}
-use Rattle.wq_rows.specs.Stored.{rows_of, IsStored, IsRoomy, HistoryView, IsHistory}
+use Rattle.wq_rows.specs.Stored.{rows_of, IsStored, IsRoomy, IsHistory}
 use Rattle.wq_rows.proofs.PackingLemmas.{rows_of-packed, rows_of-packed_rows, length-packed_rows, packed_rows-push}
 
 -- bytes that hold rows are read as these rows
@@ -176,9 +176,9 @@ LeadsOn-done bytes left none leads =
     (subst (λ (l : List ℕ). IsStored l (rows_of l)) (sym (empty_list left none)) (record { packable = All-nil IsPackable; in_range = All-nil IsRowInRange; holds = refl }))
 
 -- where fewer than 12 bytes are left and the bytes hold rows, nothing is left
-pub LeadsOn-short : (bytes left : List ℕ) → length left < 12 → LeadsOn bytes left → IsStored bytes (rows_of bytes) → length left ≡ 0
-LeadsOn-short bytes left short leads stored =
-    let rest = leads.back (rows_of bytes) stored in
+pub LeadsOn-short : (bytes left : List ℕ) → length left < 12 → LeadsOn bytes left → (rows : List Row) → IsStored bytes rows → length left ≡ 0
+LeadsOn-short bytes left short leads rows stored =
+    let rest = leads.back rows stored in
     let len : length left ≡ 12 * length rest.0 = IsStored-length left rest.0 rest.1 in
     omega arith
 

@@ -3,7 +3,8 @@
 //! The rows of some bytes are looked through once before the first is handed out, so that each of them is a row. That
 //! takes time in the number of bytes; each row is then handed out in constant time. Nothing is copied.
 
-ghost use Rattle.std.specs.Prelude.{◌≡◌, List, length, IfSome, IfNone, IsTrue, ◌↔◌};
+ghost use Rattle.std.specs.Prelude.{◌≡◌, List, length, IfSome, IfNone};
+ghost use Rattle.std.specs.Bool.{OnTrue, OnFalse};
 ghost use Rattle.std.specs.Iterator.{YieldsFirst, item_count};
 ghost use Rattle.wq_rows.specs.declared.event.Row.{Row as RowValue};
 ghost use Rattle.wq_rows.specs.Stored.{rows_of, IsStored};
@@ -32,7 +33,8 @@ impl<'r> Model for Rows<'r> {
 
 /// Whether these bytes hold rows.
 fn hold_rows(bytes: &[u8]) -> bool
-    ensures { IsTrue result ↔ IsStored bytes.now (rows_of bytes.now) }
+    ensures yes { OnTrue result (IsStored bytes.now (rows_of bytes.now)) }
+    ensures no { OnFalse result ((rows : List RowValue) → ¬ IsStored bytes.now rows) }
 {
     let mut rest = bytes;
     while let Some((row, after)) = rest.split_at_checked(ROW_LEN) {

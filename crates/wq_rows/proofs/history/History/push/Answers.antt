@@ -1,6 +1,6 @@
 use Rattle.std.proofs.Common.{◌≡◌, ◌+◌, ◌<◌, ◌≤◌, [], ◌∷◌, ◌++◌, length, ap, sym, ◌∙◌, subst, arith, rules}
 use Rattle.std.specs.Prelude.{IsOk, Bool, if◌then◌else◌, List, ℕ}
-use Rattle.std.specs.Vec.{vec_len, vec_capacity}
+use Rattle.std.specs.Vec.{vec_capacity}
 use Rattle.wq_rows.specs.Packing.{packed}
 use Rattle.wq_rows.specs.Stored.{HistoryView, rows_of}
 use Rattle.wq_rows.proofs.StoredLemmas.{IsRoomy-memory, IsRoomy-push, rows_of-push}
