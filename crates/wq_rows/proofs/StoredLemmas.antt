@@ -31,15 +31,6 @@ pub rows_of-push : (bytes : List ℕ) (row : Row) → IsStored bytes (rows_of by
 rows_of-push bytes row stored packable in_range =
     IsStored-read (bytes ++ packed row) (rows_of bytes ++ (row ∷ [])) (IsStored-push bytes (rows_of bytes) row stored packable in_range)
 
--- a history without rows
-pub IsRoomy-empty : (capacity room : ℕ) → 12 * room ≤ capacity → room ≤ 16777216 → IsRoomy [] capacity room
-IsRoomy-empty capacity room memory few = record {
-  stored = record { packable = All-nil IsPackable; in_range = All-nil IsRowInRange; holds = refl };
-  within = omega arith;
-  memory = memory;
-  few = few;
-}
-
 -- where there is room, there is memory for a row
 pub IsRoomy-memory : (bytes : List ℕ) (capacity room : ℕ) → IsRoomy bytes capacity room → length (rows_of bytes) < room → length bytes + 12 ≤ capacity
 IsRoomy-memory bytes capacity room roomy below =
