@@ -30,7 +30,7 @@ use std::marker::Model;
 use wq_core::{Core, Entry, Running, Step, Waiting};
 use wq_groups::LaneId;
 use wq_items::{ItemId, Target};
-use wq_rows::{Event, History, MAX_ROWS, Row};
+use wq_rows::{Event, History, MAX_ROWS, Row, Rows};
 
 /// The book. Contracts see whose machine it is of, its rows, how many there is room for, and whether it is closed; its
 /// state is the replay of its rows.
@@ -477,6 +477,13 @@ impl<A: Allocator> Book<A> {
         ensures { result ≡ self.now.wiring.lanes }
     {
         self.core.lanes()
+    }
+
+    /// The rows, in order.
+    pub fn rows(&self) -> Rows<'_>
+        ensures { result ≡ self.now.rows }
+    {
+        self.history.rows()
     }
 
     /// The bytes of the rows, 12 for each.

@@ -14,4 +14,4 @@ mod fault;
 pub use asking::{Ask, Asked, Told};
 pub use book::Book;
 pub use fault::BookError;
-pub use wq_rows::{Event, MAX_ROWS, Row, pack, unpack};
+pub use wq_rows::{Event, MAX_ROWS, Row, Rows, pack, unpack};
