@@ -25,7 +25,7 @@ use Rattle.wq_rows.specs.Stored.{max_rows}
 use Rattle.wq_history.specs.Events.{step_of, is_told}
 use Rattle.wq_history.specs.History.{state_after, all_asks_waiting, MayCome, MayFollow, IsLegal}
 use Rattle.wq_history.specs.Reserve.{reserved, free_rows, rows_needed}
-use Rattle.wq_history.specs.Counts.{AskView, CountsAsks, HoldsBook}
+use Rattle.wq_history.specs.Counts.{AskView, CountsAsks, Replays, HoldsBook}
 use Rattle.wq_history.specs.Book.{BookView, IsBook}
 use Rattle.wq_history.proofs.Histories.{state_after-step, state_after-none, IsLegal-more}
 use Rattle.wq_history.proofs.Counting.{IsNobodys, IsNobodys-step, CountsAsks-same, asks_waiting-count, all_asks_waiting-count}
@@ -36,8 +36,8 @@ use Rattle.wq_history.proofs.Counting.{IsNobodys, IsNobodys-step, CountsAsks-sam
 pub reserved-held : (m : Machine) (rows : List Row) (room : ℕ) (asks : AskView) (work : ℕ) → HoldsBook m rows room asks work
     → reserved m.wiring rows ≡ work + asks.all
 reserved-held m rows room asks work holds =
-    let kept : work ≡ work_left m.wiring (state_after m.wiring rows) = holds.work_is ∙ ap (work_left m.wiring) holds.replay in
-    omega (arith, kept, all_asks_waiting-count rows asks holds.asked)
+    let kept : work ≡ work_left m.wiring (state_after m.wiring rows) = holds.work_is ∙ ap (work_left m.wiring) holds.replays.replay in
+    omega (arith, kept, all_asks_waiting-count rows asks holds.replays.asked)
 
 pub free_rows-held : (m : Machine) (rows : List Row) (room : ℕ) (asks : AskView) (work : ℕ) → HoldsBook m rows room asks work
     → free_rows m.wiring room rows ≡ room - (length rows + (work + asks.all))
@@ -47,8 +47,8 @@ free_rows-held m rows room asks work holds = ap (λ n. room - (length rows + n))
 pub IsBook-held : (m : Machine) (rows : List Row) (room : ℕ) (asks : AskView) (work : ℕ) (closed : Bool) → HoldsBook m rows room asks work
     → IsBook (record { wiring = m.wiring; rows = rows; room = room; closed = closed })
 IsBook-held m rows room asks work closed holds = record {
-  wiring = holds.machine_is.wiring;
-  legal = holds.legal;
+  wiring = holds.replays.machine_is.wiring;
+  legal = holds.replays.legal;
   limit = holds.limit;
   enough = omega (arith, holds.enough, reserved-held m rows room asks work holds);
 }
@@ -58,20 +58,53 @@ IsBook-held m rows room asks work closed holds = record {
 length-more : (rows : List Row) (row : Row) → length (rows ++ (row ∷ [])) ≡ length rows + 1
 length-more rows row = length-append rows (row ∷ [])
 
+-- a lawful step leaves a machine
+IsMachine-after : (m : Machine) (step : Step) → IsMachine m → Lawful m.wiring m.state step → m.state.next + 1 < 2 ^ 32 → IsMachine (machine_after m step)
+IsMachine-after m step machine lawful few = record {
+  wiring = machine.wiring;
+  state = IsSoundState-effect m.wiring m.state step machine.state lawful;
+  few_items = machine.few_items;
+  few_flushes = machine.few_flushes;
+  few_lanes = machine.few_lanes;
+  numbers = omega (arith, few, next-effect m.wiring m.state step);
+}
+
+-- a row without a step
+pub Replays-noted : (m : Machine) (rows : List Row) (asks new : AskView) (row : Row) → Replays m rows asks → step_of row.event row.yes ≡ None
+    → MayFollow m.wiring rows row → CountsAsks (rows ++ (row ∷ [])) new → length new.counts ≡ length asks.counts → Replays m (rows ++ (row ∷ [])) new
+Replays-noted m rows asks new row replays none may counts same = record {
+  machine_is = replays.machine_is;
+  replay = replays.replay ∙ sym (state_after-none m.wiring rows row none);
+  legal = IsLegal-more m.wiring rows row replays.legal may;
+  a_count_each = same ∙ replays.a_count_each;
+  asked = counts;
+  numbers = omega (arith, length-more rows row, replays.numbers);
+}
+
+-- the row of a step
+pub Replays-made : (m : Machine) (rows : List Row) (asks : AskView) (event : Event) (said : Bool) (n : ℕ) (step : Step) → Replays m rows asks
+    → Lawful m.wiring m.state step → step_of event said ≡ Some step → MayCome m.wiring rows event said n → length rows < max_rows
+    → Replays (machine_after m step) (rows ++ (record { event = event; yes = said; number = n } ∷ [])) asks
+Replays-made m rows asks event said n step replays lawful makes may few =
+    let row : Row = record { event = event; yes = said; number = n } in
+    record {
+      machine_is = IsMachine-after m step replays.machine_is lawful (omega (arith, replays.numbers, few));
+      replay = ap (λ (s : State). effect m.wiring s step) replays.replay ∙ sym (state_after-step m.wiring rows row step makes);
+      legal = IsLegal-more m.wiring rows row replays.legal may;
+      a_count_each = replays.a_count_each;
+      asked = CountsAsks-same rows row asks (IsNobodys-step event said n step makes) replays.asked;
+      numbers = omega (arith, length-more rows row, replays.numbers, next-effect m.wiring m.state step);
+    }
+
 -- a row without a step, with the asks that wait after it
 pub HoldsBook-noted : (m : Machine) (rows : List Row) (room : ℕ) (asks new : AskView) (work : ℕ) (row : Row) → HoldsBook m rows room asks work
     → step_of row.event row.yes ≡ None → MayFollow m.wiring rows row → CountsAsks (rows ++ (row ∷ [])) new → length new.counts ≡ length asks.counts
     → new.all + 1 ≤ asks.all + free_rows m.wiring room rows → HoldsBook m (rows ++ (row ∷ [])) room new work
 HoldsBook-noted m rows room asks new work row holds none may counts same enough = record {
-  machine_is = holds.machine_is;
-  replay = holds.replay ∙ sym (state_after-none m.wiring rows row none);
-  legal = IsLegal-more m.wiring rows row holds.legal may;
-  a_count_each = same ∙ holds.a_count_each;
-  asked = counts;
+  replays = Replays-noted m rows asks new row holds.replays none may counts same;
   work_is = holds.work_is;
   enough = omega (arith, length-more rows row, enough, holds.enough, free_rows-held m rows room asks work holds);
   limit = holds.limit;
-  numbers = omega (arith, length-more rows row, holds.numbers);
 }
 
 -- what comes to nothing is no end of a wait, and needs a row
@@ -100,17 +133,6 @@ pub HoldsBook-read : (m : Machine) (new : List Row) (room_new : ℕ) (asks : Ask
     → HoldsBook m rows room asks work → HoldsBook m new room_new asks work
 HoldsBook-read m new room_new asks work {rows} {room} same_rows same_room holds =
     subst (λ (n : ℕ). HoldsBook m new n asks work) (sym same_room) (subst (λ (rs : List Row). HoldsBook m rs room asks work) (sym same_rows) holds)
-
--- a lawful step leaves a machine
-IsMachine-after : (m : Machine) (step : Step) → IsMachine m → Lawful m.wiring m.state step → m.state.next + 1 < 2 ^ 32 → IsMachine (machine_after m step)
-IsMachine-after m step machine lawful few = record {
-  wiring = machine.wiring;
-  state = IsSoundState-effect m.wiring m.state step machine.state lawful;
-  few_items = machine.few_items;
-  few_flushes = machine.few_flushes;
-  few_lanes = machine.few_lanes;
-  numbers = omega (arith, few, next-effect m.wiring m.state step);
-}
 
 -- the work that a step leaves and its row take no more than the work before it and the rows that its event needs free
 abbrev IsPaidFor : Machine → Event → Bool → Step → Type 0
@@ -151,22 +173,17 @@ HoldsBook-made m new rows room asks work left event said n step holds done makes
     row = record { event = event; yes = said; number = n }
 
     paid : left + 1 ≤ work + free_rows m.wiring room rows
-    paid = omega (arith, left_is, holds.work_is, enough, step_is_paid m event said step holds.machine_is makes done.lawful)
+    paid = omega (arith, left_is, holds.work_is, enough, step_is_paid m event said step holds.replays.machine_is makes done.lawful)
 
     room_left : length rows + 1 ≤ room
     room_left = omega (arith, paid, holds.enough, free_rows-held m rows room asks work holds)
 
     after_it : HoldsBook (machine_after m step) (rows ++ (row ∷ [])) room asks left
     after_it = record {
-      machine_is = IsMachine-after m step holds.machine_is done.lawful (omega (arith, holds.numbers, holds.limit, room_left));
-      replay = ap (λ (s : State). effect m.wiring s step) holds.replay ∙ sym (state_after-step m.wiring rows row step makes);
-      legal = IsLegal-more m.wiring rows row holds.legal may;
-      a_count_each = holds.a_count_each;
-      asked = CountsAsks-same rows row asks (IsNobodys-step event said n step makes) holds.asked;
+      replays = Replays-made m rows asks event said n step holds.replays done.lawful makes may (omega (arith, room_left, holds.limit));
       work_is = left_is;
       enough = omega (arith, length-more rows row, paid, holds.enough, free_rows-held m rows room asks work holds);
       limit = holds.limit;
-      numbers = omega (arith, length-more rows row, holds.numbers, next-effect m.wiring m.state step);
     }
 
 -- there is room for the row of a step
@@ -174,7 +191,7 @@ pub room_for_step : (m : Machine) (rows : List Row) (room : ℕ) (asks : AskView
     → HoldsBook m rows room asks work → Lawful m.wiring m.state step → step_of event said ≡ Some step
     → rows_needed m.wiring event said ≤ free_rows m.wiring room rows → length rows < room
 room_for_step m rows room asks work event said step holds lawful makes enough =
-    omega (arith, holds.work_is, holds.enough, enough, step_is_paid m event said step holds.machine_is makes lawful, free_rows-held m rows room asks work holds)
+    omega (arith, holds.work_is, holds.enough, enough, step_is_paid m event said step holds.replays.machine_is makes lawful, free_rows-held m rows room asks work holds)
 
 -- ---- a book without rows
 
@@ -186,9 +203,9 @@ zeros (suc n) (suc i) none = zeros n i none
 no_work : (w : Wiring) (n : ℕ) → sum_by (lane_work w) (replicate n idle_lane) ≡ 0
 no_work w n = omega (arith, sum_by-replicate (lane_work w) n idle_lane)
 
-pub HoldsBook-first : (m : Machine) (room : ℕ) (asks : AskView) → IsMachine m → m.state ≡ empty_state m.wiring → room ≤ max_rows
-    → asks ≡ record { counts = replicate (items m.wiring) 0; all = 0 } → HoldsBook m [] room asks 0
-HoldsBook-first m room asks machine empty limit none = record {
+pub Replays-first : (m : Machine) (asks : AskView) → IsMachine m → m.state ≡ empty_state m.wiring
+    → asks ≡ record { counts = replicate (items m.wiring) 0; all = 0 } → Replays m [] asks
+Replays-first m asks machine empty none = record {
   machine_is = machine;
   replay = empty;
   legal = λ n row at. absurd cc;
@@ -197,10 +214,16 @@ HoldsBook-first m room asks machine empty limit none = record {
     each = λ i. let at : get_or asks.counts i 0 ≡ 0 = ap (λ (a : AskView). get_or a.counts i 0) none ∙ zeros (items m.wiring) i 0 in omega (arith, at);
     in_all = ap (λ (a : AskView). a.all + 0) none;
   };
+  numbers = let next : m.state.next ≡ 0 = ap (λ (s : State). s.next) empty in omega (arith, next);
+}
+
+pub HoldsBook-first : (m : Machine) (room : ℕ) (asks : AskView) → IsMachine m → m.state ≡ empty_state m.wiring → room ≤ max_rows
+    → asks ≡ record { counts = replicate (items m.wiring) 0; all = 0 } → HoldsBook m [] room asks 0
+HoldsBook-first m room asks machine empty limit none = record {
+  replays = Replays-first m asks machine empty none;
   work_is = sym (ap (work_left m.wiring) empty ∙ no_work m.wiring m.wiring.lanes);
   enough = let all : asks.all ≡ 0 = ap (λ (a : AskView). a.all) none in omega (arith, all);
   limit = limit;
-  numbers = let next : m.state.next ≡ 0 = ap (λ (s : State). s.next) empty in omega (arith, next);
 }
 
 -- ---- lanes

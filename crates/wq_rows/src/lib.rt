@@ -15,5 +15,5 @@ mod tests;
 
 pub use event::{Event, Row};
 pub use history::{History, MAX_ROWS};
-pub use packing::{pack, unpack};
+pub use packing::{ROW_LEN, pack, unpack};
 pub use rows::Rows;

@@ -16,9 +16,9 @@ invariant_of-self g c =
     let b = c.self.inside in
     let row : Row = record { event = Told c.args.item; yes = true; number = c.args.mark } in
     let may = subst (λ (x : BookView). MayCome x.wiring x.rows (Told c.args.item) true c.args.mark) (sym c.self.view_is) c.requires in
-    let some : 0 < get_or b.asks.counts c.args.item 0 = omega (arith, may.1, asks_waiting-count b.history.rows b.asks c.args.item c.self.invariant.asked) in
+    let some : 0 < get_or b.asks.counts c.args.item 0 = omega (arith, may.1, asks_waiting-count b.history.rows b.asks c.args.item c.self.invariant.replays.asked) in
     let within = within-some b.asks.counts c.args.item some in
-    let counts = CountsAsks-told b.history.rows b.asks c.take_off.new.self c.args.item c.args.mark within some c.take_off.ensures.some c.self.invariant.asked c.take_off.ensures.counts c.take_off.ensures.all in
+    let counts = CountsAsks-told b.history.rows b.asks c.take_off.new.self c.args.item c.args.mark within some c.take_off.ensures.some c.self.invariant.replays.asked c.take_off.ensures.counts c.take_off.ensures.all in
     HoldsBook-read b.core c.push.new.self.rows c.push.new.self.room c.take_off.new.self b.work c.push.ensures.rows c.push.ensures.room
     (HoldsBook-noted b.core b.history.rows b.history.room b.asks c.take_off.new.self b.work row c.self.invariant refl may counts
     (ap length c.take_off.ensures.counts ∙ length-set b.asks.counts c.args.item _) (omega (arith, c.take_off.ensures.some, c.take_off.ensures.all)))

@@ -19,7 +19,7 @@ invariant_of-self g c =
     let b = c.self.inside in
     let done = c.in-Ok.ensures.done in
     let enough = subst (λ (x : BookView). rows_needed x.wiring c.args.event c.args.yes ≤ free x) (sym c.self.view_is) c.requires.room in
-    let replayed = subst (λ (s : State). Gives s c.args.step.now c.in-Ok.number) c.self.invariant.replay done.gives in
+    let replayed = subst (λ (s : State). Gives s c.args.step.now c.in-Ok.number) c.self.invariant.replays.replay done.gives in
     let gives = subst (λ (x : BookView). Gives (state x) c.args.step.now c.in-Ok.number) c.self.view_is replayed in
     let may = subst (λ (x : BookView). MayCome x.wiring x.rows c.args.event c.args.yes c.in-Ok.number) (sym c.self.view_is) (c.requires.may c.in-Ok.number gives) in
     HoldsBook-read c.step.new.self c.push.new.self.rows c.push.new.self.room b.asks c.work_after-work.result c.push.ensures.rows c.push.ensures.room

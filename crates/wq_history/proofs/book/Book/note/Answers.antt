@@ -18,4 +18,4 @@ invariant_of-self g c =
     let one = needs_a_row w b.history.rows c.args.event c.args.number may c.requires.event in
     HoldsBook-read b.core c.push.new.self.rows c.push.new.self.room b.asks b.work c.push.ensures.rows c.push.ensures.room
     (HoldsBook-noted b.core b.history.rows b.history.room b.asks b.asks b.work row c.self.invariant c.requires.event may
-    (CountsAsks-same b.history.rows row b.asks (IsNobodys-nothing c.args.event c.args.number told) c.self.invariant.asked) refl (omega (arith, enough, one)))
+    (CountsAsks-same b.history.rows row b.asks (IsNobodys-nothing c.args.event c.args.number told) c.self.invariant.replays.asked) refl (omega (arith, enough, one)))
