@@ -6,8 +6,10 @@ pub mod Knots
 pub mod KnotRuns
 pub mod LaneCircles
 pub mod LaneLemmas
+pub mod LawfulSteps
 pub mod Least
 pub mod Machines
+pub mod Numbers
 pub mod Parts
 pub mod Queued
 pub mod QueueOrder
@@ -19,6 +21,7 @@ pub mod RunLemmas
 pub mod Sound
 pub mod Unfinished
 pub mod WorkBounds
+pub mod WorkChanges
 pub mod WorkLemmas
 pub mod Safety
 pub mod Wirings

@@ -1,12 +1,12 @@
 -- What a machine answers about a lane or an item.
 use Rattle.std.proofs.Common.{◌≡◌, ◌≢◌, ℕ, suc, ◌<◌, ◌==◌, eqb, cond, Bool, true, false, List, [], ◌∷◌, length, refl, sym, subst, ◌∙◌, ap, arith, inl, inr, ◌↔◌, zero}
-use Rattle.std.specs.Prelude.{Option, Some, None, IfSome, IfNone, slice_index_or, Contains}
+use Rattle.std.specs.Prelude.{Option, Some, None, IfSome, IfNone, IsTrue, slice_index_or, Contains}
 use Rattle.std.specs.List.{find}
 use borrow.Author.Tests.{eqb-true}
 use Rattle.wq_core.specs.declared.entry.Entry.{Entry}
 use Rattle.wq_core.specs.declared.entry.Running.{Running}
 use Rattle.wq_core.specs.Wiring.{Wiring, items, lane_of}
-use Rattle.wq_core.specs.State.{Lane, State, lane_at, IsPendingOn, IsUnfinishedOn, Runs, HasPending, HasUnfinishedBelow}
+use Rattle.wq_core.specs.State.{Lane, State, lane_at, IsPendingOn, IsUnfinishedOn, Runs, HasPending, HasUnfinishedBelow, HasUnfinishedOf}
 use Rattle.wq_core.specs.Held.{IsSoundState, LaneHasUnfinishedBelow}
 
 -- ---- the first entry of an item
@@ -64,6 +64,22 @@ unfinished_on_own_lane w s q i mark lane sound own is = (
   (λ h. let at : h.lane ≡ q = (unfinished-own_lane w s i mark sound h).1 ∙ sym own in
       record { entry = h.entry; unfinished = subst (λ (l : Lane). IsUnfinishedOn l h.entry) (ap (λ r. lane_at s r) at ∙ sym is) h.unfinished; of_item = h.of_item; below = h.below }),
 )
+
+-- ---- every number that was given is below the next
+
+pub HasUnfinishedOf-below_next : (w : Wiring) (s : State) (i : ℕ) → IsSoundState w s → HasUnfinishedOf s i ↔ HasUnfinishedBelow s i s.next
+HasUnfinishedOf-below_next w s i sound = (
+  (λ h. record { lane = h.lane; entry = h.entry; unfinished = h.unfinished; of_item = h.of_item; below = sound.given h.lane h.entry h.unfinished }),
+  (λ h. record { lane = h.lane; entry = h.entry; unfinished = h.unfinished; of_item = h.of_item }),
+)
+
+-- the answer to the question below the next number
+pub HasUnfinishedOf-answer : (w : Wiring) (s : State) (i next : ℕ) (answer : Bool) → IsSoundState w s → next ≡ s.next → IsTrue answer ↔ HasUnfinishedBelow s i next
+    → IsTrue answer ↔ HasUnfinishedOf s i
+HasUnfinishedOf-answer w s i next answer sound same below =
+    let is = HasUnfinishedOf-below_next w s i sound in
+    let at : IsTrue answer ↔ HasUnfinishedBelow s i s.next = subst (λ n. IsTrue answer ↔ HasUnfinishedBelow s i n) same below in
+    ((λ h. is.1 (at.0 h)), (λ h. at.1 (is.0 h)))
 
 -- ---- what runs is of an item
 

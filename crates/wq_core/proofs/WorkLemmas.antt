@@ -24,7 +24,7 @@ use Rattle.wq_core.proofs.Sound.{IsSoundState-effect, IsSoundState-end_of}
 -- ---- lanes
 
 -- what is left of the pending entries
-abbrev pending_work : Wiring → List Entry → ℕ
+abbrev pub pending_work : Wiring → List Entry → ℕ
 pending_work w es = sum_by (λ (e : Entry). whole_work w e.item) es
 
 lane_work-cancelled : (w : Wiring) (i : ℕ) (lane : Lane) → lane_work w (with_cancelled i lane) ≤ lane_work w lane
@@ -79,7 +79,7 @@ lane_work-finished w lane r runs awake sound =
 
 -- ---- states
 
-work_left-with_lane : (w : Wiring) (s : State) (q : ℕ) (lane : Lane) → q < length s.lanes
+pub work_left-with_lane : (w : Wiring) (s : State) (q : ℕ) (lane : Lane) → q < length s.lanes
     → work_left w (with_lane s q lane) + lane_work w (lane_at s q) ≡ work_left w s + lane_work w lane
 work_left-with_lane w s q lane within = sum_by-set (lane_work w) s.lanes q lane idle_lane within
 

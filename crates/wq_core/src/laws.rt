@@ -11,7 +11,7 @@ ghost use Rattle.wq_groups.specs.Assignment.{Assignment, IsAssignment, group_lan
 ghost use Rattle.wq_core.specs.declared.step.Step.{Step};
 ghost use Rattle.wq_core.specs.Wiring.{Wiring, IsWiring, LaneWaits, wiring, lane_of};
 ghost use Rattle.wq_core.specs.State.{State, HasUnfinished};
-ghost use Rattle.wq_core.specs.Rules.{Lawful};
+ghost use Rattle.wq_core.specs.Rules.{Lawful, Gives};
 ghost use Rattle.wq_core.specs.Runs.{IsRun, IsRunFrom, end_of, IsRescuerStep, IsCancel, is_rescuer_step};
 ghost use Rattle.wq_core.specs.Deadlock.{IsSafe, DeadlocksBy, Deadlocks, IsLeast};
 ghost use Rattle.wq_core.specs.Played.{CanMove, IsDeclaredStep, IsPlayedFrom, queue_order};
@@ -22,6 +22,17 @@ ghost use Rattle.wq_core.specs.Work.{work_left};
 /// lanes, and each target is an item.
 pub fn wirings_are_sound()
     ensures { (d : Declaration) (a : Assignment) → IsDeclaration d → IsAssignment d.groups a → IsWiring (wiring d a) }
+{}
+
+/// After a run a step gives one number at most, lawful or not.
+pub fn a_step_gives_one_number()
+    ensures { (w : Wiring) (steps : List Step) (step : Step) (n m : ℕ) → IsRun w steps →
+        Gives (end_of w steps) step n → Gives (end_of w steps) step m → n ≡ m }
+{}
+
+/// A lawful step gives a number.
+pub fn a_step_gives_a_number()
+    ensures { (w : Wiring) (s : State) (step : Step) → Lawful w s step → (n : ℕ) × Gives s step n }
 {}
 
 /// Where nothing more is queued, the rescuers make at most as many steps as there is work left, whatever the order and

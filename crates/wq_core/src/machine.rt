@@ -1,9 +1,9 @@
 //! The machine: its wiring, its state, and the steps that change it.
 //!
 //! The rules are those of "Rules" in the specs of this crate. A question about an item looks at the item's own lane
-//! alone, since its entries stand there. Each step takes time in the number of entries that are pending on one lane, a
-//! wait in the number of the targets of an item. Only `new` takes memory; it takes time and memory in the number of
-//! items, flushes and lanes.
+//! alone, since its entries stand there: it takes time in the number of entries that are pending on it. So does each step,
+//! and the question which number it would give; a wait takes time in the number of the targets of an item. Only `new` takes
+//! memory; it takes time and memory in the number of items, flushes and lanes.
 
 ghost use Rattle.std.specs.Prelude.{◌≡◌, ◌<◌, ◌≤◌, length, slice_get, Some, IfSome, IfNone, OnSome, IfOk, OnErr, IfErr, IsTrue, ◌↔◌, take};
 ghost use Rattle.std.specs.List.{Any};
@@ -173,7 +173,7 @@ impl<A: Allocator> Core<A> {
     pub fn has_unfinished(&self, item: ItemId) -> bool
         ensures { IsTrue result ↔ HasUnfinishedOf self.now.state item }
     {
-        self.unfinished_below(item, self.next)
+        self.unfinished_below(item, self.next_number())
     }
 
     /// The number that the next accepted queueing is given: how many were accepted so far.

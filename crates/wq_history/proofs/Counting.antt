@@ -1,5 +1,5 @@
 -- Asks that wait: what one row more does to their counts.
-use Rattle.std.proofs.Common.{◌≡◌, ◌≢◌, ℕ, ◌+◌, ◌-◌, ◌<◌, ◌≤◌, ◌⊎◌, inl, inr, Bool, true, false, cond, eqb, List, [], ◌∷◌, ◌++◌, length, get_or, set, refl, sym, ap, subst, ◌∙◌, arith}
+use Rattle.std.proofs.Common.{◌≡◌, ◌≢◌, ℕ, zero, suc, ◌+◌, ◌-◌, ◌<◌, ◌≤◌, ◌⊎◌, inl, inr, Bool, true, false, cond, eqb, List, [], ◌∷◌, ◌++◌, length, get_or, set, refl, sym, ap, subst, ◌∙◌, arith}
 use Rattle.std.specs.Prelude.{Option, Some, None, ◌&&◌, ◌==◌}
 use Rattle.std.specs.List.{count_by}
 use Rattle.std.proofs.lemmas.Bool.{cases_eq, eq-eqb, ne_eqb}
@@ -80,7 +80,7 @@ CountsAsks-asked rows asks new i n within counts set_is all_is = record {
 
     each_of : (j : ℕ) → (i ≡ j) ⊎ (i ≢ j) → get_or new.counts j 0 + count_by (ends_a_wait j) (rows ++ (row ∷ [])) ≡ count_by (begins_to_wait j) (rows ++ (row ∷ []))
     each_of j (inl same) =
-        let is : eqb i j ≡ true = eq-eqb same in
+        let is : eqb i j ≡ true = eq-eqb i j same in
         let begun = count-more (begins_to_wait j) rows row ∙ ap (λ b. count_by (begins_to_wait j) rows + cond (b && true) 1 0) is in
         let ended = count-more (ends_a_wait j) rows row in
         let at : get_or new.counts j 0 ≡ get_or asks.counts i 0 + 1 =
@@ -89,7 +89,7 @@ CountsAsks-asked rows asks new i n within counts set_is all_is = record {
         let here : get_or asks.counts i 0 ≡ get_or asks.counts j 0 = ap (λ k. get_or asks.counts k 0) same in
         omega (arith, begun, ended, at, old, here)
     each_of j (inr other) =
-        let is : eqb i j ≡ false = ne_eqb other in
+        let is : eqb i j ≡ false = ne_eqb i j other in
         let begun = count-more (begins_to_wait j) rows row ∙ ap (λ b. count_by (begins_to_wait j) rows + cond (b && true) 1 0) is in
         let ended = count-more (ends_a_wait j) rows row in
         let at : get_or new.counts j 0 ≡ get_or asks.counts j 0 =
@@ -113,7 +113,7 @@ CountsAsks-told rows asks new i n within some some_in_all counts set_is all_is =
 
     each_of : (j : ℕ) → (i ≡ j) ⊎ (i ≢ j) → get_or new.counts j 0 + count_by (ends_a_wait j) (rows ++ (row ∷ [])) ≡ count_by (begins_to_wait j) (rows ++ (row ∷ []))
     each_of j (inl same) =
-        let is : eqb i j ≡ true = eq-eqb same in
+        let is : eqb i j ≡ true = eq-eqb i j same in
         let begun = count-more (begins_to_wait j) rows row in
         let ended = count-more (ends_a_wait j) rows row ∙ ap (λ b. count_by (ends_a_wait j) rows + cond b 1 0) is in
         let at : get_or new.counts j 0 ≡ get_or asks.counts i 0 - 1 =
@@ -121,7 +121,7 @@ CountsAsks-told rows asks new i n within some some_in_all counts set_is all_is =
         let here : get_or asks.counts i 0 ≡ get_or asks.counts j 0 = ap (λ k. get_or asks.counts k 0) same in
         omega (arith, begun, ended, at, counts.each j, here, some)
     each_of j (inr other) =
-        let is : eqb i j ≡ false = ne_eqb other in
+        let is : eqb i j ≡ false = ne_eqb i j other in
         let begun = count-more (begins_to_wait j) rows row in
         let ended = count-more (ends_a_wait j) rows row ∙ ap (λ b. count_by (ends_a_wait j) rows + cond b 1 0) is in
         let at : get_or new.counts j 0 ≡ get_or asks.counts j 0 =
@@ -135,3 +135,9 @@ asks_waiting-count rows asks i counts = omega (arith, counts.each i)
 
 pub all_asks_waiting-count : (rows : List Row) (asks : AskView) → CountsAsks rows asks → asks.all ≡ all_asks_waiting rows
 all_asks_waiting-count rows asks counts = omega (arith, counts.in_all)
+
+-- an item of which some wait is one of the table
+pub within-some : (counts : List ℕ) (i : ℕ) → 0 < get_or counts i 0 → i < length counts
+within-some [] i some = omega (arith, some)
+within-some (n ∷ counts) zero some = omega arith
+within-some (n ∷ counts) (suc i) some = omega (arith, within-some counts i some)

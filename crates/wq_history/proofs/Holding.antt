@@ -1,20 +1,31 @@
 -- What a book holds, and that it holds it with one row more.
-use Rattle.std.proofs.Common.{◌≡◌, ◌≢◌, ℕ, ◌+◌, ◌-◌, ◌<◌, ◌≤◌, Bool, true, false, cond, List, [], ◌∷◌, ◌++◌, length, length-append, refl, sym, ap, subst, ◌∙◌, arith}
-use Rattle.std.specs.Prelude.{Option, Some, None}
+use Rattle.std.proofs.Common.{◌≡◌, ◌≢◌, ℕ, zero, suc, ◌+◌, ◌-◌, ◌<◌, ◌≤◌, ◌^◌, Bool, true, false, cond, List, [], ◌∷◌, ◌++◌, length, length-append, get_or, replicate, refl, sym, ap, subst, ◌∙◌, arith}
+use Rattle.std.specs.Prelude.{Option, Some, None, IfSome, slice_get, sum_by, ◌*◌}
+use Rattle.std.proofs.lemmas.List.{length-replicate}
+use Rattle.std.proofs.lemmas.List.Folds.{sum_by-replicate}
+use Rattle.wq_core.specs.declared.entry.Entry.{Entry}
+use Rattle.wq_core.specs.declared.entry.Running.{Running}
 use Rattle.wq_core.specs.declared.step.Step.{Step}
+use Rattle.wq_core.specs.declared.step.Step.TheVariants.{Queue as QueueStep, Cancel as CancelStep, Start as StartStep, Wait as WaitStep, Over as OverStep, Finish as FinishStep}
 use Rattle.wq_core.specs.Wiring.{Wiring, items}
-use Rattle.wq_core.specs.State.{State}
+use Rattle.wq_core.specs.State.{State, Lane, idle_lane, lane_at, empty_state}
 use Rattle.wq_core.specs.Rules.{Lawful, Gives, effect}
-use Rattle.wq_core.specs.Work.{work_left}
+use Rattle.wq_core.specs.Runs.{IsRescuerStep}
+use Rattle.wq_core.specs.Work.{lane_work, work_left}
 use Rattle.wq_core.specs.Held.{Machine, IsMachine, IsDone, machine_after}
+use Rattle.wq_core.proofs.Machines.{running-item}
 use Rattle.wq_core.proofs.RunLemmas.{next-effect}
+use Rattle.wq_core.proofs.Sound.{IsSoundState-effect}
+use Rattle.wq_core.proofs.WorkLemmas.{work_left-rescuer}
+use Rattle.wq_core.proofs.WorkChanges.{work_left-queued, work_left-cancelled}
 use Rattle.wq_rows.specs.declared.event.Event.{Event}
+use Rattle.wq_rows.specs.declared.event.Event.TheVariants.{Queue, Cancel, Start, Wait, Over, Finish, Ask, Told}
 use Rattle.wq_rows.specs.declared.event.Row.{Row}
 use Rattle.wq_rows.specs.Stored.{max_rows}
-use Rattle.wq_history.specs.Events.{step_of, steps_of}
+use Rattle.wq_history.specs.Events.{step_of, is_told}
 use Rattle.wq_history.specs.History.{state_after, all_asks_waiting, MayCome, MayFollow, IsLegal}
 use Rattle.wq_history.specs.Reserve.{reserved, free_rows, rows_needed}
-use Rattle.wq_history.specs.Counts.{AskView, CountsAsks, HoldsBook}
+use Rattle.wq_history.specs.Counts.{AskView, CountsAsks, Replays, HoldsBook}
 use Rattle.wq_history.specs.Book.{BookView, IsBook}
 use Rattle.wq_history.proofs.Histories.{state_after-step, state_after-none, IsLegal-more}
 use Rattle.wq_history.proofs.Counting.{IsNobodys, IsNobodys-step, CountsAsks-same, asks_waiting-count, all_asks_waiting-count}
@@ -25,8 +36,8 @@ use Rattle.wq_history.proofs.Counting.{IsNobodys, IsNobodys-step, CountsAsks-sam
 pub reserved-held : (m : Machine) (rows : List Row) (room : ℕ) (asks : AskView) (work : ℕ) → HoldsBook m rows room asks work
     → reserved m.wiring rows ≡ work + asks.all
 reserved-held m rows room asks work holds =
-    let kept : work ≡ work_left m.wiring (state_after m.wiring rows) = holds.work_is ∙ ap (work_left m.wiring) holds.replay in
-    omega (arith, kept, all_asks_waiting-count rows asks holds.asked)
+    let kept : work ≡ work_left m.wiring (state_after m.wiring rows) = holds.work_is ∙ ap (work_left m.wiring) holds.replays.replay in
+    omega (arith, kept, all_asks_waiting-count rows asks holds.replays.asked)
 
 pub free_rows-held : (m : Machine) (rows : List Row) (room : ℕ) (asks : AskView) (work : ℕ) → HoldsBook m rows room asks work
     → free_rows m.wiring room rows ≡ room - (length rows + (work + asks.all))
@@ -36,8 +47,8 @@ free_rows-held m rows room asks work holds = ap (λ n. room - (length rows + n))
 pub IsBook-held : (m : Machine) (rows : List Row) (room : ℕ) (asks : AskView) (work : ℕ) (closed : Bool) → HoldsBook m rows room asks work
     → IsBook (record { wiring = m.wiring; rows = rows; room = room; closed = closed })
 IsBook-held m rows room asks work closed holds = record {
-  wiring = holds.machine_is.wiring;
-  legal = holds.legal;
+  wiring = holds.replays.machine_is.wiring;
+  legal = holds.replays.legal;
   limit = holds.limit;
   enough = omega (arith, holds.enough, reserved-held m rows room asks work holds);
 }
@@ -47,42 +58,184 @@ IsBook-held m rows room asks work closed holds = record {
 length-more : (rows : List Row) (row : Row) → length (rows ++ (row ∷ [])) ≡ length rows + 1
 length-more rows row = length-append rows (row ∷ [])
 
+-- a lawful step leaves a machine
+IsMachine-after : (m : Machine) (step : Step) → IsMachine m → Lawful m.wiring m.state step → m.state.next + 1 < 2 ^ 32 → IsMachine (machine_after m step)
+IsMachine-after m step machine lawful few = record {
+  wiring = machine.wiring;
+  state = IsSoundState-effect m.wiring m.state step machine.state lawful;
+  few_items = machine.few_items;
+  few_flushes = machine.few_flushes;
+  few_lanes = machine.few_lanes;
+  numbers = omega (arith, few, next-effect m.wiring m.state step);
+}
+
+-- a row without a step
+pub Replays-noted : (m : Machine) (rows : List Row) (asks new : AskView) (row : Row) → Replays m rows asks → step_of row.event row.yes ≡ None
+    → MayFollow m.wiring rows row → CountsAsks (rows ++ (row ∷ [])) new → length new.counts ≡ length asks.counts → Replays m (rows ++ (row ∷ [])) new
+Replays-noted m rows asks new row replays none may counts same = record {
+  machine_is = replays.machine_is;
+  replay = replays.replay ∙ sym (state_after-none m.wiring rows row none);
+  legal = IsLegal-more m.wiring rows row replays.legal may;
+  a_count_each = same ∙ replays.a_count_each;
+  asked = counts;
+  numbers = omega (arith, length-more rows row, replays.numbers);
+}
+
+-- the row of a step
+pub Replays-made : (m : Machine) (rows : List Row) (asks : AskView) (event : Event) (said : Bool) (n : ℕ) (step : Step) → Replays m rows asks
+    → Lawful m.wiring m.state step → step_of event said ≡ Some step → MayCome m.wiring rows event said n → length rows < max_rows
+    → Replays (machine_after m step) (rows ++ (record { event = event; yes = said; number = n } ∷ [])) asks
+Replays-made m rows asks event said n step replays lawful makes may few =
+    let row : Row = record { event = event; yes = said; number = n } in
+    record {
+      machine_is = IsMachine-after m step replays.machine_is lawful (omega (arith, replays.numbers, few));
+      replay = ap (λ (s : State). effect m.wiring s step) replays.replay ∙ sym (state_after-step m.wiring rows row step makes);
+      legal = IsLegal-more m.wiring rows row replays.legal may;
+      a_count_each = replays.a_count_each;
+      asked = CountsAsks-same rows row asks (IsNobodys-step event said n step makes) replays.asked;
+      numbers = omega (arith, length-more rows row, replays.numbers, next-effect m.wiring m.state step);
+    }
+
 -- a row without a step, with the asks that wait after it
 pub HoldsBook-noted : (m : Machine) (rows : List Row) (room : ℕ) (asks new : AskView) (work : ℕ) (row : Row) → HoldsBook m rows room asks work
     → step_of row.event row.yes ≡ None → MayFollow m.wiring rows row → CountsAsks (rows ++ (row ∷ [])) new → length new.counts ≡ length asks.counts
     → new.all + 1 ≤ asks.all + free_rows m.wiring room rows → HoldsBook m (rows ++ (row ∷ [])) room new work
 HoldsBook-noted m rows room asks new work row holds none may counts same enough = record {
-  machine_is = holds.machine_is;
-  replay = holds.replay ∙ sym (state_after-none m.wiring rows row none);
-  legal = IsLegal-more m.wiring rows row holds.legal may;
-  a_count_each = same ∙ holds.a_count_each;
-  asked = counts;
+  replays = Replays-noted m rows asks new row holds.replays none may counts same;
   work_is = holds.work_is;
   enough = omega (arith, length-more rows row, enough, holds.enough, free_rows-held m rows room asks work holds);
   limit = holds.limit;
-  numbers = omega (arith, length-more rows row, holds.numbers);
 }
+
+-- what comes to nothing is no end of a wait, and needs a row
+pub not_told : (w : Wiring) (rows : List Row) (event : Event) (n : ℕ) → MayCome w rows event false n → is_told event ≡ false
+not_told w rows (Queue i) n may = refl
+not_told w rows (Cancel i) n may = refl
+not_told w rows (Start q i) n may = refl
+not_told w rows (Wait q b) n may = refl
+not_told w rows (Over q b) n may = refl
+not_told w rows (Finish q i) n may = refl
+not_told w rows (Ask i) n may = refl
+not_told w rows (Told i) n may = let said : false ≡ true = may.0 in absurd cc
+
+pub needs_a_row : (w : Wiring) (rows : List Row) (event : Event) (n : ℕ) → MayCome w rows event false n → step_of event false ≡ None → 1 ≤ rows_needed w event false
+needs_a_row w rows (Queue i) n may none = omega arith
+needs_a_row w rows (Cancel i) n may none = omega arith
+needs_a_row w rows (Start q i) n may none = absurd cc
+needs_a_row w rows (Wait q b) n may none = absurd cc
+needs_a_row w rows (Over q b) n may none = absurd cc
+needs_a_row w rows (Finish q i) n may none = absurd cc
+needs_a_row w rows (Ask i) n may none = omega arith
+needs_a_row w rows (Told i) n may none = let said : false ≡ true = may.0 in absurd cc
+
+-- the same, of rows and room by other names
+pub HoldsBook-read : (m : Machine) (new : List Row) (room_new : ℕ) (asks : AskView) (work : ℕ) {rows : List Row} {room : ℕ} → new ≡ rows → room_new ≡ room
+    → HoldsBook m rows room asks work → HoldsBook m new room_new asks work
+HoldsBook-read m new room_new asks work {rows} {room} same_rows same_room holds =
+    subst (λ (n : ℕ). HoldsBook m new n asks work) (sym same_room) (subst (λ (rs : List Row). HoldsBook m rs room asks work) (sym same_rows) holds)
+
+-- the work that a step leaves and its row take no more than the work before it and the rows that its event needs free
+abbrev IsPaidFor : Machine → Event → Bool → Step → Type 0
+IsPaidFor m event said step =
+    Lawful m.wiring m.state step → work_left m.wiring (effect m.wiring m.state step) + 1 ≤ work_left m.wiring m.state + rows_needed m.wiring event said
+
+-- the step of a rescuer is paid for by the work that it takes off
+rescuer_pays : (m : Machine) (event : Event) (said : Bool) (step : Step) → IsMachine m → IsRescuerStep step → IsPaidFor m event said step
+rescuer_pays m event said step machine is lawful = omega (arith, work_left-rescuer m.wiring m.state step machine.state lawful is)
+
+pub step_is_paid : (m : Machine) (event : Event) (said : Bool) (step : Step) → IsMachine m → step_of event said ≡ Some step → IsPaidFor m event said step
+step_is_paid m (Queue i) true step machine makes = subst (IsPaidFor m (Queue i) true) (let same : QueueStep i ≡ step = cc in same)
+    (λ lawful. omega (arith, work_left-queued m.wiring m.state i machine.wiring machine.state lawful.0))
+step_is_paid m (Queue i) false step machine makes = absurd cc
+step_is_paid m (Cancel i) true step machine makes = subst (IsPaidFor m (Cancel i) true) (let same : CancelStep i ≡ step = cc in same)
+    (λ lawful. omega (arith, work_left-cancelled m.wiring m.state i machine.state lawful))
+step_is_paid m (Cancel i) false step machine makes = absurd cc
+step_is_paid m (Start q i) said step machine makes = subst (IsPaidFor m (Start q i) said) (let same : StartStep q i ≡ step = cc in same)
+    (rescuer_pays m (Start q i) said (StartStep q i) machine tt)
+step_is_paid m (Wait q b) said step machine makes = subst (IsPaidFor m (Wait q b) said) (let same : WaitStep q b ≡ step = cc in same)
+    (rescuer_pays m (Wait q b) said (WaitStep q b) machine tt)
+step_is_paid m (Over q b) said step machine makes = subst (IsPaidFor m (Over q b) said) (let same : OverStep q b ≡ step = cc in same)
+    (rescuer_pays m (Over q b) said (OverStep q b) machine tt)
+step_is_paid m (Finish q i) said step machine makes = subst (IsPaidFor m (Finish q i) said) (let same : FinishStep q i ≡ step = cc in same)
+    (rescuer_pays m (Finish q i) said (FinishStep q i) machine tt)
+step_is_paid m (Ask i) said step machine makes = absurd cc
+step_is_paid m (Told i) said step machine makes = absurd cc
 
 -- the row of a step, with the machine and the work that are left after it
 pub HoldsBook-made : (m new : Machine) (rows : List Row) (room : ℕ) (asks : AskView) (work left : ℕ) (event : Event) (said : Bool) (n : ℕ) (step : Step)
-    → HoldsBook m rows room asks work → IsMachine new → IsDone m step n new → step_of event said ≡ Some step → MayCome m.wiring rows event said n
-    → left ≡ work_left m.wiring (effect m.wiring m.state step) → left + 1 ≤ work + free_rows m.wiring room rows
+    → HoldsBook m rows room asks work → IsDone m step n new → step_of event said ≡ Some step → MayCome m.wiring rows event said n
+    → left ≡ work_left m.wiring (effect m.wiring m.state step) → rows_needed m.wiring event said ≤ free_rows m.wiring room rows
     → HoldsBook new (rows ++ (record { event = event; yes = said; number = n } ∷ [])) room asks left
-HoldsBook-made m new rows room asks work left event said n step holds machine done makes may left_is enough =
+HoldsBook-made m new rows room asks work left event said n step holds done makes may left_is enough =
     subst (λ (x : Machine). HoldsBook x (rows ++ (row ∷ [])) room asks left) (sym done.after) after_it
   where
     row : Row
     row = record { event = event; yes = said; number = n }
 
+    paid : left + 1 ≤ work + free_rows m.wiring room rows
+    paid = omega (arith, left_is, holds.work_is, enough, step_is_paid m event said step holds.replays.machine_is makes done.lawful)
+
+    room_left : length rows + 1 ≤ room
+    room_left = omega (arith, paid, holds.enough, free_rows-held m rows room asks work holds)
+
     after_it : HoldsBook (machine_after m step) (rows ++ (row ∷ [])) room asks left
     after_it = record {
-      machine_is = subst (λ (x : Machine). IsMachine x) done.after machine;
-      replay = ap (λ (s : State). effect m.wiring s step) holds.replay ∙ sym (state_after-step m.wiring rows row step makes);
-      legal = IsLegal-more m.wiring rows row holds.legal may;
-      a_count_each = holds.a_count_each;
-      asked = CountsAsks-same rows row asks (IsNobodys-step event said n step makes) holds.asked;
+      replays = Replays-made m rows asks event said n step holds.replays done.lawful makes may (omega (arith, room_left, holds.limit));
       work_is = left_is;
-      enough = omega (arith, length-more rows row, enough, holds.enough, free_rows-held m rows room asks work holds);
+      enough = omega (arith, length-more rows row, paid, holds.enough, free_rows-held m rows room asks work holds);
       limit = holds.limit;
-      numbers = omega (arith, length-more rows row, holds.numbers, next-effect m.wiring m.state step);
     }
+
+-- there is room for the row of a step
+pub room_for_step : (m : Machine) (rows : List Row) (room : ℕ) (asks : AskView) (work : ℕ) (event : Event) (said : Bool) (step : Step)
+    → HoldsBook m rows room asks work → Lawful m.wiring m.state step → step_of event said ≡ Some step
+    → rows_needed m.wiring event said ≤ free_rows m.wiring room rows → length rows < room
+room_for_step m rows room asks work event said step holds lawful makes enough =
+    omega (arith, holds.work_is, holds.enough, enough, step_is_paid m event said step holds.replays.machine_is makes lawful, free_rows-held m rows room asks work holds)
+
+-- ---- a book without rows
+
+zeros : (n i : ℕ) (none : ℕ) → get_or (replicate n none) i none ≡ none
+zeros zero i none = refl
+zeros (suc n) zero none = refl
+zeros (suc n) (suc i) none = zeros n i none
+
+no_work : (w : Wiring) (n : ℕ) → sum_by (lane_work w) (replicate n idle_lane) ≡ 0
+no_work w n = omega (arith, sum_by-replicate (lane_work w) n idle_lane)
+
+pub Replays-first : (m : Machine) (asks : AskView) → IsMachine m → m.state ≡ empty_state m.wiring
+    → asks ≡ record { counts = replicate (items m.wiring) 0; all = 0 } → Replays m [] asks
+Replays-first m asks machine empty none = record {
+  machine_is = machine;
+  replay = empty;
+  legal = λ n row at. absurd cc;
+  a_count_each = ap (λ (a : AskView). length a.counts) none ∙ length-replicate (items m.wiring) 0;
+  asked = record {
+    each = λ i. let at : get_or asks.counts i 0 ≡ 0 = ap (λ (a : AskView). get_or a.counts i 0) none ∙ zeros (items m.wiring) i 0 in omega (arith, at);
+    in_all = ap (λ (a : AskView). a.all + 0) none;
+  };
+  numbers = let next : m.state.next ≡ 0 = ap (λ (s : State). s.next) empty in omega (arith, next);
+}
+
+pub HoldsBook-first : (m : Machine) (room : ℕ) (asks : AskView) → IsMachine m → m.state ≡ empty_state m.wiring → room ≤ max_rows
+    → asks ≡ record { counts = replicate (items m.wiring) 0; all = 0 } → HoldsBook m [] room asks 0
+HoldsBook-first m room asks machine empty limit none = record {
+  replays = Replays-first m asks machine empty none;
+  work_is = sym (ap (work_left m.wiring) empty ∙ no_work m.wiring m.wiring.lanes);
+  enough = let all : asks.all ≡ 0 = ap (λ (a : AskView). a.all) none in omega (arith, all);
+  limit = limit;
+}
+
+-- ---- lanes
+
+-- a lane that runs nothing and has no first entry is idle
+pub idle_exactly : (lane : Lane) → lane.running ≡ None → slice_get lane.pending 0 ≡ None → lane ≡ idle_lane
+idle_exactly lane idle none = fields lane.pending lane.running idle none where
+  fields : (ps : List Entry) (o : Option Running) → o ≡ None → slice_get ps 0 ≡ None → record { pending = ps; running = o } ≡ idle_lane
+  fields [] o runs first = ap (λ (r : Option Running). record { pending = []; running = r }) runs
+  fields (p ∷ ps) o runs first = absurd cc
+
+-- what runs is of an item that exists
+pub running-known : (m : Machine) (q : ℕ) (o : Option Running) → IsMachine m → o ≡ (lane_at m.state q).running → IfSome o (λ (r : Running). r.entry.item < items m.wiring)
+running-known m q None machine is = tt
+running-known m q (Some r) machine is = running-item m.wiring m.state q r machine.state (sym is)

@@ -1,5 +1,5 @@
 -- Answers: what the calls of a book answer, and by which row.
-use Rattle.std.specs.Prelude.{◌≡◌, ℕ, ◌<◌, ◌×◌, Option, Some, None, Bool, true, false}
+use Rattle.std.specs.Prelude.{◌≡◌, ℕ, ◌<◌, Option, Some, None, Bool, true, false}
 use Rattle.wq_core.specs.State.{HasUnfinishedBelow}
 use Rattle.wq_rows.specs.declared.event.Event.TheVariants.{Start, Over, Ask as AskEvent, Told as ToldEvent}
 use Rattle.wq_history.specs.declared.asking.Ask.{Ask}

@@ -23,15 +23,20 @@ pub record CountsAsks (rows : List Row) (asks : AskView) : Type 0 where
   pub each : (i : ℕ) → slice_index asks.counts i + count_by (ends_a_wait i) rows ≡ count_by (begins_to_wait i) rows
   pub in_all : asks.all + count_by (λ (row : Row). is_told row.event) rows ≡ count_by (λ (row : Row). is_ask row.event && row.yes) rows
 
--- what holds of the parts of a book: the machine is the replay of the rows, which are legal; the asks that wait and the
--- work that is left are counted; rows are kept for both; and no more numbers were given than there are rows
-pub record HoldsBook (machine : Machine) (rows : List Row) (room : ℕ) (asks : AskView) (work : ℕ) : Type 0 where
+-- a machine is the replay of rows: they are legal, the asks that wait are counted, and no more numbers were given than there
+-- are rows
+pub record Replays (machine : Machine) (rows : List Row) (asks : AskView) : Type 0 where
   pub machine_is : IsMachine machine
   pub replay : machine.state ≡ state_after machine.wiring rows
   pub legal : IsLegal machine.wiring rows
   pub a_count_each : length asks.counts ≡ items machine.wiring
   pub asked : CountsAsks rows asks
+  pub numbers : machine.state.next ≤ length rows
+
+-- what holds of the parts of a book: its machine is the replay of its rows, the work that is left is counted, and rows are
+-- kept for it and for the asks that wait
+pub record HoldsBook (machine : Machine) (rows : List Row) (room : ℕ) (asks : AskView) (work : ℕ) : Type 0 where
+  pub replays : Replays machine rows asks
   pub work_is : work ≡ work_left machine.wiring machine.state
   pub enough : length rows + (work + asks.all) ≤ room
   pub limit : room ≤ max_rows
-  pub numbers : machine.state.next ≤ length rows

@@ -10,6 +10,7 @@ use Rattle.wq_core.specs.Runs.{end_of}
 use Rattle.wq_rows.specs.declared.event.Event.{Event}
 use Rattle.wq_rows.specs.declared.event.Event.TheVariants.{Queue, Cancel, Start, Wait, Over, Finish, Ask, Told}
 use Rattle.wq_rows.specs.declared.event.Row.{Row}
+use Rattle.wq_rows.specs.Packing.{item_in}
 use Rattle.wq_history.specs.Events.{steps_of, begins_to_wait, ends_a_wait, is_ask, is_told}
 
 -- the replay: the state that the steps of rows leave
@@ -32,23 +33,25 @@ Makes w s step number = Lawful w s step × Gives s step number
 abbrev pub SaysUnfinished : State → ℕ → Bool → Type 0
 SaysUnfinished s i said = IsTrue said ↔ HasUnfinishedOf s i
 
--- after these rows an event may come with this `yes` and this number: a queueing is accepted exactly where the item isn't
--- pending, a cancellation takes an entry off exactly where one is pending; a wait and an ask say whether the item has an
--- unfinished entry; and a caller is told only where an ask of the item waits, and no entry of it below the number is
--- unfinished. All else has yes. The number is that of the step; of an ask it is the next number, and where nothing is
--- queued or taken off it is 0. Lanes and items of legal histories exist, since their steps are lawful and those whom a
--- caller is told of were asked for
+-- in a state in which so many asks of its item wait, an event may come with this `yes` and this number: a queueing is
+-- accepted exactly where the item isn't pending, a cancellation takes an entry off exactly where one is pending; a wait and
+-- an ask say whether the item has an unfinished entry; and a caller is told only where an ask of the item waits, and no
+-- entry of it below the number is unfinished. All else has yes. The number is that of the step; of an ask it is the next
+-- number, and where nothing is queued or taken off it is 0. Lanes and items of legal histories exist, since their steps are
+-- lawful and those whom a caller is told of were asked for
+abbrev pub MayComeIn : Wiring → State → ℕ → Event → Bool → ℕ → Type 0
+MayComeIn w s waiting (Queue i) said n = (i < items w) × MatchBool said (Makes w s (QueueStep i) n) (HasPending s i × (n ≡ 0))
+MayComeIn w s waiting (Cancel i) said n = (i < items w) × MatchBool said (Makes w s (CancelStep i) n) ((¬ HasPending s i) × (n ≡ 0))
+MayComeIn w s waiting (Start q i) said n = (said ≡ true) × Makes w s (StartStep q i) n
+MayComeIn w s waiting (Wait q b) said n = SaysUnfinished s b said × Makes w s (WaitStep q b) n
+MayComeIn w s waiting (Over q b) said n = (said ≡ true) × Makes w s (OverStep q b) n
+MayComeIn w s waiting (Finish q i) said n = (said ≡ true) × Makes w s (FinishStep q i) n
+MayComeIn w s waiting (Ask i) said n = (i < items w) × SaysUnfinished s i said × (n ≡ s.next)
+MayComeIn w s waiting (Told i) said n = (said ≡ true) × (0 < waiting) × (¬ HasUnfinishedBelow s i n)
+
+-- after these rows an event may come with this `yes` and this number
 abbrev pub MayCome : Wiring → List Row → Event → Bool → ℕ → Type 0
-MayCome w rows (Queue i) said n = let s = state_after w rows in
-    (i < items w) × MatchBool said (Makes w s (QueueStep i) n) (HasPending s i × (n ≡ 0))
-MayCome w rows (Cancel i) said n = let s = state_after w rows in
-    (i < items w) × MatchBool said (Makes w s (CancelStep i) n) ((¬ HasPending s i) × (n ≡ 0))
-MayCome w rows (Start q i) said n = (said ≡ true) × Makes w (state_after w rows) (StartStep q i) n
-MayCome w rows (Wait q b) said n = let s = state_after w rows in SaysUnfinished s b said × Makes w s (WaitStep q b) n
-MayCome w rows (Over q b) said n = (said ≡ true) × Makes w (state_after w rows) (OverStep q b) n
-MayCome w rows (Finish q i) said n = (said ≡ true) × Makes w (state_after w rows) (FinishStep q i) n
-MayCome w rows (Ask i) said n = let s = state_after w rows in (i < items w) × SaysUnfinished s i said × (n ≡ s.next)
-MayCome w rows (Told i) said n = (said ≡ true) × (0 < asks_waiting i rows) × (¬ HasUnfinishedBelow (state_after w rows) i n)
+MayCome w rows event said n = MayComeIn w (state_after w rows) (asks_waiting (item_in event) rows) event said n
 
 -- a row may follow these rows
 abbrev pub MayFollow : Wiring → List Row → Row → Type 0

@@ -7,3 +7,4 @@ pub mod Reserve
 pub mod Book
 pub mod Counts
 pub mod Answers
+pub mod Judging

@@ -71,6 +71,7 @@ impl<A: Allocator> AskCounts<A> {
         requires { 0 < slice_index self.old.counts item }
         ensures counts { self.new.counts ≡ slice_set self.old.counts item (slice_index self.old.counts item - 1) }
         ensures all { self.new.all ≡ self.old.all - 1 }
+        ensures some { 0 < self.old.all }
     {
         self.counts[usize::from(item.get())] -= 1;
         self.all -= 1;

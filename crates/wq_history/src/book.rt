@@ -5,21 +5,20 @@
 //! nothing that grows with the number of rows, of lanes or of asks. Only `new` takes memory: 12 bytes for each row and a
 //! count for each item.
 
-ghost use Rattle.std.specs.Prelude.{◌≡◌, ℕ, ◌<◌, ◌≤◌, ◌×◌, ◌↔◌, [], length, Some, None, true, false, IfOk, IfErr, IfSome, IfNone, IsTrue};
+ghost use Rattle.std.specs.Prelude.{◌≡◌, ℕ, ◌<◌, ◌≤◌, ◌↔◌, [], length, Some, None, true, false, IfOk, IfErr, IfSome, IfNone, IsTrue, MatchBool, slice_get};
 ghost use Rattle.std.specs.List.{Any};
 ghost use Rattle.wq_items.specs.declared.target.Target.{Target as TargetOf};
 ghost use Rattle.wq_core.specs.declared.entry.Running.{Running};
 ghost use Rattle.wq_core.specs.declared.entry.Waiting.{Waiting};
 ghost use Rattle.wq_core.specs.Wiring.{IsWiring, items, lane_of, declared_by};
-ghost use Rattle.wq_core.specs.State.{empty_state, lane_at, HasPending, HasUnfinished};
+ghost use Rattle.wq_core.specs.State.{empty_state, lane_at, HasPending, HasUnfinished, HasUnfinishedBelow};
 ghost use Rattle.wq_core.specs.Rules.{Lawful, Gives};
 ghost use Rattle.wq_rows.specs.declared.event.Event.TheVariants.{Queue, Cancel, Start, Wait, Over, Finish, Ask as AskEvent, Told as ToldEvent};
 ghost use Rattle.wq_rows.specs.Packing.{packed_rows};
 ghost use Rattle.wq_rows.specs.Stored.{max_rows};
 ghost use Rattle.wq_history.specs.Events.{step_of};
-ghost use Rattle.wq_history.specs.History.{MayCome};
+ghost use Rattle.wq_history.specs.History.{asks_waiting, MayCome};
 ghost use Rattle.wq_history.specs.Reserve.{rows_needed};
-ghost use Rattle.wq_history.specs.declared.fault.BookError.TheVariants.{HistoryFull};
 ghost use Rattle.wq_history.specs.Book.{BookView, state, free, IsBook, Appends, AppendsOne, LaneRuns, IsAwake, IsWaiting, IsNotWaiting, IsNotAwake, IsWrongToStart, RefusesNew, RefusesQueue, RefusesItem, RefusesLane, RefusesWait, WaitGoesOn};
 ghost use Rattle.wq_history.specs.Answers.{AnswersAsk, AnswersTold, AnswersStart, AnswersOver};
 
@@ -28,7 +27,7 @@ use crate::asking::{Ask, Asked, Told};
 use crate::fault::BookError;
 use std::alloc::Allocator;
 use std::marker::Model;
-use wq_core::{Core, Running, Step, Waiting};
+use wq_core::{Core, Entry, Running, Step, Waiting};
 use wq_groups::LaneId;
 use wq_items::{ItemId, Target};
 use wq_rows::{Event, History, MAX_ROWS, Row, Rows};
@@ -92,7 +91,9 @@ impl<A: Allocator> Book<A> {
     /// What holds of every book: its rows are a legal history, and rows are kept free for what is to come.
     pub fn legal(&self)
         ensures { IsBook self.now }
-    {}
+    {
+        let _ = &self.core;
+    }
 
     /// Makes a step, and appends the row of its event. Gives the number of the row.
     fn make(&mut self, step: &Step, event: Event, yes: bool) -> u32
@@ -152,15 +153,11 @@ impl<A: Allocator> Book<A> {
         });
     }
 
-    /// Refuses what needs more rows than are free.
-    fn demand(&self, rows: u64) -> Result<(), BookError>
-        ensures free { IfOk result (λ _. rows ≤ free self.now) }
-        ensures full { IfErr result (λ e. (e ≡ HistoryFull) × (free self.now < rows)) }
+    /// Whether fewer rows are free than these.
+    fn lacks(&self, rows: u32) -> bool
+        ensures { IsTrue result ↔ (free self.now < rows) }
     {
-        if u64::from(self.free_rows()) < rows {
-            return Err(BookError::HistoryFull);
-        }
-        Ok(())
+        self.free_rows() < rows
     }
 
     /// Whether there is such an item.
@@ -170,16 +167,46 @@ impl<A: Allocator> Book<A> {
         usize::from(item.get()) < self.core.items()
     }
 
+    /// How many asks of an item wait.
+    fn asks_waiting(&self, item: ItemId) -> u32
+        ensures { result ≡ asks_waiting item self.now.rows }
+    {
+        self.asks.of(item)
+    }
+
+    /// Whether an unfinished entry of an item has a number below the mark.
+    fn unfinished_below(&self, item: ItemId, mark: u32) -> bool
+        ensures { IsTrue result ↔ HasUnfinishedBelow (state self.now) item mark }
+    {
+        self.core.unfinished_below(item, mark)
+    }
+
     /// What a lane runs; nothing, where there is no such lane.
     fn running_on(&self, q: LaneId) -> Option<Running>
-        ensures { result ≡ (lane_at (state self.now) q).running }
+        ensures running { result ≡ (lane_at (state self.now) q).running }
+        ensures known { IfSome result (λ r. r.entry.item < items self.now.wiring) }
     {
         self.core.running_on(q)
+    }
+
+    /// The entry that a lane starts next; none, where there is no such lane.
+    fn first_on(&self, q: LaneId) -> Option<Entry>
+        ensures { result ≡ slice_get (lane_at (state self.now) q).pending 0 }
+    {
+        self.core.first_on(q)
+    }
+
+    /// Whether there is such a lane, and it runs nothing.
+    fn is_idle_lane(&self, q: LaneId) -> bool
+        ensures { MatchBool result ((q < self.now.wiring.lanes) × ((lane_at (state self.now) q).running ≡ None)) (IsWrongToStart self.now q) }
+    {
+        usize::from(q.get()) < self.core.lanes() && self.running_on(q).is_none()
     }
 
     /// What a lane runs, where it doesn't wait.
     fn awake_on(&self, q: LaneId) -> Option<Running>
         ensures some { IfSome result (λ r. IsAwake self.now q r) }
+        ensures known { IfSome result (λ r. r.entry.item < items self.now.wiring) }
         ensures none { IfNone result (IsNotAwake self.now q) }
     {
         let running = self.running_on(q)?;
@@ -222,11 +249,16 @@ impl<A: Allocator> Book<A> {
             return Err(BookError::Closed);
         }
         if self.core.is_pending(item) {
-            self.demand(1)?;
+            if self.lacks(1) {
+                return Err(BookError::HistoryFull);
+            }
             self.note(Event::Queue(item), 0);
             return Ok(false);
         }
-        self.demand(3 + 2 * self.core.waits(item).len() as u64)?;
+        let waits = self.core.waits(item).len() as u32;
+        if self.lacks(3 + 2 * waits) {
+            return Err(BookError::HistoryFull);
+        }
         self.make(&Step::Queue(item), Event::Queue(item), true);
         Ok(true)
     }
@@ -246,7 +278,9 @@ impl<A: Allocator> Book<A> {
             self.make(&Step::Cancel(item), Event::Cancel(item), true);
             return Ok(true);
         }
-        self.demand(1)?;
+        if self.lacks(1) {
+            return Err(BookError::HistoryFull);
+        }
         self.note(Event::Cancel(item), 0);
         Ok(false)
     }
@@ -263,11 +297,15 @@ impl<A: Allocator> Book<A> {
         }
         let mark = self.core.next_number();
         if self.core.has_unfinished(item) {
-            self.demand(2)?;
+            if self.lacks(2) {
+                return Err(BookError::HistoryFull);
+            }
             self.begin_to_wait(item, mark);
             return Ok(Ask::Waiting(Asked::new(item, mark)));
         }
-        self.demand(1)?;
+        if self.lacks(1) {
+            return Err(BookError::HistoryFull);
+        }
         self.note(Event::Ask(item), mark);
         Ok(Ask::Idle)
     }
@@ -280,10 +318,10 @@ impl<A: Allocator> Book<A> {
     {
         let item = asked.item();
         let mark = asked.mark();
-        if self.asks.of(item) == 0 {
+        if self.asks_waiting(item) == 0 {
             return Told::NotAsked(asked);
         }
-        if self.core.unfinished_below(item, mark) {
+        if self.unfinished_below(item, mark) {
             return Told::NotYet(asked);
         }
         asked.give_up();
@@ -298,10 +336,10 @@ impl<A: Allocator> Book<A> {
         ensures row { IfOk result (λ answer. AnswersStart self.old self.new q answer) }
         ensures refused { IfErr result (λ e. RefusesLane (IsWrongToStart self.old q) e × (self.new ≡ self.old)) }
     {
-        if usize::from(q.get()) >= self.core.lanes() || self.running_on(q).is_some() {
+        if !self.is_idle_lane(q) {
             return Err(BookError::WrongLane);
         }
-        let Some(first) = self.core.first_on(q) else {
+        let Some(first) = self.first_on(q) else {
             return Ok(None);
         };
         let item = first.item;
@@ -320,11 +358,13 @@ impl<A: Allocator> Book<A> {
         let Some(running) = self.awake_on(q) else {
             return Err(BookError::WrongLane);
         };
-        let targets = self.core.waits(running.entry.item);
+        let item = running.entry.item;
+        let made = running.made;
+        let targets = self.core.waits(item);
         if !have_target(targets, target) {
             return Err(BookError::Undeclared);
         }
-        if running.made as usize >= targets.len() {
+        if made as usize >= targets.len() {
             return Err(BookError::TooManyWaits);
         }
         let unfinished = self.core.has_unfinished(target);
@@ -344,7 +384,7 @@ impl<A: Allocator> Book<A> {
             return Err(BookError::WrongLane);
         };
         let target = flush.target;
-        if self.core.unfinished_below(target, flush.mark) {
+        if self.unfinished_below(target, flush.mark) {
             return Ok(false);
         }
         self.make(&Step::Over(q, target), Event::Over(q, target), true);
@@ -437,6 +477,13 @@ impl<A: Allocator> Book<A> {
         ensures { result ≡ self.now.wiring.lanes }
     {
         self.core.lanes()
+    }
+
+    /// The rows, in order.
+    pub fn rows(&self) -> Rows<'_>
+        ensures { result ≡ self.now.rows }
+    {
+        self.history.rows()
     }
 
     /// The bytes of the rows, 12 for each.

@@ -10,9 +10,12 @@ mod ask_counts;
 mod asking;
 mod book;
 mod fault;
-pub mod laws;
+mod judging;
+mod row_error;
 
 pub use asking::{Ask, Asked, Told};
 pub use book::Book;
 pub use fault::BookError;
+pub use judging::check_rows;
+pub use row_error::{RowError, RowFault};
 pub use wq_rows::{Event, MAX_ROWS, Row, Rows, pack, unpack};

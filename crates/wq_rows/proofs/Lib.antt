@@ -1,2 +1,2 @@
-mod PackingLemmas
-mod StoredLemmas
+pub mod PackingLemmas
+pub mod StoredLemmas

@@ -1,5 +1,5 @@
 -- Stored: the bytes of a history, and the rows that they hold.
-use Rattle.std.specs.Prelude.{◌≡◌, ℕ, ◌*◌, ◌≤◌, Bool, ◌==◌, if◌then◌else◌, List, [], ◌∷◌, ◌++◌, length, Option, Some, None, option_map}
+use Rattle.std.specs.Prelude.{◌≡◌, ℕ, ◌*◌, ◌≤◌, ◌==◌, if◌then◌else◌, List, [], ◌∷◌, ◌++◌, length, Option, Some, None, option_map}
 use Rattle.std.specs.Int.{w16, w32, from_le_bytes}
 use Rattle.std.specs.List.{All}
 use Rattle.std.specs.Option.{option_to_list}

@@ -9,6 +9,7 @@ ghost use Rattle.wq_rows.specs.Stored.{max_rows, IsHistory};
 
 use crate::event::Row;
 use crate::packing::{ROW_LEN, pack};
+use crate::rows::Rows;
 use std::alloc::{AllocError, Allocator};
 use std::marker::Model;
 
@@ -77,5 +78,12 @@ impl<A: Allocator> History<A> {
         ensures { result.now ≡ packed_rows self.now.rows }
     {
         self.bytes.as_slice()
+    }
+
+    /// The rows, in order.
+    pub fn rows(&self) -> Rows<'_>
+        ensures { result ≡ self.now.rows }
+    {
+        Rows::stored(self.bytes.as_slice())
     }
 }

@@ -7,8 +7,13 @@
 
 mod event;
 mod history;
+pub mod laws;
 mod packing;
+mod rows;
+#[cfg(test)]
+mod tests;
 
 pub use event::{Event, Row};
 pub use history::{History, MAX_ROWS};
-pub use packing::{pack, unpack};
+pub use packing::{ROW_LEN, pack, unpack};
+pub use rows::Rows;

@@ -23,7 +23,7 @@ use wq_groups::LaneId;
 use wq_items::ItemId;
 
 /// How many bytes hold a row.
-pub(crate) const ROW_LEN: usize = 12;
+pub const ROW_LEN: usize = 12;
 
 /// The 12 bytes that hold a row.
 pub fn pack(row: &Row) -> [u8; ROW_LEN]

@@ -8,7 +8,7 @@ use Rattle.wq_core.specs.declared.entry.Entry.{Entry}
 use Rattle.wq_core.specs.Wiring.{Wiring, items}
 use Rattle.wq_core.specs.State.{Lane, lane_at}
 use Rattle.wq_core.specs.Work.{whole_work}
-use Rattle.wq_core.proofs.WorkBounds.{pending_items, pending_work-few}
+use Rattle.wq_core.proofs.WorkBounds.{pending_items-exist, pending_work-machine}
 use Rattle.wq_core.proofs.machine.Core.pending_work.Goals as goal
 
 -- the iterator begins with all that is pending on the lane
@@ -31,7 +31,7 @@ loop-entry-init g c =
     all_left c.into_iter-entry-iterator.result c.pending-entry-items.result c.lane.result.now.lane (lane_at m.state c.args.q) c.into_iter-entry-iterator.ensures.into_iter_gives c.pending-entry-items.ensures c.lane.ensures in
     record {
       so_far = omega (arith, ap (sum_by (λ (e : Entry). whole_work m.wiring e.item)) all);
-      rest = subst (All (λ (e : Entry). e.item < items m.wiring)) (sym all) (pending_items m c.args.q c.items-items.ensures.machine);
+      rest = subst (All (λ (e : Entry). e.item < items m.wiring)) (sym all) (pending_items-exist m.wiring m.state c.items-items.ensures.machine.state c.args.q);
     }
 
 pub whole_work-work-requires : goal.whole_work-work-requires
@@ -43,7 +43,7 @@ pub overflow_add-work : goal.overflow_add-work
 overflow_add-work g c =
     let m = c.args.self.now in
     let next = next_work m.wiring c.in-Some.entry.now (deque_iter_rest c.loop-entry.entry-iterator) (deque_iter_rest c.next.new.self) c.in-Some.ensures.steps in
-    omega (arith, next, c.loop-entry.invariant.so_far, c.whole_work-work.ensures.work, pending_work-few m c.args.q c.items-items.ensures.machine)
+    omega (arith, next, c.loop-entry.invariant.so_far, c.whole_work-work.ensures.work, pending_work-machine m c.args.q c.items-items.ensures.machine)
 
 pub loop-entry-preserved : goal.loop-entry-preserved
 loop-entry-preserved g c =
@@ -62,4 +62,4 @@ returns-clause-work g c =
 
 pub returns-clause-few : goal.returns-clause-few
 returns-clause-few g c =
-    omega (arith, c.loop-entry.invariant.so_far, pending_work-few c.args.self.now c.args.q c.items-items.ensures.machine)
+    omega (arith, c.loop-entry.invariant.so_far, pending_work-machine c.args.self.now c.args.q c.items-items.ensures.machine)

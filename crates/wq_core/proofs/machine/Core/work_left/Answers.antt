@@ -1,5 +1,5 @@
 use Rattle.std.proofs.Common.{◌<◌, length, arith}
-use Rattle.wq_core.proofs.WorkBounds.{work_left-more, work_left-all}
+use Rattle.wq_core.proofs.WorkBounds.{work_left-more, work_left-all, work_left-machine}
 use Rattle.wq_core.proofs.machine.Core.work_left.Goals as goal
 
 pub loop-q-preserved : goal.loop-q-preserved
@@ -11,7 +11,13 @@ loop-q-preserved g c =
       few = omega (arith, c.loop-q.invariant.few, c.lane_work-work.ensures.few);
     }
 
-pub returns : goal.returns
-returns g c =
+pub returns-clause-work : goal.returns-clause-work
+returns-clause-work g c =
     let m = c.args.self.now in
     work_left-all m.wiring m.state c.loop-q.q c.loop-q.work (omega (arith, c.loop-q-test.false, c.lanes-q-end.ensures.lanes, c.lanes-q-end.ensures.machine.state.one_each)) c.loop-q.invariant.so_far
+
+pub returns-clause-few : goal.returns-clause-few
+returns-clause-few g c =
+    let m = c.args.self.now in
+    let all = work_left-all m.wiring m.state c.loop-q.q c.loop-q.work (omega (arith, c.loop-q-test.false, c.lanes-q-end.ensures.lanes, c.lanes-q-end.ensures.machine.state.one_each)) c.loop-q.invariant.so_far in
+    omega (arith, all, work_left-machine m c.lanes-q-end.ensures.machine)

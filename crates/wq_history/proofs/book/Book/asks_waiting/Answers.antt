@@ -1,0 +1,10 @@
+use Rattle.std.proofs.Common.{ap, ◌∙◌}
+use Rattle.wq_history.specs.History.{asks_waiting}
+use Rattle.wq_history.specs.Book.{BookView}
+use Rattle.wq_history.proofs.Counting.{asks_waiting-count}
+use Rattle.wq_history.proofs.book.Book.asks_waiting.Goals as goal
+
+pub returns : goal.returns
+returns g c =
+    let b = c.self.inside in
+    c.of.ensures.count ∙ asks_waiting-count b.history.rows b.asks c.args.item c.self.invariant.replays.asked ∙ ap (λ (x : BookView). asks_waiting c.args.item x.rows) c.self.view_is

@@ -1,0 +1,12 @@
+use Rattle.std.proofs.Common.{replicate, ap, sym, ◌∙◌, subst, arith}
+use Rattle.wq_rows.specs.Stored.{HistoryView}
+use Rattle.wq_history.specs.Counts.{AskView, HoldsBook}
+use Rattle.wq_history.proofs.Holding.{HoldsBook-first}
+use Rattle.wq_history.proofs.book.Book.new.Goals as goal
+
+pub invariant_of-result : goal.invariant_of-result
+invariant_of-result g c =
+    let history = c.in_ok-history.ensures.history in
+    let asks = c.in_ok-asks.ensures.counts ∙ ap (λ n. record { counts = replicate n 0; all = 0 }) c.items.ensures.items in
+    subst (λ (h : HistoryView). HoldsBook c.args.core h.rows h.room c.in_ok-asks.asks 0) (sym history)
+    (HoldsBook-first c.args.core c.args.rows c.in_ok-asks.asks c.items.ensures.machine c.requires (omega (arith, c.if-rows-gt-MAX_ROWS.false)) asks)

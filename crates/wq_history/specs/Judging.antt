@@ -1,0 +1,64 @@
+-- Judging a history: what its bytes say of a machine on which nothing has happened.
+use Rattle.std.specs.Prelude.{◌≡◌, ℕ, ◌+◌, ◌-◌, ◌<◌, List, ◌++◌, length, take, slice_index, slice_set, Option, Some, None, Bool, true, false}
+use Rattle.wq_core.specs.declared.step.Step.{Step}
+use Rattle.wq_core.specs.Wiring.{items}
+use Rattle.wq_core.specs.Held.{Machine, machine_after}
+use Rattle.wq_rows.specs.declared.event.Event.{Event}
+use Rattle.wq_rows.specs.declared.event.Event.TheVariants.{Queue, Cancel, Start, Wait, Over, Finish, Ask, Told}
+use Rattle.wq_rows.specs.declared.event.Row.{Row}
+use Rattle.wq_rows.specs.Packing.{IsPackedRow}
+use Rattle.wq_rows.specs.Stored.{IsStored}
+use Rattle.wq_history.specs.declared.row_error.RowFault.{RowFault}
+use Rattle.wq_history.specs.declared.row_error.RowFault.TheVariants.{BadRow, NotLegal, OutOfMemory}
+use Rattle.wq_history.specs.History.{state_after, MayFollow, IsLegal}
+use Rattle.wq_history.specs.Counts.{AskView}
+
+-- the bytes hold these rows, they are a legal history of the machine, and what was a new machine is now their replay
+pub record IsJudged (old : Machine) (bytes : List ℕ) (rows : List Row) (new : Machine) : Type 0 where
+  pub stored : IsStored bytes rows
+  pub legal : IsLegal old.wiring rows
+  pub replay : new ≡ record { wiring = old.wiring; state = state_after old.wiring rows }
+
+-- the bytes up to a place are such a history, and some are left; the row that is to follow is the one at `at`, from 1
+pub record IsJudgedUpTo (old : Machine) (bytes : List ℕ) (at : ℕ) (new : Machine) : Type 0 where
+  pub rows : List Row
+  pub judged_bytes : List ℕ
+  pub left : List ℕ
+  pub joined : judged_bytes ++ left ≡ bytes
+  pub judged : IsJudged old judged_bytes rows new
+  pub some_left : 0 < length left
+  pub at_is : at ≡ length rows + 1
+
+-- why bytes are no legal history: the next 12 of them, or those that are left where they are fewer, are no row; they are a
+-- row that may not follow; out of memory comes before any row, and only where there are items
+abbrev pub IsFaultAt : Machine → List ℕ → ℕ → Machine → RowFault → Type 0
+IsFaultAt old bytes at new BadRow = (place : IsJudgedUpTo old bytes at new) × ((row : Row) → ¬ IsPackedRow (take 12 place.left) row)
+IsFaultAt old bytes at new NotLegal = (place : IsJudgedUpTo old bytes at new) × ((row : Row) × IsPackedRow (take 12 place.left) row × (¬ MayFollow old.wiring place.rows row))
+IsFaultAt old bytes at new OutOfMemory = (at ≡ 0) × (new ≡ old) × (0 < items old.wiring)
+
+-- ---- one row more
+
+-- the machine after a step, if there is one
+abbrev pub stepped : Machine → Option Step → Machine
+stepped m None = m
+stepped m (Some step) = machine_after m step
+
+-- the counts of the asks that wait after an event with this `yes`
+abbrev pub counted : AskView → Event → Bool → AskView
+counted asks (Queue i) said = asks
+counted asks (Cancel i) said = asks
+counted asks (Start q i) said = asks
+counted asks (Wait q b) said = asks
+counted asks (Over q b) said = asks
+counted asks (Finish q i) said = asks
+counted asks (Ask i) true = record { counts = slice_set asks.counts i (slice_index asks.counts i + 1); all = asks.all + 1 }
+counted asks (Ask i) false = asks
+counted asks (Told i) said = record { counts = slice_set asks.counts i (slice_index asks.counts i - 1); all = asks.all - 1 }
+
+-- ---- numbers
+
+-- the number of a fault
+abbrev pub row_code : RowFault → ℕ
+row_code BadRow = 75
+row_code NotLegal = 76
+row_code OutOfMemory = 20

@@ -1,0 +1,172 @@
+//! Judging a history, row by row, by nothing but its bytes and a machine on which nothing has happened.
+//!
+//! A row may follow those before it by the rules of "History" in the specs of this crate. Each row takes the time of the
+//! step that it records. Memory is taken for a count for each item, before any row.
+
+ghost use Rattle.std.specs.Prelude.{◌≡◌, ℕ, ◌<◌, ◌≤◌, ◌*◌, ◌↔◌, List, length, slice_index, IfOk, IfErr, IfSome, IsTrue};
+ghost use Rattle.wq_core.specs.Rules.{Lawful};
+ghost use Rattle.wq_core.specs.Wiring.{items};
+ghost use Rattle.wq_core.specs.State.{empty_state};
+ghost use Rattle.wq_rows.specs.declared.event.Row.{Row as RowValue};
+ghost use Rattle.wq_rows.specs.declared.event.Event.TheVariants.{Ask, Told};
+ghost use Rattle.wq_rows.specs.Stored.{max_rows};
+ghost use Rattle.wq_history.specs.History.{Makes, MayComeIn};
+ghost use Rattle.wq_history.specs.Events.{step_of as step_of_event};
+ghost use Rattle.wq_history.specs.Judging.{IsJudged, IsFaultAt, stepped, counted};
+
+use crate::ask_counts::AskCounts;
+use crate::row_error::{RowError, RowFault};
+use std::alloc::Allocator;
+use wq_core::{Core, Step};
+use wq_items::ItemId;
+use wq_rows::{Event, ROW_LEN, Row, unpack};
+
+/// Whether there is such an item.
+fn is_item<A: Allocator>(core: &Core<A>, item: ItemId) -> bool
+    ensures { IsTrue result ↔ (item < items core.now.wiring) }
+{
+    usize::from(item.get()) < core.items()
+}
+
+/// Whether a step is lawful and gives this number.
+fn makes<A: Allocator>(core: &Core<A>, step: &Step, number: u32) -> bool
+    requires { core.now.state.next < 4294967295 }
+    ensures { IsTrue result ↔ Makes core.now.wiring core.now.state step.now number }
+{
+    core.peek(step) == Some(number)
+}
+
+/// Whether a row may follow, where so many asks of its item wait.
+fn may_come<A: Allocator>(core: &Core<A>, waiting: u32, row: &Row) -> bool
+    requires { core.now.state.next < 4294967295 }
+    ensures { IsTrue result ↔ MayComeIn core.now.wiring core.now.state waiting row.now.event row.now.yes row.now.number }
+{
+    let yes = row.yes;
+    let number = row.number;
+    match row.event {
+        Event::Queue(item) => {
+            if yes {
+                makes(core, &Step::Queue(item), number)
+            } else {
+                is_item(core, item) && core.is_pending(item) && number == 0
+            }
+        }
+        Event::Cancel(item) => {
+            if yes {
+                makes(core, &Step::Cancel(item), number)
+            } else {
+                is_item(core, item) && !core.is_pending(item) && number == 0
+            }
+        }
+        Event::Start(q, item) => yes && makes(core, &Step::Start(q, item), number),
+        Event::Wait(q, target) => {
+            core.has_unfinished(target) == yes && makes(core, &Step::Wait(q, target), number)
+        }
+        Event::Over(q, target) => yes && makes(core, &Step::Over(q, target), number),
+        Event::Finish(q, item) => yes && makes(core, &Step::Finish(q, item), number),
+        Event::Ask(item) => {
+            is_item(core, item)
+                && core.has_unfinished(item) == yes
+                && number == core.next_number()
+        }
+        Event::Told(item) => yes && waiting > 0 && !core.unfinished_below(item, number),
+    }
+}
+
+/// The step that an event with this `yes` makes, if it makes one.
+fn step_of(event: &Event, yes: bool) -> Option<Step>
+    ensures { result ≡ step_of_event event.now yes }
+{
+    match *event {
+        Event::Queue(item) if yes => Some(Step::Queue(item)),
+        Event::Cancel(item) if yes => Some(Step::Cancel(item)),
+        Event::Start(q, item) => Some(Step::Start(q, item)),
+        Event::Wait(q, target) => Some(Step::Wait(q, target)),
+        Event::Over(q, target) => Some(Step::Over(q, target)),
+        Event::Finish(q, item) => Some(Step::Finish(q, item)),
+        Event::Queue(_) | Event::Cancel(_) | Event::Ask(_) | Event::Told(_) => None,
+    }
+}
+
+/// Makes a step, if there is one.
+fn make<A: Allocator>(core: &mut Core<A>, step: Option<Step>)
+    requires lawful { IfSome step (λ s. Lawful core.old.wiring core.old.state s) }
+    requires numbers { core.old.state.next < 4294967295 }
+    ensures { core.new ≡ stepped core.old step }
+{
+    if let Some(step) = step {
+        let made = core.step(step);
+        prove!(made.is_ok());
+    }
+}
+
+/// Counts the ask that waits from this event on, or that is told by it.
+fn count<A: Allocator>(asks: &mut AskCounts<A>, event: &Event, yes: bool)
+    requires item { (i : ℕ) → event.now ≡ Ask i → i < length asks.old.counts }
+    requires some { (i : ℕ) → event.now ≡ Told i → 0 < slice_index asks.old.counts i }
+    requires few { asks.old.all < 4294967295 }
+    ensures { asks.new ≡ counted asks.old event.now yes }
+{
+    match *event {
+        Event::Ask(item) => {
+            if yes {
+                asks.add(item);
+            }
+        }
+        Event::Told(item) => asks.take_off(item),
+        _ => {}
+    }
+}
+
+/// Judges the rows that bytes hold, on a machine on which nothing has happened: how many there are, where they are a legal
+/// history; the machine is then their replay.
+///
+/// The error has the place of the lowest row at fault, from 1, and why: `BadRow` (75) where the bytes there are fewer than
+/// 12 or hold no row, `NotLegal` (76) where the row may not follow those before it; the machine is then the replay of
+/// these. Or it is `OutOfMemory` (20) at 0, which comes before any row, and never where there are no items.
+pub fn check_rows<A: Allocator + Copy>(
+    alloc: A,
+    core: &mut Core<A>,
+    packed: &[u8],
+) -> Result<u32, RowError>
+    requires new { core.old.state ≡ empty_state core.old.wiring }
+    requires few { length packed.now ≤ 12 * max_rows }
+    ensures legal { IfOk result (λ n. (rows : List RowValue) × IsJudged core.old packed.now rows core.new × (n ≡ length rows)) }
+    ensures refused { IfErr result (λ e. IsFaultAt core.old packed.now e.at core.new e.why) }
+{
+    let Ok(mut asks) = AskCounts::new(alloc, core.items()) else {
+        return Err(RowError {
+            at: 0,
+            why: RowFault::OutOfMemory,
+        });
+    };
+    let mut left = packed;
+    let mut rows = 0;
+    while let Some((bytes, after)) = left.split_at_checked(ROW_LEN) {
+        let at = rows + 1;
+        let Some(row) = unpack(bytes) else {
+            return Err(RowError {
+                at,
+                why: RowFault::BadRow,
+            });
+        };
+        let waiting = asks.of(row.event.item());
+        if !may_come(core, waiting, &row) {
+            return Err(RowError {
+                at,
+                why: RowFault::NotLegal,
+            });
+        }
+        make(core, step_of(&row.event, row.yes));
+        count(&mut asks, &row.event, row.yes);
+        left = after;
+        rows = at;
+    }
+    if left.is_empty() {
+        return Ok(rows);
+    }
+    Err(RowError {
+        at: rows + 1,
+        why: RowFault::BadRow,
+    })
+}
