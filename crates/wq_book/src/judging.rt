@@ -8,7 +8,7 @@ use hex::FromHexError;
 use std::alloc::{AllocError, Global};
 use wq_core::Core;
 use wq_groups::LaneId;
-use wq_history::{MAX_ROWS, RowError, check_rows};
+use wq_history::{MAX_ROWS, RowError, RowFault, check_rows};
 use wq_items::{ItemId, ItemTable};
 
 /// A text without its spaces, TABs, CRs and LFs.
@@ -76,9 +76,9 @@ fn put_judgement(out: &mut String, judgement: Result<u32, RowError>) -> Result<u
             writeln!(out, "legal {rows}")?;
             Ok(0)
         }
-        Err(error) if error.code() == 20 => Err(AllocError),
+        Err(error) if error.why == RowFault::OutOfMemory => Err(AllocError),
         Err(error) => {
-            writeln!(out, "refused {} at {}", error.code(), error.at)?;
+            writeln!(out, "refused {} at {}", error.why.code(), error.at)?;
             Ok(1)
         }
     }
