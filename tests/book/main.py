@@ -91,7 +91,7 @@ def failure(program, folder, given):
     )
     printed = run.stdout
     if given.table == "rows of books that are judged":
-        printed = printed[:printed.index(b"\n") + 1]
+        printed = printed.partition(b"\n")[0] + b"\n"
     says = given.table in ("command lines", "faults")
     if (run.returncode, printed) == (given.status, given.answer) and bool(run.stderr) == says:
         return None
