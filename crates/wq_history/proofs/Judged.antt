@@ -203,9 +203,10 @@ bad-row old bytes left front after now asks count so_far split none =
 pub cut-off : (old : Machine) (bytes left : List ℕ) (now : Machine) (asks : AskView) (count : ℕ) → JudgedSoFar old bytes left now asks count
     → length left < 12 → 0 < length left → (place : IsJudgedUpTo old bytes (count + 1) now) × ((row : Row) → ¬ IsPackedRow (take 12 place.left) row)
 unfolding place-of
-cut-off old bytes left now asks count so_far short some =
-    (place-of old bytes left now asks count so_far some,
-    (λ row holds. let len : 12 ≡ length (take 12 left) = ap length holds.holds in omega (arith, short, len, length-take 12 left)))
+cut-off old bytes left now asks count so_far short some = (
+  place-of old bytes left now asks count so_far some,
+  (λ row holds. let len : 12 ≡ length (take 12 left) = ap length holds.holds in omega (arith, short, len, length-take 12 left)),
+)
 
 -- the next row may not follow
 pub not-legal : (old : Machine) (bytes left front after : List ℕ) (now : Machine) (asks : AskView) (count waiting : ℕ) (row : Row) → JudgedSoFar old bytes left now asks count
@@ -213,10 +214,14 @@ pub not-legal : (old : Machine) (bytes left front after : List ℕ) (now : Machi
     → (¬ MayComeIn now.wiring now.state waiting row.event row.yes row.number)
     → (place : IsJudgedUpTo old bytes (count + 1) now) × ((r : Row) × IsPackedRow (take 12 place.left) r × (¬ MayFollow old.wiring place.rows r))
 unfolding place-of
-not-legal old bytes left front after now asks count waiting row so_far split is_row counted_is never =
-    (place-of old bytes left now asks count so_far (omega (arith, split.0)),
-    (row, subst (λ (l : List ℕ). IsPackedRow l row) split.1 is_row,
-    (λ may. never ((MayFollow-here now so_far.rows asks row waiting so_far.replays counted_is).1 (subst (λ (w : Wiring). MayFollow w so_far.rows row) (sym so_far.wired) may)))))
+not-legal old bytes left front after now asks count waiting row so_far split is_row counted_is never = (
+  place-of old bytes left now asks count so_far (omega (arith, split.0)),
+  (
+    row,
+    subst (λ (l : List ℕ). IsPackedRow l row) split.1 is_row,
+    (λ may. never ((MayFollow-here now so_far.rows asks row waiting so_far.replays counted_is).1 (subst (λ (w : Wiring). MayFollow w so_far.rows row) (sym so_far.wired) may))),
+  ),
+)
 
 stepped-wiring : (m : Machine) (o : Option Step) → (stepped m o).wiring ≡ m.wiring
 stepped-wiring m None = refl
