@@ -1,3 +1,4 @@
 pub mod Histories
 pub mod Counting
 pub mod Holding
+pub mod Judged

@@ -33,6 +33,7 @@ fn makes<A: Allocator>(core: &Core<A>, step: &Step, number: u32) -> bool
     requires { core.now.state.next < 4294967295 }
     ensures { IsTrue result ↔ Makes core.now.wiring core.now.state step.now number }
 {
+    let _items = core.items();
     core.peek(step) == Some(number)
 }
 
@@ -53,7 +54,7 @@ fn may_come<A: Allocator>(core: &Core<A>, waiting: u32, row: &Row) -> bool
         }
         Event::Cancel(item) => {
             if yes {
-                makes(core, &Step::Cancel(item), number)
+                is_item(core, item) && makes(core, &Step::Cancel(item), number)
             } else {
                 is_item(core, item) && !core.is_pending(item) && number == 0
             }
@@ -65,9 +66,7 @@ fn may_come<A: Allocator>(core: &Core<A>, waiting: u32, row: &Row) -> bool
         Event::Over(q, target) => yes && makes(core, &Step::Over(q, target), number),
         Event::Finish(q, item) => yes && makes(core, &Step::Finish(q, item), number),
         Event::Ask(item) => {
-            is_item(core, item)
-                && core.has_unfinished(item) == yes
-                && number == core.next_number()
+            is_item(core, item) && core.has_unfinished(item) == yes && number == core.next_number()
         }
         Event::Told(item) => yes && waiting > 0 && !core.unfinished_below(item, number),
     }

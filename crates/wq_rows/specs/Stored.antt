@@ -28,7 +28,7 @@ event_of kind item lane =
 -- the rows that some bytes hold, 12 bytes each. It is meant of bytes that hold rows; of others it reads what it can:
 -- 12 bytes that begin with no kind are no row, nor are fewer than 12 bytes at the end
 abbrev pub rows_of : List ℕ → List Row
-rows_of (kind ∷ answer ∷ item0 ∷ item1 ∷ lane0 ∷ lane1 ∷ zero0 ∷ zero1 ∷ number0 ∷ number1 ∷ number2 ∷ number3 ∷ rest) =
+rows_of (kind ∷ answer ∷ item0 ∷ item1 ∷ lane0 ∷ lane1 ∷ spare0 ∷ spare1 ∷ number0 ∷ number1 ∷ number2 ∷ number3 ∷ rest) =
     option_to_list (option_map
     (λ event. record { event = event; yes = answer == 1; number = from_le_bytes w32 (number0 ∷ number1 ∷ number2 ∷ number3 ∷ []) })
     (event_of kind (from_le_bytes w16 (item0 ∷ item1 ∷ [])) (from_le_bytes w16 (lane0 ∷ lane1 ∷ []))))
