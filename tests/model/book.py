@@ -372,6 +372,8 @@ class Play:
         self.book = Book(declared, assignment, row_count)
         self.item_number = {name: number for number, name in enumerate(declared.items)}
         self.asks = []  # those that were handed out; None once they are handed in
+        self.called = None  # the arguments of the last call
+        self.was_closed = False  # before the last call
 
     def item(self, word):
         return self.item_number.get(word, len(self.declared.items))
@@ -425,6 +427,7 @@ class Play:
     def make(self, words):
         """Makes the call that a line asks for. Returns its word, its answer, and what is printed."""
         word, arguments, place = self.call_of(words)
+        self.called, self.was_closed = arguments, self.book.closed
         answer = self.book.make(word, *arguments)
         if isinstance(answer, Ask):
             self.asks.append(answer)
