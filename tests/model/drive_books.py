@@ -350,7 +350,7 @@ def floors_of(sequences, histories):
     floors = {kind: FEWEST_IN_2000 * sequences // 2_000 for kind in make_books.KINDS}
     floors |= {f"judged {kind}": FEWEST_IN_2000 * histories // 2_000 for kind in JUDGED}
     floors |= {f"judged {kind}": FEWEST_CAUSES_IN_2000 * histories // 2_000 for kind in CAUSES}
-    floors["judged mistake"] = FEWEST_CAUSES_IN_2000 * histories // 2_000
+    floors["judged mistake"] = floors["judged legal (any bytes)"] = FEWEST_CAUSES_IN_2000 * histories // 2_000
     return floors
 
 

@@ -302,7 +302,7 @@ def random_book_case(seed, number):
     walk.make_calls(count, closed_at)
 
     lines = with_mistake(choose, walk) if choose.random() < 0.06 else walk.lines
-    if choose.random() < 0.04:
+    if choose.random() < 0.06:
         row_count = choose.choice([ROW_LIMIT + 1, ROW_LIMIT + 1, 2 * ROW_LIMIT, NUMBER_LIMIT,
                                    choose.randint(ROW_LIMIT + 1, NUMBER_LIMIT)])
     events = spelled(choose, lines)
@@ -353,6 +353,16 @@ def other_number(choose, number):
 
 def change_number(choose, history):
     history.change(choose, EVENTS, number=lambda row: other_number(choose, row.number))
+
+
+def change_rare(choose, history):
+    """The number of a row of an event that comes less often."""
+    events = choose.choice([("wait",), ("over",), ("over", "finish", "told")])
+    history.change(choose, events, number=lambda row: other_number(choose, row.number))
+
+
+def change_wait(choose, history):
+    history.change(choose, ("wait",), yes=lambda row: not row.yes)
 
 
 def change_told(choose, history):
@@ -456,19 +466,28 @@ def insert_legal(choose, history):
 
 
 def insert_nearly(choose, history):
-    """A row that might stand there if its `yes` or its number were another one."""
+    """A row that might stand there if something of it were another."""
     at = choose.randint(0, len(history.pieces))
     rows = standing_rows(choose, history, at)
-    if rows:
-        event = choose.choice(sorted({row.event for row in rows}))
-        row = choose.choice([row for row in rows if row.event == event])
-        if event not in book.ALWAYS_YES and choose.random() < 0.5:
-            row = dataclasses.replace(row, yes=not row.yes)
-        elif event == "told" and choose.random() < 0.8:
-            row = dataclasses.replace(row, number=min(row.number + 1, NUMBER_LIMIT))
-        else:
-            row = dataclasses.replace(row, number=other_number(choose, row.number))
-        history.pieces.insert(at, packed(row))
+    if not rows:
+        return
+    events = sorted({row.event for row in rows})
+    weights = [1 if event in ("queue", "cancel", "ask") else 3 for event in events]
+    event = choose.choices(events, weights)[0]
+    row = choose.choice([row for row in rows if row.event == event])
+    way = choose.random()
+    if way < 0.25:
+        missing = choose.choice([len(history.declared.items), LANE_LIMIT])
+        changes = {"item": missing}
+        if event in WITH_LANE and choose.random() < 0.5:
+            changes = {"lane": choose.choice([history.assignment.count, LANE_LIMIT])}
+    elif way < 0.6 and event not in book.ALWAYS_YES:
+        changes = {"yes": not row.yes}
+    elif event == "told":
+        changes = {"number": min(row.number + 1, NUMBER_LIMIT)}
+    else:
+        changes = {"number": other_number(choose, row.number)}
+    history.pieces.insert(at, packed(dataclasses.replace(row, **changes)))
 
 
 def cut_rows(choose, history):
@@ -535,10 +554,9 @@ def insert_bytes(choose, history):
 
 
 PACKABLE = [
-    change_yes, change_yes, change_number, change_number, change_told, change_item, change_lane,
-    change_event, drop, double, swap, move, insert_any, insert_legal, insert_legal, insert_nearly,
-    insert_nearly, insert_nearly, cut_rows,
-]
+    change_yes, change_number, change_told, change_item, change_lane, change_event, drop, double,
+    swap, move, insert_any, cut_rows, change_rare, change_rare, change_wait,
+] + [insert_legal] * 2 + [insert_nearly] * 8
 ANY_BYTES = [
     replace_byte, replace_byte, flip_bit, unpackable_byte, unpackable_byte, cut_middle, cut_last,
     add_bytes, drop_byte, double_byte, insert_bytes,
