@@ -260,7 +260,8 @@ def main(arguments):
             try:
                 looked += look(seed, number)
             except AssertionError as broken:
-                print(f"books: FAILED: {look.__name__} {number} (seed {seed}): {broken}")
+                print(f"books: FAILED: {look.__name__} {number} (seed {seed}): "
+                      f"{broken or 'an assertion of the model'}")
                 return 1
     print(f"books: the rows kept free suffice on every way from {looked - walks} states of {small} "
           f"small books, and in {walks} walks")

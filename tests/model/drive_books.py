@@ -28,7 +28,7 @@ import make_books  # noqa: E402
 from make_books import kind_of  # noqa: E402
 
 DEFAULT_SEED = "1"
-DEFAULT_SEQUENCES = 1_500
+DEFAULT_SEQUENCES = 1_000
 DEFAULT_HISTORIES = 1_500
 WORKERS = 3
 SECONDS_PER_RUN = 60
@@ -179,14 +179,27 @@ def judged_kinds(words, made):
 # The cases ----------------------------------------------------------------------------------------
 
 
-def fixed_cases():
-    """The worked histories, the cases at the limits, and those of the command line."""
-    cases = [Case(what, words, *answer) for what, words, answer in book_examples.cases()]
+def fixed_questions():
+    """The worked histories, the cases at the limits, and those of the command line.
+
+    Each is what it is, the words of the command line, and what the page says of the answer or None.
+    """
+    cases = [(what, words, answer) for what, words, answer in book_examples.cases()]
     for what, words in make_books.limit_book_cases() + make_books.limit_check_cases():
-        cases.append(Case(what, words, *book_examples.model_answer(words)))
+        cases.append((what, words, None))
     for what, words, status in make_books.fault_cases():
-        cases.append(Case(what, words, b"", status, b"fault read\n" if status == 3 else None))
+        cases.append((what, words, (b"", status, b"fault read\n" if status == 3 else None)))
     return cases
+
+
+FIXED = fixed_questions()
+
+
+def fixed_case(number):
+    """The fixed case of this number."""
+    what, words, answer = FIXED[number]
+    answer = answer or book_examples.model_answer(words)
+    return Case(f"fixed case {number}, {what}", words, *answer)
 
 
 def random_case(seed, number, sequences):
@@ -195,7 +208,7 @@ def random_case(seed, number, sequences):
     With it come the counts of its kinds of answer, and the place of a faulty row.
     """
     kinds = Kinds()
-    place = (None, 0)
+    place = None
     if number < sequences:
         words = make_books.random_book_case(seed, number)
         answer = book.answer_book(*words[1:3], int(words[3]), words[4], kinds.note)
@@ -274,7 +287,7 @@ def show_lines(what, printed, at):
 
 def show_difference(seed, case, found, folder):
     printed, status, errors = found
-    print(f"FAILED  {case.what} (seed {seed})")
+    print(f"FAILED  {case.what}" + ("" if seed is None else f" (seed {seed})"))
     words = write_files(case, folder)
     print(f"    the command line: {' '.join(words)}")
     for name, text in (("wanted", case.printed), ("found", printed)):
@@ -307,42 +320,47 @@ def show_table(counts, floors):
 # The comparison -----------------------------------------------------------------------------------
 
 
-def work(arguments):
-    """Compares one random case. Returns its number, counts and place, and what is wrong or None."""
-    program, seed, number, sequences = arguments
+def work(task):
+    """Compares one case. Returns its counts and place, and what is wrong or None."""
+    program, seed, number, sequences = task
     try:
-        case, counts, place = random_case(seed, number, sequences)
+        if seed is None:
+            case, counts, place = fixed_case(number), {}, None
+        else:
+            case, counts, place = random_case(seed, number, sequences)
         if program is None:
-            return number, counts, place, None
+            return counts, place, None
         with tempfile.TemporaryDirectory(prefix="books_") as folder:
             found = compare(program, case, folder)
-        return number, counts, place, None if found is None else (case, found)
+        return counts, place, None if found is None else (case, found)
     except Exception:
-        return number, collections.Counter(), (None, 0), traceback.format_exc()
+        return {}, None, traceback.format_exc()
 
 
-def fails(seed, wrong):
+def fails(seed, number, wrong):
     """Shows what is wrong."""
     if isinstance(wrong, str):
-        print(f"FAILED  the model (seed {seed})\n{wrong}")
-        return
-    case, found = wrong
-    show_difference(seed, case, found, tempfile.mkdtemp(prefix="books_"))
+        print(f"FAILED  the model, in case {number} (seed {seed})\n{wrong}")
+    else:
+        show_difference(seed, *wrong, tempfile.mkdtemp(prefix="books_"))
+    if seed is not None:
+        print(f"    this case again: --only {number}, with the same seed and counts")
 
 
-def compare_fixed(program):
-    """How many fixed cases agree, or None."""
-    cases = fixed_cases()
-    for number, case in enumerate(cases):
-        if program is None:
-            continue
-        with tempfile.TemporaryDirectory(prefix="books_") as folder:
-            found = compare(program, case, folder)
-        if found is not None:
-            case.what = f"fixed case {number}: {case.what}"
-            fails("none", (case, found))
-            return None
-    return len(cases)
+def compare_all(program, seed, count, sequences):
+    """The counts and places of so many cases, or None where one differs. Without a seed fixed ones."""
+    counts = collections.Counter()
+    places = collections.defaultdict(set)
+    with multiprocessing.get_context("fork").Pool(WORKERS) as pool:
+        tasks = ((program, seed, number, sequences) for number in range(count))
+        for number, (of_case, place, wrong) in enumerate(pool.imap(work, tasks, chunksize=4)):
+            if wrong is not None:
+                fails(seed, number, wrong)
+                return None
+            counts.update(of_case)
+            if place is not None:
+                places[place[0]].add(place[1])
+    return counts, places
 
 
 def floors_of(sequences, histories):
@@ -354,29 +372,16 @@ def floors_of(sequences, histories):
     return floors
 
 
-def compare_random(program, seed, sequences, histories):
-    """Whether all random cases agree, and each kind of answer came often enough."""
-    counts = collections.Counter()
-    places = collections.defaultdict(set)
-    numbers = range(sequences + histories)
-    with multiprocessing.Pool(WORKERS) as pool:
-        tasks = ((program, seed, number, sequences) for number in numbers)
-        for number, case_counts, (fault, at), wrong in pool.imap(work, tasks, chunksize=8):
-            if wrong is not None:
-                fails(seed, wrong)
-                print(f"books: FAILED: case {number} (again: --only {number})")
-                return False
-            counts += case_counts
-            places[fault].add(at)
-
+def came_often_enough(seed, sequences, histories, counts, places):
+    """Shows how often each kind of answer came, and says whether that is enough."""
     floors = floors_of(sequences, histories)
     show_table(counts, floors)
     for fault in "75", "76":
         print(f"books: {fault} was met in {len(places[fault])} different rows")
     rare = [f"{kind} ({counts[kind]} times)" for kind in floors if counts[kind] < floors[kind]]
-    unknown = sorted(kind for kind in counts if kind not in floors)
     rare += [f"{fault} in different rows" for fault in ("75", "76")
-             if len(places[fault]) < FEWEST_PLACES_IN_2000 * histories // 2_000]
+             if len(places[fault]) < FEWEST_PLACES_IN_2000 * min(histories, 2_000) // 2_000]
+    unknown = sorted(kind for kind in counts if kind not in floors)
     if unknown:
         print(f"books: FAILED: kinds without a floor: {', '.join(unknown)}")
     if rare:
@@ -422,12 +427,14 @@ def main(arguments):
         print("\n".join(failed))
         print("books: FAILED: the model differs from the page")
         return 1
-    fixed = compare_fixed(program)
-    if fixed is None or not compare_random(program, seed, sequences, histories):
+    compared = compare_all(program, None, len(FIXED), 0)
+    if compared is not None:
+        compared = compare_all(program, seed, sequences + histories, sequences)
+    if compared is None or not came_often_enough(seed, sequences, histories, *compared):
         print("books: FAILED")
         return 1
     note = " (the model alone)" if program is None else ""
-    print(f"books: {fixed} fixed cases, {sequences} sequences of calls and {histories} histories "
+    print(f"books: {len(FIXED)} fixed cases, {sequences} sequences of calls and {histories} histories "
           f"agree{note}")
     return 0
 
