@@ -425,7 +425,7 @@ class Play:
         return b" ".join(words)
 
     def make(self, words):
-        """Makes the call that a line asks for. Returns its word, its answer, and what is printed."""
+        """Makes the call that a line asks for. Returns its word, its answer, and its line."""
         word, arguments, place = self.call_of(words)
         self.called, self.was_closed = arguments, self.book.closed
         answer = self.book.make(word, *arguments)
@@ -527,7 +527,8 @@ def answer_check(declaration_text, assignment_text, digits):
         waits = b"-" if entry is None or entry.target is None else entry.target
         pending = {other.item for other in state.pending[lane]}
         names = [name for name in declared.items if name in pending]
-        printed.append(b" ".join([b"lane %d runs %s waits %s pending" % (lane, runs, waits)] + names))
+        line = b"lane %d runs %s waits %s pending" % (lane, runs, waits)
+        printed.append(b" ".join([line] + names))
     return ended(printed, 0 if fault is None else 1)
 
 
@@ -539,7 +540,8 @@ def main(arguments):
             raise Mistake
         row_count = number_of(places.pop(2).encode(), NUMBER_LIMIT) if command == "book" else None
     except (Mistake, ValueError):
-        print("usage: book.py book DECL ASSIGN ROWS EVENTS | check DECL ASSIGN HEX", file=sys.stderr)
+        usage = "usage: book.py book DECL ASSIGN ROWS EVENTS | check DECL ASSIGN HEX"
+        print(usage, file=sys.stderr)
         return 2
     try:
         texts = []

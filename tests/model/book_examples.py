@@ -1,5 +1,5 @@
-# The worked histories of docs/FORMAT.md, which the model in book.py must answer as the page says, and
-# the program too:
+# The worked histories of docs/FORMAT.md, which the model in book.py must answer as the page says,
+# and the program too:
 #
 #     book_examples.py
 #

@@ -4,13 +4,13 @@
 #
 # - The reserve suffices. From the states that random calls of small books lead to, every way on is
 #   tried in which the workqueues and those who wait write rows: `start`, `wait`, `over`, `finish`,
-#   `told`, and a `cancel` of what is pending. No way needs more rows than are kept free. Where nothing
-#   can hang, some way needs all of them, so none is kept in vain.
+#   `told`, and a `cancel` of what is pending. No way needs more rows than are kept free. Where
+#   nothing can hang, some way needs all of them, so none is kept in vain.
 # - The same in longer walks over larger declarations, where one random way is tried.
 # - The free rows are counted again, from the rows alone.
 # - The judge says of the rows of a book that they are legal, and finds the state of the book.
-# - Of each event, workqueue and item at most one row may stand, but for Told rows: of those each up to
-#   a number, if any.
+# - Of each event, workqueue and item at most one row may stand, but for Told rows: of those each up
+#   to a number, if any.
 #
 # The steps are those of a second model, which is here and knows nothing of the one in steps.py.
 
@@ -37,9 +37,9 @@ class TooMany(Exception):
 class Ways:
     """The ways on from a state: a state is (pending, running, asks), all tuples.
 
-    `pending` has for each lane the pairs of item and number in order, `running` for each lane None or
-    (item, number, waits, target, mark), and `asks` the pairs of item and mark. Items are numbers here.
-    Nothing is queued on these ways, so the next number stays as it is.
+    `pending` has for each lane the pairs of item and number in order, `running` for each lane None
+    or (item, number, waits, target, mark), and `asks` the pairs of item and mark. Items are numbers
+    here. Nothing is queued on these ways, so the next number stays as it is.
     """
 
     def __init__(self, declared, assignment, next_number):
@@ -114,13 +114,18 @@ def state_of(play):
     """The state of a book, for Ways."""
     replay = play.book.replay
     number = play.item_number
-    pending = tuple(tuple((number[entry.item], entry.number) for entry in replay.state.pending[lane])
-                    for lane in replay.lanes)
+    pending = tuple(
+        tuple((number[entry.item], entry.number) for entry in replay.state.pending[lane])
+        for lane in replay.lanes
+    )
     running = []
     for lane in replay.lanes:
         entry = replay.state.running.get(lane)
-        target = None if entry is None or entry.target is None else number[entry.target]
-        running.append(entry and (number[entry.item], entry.number, entry.waits, target, entry.mark))
+        if entry is None:
+            running.append(None)
+            continue
+        target = None if entry.target is None else number[entry.target]
+        running.append((number[entry.item], entry.number, entry.waits, target, entry.mark))
     asks = tuple(sorted((number[ask.name], ask.mark) for ask in play.asks if ask is not None))
     return pending, tuple(running), asks
 

@@ -3,14 +3,14 @@
 #     drive_books.py PROGRAM [SEED] [SEQUENCES] [HISTORIES] [--only CASE]
 #
 # It gives the program the worked histories of docs/FORMAT.md, the cases at the limits and those of
-# the command line, then SEQUENCES random sequences of calls, and HISTORIES random histories, most of
-# them changed somewhere. What is printed and the exit status must be the model's, byte by byte. The
-# same SEED makes the same cases. It ends at the first difference and keeps the files of it. It fails
-# too where some answer came too few times: once for FEWEST_IN_2000, or less often where there are
-# fewer cases. Before all this the model must answer the worked histories as the page says.
+# the command line, then SEQUENCES random sequences of calls, and HISTORIES random histories, most
+# of them changed somewhere. What is printed and the exit status must be the model's, byte by byte.
+# The same SEED makes the same cases. It ends at the first difference and keeps the files of it. It
+# fails too where some answer came too few times (FEWEST_IN_2000, or fewer where there are fewer
+# cases). Before all this the model must answer the worked histories as the page says.
 #
-# PROGRAM may be `none`: then only the model runs. CASE is a number, as a failure shows it: only this
-# random case is made, and its files are kept.
+# PROGRAM may be `none`: then only the model runs. CASE is a number, as a failure shows it: only
+# this random case is made, and its files are kept.
 
 import collections
 import dataclasses
@@ -34,8 +34,8 @@ WORKERS = 3
 SECONDS_PER_RUN = 60
 LINES_SHOWN = 12
 
-# How often each kind of answer comes at least in 2,000 cases: of the calls, of the judge, and of the
-# causes for which it refuses.
+# How often each kind of answer comes at least in 2,000 cases: of the calls and of the judge; of the
+# causes for which it refuses; and in how many different rows each of its faults is met.
 FEWEST_IN_2000 = 50
 FEWEST_CAUSES_IN_2000 = 5
 FEWEST_PLACES_IN_2000 = 30
@@ -56,9 +56,10 @@ CAUSES = [f"76 {event}: {why}" for event, whys in (
 
 @dataclasses.dataclass
 class Case:
-    """What the program is asked, and what it must print; standard error is None where it may be any.
+    """What the program is asked, and what it must print.
 
-    The words are those of the command line; files are bytes, and missing ones None.
+    The words are those of the command line; files are bytes, and missing ones None. Standard error
+    is None where it may be any line.
     """
 
     what: str
@@ -123,7 +124,8 @@ class Kinds:
             self.add(kind, ("its target is pending", entry is not None and entry.number < mark))
         elif kind == "finish ok":
             before = sum(row.event == "wait" and row.lane == last.lane for row in self.run_of(made))
-            self.add(kind, ("no row was free", free == 0), ("it is pending", item in state.pending_of),
+            self.add(kind, ("no row was free", free == 0),
+                     ("it is pending", item in state.pending_of),
                      ("waits were left", before < len(made.declares[item])))
         elif kind == "start item":
             self.add(kind, ("no row was free", free == 0))
@@ -348,7 +350,10 @@ def fails(seed, number, wrong):
 
 
 def compare_all(program, seed, count, sequences):
-    """The counts and places of so many cases, or None where one differs. Without a seed fixed ones."""
+    """The counts and places of so many cases, or None where one differs.
+
+    They are random ones, or without a seed the fixed ones.
+    """
     counts = collections.Counter()
     places = collections.defaultdict(set)
     with multiprocessing.get_context("fork").Pool(WORKERS) as pool:
@@ -367,8 +372,8 @@ def floors_of(sequences, histories):
     """How often each kind must come at least."""
     floors = {kind: FEWEST_IN_2000 * sequences // 2_000 for kind in make_books.KINDS}
     floors |= {f"judged {kind}": FEWEST_IN_2000 * histories // 2_000 for kind in JUDGED}
-    floors |= {f"judged {kind}": FEWEST_CAUSES_IN_2000 * histories // 2_000 for kind in CAUSES}
-    floors["judged mistake"] = floors["judged legal (any bytes)"] = FEWEST_CAUSES_IN_2000 * histories // 2_000
+    rarer = CAUSES + ["mistake", "legal (any bytes)"]
+    floors |= {f"judged {kind}": FEWEST_CAUSES_IN_2000 * histories // 2_000 for kind in rarer}
     return floors
 
 
@@ -434,8 +439,8 @@ def main(arguments):
         print("books: FAILED")
         return 1
     note = " (the model alone)" if program is None else ""
-    print(f"books: {len(FIXED)} fixed cases, {sequences} sequences of calls and {histories} histories "
-          f"agree{note}")
+    print(f"books: {len(FIXED)} fixed cases, {sequences} sequences of calls and {histories} "
+          f"histories agree{note}")
     return 0
 
 

@@ -1,5 +1,5 @@
-# Makes up calls of books and histories for drive_books.py and book_properties.py: those at the limits
-# of docs/FORMAT.md, and random ones. The same seed makes the same ones.
+# Makes up calls of books and histories for drive_books.py and book_properties.py: those at the
+# limits of docs/FORMAT.md, and random ones. The same seed makes the same ones.
 
 import collections
 import dataclasses
@@ -252,8 +252,9 @@ def any_row_count(choose):
 MISTAKES = [
     b"Queue a", b"queues a", b"queue", b"queue a b", b"cancel", b"ask", b"ask a a", b"told",
     b"told a", b"told -1", b"told 00", b"told 4294967295", b"told 4294967296", b"told 0 0",
-    b"start", b"start 00", b"start 01", b"start +1", b"start 65536", b"start 4294967296", b"start a",
-    b"start 0 a", b"start 1.", b"wait 0", b"wait", b"wait a 0", b"wait 0 a a", b"wait 65536 a",
+    b"start", b"start 00", b"start 01", b"start +1", b"start 65536", b"start 4294967296",
+    b"start a", b"start 0 a", b"start 1.", b"wait 0", b"wait", b"wait a 0", b"wait 0 a a",
+    b"wait 65536 a",
     b"over", b"over 0 a", b"over 070", b"finish", b"finish 0 a", b"finish 65536", b"close 0",
     b"closed", b"open", b"item a", b"run 3", b"wait 1#a", b"queue#a", b"queue #a", b"\xff",
     b"close\r a", b"start 99999999999999999999999", b"start \xb2", b"told \xd9\xa3", b"start 0\r 1",
@@ -646,15 +647,17 @@ def limit_book_cases():
     add("no line", ONE, 0, b"")
     add("blank lines", ONE, 5, b"\n \t\n# x\n\r\n#\r\r\n")
     add("no item, no workqueue", NONE, 5, b"queue a\ncancel a\nask a\nstart 0\nclose\nqueue a\n")
-    add("no item, 3 workqueues", [b"", b"wq 0\nwq 1\nwq 2"], 5, b"start 2\nstart 3\nwait 0 a\nover 1")
+    add("no item, 3 workqueues", [b"", b"wq 0\nwq 1\nwq 2"], 5,
+        b"start 2\nstart 3\nwait 0 a\nover 1")
     add("spellings", ONE, 50, b"\tqueue  a \r\nqueue a#b\n ask\ta # \xff\r\r\nstart 0\r\nfinish 0")
     add("a CR that stays", ONE, 50, b"queue a\nqueue a\r\r\nqueue \r\r\ncancel a\r\nask a\r")
     add("a CR behind a number", ONE, 50, b"queue a\nstart 0\r")
     add("a CR behind a keyword", ONE, 50, b"queue a\nclose\r\r\nqueue a\n")
     add("bytes in the place of an item", TWO, 50,
         b"queue \xff\ncancel \x00\nask a!\nqueue a\nstart 1\nwait 1 \x80\x81\nwait 1 #b\n")
-    add("items with the names of others", [b"item -\nitem queue\nflush - queue", b"wq 0 -\nwq 1 queue"],
-        50, b"queue -\nqueue queue\nstart 0\nstart 1\nwait 0 queue\nask -\ncancel -\n")
+    names = [b"item -\nitem queue\nflush - queue", b"wq 0 -\nwq 1 queue"]
+    add("items with the names of others", names, 50,
+        b"queue -\nqueue queue\nstart 0\nstart 1\nwait 0 queue\nask -\ncancel -\n")
     for number, line in enumerate(MISTAKES):
         add(f"the mistake {number}", ONE, 50, b"queue a\n\n# x\n" + line + b"\nqueue a\n")
         add(f"the mistake {number} at the end", ONE, 0, line)
@@ -662,7 +665,7 @@ def limit_book_cases():
         for word in b"start %s", b"wait %s a", b"over %s", b"finish %s":
             add(f"the workqueue {lane.decode()}", ONE, 50, b"queue a\n" + word % lane)
     add("told again", ONE, 50,
-        b"queue a\nask a\nask a\ntold 1\ntold 0\nstart 0\ntold 1\nfinish 0\ntold 1\ntold 0\ntold 0\n")
+        b"queue a\nask a\nask a\ntold 1\ntold 0\nstart 0\ntold 1\nfinish 0\n" + b"told 0\n" * 2)
     add("an ask before its number", ONE, 50, b"ask a\ntold 0\n")
     add("an ask of none", ONE, 50, b"queue a\nask b\nask a\nask a\ntold 1\ntold 2\n")
 
@@ -701,7 +704,8 @@ def limit_book_cases():
     calls = b"queue i4095\nstart 4095\nqueue i0000\nask i4095\nstart 4096\nfinish 4095\ntold 0\n"
     add("4,096 items on 4,096 workqueues", [items, own], 50, calls)
     names = items.replace(b"item", b"").replace(b"\n", b"")
-    add("4,096 items on one workqueue", [items, b"wq 0" + names], 50, calls.replace(b"4095\n", b"0\n"))
+    add("4,096 items on one workqueue", [items, b"wq 0" + names], 50,
+        calls.replace(b" 4095\n", b" 0\n"))
     add("1,024 of them", [join(*numbered_items(1_024)), own[:own.index(b"wq 1024 ")]], 20_000,
         b"".join(b"%s i%04d\n" % (word, item) for word in (b"queue", b"ask", b"cancel")
                  for item in range(0, 1_024, 37)))
@@ -713,8 +717,9 @@ def limit_book_cases():
         add(f"16,384 flushes and {row_count} rows", most, row_count, calls + b"finish 1\nqueue b\n")
     add("16,384 waits", most, 32_771,
         b"queue a\nstart 1\n" + b"wait 1 b\nover 1\n" * 16_384 + b"wait 1 b\nfinish 1\nqueue b\n")
-    add("16,384 flushes of itself", [join(b"item a", *flush_lines(b"a", [b"a"] * 16_384)), b"wq 0 a"],
-        40_000, b"queue a\nstart 0\nwait 0 a\nover 0\nwait 0 a\nqueue a\nfinish 0\n")
+    most = [join(b"item a", *flush_lines(b"a", [b"a"] * 16_384)), b"wq 0 a"]
+    add("16,384 flushes of itself", most, 40_000,
+        b"queue a\nstart 0\nwait 0 a\nover 0\nwait 0 a\nqueue a\nfinish 0\n")
     return cases
 
 
@@ -783,7 +788,7 @@ def fault_cases():
     for texts in ([None, b"", b""], [b"", None, b""], [b"", b"", None], [b"x", None, b""],
                   [b"x", b"", None], [b"item a", b"", None]):
         cases.append(("a missing file", ["book", *texts[:2], "5", texts[2]], 3))
-        cases.append(("a missing file, and too many rows", ["book", *texts[:2], "16777217", texts[2]],
-                      3))
+        words = ["book", *texts[:2], "16777217", texts[2]]
+        cases.append(("a missing file, and too many rows", words, 3))
         cases.append(("a missing file", ["check", *texts], 3))
     return cases
