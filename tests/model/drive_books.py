@@ -78,86 +78,83 @@ class Kinds:
     def __init__(self):
         self.counts = collections.Counter()
 
-    def add(self, kind, *remarks):
-        """Remarks are pairs of a remark and whether it holds."""
-        self.counts[kind] += 1
-        for remark, holds in remarks:
-            if holds:
-                self.counts[f"{kind} ({remark})"] += 1
-
     def note(self, word, answer=None, free=0, play=None):
         """As book.answer_book tells. The play is that after the call, and `free` that before it."""
         if play is None:
-            self.add(word)
+            self.counts[word] += 1
             return
-        kind, made = kind_of(word, answer), play.book
-        state, last = made.replay.state, made.rows[-1] if made.rows else None
-        item = last and made.replay.name(last.item)
-        lane_entry = last and state.running.get(state.workqueue_of[item])
-        its_run = lane_entry is not None and last and lane_entry.item == item
-        if kind == "queue true":
-            self.add(kind, ("it runs", its_run), ("no row is free then", made.free() == 0))
-        elif kind == "cancel true":
-            self.add(kind, ("it runs", its_run), ("no row was free", free == 0))
-        elif kind == "cancel false":
-            self.add(kind, ("it runs", its_run), ("it was the last free row", free == 1))
-        elif kind in ("queue false", "ask idle"):
-            self.add(kind, ("it was the last free row", free == 1))
-        elif kind == "ask waiting":
-            self.add(kind, ("no row is free then", made.free() == 0))
-        elif kind in ("queue 60 accepted", "ask 60 waiting"):
-            self.add(kind, ("one row too few", free + 1 == self.needed(word, play)))
-        elif kind == "told done":
-            self.add(kind, ("no row was free", free == 0),
-                     ("its item is unfinished", made.replay.is_unfinished(item)),
-                     ("another ask of it waits", made.replay.asks[item] > 0))
-        elif kind == "wait true":
-            self.add(kind, ("no row was free", free == 0),
-                     ("for itself", state.running[last.lane].item == item))
-        elif kind == "over true":
-            self.add(kind, ("no row was free", free == 0),
-                     ("its target is unfinished", made.replay.is_unfinished(item)))
-        elif kind == "over false":
-            target = state.running[play.called[0]].target
-            entry = state.pending_of.get(target)
-            mark = state.running[play.called[0]].mark
-            self.add(kind, ("its target is pending", entry is not None and entry.number < mark))
-        elif kind == "finish ok":
-            before = sum(row.event == "wait" and row.lane == last.lane for row in self.run_of(made))
-            self.add(kind, ("no row was free", free == 0),
-                     ("it is pending", item in state.pending_of),
-                     ("waits were left", before < len(made.declares[item])))
-        elif kind == "start item":
-            self.add(kind, ("no row was free", free == 0))
-        elif kind == "wait 62 item":
-            entry = state.running[play.called[0]]
-            left = len(made.declares[entry.item]) - entry.waits
-            self.add(kind, ("no wait is left", left == 0), ("a wait is left", left > 0))
-        elif kind == "queue 61":
-            name = made.replay.name(play.called[0])
-            self.add(kind, ("pending", name in state.pending_of))
-        elif kind == "queue 66":
-            self.add(kind, ("closed", made.closed))
-        elif kind == "close ok":
-            self.add(kind, ("closed", play.was_closed))
-        else:
-            self.add(kind)
+        kind = kind_of(word, answer)
+        self.counts[kind] += 1
+        remarks = refusal_remarks if isinstance(answer, book.Refusal) else answer_remarks
+        for remark, holds in remarks(kind, free, play):
+            if holds:
+                self.counts[f"{kind} ({remark})"] += 1
 
-    def needed(self, word, play):
-        """The free rows that the call needs: an ask that waits, or a queueing that is accepted."""
-        if word == "ask":
-            return 2
-        return 3 + 2 * len(play.book.declares[play.book.replay.name(play.called[0])])
 
-    def run_of(self, made):
-        """The rows of the workqueue of the last row, a finish, since the start of its entry."""
-        lane, rows = made.rows[-1].lane, []
-        for row in reversed(made.rows):
-            if row.event in book.WITH_LANE and row.lane == lane:
-                if row.event == "start":
-                    break
-                rows.append(row)
-        return rows
+def refusal_remarks(kind, free, play):
+    """What is counted of a refused call: pairs of a remark and whether it holds."""
+    made = play.book
+    name = made.replay.name(play.called[-1]) if play.called else None
+    if kind == "queue 60 accepted":
+        return [("one row too few", free + 1 == 3 + 2 * len(made.declares[name]))]
+    if kind == "ask 60 waiting":
+        return [("one row too few", free == 1)]
+    if kind == "queue 61":
+        return [("pending", name in made.replay.state.pending_of)]
+    if kind == "queue 66":
+        return [("closed", made.closed)]
+    if kind == "wait 62 item":
+        entry = made.replay.state.running[play.called[0]]
+        left = len(made.declares[entry.item]) - entry.waits
+        return [("no wait is left", left == 0), ("a wait is left", left > 0)]
+    return []
+
+
+def answer_remarks(kind, free, play):
+    """The same of an answered call."""
+    replay, rows = play.book.replay, play.book.rows
+    state = replay.state
+    if kind == "close ok":
+        return [("closed", play.was_closed)]
+    if kind == "over false":
+        entry = state.running[play.called[0]]
+        pending = state.pending_of.get(entry.target)
+        return [("its target is pending", pending is not None and pending.number < entry.mark)]
+    if kind in ("start none", "told not yet"):
+        return []
+
+    name = replay.name(rows[-1].item)  # of the row that the call appended
+    entry = state.running.get(state.workqueue_of[name])
+    runs = entry is not None and entry.item == name
+    full, last = ("no row was free", free == 0), ("it was the last free row", free == 1)
+    filled = ("no row is free then", play.book.free() == 0)
+    if kind == "finish ok":
+        waits = waits_of_last(rows)
+        return [full, ("it is pending", name in state.pending_of),
+                ("waits were left", waits < len(play.book.declares[name]))]
+    return {
+        "queue true": [("it runs", runs), filled],
+        "queue false": [last],
+        "cancel true": [("it runs", runs), full],
+        "cancel false": [("it runs", runs), last],
+        "ask idle": [last],
+        "ask waiting": [filled],
+        "told done": [full, ("its item is unfinished", replay.is_unfinished(name)),
+                      ("another ask of it waits", replay.asks[name] > 0)],
+        "start item": [full],
+        "wait true": [full, ("for itself", runs and entry is state.running.get(rows[-1].lane))],
+        "over true": [full, ("its target is unfinished", replay.is_unfinished(name))],
+    }.get(kind, [])
+
+
+def waits_of_last(rows):
+    """How many waits the entry made that the last row finishes."""
+    lane, waits = rows[-1].lane, 0
+    for row in reversed(rows):
+        if row.event == "start" and row.lane == lane:
+            break
+        waits += row.event == "wait" and row.lane == lane
+    return waits
 
 
 def judged_kinds(words, made):
@@ -218,8 +215,7 @@ def random_case(seed, number, sequences):
         words, made = make_books.random_check_case(seed, number - sequences)
         answer = book.answer_check(*words[1:])
         names, at = judged_kinds(words, made)
-        for name in names:
-            kinds.add(f"judged {name}")
+        kinds.counts.update(f"judged {name}" for name in names)
         place = (names[0], at)
     return Case(f"case {number}", words, *answer), kinds.counts, place
 
