@@ -4,13 +4,14 @@
 //! hand. They take time in the number of steps, beside that of making a machine for each case.
 
 ghost use Rattle.std.specs.Prelude.{◌≡◌, length, IfOk};
+ghost use Rattle.wq_core.specs.State.{empty_state};
 
 use crate::declared::declared;
 use linked_list_allocator::LocalHeap;
 use std::alloc::{AllocError, Allocator, Global};
 use std::process::Abort;
 use std::test::Fail;
-use wq_core::{Core, RunError, Step, StepError};
+use wq_core::{Core, Entry, RunError, Running, Step, StepError, Waiting};
 use wq_groups::{Assignment, LaneId};
 use wq_items::ItemId;
 
@@ -346,13 +347,15 @@ pub(crate) fn assigned<A: Allocator + Copy>(
 }
 
 /// The machine on a heap, of a declaration and of the lane of each group, which are on another.
-fn core_in<A: Allocator + Copy>(
+pub(crate) fn core_in<A: Allocator + Copy>(
     parts: A,
     heap: A,
     text: &str,
     lanes: u16,
     lane_of_group: &[u16],
-) -> Result<Result<Core<A>, AllocError>, Fail> {
+) -> Result<Result<Core<A>, AllocError>, Fail>
+    ensures { IfOk result (λ made. IfOk made (λ core. core.state ≡ empty_state core.wiring)) }
+{
     let declared = declared(parts, text)?;
     let assignment = assigned(parts, declared.groups.len(), lanes, lane_of_group)?;
     Ok(Core::new(heap, &declared.table, &declared.groups, &assignment))
@@ -384,12 +387,24 @@ fn run_of<A: Allocator>(
     Ok(core.run(&steps))
 }
 
-/// Asserts what a case gives step by step, and what is pending at its end.
+/// The number that a step would give, and the work that would be left then; that which is left now, where it gives none.
+fn looked_ahead(core: &Core<Global>, step: &Step) -> (Option<u32>, u64) {
+    let left = core.work_left();
+    match core.peek(step) {
+        Some(number) => (Some(number), core.work_after(step, left)),
+        None => (None, left),
+    }
+}
+
+/// Asserts what a case gives step by step, and would give, and what is pending at its end.
 fn assert_case(rt: &impl Abort, mut core: Core<Global>, case: &Case) {
     let text = case.text;
     assert_eq!(rt; (text, core.lanes()), (text, usize::from(case.lanes)));
     for (at, (made, want, left)) in case.steps.iter().enumerate() {
-        let gives = core.step(step_of(*made));
+        let step = step_of(*made);
+        let ahead = looked_ahead(&core, &step);
+        assert_eq!(rt; (text, at, ahead), (text, at, (want.ok(), *left)));
+        let gives = core.step(step);
         let is = (text, at, gives, core.work_left(), core.is_idle());
         assert_eq!(rt; is, (text, at, *want, *left, *left == 0));
     }
@@ -512,6 +527,63 @@ fn refusals_have_their_numbers_and_words(rt: HostRuntime) -> Result<(), Fail> {
         let error = RunError { at: 7, why };
         let printed = format!(in rt.alloc(); "{error}")?;
         assert_eq!(rt; (why.code(), printed.as_str()), (code, words));
+    }
+    Ok(())
+}
+
+/// Asserts the targets of an item, and its lane.
+fn assert_wiring(rt: &impl Abort, core: &Core<Global>, item: u16, targets: &[u16], lane: u16) {
+    assert!(rt; usize::from(item) < core.items());
+    let item = ItemId::new(item);
+    let waits = core.waits(item);
+    assert_eq!(rt;
+        (waits.len(), core.lane_of(item).get()),
+        (targets.len(), lane)
+    );
+    for (target, want) in waits.iter().zip(targets) {
+        assert_eq!(rt; target.item.get(), *want);
+    }
+}
+
+#[test]
+fn a_machine_says_how_it_stands(rt: HostRuntime) -> Result<(), Fail> {
+    let mut core = core_of(rt.alloc(), "item a\nitem b\nflush a b\n", 2, &[1, 0])?;
+    assert_wiring(&rt, &core, 0, &[1], 1);
+    assert_wiring(&rt, &core, 1, &[], 0);
+    for made in [Queue(0), Start(1, 0), Queue(1), Wait(1, 1), Queue(0)] {
+        assert!(rt; core.step(step_of(made)).is_ok());
+    }
+    assert_eq!(rt; core.next_number(), 3);
+    let (a, b) = (ItemId::new(0), ItemId::new(1));
+    let entry = Entry { number: 0, item: a };
+    let waiting = Some(Waiting { target: b, mark: 2 });
+    let running = Running {
+        entry,
+        made: 1,
+        waiting,
+    };
+    for (lane, runs, first) in [
+        (0, None, Some(Entry { number: 1, item: b })),
+        (1, Some(running), Some(Entry { number: 2, item: a })),
+        (2, None, None),
+    ] {
+        let q = LaneId::new(lane);
+        let is = (core.running_on(q), core.first_on(q));
+        assert_eq!(rt; (lane, is), (lane, (runs, first)));
+    }
+    for (item, mark, below) in [
+        (0, 0, false),
+        (0, 1, true),
+        (1, 1, false),
+        (1, 2, true),
+        (2, 3, false),
+    ] {
+        let is = core.unfinished_below(ItemId::new(item), mark);
+        assert_eq!(rt; (item, mark, is), (item, mark, below));
+    }
+    for (item, unfinished) in [(0, true), (1, true), (2, false)] {
+        let is = core.has_unfinished(ItemId::new(item));
+        assert_eq!(rt; (item, is), (item, unfinished));
     }
     Ok(())
 }
