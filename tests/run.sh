@@ -14,4 +14,5 @@ bash tests/book.sh
 bash tests/examples.sh
 bash tests/guide.sh
 bash tests/explain.sh
+bash tests/books.sh
 bash tests/model.sh
