@@ -1,15 +1,15 @@
 -- One row more: what it does to the replay, and why the history stays legal.
-use Rattle.std.proofs.Common.{◌≡◌, ℕ, zero, suc, ◌+◌, ◌<◌, ◌⊎◌, inl, inr, Bool, true, false, cond, List, [], ◌∷◌, ◌++◌, length, take, refl, sym, ap, subst, ◌∙◌, arith}
-use Rattle.std.specs.Prelude.{Option, Some, None, slice_get, MatchBool}
-use Rattle.std.specs.List.{filter_map, cons_option}
+use Rattle.std.proofs.Common.{◌≡◌, ℕ, zero, suc, ◌⊎◌, inl, inr, Bool, true, false, List, [], ◌∷◌, ◌++◌, take, refl, sym, ap, subst, ◌∙◌}
+use Rattle.std.specs.Prelude.{Option, Some, None, slice_get}
+use Rattle.std.specs.List.{cons_option}
 use Rattle.std.proofs.lemmas.List.{append-nil}
 use Rattle.std.proofs.lemmas.List.Elements.{filter_map-append}
 use Rattle.wq_core.specs.declared.step.Step.{Step}
 use Rattle.wq_core.specs.Wiring.{Wiring}
-use Rattle.wq_core.specs.State.{State, empty_state}
+use Rattle.wq_core.specs.State.{empty_state}
 use Rattle.wq_core.specs.Rules.{Lawful, effect}
-use Rattle.wq_core.specs.Runs.{after, IsRun, IsRunFrom, end_of}
-use Rattle.wq_core.proofs.RunLemmas.{after-more, IsRunFrom-more}
+use Rattle.wq_core.specs.Runs.{end_of}
+use Rattle.wq_core.proofs.RunLemmas.{after-more}
 use Rattle.wq_rows.specs.declared.event.Event.{Event}
 use Rattle.wq_rows.specs.declared.event.Event.TheVariants.{Queue, Cancel, Start, Wait, Over, Finish, Ask, Told}
 use Rattle.wq_rows.specs.declared.event.Row.{Row}

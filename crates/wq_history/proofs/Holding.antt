@@ -1,6 +1,6 @@
 -- What a book holds, and that it holds it with one row more.
-use Rattle.std.proofs.Common.{◌≡◌, ◌≢◌, ℕ, zero, suc, ◌+◌, ◌-◌, ◌<◌, ◌≤◌, ◌^◌, Bool, true, false, cond, List, [], ◌∷◌, ◌++◌, length, length-append, get_or, replicate, refl, sym, ap, subst, ◌∙◌, arith}
-use Rattle.std.specs.Prelude.{Option, Some, None, IfSome, slice_get, sum_by, ◌*◌}
+use Rattle.std.proofs.Common.{◌≡◌, ℕ, zero, suc, ◌+◌, ◌-◌, ◌<◌, ◌≤◌, ◌^◌, Bool, true, false, List, [], ◌∷◌, ◌++◌, length, length-append, get_or, replicate, refl, sym, ap, subst, ◌∙◌, arith}
+use Rattle.std.specs.Prelude.{Option, Some, None, IfSome, slice_get, sum_by}
 use Rattle.std.proofs.lemmas.List.{length-replicate}
 use Rattle.std.proofs.lemmas.List.Folds.{sum_by-replicate}
 use Rattle.wq_core.specs.declared.entry.Entry.{Entry}
@@ -9,7 +9,7 @@ use Rattle.wq_core.specs.declared.step.Step.{Step}
 use Rattle.wq_core.specs.declared.step.Step.TheVariants.{Queue as QueueStep, Cancel as CancelStep, Start as StartStep, Wait as WaitStep, Over as OverStep, Finish as FinishStep}
 use Rattle.wq_core.specs.Wiring.{Wiring, items}
 use Rattle.wq_core.specs.State.{State, Lane, idle_lane, lane_at, empty_state}
-use Rattle.wq_core.specs.Rules.{Lawful, Gives, effect}
+use Rattle.wq_core.specs.Rules.{Lawful, effect}
 use Rattle.wq_core.specs.Runs.{IsRescuerStep}
 use Rattle.wq_core.specs.Work.{lane_work, work_left}
 use Rattle.wq_core.specs.Held.{Machine, IsMachine, IsDone, machine_after}
@@ -23,12 +23,12 @@ use Rattle.wq_rows.specs.declared.event.Event.TheVariants.{Queue, Cancel, Start,
 use Rattle.wq_rows.specs.declared.event.Row.{Row}
 use Rattle.wq_rows.specs.Stored.{max_rows}
 use Rattle.wq_history.specs.Events.{step_of, is_told}
-use Rattle.wq_history.specs.History.{state_after, all_asks_waiting, MayCome, MayFollow, IsLegal}
+use Rattle.wq_history.specs.History.{state_after, MayCome, MayFollow}
 use Rattle.wq_history.specs.Reserve.{reserved, free_rows, rows_needed}
 use Rattle.wq_history.specs.Counts.{AskView, CountsAsks, Replays, HoldsBook}
-use Rattle.wq_history.specs.Book.{BookView, IsBook}
+use Rattle.wq_history.specs.Book.{IsBook}
 use Rattle.wq_history.proofs.Histories.{state_after-step, state_after-none, IsLegal-more}
-use Rattle.wq_history.proofs.Counting.{IsNobodys, IsNobodys-step, CountsAsks-same, asks_waiting-count, all_asks_waiting-count}
+use Rattle.wq_history.proofs.Counting.{IsNobodys-step, CountsAsks-same, all_asks_waiting-count}
 
 -- ---- rows that are kept
 

@@ -1,12 +1,12 @@
 -- Judging: what one row more does to a replay, and why a row is at fault.
-use Rattle.std.proofs.Common.{◌≡◌, ◌≢◌, ℕ, zero, suc, ◌+◌, ◌-◌, ◌*◌, ◌<◌, ◌≤◌, ◌↔◌, Bool, true, false, eqb, List, append_assoc, length-append, length-take, replicate, [], ◌∷◌, ◌++◌, length, get_or, take, refl, sym, ap, subst, ◌∙◌, arith}
-use Rattle.std.specs.Prelude.{Option, Some, None, IfSome, IfNone, IsTrue, ◌&&◌, slice_index}
+use Rattle.std.proofs.Common.{◌≡◌, ℕ, ◌+◌, ◌-◌, ◌*◌, ◌<◌, ◌≤◌, ◌↔◌, Bool, true, false, eqb, List, append_assoc, length-append, length-take, replicate, [], ◌∷◌, ◌++◌, length, get_or, take, refl, sym, ap, subst, ◌∙◌, arith}
+use Rattle.std.specs.Prelude.{Option, Some, None, IfSome, IfNone, IsTrue, ◌&&◌}
 use Rattle.std.specs.Option.{option_eq}
 use Rattle.std.proofs.lemmas.Bool.{eqb-true, eq-eqb}
 use Rattle.std.proofs.lemmas.List.{length-set, append-nil}
 use Rattle.std.proofs.lemmas.List.Elements.{All-nil}
 use Rattle.std.proofs.lemmas.List.Sums.{count_by-le-length}
-use Rattle.std.specs.List.{IsSplitAt, count_by}
+use Rattle.std.specs.List.{IsSplitAt}
 use Rattle.wq_core.specs.declared.step.Step.{Step}
 use Rattle.wq_core.specs.declared.step.Step.TheVariants.{Queue as QueueStep, Cancel as CancelStep, Start as StartStep, Wait as WaitStep, Over as OverStep, Finish as FinishStep}
 use Rattle.wq_core.specs.declared.step.StepError.{StepError}
@@ -24,7 +24,7 @@ use Rattle.wq_rows.specs.Stored.{max_rows, IsStored}
 use Rattle.wq_rows.proofs.StoredLemmas.{IsStored-length, IsStored-push, IsSplitAt-parts, empty_list}
 use Rattle.wq_history.specs.Events.{step_of, is_ask, is_told}
 use Rattle.wq_history.specs.History.{state_after, asks_waiting, Makes, MayComeIn, MayCome, MayFollow, IsLegal}
-use Rattle.wq_history.specs.Counts.{AskView, CountsAsks, Replays}
+use Rattle.wq_history.specs.Counts.{AskView, Replays}
 use Rattle.wq_history.specs.Judging.{IsJudged, IsJudgedUpTo, stepped, counted}
 use Rattle.wq_history.proofs.Counting.{IsNobodys-nothing, CountsAsks-same, CountsAsks-asked, CountsAsks-told, asks_waiting-count, within-some}
 use Rattle.wq_history.proofs.Holding.{Replays-noted, Replays-made, Replays-first}

@@ -1,16 +1,15 @@
 -- Rows that are kept, and what may come at a place of a legal history.
-use Rattle.std.proofs.Common.{◌≡◌, ◌≢◌, ℕ, zero, suc, ◌+◌, ◌-◌, ◌<◌, ◌≤◌, ◌↔◌, Bool, true, false, cond, eqb, List, [], ◌∷◌, ◌++◌, length, append_assoc, refl, sym, ap, subst, ◌∙◌, arith}
-use Rattle.std.specs.Prelude.{Option, Some, None, ◌&&◌, IsTrue}
+use Rattle.std.proofs.Common.{◌≡◌, ℕ, ◌+◌, ◌<◌, ◌≤◌, Bool, true, false, cond, List, [], ◌∷◌, ◌++◌, length, append_assoc, refl, sym, ap, subst, ◌∙◌, arith}
+use Rattle.std.specs.Prelude.{Some, ◌&&◌}
 use Rattle.std.specs.List.{All, count_by}
 use Rattle.std.specs.Cmp.{both_ways}
-use Rattle.std.proofs.lemmas.List.{append-nil}
 use Rattle.std.proofs.lemmas.List.Elements.{All-head, All-tail}
 use Rattle.wq_items.proofs.Tables.{ItemWaits-below}
 use Rattle.wq_core.specs.declared.step.Step.{Step}
 use Rattle.wq_core.specs.declared.step.Step.TheVariants.{Queue as QueueStep, Cancel as CancelStep, Start as StartStep, Wait as WaitStep, Over as OverStep, Finish as FinishStep}
 use Rattle.wq_core.specs.Wiring.{Wiring, IsWiring, items, lane_of}
-use Rattle.wq_core.specs.State.{State, HasUnfinishedOf}
-use Rattle.wq_core.specs.Rules.{Lawful, effect}
+use Rattle.wq_core.specs.State.{State}
+use Rattle.wq_core.specs.Rules.{effect}
 use Rattle.wq_core.specs.Work.{work_left}
 use Rattle.wq_core.specs.Held.{IsSoundState}
 use Rattle.wq_core.proofs.LaneLemmas.{runs_within, starts_within}
@@ -28,7 +27,7 @@ use Rattle.wq_history.specs.History.{state_after, all_asks_waiting, SaysUnfinish
 use Rattle.wq_history.specs.Reserve.{reserved, rows_needed}
 use Rattle.wq_history.proofs.Histories.{state_after-step, state_after-none}
 use Rattle.wq_history.proofs.Counting.{count-more}
-use Rattle.wq_history.proofs.LegalRows.{IsLegal-prefix, IsLegal-last, IsSoundState-legal, asked-item, some-wait, told-asked_all}
+use Rattle.wq_history.proofs.LegalRows.{IsLegal-prefix, IsLegal-last, IsSoundState-legal, asked-item, some-wait}
 
 -- ---- rows that need none free
 
@@ -59,22 +58,22 @@ kept_row w rows row legal may none = by_event row.event row.yes row.number may n
 
   by_event : (event : Event) (said : Bool) (n : ℕ) → MayCome w rows event said n → rows_needed w event said ≡ 0
       → reserved w (rows ++ (record { event = event; yes = said; number = n } ∷ [])) + 1 ≤ reserved w rows
-  by_event (Queue i) true n come zero_needed = absurd (omega (arith, zero_needed))
-  by_event (Queue i) false n come zero_needed = absurd (omega (arith, zero_needed))
-  by_event (Cancel i) true n come zero_needed =
+  by_event (Queue i) true n come none_needed = absurd (omega (arith, none_needed))
+  by_event (Queue i) false n come none_needed = absurd (omega (arith, none_needed))
+  by_event (Cancel i) true n come none_needed =
       stepping (Cancel i) true n (CancelStep i) refl refl refl (omega (arith, work_left-cancelled w s i sound come.1.0))
-  by_event (Cancel i) false n come zero_needed = absurd (omega (arith, zero_needed))
-  by_event (Start q i) said n come zero_needed =
+  by_event (Cancel i) false n come none_needed = absurd (omega (arith, none_needed))
+  by_event (Start q i) said n come none_needed =
       stepping (Start q i) said n (StartStep q i) refl refl refl (omega (arith, work_left-rescuer w s (StartStep q i) sound come.1.0 tt))
-  by_event (Wait q b) said n come zero_needed =
+  by_event (Wait q b) said n come none_needed =
       stepping (Wait q b) said n (WaitStep q b) refl refl refl (omega (arith, work_left-rescuer w s (WaitStep q b) sound come.1.0 tt))
-  by_event (Over q b) said n come zero_needed =
+  by_event (Over q b) said n come none_needed =
       stepping (Over q b) said n (OverStep q b) refl refl refl (omega (arith, work_left-rescuer w s (OverStep q b) sound come.1.0 tt))
-  by_event (Finish q i) said n come zero_needed =
+  by_event (Finish q i) said n come none_needed =
       stepping (Finish q i) said n (FinishStep q i) refl refl refl (omega (arith, work_left-rescuer w s (FinishStep q i) sound come.1.0 tt))
-  by_event (Ask i) true n come zero_needed = absurd (omega (arith, zero_needed))
-  by_event (Ask i) false n come zero_needed = absurd (omega (arith, zero_needed))
-  by_event (Told i) said n come zero_needed =
+  by_event (Ask i) true n come none_needed = absurd (omega (arith, none_needed))
+  by_event (Ask i) false n come none_needed = absurd (omega (arith, none_needed))
+  by_event (Told i) said n come none_needed =
       let r : Row = record { event = Told i; yes = said; number = n } in
       let left : work_left w (state_after w (rows ++ (r ∷ []))) ≡ work_left w s = ap (work_left w) (state_after-none w rows r refl) in
       let a = count-more (λ (x : Row). is_ask x.event && x.yes) rows r in

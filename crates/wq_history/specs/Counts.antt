@@ -1,5 +1,5 @@
 -- Counts of the asks that wait.
-use Rattle.std.specs.Prelude.{◌≡◌, ℕ, ◌+◌, ◌≤◌, List, length, sum, slice_index, Bool, ◌&&◌}
+use Rattle.std.specs.Prelude.{◌≡◌, ℕ, ◌+◌, ◌≤◌, List, length, sum, slice_index, ◌&&◌}
 use Rattle.std.specs.List.{count_by}
 use Rattle.wq_core.specs.Wiring.{items}
 use Rattle.wq_core.specs.Work.{work_left}

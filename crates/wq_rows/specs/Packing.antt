@@ -3,7 +3,7 @@
 -- Byte 0 is the kind of the event; byte 1 is 1 where the answer is yes, else 0; bytes 2 and 3 are the item; bytes 4 and 5
 -- are the lane, 0 where the event has none; bytes 6 and 7 are 0; bytes 8 to 11 are the number. The least byte of a number
 -- stands first.
-use Rattle.std.specs.Prelude.{◌≡◌, ℕ, ◌<◌, ◌^◌, Bool, true, false, IsTrue, List, ◌∷◌, ◌++◌}
+use Rattle.std.specs.Prelude.{◌≡◌, ℕ, ◌<◌, ◌^◌, ⊤, Bool, true, false, IsTrue, List, ◌∷◌, ◌++◌}
 use Rattle.std.specs.Int.{w16, w32, to_le_bytes}
 use Rattle.std.specs.List.{flat_map}
 use Rattle.wq_rows.specs.declared.event.Event.{Event}
@@ -59,13 +59,13 @@ packed_rows rows = flat_map packed rows
 
 -- an event may have this answer: those that can't come to nothing have yes
 abbrev pub MayAnswer : Event → Bool → Type 0
-MayAnswer (Queue item) said = Unit {0}
-MayAnswer (Cancel item) said = Unit {0}
+MayAnswer (Queue item) said = ⊤
+MayAnswer (Cancel item) said = ⊤
 MayAnswer (Start lane item) said = IsTrue said
-MayAnswer (Wait lane target) said = Unit {0}
+MayAnswer (Wait lane target) said = ⊤
 MayAnswer (Over lane target) said = IsTrue said
 MayAnswer (Finish lane item) said = IsTrue said
-MayAnswer (Ask item) said = Unit {0}
+MayAnswer (Ask item) said = ⊤
 MayAnswer (Told item) said = IsTrue said
 
 -- a row that may be packed: its event may have its answer

@@ -1,4 +1,4 @@
-use Rattle.std.proofs.Common.{◌≡◌, ◌≢◌, ◌+◌, ◌<◌, true, false, Option, List, length, get_or, replicate, sym, ap, subst, ◌∙◌, arith}
+use Rattle.std.proofs.Common.{◌≡◌, ◌≢◌, ◌+◌, true, false, Option, length, get_or, replicate, sym, ap, subst, ◌∙◌, arith}
 use Rattle.std.specs.Prelude.{IfSome}
 use Rattle.std.proofs.lemmas.Bool.{eqb-true, eqb-false}
 use Rattle.wq_core.specs.declared.step.Step.{Step}
@@ -6,7 +6,7 @@ use Rattle.wq_core.specs.Rules.{Lawful}
 use Rattle.wq_core.specs.Held.{Machine}
 use Rattle.wq_history.specs.Events.{step_of}
 use Rattle.wq_history.specs.Counts.{AskView}
-use Rattle.wq_history.specs.Judging.{stepped, counted}
+use Rattle.wq_history.specs.Judging.{stepped}
 use Rattle.wq_history.proofs.Judged.{JudgedSoFar, judged-length, judged-first, judged-next, judged-all, bad-row, cut-off, not-legal, step-lawful, few_asks}
 use Rattle.wq_history.proofs.judging.check_rows.Goals as goal
 

@@ -1,4 +1,4 @@
-use Rattle.std.proofs.Common.{eqb, Some, subst, sym, Bool, ◌↔◌}
+use Rattle.std.proofs.Common.{subst, sym, Bool, ◌↔◌}
 use Rattle.std.specs.Prelude.{IsTrue}
 use Rattle.wq_history.specs.History.{Makes}
 use Rattle.wq_history.proofs.Judged.{peeked}

@@ -1,9 +1,9 @@
-use Rattle.std.proofs.Common.{◌≡◌, ◌≤◌, ◌<◌, get_or, true, length, refl, sym, ap, ◌∙◌, subst, arith}
+use Rattle.std.proofs.Common.{◌<◌, get_or, true, length, refl, sym, ap, ◌∙◌, subst, arith}
 use Rattle.std.proofs.lemmas.List.{length-set}
 use Rattle.wq_rows.specs.declared.event.Event.TheVariants.{Told}
 use Rattle.wq_rows.specs.declared.event.Row.{Row}
 use Rattle.wq_history.specs.History.{MayCome}
-use Rattle.wq_history.specs.Book.{BookView, free}
+use Rattle.wq_history.specs.Book.{BookView}
 use Rattle.wq_history.proofs.Counting.{CountsAsks-told, asks_waiting-count, within-some}
 use Rattle.wq_history.proofs.Holding.{HoldsBook-noted, HoldsBook-read}
 use Rattle.wq_history.proofs.book.Book.end_a_wait.Goals as goal

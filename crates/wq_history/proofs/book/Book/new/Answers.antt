@@ -1,6 +1,6 @@
 use Rattle.std.proofs.Common.{replicate, ap, sym, ◌∙◌, subst, arith}
 use Rattle.wq_rows.specs.Stored.{HistoryView}
-use Rattle.wq_history.specs.Counts.{AskView, HoldsBook}
+use Rattle.wq_history.specs.Counts.{HoldsBook}
 use Rattle.wq_history.proofs.Holding.{HoldsBook-first}
 use Rattle.wq_history.proofs.book.Book.new.Goals as goal
 

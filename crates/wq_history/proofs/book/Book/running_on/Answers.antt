@@ -1,7 +1,7 @@
-use Rattle.std.proofs.Common.{◌<◌, ap, subst}
+use Rattle.std.proofs.Common.{◌<◌, subst}
 use Rattle.std.specs.Prelude.{IfSome}
 use Rattle.wq_core.specs.declared.entry.Running.{Running}
-use Rattle.wq_core.specs.Wiring.{Wiring, items}
+use Rattle.wq_core.specs.Wiring.{items}
 use Rattle.wq_history.specs.Book.{BookView}
 use Rattle.wq_history.proofs.Holding.{running-known}
 use Rattle.wq_history.proofs.book.Book.running_on.Goals as goal

@@ -1,4 +1,4 @@
-use Rattle.std.proofs.Common.{◌≡◌, ◌<◌, true, refl, sym, subst, ◌∙◌, None, Bool}
+use Rattle.std.proofs.Common.{◌≡◌, ◌<◌, refl, sym, subst, ◌∙◌, None, Bool}
 use Rattle.std.specs.Prelude.{MatchBool}
 use Rattle.wq_core.specs.State.{lane_at}
 use Rattle.wq_history.specs.Book.{state, IsWrongToStart}
