@@ -1,6 +1,7 @@
 #!/usr/bin/env bash
 # All tests: the toolchain's gate (proofs, must-fail edits, tests, the stored run), and then the scripts that test
-# what no proof covers. The scripts use the program that the gate leaves at crates/wqplan/out/wqplan.
+# what no proof covers. The scripts use the programs that the gate leaves at crates/wqplan/out/wqplan and
+# crates/wq_book/out/wq_book.
 set -eu
 cd "$(dirname "$0")/.."
 rt ci
@@ -9,7 +10,9 @@ bash tests/pages.sh
 bash tests/outlives.sh
 bash tests/program.sh
 bash tests/rows.sh
+bash tests/book.sh
 bash tests/examples.sh
 bash tests/guide.sh
 bash tests/explain.sh
+bash tests/books.sh
 bash tests/model.sh

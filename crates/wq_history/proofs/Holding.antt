@@ -195,7 +195,7 @@ room_for_step m rows room asks work event said step holds lawful makes enough =
 
 -- ---- a book without rows
 
-zeros : (n i : ℕ) (none : ℕ) → get_or (replicate n none) i none ≡ none
+pub zeros : (n i : ℕ) (none : ℕ) → get_or (replicate n none) i none ≡ none
 zeros zero i none = refl
 zeros (suc n) zero none = refl
 zeros (suc n) (suc i) none = zeros n i none

@@ -1,22 +1,33 @@
 -- Judging: what one row more does to a replay, and why a row is at fault.
-use Rattle.std.proofs.Common.{◌≡◌, ◌≢◌, ℕ, zero, suc, ◌+◌, ◌-◌, ◌*◌, ◌<◌, ◌≤◌, ◌↔◌, Bool, true, false, eqb, List, [], ◌∷◌, ◌++◌, length, get_or, take, refl, sym, ap, subst, ◌∙◌, arith}
-use Rattle.std.specs.Prelude.{Option, Some, None, IfSome, IfNone, IsTrue}
+use Rattle.std.proofs.Common.{◌≡◌, ◌≢◌, ℕ, zero, suc, ◌+◌, ◌-◌, ◌*◌, ◌<◌, ◌≤◌, ◌↔◌, Bool, true, false, eqb, List, append_assoc, length-append, length-take, replicate, [], ◌∷◌, ◌++◌, length, get_or, take, refl, sym, ap, subst, ◌∙◌, arith}
+use Rattle.std.specs.Prelude.{Option, Some, None, IfSome, IfNone, IsTrue, ◌&&◌, slice_index}
 use Rattle.std.specs.Option.{option_eq}
 use Rattle.std.proofs.lemmas.Bool.{eqb-true, eq-eqb}
-use Rattle.std.proofs.lemmas.List.{length-set}
+use Rattle.std.proofs.lemmas.List.{length-set, append-nil}
+use Rattle.std.proofs.lemmas.List.Elements.{All-nil}
+use Rattle.std.proofs.lemmas.List.Sums.{count_by-le-length}
+use Rattle.std.specs.List.{IsSplitAt, count_by}
 use Rattle.wq_core.specs.declared.step.Step.{Step}
 use Rattle.wq_core.specs.declared.step.Step.TheVariants.{Queue as QueueStep, Cancel as CancelStep, Start as StartStep, Wait as WaitStep, Over as OverStep, Finish as FinishStep}
 use Rattle.wq_core.specs.declared.step.StepError.{StepError}
 use Rattle.wq_core.specs.declared.step.StepError.TheVariants.{NotLawful, NumbersUsedUp}
 use Rattle.wq_core.specs.Wiring.{Wiring, items}
-use Rattle.wq_core.specs.State.{State}
+use Rattle.wq_core.specs.State.{State, empty_state}
 use Rattle.wq_core.specs.Rules.{Lawful, Gives}
 use Rattle.wq_core.specs.Held.{Machine, IsMachine, IsDone, IsRefusal, UsesUp, machine_after}
 use Rattle.wq_core.proofs.Numbers.{Gives-one}
 use Rattle.wq_rows.specs.declared.event.Event.{Event}
 use Rattle.wq_rows.specs.declared.event.Event.TheVariants.{Queue, Cancel, Start, Wait, Over, Finish, Ask, Told}
 use Rattle.wq_rows.specs.declared.event.Row.{Row}
-use Rattle.wq_history.specs.History.{Makes}
+use Rattle.wq_rows.specs.Packing.{item_in, packed, IsPackable, IsRowInRange, IsPackedRow}
+use Rattle.wq_rows.specs.Stored.{max_rows, IsStored}
+use Rattle.wq_rows.proofs.StoredLemmas.{IsStored-length, IsStored-push, IsSplitAt-parts, empty_list}
+use Rattle.wq_history.specs.Events.{step_of, is_ask, is_told}
+use Rattle.wq_history.specs.History.{state_after, asks_waiting, Makes, MayComeIn, MayCome, MayFollow, IsLegal}
+use Rattle.wq_history.specs.Counts.{AskView, CountsAsks, Replays}
+use Rattle.wq_history.specs.Judging.{IsJudged, IsJudgedUpTo, stepped, counted}
+use Rattle.wq_history.proofs.Counting.{IsNobodys-nothing, CountsAsks-same, CountsAsks-asked, CountsAsks-told, asks_waiting-count, within-some}
+use Rattle.wq_history.proofs.Holding.{Replays-noted, Replays-made, Replays-first}
 
 -- ---- the number of a step
 
@@ -41,3 +52,218 @@ peeked m step (Some k) n machine below some none = (
   (λ is. (some.lawful, subst (λ j. Gives m.state step j) (eqb-true k n is) some.gives)),
   (λ makes. eq-eqb k n (Gives-one m.wiring m.state step k n machine.state some.gives makes.1)),
 )
+
+-- ---- what is looked at is what may follow
+
+-- what may come in a machine that is the replay of rows, and with as many asks as are counted, may follow the rows
+pub MayFollow-here : (m : Machine) (rows : List Row) (asks : AskView) (row : Row) (waiting : ℕ) → Replays m rows asks → waiting ≡ get_or asks.counts (item_in row.event) 0
+    → MayComeIn m.wiring m.state waiting row.event row.yes row.number ↔ MayFollow m.wiring rows row
+MayFollow-here m rows asks row waiting replays is = (
+  (λ may.
+      subst (λ k. MayComeIn m.wiring (state_after m.wiring rows) k row.event row.yes row.number) same
+      (subst (λ (s : State). MayComeIn m.wiring s waiting row.event row.yes row.number) replays.replay may)),
+  (λ may.
+      subst (λ (s : State). MayComeIn m.wiring s waiting row.event row.yes row.number) (sym replays.replay)
+      (subst (λ k. MayComeIn m.wiring (state_after m.wiring rows) k row.event row.yes row.number) (sym same) may)),
+)
+  where
+    same : waiting ≡ asks_waiting (item_in row.event) rows
+    same = is ∙ asks_waiting-count rows asks (item_in row.event) replays.asked
+
+-- the step of what may come is lawful
+pub step-lawful : (w : Wiring) (s : State) (waiting : ℕ) (event : Event) (said : Bool) (n : ℕ) → MayComeIn w s waiting event said n
+    → IfSome (step_of event said) (λ step. Lawful w s step)
+step-lawful w s waiting (Queue i) true n may = may.1.0
+step-lawful w s waiting (Queue i) false n may = tt
+step-lawful w s waiting (Cancel i) true n may = may.1.0
+step-lawful w s waiting (Cancel i) false n may = tt
+step-lawful w s waiting (Start q i) said n may = may.1.0
+step-lawful w s waiting (Wait q b) said n may = may.1.0
+step-lawful w s waiting (Over q b) said n may = may.1.0
+step-lawful w s waiting (Finish q i) said n may = may.1.0
+step-lawful w s waiting (Ask i) said n may = tt
+step-lawful w s waiting (Told i) said n may = tt
+
+-- what is asked for is an item
+pub asked-within : (w : Wiring) (s : State) (waiting : ℕ) (event : Event) (said : Bool) (n i : ℕ) → MayComeIn w s waiting event said n → event ≡ Ask i → i < items w
+asked-within w s waiting (Queue j) said n i may is = absurd cc
+asked-within w s waiting (Cancel j) said n i may is = absurd cc
+asked-within w s waiting (Start q j) said n i may is = absurd cc
+asked-within w s waiting (Wait q b) said n i may is = absurd cc
+asked-within w s waiting (Over q b) said n i may is = absurd cc
+asked-within w s waiting (Finish q j) said n i may is = absurd cc
+asked-within w s waiting (Ask j) said n i may is = let same : j ≡ i = cc in subst (λ k. k < items w) same may.0
+asked-within w s waiting (Told j) said n i may is = absurd cc
+
+-- what is told was asked for
+pub told-some : (w : Wiring) (s : State) (waiting : ℕ) (event : Event) (said : Bool) (n i : ℕ) → MayComeIn w s waiting event said n → event ≡ Told i → 0 < waiting
+told-some w s waiting (Queue j) said n i may is = absurd cc
+told-some w s waiting (Cancel j) said n i may is = absurd cc
+told-some w s waiting (Start q j) said n i may is = absurd cc
+told-some w s waiting (Wait q b) said n i may is = absurd cc
+told-some w s waiting (Over q b) said n i may is = absurd cc
+told-some w s waiting (Finish q j) said n i may is = absurd cc
+told-some w s waiting (Ask j) said n i may is = absurd cc
+told-some w s waiting (Told j) said n i may is = may.1
+
+-- no more asks wait than there are rows
+pub few_asks : (m : Machine) (rows : List Row) (asks : AskView) → Replays m rows asks → asks.all ≤ length rows
+few_asks m rows asks replays = omega (arith, replays.asked.in_all, count_by-le-length (λ (row : Row). is_ask row.event && row.yes) rows)
+
+-- ---- one row more
+
+pub Replays-follow : (m : Machine) (rows : List Row) (asks : AskView) (row : Row) → Replays m rows asks → MayFollow m.wiring rows row → length rows < max_rows
+    → (0 < asks_waiting (item_in row.event) rows → 0 < asks.all) → Replays (stepped m (step_of row.event row.yes)) (rows ++ (row ∷ [])) (counted asks row.event row.yes)
+Replays-follow m rows asks row replays may few some = by_event row.event row.yes row.number may some where
+  here : (step : Step) → Lawful m.wiring (state_after m.wiring rows) step → Lawful m.wiring m.state step
+  here step lawful = subst (λ (s : State). Lawful m.wiring s step) (sym replays.replay) lawful
+
+  made : (event : Event) (said : Bool) (n : ℕ) (step : Step) → step_of event said ≡ Some step → Lawful m.wiring (state_after m.wiring rows) step → MayCome m.wiring rows event said n
+      → Replays (machine_after m step) (rows ++ (record { event = event; yes = said; number = n } ∷ [])) asks
+  made event said n step is lawful come = Replays-made m rows asks event said n step replays (here step lawful) is come few
+
+  nothing : (event : Event) (n : ℕ) → step_of event false ≡ None → is_told event ≡ false → MayCome m.wiring rows event false n
+      → Replays m (rows ++ (record { event = event; yes = false; number = n } ∷ [])) asks
+  nothing event n none told come =
+      let r : Row = record { event = event; yes = false; number = n } in
+      Replays-noted m rows asks asks r replays none come (CountsAsks-same rows r asks (IsNobodys-nothing event n told) replays.asked) refl
+
+  by_event : (event : Event) (said : Bool) (n : ℕ) → MayCome m.wiring rows event said n → (0 < asks_waiting (item_in event) rows → 0 < asks.all)
+      → Replays (stepped m (step_of event said)) (rows ++ (record { event = event; yes = said; number = n } ∷ [])) (counted asks event said)
+  by_event (Queue i) true n come wait = made (Queue i) true n (QueueStep i) refl come.1.0 come
+  by_event (Queue i) false n come wait = nothing (Queue i) n refl refl come
+  by_event (Cancel i) true n come wait = made (Cancel i) true n (CancelStep i) refl come.1.0 come
+  by_event (Cancel i) false n come wait = nothing (Cancel i) n refl refl come
+  by_event (Start q i) said n come wait = made (Start q i) said n (StartStep q i) refl come.1.0 come
+  by_event (Wait q b) said n come wait = made (Wait q b) said n (WaitStep q b) refl come.1.0 come
+  by_event (Over q b) said n come wait = made (Over q b) said n (OverStep q b) refl come.1.0 come
+  by_event (Finish q i) said n come wait = made (Finish q i) said n (FinishStep q i) refl come.1.0 come
+  by_event (Ask i) true n come wait =
+      let r : Row = record { event = Ask i; yes = true; number = n } in
+      let within : i < length asks.counts = omega (arith, come.0, replays.a_count_each) in
+      Replays-noted m rows asks (counted asks (Ask i) true) r replays refl come
+      (CountsAsks-asked rows asks (counted asks (Ask i) true) i n within replays.asked refl refl) (length-set asks.counts i (get_or asks.counts i 0 + 1))
+  by_event (Ask i) false n come wait = nothing (Ask i) n refl refl come
+  by_event (Told i) true n come wait =
+      let r : Row = record { event = Told i; yes = true; number = n } in
+      let some_wait : 0 < get_or asks.counts i 0 = omega (arith, come.1, asks_waiting-count rows asks i replays.asked) in
+      let within : i < length asks.counts = within-some asks.counts i some_wait in
+      Replays-noted m rows asks (counted asks (Told i) true) r replays refl come
+      (CountsAsks-told rows asks (counted asks (Told i) true) i n within some_wait (wait come.1) replays.asked refl refl) (length-set asks.counts i (get_or asks.counts i 0 - 1))
+  by_event (Told i) false n come wait = let said : false ≡ true = come.0 in absurd cc
+
+-- ---- judged so far
+
+-- the bytes before those that are left hold so many rows, of which the machine is the replay
+pub record JudgedSoFar (old : Machine) (bytes left : List ℕ) (now : Machine) (asks : AskView) (count : ℕ) : Type 0 where
+  pub rows : List Row
+  pub judged_bytes : List ℕ
+  pub joined : judged_bytes ++ left ≡ bytes
+  pub stored : IsStored judged_bytes rows
+  pub counted_rows : count ≡ length rows
+  pub wired : now.wiring ≡ old.wiring
+  pub replays : Replays now rows asks
+
+-- how many bytes are judged
+pub judged-length : (old : Machine) (bytes left : List ℕ) (now : Machine) (asks : AskView) (count : ℕ) → JudgedSoFar old bytes left now asks count
+    → 12 * count + length left ≡ length bytes
+judged-length old bytes left now asks count so_far =
+    omega (arith, so_far.counted_rows, IsStored-length so_far.judged_bytes so_far.rows so_far.stored, length-append so_far.judged_bytes left, ap length so_far.joined)
+
+judged-is : (old : Machine) (bytes left : List ℕ) (now : Machine) (asks : AskView) (count : ℕ) (so_far : JudgedSoFar old bytes left now asks count)
+    → IsJudged old so_far.judged_bytes so_far.rows now
+judged-is old bytes left now asks count so_far = record {
+  stored = so_far.stored;
+  legal = subst (λ (w : Wiring). IsLegal w so_far.rows) so_far.wired so_far.replays.legal;
+  replay =
+      ap (λ (w : Wiring). record { wiring = w; state = now.state }) so_far.wired
+      ∙ ap (λ (s : State). record { wiring = old.wiring; state = s }) (so_far.replays.replay ∙ ap (λ (w : Wiring). state_after w so_far.rows) so_far.wired);
+}
+
+place-of : (old : Machine) (bytes left : List ℕ) (now : Machine) (asks : AskView) (count : ℕ) → JudgedSoFar old bytes left now asks count → 0 < length left
+    → IsJudgedUpTo old bytes (count + 1) now
+place-of old bytes left now asks count so_far some = record {
+  rows = so_far.rows;
+  judged_bytes = so_far.judged_bytes;
+  left = left;
+  joined = so_far.joined;
+  judged = judged-is old bytes left now asks count so_far;
+  some_left = some;
+  at_is = omega (arith, so_far.counted_rows);
+}
+
+-- the next bytes hold no row
+pub bad-row : (old : Machine) (bytes left front after : List ℕ) (now : Machine) (asks : AskView) (count : ℕ) → JudgedSoFar old bytes left now asks count
+    → IsSplitAt left 12 front after → ((row : Row) → ¬ IsPackedRow front row) → (place : IsJudgedUpTo old bytes (count + 1) now) × ((row : Row) → ¬ IsPackedRow (take 12 place.left) row)
+unfolding place-of
+bad-row old bytes left front after now asks count so_far split none =
+    (place-of old bytes left now asks count so_far (omega (arith, split.0)), (λ row holds. none row (subst (λ (l : List ℕ). IsPackedRow l row) (sym split.1) holds)))
+
+-- fewer than 12 bytes are left, and some
+pub cut-off : (old : Machine) (bytes left : List ℕ) (now : Machine) (asks : AskView) (count : ℕ) → JudgedSoFar old bytes left now asks count
+    → length left < 12 → 0 < length left → (place : IsJudgedUpTo old bytes (count + 1) now) × ((row : Row) → ¬ IsPackedRow (take 12 place.left) row)
+unfolding place-of
+cut-off old bytes left now asks count so_far short some = (
+  place-of old bytes left now asks count so_far some,
+  (λ row holds. let len : 12 ≡ length (take 12 left) = ap length holds.holds in omega (arith, short, len, length-take 12 left)),
+)
+
+-- the next row may not follow
+pub not-legal : (old : Machine) (bytes left front after : List ℕ) (now : Machine) (asks : AskView) (count waiting : ℕ) (row : Row) → JudgedSoFar old bytes left now asks count
+    → IsSplitAt left 12 front after → IsPackedRow front row → waiting ≡ get_or asks.counts (item_in row.event) 0
+    → (¬ MayComeIn now.wiring now.state waiting row.event row.yes row.number)
+    → (place : IsJudgedUpTo old bytes (count + 1) now) × ((r : Row) × IsPackedRow (take 12 place.left) r × (¬ MayFollow old.wiring place.rows r))
+unfolding place-of
+not-legal old bytes left front after now asks count waiting row so_far split is_row counted_is never = (
+  place-of old bytes left now asks count so_far (omega (arith, split.0)),
+  (
+    row,
+    subst (λ (l : List ℕ). IsPackedRow l row) split.1 is_row,
+    (λ may. never ((MayFollow-here now so_far.rows asks row waiting so_far.replays counted_is).1 (subst (λ (w : Wiring). MayFollow w so_far.rows row) (sym so_far.wired) may))),
+  ),
+)
+
+stepped-wiring : (m : Machine) (o : Option Step) → (stepped m o).wiring ≡ m.wiring
+stepped-wiring m None = refl
+stepped-wiring m (Some step) = refl
+
+-- one row further
+pub judged-next : (old : Machine) (bytes left front after : List ℕ) (now : Machine) (asks : AskView) (count waiting : ℕ) (row : Row) → JudgedSoFar old bytes left now asks count
+    → IsSplitAt left 12 front after → IsPackedRow front row → waiting ≡ get_or asks.counts (item_in row.event) 0 → waiting ≤ asks.all → length bytes ≤ 12 * max_rows
+    → MayComeIn now.wiring now.state waiting row.event row.yes row.number
+    → JudgedSoFar old bytes after (stepped now (step_of row.event row.yes)) (counted asks row.event row.yes) (count + 1)
+judged-next old bytes left front after now asks count waiting row so_far split is_row counted_is part few may = record {
+  rows = so_far.rows ++ (row ∷ []);
+  judged_bytes = so_far.judged_bytes ++ packed row;
+  joined =
+      append_assoc so_far.judged_bytes (packed row) after
+      ∙ ap (λ (l : List ℕ). so_far.judged_bytes ++ l) (ap (λ (l : List ℕ). l ++ after) is_row.holds ∙ sym (IsSplitAt-parts left front after split))
+      ∙ so_far.joined;
+  stored = IsStored-push so_far.judged_bytes so_far.rows row so_far.stored is_row.packable is_row.in_range;
+  counted_rows = omega (arith, so_far.counted_rows, length-append so_far.rows (row ∷ []));
+  wired = stepped-wiring now (step_of row.event row.yes) ∙ so_far.wired;
+  replays =
+      Replays-follow now so_far.rows asks row so_far.replays ((MayFollow-here now so_far.rows asks row waiting so_far.replays counted_is).0 may)
+      (omega (arith, so_far.counted_rows, judged-length old bytes left now asks count so_far, split.0, few))
+      (λ some. omega (arith, some, part, counted_is, asks_waiting-count so_far.rows asks (item_in row.event) so_far.replays.asked));
+}
+
+pub judged-first : (old : Machine) (bytes : List ℕ) (asks : AskView) → IsMachine old → old.state ≡ empty_state old.wiring
+    → asks ≡ record { counts = replicate (items old.wiring) 0; all = 0 } → JudgedSoFar old bytes bytes old asks 0
+judged-first old bytes asks machine empty none = record {
+  rows = [];
+  judged_bytes = [];
+  joined = refl;
+  stored = record { packable = All-nil IsPackable; in_range = All-nil IsRowInRange; holds = refl };
+  counted_rows = refl;
+  wired = refl;
+  replays = Replays-first old asks machine empty none;
+}
+
+-- nothing is left
+pub judged-all : (old : Machine) (bytes left : List ℕ) (now : Machine) (asks : AskView) (count : ℕ) → JudgedSoFar old bytes left now asks count → length left ≡ 0
+    → (rows : List Row) × IsJudged old bytes rows now × (count ≡ length rows)
+judged-all old bytes left now asks count so_far none =
+    let all : so_far.judged_bytes ≡ bytes =
+    sym (append-nil so_far.judged_bytes) ∙ ap (λ (l : List ℕ). so_far.judged_bytes ++ l) (sym (empty_list left none)) ∙ so_far.joined in
+    (so_far.rows, subst (λ (l : List ℕ). IsJudged old l so_far.rows now) all (judged-is old bytes left now asks count so_far), so_far.counted_rows)

@@ -2,3 +2,5 @@ pub mod Histories
 pub mod Counting
 pub mod Holding
 pub mod Judged
+pub mod LegalRows
+pub mod KeptRows

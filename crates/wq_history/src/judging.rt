@@ -66,9 +66,7 @@ fn may_come<A: Allocator>(core: &Core<A>, waiting: u32, row: &Row) -> bool
         Event::Over(q, target) => yes && makes(core, &Step::Over(q, target), number),
         Event::Finish(q, item) => yes && makes(core, &Step::Finish(q, item), number),
         Event::Ask(item) => {
-            is_item(core, item)
-                && core.has_unfinished(item) == yes
-                && number == core.next_number()
+            is_item(core, item) && core.has_unfinished(item) == yes && number == core.next_number()
         }
         Event::Told(item) => yes && waiting > 0 && !core.unfinished_below(item, number),
     }

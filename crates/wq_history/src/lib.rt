@@ -11,6 +11,7 @@ mod asking;
 mod book;
 mod fault;
 mod judging;
+pub mod laws;
 mod row_error;
 
 pub use asking::{Ask, Asked, Told};

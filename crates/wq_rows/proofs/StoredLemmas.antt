@@ -129,7 +129,7 @@ pub LeadsOn-all : (bytes : List ℕ) → LeadsOn bytes bytes
 LeadsOn-all bytes = record { on = λ stored. stored; back = λ rows stored. (rows, stored) }
 
 -- what is split in two is its two parts
-IsSplitAt-parts : (bytes front after : List ℕ) → IsSplitAt bytes 12 front after → bytes ≡ front ++ after
+pub IsSplitAt-parts : (bytes front after : List ℕ) → IsSplitAt bytes 12 front after → bytes ≡ front ++ after
 IsSplitAt-parts bytes front after split =
     sym (take-append-drop 12 bytes) ∙ ap (λ (l : List ℕ). l ++ drop 12 bytes) (sym split.1) ∙ ap (λ (l : List ℕ). front ++ l) (sym split.2)
 
@@ -156,7 +156,7 @@ LeadsOn-no_row bytes left front after split none leads rows stored =
     none at_front.row at_front.first
 
 -- a list of no length is empty
-empty_list : (l : List ℕ) → length l ≡ 0 → l ≡ []
+pub empty_list : (l : List ℕ) → length l ≡ 0 → l ≡ []
 empty_list [] none = refl
 empty_list (x ∷ l) none = absurd (omega arith)
 

@@ -1,67 +1,82 @@
-use Rattle.std.proofs.Common.{rules, ◌≡◌, ℕ, ◌<◌, ◌≤◌, ◌*◌, ◌↔◌, List, length, slice_index, IfOk, IfErr, IfSome, IsTrue, ◌+◌, ◌-◌, ◌/◌, ◌%◌, Bool, true, false, nat_eq, nat_lt, [], ◌∷◌, ◌++◌, slice_index_or, slice_set, bit_and, bit_or, Fits, w8, w32, w64, Bor, MutBor}
+use Rattle.std.proofs.Common.{◌≡◌, ◌≢◌, ◌+◌, ◌<◌, true, false, Option, List, length, get_or, replicate, sym, ap, subst, ◌∙◌, arith}
+use Rattle.std.specs.Prelude.{IfSome}
+use Rattle.std.proofs.lemmas.Bool.{eqb-true, eqb-false}
+use Rattle.wq_core.specs.declared.step.Step.{Step}
 use Rattle.wq_core.specs.Rules.{Lawful}
-use Rattle.wq_core.specs.Wiring.{items}
-use Rattle.wq_core.specs.State.{empty_state}
-use Rattle.wq_rows.specs.declared.event.Row.{Row as RowValue}
-use Rattle.wq_rows.specs.declared.event.Event.TheVariants.{Ask, Told}
-use Rattle.wq_rows.specs.Stored.{max_rows}
-use Rattle.wq_history.specs.History.{Makes, MayComeIn}
-use Rattle.wq_history.specs.Events.{step_of as step_of_event}
-use Rattle.wq_history.specs.Judging.{IsJudged, IsFaultAt, stepped, counted}
+use Rattle.wq_core.specs.Held.{Machine}
+use Rattle.wq_history.specs.Events.{step_of}
+use Rattle.wq_history.specs.Counts.{AskView}
+use Rattle.wq_history.specs.Judging.{stepped, counted}
+use Rattle.wq_history.proofs.Judged.{JudgedSoFar, judged-length, judged-first, judged-next, judged-all, bad-row, cut-off, not-legal, step-lawful, few_asks}
 use Rattle.wq_history.proofs.judging.check_rows.Goals as goal
 
--- src/judging.rt:146:5
 pub loop-bytes-init : goal.loop-bytes-init
-loop-bytes-init g c = ?
+loop-bytes-init g c =
+    judged-first c.args.core.now c.args.packed.now c.in-Ok.asks c.items.ensures.machine c.requires.new
+    (c.in-Ok.ensures.counts ∙ ap (λ n. record { counts = replicate n 0; all = 0 }) c.items.ensures.items)
 
--- src/judging.rt:147:18
 pub overflow_add-at : goal.overflow_add-at
-overflow_add-at g c = ?
+overflow_add-at g c =
+    let l = c.loop-bytes in
+    omega (arith, judged-length c.args.core.now c.args.packed.now l.left.now l.core l.asks l.rows l.invariant, c.requires.few)
 
--- src/judging.rt:149:13
 pub returns-in_default-unpack-clause-refused : goal.returns-in_default-unpack-clause-refused
-returns-in_default-unpack-clause-refused g c = ?
+returns-in_default-unpack-clause-refused g c =
+    let l = c.loop-bytes in
+    bad-row c.args.core.now c.args.packed.now l.left.now c.in-Some.bytes.now c.in-Some.after.now l.core l.asks l.rows l.invariant c.in-Some.ensures.cases c.in_default-unpack.ensures.none
 
--- src/judging.rt:155:13
 pub may_come-requires : goal.may_come-requires
-may_come-requires g c = ?
+may_come-requires g c =
+    let l = c.loop-bytes in
+    omega (arith, l.invariant.replays.numbers, l.invariant.counted_rows, judged-length c.args.core.now c.args.packed.now l.left.now l.core l.asks l.rows l.invariant, c.requires.few)
 
--- src/judging.rt:156:13
 pub returns-then-not-may_come-clause-refused : goal.returns-then-not-may_come-clause-refused
-returns-then-not-may_come-clause-refused g c = ?
+returns-then-not-may_come-clause-refused g c =
+    let l = c.loop-bytes in
+    not-legal c.args.core.now c.args.packed.now l.left.now c.in-Some.bytes.now c.in-Some.after.now l.core l.asks l.rows c.of-waiting.result c.in-Some-unpack.row l.invariant
+    c.in-Some.ensures.cases c.in-Some-unpack.ensures.some (c.of-waiting.ensures.count ∙ ap (λ i. get_or l.asks.counts i 0) c.item.ensures)
+    (λ may. let both : true ≡ false = sym (c.may_come.ensures.1 may) ∙ c.if-not-may_come.true in absurd cc)
 
--- src/judging.rt:161:9
 pub make-requires-clause-lawful : goal.make-requires-clause-lawful
-make-requires-clause-lawful g c = ?
+make-requires-clause-lawful g c =
+    let l = c.loop-bytes in
+    let row = c.in-Some-unpack.row in
+    subst (λ (o : Option Step). IfSome o (λ (s : Step). Lawful l.core.wiring l.core.state s)) (sym c.step_of.ensures)
+    (step-lawful l.core.wiring l.core.state c.of-waiting.result row.event row.yes row.number (c.may_come.ensures.0 c.if-not-may_come.false))
 
--- src/judging.rt:161:9
 pub make-requires-clause-numbers : goal.make-requires-clause-numbers
-make-requires-clause-numbers g c = ?
+make-requires-clause-numbers g c =
+    let l = c.loop-bytes in
+    omega (arith, l.invariant.replays.numbers, l.invariant.counted_rows, judged-length c.args.core.now c.args.packed.now l.left.now l.core l.asks l.rows l.invariant, c.requires.few)
 
--- src/judging.rt:162:9
-pub count-requires-clause-item : goal.count-requires-clause-item
-count-requires-clause-item g c = ?
-
--- src/judging.rt:162:9
 pub count-requires-clause-few : goal.count-requires-clause-few
-count-requires-clause-few g c = ?
+count-requires-clause-few g c =
+    let l = c.loop-bytes in
+    omega (arith, few_asks l.core l.invariant.rows l.asks l.invariant.replays, l.invariant.counted_rows, judged-length c.args.core.now c.args.packed.now l.left.now l.core l.asks l.rows l.invariant, c.requires.few)
 
--- src/judging.rt:146:5
-pub loop-bytes-smaller : goal.loop-bytes-smaller
-loop-bytes-smaller g c = ?
-
--- src/judging.rt:146:5
 pub loop-bytes-preserved : goal.loop-bytes-preserved
-loop-bytes-preserved g c = ?
+loop-bytes-preserved g c =
+    let l = c.loop-bytes in
+    let row = c.in-Some-unpack.row in
+    let core = c.make.ensures ∙ ap (λ (o : Option Step). stepped l.core o) c.step_of.ensures in
+    subst (λ (m : Machine). JudgedSoFar c.args.core.now c.args.packed.now c.in-Some.after.now m c.count.new.asks (l.rows + 1)) (sym core)
+    (subst (λ (a : AskView). JudgedSoFar c.args.core.now c.args.packed.now c.in-Some.after.now (stepped l.core (step_of row.event row.yes)) a (l.rows + 1)) (sym c.count.ensures)
+    (judged-next c.args.core.now c.args.packed.now l.left.now c.in-Some.bytes.now c.in-Some.after.now l.core l.asks l.rows c.of-waiting.result row l.invariant
+    c.in-Some.ensures.cases c.in-Some-unpack.ensures.some (c.of-waiting.ensures.count ∙ ap (λ i. get_or l.asks.counts i 0) c.item.ensures) c.of-waiting.ensures.part
+    c.requires.few (c.may_come.ensures.0 c.if-not-may_come.false)))
 
--- src/judging.rt:167:9
 pub returns-then-is_empty-clause-legal : goal.returns-then-is_empty-clause-legal
-returns-then-is_empty-clause-legal g c = ?
+returns-then-is_empty-clause-legal g c =
+    let l = c.loop-bytes in
+    judged-all c.args.core.now c.args.packed.now l.left.now l.core l.asks l.rows l.invariant (eqb-true _ _ (sym c.is_empty.ensures ∙ c.if-is_empty.true))
 
--- src/judging.rt:170:13
 pub overflow_add-result : goal.overflow_add-result
-overflow_add-result g c = ?
+overflow_add-result g c =
+    let l = c.loop-bytes in
+    omega (arith, judged-length c.args.core.now c.args.packed.now l.left.now l.core l.asks l.rows l.invariant, c.requires.few)
 
--- src/judging.rt:128:1
 pub returns-clause-refused : goal.returns-clause-refused
-returns-clause-refused g c = ?
+returns-clause-refused g c =
+    let l = c.loop-bytes in
+    let some : length l.left.now ≢ 0 = eqb-false _ _ (sym c.is_empty.ensures ∙ c.if-is_empty.false) in
+    cut-off c.args.core.now c.args.packed.now l.left.now l.core l.asks l.rows l.invariant c.in_default-split_at_checked.ensures.cases (omega (arith, some))

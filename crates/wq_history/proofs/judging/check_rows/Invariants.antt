@@ -1,17 +1,10 @@
-use Rattle.std.proofs.Common.{◌≡◌, ℕ, ◌<◌, ◌≤◌, ◌*◌, ◌↔◌, List, length, slice_index, IfOk, IfErr, IfSome, IsTrue, ◌+◌, ◌-◌}
-use Rattle.wq_core.specs.Rules.{Lawful}
-use Rattle.wq_core.specs.Wiring.{items}
-use Rattle.wq_core.specs.State.{empty_state}
-use Rattle.wq_rows.specs.declared.event.Row.{Row as RowValue}
-use Rattle.wq_rows.specs.declared.event.Event.TheVariants.{Ask, Told}
-use Rattle.wq_rows.specs.Stored.{max_rows}
-use Rattle.wq_history.specs.History.{Makes, MayComeIn}
-use Rattle.wq_history.specs.Events.{step_of as step_of_event}
-use Rattle.wq_history.specs.Judging.{IsJudged, IsFaultAt, stepped, counted}
+use Rattle.std.proofs.Common.{length}
+use Rattle.wq_history.proofs.Judged.{JudgedSoFar}
 use Rattle.wq_history.proofs.judging.check_rows.Given as goal
 
+-- the rows of the bytes that aren't left are judged
 abbrev pub invariant-loop-bytes : goal.invariant-loop-bytes
-invariant-loop-bytes g l = ?
+invariant-loop-bytes g l = JudgedSoFar l.fn.core l.fn.packed l.left l.core l.asks l.rows
 
 abbrev pub decreases-loop-bytes : goal.decreases-loop-bytes
-decreases-loop-bytes g l = ?
+decreases-loop-bytes g l = length l.left

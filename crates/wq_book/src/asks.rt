@@ -1,0 +1,67 @@
+//! The asks that a book handed out, by their numbers, and what the book answers to them.
+
+use crate::calls::Mistake;
+use std::alloc::{AllocError, Global};
+use wq_history::{Ask, Asked, Book, Told};
+use wq_items::ItemId;
+
+/// Asks for an item, and keeps what is handed out.
+pub(crate) fn ask(
+    book: &mut Book<Global>,
+    asks: &mut Vec<Option<Asked>>,
+    item: ItemId,
+    out: &mut String,
+) -> Result<(), AllocError> {
+    asks.reserve(1)?;
+    match book.ask(item) {
+        Ok(Ask::Idle) => out.push_str("idle"),
+        Ok(Ask::Waiting(asked)) => {
+            let mark = asked.mark();
+            asks.push_reserved(Some(asked));
+            write!(out, "waiting {mark}")
+        }
+        Err(error) => write!(out, "refused {}", error.code()),
+    }
+}
+
+/// Keeps an ask again.
+fn put_back(slot: &mut Option<Asked>, asked: Asked) {
+    match slot.replace(asked) {
+        Some(other) => other.give_up(),
+        None => {}
+    }
+}
+
+/// Hands the ask of this number in. It is a mistake where it isn't there.
+pub(crate) fn tell(
+    book: &mut Book<Global>,
+    asks: &mut [Option<Asked>],
+    number: u32,
+    out: &mut String,
+) -> Result<(), Mistake> {
+    let slot = asks.get_mut(number as usize).ok_or(Mistake::Input)?;
+    let asked = slot.take().ok_or(Mistake::Input)?;
+    match book.told(asked) {
+        Told::Done => out.push_str("done")?,
+        Told::NotYet(asked) => {
+            put_back(slot, asked);
+            out.push_str("not yet")?;
+        }
+        Told::NotAsked(asked) => {
+            asked.give_up();
+            out.push_str("refused 65")?;
+        }
+    }
+    Ok(())
+}
+
+/// Ends those that are left.
+pub(crate) fn give_up_all(mut asks: Vec<Option<Asked>>) {
+    while let Some(slot) = asks.pop() {
+        match slot {
+            Some(asked) => asked.give_up(),
+            None => {}
+        }
+    }
+    asks.destroy_empty();
+}

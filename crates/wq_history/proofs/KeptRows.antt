@@ -1,0 +1,155 @@
+-- Rows that are kept, and what may come at a place of a legal history.
+use Rattle.std.proofs.Common.{◌≡◌, ◌≢◌, ℕ, zero, suc, ◌+◌, ◌-◌, ◌<◌, ◌≤◌, ◌↔◌, Bool, true, false, cond, eqb, List, [], ◌∷◌, ◌++◌, length, append_assoc, refl, sym, ap, subst, ◌∙◌, arith}
+use Rattle.std.specs.Prelude.{Option, Some, None, ◌&&◌, IsTrue}
+use Rattle.std.specs.List.{All, count_by}
+use Rattle.std.specs.Cmp.{both_ways}
+use Rattle.std.proofs.lemmas.List.{append-nil}
+use Rattle.std.proofs.lemmas.List.Elements.{All-head, All-tail}
+use Rattle.wq_items.proofs.Tables.{ItemWaits-below}
+use Rattle.wq_core.specs.declared.step.Step.{Step}
+use Rattle.wq_core.specs.declared.step.Step.TheVariants.{Queue as QueueStep, Cancel as CancelStep, Start as StartStep, Wait as WaitStep, Over as OverStep, Finish as FinishStep}
+use Rattle.wq_core.specs.Wiring.{Wiring, IsWiring, items, lane_of}
+use Rattle.wq_core.specs.State.{State, HasUnfinishedOf}
+use Rattle.wq_core.specs.Rules.{Lawful, effect}
+use Rattle.wq_core.specs.Work.{work_left}
+use Rattle.wq_core.specs.Held.{IsSoundState}
+use Rattle.wq_core.proofs.LaneLemmas.{runs_within, starts_within}
+use Rattle.wq_core.proofs.LawfulSteps.{start-item, waiting-target}
+use Rattle.wq_core.proofs.Machines.{running-item}
+use Rattle.wq_core.proofs.Numbers.{Gives-one}
+use Rattle.wq_core.proofs.WorkLemmas.{work_left-rescuer}
+use Rattle.wq_core.proofs.WorkChanges.{work_left-cancelled}
+use Rattle.wq_rows.specs.declared.event.Event.{Event}
+use Rattle.wq_rows.specs.declared.event.Event.TheVariants.{Queue, Cancel, Start, Wait, Over, Finish, Ask, Told}
+use Rattle.wq_rows.specs.declared.event.Row.{Row}
+use Rattle.wq_rows.specs.Packing.{item_in, lane_in}
+use Rattle.wq_history.specs.Events.{step_of, is_ask, is_told}
+use Rattle.wq_history.specs.History.{state_after, all_asks_waiting, SaysUnfinished, MayCome, MayFollow, IsLegal}
+use Rattle.wq_history.specs.Reserve.{reserved, rows_needed}
+use Rattle.wq_history.proofs.Histories.{state_after-step, state_after-none}
+use Rattle.wq_history.proofs.Counting.{count-more}
+use Rattle.wq_history.proofs.LegalRows.{IsLegal-prefix, IsLegal-last, IsSoundState-legal, asked-item, some-wait, told-asked_all}
+
+-- ---- rows that need none free
+
+-- such a row writes one of those that are kept
+kept_row : (w : Wiring) (rows : List Row) (row : Row) → IsLegal w rows → MayFollow w rows row → rows_needed w row.event row.yes ≡ 0
+    → reserved w (rows ++ (row ∷ [])) + 1 ≤ reserved w rows
+kept_row w rows row legal may none = by_event row.event row.yes row.number may none where
+  s : State
+  s = state_after w rows
+
+  sound : IsSoundState w s
+  sound = IsSoundState-legal w rows legal
+
+  -- the asks that wait are those before it, where nobody asks or is told
+  waiting : (r : Row) → (is_ask r.event && r.yes) ≡ false → is_told r.event ≡ false → all_asks_waiting (rows ++ (r ∷ [])) ≡ all_asks_waiting rows
+  waiting r no_ask no_told =
+      let a = count-more (λ (x : Row). is_ask x.event && x.yes) rows r ∙ ap (λ b. count_by (λ (x : Row). is_ask x.event && x.yes) rows + cond b 1 0) no_ask in
+      let t = count-more (λ (x : Row). is_told x.event) rows r ∙ ap (λ b. count_by (λ (x : Row). is_told x.event) rows + cond b 1 0) no_told in
+      omega (arith, a, t)
+
+  stepping : (event : Event) (said : Bool) (n : ℕ) (step : Step) → step_of event said ≡ Some step
+      → (is_ask event && said) ≡ false → is_told event ≡ false → work_left w (effect w s step) + 1 ≤ work_left w s
+      → reserved w (rows ++ (record { event = event; yes = said; number = n } ∷ [])) + 1 ≤ reserved w rows
+  stepping event said n step makes no_ask no_told less =
+      let r : Row = record { event = event; yes = said; number = n } in
+      let left : work_left w (state_after w (rows ++ (r ∷ []))) ≡ work_left w (effect w s step) = ap (work_left w) (state_after-step w rows r step makes) in
+      omega (arith, left, waiting r no_ask no_told, less)
+
+  by_event : (event : Event) (said : Bool) (n : ℕ) → MayCome w rows event said n → rows_needed w event said ≡ 0
+      → reserved w (rows ++ (record { event = event; yes = said; number = n } ∷ [])) + 1 ≤ reserved w rows
+  by_event (Queue i) true n come zero_needed = absurd (omega (arith, zero_needed))
+  by_event (Queue i) false n come zero_needed = absurd (omega (arith, zero_needed))
+  by_event (Cancel i) true n come zero_needed =
+      stepping (Cancel i) true n (CancelStep i) refl refl refl (omega (arith, work_left-cancelled w s i sound come.1.0))
+  by_event (Cancel i) false n come zero_needed = absurd (omega (arith, zero_needed))
+  by_event (Start q i) said n come zero_needed =
+      stepping (Start q i) said n (StartStep q i) refl refl refl (omega (arith, work_left-rescuer w s (StartStep q i) sound come.1.0 tt))
+  by_event (Wait q b) said n come zero_needed =
+      stepping (Wait q b) said n (WaitStep q b) refl refl refl (omega (arith, work_left-rescuer w s (WaitStep q b) sound come.1.0 tt))
+  by_event (Over q b) said n come zero_needed =
+      stepping (Over q b) said n (OverStep q b) refl refl refl (omega (arith, work_left-rescuer w s (OverStep q b) sound come.1.0 tt))
+  by_event (Finish q i) said n come zero_needed =
+      stepping (Finish q i) said n (FinishStep q i) refl refl refl (omega (arith, work_left-rescuer w s (FinishStep q i) sound come.1.0 tt))
+  by_event (Ask i) true n come zero_needed = absurd (omega (arith, zero_needed))
+  by_event (Ask i) false n come zero_needed = absurd (omega (arith, zero_needed))
+  by_event (Told i) said n come zero_needed =
+      let r : Row = record { event = Told i; yes = said; number = n } in
+      let left : work_left w (state_after w (rows ++ (r ∷ []))) ≡ work_left w s = ap (work_left w) (state_after-none w rows r refl) in
+      let a = count-more (λ (x : Row). is_ask x.event && x.yes) rows r in
+      let t = count-more (λ (x : Row). is_told x.event) rows r in
+      omega (arith, left, a, t, some-wait w rows i legal come.1)
+
+pub kept_rows : (w : Wiring) (rows more : List Row) → IsLegal w (rows ++ more) → All (λ (row : Row). rows_needed w row.event row.yes ≡ 0) more
+    → length more ≤ reserved w rows
+kept_rows w rows [] legal none = omega arith
+kept_rows w rows (row ∷ more) legal none =
+    let longer : IsLegal w ((rows ++ (row ∷ [])) ++ more) = subst (IsLegal w) (sym (append_assoc rows (row ∷ []) more)) legal in
+    let first : IsLegal w (rows ++ (row ∷ [])) = IsLegal-prefix w (rows ++ (row ∷ [])) more longer in
+    let rest = kept_rows w (rows ++ (row ∷ [])) more longer (All-tail (λ (r : Row). rows_needed w r.event r.yes ≡ 0) row more none) in
+    let one = kept_row w rows row (IsLegal-prefix w rows (row ∷ []) first) (IsLegal-last w rows row first) (All-head (λ (r : Row). rows_needed w r.event r.yes ≡ 0) row more none) in
+    omega (arith, rest, one)
+
+-- ---- one answer
+
+pub one_answer : (w : Wiring) (rows : List Row) (event : Event) (said other : Bool) (n m : ℕ) → IsLegal w rows → is_told event ≡ false
+    → MayCome w rows event said n → MayCome w rows event other m → (said ≡ other) × (n ≡ m)
+one_answer w rows event said other n m legal not_told a b = by_event event said other not_told a b where
+  s : State
+  s = state_after w rows
+
+  sound : IsSoundState w s
+  sound = IsSoundState-legal w rows legal
+
+  same_word : (i : ℕ) (x y : Bool) → SaysUnfinished s i x → SaysUnfinished s i y → x ≡ y
+  same_word i x y of_x of_y = both_ways x y (λ t. of_y.1 (of_x.0 t)) (λ t. of_x.1 (of_y.0 t))
+
+  by_event : (e : Event) (x y : Bool) → is_told e ≡ false → MayCome w rows e x n → MayCome w rows e y m → (x ≡ y) × (n ≡ m)
+  by_event (Queue i) true true told a b = (refl, Gives-one w s (QueueStep i) n m sound a.1.1 b.1.1)
+  by_event (Queue i) true false told a b = absurd (a.1.0.1 b.1.0)
+  by_event (Queue i) false true told a b = absurd (b.1.0.1 a.1.0)
+  by_event (Queue i) false false told a b = (refl, a.1.1 ∙ sym b.1.1)
+  by_event (Cancel i) true true told a b = (refl, Gives-one w s (CancelStep i) n m sound a.1.1 b.1.1)
+  by_event (Cancel i) true false told a b = absurd (b.1.0 a.1.0)
+  by_event (Cancel i) false true told a b = absurd (a.1.0 b.1.0)
+  by_event (Cancel i) false false told a b = (refl, a.1.1 ∙ sym b.1.1)
+  by_event (Start q i) x y told a b = (a.0 ∙ sym b.0, Gives-one w s (StartStep q i) n m sound a.1.1 b.1.1)
+  by_event (Wait q t) x y told a b = (same_word t x y a.0 b.0, Gives-one w s (WaitStep q t) n m sound a.1.1 b.1.1)
+  by_event (Over q t) x y told a b = (a.0 ∙ sym b.0, Gives-one w s (OverStep q t) n m sound a.1.1 b.1.1)
+  by_event (Finish q i) x y told a b = (a.0 ∙ sym b.0, Gives-one w s (FinishStep q i) n m sound a.1.1 b.1.1)
+  by_event (Ask i) x y told a b = (same_word i x y a.1 b.1, a.2 ∙ sym b.2)
+  by_event (Told i) x y told a b = absurd cc
+
+-- ---- items and lanes
+
+pub exist : (w : Wiring) (rows : List Row) (event : Event) (said : Bool) (n : ℕ) → IsWiring w → IsLegal w rows → MayCome w rows event said n
+    → (item_in event < items w) × (lane_in event < w.lanes)
+exist w rows event said n wiring legal may = by_event event may where
+  s : State
+  s = state_after w rows
+
+  sound : IsSoundState w s
+  sound = IsSoundState-legal w rows legal
+
+  -- where there is an item, there is a lane
+  with_lane : (i : ℕ) → i < items w → 0 < w.lanes
+  with_lane i there =
+      let on : lane_of w i < w.lanes = wiring.within i 0 (omega (arith, there, wiring.one_lane_each)) in
+      omega (arith, on)
+
+  by_event : (e : Event) → MayCome w rows e said n → (item_in e < items w) × (lane_in e < w.lanes)
+  by_event (Queue i) come = (come.0, with_lane i come.0)
+  by_event (Cancel i) come = (come.0, with_lane i come.0)
+  by_event (Start q i) come = (start-item w s q i sound come.1.0, omega (arith, starts_within s q i come.1.0, sound.one_each))
+  by_event (Wait q b) come =
+      let (r, runs, wait) = come.1.0 in
+      (ItemWaits-below (items w) w.waits wiring.targets_are_items r.entry.item b wait.declared, omega (arith, runs_within s q r runs, sound.one_each))
+  by_event (Over q b) come =
+      let (r, runs, over) = come.1.0 in
+      (subst (λ k. k < items w) over.target (waiting-target w s q r over.flush wiring sound runs over.waits), omega (arith, runs_within s q r runs, sound.one_each))
+  by_event (Finish q i) come =
+      let (r, runs, end) = come.1.0 in
+      (subst (λ k. k < items w) end.entry (running-item w s q r sound runs), omega (arith, runs_within s q r runs, sound.one_each))
+  by_event (Ask i) come = (come.0, with_lane i come.0)
+  by_event (Told i) come = let there = asked-item w rows i legal come.1 in (there, with_lane i there)

@@ -1,0 +1,62 @@
+//! Laws of histories, as contracts of functions with empty bodies.
+//!
+//! They are said of rows alone, whatever code wrote them.
+
+ghost use Rattle.std.specs.Prelude.{◌≡◌, ℕ, ◌<◌, ◌≤◌, ◌↔◌, List, [], ◌∷◌, ◌++◌, length, Bool, true, false, ◌&&◌};
+ghost use Rattle.std.specs.List.{All, count_by};
+ghost use Rattle.wq_core.specs.Wiring.{Wiring, IsWiring, items};
+ghost use Rattle.wq_core.specs.State.{HasUnfinishedBelow};
+ghost use Rattle.wq_core.specs.Runs.{IsRun};
+ghost use Rattle.wq_rows.specs.declared.event.Event.{Event};
+ghost use Rattle.wq_rows.specs.declared.event.Event.TheVariants.{Told};
+ghost use Rattle.wq_rows.specs.declared.event.Row.{Row};
+ghost use Rattle.wq_rows.specs.Packing.{item_in, lane_in};
+ghost use Rattle.wq_history.specs.Events.{steps_of, begins_to_wait, ends_a_wait, is_ask, is_told};
+ghost use Rattle.wq_history.specs.History.{state_after, asks_waiting, MayCome, MayFollow, IsLegal};
+ghost use Rattle.wq_history.specs.Reserve.{reserved, rows_needed};
+
+/// A history is legal exactly where it is without its last row, and that may follow the others.
+pub fn a_history_is_legal_row_by_row()
+    ensures last { (w : Wiring) (rows : List Row) (row : Row) →
+        IsLegal w (rows ++ (row ∷ [])) ↔ (IsLegal w rows × MayFollow w rows row) }
+    ensures prefix { (w : Wiring) (rows more : List Row) → IsLegal w (rows ++ more) → IsLegal w rows }
+{}
+
+/// The steps of a legal history are a run.
+pub fn the_steps_of_a_legal_history_are_a_run()
+    ensures { (w : Wiring) (rows : List Row) → IsLegal w rows → IsRun w (steps_of rows) }
+{}
+
+/// Where a history goes on by rows that need none free, which are those of rescuers, of cancellations that take an entry
+/// off, and of callers who are told, these are no more than are kept.
+pub fn rows_are_kept_for_all_that_needs_none()
+    ensures { (w : Wiring) (rows more : List Row) → IsLegal w (rows ++ more) →
+        All (λ (row : Row). rows_needed w row.event row.yes ≡ 0) more → length more ≤ reserved w rows }
+{}
+
+/// Of each event but Told, one `yes` and one number at most may come at a place of a history.
+pub fn an_event_but_told_has_one_answer()
+    ensures { (w : Wiring) (rows : List Row) (event : Event) (said other : Bool) (n m : ℕ) → IsLegal w rows →
+        is_told event ≡ false → MayCome w rows event said n → MayCome w rows event other m → (said ≡ other) × (n ≡ m) }
+{}
+
+/// A caller is told with `yes`, while an ask of the item waits, and with exactly those numbers below which no entry of the
+/// item is unfinished.
+pub fn a_caller_is_told_where_nothing_below_is_unfinished()
+    ensures { (w : Wiring) (rows : List Row) (i n : ℕ) (said : Bool) → MayCome w rows (Told i) said n
+        ↔ ((said ≡ true) × (0 < asks_waiting i rows) × (¬ HasUnfinishedBelow (state_after w rows) i n)) }
+{}
+
+/// The items and the lanes of legal rows exist.
+pub fn items_and_lanes_of_legal_rows_exist()
+    ensures { (w : Wiring) (rows : List Row) (event : Event) (said : Bool) (n : ℕ) → IsWiring w → IsLegal w rows →
+        MayCome w rows event said n → (item_in event < items w) × (lane_in event < w.lanes) }
+{}
+
+/// No more callers are told than asked with `yes`: of each item, and in all.
+pub fn no_more_are_told_than_asked()
+    ensures of_an_item { (w : Wiring) (rows : List Row) (i : ℕ) → IsLegal w rows →
+        count_by (ends_a_wait i) rows ≤ count_by (begins_to_wait i) rows }
+    ensures in_all { (w : Wiring) (rows : List Row) → IsLegal w rows →
+        count_by (λ (row : Row). is_told row.event) rows ≤ count_by (λ (row : Row). is_ask row.event && row.yes) rows }
+{}

@@ -1,0 +1,141 @@
+# The worked histories of docs/FORMAT.md, which the model in book.py must answer as the page says,
+# and the program too:
+#
+#     book_examples.py
+#
+# drive_books.py goes through them before it compares anything. As on the page, ` / ` parts lines.
+
+import sys
+
+sys.dont_write_bytecode = True
+import book  # noqa: E402  (beside this file)
+from examples import text  # noqa: E402
+
+# The declaration, the assignment, the number of rows, and the lines of EVENTS, each with what is
+# printed for it and the row that is written, or "".
+ONE = ("item a", "wq 0 a")
+TWO = ("item a / item b / flush a b", "wq 0 b / wq 1 a")
+
+TABLES = [
+    (*ONE, 9, [
+        ("queue a", "true free 6 busy open - -", "010100000000000000000000"),
+        ("queue a", "false free 5 busy open - -", "010000000000000000000000"),
+        ("start 0", "a free 5 busy open a -", "030100000000000000000000"),
+        ("queue a", "true free 2 busy open a -", "010100000000000001000000"),
+        ("ask a", "waiting 2 free 0 busy open a -", "070100000000000002000000"),
+        ("told 0", "not yet free 0 busy open a -", ""),
+        ("finish 0", "ok free 0 busy open - -", "060100000000000000000000"),
+        ("told 0", "not yet free 0 busy open - -", ""),
+        ("start 0", "a free 0 busy open a -", "030100000000000001000000"),
+        ("finish 0", "ok free 0 idle open - -", "060100000000000001000000"),
+        ("told 0", "done free 0 idle open - -", "080100000000000002000000"),
+    ]),
+    (*ONE, 100, [
+        ("queue a", "true free 97 busy open - -", "010100000000000000000000"),
+        ("cancel a", "true free 98 idle open - -", "020100000000000000000000"),
+        ("cancel a", "false free 97 idle open - -", "020000000000000000000000"),
+        ("queue a", "true free 94 busy open - -", "010100000000000001000000"),
+        ("start 0", "a free 94 busy open a -", "030100000000000001000000"),
+        ("cancel a", "false free 93 busy open a -", "020000000000000000000000"),
+        ("queue a", "true free 90 busy open a -", "010100000000000002000000"),
+        ("ask a", "waiting 3 free 88 busy open a -", "070100000000000003000000"),
+        ("cancel a", "true free 89 busy open a -", "020100000000000002000000"),
+        ("told 0", "not yet free 89 busy open a -", ""),
+        ("finish 0", "ok free 89 idle open - -", "060100000000000001000000"),
+        ("told 0", "done free 89 idle open - -", "080100000000000003000000"),
+    ]),
+    (*TWO, 5, [
+        ("queue a", "true free 0 busy open - - - -", "010100000000000000000000"),
+        ("queue b", "refused 60 free 0 busy open - - - -", ""),
+        ("ask a", "refused 60 free 0 busy open - - - -", ""),
+        ("start 1", "a free 0 busy open - - a -", "030100000100000000000000"),
+        ("wait 1 b", "false free 0 busy open - - a b", "040001000100000001000000"),
+        ("over 1", "true free 0 busy open - - a -", "050101000100000001000000"),
+        ("finish 1", "ok free 0 idle open - - - -", "060100000100000000000000"),
+    ]),
+    (*TWO, 4, [("queue a", "refused 60 free 4 idle open - - - -", "")]),
+    (*TWO, 100, [
+        ("queue z", "refused 66 free 100 idle open - - - -", ""),
+        ("queue a", "true free 95 busy open - - - -", "010100000000000000000000"),
+        ("start 2", "refused 64 free 95 busy open - - - -", ""),
+        ("start 1", "a free 95 busy open - - a -", "030100000100000000000000"),
+        ("start 1", "refused 64 free 95 busy open - - a -", ""),
+        ("wait 1 a", "refused 62 free 95 busy open - - a -", ""),
+        ("over 1", "refused 64 free 95 busy open - - a -", ""),
+        ("finish 0", "refused 64 free 95 busy open - - a -", ""),
+        ("wait 1 b", "false free 95 busy open - - a b", "040001000100000001000000"),
+        ("finish 1", "refused 64 free 95 busy open - - a b", ""),
+        ("over 1", "true free 95 busy open - - a -", "050101000100000001000000"),
+        ("wait 1 b", "refused 63 free 95 busy open - - a -", ""),
+        ("close", "ok free 95 busy closed - - a -", ""),
+        ("queue b", "refused 61 free 95 busy closed - - a -", ""),
+        ("finish 1", "ok free 95 idle closed - - - -", "060100000100000000000000"),
+    ]),
+]
+
+# Judged histories: the declaration, the assignment, the bytes in hexadecimal, and what is printed.
+FIVE = [
+    "010100000000000000000000", "030100000100000000000000", "040001000100000001000000",
+    "050101000100000001000000", "060100000100000000000000",
+]
+NOTHING = "lane 0 runs - waits - pending / lane 1 runs - waits - pending"
+A_RUNS = "lane 0 runs - waits - pending / lane 1 runs a waits - pending"
+A_WAITS = "lane 0 runs - waits - pending / lane 1 runs a waits b pending"
+ASKED = "010100000000000000000000 070100000000000001000000 "
+
+JUDGED = [
+    (*TWO, "".join(FIVE), f"legal 5 / next 1 / {NOTHING}"),
+    (*TWO, "".join(FIVE)[:-2], f"refused 75 at 5 / next 1 / {A_RUNS}"),
+    (*TWO, "010100000000010000000000" + "".join(FIVE[1:]), f"refused 75 at 1 / next 0 / {NOTHING}"),
+    (*TWO, "".join(FIVE[:2] + ["040101000100000001000000"] + FIVE[3:]),
+     f"refused 76 at 3 / next 1 / {A_RUNS}"),
+    (*TWO, "".join(FIVE[:3] + FIVE[4:]), f"refused 76 at 4 / next 1 / {A_WAITS}"),
+    (*TWO, FIVE[1], f"refused 76 at 1 / next 0 / {NOTHING}"),
+    (*TWO, "020002000000000000000000", f"refused 76 at 1 / next 0 / {NOTHING}"),
+    (*TWO, "", f"legal 0 / next 0 / {NOTHING}"),
+    (*ONE, ASKED + "080100000000000000000000",
+     "legal 3 / next 1 / lane 0 runs - waits - pending a"),
+    (*ONE, ASKED + "080100000000000001000000",
+     "refused 76 at 3 / next 1 / lane 0 runs - waits - pending a"),
+    (*ONE, ASKED + "020100000000000000000000" + "0801000000000000ffffffff",
+     "legal 4 / next 1 / lane 0 runs - waits - pending"),
+]
+
+
+def cases():
+    """What each example is, the words of the command line, and what is printed, with the status.
+
+    Among the words are the files as bytes.
+    """
+    for number, (declared, assigned, row_count, lines) in enumerate(TABLES, start=1):
+        rows = [row for _, _, row in lines if row]
+        printed = [line for _, line, _ in lines] + [f"rows {len(rows)}"] + rows
+        events = text(" / ".join(line for line, _, _ in lines))
+        words = ["book", text(declared), text(assigned), str(row_count), events]
+        yield f"the worked history {number}", words, (text(" / ".join(printed)), 0)
+    for number, (declared, assigned, digits, printed) in enumerate(JUDGED, start=1):
+        words = ["check", text(declared), text(assigned), digits.encode()]
+        status = 0 if printed.startswith("legal") else 1
+        yield f"the judged history {number}", words, (text(printed), status)
+
+
+def model_answer(words):
+    """What the model prints, and its status. The words have one of the forms of the page."""
+    command, *further = words
+    if command == "book":
+        return book.answer_book(*further[:2], int(further[2]), further[3])
+    return book.answer_check(*further)
+
+
+def failures():
+    """What is shown of each example that the model answers in another way."""
+    return [
+        f"{what}: the page has {page}, the model has {model_answer(words)}"
+        for what, words, page in cases() if model_answer(words) != page
+    ]
+
+
+if __name__ == "__main__":
+    failed = failures()
+    print("\n".join(failed) or f"books: {len(list(cases()))} examples of the page agree")
+    sys.exit(1 if failed else 0)
