@@ -22,8 +22,10 @@ const PAIR: &str = "item a\nitem b\nflush a b\n";
 
 const PAIR_LANES: &[u16] = &[1, 0];
 
-/// A row in numbers: what happened, with its lane and its item; its `yes`; its number; and its bytes.
-type Wanted = (Event, bool, u32, [u8; 12]);
+/// A row.
+fn row(event: Event, yes: bool, number: u32) -> Row {
+    Row { event, yes, number }
+}
 
 /// The book of a declaration and of the lane of each group, with room for so many rows.
 fn book_of(
@@ -37,23 +39,19 @@ fn book_of(
     Ok(Book::new(alloc, core, rows)?)
 }
 
-/// Asserts the rows of a book, as it gives them and as bytes, and how many are free.
-fn assert_rows<A: Allocator>(rt: &impl Abort, book: &Book<A>, wanted: &[Wanted], free: u32) {
-    let mut rows = book.rows();
+/// Asserts the rows of a book, the bytes that hold each, and how many rows are free.
+fn assert_rows(rt: &impl Abort, book: &Book<Global>, rows: &[Row], packed: &[[u8; 12]], free: u32) {
+    assert_eq!(rt; (book.rows().len(), packed.len()), (rows.len(), rows.len()));
+    for (is, want) in book.rows().zip(rows) {
+        assert_eq!(rt; is, *want);
+    }
     let mut left = book.packed();
-    for (i, (event, yes, number, bytes)) in wanted.iter().enumerate() {
-        let row = Row {
-            event: *event,
-            yes: *yes,
-            number: *number,
-        };
-        assert_eq!(rt; (i, rows.next()), (i, Some(row)));
-        let (packed, after) = left.split_at_checked(12).expect(rt, "a row too few");
-        assert_eq!(rt; (i, packed), (i, bytes.as_slice()));
+    for (i, want) in packed.iter().enumerate() {
+        let (is, after) = left.split_at_checked(12).expect(rt, "a row too few");
+        assert_eq!(rt; (i, is), (i, want.as_slice()));
         left = after;
     }
-    assert_eq!(rt; (rows.next(), left.len()), (None, 0));
-    assert_eq!(rt; book.free_rows(), free);
+    assert_eq!(rt; (left.len(), book.free_rows()), (0, free));
 }
 
 /// The ask that waits.
@@ -143,58 +141,29 @@ fn a_caller_is_told_once_what_it_waits_for_is_finished(rt: HostRuntime) -> Resul
     assert_eq!(rt; book.start(q), Ok(Some(a)));
     assert_eq!(rt; book.finish(q), Ok(()));
     assert_done(&rt, book.told(asked));
-    let wanted = [
-        (
-            Event::Queue(a),
-            true,
-            0,
-            [1, 1, 0, 0, 0, 0, 0, 0, 0, 0, 0, 0],
-        ),
-        (
-            Event::Queue(a),
-            false,
-            0,
-            [1, 0, 0, 0, 0, 0, 0, 0, 0, 0, 0, 0],
-        ),
-        (
-            Event::Start(q, a),
-            true,
-            0,
-            [3, 1, 0, 0, 0, 0, 0, 0, 0, 0, 0, 0],
-        ),
-        (
-            Event::Queue(a),
-            true,
-            1,
-            [1, 1, 0, 0, 0, 0, 0, 0, 1, 0, 0, 0],
-        ),
-        (Event::Ask(a), true, 2, [7, 1, 0, 0, 0, 0, 0, 0, 2, 0, 0, 0]),
-        (
-            Event::Finish(q, a),
-            true,
-            0,
-            [6, 1, 0, 0, 0, 0, 0, 0, 0, 0, 0, 0],
-        ),
-        (
-            Event::Start(q, a),
-            true,
-            1,
-            [3, 1, 0, 0, 0, 0, 0, 0, 1, 0, 0, 0],
-        ),
-        (
-            Event::Finish(q, a),
-            true,
-            1,
-            [6, 1, 0, 0, 0, 0, 0, 0, 1, 0, 0, 0],
-        ),
-        (
-            Event::Told(a),
-            true,
-            2,
-            [8, 1, 0, 0, 0, 0, 0, 0, 2, 0, 0, 0],
-        ),
+    let rows = [
+        row(Event::Queue(a), true, 0),
+        row(Event::Queue(a), false, 0),
+        row(Event::Start(q, a), true, 0),
+        row(Event::Queue(a), true, 1),
+        row(Event::Ask(a), true, 2),
+        row(Event::Finish(q, a), true, 0),
+        row(Event::Start(q, a), true, 1),
+        row(Event::Finish(q, a), true, 1),
+        row(Event::Told(a), true, 2),
     ];
-    assert_rows(&rt, &book, &wanted, 0);
+    let packed = [
+        [1, 1, 0, 0, 0, 0, 0, 0, 0, 0, 0, 0],
+        [1, 0, 0, 0, 0, 0, 0, 0, 0, 0, 0, 0],
+        [3, 1, 0, 0, 0, 0, 0, 0, 0, 0, 0, 0],
+        [1, 1, 0, 0, 0, 0, 0, 0, 1, 0, 0, 0],
+        [7, 1, 0, 0, 0, 0, 0, 0, 2, 0, 0, 0],
+        [6, 1, 0, 0, 0, 0, 0, 0, 0, 0, 0, 0],
+        [3, 1, 0, 0, 0, 0, 0, 0, 1, 0, 0, 0],
+        [6, 1, 0, 0, 0, 0, 0, 0, 1, 0, 0, 0],
+        [8, 1, 0, 0, 0, 0, 0, 0, 2, 0, 0, 0],
+    ];
+    assert_rows(&rt, &book, &rows, &packed, 0);
     Ok(())
 }
 
@@ -215,70 +184,33 @@ fn what_runs_is_not_cancelled(rt: HostRuntime) -> Result<(), Fail> {
     let asked = not_yet(&rt, book.told(asked));
     assert_eq!(rt; book.finish(q), Ok(()));
     assert_done(&rt, book.told(asked));
-    let wanted = [
-        (
-            Event::Queue(a),
-            true,
-            0,
-            [1, 1, 0, 0, 0, 0, 0, 0, 0, 0, 0, 0],
-        ),
-        (
-            Event::Cancel(a),
-            true,
-            0,
-            [2, 1, 0, 0, 0, 0, 0, 0, 0, 0, 0, 0],
-        ),
-        (
-            Event::Cancel(a),
-            false,
-            0,
-            [2, 0, 0, 0, 0, 0, 0, 0, 0, 0, 0, 0],
-        ),
-        (
-            Event::Queue(a),
-            true,
-            1,
-            [1, 1, 0, 0, 0, 0, 0, 0, 1, 0, 0, 0],
-        ),
-        (
-            Event::Start(q, a),
-            true,
-            1,
-            [3, 1, 0, 0, 0, 0, 0, 0, 1, 0, 0, 0],
-        ),
-        (
-            Event::Cancel(a),
-            false,
-            0,
-            [2, 0, 0, 0, 0, 0, 0, 0, 0, 0, 0, 0],
-        ),
-        (
-            Event::Queue(a),
-            true,
-            2,
-            [1, 1, 0, 0, 0, 0, 0, 0, 2, 0, 0, 0],
-        ),
-        (Event::Ask(a), true, 3, [7, 1, 0, 0, 0, 0, 0, 0, 3, 0, 0, 0]),
-        (
-            Event::Cancel(a),
-            true,
-            2,
-            [2, 1, 0, 0, 0, 0, 0, 0, 2, 0, 0, 0],
-        ),
-        (
-            Event::Finish(q, a),
-            true,
-            1,
-            [6, 1, 0, 0, 0, 0, 0, 0, 1, 0, 0, 0],
-        ),
-        (
-            Event::Told(a),
-            true,
-            3,
-            [8, 1, 0, 0, 0, 0, 0, 0, 3, 0, 0, 0],
-        ),
+    let rows = [
+        row(Event::Queue(a), true, 0),
+        row(Event::Cancel(a), true, 0),
+        row(Event::Cancel(a), false, 0),
+        row(Event::Queue(a), true, 1),
+        row(Event::Start(q, a), true, 1),
+        row(Event::Cancel(a), false, 0),
+        row(Event::Queue(a), true, 2),
+        row(Event::Ask(a), true, 3),
+        row(Event::Cancel(a), true, 2),
+        row(Event::Finish(q, a), true, 1),
+        row(Event::Told(a), true, 3),
     ];
-    assert_rows(&rt, &book, &wanted, 89);
+    let packed = [
+        [1, 1, 0, 0, 0, 0, 0, 0, 0, 0, 0, 0],
+        [2, 1, 0, 0, 0, 0, 0, 0, 0, 0, 0, 0],
+        [2, 0, 0, 0, 0, 0, 0, 0, 0, 0, 0, 0],
+        [1, 1, 0, 0, 0, 0, 0, 0, 1, 0, 0, 0],
+        [3, 1, 0, 0, 0, 0, 0, 0, 1, 0, 0, 0],
+        [2, 0, 0, 0, 0, 0, 0, 0, 0, 0, 0, 0],
+        [1, 1, 0, 0, 0, 0, 0, 0, 2, 0, 0, 0],
+        [7, 1, 0, 0, 0, 0, 0, 0, 3, 0, 0, 0],
+        [2, 1, 0, 0, 0, 0, 0, 0, 2, 0, 0, 0],
+        [6, 1, 0, 0, 0, 0, 0, 0, 1, 0, 0, 0],
+        [8, 1, 0, 0, 0, 0, 0, 0, 3, 0, 0, 0],
+    ];
+    assert_rows(&rt, &book, &rows, &packed, 89);
     Ok(())
 }
 
@@ -317,7 +249,7 @@ fn a_queueing_without_rows_for_its_execution_is_refused(rt: HostRuntime) -> Resu
     let mut book = book_of(rt.alloc(), PAIR, PAIR_LANES, 4)?;
     assert_eq!(rt; book.queue(a), Err(BookError::HistoryFull));
     assert_eq!(rt; BookError::HistoryFull.code(), 60);
-    assert_rows(&rt, &book, &[], 4);
+    assert_rows(&rt, &book, &[], &[], 4);
     assert_eq!(rt; (book.is_idle(), book.is_pending(a)), (true, false));
     Ok(())
 }
@@ -374,7 +306,7 @@ fn a_book_says_how_its_machine_stands(rt: HostRuntime) -> Result<(), Fail> {
     assert_eq!(rt; book.lane_of(a), Some(q));
     assert_eq!(rt; book.lane_of(b), Some(other));
     assert_eq!(rt; book.lane_of(missing), None);
-    assert_rows(&rt, &book, &[], 20);
+    assert_rows(&rt, &book, &[], &[], 20);
     assert_eq!(rt; book.is_idle(), true);
     assert_idle(&rt, book.ask(a));
     assert_eq!(rt; book.queue(b), Ok(true));
@@ -397,63 +329,29 @@ fn a_book_says_how_its_machine_stands(rt: HostRuntime) -> Result<(), Fail> {
     assert_eq!(rt; book.over(q), Ok(true));
     assert_eq!(rt; book.finish(q), Ok(()));
     assert_eq!(rt; book.is_idle(), true);
-    let wanted = [
-        (
-            Event::Ask(a),
-            false,
-            0,
-            [7, 0, 0, 0, 0, 0, 0, 0, 0, 0, 0, 0],
-        ),
-        (
-            Event::Queue(b),
-            true,
-            0,
-            [1, 1, 1, 0, 0, 0, 0, 0, 0, 0, 0, 0],
-        ),
-        (
-            Event::Queue(a),
-            true,
-            1,
-            [1, 1, 0, 0, 0, 0, 0, 0, 1, 0, 0, 0],
-        ),
-        (
-            Event::Start(q, a),
-            true,
-            1,
-            [3, 1, 0, 0, 1, 0, 0, 0, 1, 0, 0, 0],
-        ),
-        (
-            Event::Wait(q, b),
-            true,
-            2,
-            [4, 1, 1, 0, 1, 0, 0, 0, 2, 0, 0, 0],
-        ),
-        (
-            Event::Start(other, b),
-            true,
-            0,
-            [3, 1, 1, 0, 0, 0, 0, 0, 0, 0, 0, 0],
-        ),
-        (
-            Event::Finish(other, b),
-            true,
-            0,
-            [6, 1, 1, 0, 0, 0, 0, 0, 0, 0, 0, 0],
-        ),
-        (
-            Event::Over(q, b),
-            true,
-            2,
-            [5, 1, 1, 0, 1, 0, 0, 0, 2, 0, 0, 0],
-        ),
-        (
-            Event::Finish(q, a),
-            true,
-            1,
-            [6, 1, 0, 0, 1, 0, 0, 0, 1, 0, 0, 0],
-        ),
+    let rows = [
+        row(Event::Ask(a), false, 0),
+        row(Event::Queue(b), true, 0),
+        row(Event::Queue(a), true, 1),
+        row(Event::Start(q, a), true, 1),
+        row(Event::Wait(q, b), true, 2),
+        row(Event::Start(other, b), true, 0),
+        row(Event::Finish(other, b), true, 0),
+        row(Event::Over(q, b), true, 2),
+        row(Event::Finish(q, a), true, 1),
     ];
-    assert_rows(&rt, &book, &wanted, 11);
+    let packed = [
+        [7, 0, 0, 0, 0, 0, 0, 0, 0, 0, 0, 0],
+        [1, 1, 1, 0, 0, 0, 0, 0, 0, 0, 0, 0],
+        [1, 1, 0, 0, 0, 0, 0, 0, 1, 0, 0, 0],
+        [3, 1, 0, 0, 1, 0, 0, 0, 1, 0, 0, 0],
+        [4, 1, 1, 0, 1, 0, 0, 0, 2, 0, 0, 0],
+        [3, 1, 1, 0, 0, 0, 0, 0, 0, 0, 0, 0],
+        [6, 1, 1, 0, 0, 0, 0, 0, 0, 0, 0, 0],
+        [5, 1, 1, 0, 1, 0, 0, 0, 2, 0, 0, 0],
+        [6, 1, 0, 0, 1, 0, 0, 0, 1, 0, 0, 0],
+    ];
+    assert_rows(&rt, &book, &rows, &packed, 11);
     Ok(())
 }
 
