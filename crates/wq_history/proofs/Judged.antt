@@ -84,28 +84,6 @@ step-lawful w s waiting (Finish q i) said n may = may.1.0
 step-lawful w s waiting (Ask i) said n may = tt
 step-lawful w s waiting (Told i) said n may = tt
 
--- what is asked for is an item
-pub asked-within : (w : Wiring) (s : State) (waiting : ℕ) (event : Event) (said : Bool) (n i : ℕ) → MayComeIn w s waiting event said n → event ≡ Ask i → i < items w
-asked-within w s waiting (Queue j) said n i may is = absurd cc
-asked-within w s waiting (Cancel j) said n i may is = absurd cc
-asked-within w s waiting (Start q j) said n i may is = absurd cc
-asked-within w s waiting (Wait q b) said n i may is = absurd cc
-asked-within w s waiting (Over q b) said n i may is = absurd cc
-asked-within w s waiting (Finish q j) said n i may is = absurd cc
-asked-within w s waiting (Ask j) said n i may is = let same : j ≡ i = cc in subst (λ k. k < items w) same may.0
-asked-within w s waiting (Told j) said n i may is = absurd cc
-
--- what is told was asked for
-pub told-some : (w : Wiring) (s : State) (waiting : ℕ) (event : Event) (said : Bool) (n i : ℕ) → MayComeIn w s waiting event said n → event ≡ Told i → 0 < waiting
-told-some w s waiting (Queue j) said n i may is = absurd cc
-told-some w s waiting (Cancel j) said n i may is = absurd cc
-told-some w s waiting (Start q j) said n i may is = absurd cc
-told-some w s waiting (Wait q b) said n i may is = absurd cc
-told-some w s waiting (Over q b) said n i may is = absurd cc
-told-some w s waiting (Finish q j) said n i may is = absurd cc
-told-some w s waiting (Ask j) said n i may is = absurd cc
-told-some w s waiting (Told j) said n i may is = may.1
-
 -- no more asks wait than there are rows
 pub few_asks : (m : Machine) (rows : List Row) (asks : AskView) → Replays m rows asks → asks.all ≤ length rows
 few_asks m rows asks replays = omega (arith, replays.asked.in_all, count_by-le-length (λ (row : Row). is_ask row.event && row.yes) rows)
