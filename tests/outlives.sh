@@ -1,12 +1,13 @@
 #!/usr/bin/env bash
-# Shows that a view and a word that are used when their text is gone are refused, and only then.
+# Shows that a view and a word that are used when their text is gone are refused, and rows when their book is, and only
+# then.
 #
 # Run it from the root of the repository, once the libraries are built. It takes some seconds: the sample is checked
-# in a scratch crate beside copies of the libraries, once as it stands and once with the text kept.
+# in a scratch crate beside copies of the libraries, once as it stands and once with the text and the book kept.
 set -euo pipefail
 
-sample=tests/samples/outlives_text.rt.txt
-libraries=(wq_text wq_decl)
+sample=tests/samples/outlives.rt.txt
+libraries=(wq_text wq_decl wq_items wq_groups wq_core wq_rows wq_history)
 
 scratch=$(mktemp -d)
 trap 'rm -rf "$scratch"' EXIT
@@ -28,25 +29,25 @@ check() {
 
 failed=0
 
-# Each line that lets the text go before the view or the word is used has its error, and no other line has one.
-wanted=$(grep -n 'drop(bytes);' "$sample" | sed 's/:.*//')
+# Each line that lets the text or the book go before what it lent is used has its error, and no other line has one.
+wanted=$(grep -n ' drop(.*);$' "$sample" | sed 's/:.*//')
 output=$(check <"$sample")
 found=$(sed -n 's/^src\/lib\.rt:\([0-9]*\):.*error\[borrow-e0505\].*/\1/p' <<<"$output")
 errors=$(grep -c 'error\[' <<<"$output" || true)
 if [[ -n $wanted && $found == "$wanted" && $errors -eq $(wc -l <<<"$wanted") ]]; then
-    echo "ok: a text that is gone is refused in lines" $wanted
+    echo "ok: a text or a book that is gone is refused in lines" $wanted
 else
-    echo "FAILED: a text that is gone isn't refused as it has to be:"
+    echo "FAILED: a text or a book that is gone isn't refused as it has to be:"
     echo "$output"
     failed=1
 fi
 
 # Without those lines there is no error.
-output=$(grep -v 'drop(bytes);' "$sample" | check)
+output=$(grep -v ' drop(.*);$' "$sample" | check)
 if grep -q '^crate outlives:' <<<"$output" && ! grep -q 'error\[' <<<"$output"; then
-    echo "ok: a text that is kept isn't"
+    echo "ok: one that is kept isn't"
 else
-    echo "FAILED: a text that is kept is refused:"
+    echo "FAILED: one that is kept is refused:"
     echo "$output"
     failed=1
 fi
