@@ -62,7 +62,7 @@ fn assert_sizes(rt: &impl Abort, alloc: Global, case: &Case) -> Result<(), Alloc
 }
 
 #[test]
-fn want_of_memory_changes_no_answer(rt: HostRuntime) -> Result<(), Fail> {
+fn running_out_of_memory_changes_no_answer(rt: HostRuntime) -> Result<(), Fail> {
     for case in cases() {
         assert_sizes(&rt, rt.alloc(), case)?;
     }
