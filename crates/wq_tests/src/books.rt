@@ -461,11 +461,12 @@ fn judged(alloc: Global, packed: &[u8]) -> Result<(Result<u32, (u32, u32)>, u64)
 #[test]
 fn histories_are_judged_row_by_row(rt: HostRuntime) -> Result<(), Fail> {
     let alloc = rt.alloc();
+    let rows = EXECUTION.as_slice();
     assert_eq!(rt; judged(alloc, &[])?, (Ok(0), 0));
-    assert_eq!(rt; judged(alloc, EXECUTION)?, (Ok(5), 0));
-    assert_eq!(rt; judged(alloc, &EXECUTION[..48])?, (Ok(4), 1));
+    assert_eq!(rt; judged(alloc, rows)?, (Ok(5), 0));
+    assert_eq!(rt; judged(alloc, &rows[..48])?, (Ok(4), 1));
     // A byte is missing.
-    assert_eq!(rt; judged(alloc, &EXECUTION[..59])?, (Err((5, 75)), 1));
+    assert_eq!(rt; judged(alloc, &rows[..59])?, (Err((5, 75)), 1));
     // A byte that is always 0.
     let mut packed = *EXECUTION;
     packed[6] = 1;
@@ -475,11 +476,11 @@ fn histories_are_judged_row_by_row(rt: HostRuntime) -> Result<(), Fail> {
     packed[25] = 1;
     assert_eq!(rt; judged(alloc, &packed)?, (Err((3, 76)), 3));
     // The wait isn't over.
-    let mut packed = Vec::from_slice(alloc, &EXECUTION[..36])?;
-    packed.extend_from_slice(&EXECUTION[48..])?;
+    let mut packed = Vec::from_slice(alloc, &rows[..36])?;
+    packed.extend_from_slice(&rows[48..])?;
     assert_eq!(rt; judged(alloc, &packed)?, (Err((4, 76)), 2));
     // Nothing was queued.
-    assert_eq!(rt; judged(alloc, &EXECUTION[12..24])?, (Err((1, 76)), 0));
+    assert_eq!(rt; judged(alloc, &rows[12..24])?, (Err((1, 76)), 0));
     // No such item.
     let packed = [2, 0, 2, 0, 0, 0, 0, 0, 0, 0, 0, 0];
     assert_eq!(rt; judged(alloc, &packed)?, (Err((1, 76)), 0));
@@ -498,8 +499,9 @@ const TOLD_TWICE: &[u8; 60] = &[
 #[test]
 fn callers_are_judged_row_by_row(rt: HostRuntime) -> Result<(), Fail> {
     let alloc = rt.alloc();
-    assert_eq!(rt; judged(alloc, TOLD_TWICE)?, (Err((5, 76)), 0));
-    assert_eq!(rt; judged(alloc, &TOLD_TWICE[..48])?, (Ok(4), 0));
+    let rows = TOLD_TWICE.as_slice();
+    assert_eq!(rt; judged(alloc, rows)?, (Err((5, 76)), 0));
+    assert_eq!(rt; judged(alloc, &rows[..48])?, (Ok(4), 0));
     // The ask has another mark, or says that nothing is unfinished.
     let mut packed = *TOLD_TWICE;
     packed[20] = 0;
@@ -508,8 +510,8 @@ fn callers_are_judged_row_by_row(rt: HostRuntime) -> Result<(), Fail> {
     packed[13] = 0;
     assert_eq!(rt; judged(alloc, &packed)?, (Err((2, 76)), 4));
     // The entry is pending still.
-    let mut packed = Vec::from_slice(alloc, &TOLD_TWICE[..24])?;
-    packed.extend_from_slice(&TOLD_TWICE[36..48])?;
+    let mut packed = Vec::from_slice(alloc, &rows[..24])?;
+    packed.extend_from_slice(&rows[36..48])?;
     assert_eq!(rt; judged(alloc, &packed)?, (Err((3, 76)), 4));
     Ok(())
 }
