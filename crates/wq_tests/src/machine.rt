@@ -492,7 +492,7 @@ fn lanes_move_as_declared(rt: HostRuntime) -> Result<(), Fail> {
     Ok(())
 }
 
-/// Steps over the same declaration, how many of them are made, and the work that is left then.
+/// Steps over `CROSSED`, how many of them are made, and the work that is left then.
 const REFUSED: &[(&[Made], u32, u64)] = &[
     (&[Start(0, 0)], 0, 0),
     (&[Queue(0), Queue(0), Queue(1)], 1, 4),
