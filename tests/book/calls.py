@@ -1,7 +1,7 @@
 # Books: the calls that are made of them, what is printed for each, and the rows at the end.
 #
 # The rules are those of "Histories" in docs/FORMAT.md, from which each answer was worked out by
-# hand: the answers and the rows of the first five books stand in "Worked histories" there.
+# hand: the answers and the rows of the first six books stand in "Worked histories" there.
 
 ONE = ("item a", "wq 0 a")
 TWO = ("item a / item b / flush a b", "wq 0 b / wq 1 a")
@@ -59,6 +59,33 @@ BOOKS = [
         "020100000000000002000000",
         "060100000000000001000000",
         "080100000000000003000000",
+    ]),
+    # A wait lasts while what was queued before it is unfinished.
+    (*TWO, 20, [
+        ("start 0", "none free 20 idle open - - - -"),
+        ("queue b", "true free 17 busy open - - - -"),
+        ("queue a", "true free 12 busy open - - - -"),
+        ("start 1", "a free 12 busy open - - a -"),
+        ("wait 1 b", "true free 12 busy open - - a b"),
+        ("over 1", "false free 12 busy open - - a b"),
+        ("start 0", "b free 12 busy open b - a b"),
+        ("queue b", "true free 9 busy open b - a b"),
+        ("over 1", "false free 9 busy open b - a b"),
+        ("finish 0", "ok free 9 busy open - - a b"),
+        ("over 1", "true free 9 busy open - - a -"),
+        ("finish 1", "ok free 9 busy open - - - -"),
+        ("ask a", "idle free 8 busy open - - - -"),
+    ], [
+        "010101000000000000000000",
+        "010100000000000001000000",
+        "030100000100000001000000",
+        "040101000100000002000000",
+        "030101000000000000000000",
+        "010101000000000002000000",
+        "060101000000000000000000",
+        "050101000100000002000000",
+        "060100000100000001000000",
+        "070000000000000003000000",
     ]),
     # As many rows as one execution needs.
     (*TWO, 5, [

@@ -71,6 +71,21 @@ TABLES = [
         ("queue b", "refused 61 free 95 busy closed - - a -", ""),
         ("finish 1", "ok free 95 idle closed - - - -", "060100000100000000000000"),
     ]),
+    (*TWO, 20, [
+        ("start 0", "none free 20 idle open - - - -", ""),
+        ("queue b", "true free 17 busy open - - - -", "010101000000000000000000"),
+        ("queue a", "true free 12 busy open - - - -", "010100000000000001000000"),
+        ("start 1", "a free 12 busy open - - a -", "030100000100000001000000"),
+        ("wait 1 b", "true free 12 busy open - - a b", "040101000100000002000000"),
+        ("over 1", "false free 12 busy open - - a b", ""),
+        ("start 0", "b free 12 busy open b - a b", "030101000000000000000000"),
+        ("queue b", "true free 9 busy open b - a b", "010101000000000002000000"),
+        ("over 1", "false free 9 busy open b - a b", ""),
+        ("finish 0", "ok free 9 busy open - - a b", "060101000000000000000000"),
+        ("over 1", "true free 9 busy open - - a -", "050101000100000002000000"),
+        ("finish 1", "ok free 9 busy open - - - -", "060100000100000001000000"),
+        ("ask a", "idle free 8 busy open - - - -", "070000000000000003000000"),
+    ]),
 ]
 
 # Judged histories: the declaration, the assignment, the bytes in hexadecimal, and what is printed.
