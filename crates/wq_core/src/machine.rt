@@ -6,8 +6,7 @@
 //! memory; it takes time and memory in the number of items, flushes and lanes.
 
 ghost use Rattle.std.specs.Prelude.{◌≡◌, ◌<◌, ◌≤◌, length, slice_get, Some, IfSome, IfNone, OnSome, IfOk, OnErr, IfErr, IsTrue, ◌↔◌, take};
-ghost use Rattle.std.specs.List.{Any};
-ghost use Rattle.wq_items.specs.declared.target.Target.{Target};
+ghost use Rattle.wq_items.specs.Table.{ItemWaits};
 ghost use Rattle.wq_groups.specs.Declaration.{declaration_of};
 ghost use Rattle.wq_core.specs.declared.step.StepError.{StepError};
 ghost use Rattle.wq_core.specs.declared.step.Step.TheVariants.{Queue, Cancel, Start, Wait, Over, Finish};
@@ -44,13 +43,6 @@ impl<A: Allocator> Model for Core<A> {
     ghost view = { λ m. machine_of (map (λ l. l.items) m.waits.items) m.lane_of_item.items m.lanes m.next };
 
     ghost invariant = { λ m. IsHeld (map (λ l. l.items) m.waits.items) m.lane_of_item.items m.lanes m.next };
-}
-
-/// Whether some target is of this item.
-fn have_target(targets: &[Target], item: ItemId) -> bool
-    ensures { IsTrue result ↔ Any (λ (t : Target). t.item ≡ item) targets.now }
-{
-    targets.iter().any(|t| t.item == item)
 }
 
 impl<A: Allocator + Copy> Core<A> {
@@ -192,6 +184,14 @@ impl<A: Allocator> Core<A> {
         self.waits[usize::from(item.get())].as_slice()
     }
 
+    /// Whether an item declares a flush of another, or of itself.
+    pub fn declares(&self, item: ItemId, target: ItemId) -> bool
+        requires { item < items self.now.wiring }
+        ensures { IsTrue result ↔ ItemWaits self.now.wiring.waits item target }
+    {
+        self.waits(item).iter().any(|t| t.item == target)
+    }
+
     /// The number that a queueing of an item gives, where it is lawful.
     fn may_queue(&self, item: ItemId) -> Option<u32>
         ensures { IsNumberOf self.now (Queue item) result }
@@ -229,10 +229,10 @@ impl<A: Allocator> Core<A> {
         ensures { IsNumberOf self.now (Wait q target) result }
     {
         let running = self.running_on(q)?;
-        let targets = self.waits(running.entry.item);
+        let item = running.entry.item;
         if running.waiting.is_none()
-            && (running.made as usize) < targets.len()
-            && have_target(targets, target)
+            && (running.made as usize) < self.waits(item).len()
+            && self.declares(item, target)
         {
             Some(self.next)
         } else {
