@@ -1,17 +1,17 @@
 -- Asks that wait: what one row more does to their counts.
-use Rattle.std.proofs.Common.{◌≡◌, ◌≢◌, ℕ, zero, suc, ◌+◌, ◌-◌, ◌<◌, ◌⊎◌, inl, inr, Bool, true, false, cond, eqb, List, [], ◌∷◌, ◌++◌, length, get_or, set, refl, sym, ap, ◌∙◌, arith}
-use Rattle.std.specs.Prelude.{Some, ◌&&◌}
+use Rattle.std.proofs.Common.{◌≡◌, ◌≢◌, ℕ, zero, suc, ◌+◌, ◌-◌, ◌<◌, ◌≤◌, ◌⊎◌, inl, inr, Bool, true, false, cond, eqb, List, [], ◌∷◌, ◌++◌, length, get_or, set, refl, sym, ap, ◌∙◌, arith}
+use Rattle.std.specs.Prelude.{Some, sum, ◌&&◌}
 use Rattle.std.specs.List.{count_by}
 use Rattle.std.proofs.lemmas.Bool.{cases_eq, eq-eqb, ne_eqb}
 use Rattle.std.proofs.lemmas.List.{get_or-set_same, get_or-set_other}
-use Rattle.std.proofs.lemmas.List.Sums.{sum_by_push}
+use Rattle.std.proofs.lemmas.List.Sums.{sum_by_push, get_or-le-sum_by}
 use Rattle.wq_core.specs.declared.step.Step.{Step}
 use Rattle.wq_rows.specs.declared.event.Event.{Event}
 use Rattle.wq_rows.specs.declared.event.Event.TheVariants.{Queue, Cancel, Start, Wait, Over, Finish, Ask, Told}
 use Rattle.wq_rows.specs.declared.event.Row.{Row}
 use Rattle.wq_history.specs.Events.{step_of, begins_to_wait, ends_a_wait, is_ask, is_told}
 use Rattle.wq_history.specs.History.{asks_waiting, all_asks_waiting}
-use Rattle.wq_history.specs.Counts.{AskView, CountsAsks}
+use Rattle.wq_history.specs.Counts.{AskView, CountsAll, CountsAsks}
 
 -- ---- one row more
 
@@ -141,3 +141,14 @@ pub within-some : (counts : List ℕ) (i : ℕ) → 0 < get_or counts i 0 → i 
 within-some [] i some = omega (arith, some)
 within-some (n ∷ counts) zero some = omega arith
 within-some (n ∷ counts) (suc i) some = omega (arith, within-some counts i some)
+
+-- where none waits in all, as many were told of each item as asked for it with yes
+pub CountsAsks-none : (rows : List Row) (asks : AskView) (i : ℕ) → CountsAll asks → CountsAsks rows asks → asks.all ≡ 0
+    → count_by (ends_a_wait i) rows ≡ count_by (begins_to_wait i) rows
+CountsAsks-none rows asks i sum_is counts none = by_count (get_or asks.counts i 0) refl where
+  by_count : (n : ℕ) → get_or asks.counts i 0 ≡ n → count_by (ends_a_wait i) rows ≡ count_by (begins_to_wait i) rows
+  by_count zero is = omega (arith, counts.each i, is)
+  by_count (suc n) is =
+      let some : 0 < get_or asks.counts i 0 = omega (arith, is) in
+      let part : get_or asks.counts i 0 ≤ sum asks.counts = get_or-le-sum_by (λ (k : ℕ). k) asks.counts i 0 (within-some asks.counts i some) in
+      absurd (omega (arith, some, part, sum_is, none))

@@ -1,13 +1,14 @@
 -- What a book holds, and that it holds it with one row more.
-use Rattle.std.proofs.Common.{◌≡◌, ℕ, zero, suc, ◌+◌, ◌-◌, ◌<◌, ◌≤◌, ◌^◌, Bool, true, false, List, [], ◌∷◌, ◌++◌, length, length-append, get_or, replicate, refl, sym, ap, subst, ◌∙◌, arith}
-use Rattle.std.specs.Prelude.{Option, Some, None, IfSome, slice_get, sum_by}
+use Rattle.std.proofs.Common.{◌≡◌, ℕ, zero, suc, ◌+◌, ◌-◌, ◌<◌, ◌≤◌, ◌^◌, inl, inr, cond, Bool, true, false, List, [], ◌∷◌, ◌++◌, length, length-append, get_or, replicate, refl, sym, ap, subst, ◌∙◌, arith}
+use Rattle.std.specs.Prelude.{Option, Some, None, IfSome, slice_get, sum_by, ◌&&◌}
 use Rattle.std.proofs.lemmas.List.{length-replicate}
 use Rattle.std.proofs.lemmas.List.Folds.{sum_by-replicate}
+use Rattle.wq_items.proofs.Lists.{Contains-first}
 use Rattle.wq_core.specs.declared.entry.Entry.{Entry}
 use Rattle.wq_core.specs.declared.entry.Running.{Running}
 use Rattle.wq_core.specs.declared.step.Step.{Step}
 use Rattle.wq_core.specs.declared.step.Step.TheVariants.{Queue as QueueStep, Cancel as CancelStep, Start as StartStep, Wait as WaitStep, Over as OverStep, Finish as FinishStep}
-use Rattle.wq_core.specs.Wiring.{Wiring, items}
+use Rattle.wq_core.specs.Wiring.{Wiring, items, lane_of}
 use Rattle.wq_core.specs.State.{State, Lane, idle_lane, lane_at, empty_state}
 use Rattle.wq_core.specs.Rules.{Lawful, effect}
 use Rattle.wq_core.specs.Runs.{IsRescuerStep}
@@ -22,13 +23,13 @@ use Rattle.wq_rows.specs.declared.event.Event.{Event}
 use Rattle.wq_rows.specs.declared.event.Event.TheVariants.{Queue, Cancel, Start, Wait, Over, Finish, Ask, Told}
 use Rattle.wq_rows.specs.declared.event.Row.{Row}
 use Rattle.wq_rows.specs.Stored.{max_rows}
-use Rattle.wq_history.specs.Events.{step_of, is_told}
+use Rattle.wq_history.specs.Events.{step_of, is_ask, is_told}
 use Rattle.wq_history.specs.History.{state_after, MayCome, MayFollow}
 use Rattle.wq_history.specs.Reserve.{reserved, free_rows, rows_needed}
 use Rattle.wq_history.specs.Counts.{AskView, CountsAsks, Replays, HoldsBook}
 use Rattle.wq_history.specs.Book.{IsBook}
 use Rattle.wq_history.proofs.Histories.{state_after-step, state_after-none, IsLegal-more}
-use Rattle.wq_history.proofs.Counting.{IsNobodys-step, CountsAsks-same, all_asks_waiting-count}
+use Rattle.wq_history.proofs.Counting.{count-more, IsNobodys-step, CountsAsks-same, all_asks_waiting-count}
 
 -- ---- rows that are kept
 
@@ -57,6 +58,15 @@ IsBook-held m rows room asks work closed holds = record {
 
 length-more : (rows : List Row) (row : Row) → length (rows ++ (row ∷ [])) ≡ length rows + 1
 length-more rows row = length-append rows (row ∷ [])
+
+-- a row without a step takes one of the free rows at most, and one more where an ask begins to wait
+pub free_rows-noted : (w : Wiring) (room : ℕ) (rows : List Row) (row : Row) → step_of row.event row.yes ≡ None
+    → free_rows w room rows ≤ free_rows w room (rows ++ (row ∷ [])) + (1 + cond (is_ask row.event && row.yes) 1 0)
+free_rows-noted w room rows row none =
+    let work : work_left w (state_after w (rows ++ (row ∷ []))) ≡ work_left w (state_after w rows) = ap (work_left w) (state_after-none w rows row none) in
+    let asked = count-more (λ (r : Row). is_ask r.event && r.yes) rows row in
+    let told = count-more (λ (r : Row). is_told r.event) rows row in
+    omega (arith, work, asked, told, length-more rows row)
 
 -- a lawful step leaves a machine
 IsMachine-after : (m : Machine) (step : Step) → IsMachine m → Lawful m.wiring m.state step → m.state.next + 1 < 2 ^ 32 → IsMachine (machine_after m step)
@@ -236,6 +246,13 @@ idle_exactly lane idle none = fields lane.pending lane.running idle none where
   fields (p ∷ ps) o runs first = absurd cc
 
 -- what runs is of an item that exists
-pub running-known : (m : Machine) (q : ℕ) (o : Option Running) → IsMachine m → o ≡ (lane_at m.state q).running → IfSome o (λ (r : Running). r.entry.item < items m.wiring)
+pub running-known : (m : Machine) (q : ℕ) (o : Option Running) → IsMachine m → o ≡ (lane_at m.state q).running
+    → IfSome o (λ (r : Running). (r.entry.item < items m.wiring) × (lane_of m.wiring r.entry.item ≡ q))
 running-known m q None machine is = tt
-running-known m q (Some r) machine is = running-item m.wiring m.state q r machine.state (sym is)
+running-known m q (Some r) machine is = machine.state.own_lane q r.entry (inr (r, sym is, refl))
+
+-- what is first on a lane is of an item that exists, and stands on this lane
+pub first-known : (m : Machine) (q : ℕ) (o : Option Entry) → IsMachine m → o ≡ slice_get (lane_at m.state q).pending 0
+    → IfSome o (λ (e : Entry). (e.item < items m.wiring) × (lane_of m.wiring e.item ≡ q))
+first-known m q None machine is = tt
+first-known m q (Some e) machine is = machine.state.own_lane q e (inl (Contains-first (lane_at m.state q).pending e (sym is)))

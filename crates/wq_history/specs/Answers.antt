@@ -1,20 +1,21 @@
 -- Answers: what the calls of a book answer, and by which row.
 use Rattle.std.specs.Prelude.{◌≡◌, ℕ, ◌<◌, Option, Some, None, Bool, true, false}
+use Rattle.wq_core.specs.declared.entry.Waiting.{Waiting}
 use Rattle.wq_core.specs.State.{HasUnfinishedBelow}
 use Rattle.wq_rows.specs.declared.event.Event.TheVariants.{Start, Over, Ask as AskEvent, Told as ToldEvent}
 use Rattle.wq_history.specs.declared.asking.Ask.{Ask}
-use Rattle.wq_history.specs.declared.asking.Ask.TheVariants.{Idle, Waiting}
+use Rattle.wq_history.specs.declared.asking.Ask.TheVariants.{Idle, Waiting as WaitingAnswer}
 use Rattle.wq_history.specs.declared.asking.Asked.{Asked}
 use Rattle.wq_history.specs.declared.asking.Told.{Told}
 use Rattle.wq_history.specs.declared.asking.Told.TheVariants.{Done, NotYet, NotAsked}
 use Rattle.wq_history.specs.History.{asks_waiting}
-use Rattle.wq_history.specs.Book.{BookView, state, Appends, AppendsOne, HasNothingToStart, WaitGoesOn}
+use Rattle.wq_history.specs.Book.{BookView, state, Appends, AppendsOne, IsWaiting, HasNothingToStart, WaitGoesOn}
 
 -- `ask` of item i: a row says whether it has an unfinished entry; a caller who waits holds the item, and the number of the
 -- row as mark
 abbrev pub AnswersAsk : BookView → BookView → ℕ → Ask → Type 0
 AnswersAsk old new i Idle = AppendsOne old new (AskEvent i) false
-AnswersAsk old new i (Waiting asked) = (asked.item ≡ i) × Appends old new (AskEvent i) true asked.mark
+AnswersAsk old new i (WaitingAnswer asked) = (asked.item ≡ i) × Appends old new (AskEvent i) true asked.mark
 
 -- `told`: a row says that the wait is over; or nothing is changed and the ask is given back, since an entry that it waits
 -- for is unfinished, or since no ask of its item waits
@@ -29,7 +30,8 @@ abbrev pub AnswersStart : BookView → BookView → ℕ → Option ℕ → Type 
 AnswersStart old new q (Some i) = AppendsOne old new (Start q i) true
 AnswersStart old new q None = HasNothingToStart old q × (new ≡ old)
 
--- `over` on lane q: a row says that its wait is over; or nothing is changed, since the wait goes on
+-- `over` on lane q: a row says that the wait is over for the target that the lane waited for; or nothing is changed, since
+-- the wait goes on
 abbrev pub AnswersOver : BookView → BookView → ℕ → Bool → Type 0
-AnswersOver old new q true = (target : ℕ) × AppendsOne old new (Over q target) true
+AnswersOver old new q true = (f : Waiting) × IsWaiting old q f × AppendsOne old new (Over q f.target) true
 AnswersOver old new q false = WaitGoesOn old q × (new ≡ old)

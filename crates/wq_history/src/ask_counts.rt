@@ -50,7 +50,8 @@ impl<A: Allocator> AskCounts<A> {
 
     /// How many wait in all.
     pub fn all(&self) -> u32
-        ensures { result ≡ self.now.all }
+        ensures all { result ≡ self.now.all }
+        ensures sum { CountsAll self.now }
     {
         self.all
     }

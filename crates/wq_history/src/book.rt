@@ -5,9 +5,8 @@
 //! nothing that grows with the number of rows, of lanes or of asks. Only `new` takes memory: 12 bytes for each row and a
 //! count for each item.
 
-ghost use Rattle.std.specs.Prelude.{◌≡◌, ℕ, ◌<◌, ◌≤◌, ◌↔◌, [], length, Some, None, true, false, IfOk, IfErr, IfSome, IfNone, IsTrue, MatchBool, slice_get};
-ghost use Rattle.std.specs.List.{Any};
-ghost use Rattle.wq_items.specs.declared.target.Target.{Target as TargetOf};
+ghost use Rattle.std.specs.Prelude.{◌≡◌, ℕ, ◌+◌, ◌<◌, ◌≤◌, ◌↔◌, [], length, Some, None, true, false, IfOk, IfErr, OnOk, IfSome, IfNone, IsTrue, MatchBool, slice_get};
+ghost use Rattle.std.specs.List.{count_by};
 ghost use Rattle.wq_core.specs.declared.entry.Running.{Running};
 ghost use Rattle.wq_core.specs.declared.entry.Waiting.{Waiting};
 ghost use Rattle.wq_core.specs.Wiring.{IsWiring, items, lane_of, declared_by};
@@ -16,8 +15,8 @@ ghost use Rattle.wq_core.specs.Rules.{Lawful, Gives};
 ghost use Rattle.wq_rows.specs.declared.event.Event.TheVariants.{Queue, Cancel, Start, Wait, Over, Finish, Ask as AskEvent, Told as ToldEvent};
 ghost use Rattle.wq_rows.specs.Packing.{packed_rows};
 ghost use Rattle.wq_rows.specs.Stored.{max_rows};
-ghost use Rattle.wq_history.specs.Events.{step_of};
-ghost use Rattle.wq_history.specs.History.{asks_waiting, MayCome};
+ghost use Rattle.wq_history.specs.Events.{step_of, begins_to_wait, ends_a_wait};
+ghost use Rattle.wq_history.specs.History.{asks_waiting, all_asks_waiting, MayCome};
 ghost use Rattle.wq_history.specs.Reserve.{rows_needed};
 ghost use Rattle.wq_history.specs.Book.{BookView, state, free, IsBook, Appends, AppendsOne, LaneRuns, IsAwake, IsWaiting, IsNotWaiting, IsNotAwake, IsWrongToStart, RefusesNew, RefusesQueue, RefusesItem, RefusesLane, RefusesWait, WaitGoesOn};
 ghost use Rattle.wq_history.specs.Answers.{AnswersAsk, AnswersTold, AnswersStart, AnswersOver};
@@ -29,7 +28,7 @@ use std::alloc::Allocator;
 use std::marker::Model;
 use wq_core::{Core, Entry, Running, Step, Waiting};
 use wq_groups::LaneId;
-use wq_items::{ItemId, Target};
+use wq_items::ItemId;
 use wq_rows::{Event, History, MAX_ROWS, Row, Rows};
 
 /// The book. Contracts see whose machine it is of, its rows, how many there is room for, and whether it is closed; its
@@ -52,13 +51,6 @@ impl<A: Allocator> Model for Book<A> {
     ghost view = { λ b. record { wiring = b.core.wiring; rows = b.history.rows; room = b.history.room; closed = b.closed } };
 
     ghost invariant = { λ b. HoldsBook b.core b.history.rows b.history.room b.asks b.work };
-}
-
-/// Whether some target is of this item.
-fn have_target(targets: &[Target], item: ItemId) -> bool
-    ensures { IsTrue result ↔ Any (λ (t : TargetOf). t.item ≡ item) targets.now }
-{
-    targets.iter().any(|t| t.item == item)
 }
 
 impl<A: Allocator + Copy> Book<A> {
@@ -117,7 +109,8 @@ impl<A: Allocator> Book<A> {
         requires event { step_of event false ≡ None }
         requires may { MayCome self.old.wiring self.old.rows event false number }
         requires room { rows_needed self.old.wiring event false ≤ free self.old }
-        ensures { Appends self.old self.new event false number }
+        ensures row { Appends self.old self.new event false number }
+        ensures left { free self.old ≤ free self.new + 1 }
     {
         self.history.push(&Row {
             event,
@@ -130,7 +123,8 @@ impl<A: Allocator> Book<A> {
     fn begin_to_wait(&mut self, item: ItemId, mark: u32)
         requires may { MayCome self.old.wiring self.old.rows (AskEvent item) true mark }
         requires room { 2 ≤ free self.old }
-        ensures { Appends self.old self.new (AskEvent item) true mark }
+        ensures row { Appends self.old self.new (AskEvent item) true mark }
+        ensures left { free self.old ≤ free self.new + 2 }
     {
         self.asks.add(item);
         self.history.push(&Row {
@@ -184,14 +178,15 @@ impl<A: Allocator> Book<A> {
     /// What a lane runs; nothing, where there is no such lane.
     fn running_on(&self, q: LaneId) -> Option<Running>
         ensures running { result ≡ (lane_at (state self.now) q).running }
-        ensures known { IfSome result (λ r. r.entry.item < items self.now.wiring) }
+        ensures known { IfSome result (λ r. (r.entry.item < items self.now.wiring) × (lane_of self.now.wiring r.entry.item ≡ q)) }
     {
         self.core.running_on(q)
     }
 
-    /// The entry that a lane starts next; none, where there is no such lane.
+    /// The entry that a lane starts next; none, where there is no such lane. It is of an item of this lane.
     fn first_on(&self, q: LaneId) -> Option<Entry>
-        ensures { result ≡ slice_get (lane_at (state self.now) q).pending 0 }
+        ensures first { result ≡ slice_get (lane_at (state self.now) q).pending 0 }
+        ensures known { IfSome result (λ e. (e.item < items self.now.wiring) × (lane_of self.now.wiring e.item ≡ q)) }
     {
         self.core.first_on(q)
     }
@@ -285,11 +280,12 @@ impl<A: Allocator> Book<A> {
         Ok(false)
     }
 
-    /// Asks whether an item has an unfinished entry, to wait for it where it has.
+    /// Asks whether an item has an unfinished entry, to wait for it where it has. It takes two of the free rows at most.
     ///
     /// The error is `NoItem` (66), or else `HistoryFull` (60). Then nothing is changed.
     pub fn ask(&mut self, item: ItemId) -> Result<Ask, BookError>
         ensures row { IfOk result (λ answer. AnswersAsk self.old self.new item answer) }
+        ensures left { OnOk result (free self.old ≤ free self.new + 2) }
         ensures refused { IfErr result (λ e. RefusesItem self.old item AskEvent e × (self.new ≡ self.old)) }
     {
         if !self.is_item(item) {
@@ -329,11 +325,13 @@ impl<A: Allocator> Book<A> {
         Told::Done
     }
 
-    /// A lane starts its first pending entry: its item, or nothing where none is pending; then nothing is changed.
+    /// A lane starts its first pending entry: its item, which is one of this lane, or nothing where none is pending; then
+    /// nothing is changed.
     ///
     /// The error is `WrongLane` (64), exactly where there is no such lane or it runs an entry. Then nothing is changed.
     pub fn start(&mut self, q: LaneId) -> Result<Option<ItemId>, BookError>
         ensures row { IfOk result (λ answer. AnswersStart self.old self.new q answer) }
+        ensures known { IfOk result (λ answer. IfSome answer (λ item. (item < items self.old.wiring) × (lane_of self.old.wiring item ≡ q))) }
         ensures refused { IfErr result (λ e. RefusesLane (IsWrongToStart self.old q) e × (self.new ≡ self.old)) }
     {
         if !self.is_idle_lane(q) {
@@ -360,11 +358,10 @@ impl<A: Allocator> Book<A> {
         };
         let item = running.entry.item;
         let made = running.made;
-        let targets = self.core.waits(item);
-        if !have_target(targets, target) {
+        if !self.core.declares(item, target) {
             return Err(BookError::Undeclared);
         }
-        if made as usize >= targets.len() {
+        if made as usize >= self.core.waits(item).len() {
             return Err(BookError::TooManyWaits);
         }
         let unfinished = self.core.has_unfinished(target);
@@ -396,7 +393,7 @@ impl<A: Allocator> Book<A> {
     /// The error is `WrongLane` (64), exactly where there is no such lane, it runs nothing, or its entry waits. Then
     /// nothing is changed.
     pub fn finish(&mut self, q: LaneId) -> Result<(), BookError>
-        ensures row { IfOk result (λ _. (item : ℕ) × AppendsOne self.old self.new (Finish q item) true) }
+        ensures row { IfOk result (λ _. (r : Running) × LaneRuns self.old q r × AppendsOne self.old self.new (Finish q r.entry.item) true) }
         ensures refused { IfErr result (λ e. RefusesLane (IsNotAwake self.old q) e × (self.new ≡ self.old)) }
     {
         let Some(running) = self.awake_on(q) else {
@@ -428,6 +425,14 @@ impl<A: Allocator> Book<A> {
         self.core.is_idle()
     }
 
+    /// Whether some ask waits. Where none does, as many callers were told of each item as asked for it with `yes`.
+    pub fn has_waiting_asks(&self) -> bool
+        ensures some { IsTrue result ↔ (0 < all_asks_waiting self.now.rows) }
+        ensures none { result ≡ false → (i : ℕ) → count_by (ends_a_wait i) self.now.rows ≡ count_by (begins_to_wait i) self.now.rows }
+    {
+        self.asks.all() > 0
+    }
+
     /// Whether an entry of an item is pending; none is of an item that doesn't exist.
     pub fn is_pending(&self, item: ItemId) -> bool
         ensures { IsTrue result ↔ HasPending (state self.now) item }
@@ -438,6 +443,7 @@ impl<A: Allocator> Book<A> {
     /// The item that a lane runs; nothing where it runs none, or there is no such lane.
     pub fn running(&self, q: LaneId) -> Option<ItemId>
         ensures some { IfSome result (λ item. (r : Running) × LaneRuns self.now q r × (r.entry.item ≡ item)) }
+        ensures known { IfSome result (λ item. (item < items self.now.wiring) × (lane_of self.now.wiring item ≡ q)) }
         ensures none { IfNone result ((r : Running) → ¬ LaneRuns self.now q r) }
     {
         let running = self.running_on(q)?;

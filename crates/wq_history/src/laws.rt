@@ -7,6 +7,7 @@ ghost use Rattle.std.specs.List.{All, count_by};
 ghost use Rattle.wq_core.specs.Wiring.{Wiring, IsWiring, items};
 ghost use Rattle.wq_core.specs.State.{HasUnfinishedBelow};
 ghost use Rattle.wq_core.specs.Runs.{IsRun};
+ghost use Rattle.wq_core.specs.Deadlock.{IsStuck, IsSafe};
 ghost use Rattle.wq_rows.specs.declared.event.Event.{Event};
 ghost use Rattle.wq_rows.specs.declared.event.Event.TheVariants.{Told};
 ghost use Rattle.wq_rows.specs.declared.event.Row.{Row};
@@ -25,6 +26,11 @@ pub fn a_history_is_legal_row_by_row()
 /// The steps of a legal history are a run.
 pub fn the_steps_of_a_legal_history_are_a_run()
     ensures { (w : Wiring) (rows : List Row) → IsLegal w rows → IsRun w (steps_of rows) }
+{}
+
+/// Where an assignment is safe, the state that a legal history leaves isn't stuck.
+pub fn a_legal_history_under_a_safe_assignment_is_not_stuck()
+    ensures { (w : Wiring) (rows : List Row) → IsSafe w → IsLegal w rows → ¬ IsStuck w (state_after w rows) }
 {}
 
 /// Where a history goes on by rows that need none free, which are those of rescuers, of cancellations that take an entry

@@ -10,4 +10,4 @@ returns-in_default-clause-row g c =
     let b = c.args.self.now in
     let idle : (c.args.q < b.wiring.lanes) × ((lane_at (state b) c.args.q).running ≡ None) =
     subst (λ (is : Bool). MatchBool is ((c.args.q < b.wiring.lanes) × ((lane_at (state b) c.args.q).running ≡ None)) (IsWrongToStart b c.args.q)) c.if-not-is_idle_lane.false c.is_idle_lane.ensures in
-    ((idle.0, idle_exactly (lane_at (state b) c.args.q) idle.1 (sym c.first_on.ensures ∙ c.in_default.is)), refl)
+    ((idle.0, idle_exactly (lane_at (state b) c.args.q) idle.1 (sym c.first_on.ensures.first ∙ c.in_default.is)), refl)
