@@ -1,17 +1,21 @@
-//! Books: what each call answers, the rows that it leaves, and histories that are judged.
+//! Books: each call once, an ask of another book, and memory.
 //!
-//! The rules are those of "Histories" in docs/FORMAT.md, from which each answer, each row and each number of free rows was
-//! worked out by hand. They take time in the number of calls, beside that of making a book for each test.
+//! What each call answers in which state, what it writes, and what is said of a history, is in tests/book, for the test
+//! program `wq_book`. The rules are those of "Histories" in docs/FORMAT.md, from which each answer, each row and each number
+//! of free rows was worked out by hand. They take time in the number of calls, beside that of making a book for each test.
 
 ghost use Rattle.std.specs.Prelude.{◌≡◌, IfOk};
+ghost use Rattle.wq_core.specs.State.{empty_state};
 
-use crate::machine::core_in;
+use crate::machine::Made::{Cancel, Finish, Over, Queue, Start, Wait};
+use crate::machine::{Made, core_in};
 use linked_list_allocator::LocalHeap;
 use std::alloc::{AllocError, Allocator, Global};
 use std::process::Abort;
 use std::test::Fail;
+use wq_core::Core;
 use wq_groups::LaneId;
-use wq_history::{Ask, Asked, Book, BookError, Event, Row, Told, check_rows};
+use wq_history::{Ask, Asked, Book, BookError, Told, check_rows, unpack};
 use wq_items::ItemId;
 
 /// One item.
@@ -22,10 +26,37 @@ const PAIR: &str = "item a\nitem b\nflush a b\n";
 
 const PAIR_LANES: &[u16] = &[1, 0];
 
-/// A row.
-fn row(event: Event, yes: bool, number: u32) -> Row {
-    Row { event, yes, number }
-}
+/// How a book of the pair stands: its free rows, whether no entry is unfinished, whether one of the first item is pending,
+/// and the items that lane 1 runs and waits for.
+type Standing = (u32, bool, bool, Option<u16>, Option<u16>);
+
+/// Calls of a book of the pair with 9 rows, each with its answer, and how the book stands then. Those that come first.
+const FIRST: &[(Made, bool, Standing)] = &[
+    (Cancel(1), false, (8, true, false, None, None)),
+    (Queue(0), true, (3, false, true, None, None)),
+    (Queue(0), false, (2, false, true, None, None)),
+];
+
+/// Those that come once a caller has asked for the first item.
+const THEN: &[(Made, bool, Standing)] = &[
+    (Start(1, 0), true, (0, false, false, Some(0), None)),
+    (Wait(1, 1), false, (0, false, false, Some(0), Some(1))),
+    (Over(1, 1), true, (0, false, false, Some(0), None)),
+    (Finish(1, 0), true, (0, true, false, None, None)),
+];
+
+/// The rows of all this, packed.
+const HISTORY: &[u8; 108] = &[
+    2, 0, 1, 0, 0, 0, 0, 0, 0, 0, 0, 0, // Cancel b, no, 0
+    1, 1, 0, 0, 0, 0, 0, 0, 0, 0, 0, 0, // Queue a, yes, 0
+    1, 0, 0, 0, 0, 0, 0, 0, 0, 0, 0, 0, // Queue a, no, 0
+    7, 1, 0, 0, 0, 0, 0, 0, 1, 0, 0, 0, // Ask a, yes, 1
+    3, 1, 0, 0, 1, 0, 0, 0, 0, 0, 0, 0, // Start on lane 1 a, yes, 0
+    4, 0, 1, 0, 1, 0, 0, 0, 1, 0, 0, 0, // Wait on lane 1 for b, no, 1
+    5, 1, 1, 0, 1, 0, 0, 0, 1, 0, 0, 0, // Over on lane 1 for b, yes, 1
+    6, 1, 0, 0, 1, 0, 0, 0, 0, 0, 0, 0, // Finish on lane 1 a, yes, 0
+    8, 1, 0, 0, 0, 0, 0, 0, 1, 0, 0, 0, // Told a, yes, 1
+];
 
 /// The book of a declaration and of the lane of each group, with room for so many rows.
 fn book_of(
@@ -39,38 +70,11 @@ fn book_of(
     Ok(Book::new(alloc, core, rows)?)
 }
 
-/// Asserts the rows of a book, the bytes that hold each, and how many rows are free.
-fn assert_rows(rt: &impl Abort, book: &Book<Global>, rows: &[Row], packed: &[[u8; 12]], free: u32) {
-    assert_eq!(rt; (book.rows().len(), packed.len()), (rows.len(), rows.len()));
-    for (is, want) in book.rows().zip(rows) {
-        assert_eq!(rt; is, *want);
-    }
-    let mut left = book.packed();
-    for (i, want) in packed.iter().enumerate() {
-        let (is, after) = left.split_at_checked(12).expect(rt, "a row too few");
-        assert_eq!(rt; (i, is), (i, want.as_slice()));
-        left = after;
-    }
-    assert_eq!(rt; (left.len(), book.free_rows()), (0, free));
-}
-
 /// The ask that waits.
 fn waits(rt: &impl Abort, answer: Result<Ask, BookError>) -> Asked {
     match answer {
         Ok(Ask::Waiting(asked)) => asked,
         Ok(Ask::Idle) | Err(_) => panic!(rt; "no ask waits"),
-    }
-}
-
-/// The ask that is given back, since its wait isn't over.
-fn not_yet(rt: &impl Abort, told: Told) -> Asked {
-    match told {
-        Told::NotYet(asked) => asked,
-        Told::NotAsked(asked) => {
-            asked.give_up();
-            panic!(rt; "no ask waits")
-        }
-        Told::Done => panic!(rt; "the wait is over"),
     }
 }
 
@@ -97,261 +101,76 @@ fn assert_done(rt: &impl Abort, told: Told) {
     }
 }
 
-/// Asserts that an item has no unfinished entry.
-fn assert_idle(rt: &impl Abort, answer: Result<Ask, BookError>) {
-    match answer {
-        Ok(Ask::Idle) => {}
-        Ok(Ask::Waiting(asked)) => {
-            asked.give_up();
-            panic!(rt; "an ask waits")
+/// Makes a call. Says what it answers, `start` whether that is the item.
+fn call<A: Allocator>(book: &mut Book<A>, made: Made) -> Result<bool, BookError> {
+    match made {
+        Queue(i) => book.queue(ItemId::new(i)),
+        Cancel(i) => book.cancel(ItemId::new(i)),
+        Start(q, i) => Ok(book.start(LaneId::new(q))? == Some(ItemId::new(i))),
+        Wait(q, i) => book.wait(LaneId::new(q), ItemId::new(i)),
+        Over(q, _) => book.over(LaneId::new(q)),
+        Finish(q, _) => {
+            book.finish(LaneId::new(q))?;
+            Ok(true)
         }
-        Err(_) => panic!(rt; "an ask is refused"),
     }
 }
 
-/// Asserts that an ask is refused with this number.
-fn assert_ask_refused(rt: &impl Abort, answer: Result<Ask, BookError>, code: u32) {
-    match answer {
-        Ok(Ask::Idle) => panic!(rt; "an ask is answered"),
-        Ok(Ask::Waiting(asked)) => {
-            asked.give_up();
-            panic!(rt; "an ask waits")
-        }
-        Err(e) => assert_eq!(rt; e.code(), code),
+/// How a book of the pair stands.
+fn standing<A: Allocator>(book: &Book<A>) -> Standing {
+    let (a, q) = (ItemId::new(0), LaneId::new(1));
+    let runs = book.running(q).map(|i| i.get());
+    let waits = book.waiting(q).map(|i| i.get());
+    (
+        book.free_rows(),
+        book.is_idle(),
+        book.is_pending(a),
+        runs,
+        waits,
+    )
+}
+
+/// Makes calls, and asserts what each answers, and how the book stands then.
+fn make_calls<A: Allocator>(rt: &impl Abort, book: &mut Book<A>, calls: &[(Made, bool, Standing)]) {
+    for (at, (made, yes, stands)) in calls.iter().enumerate() {
+        let answer = call(book, *made);
+        assert_eq!(rt; (at, answer, standing(book)), (at, Ok(*yes), *stands));
     }
 }
 
-#[test]
-fn a_caller_is_told_once_what_it_waits_for_is_finished(rt: HostRuntime) -> Result<(), Fail> {
-    let (a, q) = (ItemId::new(0), LaneId::new(0));
-    let mut book = book_of(rt.alloc(), ALONE, &[0], 9)?;
-    assert_eq!(rt; book.queue(a), Ok(true));
-    assert_eq!(rt; book.queue(a), Ok(false));
-    assert_eq!(rt; book.start(q), Ok(Some(a)));
-    assert_eq!(rt; book.queue(a), Ok(true));
-    assert_eq!(rt; book.free_rows(), 2);
-    let asked = waits(&rt, book.ask(a));
-    assert_eq!(rt; (asked.item(), asked.mark()), (a, 2));
-    assert_eq!(rt; book.free_rows(), 0);
-    let asked = not_yet(&rt, book.told(asked));
-    assert_eq!(rt; book.finish(q), Ok(()));
-    // The entry that ran is finished, and the one that was queued behind it is not.
-    let asked = not_yet(&rt, book.told(asked));
-    assert_eq!(rt; (asked.item(), asked.mark()), (a, 2));
-    assert_eq!(rt; book.start(q), Ok(Some(a)));
-    assert_eq!(rt; book.finish(q), Ok(()));
-    assert_done(&rt, book.told(asked));
-    let rows = [
-        row(Event::Queue(a), true, 0),
-        row(Event::Queue(a), false, 0),
-        row(Event::Start(q, a), true, 0),
-        row(Event::Queue(a), true, 1),
-        row(Event::Ask(a), true, 2),
-        row(Event::Finish(q, a), true, 0),
-        row(Event::Start(q, a), true, 1),
-        row(Event::Finish(q, a), true, 1),
-        row(Event::Told(a), true, 2),
-    ];
-    let packed = [
-        [1, 1, 0, 0, 0, 0, 0, 0, 0, 0, 0, 0],
-        [1, 0, 0, 0, 0, 0, 0, 0, 0, 0, 0, 0],
-        [3, 1, 0, 0, 0, 0, 0, 0, 0, 0, 0, 0],
-        [1, 1, 0, 0, 0, 0, 0, 0, 1, 0, 0, 0],
-        [7, 1, 0, 0, 0, 0, 0, 0, 2, 0, 0, 0],
-        [6, 1, 0, 0, 0, 0, 0, 0, 0, 0, 0, 0],
-        [3, 1, 0, 0, 0, 0, 0, 0, 1, 0, 0, 0],
-        [6, 1, 0, 0, 0, 0, 0, 0, 1, 0, 0, 0],
-        [8, 1, 0, 0, 0, 0, 0, 0, 2, 0, 0, 0],
-    ];
-    assert_rows(&rt, &book, &rows, &packed, 0);
-    Ok(())
-}
-
-#[test]
-fn what_runs_is_not_cancelled(rt: HostRuntime) -> Result<(), Fail> {
-    let (a, q) = (ItemId::new(0), LaneId::new(0));
-    let mut book = book_of(rt.alloc(), ALONE, &[0], 100)?;
-    assert_eq!(rt; book.queue(a), Ok(true));
-    assert_eq!(rt; book.cancel(a), Ok(true));
-    assert_eq!(rt; book.cancel(a), Ok(false));
-    assert_eq!(rt; book.queue(a), Ok(true));
-    assert_eq!(rt; book.start(q), Ok(Some(a)));
-    assert_eq!(rt; book.cancel(a), Ok(false));
-    assert_eq!(rt; book.queue(a), Ok(true));
-    let asked = waits(&rt, book.ask(a));
-    assert_eq!(rt; (asked.item(), asked.mark()), (a, 3));
-    assert_eq!(rt; book.cancel(a), Ok(true));
-    let asked = not_yet(&rt, book.told(asked));
-    assert_eq!(rt; book.finish(q), Ok(()));
-    assert_done(&rt, book.told(asked));
-    let rows = [
-        row(Event::Queue(a), true, 0),
-        row(Event::Cancel(a), true, 0),
-        row(Event::Cancel(a), false, 0),
-        row(Event::Queue(a), true, 1),
-        row(Event::Start(q, a), true, 1),
-        row(Event::Cancel(a), false, 0),
-        row(Event::Queue(a), true, 2),
-        row(Event::Ask(a), true, 3),
-        row(Event::Cancel(a), true, 2),
-        row(Event::Finish(q, a), true, 1),
-        row(Event::Told(a), true, 3),
-    ];
-    let packed = [
-        [1, 1, 0, 0, 0, 0, 0, 0, 0, 0, 0, 0],
-        [2, 1, 0, 0, 0, 0, 0, 0, 0, 0, 0, 0],
-        [2, 0, 0, 0, 0, 0, 0, 0, 0, 0, 0, 0],
-        [1, 1, 0, 0, 0, 0, 0, 0, 1, 0, 0, 0],
-        [3, 1, 0, 0, 0, 0, 0, 0, 1, 0, 0, 0],
-        [2, 0, 0, 0, 0, 0, 0, 0, 0, 0, 0, 0],
-        [1, 1, 0, 0, 0, 0, 0, 0, 2, 0, 0, 0],
-        [7, 1, 0, 0, 0, 0, 0, 0, 3, 0, 0, 0],
-        [2, 1, 0, 0, 0, 0, 0, 0, 2, 0, 0, 0],
-        [6, 1, 0, 0, 0, 0, 0, 0, 1, 0, 0, 0],
-        [8, 1, 0, 0, 0, 0, 0, 0, 3, 0, 0, 0],
-    ];
-    assert_rows(&rt, &book, &rows, &packed, 89);
-    Ok(())
-}
-
-/// The rows of one execution of the first item of the pair, packed, where the second one is idle.
-const EXECUTION: &[u8; 60] = &[
-    1, 1, 0, 0, 0, 0, 0, 0, 0, 0, 0, 0, // Queue a, yes, 0
-    3, 1, 0, 0, 1, 0, 0, 0, 0, 0, 0, 0, // Start on lane 1 a, yes, 0
-    4, 0, 1, 0, 1, 0, 0, 0, 1, 0, 0, 0, // Wait on lane 1 for b, no, 1
-    5, 1, 1, 0, 1, 0, 0, 0, 1, 0, 0, 0, // Over on lane 1 for b, yes, 1
-    6, 1, 0, 0, 1, 0, 0, 0, 0, 0, 0, 0, // Finish on lane 1 a, yes, 0
-];
-
-#[test]
-fn a_queueing_keeps_rows_for_its_execution(rt: HostRuntime) -> Result<(), Fail> {
-    let (a, b, q) = (ItemId::new(0), ItemId::new(1), LaneId::new(1));
-    let mut book = book_of(rt.alloc(), PAIR, PAIR_LANES, 5)?;
-    assert_eq!(rt; book.queue(a), Ok(true));
-    assert_eq!(rt; book.free_rows(), 0);
-    assert_eq!(rt; book.queue(b), Err(BookError::HistoryFull));
-    assert_eq!(rt; book.queue(a), Err(BookError::HistoryFull));
-    assert_ask_refused(&rt, book.ask(a), 60);
-    assert_eq!(rt; book.start(q), Ok(Some(a)));
-    assert_eq!(rt; book.wait(q, b), Ok(false));
-    assert_eq!(rt; book.over(q), Ok(true));
-    assert_eq!(rt; book.finish(q), Ok(()));
-    assert_eq!(rt;
-        (book.packed(), book.free_rows()),
-        (EXECUTION.as_slice(), 0)
-    );
-    Ok(())
-}
-
-#[test]
-fn a_queueing_without_rows_for_its_execution_is_refused(rt: HostRuntime) -> Result<(), Fail> {
-    let a = ItemId::new(0);
-    let mut book = book_of(rt.alloc(), PAIR, PAIR_LANES, 4)?;
-    assert_eq!(rt; book.queue(a), Err(BookError::HistoryFull));
-    assert_eq!(rt; BookError::HistoryFull.code(), 60);
-    assert_rows(&rt, &book, &[], &[], 4);
-    assert_eq!(rt; (book.is_idle(), book.is_pending(a)), (true, false));
-    Ok(())
-}
-
-/// The number of a refusal, if it is one.
-fn code<T: Drop>(answer: Result<T, BookError>) -> Option<u32> {
-    answer.err().map(|e| e.code())
-}
-
-#[test]
-fn refused_calls_leave_the_book_as_it_is(rt: HostRuntime) -> Result<(), Fail> {
-    let (a, b, missing) = (ItemId::new(0), ItemId::new(1), ItemId::new(2));
-    let (idle, q, no_lane) = (LaneId::new(0), LaneId::new(1), LaneId::new(2));
-    let mut book = book_of(rt.alloc(), PAIR, PAIR_LANES, 100)?;
-    assert_eq!(rt; code(book.queue(missing)), Some(66));
-    assert_eq!(rt; code(book.cancel(missing)), Some(66));
-    assert_ask_refused(&rt, book.ask(missing), 66);
-    assert_eq!(rt; book.queue(a), Ok(true));
-    assert_eq!(rt; code(book.start(no_lane)), Some(64));
-    assert_eq!(rt; book.start(idle), Ok(None));
-    assert_eq!(rt; book.start(q), Ok(Some(a)));
-    assert_eq!(rt; code(book.start(q)), Some(64));
-    assert_eq!(rt; code(book.wait(q, a)), Some(62));
-    assert_eq!(rt; code(book.wait(idle, b)), Some(64));
-    assert_eq!(rt; code(book.over(q)), Some(64));
-    assert_eq!(rt; code(book.finish(idle)), Some(64));
-    assert_eq!(rt; book.wait(q, b), Ok(false));
-    assert_eq!(rt; code(book.wait(q, b)), Some(64));
-    assert_eq!(rt; code(book.finish(q)), Some(64));
-    assert_eq!(rt; book.over(q), Ok(true));
-    assert_eq!(rt; code(book.wait(q, b)), Some(63));
-    // What isn't declared is looked for before the waits are counted.
-    assert_eq!(rt; code(book.wait(q, a)), Some(62));
-    assert_eq!(rt; book.is_closed(), false);
+/// Makes each call of a book of the pair with 9 rows, and asserts its answer.
+fn make_each_call<A: Allocator>(rt: &impl Abort, book: &mut Book<A>) {
+    make_calls(rt, book, FIRST);
+    let asked = waits(rt, book.ask(ItemId::new(0)));
+    make_calls(rt, book, THEN);
+    assert_done(rt, book.told(asked));
     book.close();
-    book.close();
-    assert_eq!(rt; book.is_closed(), true);
-    assert_eq!(rt; code(book.queue(b)), Some(61));
-    assert_eq!(rt; code(book.queue(missing)), Some(66));
-    assert_eq!(rt; book.finish(q), Ok(()));
-    assert_eq!(rt;
-        (book.packed(), book.free_rows()),
-        (EXECUTION.as_slice(), 95)
-    );
-    Ok(())
+    assert_eq!(rt; (book.is_closed(), book.free_rows()), (true, 0));
 }
 
-#[test]
-fn a_book_says_how_its_machine_stands(rt: HostRuntime) -> Result<(), Fail> {
-    let (a, b, missing) = (ItemId::new(0), ItemId::new(1), ItemId::new(2));
-    let (other, q, no_lane) = (LaneId::new(0), LaneId::new(1), LaneId::new(2));
-    let mut book = book_of(rt.alloc(), PAIR, PAIR_LANES, 20)?;
+/// Asserts how many items and lanes a book of the pair has, and the lane of each item.
+fn assert_wiring(rt: &impl Abort, book: &Book<Global>) {
     assert_eq!(rt; (book.items(), book.lanes()), (2, 2));
-    assert_eq!(rt; book.lane_of(a), Some(q));
-    assert_eq!(rt; book.lane_of(b), Some(other));
-    assert_eq!(rt; book.lane_of(missing), None);
-    assert_rows(&rt, &book, &[], &[], 20);
-    assert_eq!(rt; book.is_idle(), true);
-    assert_idle(&rt, book.ask(a));
-    assert_eq!(rt; book.queue(b), Ok(true));
-    assert_eq!(rt; book.queue(a), Ok(true));
-    assert_eq!(rt; (book.is_idle(), book.is_pending(a)), (false, true));
-    assert_eq!(rt; book.is_pending(missing), false);
-    assert_eq!(rt; book.start(q), Ok(Some(a)));
-    assert_eq!(rt; book.is_pending(a), false);
-    assert_eq!(rt; (book.running(q), book.waiting(q)), (Some(a), None));
-    assert_eq!(rt; book.running(other), None);
-    assert_eq!(rt; book.running(no_lane), None);
-    assert_eq!(rt; book.wait(q, b), Ok(true));
-    assert_eq!(rt; (book.running(q), book.waiting(q)), (Some(a), Some(b)));
-    assert_eq!(rt; book.waiting(other), None);
-    assert_eq!(rt; book.over(q), Ok(false));
-    assert_eq!(rt; book.start(other), Ok(Some(b)));
-    assert_eq!(rt; book.over(q), Ok(false));
-    assert_eq!(rt; book.finish(other), Ok(()));
-    assert_eq!(rt; book.is_idle(), false);
-    assert_eq!(rt; book.over(q), Ok(true));
-    assert_eq!(rt; book.finish(q), Ok(()));
-    assert_eq!(rt; book.is_idle(), true);
-    let rows = [
-        row(Event::Ask(a), false, 0),
-        row(Event::Queue(b), true, 0),
-        row(Event::Queue(a), true, 1),
-        row(Event::Start(q, a), true, 1),
-        row(Event::Wait(q, b), true, 2),
-        row(Event::Start(other, b), true, 0),
-        row(Event::Finish(other, b), true, 0),
-        row(Event::Over(q, b), true, 2),
-        row(Event::Finish(q, a), true, 1),
-    ];
-    let packed = [
-        [7, 0, 0, 0, 0, 0, 0, 0, 0, 0, 0, 0],
-        [1, 1, 1, 0, 0, 0, 0, 0, 0, 0, 0, 0],
-        [1, 1, 0, 0, 0, 0, 0, 0, 1, 0, 0, 0],
-        [3, 1, 0, 0, 1, 0, 0, 0, 1, 0, 0, 0],
-        [4, 1, 1, 0, 1, 0, 0, 0, 2, 0, 0, 0],
-        [3, 1, 1, 0, 0, 0, 0, 0, 0, 0, 0, 0],
-        [6, 1, 1, 0, 0, 0, 0, 0, 0, 0, 0, 0],
-        [5, 1, 1, 0, 1, 0, 0, 0, 2, 0, 0, 0],
-        [6, 1, 0, 0, 1, 0, 0, 0, 1, 0, 0, 0],
-    ];
-    assert_rows(&rt, &book, &rows, &packed, 11);
+    for (item, want) in [(0, Some(1)), (1, Some(0)), (2, None)] {
+        let lane = book.lane_of(ItemId::new(item)).map(|q| q.get());
+        assert_eq!(rt; (item, lane), (item, want));
+    }
+}
+
+/// Asserts the rows that the calls write, and their bytes.
+fn assert_rows(rt: &impl Abort, book: &Book<Global>) {
+    assert_eq!(rt; (book.packed(), book.rows().len()), (HISTORY.as_slice(), 9));
+    for (row, bytes) in book.rows().zip(HISTORY.chunks(12)) {
+        assert_eq!(rt; Some(row), unpack(bytes));
+    }
+}
+
+#[test]
+fn each_call_is_answered(rt: HostRuntime) -> Result<(), Fail> {
+    let mut book = book_of(rt.alloc(), PAIR, PAIR_LANES, 9)?;
+    assert_wiring(&rt, &book);
+    make_each_call(&rt, &mut book);
+    assert_rows(&rt, &book);
     Ok(())
 }
 
@@ -394,24 +213,6 @@ fn fill<'h>(alloc: Global, heap: &'h LocalHeap) -> Result<Vec<Vec<u8, &'h LocalH
     Ok(taken)
 }
 
-/// Asserts that no call of a book takes anything from its heap.
-fn assert_takes_nothing(rt: &impl Abort, heap: &LocalHeap, book: &mut Book<&LocalHeap>) {
-    let (a, b, q) = (ItemId::new(0), ItemId::new(1), LaneId::new(1));
-    let used = heap.used();
-    assert_eq!(rt; book.queue(a), Ok(true));
-    assert_eq!(rt; book.queue(a), Ok(false));
-    assert_eq!(rt; book.cancel(b), Ok(false));
-    let asked = waits(rt, book.ask(a));
-    assert_eq!(rt; book.start(q), Ok(Some(a)));
-    assert_eq!(rt; book.wait(q, b), Ok(false));
-    assert_eq!(rt; book.over(q), Ok(true));
-    assert_eq!(rt; book.finish(q), Ok(()));
-    assert_done(rt, book.told(asked));
-    book.close();
-    assert_eq!(rt; (book.rows().len(), book.free_rows()), (9, 0));
-    assert_eq!(rt; heap.used(), used);
-}
-
 /// Makes a book on a heap of so many bytes, if that is large enough, fills the heap, and asserts that calls take nothing
 /// from it. Says whether the book was made.
 fn makes_in(rt: &impl Abort, alloc: Global, large: &LocalHeap, size: usize) -> Result<bool, Fail> {
@@ -422,7 +223,9 @@ fn makes_in(rt: &impl Abort, alloc: Global, large: &LocalHeap, size: usize) -> R
     match Book::new(&heap, core, 9) {
         Ok(mut book) => {
             let _full = fill(alloc, &heap)?;
-            assert_takes_nothing(rt, &heap, &mut book);
+            let used = heap.used();
+            make_each_call(rt, &mut book);
+            assert_eq!(rt; (size, heap.used()), (size, used));
             Ok(true)
         }
         Err(e) => {
@@ -447,81 +250,27 @@ fn books_take_memory_only_when_they_are_made(rt: HostRuntime) -> Result<(), Fail
     Ok(())
 }
 
-/// What the judge says of bytes on the machine of the pair: how many rows they hold, or the place of the row at fault and
-/// the number of the fault; and the work that is left on the machine then.
-fn judged(alloc: Global, packed: &[u8]) -> Result<(Result<u32, (u32, u32)>, u64), Fail> {
-    if packed.len() > 99 {
-        return Err(Fail::from("many bytes"));
-    }
-    let mut core = core_in(alloc, alloc, PAIR, 2, PAIR_LANES)??;
-    let answer = check_rows(alloc, &mut core, packed).map_err(|e| (e.at, e.why.code()));
-    Ok((answer, core.work_left()))
+/// What the judge says of the rows on the machine of the pair: how many they are, or the place of the row at fault and the
+/// number of the fault; and the work that is left on the machine then.
+fn judged<A: Allocator + Copy>(heap: A, mut core: Core<A>) -> (Result<u32, (u32, u32)>, u64)
+    requires { core.state ≡ empty_state core.wiring }
+{
+    let answer = check_rows(heap, &mut core, HISTORY).map_err(|e| (e.at, e.why.code()));
+    (answer, core.work_left())
 }
 
 #[test]
-fn histories_are_judged_row_by_row(rt: HostRuntime) -> Result<(), Fail> {
-    let alloc = rt.alloc();
-    let rows = EXECUTION.as_slice();
-    assert_eq!(rt; judged(alloc, &[])?, (Ok(0), 0));
-    assert_eq!(rt; judged(alloc, rows)?, (Ok(5), 0));
-    assert_eq!(rt; judged(alloc, &rows[..48])?, (Ok(4), 1));
-    // A byte is missing.
-    assert_eq!(rt; judged(alloc, &rows[..59])?, (Err((5, 75)), 1));
-    // A byte that is always 0.
-    let mut packed = *EXECUTION;
-    packed[6] = 1;
-    assert_eq!(rt; judged(alloc, &packed)?, (Err((1, 75)), 0));
-    // The wait says that the second item is unfinished.
-    let mut packed = *EXECUTION;
-    packed[25] = 1;
-    assert_eq!(rt; judged(alloc, &packed)?, (Err((3, 76)), 3));
-    // The wait isn't over.
-    let mut packed = Vec::from_slice(alloc, &rows[..36])?;
-    packed.extend_from_slice(&rows[48..])?;
-    assert_eq!(rt; judged(alloc, &packed)?, (Err((4, 76)), 2));
-    // Nothing was queued.
-    assert_eq!(rt; judged(alloc, &rows[12..24])?, (Err((1, 76)), 0));
-    // No such item.
-    let packed = [2, 0, 2, 0, 0, 0, 0, 0, 0, 0, 0, 0];
-    assert_eq!(rt; judged(alloc, &packed)?, (Err((1, 76)), 0));
-    Ok(())
-}
-
-/// Rows of a caller who asks for the first item of the pair, and is told twice of one wait.
-const TOLD_TWICE: &[u8; 60] = &[
-    1, 1, 0, 0, 0, 0, 0, 0, 0, 0, 0, 0, // Queue a, yes, 0
-    7, 1, 0, 0, 0, 0, 0, 0, 1, 0, 0, 0, // Ask a, yes, 1
-    2, 1, 0, 0, 0, 0, 0, 0, 0, 0, 0, 0, // Cancel a, yes, 0
-    8, 1, 0, 0, 0, 0, 0, 0, 1, 0, 0, 0, // Told a, yes, 1
-    8, 1, 0, 0, 0, 0, 0, 0, 1, 0, 0, 0, // Told a, yes, 1
-];
-
-#[test]
-fn callers_are_judged_row_by_row(rt: HostRuntime) -> Result<(), Fail> {
-    let alloc = rt.alloc();
-    let rows = TOLD_TWICE.as_slice();
-    assert_eq!(rt; judged(alloc, rows)?, (Err((5, 76)), 0));
-    assert_eq!(rt; judged(alloc, &rows[..48])?, (Ok(4), 0));
-    // The ask has another mark, or says that nothing is unfinished.
-    let mut packed = *TOLD_TWICE;
-    packed[20] = 0;
-    assert_eq!(rt; judged(alloc, &packed)?, (Err((2, 76)), 4));
-    let mut packed = *TOLD_TWICE;
-    packed[13] = 0;
-    assert_eq!(rt; judged(alloc, &packed)?, (Err((2, 76)), 4));
-    // The entry is pending still.
-    let mut packed = Vec::from_slice(alloc, &rows[..24])?;
-    packed.extend_from_slice(&rows[36..48])?;
-    assert_eq!(rt; judged(alloc, &packed)?, (Err((3, 76)), 4));
+fn a_history_is_judged(rt: HostRuntime) -> Result<(), Fail> {
+    let core = core_in(rt.alloc(), rt.alloc(), PAIR, 2, PAIR_LANES)??;
+    assert_eq!(rt; judged(rt.alloc(), core), (Ok(9), 0));
     Ok(())
 }
 
 #[test]
 fn judging_runs_out_of_memory_before_any_row(rt: HostRuntime) -> Result<(), Fail> {
     let heap = LocalHeap::new(rt.alloc(), 4096)?;
-    let mut core = core_in(&heap, &heap, PAIR, 2, PAIR_LANES)??;
+    let core = core_in(&heap, &heap, PAIR, 2, PAIR_LANES)??;
     let _full = fill(rt.alloc(), &heap)?;
-    let refused = check_rows(&heap, &mut core, EXECUTION).map_err(|e| (e.at, e.why.code()));
-    assert_eq!(rt; (refused, core.work_left()), (Err((0, 20)), 0));
+    assert_eq!(rt; judged(&heap, core), (Err((0, 20)), 0));
     Ok(())
 }
