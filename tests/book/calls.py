@@ -239,6 +239,49 @@ BOOKS = [
         "060101000000000000000000",
         "030100000000000002000000",
     ]),
+    # Refusals of what doesn't exist while rows are free; a wait that isn't declared, when no wait is
+    # left.
+    (*TWO, 100, [
+        ("cancel z", "refused 66 free 100 idle open - - - -"),
+        ("ask z", "refused 66 free 100 idle open - - - -"),
+        ("ask a", "idle free 99 idle open - - - -"),
+        ("queue a", "true free 94 busy open - - - -"),
+        ("start 0", "none free 94 busy open - - - -"),
+        ("start 1", "a free 94 busy open - - a -"),
+        ("wait 0 b", "refused 64 free 94 busy open - - a -"),
+        ("wait 1 b", "false free 94 busy open - - a b"),
+        ("wait 1 b", "refused 64 free 94 busy open - - a b"),
+        ("over 1", "true free 94 busy open - - a -"),
+        ("wait 1 b", "refused 63 free 94 busy open - - a -"),
+        ("wait 1 a", "refused 62 free 94 busy open - - a -"),
+        ("wait 1 z", "refused 62 free 94 busy open - - a -"),
+        ("close", "ok free 94 busy closed - - a -"),
+        ("close", "ok free 94 busy closed - - a -"),
+        ("queue z", "refused 66 free 94 busy closed - - a -"),
+        ("finish 1", "ok free 94 idle closed - - - -"),
+    ], [
+        "070000000000000000000000",
+        "010100000000000000000000",
+        "030100000100000000000000",
+        "040001000100000001000000",
+        "050101000100000001000000",
+        "060100000100000000000000",
+    ]),
+    # A full book refuses to queue what is pending, too, and leaves nothing pending that it refuses.
+    (*TWO, 5, [
+        ("queue a", "true free 0 busy open - - - -"),
+        ("queue a", "refused 60 free 0 busy open - - - -"),
+        ("cancel a", "true free 3 idle open - - - -"),
+        ("queue a", "refused 60 free 3 idle open - - - -"),
+        ("start 1", "none free 3 idle open - - - -"),
+        ("queue b", "true free 0 busy open - - - -"),
+        ("start 0", "b free 0 busy open b - - -"),
+    ], [
+        "010100000000000000000000",
+        "020100000000000000000000",
+        "010101000000000001000000",
+        "030101000000000001000000",
+    ]),
     # No row at all, no item, no workqueue.
     (*ONE, 0, [
         ("queue a", "refused 60 free 0 idle open - -"),

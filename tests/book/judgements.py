@@ -8,6 +8,9 @@ START = "030100000100000000000000"
 WAIT = "040001000100000001000000"
 OVER = "050101000100000001000000"
 FINISH = "060100000100000000000000"
+ASK = "070100000000000001000000"
+CANCEL = "020100000000000000000000"
+TOLD = "080100000000000001000000"
 
 # The states of two workqueues.
 NEW = "next 0 / lane 0 runs - waits - pending / lane 1 runs - waits - pending"
@@ -28,11 +31,19 @@ JUDGEMENTS = [
         ((QUEUE + START + WAIT + OVER + FINISH)[:-2], f"refused 75 at 5 / {RUNS}"),
         ("010100000000010000000000" + START + WAIT + OVER + FINISH, f"refused 75 at 1 / {NEW}"),
         (QUEUE + START + "040101000100000001000000" + OVER + FINISH, f"refused 76 at 3 / {RUNS}"),
+        (QUEUE + START + WAIT + OVER, f"legal 4 / {RUNS}"),
         (QUEUE + START + WAIT + FINISH, f"refused 76 at 4 / {WAITS}"),
         (START, f"refused 76 at 1 / {NEW}"),
         ("020002000000000000000000", f"refused 76 at 1 / {NEW}"),
         ("", f"legal 0 / {NEW}"),
         (QUEUE, f"legal 1 / {PENDING}"),
+        # A caller who asks, and is told: twice, of an ask with another mark or without `yes`, or while
+        # the entry is pending.
+        (QUEUE + ASK + CANCEL + TOLD, f"legal 4 / {DONE}"),
+        (QUEUE + ASK + CANCEL + TOLD + TOLD, f"refused 76 at 5 / {DONE}"),
+        (QUEUE + "070100000000000000000000" + CANCEL + TOLD, f"refused 76 at 2 / {PENDING}"),
+        (QUEUE + "070000000000000001000000" + CANCEL + TOLD, f"refused 76 at 2 / {PENDING}"),
+        (QUEUE + ASK + TOLD, f"refused 76 at 3 / {PENDING}"),
         # A faulty row before one that is none.
         (START + "00", f"refused 76 at 1 / {NEW}"),
         (QUEUE + "00" + START[2:], f"refused 75 at 2 / {PENDING}"),

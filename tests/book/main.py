@@ -5,26 +5,14 @@
 # Each row is texts and the answer to them: `PROGRAM book` or `check` must print just that, with the
 # exit status that goes with it, and nothing to standard error. It takes a few seconds.
 
-import collections
-import os
-import subprocess
+import pathlib
 import sys
-import tempfile
 
 sys.dont_write_bytecode = True
+sys.path.append(str(pathlib.Path(__file__).resolve().parent.parent))
 import calls  # noqa: E402  (beside this file)
 import judgements  # noqa: E402
-
-SECONDS_PER_RUN = 60
-
-Case = collections.namedtuple("Case", "table arguments texts answer status")
-
-
-def text_of(row):
-    """The bytes of a text as the tables write it: bytes, or lines that ` / ` parts."""
-    if isinstance(row, bytes):
-        return row
-    return b"".join(line.encode("latin-1") + b"\n" for line in row.split(" / ")) if row else b""
+from tables import Case, run_cases, text_of  # noqa: E402  (in the folder above)
 
 
 def status_of(answer):
@@ -59,10 +47,11 @@ def table_cases():
             wanted = text_of(answer)
             yield Case("histories", ["check", 0, 1, 2], texts, wanted, status_of(wanted))
     # What a book writes is a legal history.
+    table = "rows of books that are judged"
     for declaration, assignment, _, _, written in calls.BOOKS:
         texts = [text_of(declaration), text_of(assignment), text_of(" / ".join(written))]
         wanted = b"legal %d\n" % len(written)
-        yield Case("rows of books that are judged", ["check", 0, 1, 2], texts, wanted, 0)
+        yield Case(table, ["check", 0, 1, 2], texts, wanted, 0, first_line=True)
     # HEX may have 8,388,608 bytes.
     for count, answer in [(8_388_608, b"legal 0\nnext 0\n"), (8_388_609, b"mistake\n")]:
         texts = [b"", b"", b" " * count]
@@ -73,57 +62,13 @@ def table_cases():
         ["book", 0, 0, "4294967296", 0], ["book", 0, 0, "1", 0, 0], ["check", 0, 0],
         ["check", 0, 0, 0, 0], ["judge", 0, 0, 0],
     ]:
-        yield Case("command lines", arguments, [b""], b"", 2)
+        yield Case("command lines", arguments, [b""], b"", 2, complains=True)
     for arguments in [["book", 0, 0, "1", "nowhere"], ["check", "nowhere", 0, 0]]:
-        yield Case("faults", arguments, [b""], b"", 3)
-
-
-def failure(program, folder, given):
-    """None where the program answers a case as it should, or what differs."""
-    places = [os.path.join(folder, str(at)) for at in range(len(given.texts))]
-    for place, text in zip(places, given.texts):
-        with open(place, "wb") as file:
-            file.write(text)
-    words = [places[word] if isinstance(word, int) else word for word in given.arguments]
-    run = subprocess.run(
-        [program, *words], cwd=folder, stdin=subprocess.DEVNULL, capture_output=True,
-        timeout=SECONDS_PER_RUN,
-    )
-    printed = run.stdout
-    if given.table == "rows of books that are judged":
-        printed = printed.partition(b"\n")[0] + b"\n"
-    says = given.table in ("command lines", "faults")
-    if (run.returncode, printed) == (given.status, given.answer) and bool(run.stderr) == says:
-        return None
-    printed = f"status {run.returncode}, {short(printed)}, standard error {short(run.stderr)}"
-    return f"{printed}; wanted status {given.status}, {short(given.answer)}"
-
-
-def short(text):
-    return repr(text) if len(text) <= 400 else f"{text[:400]!r}.. ({len(text)} bytes)"
+        yield Case("faults", arguments, [b""], b"", 3, complains=True)
 
 
 def main(arguments):
-    if len(arguments) != 1 or not os.access(arguments[0], os.X_OK) or os.path.isdir(arguments[0]):
-        print(f"book: there is nothing to run at {' '.join(arguments)}")
-        return 1
-    program = os.path.realpath(arguments[0])
-    passed = collections.Counter()
-    failed = collections.Counter()
-    with tempfile.TemporaryDirectory(prefix="book_") as folder:
-        for given in table_cases():
-            why = failure(program, folder, given)
-            (failed if why else passed)[given.table] += 1
-            if why:
-                texts = ", ".join(short(text) for text in given.texts)
-                print(f"FAILED  {given.table}: {given.arguments} {texts}: {why}")
-    for table in passed | failed:
-        if failed[table]:
-            print(f"FAILED  {table}: {failed[table]} of {failed[table] + passed[table]} rows")
-        else:
-            print(f"ok      {table}: {passed[table]} rows")
-    print(f"book: {sum(passed.values())} passed, {sum(failed.values())} failed")
-    return 1 if failed else 0
+    return run_cases("book", arguments, list(table_cases()))
 
 
 if __name__ == "__main__":

@@ -22,6 +22,7 @@ sys.dont_write_bytecode = True
 import book  # noqa: E402  (beside this file)
 import make_books  # noqa: E402
 from book import EVENTS, WITH_LANE, Row, packed, unpacked  # noqa: E402
+from command_line import seed_and_counts  # noqa: E402
 from deadlock import circle_of  # noqa: E402
 
 DEFAULT_SEED = "1"
@@ -253,12 +254,11 @@ def look_at_walk(seed, number):
 
 
 def main(arguments):
-    if len(arguments) > 3 or not all(word.isdecimal() for word in arguments[1:]):
+    found = seed_and_counts(arguments, DEFAULT_SEED, DEFAULT_DECLARATIONS, DEFAULT_WALKS)
+    if not found:
         print("usage: book_properties.py [SEED] [DECLARATIONS] [WALKS]", file=sys.stderr)
         return 2
-    seed = arguments[0] if arguments else DEFAULT_SEED
-    small = int(arguments[1]) if len(arguments) > 1 else DEFAULT_DECLARATIONS
-    walks = int(arguments[2]) if len(arguments) > 2 else DEFAULT_WALKS
+    seed, small, walks = found
     looked = 0
     for look, count in ((look_at_small, small), (look_at_walk, walks)):
         for number in range(count):

@@ -37,6 +37,7 @@ import make_certificates  # noqa: E402
 import make_declarations  # noqa: E402
 import plan  # noqa: E402
 import replay  # noqa: E402
+from command_line import seed_and_counts  # noqa: E402
 from declaration import read_declaration  # noqa: E402
 
 DEFAULT_SEED = "1"
@@ -272,25 +273,24 @@ def show_counts(command, kinds, stood):
 
 
 def options(arguments):
-    """The arguments without `--only`, and the commands that the program is asked for."""
+    """The program, the seed, how many random cases, and the commands that the program is asked for."""
     arguments, asked = list(arguments), list(COMMANDS)
     while "--only" in arguments[:-1]:
         at = arguments.index("--only")
         asked = [] if arguments[at + 1] == "none" else arguments[at + 1].split(",")
         del arguments[at:at + 2]
-    right = 1 <= len(arguments) <= 3 and all(word.isdecimal() for word in arguments[2:])
-    right = right and not any(word.startswith("--") for word in arguments)
-    return (arguments, asked) if right and set(asked) <= set(COMMANDS) else (None, None)
+    found = seed_and_counts(arguments[1:], DEFAULT_SEED, DEFAULT_CASES)
+    right = arguments and found and not any(word.startswith("--") for word in arguments)
+    return [arguments[0], *found, asked] if right and set(asked) <= set(COMMANDS) else None
 
 
 def main(arguments):
-    arguments, asked = options(arguments)
-    if arguments is None:
+    found = options(arguments)
+    if not found:
         print("usage: compare.py PROGRAM [SEED] [CASES] [--only COMMAND,..]", file=sys.stderr)
         return 2
-    program = os.path.realpath(arguments[0])
-    seed = arguments[1] if len(arguments) > 1 else DEFAULT_SEED
-    random_count = int(arguments[2]) if len(arguments) > 2 else DEFAULT_CASES
+    program, seed, random_count, asked = found
+    program = os.path.realpath(program)
     if asked and (not os.access(program, os.X_OK) or os.path.isdir(program)):
         print(f"model: there is nothing to run at {program}")
         return 1

@@ -25,6 +25,7 @@ sys.dont_write_bytecode = True
 import book  # noqa: E402  (beside this file)
 import book_examples  # noqa: E402
 import make_books  # noqa: E402
+from command_line import seed_and_counts  # noqa: E402
 from make_books import kind_of  # noqa: E402
 
 DEFAULT_SEED = "1"
@@ -408,15 +409,13 @@ def main(arguments):
         at = arguments.index("--only")
         only = arguments[at + 1]
         del arguments[at:at + 2]
-    numbers = arguments[2:] + ([] if only is None else [only])
-    if not 1 <= len(arguments) <= 4 or not all(word.isdecimal() for word in numbers):
+    found = seed_and_counts(arguments[1:], DEFAULT_SEED, DEFAULT_SEQUENCES, DEFAULT_HISTORIES)
+    if not arguments or not found or not (only is None or only.isdecimal()):
         print("usage: drive_books.py PROGRAM [SEED] [SEQUENCES] [HISTORIES] [--only CASE]",
               file=sys.stderr)
         return 2
     program = None if arguments[0] == "none" else os.path.realpath(arguments[0])
-    seed = arguments[1] if len(arguments) > 1 else DEFAULT_SEED
-    sequences = int(arguments[2]) if len(arguments) > 2 else DEFAULT_SEQUENCES
-    histories = int(arguments[3]) if len(arguments) > 3 else DEFAULT_HISTORIES
+    seed, sequences, histories = found
     if program and (not os.access(program, os.X_OK) or os.path.isdir(program)):
         print(f"books: there is nothing to run at {program}")
         return 1

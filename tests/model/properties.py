@@ -24,6 +24,7 @@ import make_declarations  # noqa: E402
 import plan  # noqa: E402
 import replay  # noqa: E402
 import search  # noqa: E402
+from command_line import seed_and_counts  # noqa: E402
 from declaration import Refused, read_declaration  # noqa: E402
 from steps import State  # noqa: E402
 
@@ -537,11 +538,11 @@ def look_at_searches(seed, walks, declarations):
 
 
 def main(arguments):
-    if len(arguments) > 2 or not all(word.isdecimal() for word in arguments[1:]):
+    found = seed_and_counts(arguments, DEFAULT_SEED, DEFAULT_CASES)
+    if not found:
         print("usage: properties.py [SEED] [CASES]", file=sys.stderr)
         return 2
-    seed = arguments[0] if arguments else DEFAULT_SEED
-    count = int(arguments[1]) if len(arguments) > 1 else DEFAULT_CASES
+    seed, count = found
     parts = [
         ("plan", look_at_plan, lambda *case: [make_declarations.random_case(*case)]),
         ("check", look_at_check, make_certificates.random_check_case),

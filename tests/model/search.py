@@ -17,6 +17,7 @@ import tempfile
 sys.dont_write_bytecode = True
 import compare  # noqa: E402  (beside this file)
 from certificate import read_run  # noqa: E402
+from command_line import seed_and_counts  # noqa: E402
 from declaration import Refused, read_declaration  # noqa: E402
 from make_declarations import join  # noqa: E402
 
@@ -290,11 +291,11 @@ def ask_model(command, texts):
 
 
 def main(arguments):
-    if not 1 <= len(arguments) <= 3 or not all(word.isdecimal() for word in arguments[2:]):
+    found = seed_and_counts(arguments[1:], DEFAULT_SEED, DEFAULT_DECLARATIONS)
+    if not arguments or not found:
         print("usage: search.py PROGRAM [SEED] [DECLARATIONS]", file=sys.stderr)
         return 2
-    seed = arguments[1] if len(arguments) > 1 else DEFAULT_SEED
-    count = int(arguments[2]) if len(arguments) > 2 else DEFAULT_DECLARATIONS
+    seed, count = found
     program = os.path.realpath(arguments[0])
     if arguments[0] != "-" and (not os.access(program, os.X_OK) or os.path.isdir(program)):
         print(f"search: there is nothing to run at {program}")

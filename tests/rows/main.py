@@ -7,23 +7,18 @@
 # must be true, too: a plan or a circle is then given to `check`, and a run to `replay`. It takes a
 # few seconds.
 
-import collections
-import concurrent.futures
-import os
-import subprocess
+import pathlib
 import sys
-import tempfile
 
 sys.dont_write_bytecode = True
+sys.path.append(str(pathlib.Path(__file__).resolve().parent.parent))
 import checks  # noqa: E402  (beside this file)
 import deadlocks  # noqa: E402
 import limits  # noqa: E402
 import plans  # noqa: E402
 import prefixes  # noqa: E402
 import replays  # noqa: E402
-
-WORKERS = 2
-SECONDS_PER_RUN = 60
+from tables import Case, run_cases, text_of  # noqa: E402  (in the folder above)
 
 # "Faults and exit statuses": the status that goes with the first word of an answer.
 STATUS = {
@@ -32,18 +27,12 @@ STATUS = {
     "refused": 2,
 }
 
-Case = collections.namedtuple("Case", "table command texts answer")
-
-
-def text_of(row):
-    """The bytes of a text as the tables write it: bytes, or lines that ` / ` parts."""
-    if isinstance(row, bytes):
-        return row
-    return b"".join(line.encode("latin-1") + b"\n" for line in row.split(" / ")) if row else b""
-
 
 def case(table, command, texts, answer):
-    return Case(table, command, [text_of(text) for text in texts], text_of(answer))
+    answer = text_of(answer)
+    status = STATUS[answer.split(maxsplit=1)[0].decode()]
+    texts = [text_of(text) for text in texts]
+    return Case(table, [command, *range(len(texts))], texts, answer, status)
 
 
 def table_cases():
@@ -108,7 +97,8 @@ def own_workqueues(declaration):
 
 def follow_ups(cases):
     """What must be said of the plans, the circles and the runs that are printed."""
-    for _, command, texts, answer in cases:
+    for given in cases:
+        texts, answer = given.texts, given.answer
         word, *rest = answer.split(maxsplit=2)
         if word == b"plan":
             yield case("plans that are checked", "check", [texts[0], answer], b"yes %s\n" % rest[0])
@@ -122,58 +112,9 @@ def follow_ups(cases):
             yield case("runs that are replayed", "replay", texts + [answer], "deadlock")
 
 
-def failure(program, folder, number, given):
-    """None where the program answers a case as it should, or what differs."""
-    places = [os.path.join(folder, f"{number}.{at}") for at in range(len(given.texts))]
-    for place, text in zip(places, given.texts):
-        with open(place, "wb") as file:
-            file.write(text)
-    try:
-        run = subprocess.run(
-            [program, given.command, *places],
-            stdin=subprocess.DEVNULL, capture_output=True, timeout=SECONDS_PER_RUN,
-        )
-    except subprocess.TimeoutExpired:
-        return "it took too long"
-    finally:
-        for place in places:
-            os.remove(place)
-    status = STATUS[given.answer.split(maxsplit=1)[0].decode()]
-    if (run.returncode, run.stdout, run.stderr) == (status, given.answer, b""):
-        return None
-    printed = f"status {run.returncode}, {short(run.stdout)}, standard error {short(run.stderr)}"
-    return f"{printed}; wanted status {status}, {short(given.answer)}"
-
-
-def short(text):
-    return repr(text) if len(text) <= 400 else f"{text[:400]!r}.. ({len(text)} bytes)"
-
-
 def main(arguments):
-    if len(arguments) != 1 or not os.access(arguments[0], os.X_OK) or os.path.isdir(arguments[0]):
-        print(f"rows: there is nothing to run at {' '.join(arguments)}")
-        return 1
-    program = os.path.realpath(arguments[0])
     cases = list(table_cases())
-    cases += follow_ups(cases)
-    passed = collections.Counter()
-    failed = collections.Counter()
-    with tempfile.TemporaryDirectory(prefix="rows_") as folder:
-        pool = concurrent.futures.ThreadPoolExecutor(WORKERS)
-        numbers = range(len(cases))
-        failures = pool.map(lambda number: failure(program, folder, number, cases[number]), numbers)
-        for given, why in zip(cases, failures):
-            (failed if why else passed)[given.table] += 1
-            if why:
-                texts = ", ".join(short(text) for text in given.texts)
-                print(f"FAILED  {given.table}: {given.command} {texts}: {why}")
-    for table in dict.fromkeys(given.table for given in cases):
-        if failed[table]:
-            print(f"FAILED  {table}: {failed[table]} of {failed[table] + passed[table]} rows")
-        else:
-            print(f"ok      {table}: {passed[table]} rows")
-    print(f"rows: {sum(passed.values())} passed, {sum(failed.values())} failed")
-    return 1 if failed else 0
+    return run_cases("rows", arguments, cases + list(follow_ups(cases)))
 
 
 if __name__ == "__main__":

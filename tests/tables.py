@@ -1,0 +1,93 @@
+# Gives a program the cases that tables of texts and answers make, and compares what it prints: for
+# tests/rows and tests/book.
+
+import collections
+import concurrent.futures
+import dataclasses
+import os
+import subprocess
+import tempfile
+
+WORKERS = 2
+SECONDS_PER_RUN = 60
+
+
+@dataclasses.dataclass
+class Case:
+    """A call of the program, and its answer.
+
+    A number among the arguments stands for the file that holds the text of this number.
+    """
+
+    table: str
+    arguments: list
+    texts: list
+    answer: bytes
+    status: int
+    first_line: bool = False  # only the first line that is printed is compared
+    complains: bool = False  # something goes to standard error, and else nothing
+
+
+def text_of(row):
+    """The bytes of a text as the tables write it: bytes, or lines that ` / ` parts."""
+    if isinstance(row, bytes):
+        return row
+    return b"".join(line.encode("latin-1") + b"\n" for line in row.split(" / ")) if row else b""
+
+
+def short(text):
+    return repr(text) if len(text) <= 400 else f"{text[:400]!r}.. ({len(text)} bytes)"
+
+
+def failure(program, folder, number, given):
+    """None where the program answers a case as it should, or what differs."""
+    places = [os.path.join(folder, f"{number}.{at}") for at in range(len(given.texts))]
+    for place, text in zip(places, given.texts):
+        with open(place, "wb") as file:
+            file.write(text)
+    words = [places[word] if isinstance(word, int) else word for word in given.arguments]
+    try:
+        run = subprocess.run(
+            [program, *words], cwd=folder, stdin=subprocess.DEVNULL, capture_output=True,
+            timeout=SECONDS_PER_RUN,
+        )
+    except subprocess.TimeoutExpired:
+        return "it took too long"
+    finally:
+        for place in places:
+            os.remove(place)
+    printed = run.stdout.partition(b"\n")[0] + b"\n" if given.first_line else run.stdout
+    if ((run.returncode, printed) == (given.status, given.answer)
+            and bool(run.stderr) == given.complains):
+        return None
+    printed = f"status {run.returncode}, {short(printed)}, standard error {short(run.stderr)}"
+    return f"{printed}; wanted status {given.status}, {short(given.answer)}"
+
+
+def run_cases(name, arguments, cases):
+    """Gives the cases to the program that is the one argument, and gives the exit status.
+
+    It prints the cases that fail, and a line for each table.
+    """
+    if len(arguments) != 1 or not os.access(arguments[0], os.X_OK) or os.path.isdir(arguments[0]):
+        print(f"{name}: there is nothing to run at {' '.join(arguments)}")
+        return 1
+    program = os.path.realpath(arguments[0])
+    passed = collections.Counter()
+    failed = collections.Counter()
+    with tempfile.TemporaryDirectory(prefix=f"{name}_") as folder:
+        pool = concurrent.futures.ThreadPoolExecutor(WORKERS)
+        numbers = range(len(cases))
+        failures = pool.map(lambda number: failure(program, folder, number, cases[number]), numbers)
+        for given, why in zip(cases, failures):
+            (failed if why else passed)[given.table] += 1
+            if why:
+                texts = ", ".join(short(text) for text in given.texts)
+                print(f"FAILED  {given.table}: {given.arguments} {texts}: {why}")
+    for table in dict.fromkeys(given.table for given in cases):
+        if failed[table]:
+            print(f"FAILED  {table}: {failed[table]} of {failed[table] + passed[table]} rows")
+        else:
+            print(f"ok      {table}: {passed[table]} rows")
+    print(f"{name}: {sum(passed.values())} passed, {sum(failed.values())} failed")
+    return 1 if failed else 0
