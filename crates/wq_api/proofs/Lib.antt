@@ -1,0 +1,5 @@
+pub mod RankedLanes
+pub mod Locking
+pub mod Refused
+pub mod CallsRefused
+pub mod Closings

@@ -1,0 +1,165 @@
+//! Why a call of a runtime is refused.
+//!
+//! The numbers are those of "Histories" and "Runtimes" in docs/FORMAT.md. Every call takes constant time.
+
+ghost use Rattle.std.specs.Prelude.{◌≡◌, Some};
+ghost use Rattle.wq_history.specs.declared.fault.BookError.TheVariants.{OutOfMemory as BookOutOfMemory, TooManyRows as BookTooManyRows};
+ghost use Rattle.wq_api.specs.Refusals.{call_error, call_code, new_code, seat_code, close_code, IsOfCall};
+ghost use Rattle.wq_api.specs.declared.fault.NewError.TheVariants.{OutOfMemory};
+ghost use Rattle.wq_api.specs.declared.fault.SeatError.TheVariants.{OutOfMemory as SeatOutOfMemory};
+
+use std::alloc::AllocError;
+use thiserror::Error;
+use wq_history::BookError;
+
+/// Why no runtime is made: the first cause that holds.
+#[derive(Clone, Copy, Debug, PartialEq, Eq, Error)]
+pub enum NewError {
+    /// More than 256 lanes (69).
+    #[error("more workqueues than a runtime may have")]
+    TooManyLanes,
+    /// More than 16,777,216 rows (68).
+    #[error("more rows than a history may have")]
+    TooManyRows,
+    /// The assignment isn't safe: some run ends stuck (67).
+    #[error("the assignment can deadlock")]
+    NotSafe,
+    /// Memory ran out (20).
+    #[error("out of memory")]
+    OutOfMemory,
+}
+
+impl NewError {
+    /// The number of the refusal: 20, 67, 68 or 69.
+    pub fn code(self) -> u32
+        ensures { result ≡ new_code self }
+    {
+        match self {
+            NewError::OutOfMemory => 20,
+            NewError::NotSafe => 67,
+            NewError::TooManyRows => 68,
+            NewError::TooManyLanes => 69,
+        }
+    }
+}
+
+impl From<AllocError> for NewError {
+    ghost from_gives = { λ _ e. e ≡ OutOfMemory };
+
+    fn from(_e: AllocError) -> NewError {
+        NewError::OutOfMemory
+    }
+}
+
+/// Why no seat is made.
+#[derive(Clone, Copy, Debug, PartialEq, Eq, Error)]
+pub enum SeatError {
+    /// The runtime has made 65,535 seats (70).
+    #[error("more seats than a runtime may make")]
+    TooManySeats,
+    /// Memory ran out (20).
+    #[error("out of memory")]
+    OutOfMemory,
+}
+
+impl SeatError {
+    /// The number of the refusal: 20 or 70.
+    pub fn code(self) -> u32
+        ensures { result ≡ seat_code self }
+    {
+        match self {
+            SeatError::OutOfMemory => 20,
+            SeatError::TooManySeats => 70,
+        }
+    }
+}
+
+impl From<AllocError> for SeatError {
+    ghost from_gives = { λ _ e. e ≡ SeatOutOfMemory };
+
+    fn from(_e: AllocError) -> SeatError {
+        SeatError::OutOfMemory
+    }
+}
+
+/// Why a call of a runtime is refused: the first cause that holds.
+#[derive(Clone, Copy, Debug, PartialEq, Eq, Error)]
+pub enum CallError {
+    /// Fewer rows are free than the call needs, or its seat has counted 33,554,432 rows or more (60).
+    #[error("the history is full")]
+    HistoryFull,
+    /// The runtime is closed: nothing is queued any more (61).
+    #[error("the runtime is closed")]
+    Closed,
+    /// The running item declares no flush of the item (62).
+    #[error("the item declares no such flush")]
+    Undeclared,
+    /// The running item has made as many waits as it declares flushes (63).
+    #[error("the item has made all its waits")]
+    TooManyWaits,
+    /// No such lane, the item belongs to another, or the lane can't make this step (64).
+    #[error("the lane can't do this")]
+    WrongLane,
+    /// No ask of the item waits (65). A call tells only the ask that it made itself.
+    #[error("no caller waits for the item")]
+    NotAsked,
+    /// No such item (66).
+    #[error("no such item")]
+    NoItem,
+}
+
+impl CallError {
+    /// The number of the refusal: 60 to 66.
+    pub fn code(self) -> u32
+        ensures { result ≡ call_code self }
+    {
+        match self {
+            CallError::HistoryFull => 60,
+            CallError::Closed => 61,
+            CallError::Undeclared => 62,
+            CallError::TooManyWaits => 63,
+            CallError::WrongLane => 64,
+            CallError::NotAsked => 65,
+            CallError::NoItem => 66,
+        }
+    }
+
+    /// The refusal of a book's call, where it isn't one of making a book.
+    pub(crate) fn of(e: BookError) -> CallError
+        requires { IsOfCall e }
+        ensures { call_error e ≡ Some result }
+    {
+        match e {
+            BookError::HistoryFull => CallError::HistoryFull,
+            BookError::Closed => CallError::Closed,
+            BookError::Undeclared => CallError::Undeclared,
+            BookError::TooManyWaits => CallError::TooManyWaits,
+            BookError::WrongLane => CallError::WrongLane,
+            BookError::NoItem => CallError::NoItem,
+            BookError::TooManyRows | BookError::OutOfMemory => unreachable!(),
+        }
+    }
+}
+
+/// Why a runtime can't be closed yet: the first cause that holds.
+#[derive(Clone, Copy, Debug, PartialEq, Eq, Error)]
+pub enum CloseWhy {
+    /// An entry is pending or running, or a caller waits (71).
+    #[error("work is unfinished")]
+    NotIdle,
+    /// Not as many seats were handed in as were made (72).
+    #[error("seats are missing")]
+    SeatsMissing,
+}
+
+impl CloseWhy {
+    /// The number of the refusal: 71 or 72.
+    pub fn code(self) -> u32
+        ensures { result ≡ close_code self }
+    {
+        match self {
+            CloseWhy::NotIdle => 71,
+            CloseWhy::SeatsMissing => 72,
+        }
+    }
+}

@@ -1,0 +1,44 @@
+//! Whether an assignment is safe: no run of it ends stuck.
+//!
+//! The rule is that of Documentation/core-api/workqueue.rst, "Guidelines": work items that are used during reclaim and
+//! depend on one another belong on separate workqueues with WQ_MEM_RECLAIM. Where the lanes have ranks that fall along
+//! every declared flush, a chain of lanes can always move at its end; where lanes wait in a circle, some run ends
+//! stuck. This is asked once, when a runtime is made, and makes no run and no machine. The time is that of the wait
+//! graph of the lanes, in the items, the lanes and the flushes, and that of its ranks, at most the lanes times the
+//! lanes and flushes.
+
+ghost use Rattle.std.specs.Prelude.{◌≡◌, ◌<◌, ◌↔◌, length, IfOk, OnErr, IsTrue};
+ghost use Rattle.wq_groups.specs.Declaration.{declaration_of};
+ghost use Rattle.wq_core.specs.Wiring.{wiring};
+ghost use Rattle.wq_core.specs.Deadlock.{IsSafe};
+
+use std::alloc::{AllocError, Allocator};
+use wq_graph::WaitGraph;
+use wq_groups::{Assignment, Groups};
+use wq_items::ItemTable;
+use wq_levels::{Ranked, rank};
+
+/// Whether an assignment is safe, of a table's items. The groups are those of this table, and the assignment has a lane
+/// for each of them.
+///
+/// The only error is out of memory (20). Without a lane nothing grows.
+pub fn is_safe<A: Allocator + Copy>(
+    alloc: A,
+    table: &ItemTable<'_, A>,
+    groups: &Groups<A>,
+    assignment: &Assignment<A>,
+) -> Result<bool, AllocError>
+    requires grouped { length groups.now.group_of ≡ length table.now.names }
+    requires assigned { length assignment.now.lane_of_group ≡ groups.now.groups }
+    ensures safe { IfOk result (λ safe. IsTrue safe ↔ IsSafe (wiring (declaration_of table.now groups.now) assignment.now)) }
+    ensures memory { OnErr result (0 < assignment.now.lanes) }
+{
+    // Each group has a member.
+    prove!(groups.len() <= table.len());
+    prove!(assignment.lanes() <= 4096);
+    let graph = WaitGraph::of_lanes(alloc, table, groups, assignment)?;
+    match rank(alloc, &graph)? {
+        Ranked::Ranks(_) => Ok(true),
+        Ranked::Circle(_) => Ok(false),
+    }
+}
