@@ -77,9 +77,6 @@ get_or-same n p k = elim (cases_lt p n) [
   | inr past ↦ get_or_past (replicate n k) p k (omega (arith, length-replicate n k, past))
 ]
 
-sum-zeros : (n : ℕ) → sum (replicate n 0) ≡ 0
-sum-zeros n = sum_by-replicate (λ (k : ℕ). k) n 0 ∙ omega arith
-
 -- none is taken in
 pub IsGathered-none : (n parts total : ℕ) (all : List (List ℕ)) (sums : List ℕ) (parts_in amount_in seats_left : ℕ)
     → sums ≡ replicate (14 * n) 0 → parts_in + seats_left ≡ parts → amount_in ≡ 0
@@ -88,7 +85,7 @@ IsGathered-none n parts total all sums parts_in amount_in seats_left empty parts
   sums_are = λ i kind said. let zeros : made sums i kind said ≡ 0 = ap (λ (xs : List ℕ). get_or xs (place i kind said) 0) empty ∙ get_or-same (14 * n) (place i kind said) 0 in omega (arith, zeros);
   a_count_each = ap length empty ∙ length-replicate (14 * n) 0;
   parts_are = parts_are;
-  amount_is = none ∙ sym (ap sum empty ∙ sum-zeros (14 * n));
+  amount_is = none ∙ sym (ap sum empty ∙ sum-replicate_zero (14 * n));
   total_is = refl;
 }
 

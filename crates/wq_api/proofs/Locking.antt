@@ -27,7 +27,7 @@ use Rattle.wq_history.proofs.KeptRows.{exist}
 use Rattle.wq_api.specs.Locked.{IsHeld, Holds, RunsItem, WaitsFor, AnswersOverOf}
 
 -- a sum of nothing but 0
-sum-replicate_zero : (n : ℕ) → sum (replicate n 0) ≡ 0
+pub sum-replicate_zero : (n : ℕ) → sum (replicate n 0) ≡ 0
 sum-replicate_zero n = sum_by-replicate (λ (k : ℕ). k) n 0 ∙ omega arith
 
 -- the tallies are few: no more than a history may have rows
@@ -80,29 +80,6 @@ pub IsHeld-counted : (w : Wiring) (rows parts : ℕ) (b new : BookView) (tallies
 IsHeld-counted w rows parts b new tallies sums seats left amount event said n kind counts counts_are held appends is within =
     subst (λ ts. IsHeld w rows parts new ts sums seats left amount) (sym counts_are) (IsHeld-raised w rows parts b new tallies sums seats left amount event said n kind held appends is within)
 
--- a row is appended that isn't counted
-pub IsHeld-not_counted : (w : Wiring) (rows parts : ℕ) (b new : BookView) (tallies sums : List ℕ) (seats left amount : ℕ) (event : Event) (said : Bool) (n : ℕ)
-    → IsHeld w rows parts b tallies sums seats left amount → Appends b new event said n → kind_in event ≡ None
-    → IsHeld w rows parts new tallies sums seats left amount
-IsHeld-not_counted w rows parts b new tallies sums seats left amount event said n held appends is =
-    let row : Row = record { event = event; yes = said; number = n } in
-    let rows_are : new.rows ≡ b.rows ++ (row ∷ []) = ap (λ (x : BookView). x.rows) appends.is_new in
-    let more : counted_rows (b.rows ++ (row ∷ [])) ≡ counted_rows b.rows + 0 = counted_rows-more b.rows row ∙ ap (λ c. counted_rows b.rows + cond c 1 0) (is_counted-none event is) in
-    record {
-      of_wiring = ap (λ (x : BookView). x.wiring) appends.is_new ∙ held.of_wiring;
-      of_rows = ap (λ (x : BookView). x.room) appends.is_new ∙ held.of_rows;
-      few_lanes = held.few_lanes;
-      safe = held.safe;
-      a_count_each = held.a_count_each;
-      tallied = subst (λ rs. AreTallies (items w) rs tallies) (sym rows_are) (AreTallies-not_counted (items w) b.rows row tallies is held.tallied);
-      counted = omega (arith, held.counted, more, ap counted_rows rows_are);
-      no_sums = held.no_sums;
-      all_parts = held.all_parts;
-      parts_given = held.parts_given;
-      a_part_left = held.a_part_left;
-      no_amount_left = held.no_amount_left;
-    }
-
 -- a runtime on which nothing has happened
 pub IsHeld-first : (w : Wiring) (rows parts : ℕ) (b : BookView) (tallies sums : List ℕ) (left amount : ℕ) → b.wiring ≡ w → b.room ≡ rows → b.rows ≡ []
     → w.lanes ≤ 256 → IsSafe w → parts ≡ 65536 → tallies ≡ replicate (14 * items w) 0 → sums ≡ replicate (14 * items w) 0 → left ≡ parts → amount ≡ 0
@@ -134,14 +111,6 @@ Holds-held w rows parts b tallies sums seats left amount held book =
       safe = held.safe;
       not_stuck = subst (λ (x : Wiring). ¬ IsStuck w (state_after x b.rows)) (sym held.of_wiring) (held.safe (steps_of b.rows) (IsRun-legal w b.rows legal));
     }
-
--- a lane starts what it starts, which isn't counted, or nothing is changed
-pub IsHeld-started : (w : Wiring) (rows parts : ℕ) (b new : BookView) (tallies sums : List ℕ) (seats left amount : ℕ) (q : ℕ) (answer : Option ℕ)
-    → IsHeld w rows parts b tallies sums seats left amount → AnswersStart b new q answer → IsHeld w rows parts new tallies sums seats left amount
-IsHeld-started w rows parts b new tallies sums seats left amount q (Some i) held row =
-    IsHeld-not_counted w rows parts b new tallies sums seats left amount (Start q i) true row.0 held row.1 refl
-IsHeld-started w rows parts b new tallies sums seats left amount q None held row =
-    subst (λ x. IsHeld w rows parts x tallies sums seats left amount) (sym row.1) held
 
 -- a lane waits for one thing
 waits_once : (b : BookView) (q : ℕ) (f g : Waiting) → IsWaiting b q f → IsWaiting b q g → f ≡ g

@@ -52,16 +52,6 @@ kind_in-counted (Finish q i) counted = (FinishKind, refl)
 kind_in-counted (Ask i) counted = (AskKind, refl)
 kind_in-counted (Told i) counted = (ToldKind, refl)
 
-pub kind_in-not_counted : (event : Event) → is_counted event ≡ false → kind_in event ≡ None
-kind_in-not_counted (Queue i) counted = absurd cc
-kind_in-not_counted (Cancel i) counted = absurd cc
-kind_in-not_counted (Start q i) counted = refl
-kind_in-not_counted (Wait q b) counted = absurd cc
-kind_in-not_counted (Over q b) counted = absurd cc
-kind_in-not_counted (Finish q i) counted = absurd cc
-kind_in-not_counted (Ask i) counted = absurd cc
-kind_in-not_counted (Told i) counted = absurd cc
-
 -- ---- of which item and kind a row is, and with which answer
 
 -- a row that is counted is of its own item and kind, with its own answer
@@ -267,9 +257,6 @@ sum-tallies n rows counts has of tallies =
 pub tally-append : (rows more : List Row) (i : ℕ) (kind : Kind) (said : Bool)
     → tally (rows ++ more) i kind said ≡ tally rows i kind said + tally more i kind said
 tally-append rows more i kind said = sum_by-append (λ (r : Row). cond (is_of i kind said r) 1 0) rows more
-
-pub counted_rows-append : (rows more : List Row) → counted_rows (rows ++ more) ≡ counted_rows rows + counted_rows more
-counted_rows-append rows more = sum_by-append (λ (r : Row). cond (is_counted r.event) 1 0) rows more
 
 pub AreTallies-append : (n : ℕ) (rows more : List Row) (a b c : List ℕ) → AreTallies n rows a → AreTallies n more b
     → ((p : ℕ) → get_or c p 0 ≡ get_or a p 0 + get_or b p 0) → AreTallies n (rows ++ more) c
