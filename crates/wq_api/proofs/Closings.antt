@@ -6,7 +6,6 @@ use Rattle.std.specs.List.{sum_by, count_by}
 use Rattle.std.proofs.lemmas.Bool.{cases_lt}
 use Rattle.std.proofs.lemmas.List.{get_or_past, get_or-replicate, length-replicate}
 use Rattle.std.proofs.lemmas.List.Sums.{sum_by-append, sum_by-cons}
-use Rattle.std.proofs.lemmas.List.Folds.{sum_by-replicate}
 use Rattle.wq_items.proofs.Lists.{Contains-first}
 use Rattle.wq_core.specs.declared.entry.Entry.{Entry}
 use Rattle.wq_core.specs.declared.entry.Running.{Running}
@@ -23,6 +22,7 @@ use Rattle.wq_history.specs.Book.{BookView, state, IsBook}
 use Rattle.wq_history.proofs.Counting.{CountsAsks-none, all_asks_waiting-count}
 use Rattle.wq_history.proofs.LegalRows.{AreCounted-legal}
 use Rattle.wq_api.specs.Locked.{IsHeld, IsSeat}
+use Rattle.wq_api.proofs.Locking.{sum-replicate_zero}
 use Rattle.wq_api.specs.Closing.{SumsSeats, Agrees, IsClosed}
 
 -- ---- an entry is unfinished, or none is
