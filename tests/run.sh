@@ -1,7 +1,7 @@
 #!/usr/bin/env bash
 # All tests: the toolchain's gate (proofs, must-fail edits, tests, the stored run), and then the scripts that test
-# what no proof covers. The scripts use the programs that the gate leaves at crates/wqplan/out/wqplan and
-# crates/wq_book/out/wq_book.
+# what no proof covers. The scripts use the programs that the gate leaves at crates/wqplan/out/wqplan,
+# crates/wq_book/out/wq_book and crates/wq_stress/out/wq_stress.
 set -eu
 cd "$(dirname "$0")/.."
 rt ci
@@ -11,6 +11,7 @@ bash tests/outlives.sh
 bash tests/program.sh
 bash tests/rows.sh
 bash tests/book.sh
+bash tests/runtime.sh
 bash tests/examples.sh
 bash tests/guide.sh
 bash tests/explain.sh

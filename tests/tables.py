@@ -1,5 +1,5 @@
 # Gives a program the cases that tables of texts and answers make, and compares what it prints: for
-# tests/rows and tests/book.
+# tests/rows, tests/book and tests/runtime.
 
 import collections
 import concurrent.futures

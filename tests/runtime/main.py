@@ -1,0 +1,120 @@
+# Gives the program the rows of the tables beside this file, and compares what it prints:
+#
+#     main.py PROGRAM
+#
+# Each row is texts and the answer to them: `PROGRAM calls` must print just that, with the exit
+# status that goes with it, and nothing to standard error. Then some short loads: of each
+# `PROGRAM stress` must print the eight lines that no schedule changes. It takes some seconds.
+
+import pathlib
+import sys
+
+sys.dont_write_bytecode = True
+sys.path.append(str(pathlib.Path(__file__).resolve().parent.parent))
+import calls  # noqa: E402  (beside this file)
+from loads import ALWAYS  # noqa: E402
+from tables import Case, run_cases, text_of  # noqa: E402  (in the folder above)
+
+# A chain of as many items as a runtime may have lanes.
+ITEMS = [f"item i{k}" for k in range(256)]
+FLUSHES = [f"flush i{k} i{k - 1}" for k in range(1, 256)]
+CHAIN = (" / ".join(ITEMS + FLUSHES), " / ".join(f"wq {k} i{k}" for k in range(256)))
+
+# A declaration and an assignment, how many rows there are, and how many calls each caller makes.
+LOADS = [
+    (*calls.ONE, 3, 0),
+    (*calls.ONE, 3, 200),
+    (*calls.ONE, 10_000, 500),
+    (*calls.TWO, 5, 200),
+    (*calls.TWO, 1_000, 500),
+    (*calls.TWO, 20_000, 500),
+    # Lanes that serve no item.
+    ("item a / item b / flush b a a a", "wq 0 / wq 1 a / wq 2 b / wq 3", 20_000, 300),
+    # Three items of one lane, which wait for a fourth.
+    ("item a / item b / item c / item d / ordered b c d / flush b a / flush d a a",
+     "wq 0 a / wq 1 b c d", 20_000, 300),
+    (*CHAIN, 60_000, 50),
+]
+
+
+def status_of(answer):
+    """The status that goes with an answer to `calls`."""
+    last = answer.splitlines()[-1].split() if answer else [b""]
+    return 2 if last[0] in (b"mistake", b"refused") else 0
+
+
+def one_thread(table, declaration, assignment, rows, lines, answer):
+    """A run of `calls`. Its arguments are numbers of texts, but for the rows."""
+    texts = [text_of(text) for text in (declaration, assignment, lines)]
+    return Case(table, ["calls", 0, 1, str(rows), 2], texts, answer, status_of(answer))
+
+
+def handed_back(counts, rows):
+    """The lines that are printed of a runtime that is closed."""
+    yield "agree true"
+    for item, kind, answer, count in counts:
+        yield f"made {item} {kind} {answer} {count}"
+    yield f"total {sum(count for *_, count in counts)}"
+    yield f"rows {len(rows)}"
+    yield from rows
+
+
+def many_threads(table, declaration, assignment, rows, seed, each, answer, status):
+    """A run of `stress`."""
+    texts = [text_of(declaration), text_of(assignment)]
+    arguments = ["stress", 0, 1, str(rows), str(seed), str(each)]
+    return Case(table, arguments, texts, text_of(answer), status)
+
+
+def table_cases():
+    """A case for each row of the tables."""
+    for declaration, assignment, rows, made, counts, written in calls.RUNTIMES:
+        lines = " / ".join(line for line, _ in made)
+        printed = [f"{line} {answer}" for line, answer in made]
+        if counts is not None:
+            printed += handed_back(counts, written)
+        answer = text_of(" / ".join(printed))
+        yield one_thread("runtimes", declaration, assignment, rows, lines, answer)
+    for declaration, assignment, rows, lines, answer in calls.TEXTS:
+        yield one_thread("texts of calls", declaration, assignment, rows, lines, text_of(answer))
+    for declaration, assignment, rows, each in LOADS:
+        for seed in (1, 4_294_967_295):
+            always = " / ".join(ALWAYS)
+            yield many_threads("loads", declaration, assignment, rows, seed, each, always, 0)
+    # What is answered before any thread starts: a runtime that isn't made, and a first item that
+    # can't be queued.
+    for declaration, assignment, rows, answer, status in [
+        ("item a", calls.LANES_257, 16_777_217, "refused 69", 2),
+        (*calls.SELF, 16_777_217, "refused 68", 2),
+        (*calls.SELF, 5, "refused 67", 2),
+        ("item a / item a", "nope", 5, "refused 7 line 2", 2),
+        ("item a / item b", "wq 0 a", 5, "refused 41 line 0", 2),
+        (*calls.ONE, 2, "fault queue", 1),
+        (*calls.TWO, 4, "fault queue", 1),
+        ("", "", 5, "fault queue", 1),
+    ]:
+        table = "loads that don't begin"
+        yield many_threads(table, declaration, assignment, rows, 1, 10, answer, status)
+    # A wrong command line prints nothing to standard output; a file that isn't there is a fault.
+    for words in [
+        [], ["calls"], ["calls", 0, 0, "1"], ["calls", 0, 0, "x", 0], ["calls", 0, 0, "01", 0],
+        ["calls", 0, 0, "4294967296", 0], ["calls", 0, 0, "1", 0, 0], ["stress", 0, 0, "1", "1"],
+        ["stress", 0, 0, "1", "1", "x"], ["stress", 0, 0, "1", "x", "1"],
+        ["stress", 0, 0, "x", "1", "1"], ["stress", 0, 0, "1", "1", "4294967296"],
+        ["stress", 0, 0, "1", "1", "1", "count"],
+        ["stress", 0, 0, "1", "1", "1", "counts", "counts"], ["run", 0, 0, "1", 0],
+    ]:
+        yield Case("command lines", words, [b""], b"", 2, complains=True)
+    for words in [
+        ["calls", 0, 0, "1", "nowhere"], ["calls", "nowhere", 0, "1", 0],
+        ["stress", 0, "nowhere", "1", "1", "1"],
+    ]:
+        yield Case("faults", words, [b""], b"", 3, complains=True)
+
+
+def main(arguments):
+    return run_cases("runtime", arguments, list(table_cases()))
+
+
+if __name__ == "__main__":
+    sys.exit(main(sys.argv[1:]))
