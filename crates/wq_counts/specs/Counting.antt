@@ -1,6 +1,6 @@
 -- Counting: how many rows there are of an item, of a kind and with an answer.
 --
--- Every row is counted but those of starts, which no caller makes. A row of a wait, or of its end, counts for the item
+-- Every row is counted but those of starts, which no seat counts. A row of a wait, or of its end, counts for the item
 -- that is waited for.
 use Rattle.std.specs.Prelude.{◌≡◌, ℕ, ◌+◌, ◌*◌, ◌<◌, ◌==◌, ◌&&◌, Option, Some, None, Bool, true, false, List, length, slice_index, slice_set}
 use Rattle.std.specs.List.{All, count_by}

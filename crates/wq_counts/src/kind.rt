@@ -1,4 +1,4 @@
-//! Kinds of rows that are counted: those of all events but starts, which no caller makes.
+//! Kinds of rows that are counted: those of all events but starts, which no seat counts.
 //!
 //! The events are those of wq_rows. Each answer takes constant time.
 
