@@ -5,6 +5,8 @@ import collections
 import concurrent.futures
 import dataclasses
 import os
+import re
+import resource
 import subprocess
 import tempfile
 
@@ -26,6 +28,8 @@ class Case:
     status: int
     first_line: bool = False  # only the first line that is printed is compared
     complains: bool = False  # something goes to standard error, and else nothing
+    memory: int = 0  # how much address space the program gets, where it isn't all there is
+    is_pattern: bool = False  # what is printed begins as the answer, a regular expression, says
 
 
 def text_of(row):
@@ -39,6 +43,13 @@ def short(text):
     return repr(text) if len(text) <= 400 else f"{text[:400]!r}.. ({len(text)} bytes)"
 
 
+def limiter(memory):
+    """What limits the address space of a process to so many bytes, where it is to be limited."""
+    if not memory:
+        return None
+    return lambda: resource.setrlimit(resource.RLIMIT_AS, (memory, memory))
+
+
 def failure(program, folder, number, given):
     """None where the program answers a case as it should, or what differs."""
     places = [os.path.join(folder, f"{number}.{at}") for at in range(len(given.texts))]
@@ -49,7 +60,7 @@ def failure(program, folder, number, given):
     try:
         run = subprocess.run(
             [program, *words], cwd=folder, stdin=subprocess.DEVNULL, capture_output=True,
-            timeout=SECONDS_PER_RUN,
+            timeout=SECONDS_PER_RUN, preexec_fn=limiter(given.memory),
         )
     except subprocess.TimeoutExpired:
         return "it took too long"
@@ -57,8 +68,11 @@ def failure(program, folder, number, given):
         for place in places:
             os.remove(place)
     printed = run.stdout.partition(b"\n")[0] + b"\n" if given.first_line else run.stdout
-    if ((run.returncode, printed) == (given.status, given.answer)
-            and bool(run.stderr) == given.complains):
+    if given.is_pattern:
+        is_right = re.match(given.answer, printed) is not None
+    else:
+        is_right = printed == given.answer
+    if is_right and run.returncode == given.status and bool(run.stderr) == given.complains:
         return None
     printed = f"status {run.returncode}, {short(printed)}, standard error {short(run.stderr)}"
     return f"{printed}; wanted status {given.status}, {short(given.answer)}"

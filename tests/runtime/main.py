@@ -2,8 +2,8 @@
 #
 #     main.py PROGRAM
 #
-# Each row is texts and the answer to them: `PROGRAM calls` must print just that, with the exit
-# status that goes with it, and nothing to standard error. Then some short loads: of each
+# Each row is texts and the answer to them: `PROGRAM calls` and `PROGRAM run` must print just that, with
+# the exit status that goes with it, and nothing to standard error. Then some short loads: of each
 # `PROGRAM stress` must print the eight lines that no schedule changes. It takes some seconds.
 
 import pathlib
@@ -12,6 +12,7 @@ import sys
 sys.dont_write_bytecode = True
 sys.path.append(str(pathlib.Path(__file__).resolve().parent.parent))
 import calls  # noqa: E402  (beside this file)
+import crews  # noqa: E402
 from loads import ALWAYS  # noqa: E402
 from tables import Case, run_cases, text_of  # noqa: E402  (in the folder above)
 
@@ -19,6 +20,9 @@ from tables import Case, run_cases, text_of  # noqa: E402  (in the folder above)
 ITEMS = [f"item i{k}" for k in range(256)]
 FLUSHES = [f"flush i{k} i{k - 1}" for k in range(1, 256)]
 CHAIN = (" / ".join(ITEMS + FLUSHES), " / ".join(f"wq {k} i{k}" for k in range(256)))
+
+# Address space for the program and for some of the threads of a chain's lanes, in bytes.
+SOME_THREADS = 256 << 20
 
 # A declaration and an assignment, how many rows there are, and how many calls each caller makes.
 LOADS = [
@@ -77,6 +81,31 @@ def table_cases():
         yield one_thread("runtimes", declaration, assignment, rows, lines, answer)
     for declaration, assignment, rows, lines, answer in calls.TEXTS:
         yield one_thread("texts of calls", declaration, assignment, rows, lines, text_of(answer))
+    for declaration, assignment, rows, deeds, answer, status in crews.CREWS:
+        texts = [text_of(text) for text in (declaration, assignment, deeds)]
+        yield Case("crews", ["run", 0, 1, str(rows), 2], texts, text_of(answer), status)
+    for declaration, assignment, rows, deeds, answer in crews.MEETINGS:
+        texts = [text_of(text) for text in (declaration, assignment, deeds)]
+        pattern = answer.replace(" / ", "\n").encode("latin-1")
+        yield Case("meetings", ["run", 0, 1, str(rows), 2], texts, pattern, 0, is_pattern=True)
+    for declaration, assignment, rows, pattern in crews.SCRIPTS:
+        texts = [text_of(text) for text in (declaration, assignment)]
+        yield Case("scripts", ["script", 0, 1, str(rows)], texts, pattern.encode("latin-1"), 0, is_pattern=True)
+    for declaration, assignment, rows, answer, status in [
+        (*crews.ONE, 16_777_217, "refused 68", 2),
+        ("item a / flush a a", "wq 0 a", 10, "refused 67", 2),
+    ]:
+        texts = [text_of(text) for text in (declaration, assignment)]
+        yield Case("scripts", ["script", 0, 1, str(rows)], texts, text_of(answer), status)
+    # Not as many threads can be made as there are lanes and callers. All is handed back but what the first
+    # thread took that couldn't be made, and the process ends.
+    for deeds, answer in [
+        (" / ".join(["body"] * 256), "refused 22 seats 255 bodies 255 callers 0"),
+        (" / ".join(["body"] * 256 + ["caller / queue i0"]), "refused 22 seats 256 bodies 255 callers 1"),
+    ]:
+        texts = [text_of(text) for text in (*CHAIN, deeds)]
+        yield Case("threads that can't be made", ["run", 0, 1, "1000", 2], texts, text_of(answer), 1,
+                   memory=SOME_THREADS)
     for declaration, assignment, rows, each in LOADS:
         for seed in (1, 4_294_967_295):
             always = " / ".join(ALWAYS)
@@ -102,12 +131,14 @@ def table_cases():
         ["stress", 0, 0, "1", "1", "x"], ["stress", 0, 0, "1", "x", "1"],
         ["stress", 0, 0, "x", "1", "1"], ["stress", 0, 0, "1", "1", "4294967296"],
         ["stress", 0, 0, "1", "1", "1", "count"],
-        ["stress", 0, 0, "1", "1", "1", "counts", "counts"], ["run", 0, 0, "1", 0],
+        ["stress", 0, 0, "1", "1", "1", "counts", "counts"], ["run", 0, 0, "1"],
+        ["run", 0, 0, "x", 0], ["run", 0, 0, "1", 0, 0], ["go", 0, 0, "1", 0], ["script", 0, 0],
+        ["script", 0, 0, "1", 0],
     ]:
         yield Case("command lines", words, [b""], b"", 2, complains=True)
     for words in [
         ["calls", 0, 0, "1", "nowhere"], ["calls", "nowhere", 0, "1", 0],
-        ["stress", 0, "nowhere", "1", "1", "1"],
+        ["stress", 0, "nowhere", "1", "1", "1"], ["run", 0, 0, "1", "nowhere"],
     ]:
         yield Case("faults", words, [b""], b"", 3, complains=True)
 

@@ -75,6 +75,13 @@ impl<N: Naming, A: Allocator> Seat<N, A> {
         self.counts.made(item, Kind::Finish, true)
     }
 
+    /// What holds of every seat: it has 14 counts for each item.
+    pub fn holds(&self)
+        ensures { HasCountsOf (items N.wiring) self.now }
+    {
+        self.counts.total();
+    }
+
     /// Whether it has counted so many rows that calls are refused (60).
     pub fn is_full(&self) -> bool
         ensures { IsTrue result ↔ (seat_rows ≤ sum self.now) }

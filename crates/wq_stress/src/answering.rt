@@ -4,8 +4,10 @@
 
 ghost use Rattle.std.specs.Prelude.{◌≡◌, length};
 
+use crate::crew::run_crew;
 use crate::printing::refuse_text;
 use crate::request::Load;
+use crate::scripted::run_script;
 use crate::session::play;
 use crate::stress::{check_busy, stress};
 use std::alloc::{AllocError, Global};
@@ -23,6 +25,10 @@ use wq_items::ItemTable;
 pub(crate) enum Job<'a> {
     /// The calls of a text, in one thread.
     Calls(&'a [u8]),
+    /// What a text says, by rescuers and callers.
+    Run(&'a [u8]),
+    /// The declared flushes of all items, by rescuers, and two callers.
+    Script,
     /// Random calls, in many threads.
     Stress(Load),
 }
@@ -43,6 +49,41 @@ fn answer_calls<R: Wait>(
 {
     let blank = Blank::new(65_536);
     play::<Brand, R>(rt, alloc, blank, table, groups, assignment, rows, text, out)
+}
+
+/// Has rescuers and callers do what a text says. Gives the status.
+fn answer_run<R: Threads + Wait + Sync>(
+    rt: &R,
+    alloc: Global,
+    table: &ItemTable<'_, Global>,
+    groups: &Groups<Global>,
+    assignment: &Assignment<Global>,
+    rows: u32,
+    text: &[u8],
+    out: &mut String,
+) -> Result<u8, AllocError>
+    requires grouped { length groups.now.group_of ≡ length table.now.names }
+    requires assigned { length assignment.now.lane_of_group ≡ groups.now.groups }
+{
+    let blank = Blank::new(65_536);
+    run_crew::<Brand, R>(rt, alloc, blank, table, groups, assignment, rows, text, out)
+}
+
+/// Has rescuers make the declared flushes, and callers queue and flush all items. Gives the status.
+fn answer_script<R: Threads + Wait + Sync>(
+    rt: &R,
+    alloc: Global,
+    table: &ItemTable<'_, Global>,
+    groups: &Groups<Global>,
+    assignment: &Assignment<Global>,
+    rows: u32,
+    out: &mut String,
+) -> Result<u8, AllocError>
+    requires grouped { length groups.now.group_of ≡ length table.now.names }
+    requires assigned { length assignment.now.lane_of_group ≡ groups.now.groups }
+{
+    let blank = Blank::new(65_536);
+    run_script::<Brand, R>(rt, alloc, blank, table, groups, assignment, rows, out)
 }
 
 /// Has many threads make random calls, where a runtime is made at all. Gives the status.
@@ -86,6 +127,8 @@ fn answer_assigned<R: Threads + Wait + Sync>(
 {
     match job {
         Job::Calls(text) => answer_calls(rt, alloc, table, groups, assignment, rows, text, out),
+        Job::Run(text) => answer_run(rt, alloc, table, groups, assignment, rows, text, out),
+        Job::Script => answer_script(rt, alloc, table, groups, assignment, rows, out),
         Job::Stress(load) => answer_stress(rt, alloc, table, groups, assignment, rows, load, out),
     }
 }

@@ -1,5 +1,5 @@
-//! `wq_stress`: makes the calls of a runtime that a text asks for, in one thread, or has many threads make random calls of
-//! one, and prints what came of it.
+//! `wq_stress`: makes the calls of a runtime that a text asks for, in one thread; or has a rescuer for each lane and callers
+//! do what a text says; or has many threads make random calls; and prints what came of it.
 //!
 //! It is a program of the tests, and never installed. What it reads and prints is said in "The test program `wq_stress`" in
 //! docs/FORMAT.md; no contract says it. It takes the time of the calls, and that of judging the history that they leave.
@@ -8,11 +8,17 @@
 mod answering;
 mod calling;
 mod concluding;
+mod crew;
+mod deed;
+mod doer;
 mod making;
+mod meeting;
 mod printing;
+mod ran;
 mod random;
 mod request;
 mod script;
+mod scripted;
 mod serving;
 mod session;
 mod stress;
@@ -49,6 +55,14 @@ fn answer<R: Files + AllocGlobal + Threads + Wait + Sync>(
             let job = Job::Calls(&text);
             answering::answer(rt, rt.alloc(), job, rows, &declared, &assigned, out)?
         }
+        Task::Run(path) => {
+            let text = read_file(rt, path, 8_388_608)?;
+            let job = Job::Run(&text);
+            answering::answer(rt, rt.alloc(), job, rows, &declared, &assigned, out)?
+        }
+        Task::Script => {
+            answering::answer(rt, rt.alloc(), Job::Script, rows, &declared, &assigned, out)?
+        }
         Task::Stress(load) => {
             let job = Job::Stress(load);
             answering::answer(rt, rt.alloc(), job, rows, &declared, &assigned, out)?
@@ -77,7 +91,7 @@ fn faulted(rt: &impl Eprint, fault: Fault) -> u8 {
 /// Says that the command line is wrong.
 fn misused(rt: &impl Eprint) -> u8 {
     let _ = rt.eprintln(
-        "usage: wq_stress calls DECL ASSIGN ROWS CALLS | wq_stress stress DECL ASSIGN ROWS SEED CALLS [counts]",
+        "usage: wq_stress calls DECL ASSIGN ROWS CALLS | wq_stress run DECL ASSIGN ROWS DEEDS | wq_stress script DECL ASSIGN ROWS | wq_stress stress DECL ASSIGN ROWS SEED CALLS [counts]",
     );
     2
 }

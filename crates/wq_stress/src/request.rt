@@ -20,6 +20,10 @@ pub(crate) struct Load {
 pub(crate) enum Task<'a> {
     /// The calls of the text in this file are made, in one thread.
     Calls(&'a str),
+    /// Rescuers and callers do what the text in this file says.
+    Run(&'a str),
+    /// Rescuers make the declared flushes, and callers queue and flush all items.
+    Script,
     /// Many threads make random calls.
     Stress(Load),
 }
@@ -58,10 +62,13 @@ fn read_load(words: &[String]) -> Option<Load> {
     })
 }
 
-/// `calls DECL ASSIGN ROWS CALLS` or `stress DECL ASSIGN ROWS SEED CALLS [counts]`, behind the program's name.
+/// `calls DECL ASSIGN ROWS CALLS`, `run DECL ASSIGN ROWS DEEDS`, `script DECL ASSIGN ROWS` or
+/// `stress DECL ASSIGN ROWS SEED CALLS [counts]`, behind the program's name.
 pub(crate) fn parse(words: &[String]) -> Option<Request<'_>> {
     let task = match words.get(1)?.as_str() {
         "calls" if words.len() == 6 => Task::Calls(words.last()?.as_str()),
+        "script" if words.len() == 5 => Task::Script,
+        "run" if words.len() == 6 => Task::Run(words.last()?.as_str()),
         "stress" if words.len() <= 8 => Task::Stress(read_load(words)?),
         _ => return None,
     };

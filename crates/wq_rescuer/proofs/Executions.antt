@@ -1,0 +1,152 @@
+-- Executions that are finished: what a seat counts of them, item by item and in all.
+use Rattle.std.proofs.Common.{◌≡◌, ◌≢◌, ℕ, zero, suc, ◌+◌, ◌*◌, ◌<◌, ◌≤◌, inl, inr, Bool, true, List, drop, refl, sym, ap, subst, arith}
+use Rattle.std.specs.Prelude.{sum, false, IsTrue, ◌↔◌}
+use Rattle.std.specs.List.{sum_by, range_with_len}
+use Rattle.std.proofs.lemmas.Bool.{cases_lt, cases_eq}
+use Rattle.std.proofs.lemmas.List.Sums.{sum_by-cons, sum_by-drop_more, sum_by-take-drop, get_or-le-sum_by}
+use lib.Seq.{drop-drop}
+use Rattle.wq_counts.specs.declared.kind.Kind.{Kind}
+use Rattle.wq_counts.specs.declared.kind.Kind.TheVariants.{Finish}
+use Rattle.wq_counts.specs.Counting.{kind_place, place, HasCountsOf, raised}
+use Rattle.wq_counts.proofs.Places.{place-same, made-raised_same, made-raised_other}
+use Rattle.wq_api.specs.Refusals.{seat_rows}
+use Rattle.wq_rescuer.specs.Executing.{NeverRan, RanOnce, finished_of, finished_in_all, SameFinished, CountsRuns, CountsAtMost}
+
+-- ---- one item
+
+pub finished_of-raised : (n : ℕ) (counts : List ℕ) (i : ℕ) → HasCountsOf n counts → i < n
+    → finished_of (raised counts i Finish true) i ≡ finished_of counts i + 1
+finished_of-raised n counts i has lt = made-raised_same counts i Finish true (omega (arith, has))
+
+pub finished_of-other_item : (counts : List ℕ) (i j : ℕ) → j ≢ i → finished_of (raised counts i Finish true) j ≡ finished_of counts j
+finished_of-other_item counts i j ne = made-raised_other counts i j Finish Finish true true (λ e. ne (place-same j i Finish Finish true true e).0)
+
+pub finished_of-other_kind : (counts : List ℕ) (i : ℕ) (kind : Kind) (said : Bool) → kind_place kind < 6
+    → SameFinished counts (raised counts i kind said)
+finished_of-other_kind counts i kind said other j =
+    made-raised_other counts i j kind Finish said true (λ e. let same = ap kind_place (place-same j i Finish kind true said e).1 in omega arith)
+
+-- ---- all items
+
+-- a sum of terms that are the same from a on
+same_sum : (f g : ℕ → ℕ) (a n : ℕ) → ((j : ℕ) → a ≤ j → g j ≡ f j) → sum_by g (range_with_len a n) ≡ sum_by f (range_with_len a n)
+same_sum f g a zero same = refl
+same_sum f g a (suc n) same =
+    omega (arith, sum_by-cons g a (range_with_len (a + 1) n), sum_by-cons f a (range_with_len (a + 1) n), same a (omega arith), same_sum f g (a + 1) n (λ j le. same j (omega arith)))
+
+-- a sum of which one term is one more
+one_more : (f g : ℕ → ℕ) (a n i : ℕ) → a ≤ i → i < a + n → g i ≡ f i + 1 → ((j : ℕ) → j ≢ i → g j ≡ f j)
+    → sum_by g (range_with_len a n) ≡ sum_by f (range_with_len a n) + 1
+one_more f g a zero i le lt more same = absurd (omega arith)
+one_more f g a (suc n) i le lt more same = elim (cases_lt a i) [
+  | inl below ↦ omega (arith, sum_by-cons g a (range_with_len (a + 1) n), sum_by-cons f a (range_with_len (a + 1) n), same a (λ e. omega arith), one_more f g (a + 1) n i (omega arith) (omega arith) more same)
+  | inr at ↦ (let here : a ≡ i = omega arith in
+      omega (arith, sum_by-cons g a (range_with_len (a + 1) n), sum_by-cons f a (range_with_len (a + 1) n), ap g here, ap f here, more, same_sum f g (a + 1) n (λ j past. same j (λ e. omega arith))))
+]
+
+pub finished_in_all-same : (n : ℕ) (old new : List ℕ) → SameFinished old new → finished_in_all n new ≡ finished_in_all n old
+finished_in_all-same n old new same = same_sum (finished_of old) (finished_of new) 0 n (λ j le. same j)
+
+pub finished_in_all-raised : (n : ℕ) (counts : List ℕ) (i : ℕ) → HasCountsOf n counts → i < n
+    → finished_in_all n (raised counts i Finish true) ≡ finished_in_all n counts + 1
+finished_in_all-raised n counts i has lt =
+    one_more (finished_of counts) (finished_of (raised counts i Finish true)) 0 n i (omega arith) (omega arith) (finished_of-raised n counts i has lt) (finished_of-other_item counts i)
+
+-- those of the items from a on are among the counts from its place on
+from_item : (n : ℕ) (counts : List ℕ) (a k : ℕ) → HasCountsOf n counts → a + k ≤ n
+    → sum_by (finished_of counts) (range_with_len a k) ≤ sum (drop (14 * a) counts)
+from_item n counts a zero has within = omega arith
+from_item n counts a (suc k) has within =
+    let p : ℕ = 14 * a + 13 in
+    let here = sum_by-drop_more (λ (x : ℕ). x) counts p 0 (omega (arith, has)) in
+    let skip = sum_by-take-drop (λ (x : ℕ). x) (drop (14 * a) counts) 13 in
+    let same : drop 13 (drop (14 * a) counts) ≡ drop p counts = drop-drop 13 (14 * a) counts in
+    let next : drop (p + 1) counts ≡ drop (14 * (a + 1)) counts = ap (λ (m : ℕ). drop m counts) (omega arith) in
+    omega (arith, sum_by-cons (finished_of counts) a (range_with_len (a + 1) k), here, skip, ap sum same, ap sum next, from_item n counts (a + 1) k has (omega arith))
+
+pub finished_in_all-le : (n : ℕ) (counts : List ℕ) → HasCountsOf n counts → finished_in_all n counts ≤ sum counts
+finished_in_all-le n counts has = from_item n counts 0 n has (omega arith)
+
+pub finished_of-le : (n : ℕ) (counts : List ℕ) (i : ℕ) → HasCountsOf n counts → i < n → finished_of counts i ≤ sum counts
+finished_of-le n counts i has lt = get_or-le-sum_by (λ (x : ℕ). x) counts (place i Finish true) 0 (omega (arith, has))
+
+-- ---- a rescuer that serves a lane
+
+-- what a rescuer has done so far: of each item its seat counts as finished what the body ran, in all as many as it says
+pub record IsServing (items : ℕ) (before counts : List ℕ) (width : ℕ) (runs : ℕ → ℕ) (finished faults : ℕ) : Type 0 where
+  pub wide : items ≤ width
+  pub ran : CountsRuns before counts runs
+  pub in_all : finished_in_all items before + finished ≡ finished_in_all items counts
+  pub faults_within : faults ≤ finished
+
+pub serving_none : (items : ℕ) (before : List ℕ) (width : ℕ) (runs : ℕ → ℕ) → items ≤ width → NeverRan runs
+    → IsServing items before before width runs 0 0
+serving_none items before width runs wide never = record {
+  wide = wide;
+  ran = λ i. let none = never i in omega arith;
+  in_all = omega arith;
+  faults_within = omega arith;
+}
+
+-- what was counted before its body ran is so after it; and then one execution more is finished
+pub serving_more : (items : ℕ) (before counts after : List ℕ) (width wider : ℕ) (runs now : ℕ → ℕ) (finished faults more i : ℕ)
+    → IsServing items before counts width runs finished faults → wider ≡ width → HasCountsOf items after → i < items
+    → SameFinished counts after → RanOnce runs now i → more ≤ faults + 1
+    → (counted : List ℕ) → counted ≡ raised after i Finish true
+    → IsServing items before counted wider now (finished + 1) more
+serving_more items before counts after width wider runs now finished faults more i serving same_width has lt same once few counted counted_is = subst (λ cs. IsServing items before cs wider now (finished + 1) more) (sym counted_is) (record {
+  wide = omega (arith, serving.wide, same_width);
+  ran = λ j. elim (cases_eq j i) [
+    | inl e ↦ (omega (
+      arith,
+      ap (finished_of (raised after i Finish true)) e,
+      ap (finished_of after) e,
+      ap (finished_of before) e,
+      ap (finished_of counts) e,
+      ap now e,
+      ap runs e,
+      finished_of-raised items after i has lt,
+      same i,
+      serving.ran i,
+      once.0,
+    ))
+    | inr ne ↦ (omega (arith, finished_of-other_item after i j ne, same j, serving.ran j, once.1 j ne))
+  ];
+  in_all = omega (arith, finished_in_all-raised items after i has lt, finished_in_all-same items counts after same, serving.in_all);
+  faults_within = omega (arith, serving.faults_within, few);
+})
+
+-- a run that wasn't counted as finished
+pub at_most_run : (items : ℕ) (before counts after : List ℕ) (width : ℕ) (runs now : ℕ → ℕ) (finished faults i : ℕ)
+    → IsServing items before counts width runs finished faults → SameFinished counts after → RanOnce runs now i → CountsAtMost before after now
+at_most_run items before counts after width runs now finished faults i serving same once j = elim (cases_eq j i) [
+  | inl e ↦ (omega (arith, same j, serving.ran j), omega (arith, same j, serving.ran j, ap now e, ap runs e, once.0))
+  | inr ne ↦ (omega (arith, same j, serving.ran j), omega (arith, same j, serving.ran j, once.1 j ne))
+]
+
+-- nothing was counted since
+pub at_most_served : (items : ℕ) (before counts : List ℕ) (width : ℕ) (runs : ℕ → ℕ) (finished faults : ℕ)
+    → IsServing items before counts width runs finished faults → CountsAtMost before counts runs
+at_most_served items before counts width runs finished faults serving j = (omega (arith, serving.ran j), omega (arith, serving.ran j))
+
+-- one execution more can be counted: a seat that isn't full has counted fewer
+pub few_finished : (items : ℕ) (before counts : List ℕ) (width : ℕ) (runs : ℕ → ℕ) (finished faults : ℕ)
+    → IsServing items before counts width runs finished faults → HasCountsOf items counts → sum counts < seat_rows
+    → (finished < 4294967295) × (faults < 4294967295)
+few_finished items before counts width runs finished faults serving has room =
+    let few : finished < 4294967295 = omega (arith, serving.in_all, finished_in_all-le items counts has) in
+    (few, omega (arith, serving.faults_within, few))
+
+-- an item can run once more
+pub few_runs : (items : ℕ) (before counts : List ℕ) (width : ℕ) (runs : ℕ → ℕ) (finished faults i : ℕ)
+    → IsServing items before counts width runs finished faults → HasCountsOf items counts → i < items → sum counts < seat_rows
+    → (i < width) × (runs i < 4294967295)
+few_runs items before counts width runs finished faults i serving has lt room =
+    (omega (arith, serving.wide), omega (arith, serving.ran i, finished_of-le items counts i has lt))
+
+-- a number that isn't at its limit is below it
+pub below_limit : (b : Bool) (limit n : ℕ) → (IsTrue b ↔ (limit ≤ n)) → b ≡ false → n < limit
+below_limit b limit n says is = elim (cases_lt n limit) [
+  | inl below ↦ below
+  | inr at ↦ (let is_true : IsTrue b = says.1 at in cc)
+]

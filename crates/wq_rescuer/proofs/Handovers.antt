@@ -1,0 +1,132 @@
+-- What threads hand back: what each lane's answer says of its seat and its body, and all lanes together.
+use Rattle.std.proofs.Common.{◌≡◌, ℕ, zero, suc, ◌+◌, ◌≤◌, ◌⊎◌, inl, inr, List, [], ◌∷◌, ◌++◌, length, take, replicate, refl, sym, ap, subst, ◌∙◌, arith}
+use Rattle.std.specs.Prelude.{Some, Result, Ok, Err, OnOk, OnErr, IfOk, is_ok, is_err, slice_get, true, false}
+use Rattle.std.specs.List.{sum_by, range_with_len}
+use Rattle.std.proofs.lemmas.Bool.{cases_lt}
+use Rattle.std.proofs.lemmas.List.Sums.{sum_by-cons}
+use Rattle.std.proofs.lemmas.List.{get_or-replicate, get_or_past, length-replicate, length-append}
+use Rattle.wq_counts.specs.declared.kind.Kind.TheVariants.{Finish}
+use Rattle.wq_counts.specs.Counting.{place}
+use Rattle.wq_api.specs.declared.fault.CallError.{CallError}
+use Rattle.wq_rescuer.specs.declared.rescuing.Rescued.{Rescued}
+use Rattle.wq_rescuer.specs.Executing.{finished_of, finished_in_all, CountsRuns, CountsAtMost}
+use Rattle.wq_rescuer.specs.declared.running.RunWhy.{RunWhy}
+use Rattle.wq_rescuer.specs.declared.running.RunWhy.TheVariants.{BodiesDiffer, TooManySeats, OutOfMemory, NoThread}
+use Rattle.wq_rescuer.specs.Serving.{IsServed, AreServed, IsNoSeat, RefusesRun}
+
+-- ---- a seat without counts
+
+none_finished : (n i : ℕ) → finished_of (replicate n 0) i ≡ 0
+none_finished n i = elim (cases_lt (place i Finish true) n) [
+  | inl lt ↦ get_or-replicate n (place i Finish true) 0 0 lt
+  | inr ge ↦ get_or_past (replicate n 0) (place i Finish true) 0 (omega (arith, length-replicate {A = ℕ} n 0, ge))
+]
+
+none_in_all : (a n items : ℕ) → sum_by (finished_of (replicate n 0)) (range_with_len a items) ≡ 0
+none_in_all a n zero = refl
+none_in_all a n (suc items) = omega (arith, sum_by-cons (finished_of (replicate n 0)) a (range_with_len (a + 1) items), none_finished n a, none_in_all (a + 1) n items)
+
+-- a rescuer that began with a seat without counts
+pub is_served : (items n : ℕ) (before counts : List ℕ) (runs : ℕ → ℕ) (answer : Result Rescued CallError) → before ≡ replicate n 0
+    → OnOk answer (CountsRuns before counts runs) → IfOk answer (λ r. finished_in_all items before + r.finished ≡ finished_in_all items counts)
+    → IfOk answer (λ r. r.faults ≤ r.finished) → OnErr answer (CountsAtMost before counts runs)
+    → IsServed items counts runs answer
+is_served items n before counts runs answer none all in_all few most =
+    from_none items n counts runs answer (subst (λ (b : List ℕ). OnOk answer (CountsRuns b counts runs)) none all)
+    (subst (λ (b : List ℕ). IfOk answer (λ r. finished_in_all items b + r.finished ≡ finished_in_all items counts)) none in_all) few
+    (subst (λ (b : List ℕ). OnErr answer (CountsAtMost b counts runs)) none most)
+  where
+    from_none : (items n : ℕ) (counts : List ℕ) (runs : ℕ → ℕ) (answer : Result Rescued CallError)
+        → OnOk answer (CountsRuns (replicate n 0) counts runs) → IfOk answer (λ r. finished_in_all items (replicate n 0) + r.finished ≡ finished_in_all items counts)
+        → IfOk answer (λ r. r.faults ≤ r.finished) → OnErr answer (CountsAtMost (replicate n 0) counts runs)
+        → IsServed items counts runs answer
+    from_none items n counts runs (Ok r) all in_all few most = (
+      λ x is. let same : r ≡ x = cc in
+          subst (λ (y : Rescued). ((i : ℕ) → finished_of counts i ≡ runs i) × (y.finished ≡ finished_in_all items counts) × (y.faults ≤ y.finished)) same
+          ((λ i. omega (arith, all i, none_finished n i)), omega (arith, in_all, none_in_all 0 n items), few),
+      λ e is. (let wrong : true ≡ false = ap is_ok is in cc),
+    )
+    from_none items n counts runs (Err e) all in_all few most =
+        (λ x is. (let wrong : true ≡ false = ap is_err is in cc), λ f is i. omega (arith, (most i).1, none_finished n i))
+
+-- ---- all lanes
+
+-- nothing stands past the end
+past : {X : Type 0} (xs : List X) (q : ℕ) (y : X) → slice_get xs q ≡ Some y → length xs ≤ q → ⊥
+past [] q y is ge = absurd cc
+past (z ∷ xs) zero y is ge = omega arith
+past (z ∷ xs) (suc q) y is ge = past xs q y is (omega arith)
+
+-- what stands at a place of a list with one more value at its end
+at_place : {X : Type 0} (xs : List X) (x : X) (q : ℕ) (y : X) → slice_get (xs ++ (x ∷ [])) q ≡ Some y
+    → (slice_get xs q ≡ Some y) ⊎ ((q ≡ length xs) × (x ≡ y))
+at_place [] x zero y is = let same : x ≡ y = cc in inr (refl, same)
+at_place [] x (suc q) y is = absurd cc
+at_place (z ∷ xs) x zero y is = inl is
+at_place (z ∷ xs) x (suc q) y is = elim (at_place xs x q y is) [
+  | inl among ↦ inl among
+  | inr last ↦ inr (ap suc last.0, last.1)
+]
+
+-- one lane more
+pub are_served_more : (items n : ℕ) (seats : List (List ℕ)) (runs : List (ℕ → ℕ)) (rescued : List (Result Rescued CallError))
+    (seat : List ℕ) (ran : ℕ → ℕ) (answer : Result Rescued CallError)
+    → AreServed items n seats runs rescued → IsServed items seat ran answer
+    → AreServed items (n + 1) (seats ++ (seat ∷ [])) (runs ++ (ran ∷ [])) (rescued ++ (answer ∷ []))
+are_served_more items n seats runs rescued seat ran answer are is = record {
+  a_seat_each = omega (arith, length-append seats (seat ∷ []), are.a_seat_each);
+  a_body_each = omega (arith, length-append runs (ran ∷ []), are.a_body_each);
+  an_answer_each = omega (arith, length-append rescued (answer ∷ []), are.an_answer_each);
+  served = λ q s f a s_at f_at a_at. elim (at_place seats seat q s s_at) [
+    | inl among ↦ elim (at_place runs ran q f f_at) [
+      | inl f_among ↦ elim (at_place rescued answer q a a_at) [
+        | inl a_among ↦ are.served q s f a among f_among a_among
+        | inr a_last ↦ absurd (past seats q s among (omega (arith, a_last.0, are.a_seat_each, are.an_answer_each)))
+      ]
+      | inr f_last ↦ absurd (past seats q s among (omega (arith, f_last.0, are.a_seat_each, are.a_body_each)))
+    ]
+    | inr last ↦ elim (at_place runs ran q f f_at) [
+      | inl f_among ↦ absurd (past runs q f f_among (omega (arith, last.0, are.a_seat_each, are.a_body_each)))
+      | inr f_last ↦ elim (at_place rescued answer q a a_at) [
+        | inl a_among ↦ absurd (past rescued q a a_among (omega (arith, last.0, are.a_seat_each, are.an_answer_each)))
+        | inr a_last ↦ subst (λ s'. IsServed items s' f a) last.1 (subst (λ f'. IsServed items seat f' a) f_last.1 (subst (λ a'. IsServed items seat ran a') a_last.1 is))
+      ]
+    ]
+  ];
+}
+
+-- the same of lists that are known to have one more
+pub added : (items n m : ℕ) (seats new_seats : List (List ℕ)) (runs new_runs : List (ℕ → ℕ)) (rescued new_rescued : List (Result Rescued CallError))
+    (seat : List ℕ) (ran : ℕ → ℕ) (answer : Result Rescued CallError)
+    → AreServed items n seats runs rescued → IsServed items seat ran answer → m ≡ n + 1
+    → new_seats ≡ seats ++ (seat ∷ []) → new_runs ≡ runs ++ (ran ∷ []) → new_rescued ≡ rescued ++ (answer ∷ [])
+    → AreServed items m new_seats new_runs new_rescued
+added items n m seats new_seats runs new_runs rescued new_rescued seat ran answer are is more seats_are runs_are rescued_are =
+    subst (λ k. AreServed items k new_seats new_runs new_rescued) (sym more)
+    (subst (λ ss. AreServed items (n + 1) ss new_runs new_rescued) (sym seats_are)
+    (subst (λ fs. AreServed items (n + 1) (seats ++ (seat ∷ [])) fs new_rescued) (sym runs_are)
+    (subst (λ rs. AreServed items (n + 1) (seats ++ (seat ∷ [])) (runs ++ (ran ∷ [])) rs) (sym rescued_are)
+    (are_served_more items n seats runs rescued seat ran answer are is))))
+
+-- ---- all that was run
+
+-- a list of no length
+pub nothing_in : {X : Type 0} (xs : List X) → length xs ≡ 0 → xs ≡ []
+nothing_in [] none = refl
+nothing_in (x ∷ xs) none = absurd (omega (arith, none))
+
+-- a seat is wanting, where there is a body for each lane
+pub no_seat_refused : (lanes bodies : ℕ) (why : RunWhy) → IsNoSeat why → bodies ≡ lanes → RefusesRun lanes bodies why
+no_seat_refused lanes bodies BodiesDiffer seatless same = absurd seatless
+no_seat_refused lanes bodies TooManySeats seatless same = same
+no_seat_refused lanes bodies OutOfMemory seatless same = same
+no_seat_refused lanes bodies NoThread seatless same = absurd seatless
+
+-- the seats of the lanes, before those of the callers
+pub lanes_first : (items k lanes n : ℕ) (lane_seats seats : List (List ℕ)) (runs : List (ℕ → ℕ)) (rescued : List (Result Rescued CallError))
+    → AreServed items k lane_seats runs rescued → take n seats ≡ lane_seats → n ≡ length lane_seats → k ≡ lanes
+    → AreServed items lanes (take lanes seats) runs rescued
+lanes_first items k lanes n lane_seats seats runs rescued are first long all =
+    let at : lanes ≡ n = omega (arith, long, all, are.a_seat_each) in
+    let same : take lanes seats ≡ lane_seats = ap (λ (m : ℕ). take m seats) at ∙ first in
+    subst (λ m. AreServed items m (take lanes seats) runs rescued) all (subst (λ ss. AreServed items k ss runs rescued) (sym same) are)

@@ -1,0 +1,10 @@
+use Rattle.std.proofs.Common.{◌*◌}
+use Rattle.wq_core.specs.Wiring.{items}
+use Rattle.wq_rescuer.proofs.Handovers.{is_served}
+use Rattle.wq_rescuer.proofs.lane.LaneJob.serve.Goals as goal
+
+pub invariant_of-result : goal.invariant_of-result
+invariant_of-result g c = record {
+  served = is_served (items g.N.Naming.wiring) (14 * items g.N.Naming.wiring) c.args.self.seat c.rescue-rescued.new.seat (g.B.Body.runs c.rescue-rescued.new.body) c.rescue-rescued.result
+      c.args.self.no_counts c.rescue-rescued.ensures.ran c.rescue-rescued.ensures.finished c.rescue-rescued.ensures.faults c.rescue-rescued.ensures.refused;
+}

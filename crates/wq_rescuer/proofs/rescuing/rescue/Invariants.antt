@@ -1,0 +1,9 @@
+use Rattle.wq_core.specs.Wiring.{items}
+use Rattle.wq_rescuer.proofs.Executions.{IsServing}
+use Rattle.wq_rescuer.proofs.rescuing.rescue.Given as goal
+
+-- the seat counts as finished what the body ran
+abbrev pub invariant-loop : goal.invariant-loop
+invariant-loop g l =
+    (goal.iterator-loop g).can_next l.iterator' × (goal.iterator-loop g).is_finite l.iterator'
+    × IsServing (items g.N.Naming.wiring) l.fn.seat l.seat (g.B.Body.width l.body) (g.B.Body.runs l.body) l.finished l.faults

@@ -1,0 +1,64 @@
+//! What runs when an item is executed, and who calls the runtime.
+//!
+//! A body belongs to one rescuer, which calls it for each execution of an item of its lane (`work_func_t` in
+//! include/linux/workqueue.h). It counts its runs, and the rescuer's seat is compared with them.
+
+ghost use Rattle.std.specs.Prelude.{◌≡◌, ◌<◌};
+ghost use Rattle.wq_rescuer.specs.Executing.{RanOnce, SameFinished};
+
+use crate::work::Work;
+use std::alloc::Allocator;
+use std::sync::Wait;
+use thiserror::Error;
+use wq_api::{CallError, Naming, Seat, WqRuntime};
+use wq_items::ItemId;
+
+/// Why a body gave up. A fault ends its execution, which counts as finished.
+#[derive(Clone, Copy, Debug, PartialEq, Eq, Error)]
+#[error("the work failed with code {code}")]
+pub struct BodyFault {
+    /// A number of the body's own.
+    pub code: u32,
+}
+
+/// What a rescuer runs.
+pub trait Body {
+    ghost use Rattle.std.specs.Prelude.{ℕ};
+
+    // of how many items it can count the runs
+    ghost width: { Self → ℕ };
+
+    // how often an item ran
+    ghost runs: { Self → ℕ → ℕ };
+
+    /// Runs an item once. It may take its time, and wait by the calls of `Work`.
+    ///
+    /// It counts one run of this item, whether it answers or gives up, and leaves what its seat counts as finished.
+    fn run<N: Naming, A: Allocator, R: Wait>(
+        &mut self,
+        rt: &R,
+        item: ItemId,
+        work: &mut Work<'_, N, A>,
+    ) -> Result<(), BodyFault>
+        requires known { item < width self.old }
+        requires few { runs self.old item < 4294967295 }
+        ensures ran { RanOnce (runs self.old) (runs self.new) item }
+        ensures width { width self.new ≡ width self.old }
+        ensures finished { SameFinished work.old.seat.now work.new.seat.now }
+        ensures same_seat { work.new.seat.ghost_name ≡ work.old.seat.ghost_name };
+
+    /// How often an item ran.
+    fn ran(&self, item: ItemId) -> u32
+        ensures { result ≡ runs self.now item };
+}
+
+/// Who calls a runtime, in a thread of its own.
+pub trait Caller {
+    /// Makes its calls. The first refusal that it doesn't handle is its answer.
+    fn call<N: Naming, A: Allocator, R: Wait>(
+        &mut self,
+        rt: &R,
+        runtime: &WqRuntime<N, A>,
+        seat: &mut Seat<N, A>,
+    ) -> Result<(), CallError>;
+}

@@ -1,0 +1,145 @@
+//! What the threads leave, put together: seats, bodies and answers in the order of the lanes and callers, and the sums.
+//!
+//! It takes time in the number of lanes and callers, and no memory, since room for all was made before any thread started.
+
+ghost use Rattle.std.specs.Prelude.{◌≡◌, ℕ, ◌+◌, ◌≤◌, [], map, take, vec_len, vec_capacity};
+ghost use Rattle.std.specs.List.{sum_by};
+ghost use Rattle.wq_core.specs.Wiring.{items};
+ghost use Rattle.wq_rescuer.specs.Serving.{AreServed, finished_by, faults_by};
+ghost use Rattle.wq_rescuer.specs.declared.running.RunWhy.TheVariants.{NoThread};
+
+use crate::board::Board;
+use crate::body::{Body, Caller};
+use crate::calling::{CallerEnd, CallerJob};
+use crate::lane::{LaneEnd, LaneJob};
+use crate::rescuing::{Rescued, count_faults, count_finished};
+use crate::running::{RunFault, RunWhy};
+use std::alloc::Allocator;
+use wq_api::{CallError, Naming, Seat};
+
+/// What the lanes leave.
+#[derive(Drop)]
+pub(crate) struct Served<N: Naming, A: Allocator, B: Body + Drop> {
+    pub(crate) seats: Vec<Seat<N, A>, A>,
+    pub(crate) bodies: Vec<B, A>,
+    pub(crate) rescued: Vec<Result<Rescued, CallError>, A>,
+    pub(crate) finished: u64,
+    pub(crate) faults: u64,
+}
+
+/// Takes back the lanes that were served, the last one first, into what is empty and has room for them.
+pub(crate) fn gather_lanes<N: Naming, A: Allocator, B: Body + Drop>(
+    mut ends: Vec<LaneEnd<N, A, B>, A>,
+    mut seats: Vec<Seat<N, A>, A>,
+    mut bodies: Vec<B, A>,
+    mut rescued: Vec<Result<Rescued, CallError>, A>,
+) -> Served<N, A, B>
+    requires few { vec_len ends ≤ 256 }
+    requires no_seats { seats.items ≡ [] }
+    requires seat_room { vec_len ends ≤ vec_capacity seats }
+    requires no_bodies { bodies.items ≡ [] }
+    requires body_room { vec_len ends ≤ vec_capacity bodies }
+    requires none_rescued { rescued.items ≡ [] }
+    requires rescued_room { vec_len ends ≤ vec_capacity rescued }
+    ensures served { AreServed (items N.wiring) (vec_len ends) result.seats.items (map B.runs result.bodies.items) result.rescued.items }
+    ensures finished { result.finished ≡ sum_by finished_by result.rescued.items }
+    ensures faults { result.faults ≡ sum_by faults_by result.rescued.items }
+    ensures room { vec_capacity result.seats ≡ vec_capacity seats }
+{
+    let mut finished = 0u64;
+    let mut faults = 0u64;
+    while let Some(end) = ends.pop() {
+        let LaneEnd {
+            seat,
+            body,
+            rescued: answer,
+        } = end;
+        finished += count_finished(&answer);
+        faults += count_faults(&answer);
+        seats.push_reserved(seat);
+        bodies.push_reserved(body);
+        rescued.push_reserved(answer);
+    }
+    Served {
+        seats,
+        bodies,
+        rescued,
+        finished,
+        faults,
+    }
+}
+
+/// Takes back the callers, the last one first, behind the seats of the lanes.
+pub(crate) fn gather_callers<N: Naming, A: Allocator, C: Caller + Drop>(
+    mut ends: Vec<CallerEnd<N, A, C>, A>,
+    seats: &mut Vec<Seat<N, A>, A>,
+    callers: &mut Vec<C, A>,
+    results: &mut Vec<Result<(), CallError>, A>,
+)
+    requires seat_room { vec_len seats.old + vec_len ends ≤ vec_capacity seats.old }
+    requires caller_room { vec_len callers.old + vec_len ends ≤ vec_capacity callers.old }
+    requires result_room { vec_len results.old + vec_len ends ≤ vec_capacity results.old }
+    ensures lanes { take (vec_len seats.old) seats.new.items ≡ seats.old.items }
+    ensures seats { vec_len seats.new ≡ vec_len seats.old + vec_len ends }
+    ensures callers { vec_len callers.new ≡ vec_len callers.old + vec_len ends }
+    ensures results { vec_len results.new ≡ vec_len results.old + vec_len ends }
+{
+    while let Some(end) = ends.pop() {
+        let CallerEnd {
+            seat,
+            caller,
+            result,
+        } = end;
+        seats.push_reserved(seat);
+        callers.push_reserved(caller);
+        results.push_reserved(result);
+    }
+}
+
+/// Keeps a value in a list that has room for it.
+fn keep<T: Drop, A: Allocator>(list: &mut Vec<T, A>, value: T) {
+    let _kept = list.push(value);
+}
+
+/// Hands back what came back and the jobs that no thread took, where a thread couldn't be made. There is room for all of it.
+pub(crate) fn hand_back<N: Naming, A: Allocator, B: Body + Drop, C: Caller + Drop>(
+    board: Board<N, A, B, C>,
+    mut seats: Vec<Seat<N, A>, A>,
+    mut bodies: Vec<B, A>,
+    mut callers: Vec<C, A>,
+) -> RunFault<N, A, B, C>
+    ensures { result.why ≡ NoThread }
+{
+    let Board {
+        mut lane_jobs,
+        mut caller_jobs,
+        mut lane_ends,
+        mut caller_ends,
+    } = board;
+    while let Some(end) = lane_ends.pop() {
+        let LaneEnd { seat, body, .. } = end;
+        keep(&mut seats, seat);
+        keep(&mut bodies, body);
+    }
+    while let Some(job) = lane_jobs.pop() {
+        let LaneJob { seat, body, .. } = job;
+        keep(&mut seats, seat);
+        keep(&mut bodies, body);
+    }
+    while let Some(end) = caller_ends.pop() {
+        let CallerEnd { seat, caller, .. } = end;
+        keep(&mut seats, seat);
+        keep(&mut callers, caller);
+    }
+    while let Some(job) = caller_jobs.pop() {
+        let CallerJob { seat, caller } = job;
+        keep(&mut seats, seat);
+        keep(&mut callers, caller);
+    }
+    RunFault {
+        seats,
+        bodies,
+        callers,
+        why: RunWhy::NoThread,
+    }
+}

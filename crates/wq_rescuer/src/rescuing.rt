@@ -1,0 +1,109 @@
+//! The loop of a rescuer: start the next entry of its lane, run its body, finish it (`rescuer_thread` and
+//! `process_one_work` in kernel/workqueue.c).
+//!
+//! It ends when the runtime is closed and nothing is pending in the lane. It takes no memory, and but for the bodies and what
+//! it waits for, the time of the runtime's calls.
+
+ghost use Rattle.std.specs.Prelude.{◌≡◌, ℕ, ◌+◌, ◌<◌, ◌≤◌, IfOk, OnOk, OnErr};
+ghost use Rattle.wq_core.specs.Wiring.{items};
+ghost use Rattle.wq_rescuer.specs.Executing.{NeverRan, RanOnce, SameFinished, CountsRuns, CountsAtMost, finished_in_all};
+ghost use Rattle.wq_rescuer.specs.Serving.{finished_by, faults_by};
+
+use crate::body::{Body, BodyFault};
+use crate::work::Work;
+use std::alloc::Allocator;
+use std::sync::Wait;
+use wq_api::{CallError, Naming, Seat, WqRuntime};
+use wq_groups::LaneId;
+use wq_items::ItemId;
+
+/// What a rescuer did.
+#[derive(Clone, Copy, Debug, PartialEq, Eq)]
+pub struct Rescued {
+    /// How many executions it finished.
+    pub finished: u32,
+    /// How many of them ended with a fault of the body.
+    pub faults: u32,
+}
+
+/// How many executions a rescuer finished, none where it was refused.
+pub(crate) fn count_finished(answer: &Result<Rescued, CallError>) -> u64
+    ensures count { result ≡ finished_by answer.now }
+    ensures few { result < 4294967296 }
+{
+    match answer {
+        Ok(rescued) => u64::from(rescued.finished),
+        Err(_) => 0,
+    }
+}
+
+/// How many of them ended with a fault.
+pub(crate) fn count_faults(answer: &Result<Rescued, CallError>) -> u64
+    ensures count { result ≡ faults_by answer.now }
+    ensures few { result < 4294967296 }
+{
+    match answer {
+        Ok(rescued) => u64::from(rescued.faults),
+        Err(_) => 0,
+    }
+}
+
+/// Runs the body of an item that a lane has started.
+fn execute<N: Naming, A: Allocator, R: Wait, B: Body>(
+    rt: &R,
+    runtime: &WqRuntime<N, A>,
+    q: LaneId,
+    seat: &mut Seat<N, A>,
+    body: &mut B,
+    item: ItemId,
+) -> Result<(), BodyFault>
+    requires known { item < B.width body.old }
+    requires few { B.runs body.old item < 4294967295 }
+    ensures ran { RanOnce (B.runs body.old) (B.runs body.new) item }
+    ensures width { B.width body.new ≡ B.width body.old }
+    ensures finished { SameFinished seat.old seat.new }
+{
+    let mut work = Work::new(runtime, seat, q, item);
+    body.run(rt, item, &mut work)
+}
+
+/// Serves a lane until the runtime is closed and nothing is pending in it: of each item, what the seat counts as finished
+/// rose by what the body ran.
+///
+/// The body has run nothing before, and can count each item. The error is `WrongLane` (64), where there is no such lane or
+/// another caller drove the same one, or `HistoryFull` (60), where the seat is full; then what the seat counts as finished
+/// rose by no more than what the body ran.
+pub fn rescue<N: Naming, A: Allocator, R: Wait, B: Body>(
+    rt: &R,
+    runtime: &WqRuntime<N, A>,
+    q: LaneId,
+    seat: &mut Seat<N, A>,
+    body: &mut B,
+) -> Result<Rescued, CallError>
+    requires width { items N.wiring ≤ B.width body.old }
+    requires never_ran { NeverRan (B.runs body.old) }
+    ensures ran { OnOk result (CountsRuns seat.old seat.new (B.runs body.new)) }
+    ensures finished { IfOk result (λ r. finished_in_all (items N.wiring) seat.old + r.finished ≡ finished_in_all (items N.wiring) seat.new) }
+    ensures faults { IfOk result (λ r. r.faults ≤ r.finished) }
+    ensures refused { OnErr result (CountsAtMost seat.old seat.new (B.runs body.new)) }
+{
+    let mut finished = 0u32;
+    let mut faults = 0u32;
+    for _ in rt.forever() {
+        seat.holds();
+        if seat.is_full() {
+            return Err(CallError::HistoryFull);
+        }
+        let Some(item) = runtime.next(rt, q)? else {
+            return Ok(Rescued { finished, faults });
+        };
+        let answer = execute(rt, runtime, q, seat, body, item);
+        seat.holds();
+        runtime.finish_work(rt, seat, q, item)?;
+        finished += 1;
+        if answer.is_err() {
+            faults += 1;
+        }
+    }
+    unreachable!()
+}

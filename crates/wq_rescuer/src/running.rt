@@ -1,0 +1,225 @@
+//! Running all: a rescuer for each lane and a thread for each caller, until the callers have made their calls and all work
+//! is done.
+//!
+//! All memory is taken, and all seats are made, before any thread starts.
+
+ghost use Rattle.std.specs.Prelude.{◌≡◌, ◌≢◌, ℕ, ◌+◌, ◌*◌, ◌<◌, ◌≤◌, [], replicate, map, vec_len, vec_capacity, IfOk, IfErr, OnErr};
+ghost use Rattle.std.specs.List.{All};
+ghost use Rattle.wq_core.specs.Wiring.{items};
+ghost use Rattle.wq_rescuer.specs.Executing.{NeverRan};
+ghost use Rattle.wq_rescuer.specs.Serving.{IsNoSeat, IsRan, RefusesRun, run_code};
+ghost use Rattle.wq_rescuer.specs.declared.running.RunWhy.TheVariants.{BodiesDiffer, OutOfMemory, NoThread};
+
+use crate::board::{Board, add_callers, add_lanes};
+use crate::body::{Body, Caller};
+use crate::calling::CallerRoom;
+use crate::gathering::{Served, gather_callers, gather_lanes, hand_back};
+use crate::lane::LaneRoom;
+use crate::rescuing::Rescued;
+use crate::threads::run_threads;
+use std::alloc::Allocator;
+use std::sync::Wait;
+use std::thread::Threads;
+use thiserror::Error;
+use wq_api::{CallError, Naming, Seat, SeatError, WqRuntime};
+
+/// Why not all was run.
+#[derive(Clone, Copy, Debug, PartialEq, Eq, Error)]
+pub enum RunWhy {
+    /// There isn't one body for each lane (73).
+    #[error("as many bodies as workqueues are wanted")]
+    BodiesDiffer,
+    /// The runtime has made 65,535 seats (70).
+    #[error("more seats than a runtime may make")]
+    TooManySeats,
+    /// Memory ran out (20).
+    #[error("out of memory")]
+    OutOfMemory,
+    /// A thread can't be made (22).
+    #[error("no thread can be made")]
+    NoThread,
+}
+
+impl RunWhy {
+    /// The number of the refusal: 20, 22, 70 or 73.
+    pub fn code(self) -> u32
+        ensures { result ≡ run_code self }
+    {
+        match self {
+            RunWhy::OutOfMemory => 20,
+            RunWhy::NoThread => 22,
+            RunWhy::TooManySeats => 70,
+            RunWhy::BodiesDiffer => 73,
+        }
+    }
+}
+
+/// What all threads left.
+#[derive(Drop)]
+pub struct Ran<N: Naming, A: Allocator, B: Body + Drop, C: Caller + Drop> {
+    /// The seats of the lanes, and then those of the callers.
+    pub seats: Vec<Seat<N, A>, A>,
+    /// The bodies, lane by lane.
+    pub bodies: Vec<B, A>,
+    /// The callers, in order.
+    pub callers: Vec<C, A>,
+    /// What the callers answered, in order.
+    pub results: Vec<Result<(), CallError>, A>,
+    /// What the rescuers answered, lane by lane.
+    pub rescued: Vec<Result<Rescued, CallError>, A>,
+    /// How many executions were finished in all.
+    pub finished: u64,
+    /// How many of them ended with a fault.
+    pub faults: u64,
+}
+
+/// What is handed back where not all was run.
+#[derive(Drop)]
+pub struct RunFault<N: Naming, A: Allocator, B: Body + Drop, C: Caller + Drop> {
+    /// The seats that were made, but for that of a thread that couldn't be made.
+    pub seats: Vec<Seat<N, A>, A>,
+    /// The bodies, but for that of a lane whose thread couldn't be made.
+    pub bodies: Vec<B, A>,
+    /// The callers, but for one whose thread couldn't be made.
+    pub callers: Vec<C, A>,
+    /// Why.
+    pub why: RunWhy,
+}
+
+/// A seat for each lane and each caller. The error hands back those that were made before it.
+fn make_seats<N: Naming, A: Allocator + Copy, R: Wait>(
+    rt: &R,
+    alloc: A,
+    runtime: &WqRuntime<N, A>,
+    lanes: usize,
+    callers: usize,
+) -> Result<Vec<Seat<N, A>, A>, (Vec<Seat<N, A>, A>, RunWhy)>
+    ensures seats { IfOk result (λ seats. vec_len seats ≡ lanes + callers) }
+    ensures room { IfOk result (λ seats. lanes + callers ≤ vec_capacity seats) }
+    ensures no_counts { IfOk result (λ seats. All (λ seat. seat ≡ replicate (14 * items N.wiring) 0) seats.items) }
+    ensures refused { IfErr result (λ e. IsNoSeat e.1) }
+    ensures some { OnErr result (0 < lanes + callers) }
+{
+    let Some(count) = lanes.checked_add(callers) else {
+        return Err((Vec::new(alloc), RunWhy::OutOfMemory));
+    };
+    let Ok(mut seats) = Vec::with_capacity(alloc, count) else {
+        return Err((Vec::new(alloc), RunWhy::OutOfMemory));
+    };
+    for _ in 0..count {
+        match runtime.seat(rt, alloc) {
+            Ok(seat) => seats.push_reserved(seat),
+            Err(SeatError::TooManySeats) => return Err((seats, RunWhy::TooManySeats)),
+            Err(SeatError::OutOfMemory) => return Err((seats, RunWhy::OutOfMemory)),
+        }
+    }
+    Ok(seats)
+}
+
+/// Runs all: makes a seat for each lane and each caller, has a thread serve each lane and then a thread make the calls of
+/// each caller, waits for the callers, closes the runtime by `destroy`, and waits for the lanes.
+///
+/// No body has run anything yet, and each can count all items. The error is the first of these that holds: `BodiesDiffer`
+/// (73), where there isn't one body for each lane; `TooManySeats` (70) or `OutOfMemory` (20), before any thread starts;
+/// `NoThread` (22), where a thread can't be made: then no further one is started, and those that run are ended as above.
+/// All bodies and callers are handed back but for `NoThread`, where those of the thread that couldn't be made are lost. Where
+/// the thread of a lane can't be made on which something is pending already, the runtime can't be closed, and it waits
+/// forever; on a runtime that was just made nothing is.
+pub fn run_all<
+    N: Naming + Send + Sync,
+    A: Allocator + Copy + Send + Sync,
+    R: Threads + Wait + Sync,
+    B: Body + Send + Drop,
+    C: Caller + Send + Drop,
+>(
+    rt: &R,
+    alloc: A,
+    runtime: &WqRuntime<N, A>,
+    bodies: Vec<B, A>,
+    callers: Vec<C, A>,
+) -> Result<Ran<N, A, B, C>, RunFault<N, A, B, C>>
+    requires width { All (λ body. items N.wiring ≤ B.width body) bodies.items }
+    requires never_ran { All (λ body. NeverRan (B.runs body)) bodies.items }
+    ensures ran { IfOk result (λ r. (vec_len bodies ≡ N.wiring.lanes) × IsRan (items N.wiring) N.wiring.lanes (vec_len callers) r.seats.items (map B.runs r.bodies.items) (vec_len r.callers) (vec_len r.results) r.rescued.items r.finished r.faults) }
+    ensures refused { IfErr result (λ f. RefusesRun N.wiring.lanes (vec_len bodies) f.why) }
+    ensures no_seats { IfErr result (λ f. f.why ≡ BodiesDiffer → f.seats.items ≡ []) }
+    ensures memory { IfErr result (λ f. f.why ≡ OutOfMemory → 0 < vec_len bodies + vec_len callers) }
+    ensures kept { IfErr result (λ f. f.why ≢ NoThread → (f.bodies.items ≡ bodies.items) × (f.callers.items ≡ callers.items)) }
+{
+    let lanes = bodies.len();
+    let count = callers.len();
+    if lanes != usize::from(runtime.lanes(rt)) {
+        return Err(RunFault {
+            seats: Vec::new(alloc),
+            bodies,
+            callers,
+            why: RunWhy::BodiesDiffer,
+        });
+    }
+    let (Ok(lane), Ok(caller)) = (LaneRoom::new(alloc, lanes), CallerRoom::new(alloc, count)) else {
+        return Err(RunFault {
+            seats: Vec::new(alloc),
+            bodies,
+            callers,
+            why: RunWhy::OutOfMemory,
+        });
+    };
+    let mut seats = match make_seats(rt, alloc, runtime, lanes, count) {
+        Ok(seats) => seats,
+        Err((seats, why)) => return Err(RunFault {
+            seats,
+            bodies,
+            callers,
+            why,
+        }),
+    };
+    let LaneRoom {
+        jobs: mut lane_jobs,
+        ends: lane_ends,
+        bodies: bodies_back,
+        rescued,
+    } = lane;
+    let CallerRoom {
+        jobs: mut caller_jobs,
+        ends: caller_ends,
+        callers: mut callers_back,
+        mut results,
+    } = caller;
+    add_callers(&mut caller_jobs, &mut seats, callers);
+    add_lanes(&mut lane_jobs, &mut seats, bodies);
+    let board = run_threads(
+        rt,
+        runtime,
+        Board {
+            lane_jobs,
+            caller_jobs,
+            lane_ends,
+            caller_ends,
+        },
+    );
+    if board.lane_ends.len() != lanes || board.caller_ends.len() != count {
+        return Err(hand_back(board, seats, bodies_back, callers_back));
+    }
+    let Board {
+        lane_ends,
+        caller_ends,
+        ..
+    } = board;
+    let Served {
+        mut seats,
+        bodies,
+        rescued,
+        finished,
+        faults,
+    } = gather_lanes(lane_ends, seats, bodies_back, rescued);
+    gather_callers(caller_ends, &mut seats, &mut callers_back, &mut results);
+    Ok(Ran {
+        seats,
+        bodies,
+        callers: callers_back,
+        results,
+        rescued,
+        finished,
+        faults,
+    })
+}

@@ -1,0 +1,113 @@
+//! What the body of a work item may do while it runs: queue, cancel and flush.
+//!
+//! A body runs outside the lock, on the rescuer of its lane, and what it does counts in the seat of that rescuer. Flushes are
+//! those that its item declares, and no more of them (`flush_work` in a work function, Documentation/core-api/workqueue.rst,
+//! "Guidelines"). But for what it waits for, a call takes the time of the runtime's own.
+
+ghost use Rattle.std.specs.Prelude.{◌≡◌, ◌<◌, IfOk, IfErr};
+ghost use Rattle.wq_core.specs.Wiring.{items};
+ghost use Rattle.wq_counts.specs.declared.kind.Kind.TheVariants.{Queue, Cancel};
+ghost use Rattle.wq_counts.specs.Counting.{HasCountsOf, raised};
+ghost use Rattle.wq_api.specs.Refusals.{HasRoom, RefusesCancelWork, RefusesWaitFor};
+ghost use Rattle.wq_api.specs.Locked.{waited_for, RefusedWaitFor};
+ghost use Rattle.wq_rescuer.specs.Executing.{SameFinished, RefusesQueueByBody};
+
+use std::alloc::Allocator;
+use std::sync::Wait;
+use wq_api::{CallError, Naming, Seat, WqRuntime};
+use wq_groups::LaneId;
+use wq_items::ItemId;
+
+/// One execution of an item, as its body sees it.
+#[derive(Drop)]
+pub struct Work<'a, N: Naming, A: Allocator> {
+    runtime: &'a WqRuntime<N, A>,
+    seat: &'a mut Seat<N, A>,
+    lane: LaneId,
+    item: ItemId,
+}
+
+impl<'a, N: Naming, A: Allocator> Work<'a, N, A> {
+    /// An execution of an item that a lane has started, which counts in this seat.
+    pub(crate) fn new(
+        runtime: &'a WqRuntime<N, A>,
+        seat: &'a mut Seat<N, A>,
+        lane: LaneId,
+        item: ItemId,
+    ) -> Self
+        ensures same_seat { result.seat.ghost_name ≡ seat.entry.ghost_name }
+        ensures counts { result.seat.now ≡ seat.old }
+        ensures lane { result.lane ≡ lane }
+        ensures item { result.item ≡ item }
+    {
+        Work {
+            runtime,
+            seat,
+            lane,
+            item,
+        }
+    }
+
+    /// What holds of the counts of its seat: there are 14 for each item.
+    pub fn holds(&self)
+        ensures { HasCountsOf (items N.wiring) self.now.seat.now }
+    {
+        self.seat.holds();
+    }
+
+    /// The item that runs.
+    pub fn item(&self) -> ItemId
+        ensures { result ≡ self.now.item }
+    {
+        self.item
+    }
+
+    /// Queues an item: true where it wasn't pending, false where it was.
+    ///
+    /// The error is the first of these that holds: `NoItem` (66); `HistoryFull` (60), where the seat is full; `Closed` (61);
+    /// `HistoryFull` (60). Then nothing is changed or counted.
+    pub fn queue<R: Wait>(&mut self, rt: &R, item: ItemId) -> Result<bool, CallError>
+        ensures counted { IfOk result (λ accepted. (item < items N.wiring) × HasRoom self.old.seat.now × (self.new.seat.now ≡ raised self.old.seat.now item Queue accepted)) }
+        ensures refused { IfErr result (λ e. RefusesQueueByBody N.wiring self.old.seat.now item e × (self.new.seat.now ≡ self.old.seat.now)) }
+        ensures finished { SameFinished self.old.seat.now self.new.seat.now }
+        ensures same_seat { self.new.seat.ghost_name ≡ self.old.seat.ghost_name }
+        ensures lane { self.new.lane ≡ self.old.lane }
+        ensures item { self.new.item ≡ self.old.item }
+    {
+        let Some(lane) = self.runtime.lane_of(rt, item) else {
+            return Err(CallError::NoItem);
+        };
+        self.runtime.queue_work(rt, self.seat, lane, item)
+    }
+
+    /// Takes the pending entry of an item off: true where one was pending.
+    ///
+    /// The error is `NoItem` (66), else `HistoryFull` (60). Then nothing is changed or counted.
+    pub fn cancel<R: Wait>(&mut self, rt: &R, item: ItemId) -> Result<bool, CallError>
+        ensures counted { IfOk result (λ taken. (item < items N.wiring) × HasRoom self.old.seat.now × (self.new.seat.now ≡ raised self.old.seat.now item Cancel taken)) }
+        ensures refused { IfErr result (λ e. RefusesCancelWork N.wiring item e × (self.new.seat.now ≡ self.old.seat.now)) }
+        ensures finished { SameFinished self.old.seat.now self.new.seat.now }
+        ensures same_seat { self.new.seat.ghost_name ≡ self.old.seat.ghost_name }
+        ensures lane { self.new.lane ≡ self.old.lane }
+        ensures item { self.new.item ≡ self.old.item }
+    {
+        self.runtime.cancel_work(rt, self.seat, item)
+    }
+
+    /// Waits until each entry of an item is finished that was queued before: true where there was one.
+    ///
+    /// The error is the first of these that holds: `HistoryFull` (60), where the seat is full; `Undeclared` (62), where the
+    /// running item declares no flush of this one; `TooManyWaits` (63), where it has made as many as it declares. Then
+    /// nothing is changed or counted. `WrongLane` (64) comes only where another caller drives the same lane; where that
+    /// happens during the wait, the wait stays counted.
+    pub fn flush<R: Wait>(&mut self, rt: &R, target: ItemId) -> Result<bool, CallError>
+        ensures counted { IfOk result (λ unfinished. (self.old.lane < N.wiring.lanes) × (target < items N.wiring) × HasRoom self.old.seat.now × (self.new.seat.now ≡ waited_for self.old.seat.now target unfinished)) }
+        ensures refused { IfErr result (λ e. RefusesWaitFor N.wiring self.old.seat.now self.old.lane e × RefusedWaitFor N.wiring self.old.seat.now self.new.seat.now self.old.lane target e) }
+        ensures finished { SameFinished self.old.seat.now self.new.seat.now }
+        ensures same_seat { self.new.seat.ghost_name ≡ self.old.seat.ghost_name }
+        ensures lane { self.new.lane ≡ self.old.lane }
+        ensures item { self.new.item ≡ self.old.item }
+    {
+        self.runtime.wait_for(rt, self.seat, self.lane, target)
+    }
+}

@@ -1,0 +1,8 @@
+use Rattle.wq_script.proofs.Waits.{CountsFirstWaits-refused}
+use Rattle.wq_script.proofs.flushing.flush_each.Goals as goal
+
+pub returns-in-Err-clause-cut_off : goal.returns-in-Err-clause-cut_off
+returns-in-Err-clause-cut_off g c =
+    let l = c.loop-target in
+    CountsFirstWaits-refused g.N.Naming.wiring c.args.targets.now l.target-index c.target-item.result c.args.work.now.seat.now l.work.seat.now c.flush.new.self.seat.now
+    l.work.lane c.in-Err.e c.loop-target-test.true c.target-item.is l.invariant.0 c.holds.ensures c.in-Err.ensures.refused.1

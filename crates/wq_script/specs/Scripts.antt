@@ -1,0 +1,36 @@
+-- Scripts: what a scripted body keeps, and what the seat of its rescuer counts of its flushes.
+use Rattle.std.specs.Prelude.{◌≡◌, ℕ, ◌+◌, ◌≤◌, ◌==◌, ◌⊎◌, List, length, take, slice_index, true, false}
+use Rattle.std.specs.List.{count_by}
+use Rattle.wq_items.specs.declared.target.Target.{Target}
+use Rattle.wq_counts.specs.declared.kind.Kind.TheVariants.{Wait}
+use Rattle.wq_counts.specs.Counting.{made}
+
+-- of each item in turn: the targets of the flushes that it declares, and how often it ran
+pub record Script : Type 0 where
+  pub waits : List (List Target)
+  pub runs : List ℕ
+
+-- how often item i ran, 0 where there is no such item
+abbrev pub runs_of : Script → ℕ → ℕ
+runs_of script i = slice_index script.runs i
+
+-- how many waits for item b a seat counts, whatever their answers
+abbrev pub waits_of : List ℕ → ℕ → ℕ
+waits_of counts b = made counts b Wait true + made counts b Wait false
+
+-- how often item b stands among these targets
+abbrev pub times_among : List Target → ℕ → ℕ
+times_among targets b = count_by (λ (t : Target). t.item == b) targets
+
+-- of each item, a seat counts as many more waits as the item stands among these targets
+abbrev pub CountsWaits : List ℕ → List ℕ → List Target → Type 0
+CountsWaits old new targets = (b : ℕ) → waits_of new b ≡ waits_of old b + times_among targets b
+
+-- of each item, a seat counts as many more waits as the item stands among the first so many of these targets
+abbrev pub CountsFirstWaits : List ℕ → List ℕ → List Target → Type 0
+CountsFirstWaits old new targets = (n : ℕ) × (n ≤ length targets) × CountsWaits old new (take n targets)
+
+-- the number of a refusal of a flush by a body: the seat is full; no such flush is declared; as many were made as are
+-- declared; the lane can't wait
+abbrev pub IsFlushCode : ℕ → Type 0
+IsFlushCode code = (code ≡ 60) ⊎ ((62 ≤ code) × (code ≤ 64))

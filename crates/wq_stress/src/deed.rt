@@ -1,0 +1,89 @@
+//! What bodies and callers are to do, read from a text line by line. Reading takes time in the text's length.
+
+use std::alloc::Global;
+use wq_items::{ItemId, ItemTable};
+use wq_text::{Words, number};
+
+/// One thing that a body does in each execution, or a caller does once.
+#[derive(Clone, Copy)]
+pub(crate) enum Deed {
+    Flush(ItemId),
+    Queue(ItemId),
+    Cancel(ItemId),
+    /// A body leaves this out.
+    CancelSync(ItemId),
+    /// A body gives up with this code. A caller leaves this out.
+    GiveUp(u32),
+    /// Says that it is here, and looks for all others.
+    Meet,
+    /// Looks for the end, and goes on for a while.
+    Linger,
+    /// A caller says that the end has come, destroys the runtime, and looks whether what lingered has ended. A body leaves
+    /// this out.
+    Destroy,
+}
+
+/// What a line says.
+#[derive(Clone, Copy)]
+pub(crate) enum Entry {
+    /// A body begins, that of the next lane, or a caller.
+    Begin(bool),
+    /// A deed of the body or caller that has begun.
+    Deed(Deed),
+}
+
+/// The item of this name; where there is none, the first number past the items.
+fn item_of(table: &ItemTable<'_, Global>, name: &[u8]) -> ItemId {
+    table.find(name).unwrap_or(ItemId::new(table.len()))
+}
+
+/// What this word says alone.
+fn entry_alone(word: &[u8]) -> Option<Entry> {
+    if word == b"body".as_slice() {
+        Some(Entry::Begin(true))
+    } else if word == b"caller".as_slice() {
+        Some(Entry::Begin(false))
+    } else if word == b"meet".as_slice() {
+        Some(Entry::Deed(Deed::Meet))
+    } else if word == b"linger".as_slice() {
+        Some(Entry::Deed(Deed::Linger))
+    } else if word == b"destroy".as_slice() {
+        Some(Entry::Deed(Deed::Destroy))
+    } else {
+        None
+    }
+}
+
+/// What this word says with another behind it.
+fn deed_of(table: &ItemTable<'_, Global>, word: &[u8], what: &[u8]) -> Option<Deed> {
+    let item = item_of(table, what);
+    if word == b"flush".as_slice() {
+        Some(Deed::Flush(item))
+    } else if word == b"queue".as_slice() {
+        Some(Deed::Queue(item))
+    } else if word == b"cancel".as_slice() {
+        Some(Deed::Cancel(item))
+    } else if word == b"sync".as_slice() {
+        Some(Deed::CancelSync(item))
+    } else if word == b"fail".as_slice() {
+        Some(Deed::GiveUp(number(what)?))
+    } else {
+        None
+    }
+}
+
+/// What a line says by its first word and those behind it; none where it has the form of none.
+pub(crate) fn read_entry(
+    table: &ItemTable<'_, Global>,
+    word: &[u8],
+    mut words: Words<'_>,
+) -> Option<Entry> {
+    let Some(second) = words.next() else {
+        return entry_alone(word);
+    };
+    if words.next().is_some() {
+        return None;
+    }
+    let deed = deed_of(table, word, second.bytes())?;
+    Some(Entry::Deed(deed))
+}

@@ -1,0 +1,79 @@
+//! How threads see each other: a flag for each, and one for the end. Looking takes as long as the others let it wait, and at
+//! most 1,000,000,000 looks for each.
+
+use std::alloc::{AllocError, Global};
+use std::sync::atomic::{AtomicBool, Ordering};
+
+/// How often one looks for another.
+const LOOKS: u32 = 1_000_000_000;
+
+/// How often one looks once the end has come, before it goes on.
+const MORE_LOOKS: u32 = 1_000_000;
+
+/// The flags.
+#[derive(Drop)]
+pub(crate) struct Flags {
+    here: Vec<AtomicBool>,
+    is_ending: AtomicBool,
+    has_lingered: AtomicBool,
+}
+
+/// Looks for a flag until it is set.
+fn look(flag: &AtomicBool) -> bool {
+    for _ in 0..LOOKS {
+        if flag.load(Ordering::SeqCst) {
+            return true;
+        }
+    }
+    false
+}
+
+impl Flags {
+    /// Flags for so many, none of them set.
+    pub(crate) fn new(alloc: Global, count: usize) -> Result<Flags, AllocError> {
+        let mut here = Vec::new(alloc);
+        for _ in 0..count {
+            here.push(AtomicBool::new(false))?;
+        }
+        Ok(Flags {
+            here,
+            is_ending: AtomicBool::new(false),
+            has_lingered: AtomicBool::new(false),
+        })
+    }
+
+    /// Says that this one is here, and looks for all others. Whether it has seen all.
+    pub(crate) fn meet(&self, own: usize) -> bool {
+        if let Some(flag) = self.here.get(own) {
+            flag.store(true, Ordering::SeqCst);
+        }
+        let mut all = true;
+        for flag in self.here.as_slice() {
+            all = look(flag) && all;
+        }
+        all
+    }
+
+    /// Looks for the end, goes on for a while, and says that it has. Whether it has seen the end.
+    pub(crate) fn linger(&self) -> bool {
+        let has_seen = look(&self.is_ending);
+        let mut seen = 0u32;
+        for _ in 0..MORE_LOOKS {
+            if self.is_ending.load(Ordering::SeqCst) && seen < MORE_LOOKS {
+                seen += 1;
+            }
+        }
+        self.has_lingered.store(true, Ordering::SeqCst);
+        has_seen && seen > 0
+    }
+
+    /// Says that the end has come.
+    pub(crate) fn end(&self) {
+        self.is_ending.store(true, Ordering::SeqCst);
+    }
+
+    /// Whether one has lingered.
+    pub(crate) fn has_lingered(&self) -> bool {
+        self.has_lingered.load(Ordering::SeqCst)
+    }
+}

@@ -1,0 +1,162 @@
+# Rows for `PROGRAM run` and `PROGRAM script`: a declaration, an assignment, how many rows there are, what the bodies and
+# callers do, the answer, and the status. All were worked out by hand from docs/FORMAT.md.
+#
+# Where the schedule of the threads decides in which order rows stand, only what is printed before
+# them is given: such rows are in MEETINGS.
+
+ONE = ("item a", "wq 0 a")
+TWO = ("item a / item b / flush a b", "wq 0 b / wq 1 a")
+APART = ("item a / item b", "wq 0 a / wq 1 b")
+THREE = ("item a / item b / item c / flush a c b", "wq 0 b c / wq 1 a")
+
+# Nothing is queued: what is printed of a runtime in which nothing happened.
+NOTHING = "agree true / total 0 / rows 0"
+
+
+def served(*lanes):
+    """The first lines: of each lane how many executions were finished, and how many with a fault."""
+    head = f"finished {sum(f for f, _ in lanes)} faults {sum(x for _, x in lanes)}"
+    return " / ".join([head, *(f"lane {q} finished {f} faults {x}" for q, (f, x) in enumerate(lanes))])
+
+
+CREWS = [
+    # Nobody does anything.
+    (*ONE, 10, "body", f"{served((0, 0))} / body code 0 seen true / {NOTHING}", 0),
+    ("", "", 10, "", f"finished 0 faults 0 / {NOTHING}", 0),
+    # A body for each lane, and no more.
+    (*ONE, 10, "", "refused 73 seats 0 bodies 0 callers 0", 1),
+    (*TWO, 10, "body / caller / queue a", "refused 73 seats 0 bodies 1 callers 1", 1),
+    (*ONE, 10, "body / body", "refused 73 seats 0 bodies 2 callers 0", 1),
+    # One execution: the body runs between its Start and its Finish.
+    (*ONE, 10, "body / caller / queue a",
+     f"{served((1, 0))} / body code 0 seen true / caller ok / caller seen true / agree true"
+     " / made a queue yes 1 / made a finish yes 1 / total 2 / rows 3"
+     " / 010100000000000000000000 / 030100000000000000000000 / 060100000000000000000000", 0),
+    # What runs waits for an item that is idle.
+    (*TWO, 10, "body / body / flush b / caller / queue a",
+     f"{served((0, 0), (1, 0))} / body code 0 seen true / body code 0 seen true / caller ok / caller seen true"
+     " / agree true / made a queue yes 1 / made a finish yes 1 / made b wait no 1 / made b over yes 1 / total 4"
+     " / rows 5 / 010100000000000000000000 / 030100000100000000000000 / 040001000100000001000000"
+     " / 050101000100000001000000 / 060100000100000000000000", 0),
+    # The waits stand in the order in which the body made them.
+    (*THREE, 10, "body / body / flush c / flush b / caller / queue a",
+     f"{served((0, 0), (1, 0))} / body code 0 seen true / body code 0 seen true / caller ok / caller seen true"
+     " / agree true / made a queue yes 1 / made a finish yes 1 / made b wait no 1 / made b over yes 1"
+     " / made c wait no 1 / made c over yes 1 / total 6 / rows 7 / 010100000000000000000000"
+     " / 030100000100000000000000 / 040002000100000001000000 / 050102000100000001000000"
+     " / 040001000100000001000000 / 050101000100000001000000 / 060100000100000000000000", 0),
+    # Too few rows for an execution and its wait.
+    (*TWO, 4, "body / body / caller / queue a",
+     f"{served((0, 0), (0, 0))} / body code 0 seen true / body code 0 seen true / caller refused 60"
+     f" / caller seen true / {NOTHING}", 0),
+    # Just enough. The body flushes what its item doesn't declare: 62 is its fault, and the execution is finished.
+    (*TWO, 5, "body / body / flush a / caller / queue a",
+     f"{served((0, 0), (1, 1))} / body code 0 seen true / body code 62 seen true / caller ok / caller seen true"
+     " / agree true / made a queue yes 1 / made a finish yes 1 / total 2 / rows 3 / 010100000000000000000000"
+     " / 030100000100000000000000 / 060100000100000000000000", 0),
+    # It flushes once too often, an item that doesn't exist, and gives up by itself.
+    (*TWO, 10, "body / body / flush b / flush b / caller / queue a",
+     f"{served((0, 0), (1, 1))} / body code 0 seen true / body code 63 seen true / caller ok / caller seen true"
+     " / agree true / made a queue yes 1 / made a finish yes 1 / made b wait no 1 / made b over yes 1 / total 4"
+     " / rows 5 / 010100000000000000000000 / 030100000100000000000000 / 040001000100000001000000"
+     " / 050101000100000001000000 / 060100000100000000000000", 0),
+    (*ONE, 10, "body / flush nobody / caller / queue a",
+     f"{served((1, 1))} / body code 62 seen true / caller ok / caller seen true / agree true"
+     " / made a queue yes 1 / made a finish yes 1 / total 2 / rows 3"
+     " / 010100000000000000000000 / 030100000000000000000000 / 060100000000000000000000", 0),
+    (*ONE, 10, "body / fail 4294967295 / cancel a / caller / queue a",
+     f"{served((1, 1))} / body code 4294967295 seen true / caller ok / caller seen true / agree true"
+     " / made a queue yes 1 / made a finish yes 1 / total 2 / rows 3"
+     " / 010100000000000000000000 / 030100000000000000000000 / 060100000000000000000000", 0),
+    (*ONE, 10, "body / queue nobody / caller / queue a",
+     f"{served((1, 1))} / body code 66 seen true / caller ok / caller seen true / agree true"
+     " / made a queue yes 1 / made a finish yes 1 / total 2 / rows 3"
+     " / 010100000000000000000000 / 030100000000000000000000 / 060100000000000000000000", 0),
+    (*ONE, 10, "body / cancel a / cancel nobody / caller / queue a",
+     f"{served((1, 1))} / body code 66 seen true / caller ok / caller seen true / agree true"
+     " / made a queue yes 1 / made a cancel no 1 / made a finish yes 1 / total 3 / rows 4"
+     " / 010100000000000000000000 / 030100000000000000000000 / 020000000000000000000000"
+     " / 060100000000000000000000", 0),
+    # `destroy` waits until what runs has ended.
+    (*ONE, 10, "body / linger / caller / queue a / destroy",
+     f"{served((1, 0))} / body code 0 seen true / caller ok / caller seen true / agree true"
+     " / made a queue yes 1 / made a finish yes 1 / total 2 / rows 3"
+     " / 010100000000000000000000 / 030100000000000000000000 / 060100000000000000000000", 0),
+    # Callers stop at the first refusal.
+    (*ONE, 10, "body / caller / flush a / cancel a / sync a / queue nobody / flush a",
+     f"{served((0, 0))} / body code 0 seen true / caller refused 66 / caller seen true / agree true"
+     " / made a cancel no 2 / made a ask no 2 / total 4 / rows 4 / 070000000000000000000000"
+     " / 020000000000000000000000 / 070000000000000000000000 / 020000000000000000000000", 0),
+    # Nobody lingers, so `destroy` doesn't see it.
+    (*ONE, 10, "body / caller / destroy / queue a",
+     f"{served((0, 0))} / body code 0 seen true / caller refused 61 / caller seen false / {NOTHING}", 0),
+    (*ONE, 2, "body / caller / sync a",
+     f"{served((0, 0))} / body code 0 seen true / caller refused 60 / caller seen true / {NOTHING}", 0),
+    # More seats are wanted than a runtime makes.
+    (*ONE, 10, " / ".join(["body"] + ["caller"] * 65_535), "refused 70 seats 65535 bodies 1 callers 65535", 1),
+    # What isn't run.
+    (*ONE, 16_777_217, "body", "refused 68", 2),
+    ("item a / flush a a", "wq 0 a", 10, "body", "refused 67", 2),
+    # Mistakes of the input.
+    (*ONE, 10, "flush a", "mistake line 1", 2),
+    (*ONE, 10, "body / nothing", "mistake line 2", 2),
+    (*ONE, 10, "body / # and / flush a a", "mistake line 3", 2),
+    (*ONE, 10, "body a", "mistake line 1", 2),
+    (*ONE, 10, "body / fail x", "mistake line 2", 2),
+    (*ONE, 10, "body / fail 4294967296", "mistake line 2", 2),
+]
+
+# What is printed begins as this regular expression says.
+MEETINGS = [
+    # Two bodies and two callers run at once: each waits until it has seen the other three.
+    (*APART, 100, "body / meet / body / meet / caller / queue a / meet / caller / queue b / meet",
+     f"{served((1, 0), (1, 0))} / body code 0 seen true / body code 0 seen true / caller ok / caller ok"
+     " / caller seen true / caller seen true / agree true / made a queue yes 1 / made a finish yes 1"
+     " / made b queue yes 1 / made b finish yes 1 / total 4 / rows 6 / "),
+    # A body queues the other item.
+    (*APART, 100, "body / queue b / meet / body / meet / caller / queue a / meet",
+     f"{served((1, 0), (1, 0))} / body code 0 seen true / body code 0 seen true / caller ok / caller seen true"
+     " / agree true / made a queue yes 1 / made a finish yes 1 / made b queue yes 1 / made b finish yes 1"
+     " / total 4 / rows 6 / "),
+    # A body that queues its own item in each execution goes on until the runtime is closed: then it is refused once.
+    (*ONE, 10_000_000, "body / queue a / caller / queue a",
+     r"finished (\d+) faults 1 / lane 0 finished \1 faults 1 / body code 61 seen true / caller ok / caller seen true"
+     r" / agree true / made a queue yes \1 / made a finish yes \1 / total \d+ / rows \d+ / "),
+    # What a caller flushes, another one cancels; what runs waits for what is queued again and again.
+    (*TWO, 10_000, "body / body / flush b / caller / queue a / flush a / caller / queue b / flush b / cancel a",
+     r"finished (\d+) faults 0 / lane 0 finished 1 faults 0 / lane 1 finished [01] faults 0 / body code 0 seen true"
+     r" / body code 0 seen true / caller ok / caller ok / caller seen true / caller seen true / agree true / made "),
+]
+
+# What `script` prints begins as this regular expression says. Each item is queued once, flushed once from
+# outside, and by each that declares it; whether a flush had to wait is up to the schedule.
+ASKED = r"made {0} ask (?:yes 1\nmade {0} told yes|no) 1\n"
+FINISHED = "made {0} finish yes 1\n"
+WAITED = r"made {0} wait (?:yes|no) 1\nmade {0} over yes 1\n"
+
+
+def item(name, waited=False):
+    """The counts of an item."""
+    return (f"made {name} queue yes 1\n" + (WAITED.format(name) if waited else "")
+            + ASKED.format(name) + FINISHED.format(name))
+
+
+def rows_of(*rows):
+    """These rows, in this order, and others between them."""
+    return "(?s:" + "".join(rf".*\n{row}" for row in rows) + ")"
+
+
+SCRIPTS = [
+    (*TWO, 12, "finished 2 faults 0\nlane 0 finished 1 faults 0\nlane 1 finished 1 faults 0\ncaller ok\ncaller ok\nagree true\n"
+     + item("a") + item("b", True) + r"total (?:8|9|10)\nrows (?:10|11|12)"
+     + rows_of("010100000000", "030100000100", "040[01]01000100", "050101000100", "060100000100")),
+    ("", "", 0, "finished 0 faults 0\ncaller ok\ncaller ok\nagree true\ntotal 0\nrows 0\n$"),
+    # The scripted waits stand in the order of their flushes.
+    (*THREE, 19, "finished 3 faults 0\nlane 0 finished 2 faults 0\nlane 1 finished 1 faults 0\ncaller ok\ncaller ok\nagree true\n"
+     + item("a") + item("b", True) + item("c", True) + r"total \d+\nrows \d+"
+     + rows_of("030100000100", "040[01]02000100", "050102000100", "040[01]01000100", "050101000100", "060100000100")),
+    # A flush that is declared twice is made twice.
+    ("item a / item b / flush a b b", "wq 0 b / wq 1 a", 14,
+     "finished 2 faults 0\nlane 0 finished 1 faults 0\nlane 1 finished 1 faults 0\ncaller ok\ncaller ok\nagree true\n"
+     + item("a") + r"made b queue yes 1\n(?:made b wait yes [12]\n)?(?:made b wait no [12]\n)?made b over yes 2\n"),
+]
