@@ -246,7 +246,7 @@ impl<N: Naming, A: Allocator> WqRuntime<N, A> {
     /// The error is `NoItem` (66), else `HistoryFull` (60), where the seat is full or fewer than 3 rows are free; then
     /// nothing is changed or counted. After its ask it could be refused with `NotAsked` (65) alone, and then its ask and its
     /// cancellation stay counted.
-    #[tactic(auto, using(crate::proofs::CallsRefused::both_refused, crate::proofs::CallsRefused::both_not_counted, crate::proofs::CallsRefused::told_refused, crate::proofs::CallsRefused::told_not_counted))]
+    #[tactic(auto, using(crate::proofs::CallsRefused::both_refused, crate::proofs::CallsRefused::both_not_counted))]
     pub fn cancel_work_sync<R: Wait>(
         &self,
         rt: &R,
