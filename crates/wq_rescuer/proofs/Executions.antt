@@ -5,12 +5,11 @@ use Rattle.std.specs.List.{sum_by, range_with_len}
 use Rattle.std.proofs.lemmas.Bool.{cases_lt, cases_eq}
 use Rattle.std.proofs.lemmas.List.Sums.{sum_by-cons, sum_by-drop_more, sum_by-take-drop, get_or-le-sum_by}
 use lib.Seq.{drop-drop}
-use Rattle.wq_counts.specs.declared.kind.Kind.{Kind}
 use Rattle.wq_counts.specs.declared.kind.Kind.TheVariants.{Finish}
-use Rattle.wq_counts.specs.Counting.{kind_place, place, HasCountsOf, raised}
+use Rattle.wq_counts.specs.Counting.{place, HasCountsOf, raised}
 use Rattle.wq_counts.proofs.Places.{place-same, made-raised_same, made-raised_other}
 use Rattle.wq_api.specs.Refusals.{seat_rows}
-use Rattle.wq_rescuer.specs.Executing.{NeverRan, RanOnce, finished_of, finished_in_all, SameFinished, CountsRuns, CountsAtMost}
+use Rattle.wq_rescuer.specs.Executing.{RanOnce, finished_of, finished_in_all, SameFinished, CountsRuns}
 
 -- ---- one item
 
@@ -20,11 +19,6 @@ finished_of-raised n counts i has lt = made-raised_same counts i Finish true (om
 
 pub finished_of-other_item : (counts : List ℕ) (i j : ℕ) → j ≢ i → finished_of (raised counts i Finish true) j ≡ finished_of counts j
 finished_of-other_item counts i j ne = made-raised_other counts i j Finish Finish true true (λ e. ne (place-same j i Finish Finish true true e).0)
-
-pub finished_of-other_kind : (counts : List ℕ) (i : ℕ) (kind : Kind) (said : Bool) → kind_place kind < 6
-    → SameFinished counts (raised counts i kind said)
-finished_of-other_kind counts i kind said other j =
-    made-raised_other counts i j kind Finish said true (λ e. let same = ap kind_place (place-same j i Finish kind true said e).1 in omega arith)
 
 -- ---- all items
 
@@ -79,15 +73,6 @@ pub record IsServing (items : ℕ) (before counts : List ℕ) (width : ℕ) (run
   pub in_all : finished_in_all items before + finished ≡ finished_in_all items counts
   pub faults_within : faults ≤ finished
 
-pub serving_none : (items : ℕ) (before : List ℕ) (width : ℕ) (runs : ℕ → ℕ) → items ≤ width → NeverRan runs
-    → IsServing items before before width runs 0 0
-serving_none items before width runs wide never = record {
-  wide = wide;
-  ran = λ i. let none = never i in omega arith;
-  in_all = omega arith;
-  faults_within = omega arith;
-}
-
 -- what was counted before its body ran is so after it; and then one execution more is finished
 pub serving_more : (items : ℕ) (before counts after : List ℕ) (width wider : ℕ) (runs now : ℕ → ℕ) (finished faults more i : ℕ)
     → IsServing items before counts width runs finished faults → wider ≡ width → HasCountsOf items after → i < items
@@ -116,19 +101,6 @@ serving_more items before counts after width wider runs now finished faults more
   faults_within = omega (arith, serving.faults_within, few);
 })
 
--- a run that wasn't counted as finished
-pub at_most_run : (items : ℕ) (before counts after : List ℕ) (width : ℕ) (runs now : ℕ → ℕ) (finished faults i : ℕ)
-    → IsServing items before counts width runs finished faults → SameFinished counts after → RanOnce runs now i → CountsAtMost before after now
-at_most_run items before counts after width runs now finished faults i serving same once j = elim (cases_eq j i) [
-  | inl e ↦ (omega (arith, same j, serving.ran j), omega (arith, same j, serving.ran j, ap now e, ap runs e, once.0))
-  | inr ne ↦ (omega (arith, same j, serving.ran j), omega (arith, same j, serving.ran j, once.1 j ne))
-]
-
--- nothing was counted since
-pub at_most_served : (items : ℕ) (before counts : List ℕ) (width : ℕ) (runs : ℕ → ℕ) (finished faults : ℕ)
-    → IsServing items before counts width runs finished faults → CountsAtMost before counts runs
-at_most_served items before counts width runs finished faults serving j = (omega (arith, serving.ran j), omega (arith, serving.ran j))
-
 -- one execution more can be counted: a seat that isn't full has counted fewer
 pub few_finished : (items : ℕ) (before counts : List ℕ) (width : ℕ) (runs : ℕ → ℕ) (finished faults : ℕ)
     → IsServing items before counts width runs finished faults → HasCountsOf items counts → sum counts < seat_rows
@@ -136,13 +108,6 @@ pub few_finished : (items : ℕ) (before counts : List ℕ) (width : ℕ) (runs 
 few_finished items before counts width runs finished faults serving has room =
     let few : finished < 4294967295 = omega (arith, serving.in_all, finished_in_all-le items counts has) in
     (few, omega (arith, serving.faults_within, few))
-
--- an item can run once more
-pub few_runs : (items : ℕ) (before counts : List ℕ) (width : ℕ) (runs : ℕ → ℕ) (finished faults i : ℕ)
-    → IsServing items before counts width runs finished faults → HasCountsOf items counts → i < items → sum counts < seat_rows
-    → (i < width) × (runs i < 4294967295)
-few_runs items before counts width runs finished faults i serving has lt room =
-    (omega (arith, serving.wide), omega (arith, serving.ran i, finished_of-le items counts i has lt))
 
 -- a number that isn't at its limit is below it
 pub below_limit : (b : Bool) (limit n : ℕ) → (IsTrue b ↔ (limit ≤ n)) → b ≡ false → n < limit
