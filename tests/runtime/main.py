@@ -22,7 +22,7 @@ FLUSHES = [f"flush i{k} i{k - 1}" for k in range(1, 256)]
 CHAIN = (" / ".join(ITEMS + FLUSHES), " / ".join(f"wq {k} i{k}" for k in range(256)))
 
 # Address space for the program and for some of the threads of a chain's lanes, in bytes.
-SOME_THREADS = 256 << 20
+SOME_THREADS = 128 << 20
 
 # A declaration and an assignment, how many rows there are, and how many calls each caller makes.
 LOADS = [
