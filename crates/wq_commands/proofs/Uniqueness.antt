@@ -20,7 +20,7 @@ use Rattle.wq_commands.specs.Declaration.{Declared, declaration}
 use Rattle.wq_commands.proofs.AnswerLemmas.{IsSound, IsSound-declaration, IsDeclaration-sound}
 
 -- what has a plan has no circle
-not_both : (s : Declared) (a : Assignment) (circle : List WaitArc) → IsSound s → IsPlan (declared_waits s) a → IsWalkedCircle (group_graph (declared_waits s)) circle → ⊥
+pub not_both : (s : Declared) (a : Assignment) (circle : List WaitArc) → IsSound s → IsPlan (declared_waits s) a → IsWalkedCircle (group_graph (declared_waits s)) circle → ⊥
 not_both s a circle sound plan walked = IsPlan-no_circle (declared_waits s) a plan (IsCircled-from_walk (declared_waits s) (IsDeclaration-sound s sound) circle walked).has_circle
 
 -- the plan that is printed is the only one
@@ -28,7 +28,7 @@ PrintsPlan-unique : (s : Declared) (out printed : List ℕ) → PrintsPlan s out
 PrintsPlan-unique s out printed one two = one.text ∙ ap (text_of_plan s) (IsPlan-unique (declared_waits s) one.assignment two.assignment one.plan two.plan) ∙ sym two.text
 
 -- so is the circle, and so is its run
-PrintsCircle-unique : (s : Declared) (out printed : List ℕ) → IsSound s → PrintsCircle s out → PrintsCircle s printed → out ≡ printed
+pub PrintsCircle-unique : (s : Declared) (out printed : List ℕ) → IsSound s → PrintsCircle s out → PrintsCircle s printed → out ≡ printed
 PrintsCircle-unique s out printed sound one two =
     let d = declared_waits s in
     let w = wiring d (own_lanes s.partition.groups) in

@@ -59,7 +59,9 @@ fn run_of_groups<A: Allocator + Copy>(
 }
 
 /// The text of the circle in which the groups of a table's items wait, with its run.
-fn text_of_circle<A: Allocator + Copy>(
+///
+/// The only error is out of memory (20).
+pub fn text_of_circle<A: Allocator + Copy>(
     alloc: A,
     table: &ItemTable<'_, A>,
     groups: &Groups<A>,

@@ -18,7 +18,7 @@ use wq_items::{ItemError, ItemTable};
 use wq_text::{Text, TextError};
 
 /// How many bytes a declaration may have.
-pub(crate) const MAX_DECLARATION: u32 = 1_048_576;
+pub const MAX_DECLARATION: u32 = 1_048_576;
 
 /// How many bytes a line of it may have, its line feed and a carriage return before that not counted.
 const MAX_DECLARATION_LINE: u32 = 4096;

@@ -21,10 +21,12 @@ mod refusal;
 mod replay;
 mod replaying;
 
+pub use answer::text_of_circle;
 pub use check::check_cmd;
 pub use deadlock::deadlock_cmd;
-pub use declaration::{Declaration, Stop, read_declaration};
+pub use declaration::{Declaration, MAX_DECLARATION, Stop, read_declaration};
 pub use end::End;
 pub use plan::plan_cmd;
+pub use refusal::refuse;
 pub use replay::replay_cmd;
 pub use wq_meter::{Fault, Metered, read_text, write_text};

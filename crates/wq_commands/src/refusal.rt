@@ -26,8 +26,8 @@ pub(crate) fn refusal_text<A: Allocator + Copy>(
     Ok(out)
 }
 
-/// How a run ends whose text is refused, and what it prints.
-pub(crate) fn refuse<A: Allocator + Copy>(
+/// How a run ends whose text is refused, and what it prints. The only error is out of memory (20).
+pub fn refuse<A: Allocator + Copy>(
     alloc: A,
     code: u32,
     line: u32,
