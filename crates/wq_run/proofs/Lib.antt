@@ -1,0 +1,5 @@
+pub mod AnswerLemmas
+pub mod InputLemmas
+pub mod ReportLemmas
+pub mod RuntimeLemmas
+pub mod Uniqueness

@@ -1,0 +1,49 @@
+-- Why no runtime is made for a plan, and what a runtime that was closed says of the items of a declaration.
+use Rattle.std.proofs.Common.{◌≡◌, ◌≢◌, ◌↔◌, ℕ, ◌<◌, ◌≤◌, Bool, true, false, List, length, Result, Vec, refl, sym, ap, subst, ◌∙◌, arith}
+use Rattle.std.specs.Prelude.{IfOk, IsTrue}
+use Rattle.std.proofs.lemmas.Result.{IfOk-weaker}
+use Rattle.wq_items.specs.Table.{Table, IsTable}
+use Rattle.wq_groups.specs.Assignment.{Assignment}
+use Rattle.wq_core.specs.Wiring.{Wiring, items, wiring}
+use Rattle.wq_core.specs.Deadlock.{IsSafe}
+use Rattle.wq_plan.specs.Plan.{IsPlan}
+use Rattle.wq_plan.proofs.Plans.{IsSafe-plan}
+use Rattle.wq_history.specs.Book.{BookView}
+use Rattle.wq_api.specs.declared.fault.NewError.{NewError}
+use Rattle.wq_api.specs.declared.fault.NewError.TheVariants.{TooManyLanes, TooManyRows, NotSafe, OutOfMemory}
+use Rattle.wq_api.specs.Refusals.{RefusesRuntime, new_code}
+use Rattle.wq_api.specs.Closing.{IsClosed, Agrees}
+use Rattle.wq_commands.specs.declared.end.End.{End}
+use Rattle.wq_commands.specs.declared.end.End.TheVariants.{Refused}
+use Rattle.wq_commands.specs.Answer.{declared_waits, IsRefused}
+use Rattle.wq_commands.specs.Declaration.{Declared}
+use Rattle.wq_commands.proofs.AnswerLemmas.{IsSound, IsDeclaration-sound}
+use Rattle.wq_run.specs.Running.{RunsDeclared, max_workqueues, rows_for}
+
+-- a runtime has as many items as the declaration
+pub items-wiring : (w : Wiring) (s : Declared) (a : Assignment) → IsTable s.table → w ≡ wiring (declared_waits s) a → items w ≡ length s.table.names
+items-wiring w s a table is = ap items is ∙ table.one_list_each
+
+-- where it isn't out of memory that no runtime is made of a plan, it has too many workqueues: it is safe, and its rows are few
+RunsDeclared-refused : (s : Declared) (w : Wiring) (a : Assignment) (rows : ℕ) (e : NewError) (end : End) (out : List ℕ) → IsSound s → IsPlan (declared_waits s) a
+    → w ≡ wiring (declared_waits s) a → rows ≡ rows_for s → RefusesRuntime w rows e → (e ≢ OutOfMemory) × IsRefused (record { code = new_code e; line = 0 }) end out → RunsDeclared s end out
+RunsDeclared-refused s w a rows TooManyLanes end out sound plan is room why refused =
+    let many : max_workqueues < a.lanes = subst (λ (x : Wiring). max_workqueues < x.lanes) is why in
+    subst (λ (x : End). RunsDeclared s x out) (sym refused.1.0) (record { assignment = a; plan = plan; many = many; text = refused.1.1 })
+RunsDeclared-refused s w a rows TooManyRows end out sound plan is room why refused = absurd (omega (arith, why.1, room, sound.table.few_items, sound.table.few_flushes))
+RunsDeclared-refused s w a rows NotSafe end out sound plan is room why refused =
+    absurd (why.2 (subst (λ (x : Wiring). IsSafe x) (sym is) (IsSafe-plan (declared_waits s) a (IsDeclaration-sound s sound) plan)))
+RunsDeclared-refused s w a rows OutOfMemory end out sound plan is room why refused = absurd (refused.0 refl)
+
+-- the answer where no runtime is made
+pub RunsDeclared-no_runtime : {T : Type 0} {A : Type 0} (s : Declared) (w : Wiring) (a : Assignment) (rows : ℕ) (e : NewError) (answer : Result (End × Vec ℕ A) T) → IsSound s
+    → IsPlan (declared_waits s) a → w ≡ wiring (declared_waits s) a → rows ≡ rows_for s → RefusesRuntime w rows e
+    → IfOk answer (λ printed. (e ≢ OutOfMemory) × IsRefused (record { code = new_code e; line = 0 }) printed.0 printed.1.items)
+    → IfOk answer (λ printed. RunsDeclared s printed.0 printed.1.items)
+RunsDeclared-no_runtime s w a rows e answer sound plan is room why refused =
+    IfOk-weaker answer _ _ (λ printed said. RunsDeclared-refused s w a rows e printed.0 printed.1.items sound plan is room why said) refused
+
+-- counts that agree
+pub Agrees-closed : (w : Wiring) (rows : ℕ) (seats : List (List ℕ)) (book : BookView) (counts : List ℕ) (agree : Bool) (n : ℕ) → IsClosed w rows seats book counts agree
+    → agree ≡ true → items w ≡ n → Agrees n book counts
+Agrees-closed w rows seats book counts agree n closed said is = subst (λ (k : ℕ). Agrees k book counts) is (closed.agrees.0 said)

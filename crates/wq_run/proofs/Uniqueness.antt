@@ -1,0 +1,70 @@
+-- A text has one end of `run`, and one answer where no plan was run.
+use Rattle.std.proofs.Common.{◌≡◌, ◌≢◌, ℕ, ◌<◌, ◌≤◌, List, Result, Ok, Err, refl, sym, ap, ◌∙◌, arith}
+use Rattle.std.specs.Prelude.{MatchResult}
+use Rattle.wq_text.specs.Refusal.{Refusal}
+use Rattle.wq_groups.specs.Assignment.{Assignment}
+use Rattle.wq_plan.specs.Plan.{IsPlan}
+use Rattle.wq_plan.proofs.Plans.{IsPlan-unique}
+use Rattle.wq_commands.specs.declared.end.End.{End}
+use Rattle.wq_commands.specs.declared.end.End.TheVariants.{Good, Bad, Refused}
+use Rattle.wq_commands.specs.Answer.{Answers, AnswersDeclared, IsRefused, declared_waits}
+use Rattle.wq_commands.specs.Declaration.{Declared, declaration}
+use Rattle.wq_commands.proofs.AnswerLemmas.{IsSound, IsSound-declaration}
+use Rattle.wq_commands.proofs.Uniqueness.{not_both, PrintsCircle-unique}
+use Rattle.wq_run.specs.Running.{HasRuntime, IsRunnable, Runs, RunsDeclared, max_workqueues}
+
+-- a plan doesn't have both many workqueues and few
+one_width : (s : Declared) (a b : Assignment) → IsPlan (declared_waits s) a → IsPlan (declared_waits s) b → a.lanes ≤ max_workqueues → max_workqueues < b.lanes → ⊥
+one_width s a b one two few many =
+    let same : a.lanes ≡ b.lanes = ap (λ (x : Assignment). x.lanes) (IsPlan-unique (declared_waits s) a b one two) in
+    absurd (omega (arith, same, few, many))
+
+one_end : (s : Declared) (end other : End) (out printed : List ℕ) → IsSound s → RunsDeclared s end out → RunsDeclared s other printed → end ≡ other
+one_end s Good Good out printed sound one two = refl
+one_end s Good Bad out printed sound one two = absurd (not_both s one.assignment two.circle sound one.plan two.walked)
+one_end s Good Refused out printed sound one two = absurd (one_width s one.assignment two.assignment one.plan two.plan one.few two.many)
+one_end s Bad Good out printed sound one two = absurd (not_both s two.assignment one.circle sound two.plan one.walked)
+one_end s Bad Bad out printed sound one two = refl
+one_end s Bad Refused out printed sound one two = absurd (not_both s two.assignment one.circle sound two.plan one.walked)
+one_end s Refused Good out printed sound one two = absurd (one_width s two.assignment one.assignment two.plan one.plan two.few one.many)
+one_end s Refused Bad out printed sound one two = absurd (not_both s one.assignment two.circle sound one.plan two.walked)
+one_end s Refused Refused out printed sound one two = refl
+
+one_text : (s : Declared) (end : End) (out printed : List ℕ) → IsSound s → end ≢ Good → RunsDeclared s end out → RunsDeclared s end printed → out ≡ printed
+one_text s Good out printed sound other one two = absurd (other refl)
+one_text s Bad out printed sound other one two = PrintsCircle-unique s out printed sound one two
+one_text s Refused out printed sound other one two = one.text ∙ sym two.text
+
+ends : (declared : Result Declared Refusal) (end other : End) (out printed : List ℕ) → ((s : Declared) → declared ≡ Ok s → IsSound s)
+    → MatchResult declared (λ s. RunsDeclared s end out) (λ r. IsRefused r end out)
+    → MatchResult declared (λ s. RunsDeclared s other printed) (λ r. IsRefused r other printed) → end ≡ other
+ends (Ok s) end other out printed sound one two = one_end s end other out printed (sound s refl) one two
+ends (Err r) end other out printed sound one two = one.0 ∙ sym two.0
+
+texts : (declared : Result Declared Refusal) (end : End) (out printed : List ℕ) → ((s : Declared) → declared ≡ Ok s → IsSound s) → end ≢ Good
+    → MatchResult declared (λ s. RunsDeclared s end out) (λ r. IsRefused r end out)
+    → MatchResult declared (λ s. RunsDeclared s end printed) (λ r. IsRefused r end printed) → out ≡ printed
+texts (Ok s) end out printed sound other one two = one_text s end out printed (sound s refl) other one two
+texts (Err r) end out printed sound other one two = one.1 ∙ sym two.1
+
+pub Runs-end : (text : List ℕ) (end other : End) (out printed : List ℕ) → Runs text end out → Runs text other printed → end ≡ other
+Runs-end text end other out printed = ends (declaration text) end other out printed (IsSound-declaration text)
+
+pub Runs-text : (text : List ℕ) (end : End) (out printed : List ℕ) → end ≢ Good → Runs text end out → Runs text end printed → out ≡ printed
+Runs-text text end out printed = texts (declaration text) end out printed (IsSound-declaration text)
+
+refused : (declared : Result Declared Refusal) (out : List ℕ) → MatchResult declared (λ s. AnswersDeclared s Refused out) (λ r. IsRefused r Refused out)
+    → MatchResult declared (λ s. RunsDeclared s Refused out) (λ r. IsRefused r Refused out)
+refused (Ok s) out is = absurd is
+refused (Err r) out is = is
+
+pub Runs-refused : (text out : List ℕ) → Answers text Refused out → Runs text Refused out
+Runs-refused text out = refused (declaration text) out
+
+runnable : (declared : Result Declared Refusal) (out : List ℕ) → MatchResult declared (λ s. RunsDeclared s Good out) (λ r. IsRefused r Good out)
+    → MatchResult declared HasRuntime (λ r. ⊥)
+runnable (Ok s) out is = record { assignment = is.assignment; plan = is.plan; few = is.few }
+runnable (Err r) out is = absurd (let same : Good ≡ Refused = is.0 in cc)
+
+pub IsRunnable-run : (text out : List ℕ) → Runs text Good out → IsRunnable text
+IsRunnable-run text out = runnable (declaration text) out

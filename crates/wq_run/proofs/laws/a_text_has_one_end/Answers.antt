@@ -1,0 +1,8 @@
+use Rattle.wq_run.proofs.Uniqueness.{Runs-end, Runs-text}
+use Rattle.wq_run.proofs.laws.a_text_has_one_end.Goals as goal
+
+pub returns-clause-end : goal.returns-clause-end
+returns-clause-end c = λ text end other out printed one two. Runs-end text end other out printed one two
+
+pub returns-clause-out : goal.returns-clause-out
+returns-clause-out c = λ text end out printed other one two. Runs-text text end out printed other one two

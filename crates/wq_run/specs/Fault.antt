@@ -1,0 +1,44 @@
+-- What stops a command, and `run` in particular.
+use Rattle.std.specs.Prelude.{ℕ, List, codes}
+use Rattle.wq_meter.specs.declared.fault.Fault.TheVariants.{Memory, Read, Write}
+use Rattle.wq_meter.specs.Fault.{fault_text}
+use Rattle.wq_rescuer.specs.declared.running.RunWhy.{RunWhy}
+use Rattle.wq_rescuer.specs.declared.running.RunWhy.TheVariants.{BodiesDiffer, TooManySeats, OutOfMemory as NoMemory, NoThread}
+use Rattle.wq_commands.specs.Declaration.{Declared}
+use Rattle.wq_run.specs.declared.fault.CommandFault.{CommandFault}
+use Rattle.wq_run.specs.declared.fault.CommandFault.TheVariants.{Common, Thread, Tally}
+use Rattle.wq_run.specs.declared.fault.RunStop.{RunStop}
+use Rattle.wq_run.specs.declared.fault.RunStop.TheVariants as stop
+use Rattle.wq_run.specs.declared.fault.RunStop.TheVariants.{OutOfMemory}
+use Rattle.wq_run.specs.Running.{HasRuntime, IsRunnable}
+
+-- the words that are printed for a fault, as bytes
+abbrev pub command_fault_text : CommandFault → List ℕ
+command_fault_text (Common fault) = fault_text fault
+command_fault_text Thread = codes "fault thread"
+command_fault_text Tally = codes "fault tally"
+
+-- why there is no answer where not all was run
+abbrev pub stop_of_run : RunWhy → RunStop
+stop_of_run NoMemory = OutOfMemory
+stop_of_run NoThread = stop.Thread
+stop_of_run TooManySeats = stop.Tally
+stop_of_run BodiesDiffer = stop.Tally
+
+-- what is said of it
+abbrev pub fault_of_stop : RunStop → CommandFault
+fault_of_stop OutOfMemory = Common Memory
+fault_of_stop stop.Thread = Thread
+fault_of_stop stop.Tally = Tally
+
+-- making the answer to a declaration stops for memory, or, where its plan is run, for a thread or the tallies
+abbrev pub StopsDeclared : Declared → RunStop → Type 0
+StopsDeclared s OutOfMemory = Unit {0}
+StopsDeclared s stop.Thread = HasRuntime s
+StopsDeclared s stop.Tally = HasRuntime s
+
+-- the same of a text
+abbrev pub Stops : List ℕ → RunStop → Type 0
+Stops text OutOfMemory = Unit {0}
+Stops text stop.Thread = IsRunnable text
+Stops text stop.Tally = IsRunnable text

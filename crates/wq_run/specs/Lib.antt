@@ -1,0 +1,7 @@
+pub use Rattle.wq_commands.specs.Answer
+pub use Rattle.wq_api.specs.Closing
+pub use Rattle.wq_rescuer.specs.Serving
+pub mod Report
+pub mod Running
+pub mod Run
+pub mod Fault

@@ -1,0 +1,77 @@
+-- The answer of `run` to a declaration text: what is printed, and how it ends.
+use Rattle.std.specs.Prelude.{◌≡◌, ℕ, ◌+◌, ◌*◌, ◌<◌, ◌≤◌, List, length, true, Result, MatchResult}
+use Rattle.wq_items.specs.Table.{flush_count}
+use Rattle.wq_groups.specs.Assignment.{Assignment}
+use Rattle.wq_core.specs.Wiring.{wiring}
+use Rattle.wq_plan.specs.Plan.{IsPlan}
+use Rattle.wq_counts.specs.declared.kind.Kind.{Kind}
+use Rattle.wq_counts.specs.Counting.{tally}
+use Rattle.wq_history.specs.Book.{BookView}
+use Rattle.wq_api.specs.declared.fault.CallError.{CallError}
+use Rattle.wq_api.specs.Closing.{IsClosed}
+use Rattle.wq_rescuer.specs.declared.rescuing.Rescued.{Rescued}
+use Rattle.wq_rescuer.specs.Serving.{IsRan}
+use Rattle.wq_commands.specs.declared.end.End.{End}
+use Rattle.wq_commands.specs.declared.end.End.TheVariants.{Good, Bad, Refused}
+use Rattle.wq_commands.specs.Answer.{declared_waits, refusal_text, IsRefused, PrintsCircle}
+use Rattle.wq_commands.specs.Declaration.{Declared, declaration}
+use Rattle.wq_run.specs.Report.{report_text}
+
+-- how many workqueues a runtime has at most
+abbrev pub max_workqueues : ℕ
+max_workqueues = 256
+
+-- how many rows the history has room for: what one queueing of each item, its flush by a caller and one execution with all
+-- declared flushes write and reserve
+abbrev pub rows_for : Declared → ℕ
+rows_for s = 5 * length s.table.names + 2 * flush_count s.table.waits
+
+-- how many rows of an item, of a kind and with a yes a history holds
+abbrev pub yes_tally : BookView → ℕ → Kind → ℕ
+yes_tally book i kind = tally book.rows i kind true
+
+-- the plan was run: all that its rescuers and two callers did is in a book, which was closed with all their seats. It is
+-- idle and a legal history under the plan, and the seats' counts agree with it item by item. What is printed is the text of
+-- the book's tallies, and of the faults that the rescuers counted
+pub record PrintsRun (s : Declared) (out : List ℕ) : Type 0 where
+  pub assignment : Assignment
+  pub plan : IsPlan (declared_waits s) assignment
+  pub few : assignment.lanes ≤ max_workqueues
+  pub seats : List (List ℕ)
+  pub runs : List (ℕ → ℕ)
+  pub rescued : List (Result Rescued CallError)
+  pub finished : ℕ
+  pub faults : ℕ
+  pub ran : IsRan (length s.table.names) assignment.lanes 2 seats runs 2 2 rescued finished faults
+  pub book : BookView
+  pub counts : List ℕ
+  pub closed : IsClosed (wiring (declared_waits s) assignment) (rows_for s) seats book counts true
+  pub text : out ≡ report_text s assignment (yes_tally book) faults
+
+-- the plan has more workqueues than a runtime may have, which is refused (69)
+pub record IsTooWide (s : Declared) (out : List ℕ) : Type 0 where
+  pub assignment : Assignment
+  pub plan : IsPlan (declared_waits s) assignment
+  pub many : max_workqueues < assignment.lanes
+  pub text : out ≡ refusal_text (record { code = 69; line = 0 })
+
+-- the answer to a declaration: its plan is run, or is too wide for a runtime; or its groups wait in a circle, which is printed
+-- as `plan` prints it
+abbrev pub RunsDeclared : Declared → End → List ℕ → Type 0
+RunsDeclared s Good out = PrintsRun s out
+RunsDeclared s Bad out = PrintsCircle s out
+RunsDeclared s Refused out = IsTooWide s out
+
+-- the answer to a text: that to what it declares, or its refusal
+abbrev pub Runs : List ℕ → End → List ℕ → Type 0
+Runs text end out = MatchResult (declaration text) (λ s. RunsDeclared s end out) (λ r. IsRefused r end out)
+
+-- the declaration has a plan that a runtime can have
+pub record HasRuntime (s : Declared) : Type 0 where
+  pub assignment : Assignment
+  pub plan : IsPlan (declared_waits s) assignment
+  pub few : assignment.lanes ≤ max_workqueues
+
+-- so has what the text declares
+abbrev pub IsRunnable : List ℕ → Type 0
+IsRunnable text = MatchResult (declaration text) HasRuntime (λ r. ⊥)

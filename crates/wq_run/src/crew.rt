@@ -1,0 +1,67 @@
+//! Who runs a plan: a scripted body for each lane, and two scripted callers that share the items.
+//!
+//! The bodies make the flushes that their items declare. Each takes time and memory in the number of items, and the bodies that
+//! of the lanes.
+
+ghost use Rattle.std.specs.Prelude.{◌≡◌, length, vec_len, IfOk};
+ghost use Rattle.std.specs.List.{All};
+ghost use Rattle.wq_rescuer.specs.Executing.{NeverRan};
+ghost use Rattle.wq_script.specs.Scripts.{runs_of};
+
+use std::alloc::{AllocError, Allocator};
+use wq_items::{ItemId, ItemTable};
+use wq_script::{Act, ScriptBody, ScriptCaller};
+
+/// A body for each of so many lanes, none of which has run anything. The only error is out of memory (20).
+pub fn script_bodies<'t, 'a, A: Allocator + Copy>(
+    alloc: A,
+    table: &'t ItemTable<'a, A>,
+    lanes: u16,
+) -> Result<Vec<ScriptBody<'t, 'a, A>, A>, AllocError>
+    ensures width { IfOk result (λ bs. All (λ b. length b.runs ≡ length table.now.names) bs.items) }
+    ensures never_ran { IfOk result (λ bs. All (λ b. NeverRan (runs_of b)) bs.items) }
+    ensures one_each { IfOk result (λ bs. vec_len bs ≡ lanes) }
+{
+    let mut bodies = Vec::new(alloc);
+    for _ in 0..lanes {
+        let body = ScriptBody::new(alloc, table)?;
+        bodies.push(body)?;
+    }
+    Ok(bodies)
+}
+
+/// A caller that queues every second of so many items, from the first one on, and then flushes them.
+fn script_caller<A: Allocator + Copy>(
+    alloc: A,
+    first: u16,
+    count: u16,
+) -> Result<ScriptCaller<A>, AllocError> {
+    let mut acts = Vec::new(alloc);
+    for i in 0..count {
+        if i % 2 == first {
+            acts.push(Act::Queue(ItemId::new(i)))?;
+        }
+    }
+    for i in 0..count {
+        if i % 2 == first {
+            acts.push(Act::Flush(ItemId::new(i)))?;
+        }
+    }
+    Ok(ScriptCaller::new(acts))
+}
+
+/// Two callers that queue so many items and then flush them, the one those with even numbers, the other those with odd ones,
+/// each in order. The only error is out of memory (20).
+pub fn script_callers<A: Allocator + Copy>(
+    alloc: A,
+    count: u16,
+) -> Result<Vec<ScriptCaller<A>, A>, AllocError>
+    ensures { IfOk result (λ callers. vec_len callers ≡ 2) }
+{
+    let mut callers = Vec::new(alloc);
+    for first in 0..2 {
+        let caller = script_caller(alloc, first, count)?;
+        callers.push(caller)?;
+    }
+    Ok(callers)
+}

@@ -1,0 +1,28 @@
+//! Laws of the answers of `run`, as contracts of functions with empty bodies.
+
+ghost use Rattle.std.specs.Prelude.{◌≡◌, ◌≢◌, ◌↔◌, ℕ, List};
+ghost use Rattle.wq_commands.specs.declared.end.End.{End};
+ghost use Rattle.wq_commands.specs.declared.end.End.TheVariants.{Good, Bad, Refused};
+ghost use Rattle.wq_commands.specs.Answer.{Answers};
+ghost use Rattle.wq_run.specs.Running.{IsRunnable, Runs};
+
+/// A text has one end of `run`; and where that isn't a plan that was run, one text that is printed.
+pub fn a_text_has_one_end()
+    ensures end { (text : List ℕ) (end other : End) (out printed : List ℕ) → Runs text end out → Runs text other printed → end ≡ other }
+    ensures out { (text : List ℕ) (end : End) (out printed : List ℕ) → end ≢ Good → Runs text end out → Runs text end printed → out ≡ printed }
+{}
+
+/// A circle is printed where `plan` prints one, and as `plan` prints it.
+pub fn a_circle_is_printed_as_by_plan()
+    ensures { (text out : List ℕ) → Runs text Bad out ↔ Answers text Bad out }
+{}
+
+/// What `plan` refuses is refused alike.
+pub fn a_refusal_is_printed_as_by_plan()
+    ensures { (text out : List ℕ) → Answers text Refused out → Runs text Refused out }
+{}
+
+/// A plan is run exactly where `plan` prints one and a runtime can have its workqueues.
+pub fn what_is_run_is_runnable()
+    ensures { (text out : List ℕ) → Runs text Good out → IsRunnable text }
+{}

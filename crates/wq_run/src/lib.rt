@@ -1,0 +1,18 @@
+//! The command `run`: a declaration is planned, and its plan is run by a rescuer thread for each workqueue.
+//!
+//! What the program relies on: where a plan was run, the bytes written are the tallies of the history that was closed, which
+//! agree with what each rescuer and each caller counted. It stands apart from the other commands, whose proofs know no threads.
+//! The command is that of "`run`" in docs/FORMAT.md; it takes the time of planning, of the executions and of writing the answer.
+#![tactic(auto)]
+
+mod crew;
+mod fault;
+pub mod laws;
+mod outputs;
+mod report;
+mod run;
+mod running;
+
+pub use crew::{script_bodies, script_callers};
+pub use fault::CommandFault;
+pub use run::run_cmd;

@@ -1,0 +1,132 @@
+//! What is printed of a plan that was run.
+//!
+//! The format is that of "`run`" in docs/FORMAT.md. It takes time and memory in the number of items and the length of their
+//! names.
+
+ghost use Rattle.std.specs.Prelude.{◌≡◌, ◌++◌, ◌<◌, ℕ, length, true, OnOk, IfOk, decimal, flat_map};
+ghost use Rattle.wq_lines.specs.LineText.{spaced, line_text};
+ghost use Rattle.wq_counts.specs.declared.kind.Kind.{Kind};
+ghost use Rattle.wq_counts.specs.Counting.{made};
+ghost use Rattle.wq_api.specs.Closing.{Agrees};
+ghost use Rattle.wq_run.specs.Report.{workqueues_line, count_words, item_line, faults_line, report_text};
+ghost use Rattle.wq_run.specs.Running.{yes_tally};
+
+use std::alloc::{AllocError, Allocator};
+use wq_api::{Closed, Counts, Naming};
+use wq_groups::{Assignment, Groups};
+use wq_items::{ItemId, ItemTable};
+use wq_lines::{put, put_end, put_number, put_word};
+
+/// Adds a space and a count. The only error is out of memory (20).
+fn put_count<A: Allocator + Copy>(
+    alloc: A,
+    out: &mut Vec<u8, A>,
+    count: u64,
+) -> Result<(), AllocError>
+    ensures { OnOk result (out.new.items ≡ out.old.items ++ spaced (decimal count)) }
+{
+    let digits = count.to_string(alloc)?;
+    put_word(out, digits.as_bytes())
+}
+
+/// Adds `workqueues K`.
+fn put_workqueues_line<A: Allocator + Copy>(
+    alloc: A,
+    out: &mut Vec<u8, A>,
+    lanes: u16,
+) -> Result<(), AllocError>
+    ensures { OnOk result (out.new.items ≡ out.old.items ++ line_text (workqueues_line lanes)) }
+{
+    put(out, b"workqueues")?;
+    put_number(alloc, out, u32::from(lanes))?;
+    put_end(out)
+}
+
+/// Adds ` queued N cancelled N finished N`.
+fn put_counts<A: Allocator + Copy>(
+    alloc: A,
+    out: &mut Vec<u8, A>,
+    counts: &Counts<A>,
+    item: ItemId,
+) -> Result<(), AllocError>
+    ensures { OnOk result (out.new.items ≡ out.old.items ++ flat_map spaced (count_words (λ kind. made counts.now item kind true))) }
+{
+    put_word(out, b"queued")?;
+    put_count(alloc, out, counts.queued(item))?;
+    put_word(out, b"cancelled")?;
+    put_count(alloc, out, counts.cancelled(item))?;
+    put_word(out, b"finished")?;
+    put_count(alloc, out, counts.finished(item))
+}
+
+/// Adds `item NAME wq Q queued N cancelled N finished N`.
+fn put_item_line<A: Allocator + Copy>(
+    alloc: A,
+    out: &mut Vec<u8, A>,
+    table: &ItemTable<'_, A>,
+    groups: &Groups<A>,
+    assignment: &Assignment<A>,
+    counts: &Counts<A>,
+    item: ItemId,
+) -> Result<(), AllocError>
+    requires item { item < length table.now.names }
+    requires grouped { length groups.now.group_of ≡ length table.now.names }
+    requires assigned { length assignment.now.lane_of_group ≡ groups.now.groups }
+    ensures { OnOk result (out.new.items ≡ out.old.items
+        ++ line_text (item_line (record { table = table.now; partition = groups.now }) assignment.now (λ i kind. made counts.now i kind true) item)) }
+{
+    let lane = assignment.lane(groups.of(item));
+    put(out, b"item")?;
+    put_word(out, table.name(item))?;
+    put_word(out, b"wq")?;
+    put_number(alloc, out, u32::from(lane.get()))?;
+    put_counts(alloc, out, counts, item)?;
+    put_end(out)
+}
+
+/// Adds `faults N`.
+fn put_faults_line<A: Allocator + Copy>(
+    alloc: A,
+    out: &mut Vec<u8, A>,
+    faults: u64,
+) -> Result<(), AllocError>
+    ensures { OnOk result (out.new.items ≡ out.old.items ++ line_text (faults_line faults)) }
+{
+    put(out, b"faults")?;
+    put_count(alloc, out, faults)?;
+    put_end(out)
+}
+
+/// The text of a plan that was run: its workqueues, and of each item its workqueue and what the closed runtime counts of it,
+/// which agrees with the history. The only error is out of memory (20).
+pub(crate) fn report_text<N: Naming, A: Allocator + Copy>(
+    alloc: A,
+    table: &ItemTable<'_, A>,
+    groups: &Groups<A>,
+    assignment: &Assignment<A>,
+    closed: &Closed<N, A>,
+    faults: u64,
+) -> Result<Vec<u8, A>, AllocError>
+    requires grouped { length groups.now.group_of ≡ length table.now.names }
+    requires assigned { length assignment.now.lane_of_group ≡ groups.now.groups }
+    requires agrees { Agrees (length table.now.names) closed.now.book closed.now.counts }
+    ensures { IfOk result (λ text. text.items
+        ≡ report_text (record { table = table.now; partition = groups.now }) assignment.now (yes_tally closed.now.book) faults) }
+{
+    let mut out = Vec::new(alloc);
+    put_workqueues_line(alloc, &mut out, assignment.lanes())?;
+    for i in 0..table.len() {
+        let item = ItemId::new(i);
+        put_item_line(
+            alloc,
+            &mut out,
+            table,
+            groups,
+            assignment,
+            &closed.counts,
+            item,
+        )?;
+    }
+    put_faults_line(alloc, &mut out, faults)?;
+    Ok(out)
+}

@@ -1,0 +1,195 @@
+//! The answer of `run` to a declaration text, made whole in memory: the declaration is planned, and its plan is run.
+//!
+//! The runtime is named here, at the call of the function that makes it and works with it. It takes the time of planning and of
+//! all executions, and memory in the rows of the history.
+
+ghost use Rattle.std.specs.Prelude.{◌≡◌, ◌≢◌, ◌≤◌, ◌+◌, ◌*◌, IfOk, IfErr, length};
+ghost use Rattle.wq_groups.specs.Declaration.{declaration_of};
+ghost use Rattle.wq_core.specs.Wiring.{wiring};
+ghost use Rattle.wq_plan.specs.Plan.{IsPlan};
+ghost use Rattle.wq_items.specs.Table.{flush_count};
+ghost use Rattle.wq_plan.specs.Solve.{IsCircled};
+ghost use Rattle.wq_api.specs.declared.fault.NewError.TheVariants.{OutOfMemory as NoMemory};
+ghost use Rattle.wq_api.specs.Refusals.{new_code};
+ghost use Rattle.wq_commands.specs.Answer.{IsRefused};
+ghost use Rattle.wq_run.specs.declared.fault.RunStop.TheVariants.{OutOfMemory};
+ghost use Rattle.wq_run.specs.Fault.{Stops, StopsDeclared};
+ghost use Rattle.wq_run.specs.Running.{PrintsRun, Runs, RunsDeclared, max_workqueues, rows_for};
+
+use crate::crew::{script_bodies, script_callers};
+use crate::fault::RunStop;
+use crate::report::report_text;
+use std::alloc::Allocator;
+use std::marker::Brand;
+use std::sync::Wait;
+use std::sync::ledger::Blank;
+use std::thread::Threads;
+use wq_api::{Naming, NewError, WqRuntime};
+use wq_commands::{End, Stop, read_declaration, refuse, text_of_circle};
+use wq_graph::WaitArc;
+use wq_groups::{Assignment, Groups};
+use wq_items::ItemTable;
+use wq_plan::{Answer, solve};
+use wq_rescuer::{Ran, run_all};
+
+/// How many rows a history needs in which each item is queued, flushed by a caller and executed once.
+fn rows_for<A: Allocator + Copy>(table: &ItemTable<'_, A>) -> u32
+    ensures { result ≡ 5 * length table.now.names + 2 * flush_count table.now.waits }
+{
+    5 * u32::from(table.len()) + 2 * table.flushes()
+}
+
+/// Runs what stands on the lanes of a runtime, closes it, and makes the text of what happened.
+fn serve<N: Naming + Send + Sync, A: Allocator + Copy + Send + Sync, R: Threads + Wait + Sync>(
+    rt: &R,
+    alloc: A,
+    runtime: WqRuntime<N, A>,
+    table: &ItemTable<'_, A>,
+    groups: &Groups<A>,
+    assignment: &Assignment<A>,
+) -> Result<Vec<u8, A>, RunStop>
+    requires grouped { length groups.now.group_of ≡ length table.now.names }
+    requires assigned { length assignment.now.lane_of_group ≡ groups.now.groups }
+    requires plan { IsPlan (declaration_of table.now groups.now) assignment.now }
+    requires few { assignment.now.lanes ≤ max_workqueues }
+    requires of_wiring { N.wiring ≡ wiring (declaration_of table.now groups.now) assignment.now }
+    requires of_rows { N.rows ≡ rows_for (record { table = table.now; partition = groups.now }) }
+    ensures ran { IfOk result (λ text. PrintsRun (record { table = table.now; partition = groups.now }) text.items) }
+    ensures stopped { IfErr result (StopsDeclared (record { table = table.now; partition = groups.now })) }
+{
+    let bodies = script_bodies(alloc, table, runtime.lanes(rt))?;
+    let callers = script_callers(alloc, table.len())?;
+    let ran = match run_all(rt, alloc, &runtime, bodies, callers) {
+        Ok(ran) => ran,
+        Err(refused) => return Err(RunStop::from(refused.why)),
+    };
+    let Ran { seats, faults, .. } = ran;
+    let Ok(closed) = runtime.close(seats) else {
+        return Err(RunStop::Tally);
+    };
+    if !closed.agree {
+        return Err(RunStop::Tally);
+    }
+    let text = report_text(alloc, table, groups, assignment, &closed, faults)?;
+    Ok(text)
+}
+
+/// Refuses a plan for which no runtime can be made, by the number of the refusal.
+fn refuse_runtime<A: Allocator + Copy>(
+    alloc: A,
+    error: NewError,
+) -> Result<(End, Vec<u8, A>), RunStop>
+    ensures refused { IfOk result (λ printed. (error ≢ NoMemory) × IsRefused (record { code = new_code error; line = 0 }) printed.0 printed.1.items) }
+    ensures stopped { IfErr result (λ stop. stop ≡ OutOfMemory) }
+{
+    if error == NewError::OutOfMemory {
+        return Err(RunStop::OutOfMemory);
+    }
+    let printed = refuse(alloc, error.code(), 0)?;
+    Ok(printed)
+}
+
+/// Runs a plan in the runtime of this name, or refuses it where a runtime can't have so many workqueues.
+fn run_named<N: Naming + Send + Sync, A: Allocator + Copy + Send + Sync, R: Threads + Wait + Sync>(
+    rt: &R,
+    alloc: A,
+    blank: Blank,
+    table: &ItemTable<'_, A>,
+    groups: &Groups<A>,
+    assignment: &Assignment<A>,
+    rows: u32,
+) -> Result<(End, Vec<u8, A>), RunStop>
+    requires name { blank.name ≡ N.name }
+    requires parts { blank.parts ≡ N.parts }
+    requires all_parts { N.parts ≡ 65536 }
+    requires grouped { length groups.now.group_of ≡ length table.now.names }
+    requires plan { IsPlan (declaration_of table.now groups.now) assignment.now }
+    requires of_wiring { N.wiring ≡ wiring (declaration_of table.now groups.now) assignment.now }
+    requires few_rows { rows ≡ rows_for (record { table = table.now; partition = groups.now }) }
+    requires of_rows { N.rows ≡ rows }
+    ensures ran { IfOk result (λ printed. RunsDeclared (record { table = table.now; partition = groups.now }) printed.0 printed.1.items) }
+    ensures stopped { IfErr result (StopsDeclared (record { table = table.now; partition = groups.now })) }
+{
+    // What holds of every table and of all groups.
+    let _items = table.len();
+    let _groups = groups.len();
+    match WqRuntime::<N, A>::new(alloc, blank, table, groups, assignment, rows) {
+        Ok(runtime) => {
+            let text = serve(rt, alloc, runtime, table, groups, assignment)?;
+            Ok((End::Good, text))
+        }
+        Err(error) => refuse_runtime(alloc, error),
+    }
+}
+
+/// Runs a plan, or refuses it where a runtime can't have so many workqueues.
+fn run_plan<A: Allocator + Copy + Send + Sync, R: Threads + Wait + Sync>(
+    rt: &R,
+    alloc: A,
+    table: &ItemTable<'_, A>,
+    groups: &Groups<A>,
+    assignment: &Assignment<A>,
+) -> Result<(End, Vec<u8, A>), RunStop>
+    requires grouped { length groups.now.group_of ≡ length table.now.names }
+    requires plan { IsPlan (declaration_of table.now groups.now) assignment.now }
+    ensures ran { IfOk result (λ printed. RunsDeclared (record { table = table.now; partition = groups.now }) printed.0 printed.1.items) }
+    ensures stopped { IfErr result (StopsDeclared (record { table = table.now; partition = groups.now })) }
+{
+    let blank = Blank::new(65_536);
+    let rows = rows_for(table);
+    run_named::<Brand, A, R>(rt, alloc, blank, table, groups, assignment, rows)
+}
+
+/// Makes the text of the circle in which groups wait.
+fn print_circle<A: Allocator + Copy>(
+    alloc: A,
+    table: &ItemTable<'_, A>,
+    groups: &Groups<A>,
+    arcs: &[WaitArc],
+) -> Result<(End, Vec<u8, A>), RunStop>
+    requires grouped { length groups.now.group_of ≡ length table.now.names }
+    requires circled { IsCircled (declaration_of table.now groups.now) arcs.now }
+    ensures printed { IfOk result (λ printed. RunsDeclared (record { table = table.now; partition = groups.now }) printed.0 printed.1.items) }
+    ensures stopped { IfErr result (StopsDeclared (record { table = table.now; partition = groups.now })) }
+{
+    let text = text_of_circle(alloc, table, groups, arcs)?;
+    Ok((End::Bad, text))
+}
+
+/// How a run ends that is given these items and their groups, and what it prints.
+fn run_declared<A: Allocator + Copy + Send + Sync, R: Threads + Wait + Sync>(
+    rt: &R,
+    alloc: A,
+    table: &ItemTable<'_, A>,
+    groups: &Groups<A>,
+) -> Result<(End, Vec<u8, A>), RunStop>
+    requires { length groups.now.group_of ≡ length table.now.names }
+    ensures ran { IfOk result (λ printed. RunsDeclared (record { table = table.now; partition = groups.now }) printed.0 printed.1.items) }
+    ensures stopped { IfErr result (StopsDeclared (record { table = table.now; partition = groups.now })) }
+{
+    match solve(alloc, table, groups)? {
+        Answer::Plan { assignment, .. } => run_plan(rt, alloc, table, groups, &assignment),
+        Answer::Circle { arcs } => print_circle(alloc, table, groups, &arcs),
+    }
+}
+
+/// How a run ends that is given this text, and what it prints.
+pub(crate) fn answer<A: Allocator + Copy + Send + Sync, R: Threads + Wait + Sync>(
+    rt: &R,
+    alloc: A,
+    text: &[u8],
+) -> Result<(End, Vec<u8, A>), RunStop>
+    ensures ran { IfOk result (λ printed. Runs text.now printed.0 printed.1.items) }
+    ensures stopped { IfErr result (Stops text.now) }
+{
+    match read_declaration(alloc, text) {
+        Ok(declared) => {
+            let answer = run_declared(rt, alloc, &declared.table, &declared.groups);
+            // Said as a call, so that the proof has one step for it.
+            drop(declared);
+            answer
+        }
+        Err(Stop::Refused { code, line }) => Ok(refuse(alloc, code, line)?),
+        Err(Stop::OutOfMemory) => Err(RunStop::OutOfMemory),
+    }
+}
