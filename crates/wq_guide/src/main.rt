@@ -1,0 +1,160 @@
+//! `wq_guide`: the driver of docs/GUIDE.md, run by its plan.
+//!
+//! It plans the declaration, makes a runtime under the plan, has a rescuer for each workqueue and two callers run, closes
+//! the runtime, and prints what doesn't depend on the order in which the threads ran. docs/GUIDE.md, "Running work by a
+//! plan", goes through it.
+#![tactic(auto)]
+
+mod disk;
+mod rdisk;
+mod writer;
+
+ghost use Rattle.std.specs.Prelude.{◌≡◌, length, vec_len, slice_index, IfOk};
+ghost use Rattle.std.specs.List.{All};
+ghost use Rattle.wq_groups.specs.Declaration.{declaration_of};
+ghost use Rattle.wq_core.specs.Wiring.{wiring};
+ghost use Rattle.wq_rescuer.specs.Executing.{NeverRan};
+
+use anyhow::{Context, Result, anyhow, bail};
+use disk::REQUESTS;
+use rdisk::{Rdisk, RdiskBody};
+use std::alloc::{AllocError, Global};
+use std::marker::Brand;
+use std::sync::Wait;
+use std::sync::ledger::Blank;
+use std::thread::Threads;
+use wq_api::{Counts, Kind, Naming, WqRuntime};
+use wq_commands::{Declaration, read_declaration};
+use wq_groups::Assignment;
+use wq_items::ItemId;
+use wq_plan::{Answer, solve};
+use wq_rescuer::{Body, Ran, run_all};
+use writer::Writer;
+
+/// The declaration of `rdisk.c`.
+const DECLARATION: &[u8] = b"\
+item send       # rdisk_send
+item log        # rdisk_log
+item reconnect  # rdisk_reconnect
+item receive    # rdisk_receive
+flush send log        # rdisk_send: wait_for_completion, ended by rdisk_log
+flush reconnect send  # rdisk_reconnect: flush_work
+";
+
+/// Room for the history.
+const ROWS: u32 = 4_096;
+
+/// A body for each of so many workqueues.
+fn make_bodies<'a>(
+    alloc: Global,
+    rdisk: &'a Rdisk,
+    lanes: u16,
+    items: u16,
+) -> Result<Vec<RdiskBody<'a>>, AllocError>
+    ensures width { IfOk result (λ bs. All (λ b. vec_len b.runs ≡ items) bs.items) }
+    ensures never_ran { IfOk result (λ bs. All (λ b. NeverRan (slice_index b.runs.items)) bs.items) }
+{
+    let mut bodies = Vec::new(alloc);
+    for _ in 0..lanes {
+        let body = RdiskBody::new(alloc, rdisk, items)?;
+        bodies.push(body)?;
+    }
+    Ok(bodies)
+}
+
+/// Prints what the closed book counts of an item, as far as no order of the threads changes it.
+fn put_item(
+    rt: &impl Print,
+    name: &str,
+    item: ItemId,
+    counts: &Counts<Global>,
+    bodies: &[RdiskBody<'_>],
+) -> Result<()> {
+    let queued = counts.made(item, Kind::Queue, true);
+    let cancelled = counts.made(item, Kind::Cancel, true);
+    let finished = counts.made(item, Kind::Finish, true);
+    let is_done = queued.checked_sub(cancelled) == Some(finished);
+    let has_run = bodies
+        .iter()
+        .any(|body| u64::from(body.ran(item)) == finished);
+    println!(rt; "{name}: all done {is_done}, a run for each {has_run}")?;
+    Ok(())
+}
+
+/// Makes a runtime under a plan, runs bodies and callers, closes the runtime, and prints what came of it.
+fn run<N: Naming + Send + Sync, R: Threads + Wait + Sync + Print + AllocGlobal>(
+    rt: &R,
+    blank: Blank,
+    declared: &Declaration<'_, Global>,
+    plan: &Assignment<Global>,
+) -> Result<()>
+    requires name { blank.name ≡ N.name }
+    requires parts { blank.parts ≡ N.parts }
+    requires all_parts { N.parts ≡ 65536 }
+    requires grouped { length declared.now.groups.group_of ≡ length declared.now.table.names }
+    requires assigned { length plan.now.lane_of_group ≡ declared.now.groups.groups }
+    requires of_wiring { N.wiring ≡ wiring (declaration_of declared.now.table declared.now.groups) plan.now }
+    requires of_rows { N.rows ≡ ROWS }
+{
+    let alloc = rt.alloc();
+    let Declaration { table, groups } = declared;
+    let runtime = WqRuntime::<N, Global>::new(alloc, blank, table, groups, plan, ROWS)?;
+    let mut seat = runtime.seat(rt, alloc)?;
+    let rdisk = Rdisk::new(table).context("an item is missing")?;
+    let bodies = make_bodies(alloc, &rdisk, plan.lanes(), table.len())?;
+    let middle = REQUESTS / 2;
+    let writers = vec![in alloc;
+        Writer::new(&rdisk, 0, middle),
+        Writer::new(&rdisk, middle, REQUESTS),
+    ]?;
+
+    let ran = run_all(rt, alloc, &runtime, bodies, writers).map_err(|refused| refused.why)?;
+    let Ran {
+        mut seats,
+        bodies,
+        results,
+        faults,
+        ..
+    } = ran;
+    for result in results {
+        result?;
+    }
+
+    let send_wq = runtime
+        .lane_of(rt, rdisk.send)
+        .context("an item is missing")?;
+    let late = runtime.queue_work(rt, &mut seat, send_wq, rdisk.send);
+    let was_pending = runtime.cancel_work_sync(rt, &mut seat, rdisk.receive)?;
+    seats.push(seat)?;
+    let closed = runtime.close(seats).map_err(|refused| refused.why)?;
+
+    let disk = rdisk.disk.lock(rt);
+    println!(rt;
+        "requests {REQUESTS} noted {} sent {} faults {faults}",
+        disk.noted, disk.sent
+    )?;
+    if let Some(error) = disk.warning {
+        println!(rt; "receive flushes send: {} {error}", error.code())?;
+    }
+    if let Err(error) = late {
+        println!(rt; "queue_work after destroy: {} {error}", error.code())?;
+    }
+    println!(rt; "cancel_work_sync after destroy: {was_pending}")?;
+    put_item(rt, "send", rdisk.send, &closed.counts, &bodies)?;
+    put_item(rt, "log", rdisk.log, &closed.counts, &bodies)?;
+    put_item(rt, "reconnect", rdisk.reconnect, &closed.counts, &bodies)?;
+    put_item(rt, "receive", rdisk.receive, &closed.counts, &bodies)?;
+    let cancelled = closed.counts.made(rdisk.reconnect, Kind::Cancel, true);
+    println!(rt; "reconnect cancelled {cancelled}")?;
+    println!(rt; "agree {}", closed.agree)?;
+    Ok(())
+}
+
+fn main(rt: HostRuntime) -> Result<()> {
+    let declared = read_declaration(rt.alloc(), DECLARATION).map_err(|stop| anyhow!("{stop:?}"))?;
+    let Answer::Plan { assignment, .. } = solve(rt.alloc(), &declared.table, &declared.groups)?
+    else {
+        bail!("the items wait in a circle");
+    };
+    run::<Brand, HostRuntime>(&rt, Blank::new(65_536), &declared, &assignment)
+}
