@@ -1,26 +1,34 @@
 #!/usr/bin/env bash
 # Runs every command of docs/GUIDE.md and of the pages in examples/, and compares what it shows with what stands below it
-# on the page. Run it once the gate or `rt run` has built the program. The argument, if there is one, names another program.
+# on the page; and looks for each excerpt of code on the page in crates/wq_guide. Run it once the gate or `rt run` has built
+# the program and the guide's program, crates/wq_guide. The arguments, if there are any, name others in their place.
 #
 # A fenced block of a page is one of these:
 # - a file: its first line is a comment that holds its name alone, as `# NAME` or `/* NAME */`. It is written as it stands;
-# - commands: its first line begins with `$ `. Each line that does is a command for bash, with `wqplan` on its path and
-#   nothing to read, and the lines below it are what it writes to both streams. `$?` is the status of the command before it;
+# - commands: its first line begins with `$ `. Each line that does is a command for bash, with `wqplan` and `wq_guide` on its
+#   path and nothing to read, and the lines below it are what it writes to both streams. `$?` is the status of the command
+#   before it;
+# - an excerpt: the word behind the backticks is `rust` or `antt`. Its lines stand in a file of crates/wq_guide, in src/ or
+#   proofs/, one below the other and just so;
 # - something to read, which is skipped: the word behind the backticks is `c` or `text`.
 # A page is played in a folder of its own, from top to bottom. Those in examples/ find the files of examples/ there.
 set -u
 program=$(realpath -m -- "${1:-$(dirname "$0")/../crates/wqplan/out/wqplan}")
+driver=$(realpath -m -- "${2:-$(dirname "$0")/../crates/wq_guide/out/wq_guide}")
 cd -- "$(dirname "$0")/.." || exit 1
 root=$PWD
-if [ ! -x "$program" ]; then
-    echo "guide: there is nothing to run at $program (cd crates/wqplan && rt run builds it)"
-    exit 1
-fi
+for built in "$program" "$driver"; do
+    if [ ! -x "$built" ]; then
+        echo "guide: there is nothing to run at $built (rt run builds it, in crates/wqplan and in crates/wq_guide)"
+        exit 1
+    fi
+done
 
 work=$(mktemp -d)
 trap 'rm -rf -- "$work"' EXIT
 mkdir "$work/bin"
 ln -s -- "$program" "$work/bin/wqplan"
+ln -s -- "$driver" "$work/bin/wq_guide"
 export PATH="$work/bin:$PATH"
 passed=0
 failed=0
@@ -58,13 +66,32 @@ commands() {
     play "$command" "$wanted"
 }
 
+# excerpt AT KIND LINE..: counts whether these lines stand in a file of the guide's program whose name ends in KIND.
+excerpt() {
+    local at=$1 kind=$2 file wanted
+    shift 2
+    wanted=$(printf '%s\n' "$@")
+    for file in $(find "$root/crates/wq_guide/src" "$root/crates/wq_guide/proofs" -name "*.$kind" | sort); do
+        if [[ $'\n'$(<"$file")$'\n' == *$'\n'"$wanted"$'\n'* ]]; then
+            passed=$((passed + 1))
+            echo "ok      $page: the excerpt at line $at stands in ${file#"$root/"}"
+            return
+        fi
+    done
+    fail "$page: the excerpt at line $at stands in no .$kind file of crates/wq_guide"
+}
+
 # block AT WORD LINE..: does what a block asks for, by its first line and the word behind its backticks. It begins at
 # line AT of the page.
 block() {
     local at=$1 word=$2
     shift 2
     local first=${1-}
-    if [ "${first:0:2}" = '$ ' ]; then
+    if [ "$word" = rust ]; then
+        excerpt "$at" rt "$@"
+    elif [ "$word" = antt ]; then
+        excerpt "$at" antt "$@"
+    elif [ "${first:0:2}" = '$ ' ]; then
         commands "$@"
     elif [[ $first =~ ^(#|/\*)\ ([A-Za-z0-9._-]+)(\ \*/)?$ ]]; then
         printf '%s\n' "$@" >"${BASH_REMATCH[2]}"

@@ -9,21 +9,19 @@ mod disk;
 mod rdisk;
 mod writer;
 
-ghost use Rattle.std.specs.Prelude.{◌≡◌, length, vec_len, slice_index, IfOk};
-ghost use Rattle.std.specs.List.{All};
+ghost use Rattle.std.specs.Prelude.{◌≡◌, length};
 ghost use Rattle.wq_groups.specs.Declaration.{declaration_of};
 ghost use Rattle.wq_core.specs.Wiring.{wiring};
-ghost use Rattle.wq_rescuer.specs.Executing.{NeverRan};
 
 use anyhow::{Context, Result, anyhow, bail};
 use disk::REQUESTS;
-use rdisk::{Rdisk, RdiskBody};
-use std::alloc::{AllocError, Global};
+use rdisk::{Rdisk, RdiskBody, make_bodies};
+use std::alloc::Global;
 use std::marker::Brand;
 use std::sync::Wait;
 use std::sync::ledger::Blank;
 use std::thread::Threads;
-use wq_api::{Counts, Kind, Naming, WqRuntime};
+use wq_api::{Closed, Counts, Kind, Naming, WqRuntime};
 use wq_commands::{Declaration, read_declaration};
 use wq_groups::Assignment;
 use wq_items::ItemId;
@@ -44,22 +42,17 @@ flush reconnect send  # rdisk_reconnect: flush_work
 /// Room for the history.
 const ROWS: u32 = 4_096;
 
-/// A body for each of so many workqueues.
-fn make_bodies<'a>(
-    alloc: Global,
-    rdisk: &'a Rdisk,
-    lanes: u16,
-    items: u16,
-) -> Result<Vec<RdiskBody<'a>>, AllocError>
-    ensures width { IfOk result (λ bs. All (λ b. vec_len b.runs ≡ items) bs.items) }
-    ensures never_ran { IfOk result (λ bs. All (λ b. NeverRan (slice_index b.runs.items)) bs.items) }
-{
-    let mut bodies = Vec::new(alloc);
-    for _ in 0..lanes {
-        let body = RdiskBody::new(alloc, rdisk, items)?;
-        bodies.push(body)?;
+/// Prints what became of the requests.
+fn put_disk<R: Wait + Print>(rt: &R, rdisk: &Rdisk, faults: u64) -> Result<()> {
+    let disk = rdisk.disk.lock(rt);
+    println!(rt;
+        "requests {REQUESTS} noted {} sent {} faults {faults}",
+        disk.noted, disk.sent
+    )?;
+    if let Some(error) = disk.warning {
+        println!(rt; "receive flushes send: {} {error}", error.code())?;
     }
-    Ok(bodies)
+    Ok(())
 }
 
 /// Prints what the closed book counts of an item, as far as no order of the threads changes it.
@@ -107,8 +100,8 @@ fn run<N: Naming + Send + Sync, R: Threads + Wait + Sync + Print + AllocGlobal>(
         Writer::new(&rdisk, 0, middle),
         Writer::new(&rdisk, middle, REQUESTS),
     ]?;
-
     let ran = run_all(rt, alloc, &runtime, bodies, writers).map_err(|refused| refused.why)?;
+
     let Ran {
         mut seats,
         bodies,
@@ -119,34 +112,28 @@ fn run<N: Naming + Send + Sync, R: Threads + Wait + Sync + Print + AllocGlobal>(
     for result in results {
         result?;
     }
+    put_disk(rt, &rdisk, faults)?;
 
     let send_wq = runtime
         .lane_of(rt, rdisk.send)
         .context("an item is missing")?;
-    let late = runtime.queue_work(rt, &mut seat, send_wq, rdisk.send);
-    let was_pending = runtime.cancel_work_sync(rt, &mut seat, rdisk.receive)?;
-    seats.push(seat)?;
-    let closed = runtime.close(seats).map_err(|refused| refused.why)?;
-
-    let disk = rdisk.disk.lock(rt);
-    println!(rt;
-        "requests {REQUESTS} noted {} sent {} faults {faults}",
-        disk.noted, disk.sent
-    )?;
-    if let Some(error) = disk.warning {
-        println!(rt; "receive flushes send: {} {error}", error.code())?;
-    }
-    if let Err(error) = late {
+    if let Err(error) = runtime.queue_work(rt, &mut seat, send_wq, rdisk.send) {
         println!(rt; "queue_work after destroy: {} {error}", error.code())?;
     }
+    let was_pending = runtime.cancel_work_sync(rt, &mut seat, rdisk.receive)?;
     println!(rt; "cancel_work_sync after destroy: {was_pending}")?;
-    put_item(rt, "send", rdisk.send, &closed.counts, &bodies)?;
-    put_item(rt, "log", rdisk.log, &closed.counts, &bodies)?;
-    put_item(rt, "reconnect", rdisk.reconnect, &closed.counts, &bodies)?;
-    put_item(rt, "receive", rdisk.receive, &closed.counts, &bodies)?;
-    let cancelled = closed.counts.made(rdisk.reconnect, Kind::Cancel, true);
-    println!(rt; "reconnect cancelled {cancelled}")?;
-    println!(rt; "agree {}", closed.agree)?;
+
+    seats.push(seat)?;
+    let Closed { counts, agree, .. } = runtime.close(seats).map_err(|refused| refused.why)?;
+    put_item(rt, "send", rdisk.send, &counts, &bodies)?;
+    put_item(rt, "log", rdisk.log, &counts, &bodies)?;
+    put_item(rt, "reconnect", rdisk.reconnect, &counts, &bodies)?;
+    put_item(rt, "receive", rdisk.receive, &counts, &bodies)?;
+    println!(rt;
+        "reconnect cancelled {}",
+        counts.made(rdisk.reconnect, Kind::Cancel, true)
+    )?;
+    println!(rt; "agree {agree}")?;
     Ok(())
 }
 

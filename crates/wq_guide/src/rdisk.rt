@@ -2,8 +2,9 @@
 //!
 //! A work function takes the time of what it waits for, and no memory.
 
-ghost use Rattle.std.specs.Prelude.{◌≡◌, vec_len, replicate, IfOk};
-ghost use Rattle.wq_rescuer.specs.Executing.{SameFinished};
+ghost use Rattle.std.specs.Prelude.{◌≡◌, vec_len, replicate, slice_index, IfOk};
+ghost use Rattle.std.specs.List.{All};
+ghost use Rattle.wq_rescuer.specs.Executing.{NeverRan, SameFinished};
 
 use crate::disk::Disk;
 use std::alloc::{AllocError, Allocator, Global};
@@ -97,6 +98,24 @@ impl<'a> RdiskBody<'a> {
         let runs = vec![in alloc; 0; usize::from(items)]?;
         Ok(RdiskBody { rdisk, runs })
     }
+}
+
+/// A body for each of so many workqueues.
+pub(crate) fn make_bodies<'a>(
+    alloc: Global,
+    rdisk: &'a Rdisk,
+    lanes: u16,
+    items: u16,
+) -> Result<Vec<RdiskBody<'a>>, AllocError>
+    ensures width { IfOk result (λ bs. All (λ b. vec_len b.runs ≡ items) bs.items) }
+    ensures never_ran { IfOk result (λ bs. All (λ b. NeverRan (slice_index b.runs.items)) bs.items) }
+{
+    let mut bodies = Vec::new(alloc);
+    for _ in 0..lanes {
+        let body = RdiskBody::new(alloc, rdisk, items)?;
+        bodies.push(body)?;
+    }
+    Ok(bodies)
 }
 
 impl Body for RdiskBody<'_> {
