@@ -1,0 +1,52 @@
+//! What a load needs is declared, and a runtime is named for it. It takes the time of running the load.
+
+ghost use Rattle.std.specs.Prelude.{◌≡◌, length};
+
+use crate::declaring::{assign, declare, read};
+use crate::fault::Fault;
+use crate::load::Load;
+use crate::running::run_load;
+use std::alloc::Global;
+use std::marker::Brand;
+use std::sync::Wait;
+use std::sync::ledger::Blank;
+use std::thread::Threads;
+use std::time::Clock;
+use wq_groups::{Assignment, Groups};
+use wq_items::ItemTable;
+
+/// Names a runtime, and runs a load on it. Gives the status.
+fn answer_assigned<R: Threads + Wait + Clock + Sync>(
+    rt: &R,
+    alloc: Global,
+    table: &ItemTable<'_, Global>,
+    groups: &Groups<Global>,
+    assignment: &Assignment<Global>,
+    load: Load,
+    out: &mut String,
+) -> Result<u8, Fault>
+    requires grouped { length groups.now.group_of ≡ length table.now.names }
+    requires assigned { length assignment.now.lane_of_group ≡ groups.now.groups }
+{
+    let blank = Blank::new(65_536);
+    run_load::<Brand, R>(rt, alloc, blank, table, groups, assignment, load, out)
+}
+
+/// Declares the items of a load, and runs it. Gives the status.
+pub(crate) fn answer<R: Threads + Wait + Clock + Sync>(
+    rt: &R,
+    alloc: Global,
+    load: Load,
+    out: &mut String,
+) -> Result<u8, Fault> {
+    let text = declare(alloc, load.items())?;
+    let declared = read(alloc, text.as_str())?;
+    let groups = &declared.groups;
+    let Some(assignment) = assign(alloc, groups.len(), load.lanes)? else {
+        return Err(Fault::Declaration);
+    };
+    if assignment.groups() != usize::from(groups.len()) {
+        return Err(Fault::Declaration);
+    }
+    answer_assigned(rt, alloc, &declared.table, groups, &assignment, load, out)
+}
