@@ -6,44 +6,67 @@ A program is called with a load, as `wq_bench` is: KIND LANES CALLERS COUNT [fig
 import os
 import subprocess
 import sys
-import time
 
 OURS = "wq_bench"
-# The peers with one condition variable: the first wakes as `wq_api` does, the second where somebody may go on.
-PLAIN = ["every", "one"]
-RUNS = 7
+# The peers with one condition variable. The first two wake as `wq_api` does, and the first sleeps as Rattle's std does; the
+# third wakes only where somebody may go on.
+PLAIN = ["timed", "every", "one"]
+RUNS = 12
 # Below this many seconds the start of the threads would weigh too much.
-LEAST = 0.4
+LEAST = 0.25
 LANES = [1, 4, 64, 256]
 STORMS = [4, 64, 256]
 CALLERS = 16
 MILLION = 1_000_000
 FILLS = [MILLION, 2 * MILLION, 4 * MILLION, 8 * MILLION, 16_777_216]
 FILL_RUNS = 2
+FILLED = [OURS, "every"]
 MOST_ROWS = 16_777_216
 SAMPLES = ["rounds 1 1 500", "rounds 4 4 200", "rounds 64 3 50", "rounds 256 2 20", "storm 8 16 50", "storm 3 2 400", "fill 1 1 5000", "fill 3 2 4000"]
 MOST_RATIO = 1.2
 
 
+class Place:
+    """Where programs run: on all processors; or on one, at a priority above all others where this is allowed."""
+
+    def __init__(self, name, processors, options):
+        self.name = name
+        self.processors = processors
+        self.options = options
+
+    def enter(self):
+        os.sched_setaffinity(0, self.processors)
+
+
+def places():
+    everywhere = os.sched_getaffinity(0)
+    options = {"scheduler": (os.SCHED_FIFO, os.sched_param(1))}
+    name = "one processor, at real-time priority"
+    try:
+        os.waitpid(os.posix_spawn("/bin/true", ["true"], {}, **options), 0)
+    except OSError:
+        options, name = {}, "one processor, shared with whatever else runs"
+    return Place(name, {max(everywhere)}, options), Place("all processors", everywhere, {})
+
+
 class Run:
     """One run: its lines as a dictionary, and what the system says of it."""
 
-    def __init__(self, words, load):
-        begun = time.perf_counter()
+    def __init__(self, place, words, load):
+        place.enter()
         read, write = os.pipe()
-        child = os.posix_spawn(words[0], words + load.split() + ["figures"], {}, file_actions=[(os.POSIX_SPAWN_DUP2, write, 1)])
+        output = [(os.POSIX_SPAWN_DUP2, write, 1)]
+        child = os.posix_spawn(words[0], words + load.split() + ["figures"], {}, file_actions=output, **place.options)
         os.close(write)
         with open(read) as lines:
             self.text = lines.read()
         _, status, usage = os.wait4(child, 0)
-        self.whole = time.perf_counter() - begun
         if status != 0:
             sys.exit(f"{' '.join(words)} ends with status {os.waitstatus_to_exitcode(status)} on {load}: {self.text}")
         self.lines = dict(line.rsplit(" ", 1) for line in self.text.splitlines())
         self.wall = int(self.lines["nanoseconds"])
         self.processor = (usage.ru_utime + usage.ru_stime) * 1e9
         self.switches = usage.ru_nvcsw + usage.ru_nivcsw
-        self.events = int(self.lines["events"])
 
 
 class Least:
@@ -70,11 +93,11 @@ def compare(programs):
     print(f"{len(SAMPLES)} small loads: {', '.join(programs)} print the same counts")
 
 
-def calibrated(words, kind, lanes, callers):
+def calibrated(place, words, kind, lanes, callers):
     """So many rounds of each caller that a run takes long enough."""
     count = 100
     while True:
-        run = Run(words, f"{kind} {lanes} {callers} {count}")
+        run = Run(place, words, f"{kind} {lanes} {callers} {count}")
         more = count * 2 if run.wall < LEAST * 1e9 / 4 else int(count * max(1, LEAST * 1.2e9 / run.wall))
         more = min(more, MOST_ROWS // (5 * callers))
         if run.wall >= LEAST * 1e9 or more <= count:
@@ -82,13 +105,13 @@ def calibrated(words, kind, lanes, callers):
         count = more
 
 
-def measure(programs, kind, lanes, callers):
+def measure(place, programs, kind, lanes, callers):
     """Of each program the least figures of a round, the programs in turn."""
-    counts = {name: calibrated(words, kind, lanes, callers) for name, words in programs.items()}
+    counts = {name: calibrated(place, words, kind, lanes, callers) for name, words in programs.items()}
     runs = {name: [] for name in programs}
     for _ in range(RUNS):
         for name, words in programs.items():
-            runs[name].append(Run(words, f"{kind} {lanes} {callers} {counts[name]}"))
+            runs[name].append(Run(place, words, f"{kind} {lanes} {callers} {counts[name]}"))
     return {name: Least(runs[name], counts[name] * callers) for name in programs}
 
 
@@ -104,53 +127,64 @@ def ratio(least, peer, field):
     return getattr(least[OURS], field) / getattr(least[peer], field)
 
 
-def rounds(programs):
-    """The tables of rounds and of the storm. Gives the figures of each load."""
-    loads = [(f"{lanes} lanes, 1 caller", "rounds", lanes, 1) for lanes in LANES]
-    loads += [(f"storm, {lanes} lanes", "storm", lanes, CALLERS) for lanes in STORMS]
-    found = {}
-    for name, kind, lanes, callers in loads:
-        found[name] = measure(programs, kind, lanes, callers)
-    for field, title in (
-        ("wall", "Wall time of a round in nanoseconds"),
-        ("processor", "Processor time of a round in nanoseconds, user and system, all threads together"),
-        ("switches", "Context switches of a round"),
-    ):
-        print(f"\n{title}: the least of {RUNS} runs, the programs in turn")
+def tables(programs, found, titles):
+    for field, title in titles.items():
+        print(f"\n{title} (the least of {RUNS} runs, the programs in turn)")
         peers = [peer for peer in PLAIN if peer in programs]
         row("load", [*programs, *(f"/ {peer}" for peer in peers)])
         for name, least in found.items():
             row(name, [*(number(getattr(least[program], field)) for program in programs), *(f"{ratio(least, peer, field):.2f}" for peer in peers)])
-    return found
 
 
-def fills(programs):
+def rounds(place, programs):
+    """The figures of a round, load by load."""
+    loads = [(f"{lanes} lanes, 1 caller", "rounds", lanes, 1) for lanes in LANES]
+    loads += [(f"storm, {lanes} lanes", "storm", lanes, CALLERS) for lanes in STORMS]
+    return {name: measure(place, programs, kind, lanes, callers) for name, kind, lanes, callers in loads}
+
+
+def fills(place, programs):
     """How the time grows with the rows of a history."""
-    print(f"\nFilled histories, 1 lane and 1 caller: nanoseconds of a row, the least of {FILL_RUNS} runs, the programs in turn")
-    names = [name for name in (OURS, *PLAIN) if name in programs]
-    row("rows", [cell for name in names for cell in (f"{name} wall", "processor")])
+    print(f"\nFilled histories, 1 lane and 1 caller, {place.name}: nanoseconds of a row (the least of {FILL_RUNS} runs, the programs in turn)")
+    names = [name for name in FILLED if name in programs]
+    row("rows", names)
     found = {}
     for rows in FILLS:
         runs = {name: [] for name in names}
         for _ in range(FILL_RUNS):
             for name in names:
-                runs[name].append(Run(programs[name], f"fill 1 1 {rows}"))
+                runs[name].append(Run(place, programs[name], f"fill 1 1 {rows}"))
         found[rows] = {name: Least(runs[name], rows) for name in names}
-        row(f"{rows:,}", [number(cell) for name in names for cell in (found[rows][name].wall, found[rows][name].processor)])
-    first, last = found[FILLS[0]], found[FILLS[-1]]
-    row("last / first", [f"{getattr(last[name], field) / getattr(first[name], field):.2f}" for name in names for field in ("wall", "processor")])
+        row(f"{rows:,}", [number(found[rows][name].processor) for name in names])
+    row("last / first", [f"{found[FILLS[-1]][name].processor / found[FILLS[0]][name].processor:.2f}" for name in names])
+
+
+def goals(found, field):
+    for peer in PLAIN:
+        for name, least in found.items():
+            if peer in least:
+                quotient = ratio(least, peer, field)
+                print(f"{name:26} {quotient:6.2f} of {peer:6} at most {MOST_RATIO}: {'met' if quotient <= MOST_RATIO else 'missed'}")
 
 
 def main():
     programs = {name: words.split() for name, words in (argument.split("=", 1) for argument in sys.argv[1:])}
     compare(programs)
-    found = rounds(programs)
-    fills(programs)
-    print("\nGoals")
-    for peer in PLAIN if PLAIN[0] in programs else []:
-        for name, least in found.items():
-            quotient = ratio(least, peer, "wall")
-            print(f"{name:26} {quotient:6.2f} of the peer {peer}, at most {MOST_RATIO}: {'met' if quotient <= MOST_RATIO else 'missed'}")
+    one, everywhere = places()
+    alone = rounds(one, programs)
+    tables(programs, alone, {
+        "processor": f"Processor time of a round in nanoseconds, {one.name}",
+        "switches": f"Context switches of a round, {one.name}",
+    })
+    fills(one, programs)
+    print(f"\nGoals, {one.name}")
+    goals(alone, "processor")
+    busy = rounds(everywhere, programs)
+    tables(programs, busy, {
+        "wall": f"Wall time of a round in nanoseconds, {everywhere.name}",
+        "processor": f"Processor time of a round in nanoseconds, all threads together, {everywhere.name}",
+        "switches": f"Context switches of a round, {everywhere.name}",
+    })
 
 
 main()

@@ -3,6 +3,7 @@
 //! One book under one lock, a thread for each lane and one for each caller. The word before the load says who is woken when:
 //!
 //! - `every`: all that sleep do so on one condition variable, and each event wakes all of them, as in `wq_api`.
+//! - `timed`: the same, and who sleeps gives the kernel a time limit that never comes, as Rattle's `Condvar` does.
 //! - `one`: the same, but a start wakes nobody, since nobody can go on because of it.
 //! - `each`: a condition variable for each lane, which a queueing wakes, and one for each item, which a finish wakes.
 //!
@@ -12,9 +13,12 @@ use peer_book::{report, Book, Client, Entry, Full, Load, Seat};
 use std::collections::VecDeque;
 use std::env;
 use std::process::ExitCode;
-use std::sync::{Condvar, Mutex};
+use std::sync::{Condvar, Mutex, MutexGuard};
 use std::thread;
-use std::time::Instant;
+use std::time::{Duration, Instant};
+
+/// Longer than any run.
+const YEARS: Duration = Duration::from_secs(100_000_000);
 
 struct Held {
     book: Book,
@@ -25,6 +29,7 @@ struct Held {
 #[derive(Clone, Copy, PartialEq, Eq)]
 enum Wakes {
     Every,
+    Timed,
     One,
     Each,
 }
@@ -33,6 +38,7 @@ impl Wakes {
     fn of(word: &str) -> Option<Wakes> {
         match word {
             "every" => Some(Wakes::Every),
+            "timed" => Some(Wakes::Timed),
             "one" => Some(Wakes::One),
             "each" => Some(Wakes::Each),
             _ => None,
@@ -72,6 +78,13 @@ impl Runtime {
         &self.bells[if self.wakes == Wakes::Each { usize::from(self.load.lanes) + usize::from(item) } else { 0 }]
     }
 
+    fn sleep<'a>(&self, bell: &Condvar, held: MutexGuard<'a, Held>) -> MutexGuard<'a, Held> {
+        if self.wakes == Wakes::Timed {
+            return bell.wait_timeout(held, YEARS).unwrap().0;
+        }
+        bell.wait(held).unwrap()
+    }
+
     /// Starts the next entry of a lane; none where nothing is pending and the runtime is closed.
     fn next(&self, seat: &mut Seat, lane: u16) -> Option<Entry> {
         let mut held = self.held.lock().unwrap();
@@ -79,7 +92,7 @@ impl Runtime {
             if let Some(entry) = held.lanes[usize::from(lane)].pop_front() {
                 held.book.start(seat, lane, entry);
                 drop(held);
-                if self.wakes == Wakes::Every {
+                if matches!(self.wakes, Wakes::Every | Wakes::Timed) {
                     self.lane_bell(lane).notify_all();
                 }
                 return Some(entry);
@@ -87,7 +100,7 @@ impl Runtime {
             if held.is_closed {
                 return None;
             }
-            held = self.lane_bell(lane).wait(held).unwrap();
+            held = self.sleep(self.lane_bell(lane), held);
         }
     }
 
@@ -152,7 +165,7 @@ impl Client for Caller<'_> {
         let mut held = self.runtime.held.lock().unwrap();
         let Some(mark) = held.book.ask(&mut self.seat, item)? else { return Ok(false) };
         while !held.book.told(&mut self.seat, item, mark) {
-            held = self.runtime.item_bell(item).wait(held).unwrap();
+            held = self.runtime.sleep(self.runtime.item_bell(item), held);
         }
         Ok(true)
     }
@@ -174,7 +187,7 @@ fn main() -> ExitCode {
     let words: Vec<String> = env::args().skip(1).collect();
     let wakes = words.first().and_then(|word| Wakes::of(word));
     let (Some(wakes), Some(load)) = (wakes, words.get(1..).and_then(Load::parse)) else {
-        eprintln!("usage: peer-locks every|one|each rounds|storm|fill LANES CALLERS COUNT [figures]");
+        eprintln!("usage: peer-locks every|timed|one|each rounds|storm|fill LANES CALLERS COUNT [figures]");
         return ExitCode::from(2);
     };
     let runtime = Runtime::new(load, wakes);
