@@ -5,9 +5,10 @@ use Rattle.wq_explain.specs.declared.explain.Explained.{Explained}
 use Rattle.wq_explain.specs.declared.explain.Explained.TheVariants.{Known, Unknown}
 use Rattle.wq_explain.specs.declared.table.TheConstants.{EXPLANATIONS}
 
--- the numbers that have an explanation: of a declaration that is refused, of a certificate that is, and of a `no`
+-- the numbers that have an explanation: of a declaration that is refused, of a certificate that is, of a `no`, and of a plan that
+-- is refused since it has too many workqueues to run
 abbrev pub numbers : List ℕ
-numbers = 1 ∷ 2 ∷ 3 ∷ 4 ∷ 5 ∷ 6 ∷ 7 ∷ 8 ∷ 9 ∷ 10 ∷ 11 ∷ 12 ∷ 40 ∷ 41 ∷ 42 ∷ 43 ∷ 50 ∷ 51 ∷ 52 ∷ 53 ∷ 54 ∷ []
+numbers = 1 ∷ 2 ∷ 3 ∷ 4 ∷ 5 ∷ 6 ∷ 7 ∷ 8 ∷ 9 ∷ 10 ∷ 11 ∷ 12 ∷ 40 ∷ 41 ∷ 42 ∷ 43 ∷ 50 ∷ 51 ∷ 52 ∷ 53 ∷ 54 ∷ 69 ∷ []
 
 -- a row of the table: a number, a line with the number and its name, and what it means
 pub record Row : Type 0 where

@@ -414,8 +414,29 @@ plan` prints. `wqplan replay` says how a run ends.
 ",
 );
 
+const TOO_MANY_LANES: Explanation = (
+    69,
+    "69 TooManyLanes\n",
+    "\
+`refused 69 line 0`: the plan has more than 256 workqueues, the most that a
+runtime has. It is answered by `run` alone: `wqplan plan` prints this plan.
+
+The rule: docs/FORMAT.md, \"The command `run`\"
+
+To see it:
+    seq -f 'item i%g' 257 > decl
+    seq 256 | awk '{ print \"flush i\" $1, \"i\" $1 + 1 }' >> decl
+    wqplan run decl
+
+To mend it:
+A plan has as many workqueues as its longest chain has groups. Take flushes out
+of the chain that `wqplan plan` prints, or run a part of the declaration in which
+no chain is as long.
+",
+);
+
 /// All explanations, by number.
-pub static EXPLANATIONS: [Explanation; 21] = [
+pub static EXPLANATIONS: [Explanation; 22] = [
     TEXT_TOO_LONG,
     LINE_TOO_LONG,
     BAD_BYTE,
@@ -437,6 +458,7 @@ pub static EXPLANATIONS: [Explanation; 21] = [
     LENGTH_DIFFERS,
     CIRCLE_BROKEN,
     RUN_BROKEN,
+    TOO_MANY_LANES,
 ];
 
 /// The first of these explanations that has this number, if there is one.
