@@ -20,20 +20,20 @@ _wqplan() {
     local files
     case $command in
         '')
-            mapfile -t COMPREPLY < <(compgen -W 'plan check deadlock replay explain help' -- "$word")
+            mapfile -t COMPREPLY < <(compgen -W 'plan check deadlock replay run explain help' -- "$word")
             return
             ;;
         help)
             [ "$words" -gt 0 ] ||
-                mapfile -t COMPREPLY < <(compgen -W 'plan check deadlock replay explain' -- "$word")
+                mapfile -t COMPREPLY < <(compgen -W 'plan check deadlock replay run explain' -- "$word")
             return
             ;;
         explain)
             [ "$words" -gt 0 ] ||
-                mapfile -t COMPREPLY < <(compgen -W '1 2 3 4 5 6 7 8 9 10 11 12 40 41 42 43 50 51 52 53 54' -- "$word")
+                mapfile -t COMPREPLY < <(compgen -W '1 2 3 4 5 6 7 8 9 10 11 12 40 41 42 43 50 51 52 53 54 69' -- "$word")
             return
             ;;
-        plan) files=1 ;;
+        plan | run) files=1 ;;
         check | deadlock) files=2 ;;
         replay) files=3 ;;
         *) return ;;
