@@ -1,8 +1,9 @@
 #!/usr/bin/env bash
-# Runs `plan`, `check`, `deadlock` and `replay` over the subsystems of Linux 6.1 in examples/. What is expected of each
+# Runs `plan`, `check`, `deadlock`, `replay` and `run` over the subsystems of Linux 6.1 in examples/. What is expected of each
 # (how many workqueues, which circle, whether the kernel's assignment is safe, how long the run is) was worked out by
 # hand from the kernel's sources, and stands in this script. Of all else that the program prints the program's own checkers
-# are asked: `check` says yes to each plan and circle, `replay` says deadlock of each run.
+# are asked: `check` says yes to each plan and circle, `replay` says deadlock of each run. `run` has each item on the workqueue
+# that `plan` gives it, queued once and finished once.
 # Run it once the gate or `rt run` has built the program. The argument, if there is one, names another program.
 set -u
 program=$(realpath -m -- "${1:-$(dirname "$0")/../crates/wqplan/out/wqplan}")
@@ -81,6 +82,26 @@ answers() {
     is "$name: the arcs" "$chain $arcs" "$(grep -E '^(chain|circle|arc) ' "$name.answer" | tr '\n' ' ')"
     run check "$name.wq" "$name.answer"
     ends "$name: what plan prints, checked" 0 "$yes"
+    run run "$name.wq"
+    if [ "$wanted" -eq 0 ]; then
+        ends "$name: run" 0 "$(ran "$name")"
+    else
+        ends "$name: run" 1 "$(cat "$name.answer")"
+    fi
+}
+
+# ran NAME: what must be printed of a plan that was run, by the declaration and the `wq` lines of the file NAME.answer.
+ran() {
+    awk '
+        { sub(/#.*/, "") }
+        FILENAME ~ /answer$/ && $1 == "wq" { lanes++; for (at = 3; at <= NF; at++) lane[$at] = $2; next }
+        FILENAME ~ /wq$/ && $1 == "item" { items[count++] = $2 }
+        END {
+            print "workqueues", lanes
+            for (at = 0; at < count; at++)
+                print "item", items[at], "wq", lane[items[at]], "queued 1 cancelled 0 finished 1"
+            print "faults 0"
+        }' "$1.answer" "$1.wq"
 }
 
 # counts NAME ITEMS FLUSHES GROUPS WORKQUEUES: counts whether the files declare so many, and the kernel uses so many.

@@ -99,8 +99,8 @@ done < <(sed -nE 's/^\| `no (5[0-9])[^|]*` \| ([A-Za-z]+) \|.*/\1 \2/p' "$format
     sed -nE 's/^\| ([0-9]+) \| ([A-Za-z]+) \|.*/\1 \2/p' "$format"
     sed -nE 's/^\| `no (5[0-9])[^|]*` \| ([A-Za-z]+) \|.*/\1 \2/p' "$format"
 } | sort -n >numbers
-is 'docs/FORMAT.md has 21 numbers' 21 "$(wc -l <numbers)"
-for number in 0 13 20 44 4294967295; do
+is 'docs/FORMAT.md has 22 numbers' 22 "$(wc -l <numbers)"
+for number in 0 13 20 44 68 70 4294967295; do
     run explain "$number"
     is "explain $number" "2: $(cat numbers)" "$status: $(tail -n +2 out)"
 done

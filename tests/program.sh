@@ -166,6 +166,58 @@ check 'replay: a run with a cancelled item that is stuck' 1 'stuck\n' ''
 run replay <(cat chain) <(cat lanes) <(cat deadlock) </dev/null
 check 'replay: three pipes' 1 'deadlock\n' ''
 
+# Plans that are run.
+ran='workqueues 2\nitem a wq 1 queued 1 cancelled 0 finished 1\nitem b wq 0 queued 1 cancelled 0 finished 1\nfaults 0\n'
+
+# chain_of COUNT: so many items, each of which flushes the next one.
+chain_of() {
+    seq -f 'item i%g' "$1"
+    seq "$(($1 - 1))" | awk '{ print "flush i" $1, "i" $1 + 1 }'
+}
+
+chain_of 256 >chain256
+chain_of 257 >chain257
+ran256=$(
+    echo workqueues 256
+    seq 256 | awk '{ print "item i" $1, "wq", 256 - $1, "queued 1 cancelled 0 finished 1" }'
+    echo faults 0
+)
+run run declaration </dev/null
+check 'run: two workqueues' 0 "$ran" ''
+run run -- declaration </dev/null
+check 'run: a file behind --' 0 "$ran" ''
+run run <(cat declaration) </dev/null
+check 'run: a pipe' 0 "$ran" ''
+run run empty </dev/null
+check 'run: no item' 0 'workqueues 0\nfaults 0\n' ''
+run run chain256 </dev/null
+check 'run: 256 workqueues' 0 "$ran256\n" ''
+run run chain257 </dev/null
+check 'run: 257 workqueues' 2 'refused 69 line 0\n' ''
+run run circle </dev/null
+check 'run: a circle and its run' 1 'circle 1\narc a a\nrun 3\nqueue a\nstart 0 a\nwait 0 a\n' ''
+run run refused </dev/null
+check 'run: a refusal' 2 'refused 8 line 2\n' ''
+run run too_large </dev/null
+check 'run: a text of 1,048,577 bytes' 2 'refused 1 line 0\n' ''
+run run largest </dev/null
+check 'run: a text of 1,048,576 bytes' 0 'workqueues 0\nfaults 0\n' ''
+run run <(yes 'item a' 2>/dev/null) </dev/null
+check 'run: a text without end' 2 'refused 1 line 0\n' ''
+
+# The same each time, whatever the threads do: the first run that differs is looked at, or the last one.
+ran3=$(printf 'item %s queued 1 cancelled 0 finished 1\\n' 'a wq 2' 'b wq 1' 'c wq 0')
+for _ in $(seq 50); do
+    run run chain </dev/null
+    [ "$status" -eq 0 ] && holds out "workqueues 3\n${ran3}faults 0\n" || break
+done
+check 'run: a chain of three, 50 times' 0 "workqueues 3\n${ran3}faults 0\n" ''
+
+# Threads that can't be made: there is room for some of them. Those that were made end, and so does the program.
+(ulimit -v 131072 && timeout 60 "$program" run chain256) </dev/null >out 2>err
+status=$?
+check 'run: not as many threads as workqueues' 3 '' 'fault thread\n'
+
 # Files are opened in the order of the arguments, all of them before one is read, and none behind one that can't be
 # opened. A pipe with a name is open only once both its ends are, so in any other order each side waits for the other.
 mkfifo first second third
@@ -277,7 +329,12 @@ for files in 'missing lanes deadlock' 'chain missing deadlock' 'chain lanes miss
     run replay $files </dev/null
     check "replay $files" 3 '' 'fault read\n'
 done
-for words in 'plan circle' 'check declaration plan_of_two' 'deadlock chain lanes' 'replay chain lanes deadlock'; do
+for files in missing folder ''; do
+    run run "$files" </dev/null
+    check "run '$files'" 3 '' 'fault read\n'
+done
+for words in 'plan circle' 'check declaration plan_of_two' 'deadlock chain lanes' 'replay chain lanes deadlock' \
+    'run declaration' 'run circle'; do
     timeout 60 "$program" $words </dev/null >/dev/full 2>err
     status=$?
     : >out
@@ -299,7 +356,8 @@ run plan declaration circle </dev/null
 check 'two FILEs' 2 '' some
 for words in 'check' 'check declaration' 'check declaration plan_of_two lanes' 'deadlock' 'deadlock chain' \
     'deadlock chain lanes open' 'replay' 'replay chain' 'replay chain lanes' 'replay chain lanes deadlock open' \
-    'check --fast declaration plan_of_two' 'deadlock --fast chain lanes'; do
+    'check --fast declaration plan_of_two' 'deadlock --fast chain lanes' 'run' 'run declaration circle' \
+    'run --fast declaration'; do
     run $words </dev/null
     check "$words" 2 '' some
 done
@@ -310,7 +368,7 @@ check 'help for an unknown subcommand' 2 '' some
 run plan $'\xff' </dev/null
 check 'an argument that is not UTF-8' 2 '' some
 for words in --help -h help 'help plan' 'plan --help' 'plan -h' 'help check' 'check --help' 'help deadlock' \
-    'deadlock --help' 'deadlock -h' 'help replay' 'replay -h'; do
+    'deadlock --help' 'deadlock -h' 'help replay' 'replay -h' 'help run' 'run --help' 'run -h'; do
     # Each word is an argument of its own.
     run $words </dev/null
     check "$words" 0 some ''
@@ -342,6 +400,7 @@ shows deadlock ASSIGN workqueue
 shows replay DECL declaration
 shows replay ASSIGN workqueue
 shows replay RUN step
+shows run DECL declaration
 shows explain CODE number
 run --version </dev/null
 check '--version' 0 'wqplan 0.1.0\n' ''

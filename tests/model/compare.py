@@ -1,14 +1,14 @@
-# Compares the program with the model of it in plan.py, check.py, replay.py and deadlock.py:
+# Compares the program with the model of it in plan.py, check.py, replay.py, deadlock.py and run.py:
 #
 #     compare.py PROGRAM [SEED] [CASES] [--only COMMAND,..]
 #
 # It makes up declarations, answers, assignments and runs, gives them to `PROGRAM plan` on standard
-# input, and as files to `PROGRAM check`, `PROGRAM replay` and `PROGRAM deadlock`, and compares the
-# bytes that are printed and the exit status with the model's. Of each command there are the cases
-# at the limits of docs/FORMAT.md and at each place of small texts, once each, and then CASES random
-# ones. The same SEED makes the same cases. It fails where an answer differs, and where some kind of
-# answer never came, as may be with few CASES. Before all this the model must answer the worked
-# examples of the page (examples.py).
+# input, and as files to `PROGRAM check`, `PROGRAM replay`, `PROGRAM deadlock` and `PROGRAM run`, and
+# compares the bytes that are printed and the exit status with the model's. Of each command there are
+# the cases at the limits of docs/FORMAT.md and at each place of small texts, once each, and then
+# CASES random ones; of `run`, which makes threads, a fifth as many. The same SEED makes the same
+# cases. It fails where an answer differs, and where some kind of answer never came, as may be with
+# few CASES. Before all this the model must answer the worked examples of the page (examples.py).
 #
 # What the program prints is then given back to it: the plans and circles to `PROGRAM check`, the
 # plans as assignments to `PROGRAM deadlock`, and the runs, those behind circles too, to `PROGRAM
@@ -37,6 +37,7 @@ import make_certificates  # noqa: E402
 import make_declarations  # noqa: E402
 import plan  # noqa: E402
 import replay  # noqa: E402
+import run  # noqa: E402
 from command_line import seed_and_counts  # noqa: E402
 from declaration import read_declaration  # noqa: E402
 
@@ -91,7 +92,20 @@ COMMANDS = {
         ["declaration", "assignment"],
         [("safe", 0, r"safe\n"), ("runs", 1, r"run N\nS+")] + CERTIFICATE_REFUSALS,
     ),
+    "run": (
+        run.answer,
+        lambda: [(what, [text]) for what, text in make_declarations.limit_run_cases()],
+        lambda seed, number: [make_declarations.random_case(f"{seed} run", number)],
+        ["declaration"],
+        [("plans that were run", 0,
+          r"workqueues N\n(item Z wq N queued 1 cancelled 0 finished 1\n)*faults 0\n"),
+         ("circles", 1, r"circle N\nA+run N\nS+"), ("refusals 69", 2, r"refused 69 line 0\n")]
+        + DECLARATION_REFUSALS,
+    ),
 }
+
+# Each random case of `run` makes threads, so there is one for so many of the other commands.
+CASES_FOR_A_RUN = 5
 
 
 def form(pattern):
@@ -127,10 +141,10 @@ def ask(program, command, texts, folder, number):
             with open(places[-1], "wb") as file:
                 file.write(text)
     try:
-        run = subprocess.run(
+        ended = subprocess.run(
             [program, command, *places], capture_output=True, timeout=SECONDS_PER_RUN, **given
         )
-        return (run.stdout, run.returncode), run.stderr
+        return (ended.stdout, ended.returncode), ended.stderr
     except subprocess.TimeoutExpired:
         return (b"", None), b"(ended: it took too long)"
     finally:
@@ -151,8 +165,8 @@ def questions(command, texts, printed):
         yield "check", [texts[0], printed], (b"yes " + head + b"\n", 0)
         own = [b"wq %d %s\n" % (number, b" ".join(members))
                for number, members in enumerate(read_declaration(texts[0]).groups)]
-        run = printed[printed.index(b"\nrun ") + 1:]
-        yield "replay", [texts[0], b"".join(own), run], (b"deadlock\n", 1)
+        steps = printed[printed.index(b"\nrun ") + 1:]
+        yield "replay", [texts[0], b"".join(own), steps], (b"deadlock\n", 1)
     if command == "deadlock" and head.startswith(b"run "):
         yield "replay", [*texts, printed], (b"deadlock\n", 1)
 
@@ -314,7 +328,8 @@ def main(arguments):
     never = []
     different = False
     for command in COMMANDS:
-        compared = compare_all(program, asked, command, seed, random_count, folder)
+        cases = random_count // CASES_FOR_A_RUN if command == "run" else random_count
+        compared = compare_all(program, asked, command, seed, cases, folder)
         if compared is None:
             different = True
             continue

@@ -11,6 +11,7 @@ import check  # noqa: E402  (beside this file)
 import deadlock  # noqa: E402
 import plan  # noqa: E402
 import replay  # noqa: E402
+import run  # noqa: E402
 
 
 def join(*lines):
@@ -164,8 +165,28 @@ DEADLOCKS = [
     (T, "wq 1 a d", "refused 43 line 1"),
 ]
 
+# The declaration and the answer.
+RUNS = [
+    (text(P), "workqueues 2 / item a wq 1 queued 1 cancelled 0 finished 1"
+     " / item b wq 0 queued 1 cancelled 0 finished 1 / faults 0"),
+    (b"", "workqueues 0 / faults 0"),
+    (text("item a"), "workqueues 1 / item a wq 0 queued 1 cancelled 0 finished 1 / faults 0"),
+    (text(ITEMS + " / ordered b c / flush a b / flush c d"),
+     "workqueues 3 / item a wq 2 queued 1 cancelled 0 finished 1"
+     " / item b wq 1 queued 1 cancelled 0 finished 1"
+     " / item c wq 1 queued 1 cancelled 0 finished 1"
+     " / item d wq 0 queued 1 cancelled 0 finished 1 / faults 0"),
+    (text(S), CIRCLE_A),
+    (text("item a / flush a b / item b"), "refused 8 line 2"),
+    (join(*MANY_ITEMS[:256], *CHAIN[:255]),
+     " / ".join(["workqueues 256"]
+                + ["item i%04d wq %d queued 1 cancelled 0 finished 1" % (number, 255 - number)
+                   for number in range(256)] + ["faults 0"])),
+    (join(*MANY_ITEMS[:257], *CHAIN[:256]), "refused 69 line 0"),
+]
+
 STATUSES = {"plan": 0, "yes": 0, "open": 0, "safe": 0, "circle": 1, "no": 1, "not": 1,
-            "deadlock": 1, "stuck": 1, "run": 1, "refused": 2}
+            "deadlock": 1, "stuck": 1, "run": 1, "workqueues": 0, "refused": 2}
 
 
 def wanted(answer):
@@ -181,6 +202,7 @@ def failures():
         answers.append((texts, replay.answer(*map(text, texts)), wanted(answer)))
     for *texts, answer in DEADLOCKS:
         answers.append((texts, deadlock.answer(*map(text, texts)), wanted(answer)))
+    answers += [(repr(texts), run.answer(texts), wanted(answer)) for texts, answer in RUNS]
     return [
         f"{what}: the page has {page}, the model has {model}"
         for what, model, page in answers if model != page
@@ -188,7 +210,7 @@ def failures():
 
 
 def count():
-    return len(PLANS) + len(CHECKS) + len(REPLAYS) + len(DEADLOCKS)
+    return len(PLANS) + len(CHECKS) + len(REPLAYS) + len(DEADLOCKS) + len(RUNS)
 
 
 if __name__ == "__main__":

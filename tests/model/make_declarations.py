@@ -538,6 +538,27 @@ def circle_beside_chains(names):
     return join(*lines)
 
 
+def chain_of(count):
+    """So many items, each of which flushes the next one."""
+    flushes = [b"flush i%d i%d" % (number, number + 1) for number in range(count - 1)]
+    return join(*numbered_items(count), *flushes)
+
+
+def limit_run_cases():
+    """The cases at the limits, and those of what is run, in the same form."""
+    cases = limit_cases()
+    for count in 1, 2, 255, 256, 257, 258:
+        cases.append((f"a chain of {count}", chain_of(count)))
+    chain = chain_of(256)
+    cases.append(("a chain of 256, and one beside it", chain + join(b"item x", b"flush x i0 i9")))
+    cases.append(("a chain of 256 in a circle", chain + join(b"flush i255 i0")))
+    spread = [b"flush i%d i%d i%d" % (n, (n + 17) % 256, 255) for n in range(239)]
+    cases.append(("a chain of 256 with more flushes", chain + join(*spread)))
+    ordered = join(b"item x", b"item y", b"ordered x i7 y", b"flush x i8", b"flush y i9 i10")
+    cases.append(("a chain of 256 with a group", chain + ordered))
+    return cases
+
+
 def limit_cases():
     """The cases at the limits: pairs of what it is and the declaration."""
     cases = []

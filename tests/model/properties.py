@@ -23,6 +23,7 @@ import make_certificates  # noqa: E402
 import make_declarations  # noqa: E402
 import plan  # noqa: E402
 import replay  # noqa: E402
+import run  # noqa: E402
 import search  # noqa: E402
 from command_line import seed_and_counts  # noqa: E402
 from declaration import Refused, read_declaration  # noqa: E402
@@ -334,6 +335,27 @@ def look_at_plan(text):
         demand(replay.answer(text, own, printed[at:]) == (b"deadlock\n", 1), "and it deadlocks")
 
 
+def look_at_running(text):
+    """What is printed of a plan that was run fits the plan, and else it is what plan prints."""
+    printed, status = run.answer(text)
+    planned, other = plan.answer(text)
+    if other != 0:
+        demand((printed, status) == (planned, other), "a circle or a refusal is that of plan")
+        return
+    lines = planned.split(b"\n")
+    count = int(lines[0].split(b" ")[1])
+    demand((status == 2) == (count > 256), "more than 256 workqueues can't be run")
+    if status == 2:
+        demand(printed == b"refused 69 line 0\n", "which is 69, without a line")
+        return
+    rows = [line.split(b" ") for line in printed.split(b"\n")[1:-2]]
+    wqs = [[row[1] for row in rows if row[3] == b"%d" % q] for q in range(count)]
+    demand(lines[1:count + 1] == [b" ".join([b"wq %d" % q, *names]) for q, names in enumerate(wqs)],
+           "each item is on its workqueue")
+    demand([row[1] for row in rows] == list(read_declaration(text).items), "in declared order")
+    demand(deadlock.answer(text, wqs_text(wqs)) == (b"safe\n", 0), "what is run is safe")
+
+
 def look_at_refusal(answer, text, told):
     """The line of a refusal is the first that can't be borne.
 
@@ -548,12 +570,14 @@ def main(arguments):
         ("check", look_at_check, make_certificates.random_check_case),
         ("replay", look_at_replay, make_certificates.random_replay_case),
         ("deadlock", look_at_deadlock, make_assignments.random_deadlock_case),
+        ("run", look_at_running, lambda *case: [make_declarations.random_case(*case)]),
     ]
     limits = {
         "plan": [],
         "check": make_certificates.limit_check_cases(),
         "replay": make_certificates.limit_replay_cases(),
         "deadlock": make_assignments.limit_deadlock_cases(),
+        "run": [(what, [text]) for what, text in make_declarations.limit_run_cases()],
     }
     looked = 0
     for command, look_at, random_case in parts:

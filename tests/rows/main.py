@@ -2,8 +2,8 @@
 #
 #     main.py PROGRAM
 #
-# Each row is texts and the answer to them: `PROGRAM plan`, `check`, `deadlock` or `replay` must print
-# just that, with the exit status that goes with it, and nothing to standard error. What is printed
+# Each row is texts and the answer to them: `PROGRAM plan`, `check`, `deadlock`, `replay` or `run` must
+# print just that, with the exit status that goes with it, and nothing to standard error. What is printed
 # must be true, too: a plan or a circle is then given to `check`, and a run to `replay`. It takes a
 # few seconds.
 
@@ -18,11 +18,12 @@ import limits  # noqa: E402
 import plans  # noqa: E402
 import prefixes  # noqa: E402
 import replays  # noqa: E402
+import runs  # noqa: E402
 from tables import Case, run_cases, text_of  # noqa: E402  (in the folder above)
 
 # "Faults and exit statuses": the status that goes with the first word of an answer.
 STATUS = {
-    "plan": 0, "yes": 0, "safe": 0, "open": 0,
+    "plan": 0, "yes": 0, "safe": 0, "open": 0, "workqueues": 0,
     "circle": 1, "no": 1, "run": 1, "not": 1, "deadlock": 1, "stuck": 1,
     "refused": 2,
 }
@@ -68,6 +69,11 @@ def table_cases():
     ]:
         for *texts, answer in rows:
             yield case(table, "replay", texts, answer)
+    for table, rows in [
+        ("plans that are run", runs.RUNS), ("what isn't run", runs.OTHERS), ("limits of what is run", runs.LIMITS)
+    ]:
+        for text, answer in rows:
+            yield case(table, "run", [text], answer)
     for command, texts, fronts in prefixes.PREFIXES:
         yield from prefix_cases(command, [text_of(text) for text in texts], fronts)
 

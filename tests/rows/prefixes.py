@@ -14,6 +14,7 @@ STEPS = "queue a / queue c / queue b / queue d / start 0 a / wait 0 b / start 1 
 CIRCLE_OF_GROUPS = f"circle 2 / arc a b / arc c d / run 8 / {STEPS}"
 
 ENDS = "refused 40 line 0"
+RAN = "queued 1 cancelled 0 finished 1"
 
 # A command, its whole texts, the last of which is cut off, and the answer to each front of that: from
 # and to how many bytes.
@@ -29,6 +30,18 @@ PREFIXES = [
         (15, 18, "refused 4 line 3"),
         (19, 22, "refused 5 line 3"),
         (23, 24, TWO),
+    ]),
+    ("run", [P], [
+        (0, 0, "workqueues 0 / faults 0"),
+        (1, 3, "refused 4 line 1"),
+        (4, 5, "refused 5 line 1"),
+        (6, 7, f"workqueues 1 / item a wq 0 {RAN} / faults 0"),
+        (8, 10, "refused 4 line 2"),
+        (11, 12, "refused 5 line 2"),
+        (13, 14, f"workqueues 1 / item a wq 0 {RAN} / item b wq 0 {RAN} / faults 0"),
+        (15, 18, "refused 4 line 3"),
+        (19, 22, "refused 5 line 3"),
+        (23, 24, f"workqueues 2 / item a wq 1 {RAN} / item b wq 0 {RAN} / faults 0"),
     ]),
     ("check", [P, TWO], [
         (0, 0, ENDS),

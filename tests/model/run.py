@@ -1,0 +1,52 @@
+# A model of `wqplan run DECL`. It says what is printed of a plan that was run, as docs/FORMAT.md asks
+# for in "The command `run`". No thread runs here: the page says what comes of every order of them.
+# See plan.py for what the model is.
+
+import sys
+
+sys.dont_write_bytecode = True
+import plan  # noqa: E402  (beside this file)
+from declaration import TEXT_LIMIT, Refused, read_declaration  # noqa: E402
+
+# The most workqueues that a runtime has.
+WORKQUEUE_LIMIT = 256
+
+
+def run_text(items, workqueue_of, count):
+    """What is printed of a plan that was run."""
+    lines = [b"workqueues %d" % count]
+    for name in items:
+        lines.append(b"item %s wq %d queued 1 cancelled 0 finished 1" % (name, workqueue_of[name]))
+    return b"".join(line + b"\n" for line in [*lines, b"faults 0"])
+
+
+def answer(text):
+    """The bytes of the answer, and the exit status (Faults and exit statuses)."""
+    planned, status = plan.answer(text)
+    if status != 0:
+        return planned, status
+    workqueues = [line.split(b" ")[2:] for line in planned.split(b"\n") if line.startswith(b"wq ")]
+    if len(workqueues) > WORKQUEUE_LIMIT:
+        return Refused(69, 0).answer()
+    workqueue_of = {name: q for q, names in enumerate(workqueues) for name in names}
+    return run_text(read_declaration(text).items, workqueue_of, len(workqueues)), 0
+
+
+def main(arguments):
+    """Faults and exit statuses. Of the faults of the system only `fault read` is here."""
+    if len(arguments) != 2 or arguments[0] != "run":
+        print("usage: run.py run DECL", file=sys.stderr)
+        return 2
+    try:
+        with open(arguments[1], "rb") as file:
+            text = file.read(TEXT_LIMIT + 1)
+    except OSError:
+        print("fault read", file=sys.stderr)
+        return 3
+    printed, status = answer(text)
+    sys.stdout.buffer.write(printed)
+    return status
+
+
+if __name__ == "__main__":
+    sys.exit(main(sys.argv[1:]))
