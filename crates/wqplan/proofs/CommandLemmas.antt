@@ -17,7 +17,7 @@ use Rattle.clap.proofs.WalkLemmas.{first_value-rows, one_text-rows}
 use Rattle.clap.specs.Lexer.{long_of, short_of}
 use Rattle.clap.proofs.OnLiterals.{clap_on_literals}
 use Rattle.wqplan.specs.CommandLine.{wqplan, is_no_option, Asked, Asks, AsksFor, Calls, GivesArguments, IsNumber, command_name}
-use Rattle.wqplan.specs.CommandLine.Asked.{plans, checks, judges, replays, explains}
+use Rattle.wqplan.specs.CommandLine.Asked.{plans, checks, judges, replays, runs, explains}
 
 -- where a part that is turned around is one of those that hold, it doesn't
 pub third_is_not : (x y z w : Bool) → x && (y && (not z && w)) ≡ true → z ≡ false
@@ -121,6 +121,15 @@ asks_replay program declaration assignment run p q r =
     (rw (bytes_eq-no_option assignment q, long_of-no_option assignment q, short_of-no_option assignment q)
     (rw (bytes_eq-no_option run r, long_of-no_option run r, short_of-no_option run r) (_, refl, (refl, refl, refl))))
 
+-- `wqplan run DECL` is taken, and gives it
+pub takes_run : (program declaration : Text) → is_no_option declaration ≡ true → takes wqplan (program ∷ codes "run" ∷ declaration ∷ []) ≡ true
+unfolding clap_on_literals
+takes_run program declaration p = rw (bytes_eq-no_option declaration p, long_of-no_option declaration p, short_of-no_option declaration p) refl
+
+pub asks_run : (program declaration : Text) → is_no_option declaration ≡ true → Asks (program ∷ codes "run" ∷ declaration ∷ []) (runs declaration)
+unfolding clap_on_literals
+asks_run program declaration p = rw (bytes_eq-no_option declaration p, long_of-no_option declaration p, short_of-no_option declaration p) (_, refl, refl)
+
 -- digits begin with no `+` and no `-`
 no_plus : (ds : Text) → IsNumeral 10 ds → without_leading_plus ds ≡ ds
 no_plus [] h = refl
@@ -168,6 +177,7 @@ takes_Calls words (plans (Some file)) (program, are, p) = ap (takes wqplan) are 
 takes_Calls words (checks declaration certificate) (program, are, p, q) = ap (takes wqplan) are ∙ takes_check program declaration certificate p q
 takes_Calls words (judges declaration assignment) (program, are, p, q) = ap (takes wqplan) are ∙ takes_deadlock program declaration assignment p q
 takes_Calls words (replays declaration assignment run) (program, are, p, q, r) = ap (takes wqplan) are ∙ takes_replay program declaration assignment run p q r
+takes_Calls words (runs declaration) (program, are, p) = ap (takes wqplan) are ∙ takes_run program declaration p
 takes_Calls words (explains code) (program, are, small) =
     ap (takes wqplan) are ∙ takes_explain program (decimal code) (decimal_is_no_option code small) (number_is_accepted (decimal code) code (IsNumber-decimal code small))
 
@@ -177,6 +187,7 @@ Asks_Calls words (plans (Some file)) (program, are, p) = subst (λ ws. Asks ws (
 Asks_Calls words (checks declaration certificate) (program, are, p, q) = subst (λ ws. Asks ws (checks declaration certificate)) (sym are) (asks_check program declaration certificate p q)
 Asks_Calls words (judges declaration assignment) (program, are, p, q) = subst (λ ws. Asks ws (judges declaration assignment)) (sym are) (asks_deadlock program declaration assignment p q)
 Asks_Calls words (replays declaration assignment run) (program, are, p, q, r) = subst (λ ws. Asks ws (replays declaration assignment run)) (sym are) (asks_replay program declaration assignment run p q r)
+Asks_Calls words (runs declaration) (program, are, p) = subst (λ ws. Asks ws (runs declaration)) (sym are) (asks_run program declaration p)
 Asks_Calls words (explains code) (program, are, small) =
     subst (λ ws. Asks ws (explains code)) (sym are) (asks_explain program (decimal code) code (decimal_is_no_option code small) (IsNumber-decimal code small))
 
@@ -235,27 +246,38 @@ GivesArguments-unique rows (plans f) (plans f2) names g h = ap plans (sym g ∙ 
 GivesArguments-unique rows (plans f) (checks d c) names g h = cc
 GivesArguments-unique rows (plans f) (judges d a) names g h = cc
 GivesArguments-unique rows (plans f) (replays d a r) names g h = cc
+GivesArguments-unique rows (plans f) (runs d) names g h = cc
 GivesArguments-unique rows (plans f) (explains n) names g h = cc
 GivesArguments-unique rows (checks d c) (plans f) names g h = cc
 GivesArguments-unique rows (checks d c) (checks d2 c2) names (gd, gc) (hd, hc) = ap₂ checks (same_value _ d d2 gd hd) (same_value _ c c2 gc hc)
 GivesArguments-unique rows (checks d c) (judges d2 a) names g h = cc
 GivesArguments-unique rows (checks d c) (replays d2 a r) names g h = cc
+GivesArguments-unique rows (checks d c) (runs d2) names g h = cc
 GivesArguments-unique rows (checks d c) (explains n) names g h = cc
 GivesArguments-unique rows (judges d a) (plans f) names g h = cc
 GivesArguments-unique rows (judges d a) (checks d2 c) names g h = cc
 GivesArguments-unique rows (judges d a) (judges d2 a2) names (gd, ga) (hd, ha) = ap₂ judges (same_value _ d d2 gd hd) (same_value _ a a2 ga ha)
 GivesArguments-unique rows (judges d a) (replays d2 a2 r) names g h = cc
+GivesArguments-unique rows (judges d a) (runs d2) names g h = cc
 GivesArguments-unique rows (judges d a) (explains n) names g h = cc
 GivesArguments-unique rows (replays d a r) (plans f) names g h = cc
 GivesArguments-unique rows (replays d a r) (checks d2 c) names g h = cc
 GivesArguments-unique rows (replays d a r) (judges d2 a2) names g h = cc
 GivesArguments-unique rows (replays d a r) (replays d2 a2 r2) names (gd, ga, gr) (hd, ha, hr) =
     rw (same_value _ d d2 gd hd, same_value _ a a2 ga ha, same_value _ r r2 gr hr) refl
+GivesArguments-unique rows (replays d a r) (runs d2) names g h = cc
 GivesArguments-unique rows (replays d a r) (explains n) names g h = cc
+GivesArguments-unique rows (runs d) (plans f) names g h = cc
+GivesArguments-unique rows (runs d) (checks d2 c) names g h = cc
+GivesArguments-unique rows (runs d) (judges d2 a) names g h = cc
+GivesArguments-unique rows (runs d) (replays d2 a r) names g h = cc
+GivesArguments-unique rows (runs d) (runs d2) names g h = ap runs (same_value _ d d2 g h)
+GivesArguments-unique rows (runs d) (explains n) names g h = cc
 GivesArguments-unique rows (explains n) (plans f) names g h = cc
 GivesArguments-unique rows (explains n) (checks d c) names g h = cc
 GivesArguments-unique rows (explains n) (judges d a) names g h = cc
 GivesArguments-unique rows (explains n) (replays d a r) names g h = cc
+GivesArguments-unique rows (explains n) (runs d) names g h = cc
 GivesArguments-unique rows (explains n) (explains n2) names (word, is, number) (other, also, number2) =
     let same : word ≡ other = same_value _ word other is also in
     ap explains (number.2 ∙ (ap (λ (w : Text). digits_value 10 (without_leading_plus w)) same ∙ sym number2.2))
@@ -285,6 +307,7 @@ replays_of met rows wanted is (others, also, given) =
     go (checks d c) name given = cc
     go (judges d a) name given = cc
     go (replays d a r) name given = (d, a, r, given)
+    go (runs d) name given = cc
     go (explains n) name given = cc
 
 -- no other command is called `explain`
@@ -300,6 +323,9 @@ deadlock_is_not_explain e = cc
 replay_is_not_explain : codes "replay" ≡ codes "explain" → ⊥
 replay_is_not_explain e = cc
 
+run_is_not_explain : codes "run" ≡ codes "explain" → ⊥
+run_is_not_explain e = cc
+
 -- what asks for `explain` gives it its number
 pub explains_of : (met : Option (Text × List Row)) (rows : List Row) (wanted : Asked) → met ≡ Some (codes "explain", rows) → AsksFor met wanted
     → (code : ℕ) × GivesArguments rows (explains code)
@@ -312,4 +338,5 @@ explains_of met rows wanted is (others, also, given) =
     go (checks d c) name given = absurd (check_is_not_explain name)
     go (judges d a) name given = absurd (deadlock_is_not_explain name)
     go (replays d a r) name given = absurd (replay_is_not_explain name)
+    go (runs d) name given = absurd (run_is_not_explain name)
     go (explains code) name given = (code, given)

@@ -1,4 +1,4 @@
--- The numbers of refusals and of a `no`, and those that have an explanation.
+-- The numbers that the program prints, and those that have an explanation.
 use Rattle.std.proofs.Common.{◌≡◌, ◌≢◌, ◌==◌, ℕ, Bool, true, false, cond, List, [], ◌∷◌, Some, map, refl, sym, subst}
 use Rattle.std.proofs.lemmas.Bool.{eqb-true}
 use Rattle.wq_text.specs.declared.text.TextError.TheVariants.{TextTooLong, LineTooLong}
@@ -8,95 +8,104 @@ use Rattle.wq_groups.specs.declared.fault.GroupError.TheVariants as groups
 use Rattle.wq_cert.specs.declared.fault.CertError.TheVariants as certificates
 use Rattle.wq_checker.specs.declared.answer.No.TheVariants.{NotFalling, LengthDiffers, ChainBroken, CircleBroken, RunBroken}
 use Rattle.wq_commands.specs.Numbers.{IsPrinted, of_limit, of_line, of_item, of_group, of_certificate, of_no}
+use Rattle.wqplan.specs.Numbers.{IsPrintedByProgram, of_text, of_plan}
 use Rattle.wq_explain.specs.declared.explain.Explained.TheVariants.{Known, Unknown}
 use Rattle.wq_explain.specs.Explaining.{Row, explanations, explained_end, end_in, explanation_in, known_or_not}
 
--- a printed number has an explanation
-pub Known-printed : (code : ℕ) → IsPrinted code → explained_end code ≡ Known
-Known-printed code (of_limit TextTooLong) = refl
-Known-printed code (of_limit (LineTooLong line)) = refl
-Known-printed code (of_line (BadByte line)) = refl
-Known-printed code (of_line (UnknownWord line)) = refl
-Known-printed code (of_line (MissingName line)) = refl
-Known-printed code (of_line (ExtraWord line)) = refl
-Known-printed code (of_line (BadName line)) = refl
-Known-printed code (of_item (items.ItemTwice line) some) = refl
-Known-printed code (of_item (items.UnknownItem line) some) = refl
-Known-printed code (of_item (items.TooManyItems line) some) = refl
-Known-printed code (of_item (items.TooManyFlushes line) some) = refl
-Known-printed code (of_item items.OutOfMemory some) = absurd (some refl)
-Known-printed code (of_group (groups.GroupedTwice line) some) = refl
-Known-printed code (of_group groups.OutOfMemory some) = absurd (some refl)
-Known-printed code (of_certificate (certificates.BadCertLine line) some) = refl
-Known-printed code (of_certificate (certificates.NotAllItems line) some) = refl
-Known-printed code (of_certificate (certificates.GroupSplit line) some) = refl
-Known-printed code (of_certificate (certificates.NumberOutOfRange line) some) = refl
-Known-printed code (of_certificate certificates.OutOfMemory some) = absurd (some refl)
-Known-printed code (of_no (NotFalling item target)) = refl
-Known-printed code (of_no (ChainBroken at)) = refl
-Known-printed code (of_no LengthDiffers) = refl
-Known-printed code (of_no (CircleBroken at)) = refl
-Known-printed code (of_no RunBroken) = refl
+-- a number of a text that is refused, or of a `no`, has an explanation
+Known-text : (code : ℕ) → IsPrinted code → explained_end code ≡ Known
+Known-text code (of_limit TextTooLong) = refl
+Known-text code (of_limit (LineTooLong line)) = refl
+Known-text code (of_line (BadByte line)) = refl
+Known-text code (of_line (UnknownWord line)) = refl
+Known-text code (of_line (MissingName line)) = refl
+Known-text code (of_line (ExtraWord line)) = refl
+Known-text code (of_line (BadName line)) = refl
+Known-text code (of_item (items.ItemTwice line) some) = refl
+Known-text code (of_item (items.UnknownItem line) some) = refl
+Known-text code (of_item (items.TooManyItems line) some) = refl
+Known-text code (of_item (items.TooManyFlushes line) some) = refl
+Known-text code (of_item items.OutOfMemory some) = absurd (some refl)
+Known-text code (of_group (groups.GroupedTwice line) some) = refl
+Known-text code (of_group groups.OutOfMemory some) = absurd (some refl)
+Known-text code (of_certificate (certificates.BadCertLine line) some) = refl
+Known-text code (of_certificate (certificates.NotAllItems line) some) = refl
+Known-text code (of_certificate (certificates.GroupSplit line) some) = refl
+Known-text code (of_certificate (certificates.NumberOutOfRange line) some) = refl
+Known-text code (of_certificate certificates.OutOfMemory some) = absurd (some refl)
+Known-text code (of_no (NotFalling item target)) = refl
+Known-text code (of_no (ChainBroken at)) = refl
+Known-text code (of_no LengthDiffers) = refl
+Known-text code (of_no (CircleBroken at)) = refl
+Known-text code (of_no RunBroken) = refl
+
+-- so has each printed number
+pub Known-printed : (code : ℕ) → IsPrintedByProgram code → explained_end code ≡ Known
+Known-printed code (of_text printed) = Known-text code printed
+Known-printed code of_plan = refl
 
 -- each of these numbers is printed
 abbrev AllPrinted : List ℕ → Type 0
 AllPrinted [] = Unit {0}
-AllPrinted (code ∷ codes) = IsPrinted code × AllPrinted codes
+AllPrinted (code ∷ codes) = IsPrintedByProgram code × AllPrinted codes
 
 -- a number that one of the rows has is one of theirs
-printed_in : (rows : List Row) → AllPrinted (map (λ (row : Row). row.code) rows) → (code : ℕ) → end_in rows code ≡ Known → IsPrinted code
+printed_in : (rows : List Row) → AllPrinted (map (λ (row : Row). row.code) rows) → (code : ℕ) → end_in rows code ≡ Known → IsPrintedByProgram code
 printed_in [] printed code known = absurd cc
 printed_in (row ∷ rows) printed code known = go (row.code == code) refl known (printed_in rows printed.1 code)
   where
     go : (same : Bool) → (row.code == code) ≡ same → known_or_not (cond same (Some row) (explanation_in rows code)) ≡ Known
-        → (end_in rows code ≡ Known → IsPrinted code) → IsPrinted code
-    go true is found others = subst IsPrinted (eqb-true row.code code is) printed.0
+        → (end_in rows code ≡ Known → IsPrintedByProgram code) → IsPrintedByProgram code
+    go true is found others = subst IsPrintedByProgram (eqb-true row.code code is) printed.0
     go false is found others = others found
 
 all_printed : AllPrinted (map (λ (row : Row). row.code) explanations)
 all_printed = (
-  of_limit TextTooLong,
+  of_text (of_limit TextTooLong),
   (
-    of_limit (LineTooLong 0),
+    of_text (of_limit (LineTooLong 0)),
     (
-      of_line (BadByte 0),
+      of_text (of_line (BadByte 0)),
       (
-        of_line (UnknownWord 0),
+        of_text (of_line (UnknownWord 0)),
         (
-          of_line (MissingName 0),
+          of_text (of_line (MissingName 0)),
           (
-            of_line (BadName 0),
+            of_text (of_line (BadName 0)),
             (
-              of_item (items.ItemTwice 0) (λ is. cc),
+              of_text (of_item (items.ItemTwice 0) (λ is. cc)),
               (
-                of_item (items.UnknownItem 0) (λ is. cc),
+                of_text (of_item (items.UnknownItem 0) (λ is. cc)),
                 (
-                  of_item (items.TooManyItems 0) (λ is. cc),
+                  of_text (of_item (items.TooManyItems 0) (λ is. cc)),
                   (
-                    of_item (items.TooManyFlushes 0) (λ is. cc),
+                    of_text (of_item (items.TooManyFlushes 0) (λ is. cc)),
                     (
-                      of_group (groups.GroupedTwice 0) (λ is. cc),
+                      of_text (of_group (groups.GroupedTwice 0) (λ is. cc)),
                       (
-                        of_line (ExtraWord 0),
+                        of_text (of_line (ExtraWord 0)),
                         (
-                          of_certificate (certificates.BadCertLine 0) (λ is. cc),
+                          of_text (of_certificate (certificates.BadCertLine 0) (λ is. cc)),
                           (
-                            of_certificate (certificates.NotAllItems 0) (λ is. cc),
+                            of_text (of_certificate (certificates.NotAllItems 0) (λ is. cc)),
                             (
-                              of_certificate (certificates.GroupSplit 0) (λ is. cc),
+                              of_text (of_certificate (certificates.GroupSplit 0) (λ is. cc)),
                               (
-                                of_certificate (certificates.NumberOutOfRange 0) (λ is. cc),
+                                of_text (of_certificate (certificates.NumberOutOfRange 0) (λ is. cc)),
                                 (
-                                  of_no (NotFalling 0 0),
+                                  of_text (of_no (NotFalling 0 0)),
                                   (
-                                    of_no (ChainBroken 0),
+                                    of_text (of_no (ChainBroken 0)),
                                     (
-                                      of_no LengthDiffers,
+                                      of_text (of_no LengthDiffers),
                                       (
-                                        of_no (CircleBroken 0),
+                                        of_text (of_no (CircleBroken 0)),
                                         (
-                                          of_no RunBroken,
-                                          tt,
+                                          of_text (of_no RunBroken),
+                                          (
+                                            of_plan,
+                                            tt,
+                                          ),
                                         ),
                                       ),
                                     ),
@@ -120,5 +129,5 @@ all_printed = (
 )
 
 -- a number that has an explanation is printed
-pub IsPrinted-known : (code : ℕ) → explained_end code ≡ Known → IsPrinted code
+pub IsPrinted-known : (code : ℕ) → explained_end code ≡ Known → IsPrintedByProgram code
 IsPrinted-known = printed_in explanations all_printed

@@ -4,7 +4,7 @@ use Rattle.std.specs.Str.Parse.{IsNumeral, digits_value, without_leading_plus}
 use Rattle.clap.specs.Words.{App, Row, Rule, Text, first_of, one_of, new_app, new_rule, subcommand_of, with_rule, with_subcommand}
 use Rattle.clap.specs.declared.builder.value_parser.ValueParser.TheVariants.{Unsigned}
 use Rattle.wqplan.specs.declared.command_line.Request.{Request}
-use Rattle.wqplan.specs.declared.command_line.Request.TheVariants.{Plan, Check, Deadlock, Replay, Explain}
+use Rattle.wqplan.specs.declared.command_line.Request.TheVariants.{Plan, Check, Deadlock, Replay, Run, Explain}
 
 -- a positional argument that has to be given
 abbrev pub needed : Text → Rule
@@ -30,6 +30,10 @@ deadlock = with_rule (with_rule (new_app (codes "deadlock")) (needed (codes "DEC
 abbrev pub replay : App
 replay = with_rule (with_rule (with_rule (new_app (codes "replay")) (needed (codes "DECL"))) (needed (codes "ASSIGN"))) (needed (codes "RUN"))
 
+-- `run DECL`
+abbrev pub run : App
+run = with_rule (new_app (codes "run")) (needed (codes "DECL"))
+
 -- `explain CODE`
 abbrev pub explain : App
 explain = with_rule (new_app (codes "explain")) (needed_number (codes "CODE"))
@@ -39,7 +43,7 @@ abbrev pub wqplan : App
 wqplan =
     let start = new_app (codes "wqplan") in
     let bare = record start { top = record start.top { has_version = true; subcommand_required = true } } in
-    with_subcommand (with_subcommand (with_subcommand (with_subcommand (with_subcommand bare plan.top) check.top) deadlock.top) replay.top) explain.top
+    with_subcommand (with_subcommand (with_subcommand (with_subcommand (with_subcommand (with_subcommand bare plan.top) check.top) deadlock.top) replay.top) run.top) explain.top
 
 -- a command and the paths of its files, or its number
 pub data Asked : Type 0 where
@@ -47,6 +51,7 @@ pub data Asked : Type 0 where
   checks : Text → Text → Asked
   judges : Text → Text → Asked
   replays : Text → Text → Text → Asked
+  runs : Text → Asked
   explains : ℕ → Asked
 
 -- what a request asks for
@@ -55,6 +60,7 @@ spelled (Plan file) = plans (option_map (λ s. s.now) file)
 spelled (Check declaration certificate) = checks declaration.now certificate.now
 spelled (Deadlock declaration assignment) = judges declaration.now assignment.now
 spelled (Replay declaration assignment run) = replays declaration.now assignment.now run.now
+spelled (Run declaration) = runs declaration.now
 spelled (Explain code) = explains code
 
 -- the name of the command that is asked for
@@ -63,6 +69,7 @@ command_name (plans file) = codes "plan"
 command_name (checks declaration certificate) = codes "check"
 command_name (judges declaration assignment) = codes "deadlock"
 command_name (replays declaration assignment run) = codes "replay"
+command_name (runs declaration) = codes "run"
 command_name (explains code) = codes "explain"
 
 -- the word is this number of 32 bits, in digits; a plus may stand before them
@@ -78,6 +85,7 @@ GivesArguments rows (checks declaration certificate) = (first_of (codes "DECL") 
 GivesArguments rows (judges declaration assignment) = (first_of (codes "DECL") rows ≡ Some declaration) × (first_of (codes "ASSIGN") rows ≡ Some assignment)
 GivesArguments rows (replays declaration assignment run) =
     (first_of (codes "DECL") rows ≡ Some declaration) × (first_of (codes "ASSIGN") rows ≡ Some assignment) × (first_of (codes "RUN") rows ≡ Some run)
+GivesArguments rows (runs declaration) = first_of (codes "DECL") rows ≡ Some declaration
 GivesArguments rows (explains code) = (word : Text) × (one_of (codes "CODE") rows ≡ Some word) × IsNumber word code
 
 -- a command that was met, with its matches, asks for this
@@ -103,4 +111,5 @@ Calls words (judges declaration assignment) = (program : Text) × (words ≡ pro
     × (is_no_option declaration ≡ true) × (is_no_option assignment ≡ true)
 Calls words (replays declaration assignment run) = (program : Text) × (words ≡ program ∷ codes "replay" ∷ declaration ∷ assignment ∷ run ∷ [])
     × (is_no_option declaration ≡ true) × (is_no_option assignment ≡ true) × (is_no_option run ≡ true)
+Calls words (runs declaration) = (program : Text) × (words ≡ program ∷ codes "run" ∷ declaration ∷ []) × (is_no_option declaration ≡ true)
 Calls words (explains code) = (program : Text) × (words ≡ program ∷ codes "explain" ∷ decimal code ∷ []) × (code < 2 ^ 32)

@@ -5,8 +5,9 @@ use Rattle.wq_commands.specs.Answer.{Answers}
 use Rattle.wq_commands.specs.Checking.{Checks}
 use Rattle.wq_commands.specs.Deadlocking.{Judges}
 use Rattle.wq_commands.specs.Replaying.{Replays}
+use Rattle.wq_run.specs.Running.{Runs}
 use Rattle.wq_explain.specs.Explaining.{explained_end}
-use Rattle.wqplan.specs.CommandLine.{Asked, plans, checks, judges, replays, explains}
+use Rattle.wqplan.specs.CommandLine.{Asked, plans, checks, judges, replays, runs, explains}
 use Rattle.wqplan.specs.Status.{explain_end}
 
 -- the command that is asked for ends so, to some texts; the end of `explain` is that of its number
@@ -15,4 +16,5 @@ EndsAsAsked (plans file) end = (text out : List ℕ) × Answers text end out
 EndsAsAsked (checks declaration certificate) end = (text claim out : List ℕ) × Checks text claim end out
 EndsAsAsked (judges declaration assignment) end = (text lanes out : List ℕ) × Judges text lanes end out
 EndsAsAsked (replays declaration assignment run) end = (text lanes steps out : List ℕ) × Replays text lanes steps end out
+EndsAsAsked (runs declaration) end = (text out : List ℕ) × Runs text end out
 EndsAsAsked (explains code) end = end ≡ explain_end (explained_end code)

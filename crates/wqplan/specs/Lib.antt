@@ -1,3 +1,4 @@
 pub mod CommandLine
 pub mod Status
 pub mod Ended
+pub mod Numbers

@@ -5,7 +5,7 @@
 ghost use Rattle.std.specs.Prelude.{◌≡◌, ℕ, List, Some, codes, false, IfOk, IfSome, IsSome, MatchResult, map};
 ghost use Rattle.clap.specs.Words.{app_of, found_of, kind_of, rows_of, rule_of, subcommand_rows_of};
 ghost use Rattle.clap.specs.declared.error.kind.ErrorKind.TheVariants.{OutOfMemory};
-ghost use Rattle.wqplan.specs.CommandLine.{check, deadlock, explain, needed, needed_number, plan, replay, spelled, wqplan, Asked, Asks, AsksFor, Calls, GivesArguments, checks, explains, judges, replays};
+ghost use Rattle.wqplan.specs.CommandLine.{check, deadlock, explain, needed, needed_number, plan, replay, run, spelled, wqplan, Asked, Asks, AsksFor, Calls, GivesArguments, checks, explains, judges, replays, runs};
 
 use crate::help;
 use clap::builder::ValueParser;
@@ -38,6 +38,10 @@ pub(crate) enum Request<'a> {
         declaration: &'a str,
         assignment: &'a str,
         run: &'a str,
+    },
+    /// A run of the plan of the declaration in this file.
+    Run {
+        declaration: &'a str,
     },
     /// What this number means.
     Explain {
@@ -110,13 +114,24 @@ fn replay<'a>(alloc: Global) -> Result<Command<'a>, AllocError>
 {
     let declaration = file(alloc, "DECL", help::DECL);
     let assignment = file(alloc, "ASSIGN", help::ASSIGN);
-    let run = file(alloc, "RUN", help::RUN);
+    let run = file(alloc, "RUN", help::STEPS);
     Command::new(alloc, "replay")
         .about(help::REPLAY)
         .after_help(help::STATUSES)
         .arg(declaration)?
         .arg(assignment)?
         .arg(run)
+}
+
+/// The command `run`.
+fn run<'a>(alloc: Global) -> Result<Command<'a>, AllocError>
+    ensures { IfOk result (λ command. app_of command ≡ run) }
+{
+    let declaration = file(alloc, "DECL", help::DECL);
+    Command::new(alloc, "run")
+        .about(help::RUN)
+        .after_help(help::STATUSES)
+        .arg(declaration)
 }
 
 /// The command `explain`.
@@ -143,6 +158,7 @@ fn program<'a>(alloc: Global) -> Result<Command<'a>, AllocError>
         .subcommand(check(alloc)?)?
         .subcommand(deadlock(alloc)?)?
         .subcommand(replay(alloc)?)?
+        .subcommand(run(alloc)?)?
         .subcommand(explain(alloc)?)
 }
 
@@ -187,6 +203,15 @@ fn replay_request<'a>(given: &ArgMatches<'a>) -> Option<Request<'a>>
     })
 }
 
+/// What `run` is asked for. Its file is there in all matches that a parse gives.
+fn run_request<'a>(given: &ArgMatches<'a>) -> Option<Request<'a>>
+    ensures asked { IfSome result (λ request. AsksFor (Some (codes "run", rows_of (found_of given.now))) (spelled request)) }
+    ensures all { (declaration : List ℕ) → GivesArguments (rows_of (found_of given.now)) (runs declaration) → IsSome result }
+{
+    let declaration = given.get_str("DECL")?;
+    Some(Request::Run { declaration })
+}
+
 /// What `explain` is asked for. Its number is there in all matches that a parse gives.
 fn explain_request<'a>(given: &ArgMatches<'a>) -> Option<Request<'a>>
     ensures asked { IfSome result (λ request. AsksFor (Some (codes "explain", rows_of (found_of given.now))) (spelled request)) }
@@ -212,10 +237,13 @@ fn entered<'a>(matches: &ArgMatches<'a>) -> Option<Request<'a>>
     if let Some(given) = matches.subcommand_matches("deadlock") {
         return deadlock_request(given);
     }
-    if let Some(given) = matches.subcommand_matches("explain") {
-        return explain_request(given);
+    if let Some(given) = matches.subcommand_matches("replay") {
+        return replay_request(given);
     }
-    replay_request(matches.subcommand_matches("replay")?)
+    if let Some(given) = matches.subcommand_matches("run") {
+        return run_request(given);
+    }
+    explain_request(matches.subcommand_matches("explain")?)
 }
 
 /// What these words ask for.

@@ -14,6 +14,7 @@ use clap::Error;
 use clap::error::ErrorKind;
 use std::io;
 use wq_commands::{End, Fault};
+use wq_run::CommandFault;
 
 /// The status where help or the version was printed.
 const SHOWN: u8 = 0;
@@ -25,7 +26,7 @@ const MISUSED: u8 = 2;
 const FAULTED: u8 = 3;
 
 /// Says which fault stopped the run.
-fn faulted(rt: &impl Eprint, fault: Fault) -> u8
+fn faulted(rt: &impl Eprint, fault: CommandFault) -> u8
     ensures { result ≡ 3 }
 {
     let _ = rt.eprintln(fault.text());
@@ -33,7 +34,7 @@ fn faulted(rt: &impl Eprint, fault: Fault) -> u8
 }
 
 /// The status of a command that ran.
-pub(crate) fn answered(rt: &impl Eprint, outcome: Result<End, Fault>) -> u8
+pub(crate) fn answered(rt: &impl Eprint, outcome: Result<End, CommandFault>) -> u8
     ensures { result ≡ status_of outcome }
 {
     match outcome {
@@ -48,7 +49,7 @@ pub(crate) fn unread(rt: &impl Eprint, error: &io::Error) -> u8
     ensures mistake { error_kind error.now ≢ NoMemory → result ≡ 2 }
 {
     if error.kind() == io::ErrorKind::OutOfMemory {
-        return faulted(rt, Fault::Memory);
+        return faulted(rt, CommandFault::Common(Fault::Memory));
     }
     let _ = rt.eprintln("error: the arguments can't be read as text");
     MISUSED
@@ -63,7 +64,7 @@ pub(crate) fn unasked<R: Print + Eprint>(rt: &R, error: &Error) -> u8
         → kind_of error.now ≢ ErrorKind.DisplayVersion → result ≡ 2 }
 {
     if error.kind() == ErrorKind::OutOfMemory {
-        return faulted(rt, Fault::Memory);
+        return faulted(rt, CommandFault::Common(Fault::Memory));
     }
     let printed = error.print(rt);
     if error.use_stderr() {
@@ -79,6 +80,6 @@ fn shown(rt: &impl Eprint, printed: &io::Result<()>) -> u8
 {
     match printed {
         Ok(()) => SHOWN,
-        Err(_) => faulted(rt, Fault::Write),
+        Err(_) => faulted(rt, CommandFault::Common(Fault::Write)),
     }
 }

@@ -3,7 +3,7 @@
 /// What the program is for.
 pub(crate) const PROGRAM: &str = "\
 Plans workqueues with WQ_MEM_RECLAIM: says which work item goes on which workqueue,
-so that no item shares one with an item that it waits for.";
+so that no item shares one with an item that it waits for. Runs such a plan in threads.";
 
 /// What `plan` reads and prints.
 pub(crate) const PLAN: &str =
@@ -20,6 +20,10 @@ Reads a declaration and which item is on which workqueue, and prints `safe`, or 
 /// What `replay` reads and prints.
 pub(crate) const REPLAY: &str = "\
 Reads a declaration, which item is on which workqueue, and a run, and prints how the run ends";
+
+/// What `run` reads, does and prints.
+pub(crate) const RUN: &str = "\
+Reads a declaration, runs its plan in threads, and prints how often each item was queued, cancelled and finished";
 
 /// What `explain` prints.
 pub(crate) const EXPLAIN: &str = "\
@@ -39,7 +43,7 @@ pub(crate) const ASSIGN: &str =
     "Which item is on which workqueue: `wq` lines alone, or a whole plan";
 
 /// What RUN is.
-pub(crate) const RUN: &str = "The steps of a run";
+pub(crate) const STEPS: &str = "The steps of a run";
 
 /// What CODE is.
 pub(crate) const CODE: &str = "The number, as in `refused CODE line N` or `no CODE ..`";
@@ -49,13 +53,15 @@ pub(crate) const STATUSES: &str = "\
 Each command prints one answer to standard output, or a line `refused CODE line N`.
 
 Exit status:
-  0  the answer is a plan, `yes ..`, `safe`, `open` or an explanation; or help or
-     the version was printed
+  0  the answer is a plan, `yes ..`, `safe`, `open`, the counts of a plan that was
+     run, or an explanation; or help or the version was printed
   1  the answer is a circle, where items wait for one another and there is no plan;
      or it is `no ..`, a run that deadlocks, `deadlock`, `stuck` or `not lawful N`
-  2  a refusal was printed: a text isn't of the form that it should have; or the
-     number to explain is none that is printed. Or the command line is wrong; then
-     standard error says how, and nothing was read
-  3  a fault: standard error has the line `fault memory`, `fault read` or `fault write`
+  2  a refusal was printed: a text isn't of the form that it should have, or a plan
+     has too many workqueues to run; or the number to explain is none that is
+     printed. Or the command line is wrong; then standard error says how, and
+     nothing was read
+  3  a fault: standard error has the line `fault memory`, `fault read`, `fault write`,
+     `fault thread` or `fault tally`
 
 docs/FORMAT.md describes the texts and the answers, `wqplan explain CODE` each refusal.";

@@ -3,11 +3,11 @@
 //! Each law is a function without effect, whose contract is the law.
 
 ghost use Rattle.std.specs.Prelude.{◌≡◌, ◌↔◌, ℕ};
-ghost use Rattle.wq_commands.specs.Numbers.{IsPrinted};
+ghost use Rattle.wqplan.specs.Numbers.{IsPrintedByProgram};
 ghost use Rattle.wq_explain.specs.Explaining.{explained_end};
 ghost use Rattle.wq_explain.specs.declared.explain.Explained.TheVariants.{Known};
 
-/// `explain` knows just the numbers that a refusal or a `no` can have.
+/// `explain` knows just the numbers that a refusal or a `no` can have, that of a plan too large to run among them.
 pub fn each_printed_number_is_explained()
-    ensures { (code : ℕ) → IsPrinted code ↔ (explained_end code ≡ Known) }
+    ensures { (code : ℕ) → IsPrintedByProgram code ↔ (explained_end code ≡ Known) }
 {}

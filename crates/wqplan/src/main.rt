@@ -1,4 +1,5 @@
-//! `wqplan`: the commands of `wq_commands` and `wq_explain`, over the files and standard streams of a process.
+//! `wqplan`: the commands of `wq_commands`, `wq_run` and `wq_explain`, over the files, the standard streams and the threads
+//! of a process.
 //!
 //! What this crate adds is the command line, the files and the exit status; what is read and what is answered stand
 //! in those crates. The formats and the statuses are those of docs/FORMAT.md. The status is returned from `main` as
@@ -20,36 +21,42 @@ mod help;
 pub mod laws;
 mod plan;
 mod replay;
+mod run;
 
 use command_line::Request;
 use std::process::ExitCode;
 use std::rt::Files;
-use wq_commands::{End, Fault};
+use std::sync::Wait;
+use std::thread::Threads;
+use wq_commands::End;
+use wq_run::CommandFault;
 
 /// Runs the command that is asked for.
-fn perform<R: Files + Input + Print + AllocGlobal>(
+fn perform<R: Files + Input + Print + AllocGlobal + Threads + Wait + Sync>(
     rt: &R,
     request: Request<'_>,
-) -> Result<End, Fault>
+) -> Result<End, CommandFault>
     ensures { IfOk result (λ end. EndsAsAsked (spelled request.entry) end) }
 {
-    match request {
-        Request::Plan { file } => plan::plan(rt, file),
+    let end = match request {
+        Request::Plan { file } => plan::plan(rt, file)?,
         Request::Check {
             declaration,
             certificate,
-        } => check::check(rt, declaration, certificate),
+        } => check::check(rt, declaration, certificate)?,
         Request::Deadlock {
             declaration,
             assignment,
-        } => deadlock::deadlock(rt, declaration, assignment),
+        } => deadlock::deadlock(rt, declaration, assignment)?,
         Request::Replay {
             declaration,
             assignment,
             run,
-        } => replay::replay(rt, declaration, assignment, run),
-        Request::Explain { code } => explain::explain(rt, code),
-    }
+        } => replay::replay(rt, declaration, assignment, run)?,
+        Request::Run { declaration } => run::run(rt, declaration)?,
+        Request::Explain { code } => explain::explain(rt, code)?,
+    };
+    Ok(end)
 }
 
 fn main(rt: HostRuntime) -> ExitCode {

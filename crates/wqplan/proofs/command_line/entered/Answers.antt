@@ -16,16 +16,16 @@ pub returns-in-Some-subcommand_matches-3-clause-all : goal.returns-in-Some-subco
 returns-in-Some-subcommand_matches-3-clause-all c = λ wanted asked.
     let found = found_of c.in-Some-subcommand_matches-3.given.now in
     let met = subcommand_rows_of c.args.matches.now in
-    let is : met ≡ Some (codes "explain", rows_of found) =
-    met_is met (codes "explain") (rows_of found) (option_map_twice _ (λ (p : Text × List Row). p.0) _ ∙ c.in-Some-subcommand_matches-3.ensures.found.0 refl) c.in-Some-subcommand_matches-3.ensures.rows in
-    let number = explains_of met (rows_of found) wanted is asked in
-    c.explain_request.ensures.all number.0 number.1
+    let is : met ≡ Some (codes "replay", rows_of found) =
+    met_is met (codes "replay") (rows_of found) (option_map_twice _ (λ (p : Text × List Row). p.0) _ ∙ c.in-Some-subcommand_matches-3.ensures.found.0 refl) c.in-Some-subcommand_matches-3.ensures.rows in
+    let files = replays_of met (rows_of found) wanted is asked in
+    c.replay_request.ensures.all files.0 files.1 files.2 files.3
 
 pub returns-clause-all : goal.returns-clause-all
 returns-clause-all c = λ wanted asked.
     let found = found_of c.in_ok-subcommand_matches.field-0.now in
     let met = subcommand_rows_of c.args.matches.now in
-    let is : met ≡ Some (codes "replay", rows_of found) =
-    met_is met (codes "replay") (rows_of found) (option_map_twice _ (λ (p : Text × List Row). p.0) _ ∙ c.in_ok-subcommand_matches.ensures.found.0 refl) c.in_ok-subcommand_matches.ensures.rows in
-    let files = replays_of met (rows_of found) wanted is asked in
-    c.replay_request.ensures.all files.0 files.1 files.2 files.3
+    let is : met ≡ Some (codes "explain", rows_of found) =
+    met_is met (codes "explain") (rows_of found) (option_map_twice _ (λ (p : Text × List Row). p.0) _ ∙ c.in_ok-subcommand_matches.ensures.found.0 refl) c.in_ok-subcommand_matches.ensures.rows in
+    let number = explains_of met (rows_of found) wanted is asked in
+    c.explain_request.ensures.all number.0 number.1

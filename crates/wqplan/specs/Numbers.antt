@@ -1,0 +1,11 @@
+-- All numbers that the program prints.
+use Rattle.std.specs.Prelude.{ℕ}
+use Rattle.wq_api.specs.Refusals.{new_code}
+use Rattle.wq_api.specs.declared.fault.NewError.TheVariants.{TooManyLanes}
+use Rattle.wq_commands.specs.Numbers.{IsPrinted}
+
+-- the number is that of a text that is refused or of a `no`, or that of a plan which `run` refuses: it has more workqueues than a
+-- runtime may have
+pub data IsPrintedByProgram : ℕ → Type 0 where
+  of_text : {code : ℕ} → IsPrinted code → IsPrintedByProgram code
+  of_plan : IsPrintedByProgram (new_code TooManyLanes)
