@@ -38,11 +38,15 @@ run = with_rule (new_app (codes "run")) (needed (codes "DECL"))
 abbrev pub explain : App
 explain = with_rule (new_app (codes "explain")) (needed_number (codes "CODE"))
 
--- the program: it has a version, and one of its commands must be given
+-- the program without its commands: it has a version, and one of its commands must be given
+abbrev pub bare : App
+bare =
+    let start = new_app (codes "wqplan") in
+    record start { top = record start.top { has_version = true; subcommand_required = true } }
+
+-- the program
 abbrev pub wqplan : App
 wqplan =
-    let start = new_app (codes "wqplan") in
-    let bare = record start { top = record start.top { has_version = true; subcommand_required = true } } in
     with_subcommand (with_subcommand (with_subcommand (with_subcommand (with_subcommand (with_subcommand bare plan.top) check.top) deadlock.top) replay.top) run.top) explain.top
 
 -- a command and the paths of its files, or its number
@@ -59,7 +63,7 @@ abbrev pub spelled : Request → Asked
 spelled (Plan file) = plans (option_map (λ s. s.now) file)
 spelled (Check declaration certificate) = checks declaration.now certificate.now
 spelled (Deadlock declaration assignment) = judges declaration.now assignment.now
-spelled (Replay declaration assignment run) = replays declaration.now assignment.now run.now
+spelled (Replay declaration assignment steps) = replays declaration.now assignment.now steps.now
 spelled (Run declaration) = runs declaration.now
 spelled (Explain code) = explains code
 
@@ -68,7 +72,7 @@ abbrev pub command_name : Asked → Text
 command_name (plans file) = codes "plan"
 command_name (checks declaration certificate) = codes "check"
 command_name (judges declaration assignment) = codes "deadlock"
-command_name (replays declaration assignment run) = codes "replay"
+command_name (replays declaration assignment steps) = codes "replay"
 command_name (runs declaration) = codes "run"
 command_name (explains code) = codes "explain"
 
@@ -83,8 +87,8 @@ abbrev pub GivesArguments : List Row → Asked → Type 0
 GivesArguments rows (plans file) = first_of (codes "FILE") rows ≡ file
 GivesArguments rows (checks declaration certificate) = (first_of (codes "DECL") rows ≡ Some declaration) × (first_of (codes "CERT") rows ≡ Some certificate)
 GivesArguments rows (judges declaration assignment) = (first_of (codes "DECL") rows ≡ Some declaration) × (first_of (codes "ASSIGN") rows ≡ Some assignment)
-GivesArguments rows (replays declaration assignment run) =
-    (first_of (codes "DECL") rows ≡ Some declaration) × (first_of (codes "ASSIGN") rows ≡ Some assignment) × (first_of (codes "RUN") rows ≡ Some run)
+GivesArguments rows (replays declaration assignment steps) =
+    (first_of (codes "DECL") rows ≡ Some declaration) × (first_of (codes "ASSIGN") rows ≡ Some assignment) × (first_of (codes "RUN") rows ≡ Some steps)
 GivesArguments rows (runs declaration) = first_of (codes "DECL") rows ≡ Some declaration
 GivesArguments rows (explains code) = (word : Text) × (one_of (codes "CODE") rows ≡ Some word) × IsNumber word code
 
@@ -109,7 +113,7 @@ Calls words (checks declaration certificate) = (program : Text) × (words ≡ pr
     × (is_no_option declaration ≡ true) × (is_no_option certificate ≡ true)
 Calls words (judges declaration assignment) = (program : Text) × (words ≡ program ∷ codes "deadlock" ∷ declaration ∷ assignment ∷ [])
     × (is_no_option declaration ≡ true) × (is_no_option assignment ≡ true)
-Calls words (replays declaration assignment run) = (program : Text) × (words ≡ program ∷ codes "replay" ∷ declaration ∷ assignment ∷ run ∷ [])
-    × (is_no_option declaration ≡ true) × (is_no_option assignment ≡ true) × (is_no_option run ≡ true)
+Calls words (replays declaration assignment steps) = (program : Text) × (words ≡ program ∷ codes "replay" ∷ declaration ∷ assignment ∷ steps ∷ [])
+    × (is_no_option declaration ≡ true) × (is_no_option assignment ≡ true) × (is_no_option steps ≡ true)
 Calls words (runs declaration) = (program : Text) × (words ≡ program ∷ codes "run" ∷ declaration ∷ []) × (is_no_option declaration ≡ true)
 Calls words (explains code) = (program : Text) × (words ≡ program ∷ codes "explain" ∷ decimal code ∷ []) × (code < 2 ^ 32)

@@ -5,7 +5,7 @@
 ghost use Rattle.std.specs.Prelude.{◌≡◌, ℕ, List, Some, codes, false, IfOk, IfSome, IsSome, MatchResult, map};
 ghost use Rattle.clap.specs.Words.{app_of, found_of, kind_of, rows_of, rule_of, subcommand_rows_of};
 ghost use Rattle.clap.specs.declared.error.kind.ErrorKind.TheVariants.{OutOfMemory};
-ghost use Rattle.wqplan.specs.CommandLine.{check, deadlock, explain, needed, needed_number, plan, replay, run, spelled, wqplan, Asked, Asks, AsksFor, Calls, GivesArguments, checks, explains, judges, replays, runs};
+ghost use Rattle.wqplan.specs.CommandLine.{bare, check, deadlock, explain, needed, needed_number, plan, replay, run, spelled, wqplan, Asked, Asks, AsksFor, Calls, GivesArguments, checks, explains, judges, replays, runs};
 
 use crate::help;
 use clap::builder::ValueParser;
@@ -145,15 +145,22 @@ fn explain<'a>(alloc: Global) -> Result<Command<'a>, AllocError>
         .arg(code)
 }
 
-/// The program with its commands, as it is read and as help shows it.
-fn program<'a>(alloc: Global) -> Result<Command<'a>, AllocError>
-    ensures { IfOk result (λ command. app_of command ≡ wqplan) }
+/// The program without its commands. One of them has to be given.
+fn bare<'a>(alloc: Global) -> Command<'a>
+    ensures { app_of result ≡ bare }
 {
     Command::new(alloc, "wqplan")
         .version("0.1.0")
         .about(help::PROGRAM)
         .after_help(help::STATUSES)
         .subcommand_required(true)
+}
+
+/// The program with its commands, as it is read and as help shows it.
+fn program<'a>(alloc: Global) -> Result<Command<'a>, AllocError>
+    ensures { IfOk result (λ command. app_of command ≡ wqplan) }
+{
+    bare(alloc)
         .subcommand(plan(alloc)?)?
         .subcommand(check(alloc)?)?
         .subcommand(deadlock(alloc)?)?

@@ -1,18 +1,14 @@
-use Rattle.std.proofs.Common.{rules, ap, ap₂, codes, true, ◌≡◌, ◌∙◌}
+use Rattle.std.proofs.Common.{ap, ap₂, ◌≡◌, ◌∙◌}
 use Rattle.std.proofs.lemmas.Result.{IfOk-weaker}
-use Rattle.clap.specs.Words.{App, app_of, new_app, with_subcommand}
-use Rattle.wqplan.specs.CommandLine.{plan, check, deadlock, replay, run}
+use Rattle.clap.specs.Words.{App, app_of, with_subcommand}
+use Rattle.wqplan.specs.CommandLine.{bare, plan, check, deadlock, replay, run}
 use Rattle.wqplan.proofs.CommandLemmas.{third_is_not}
 use Rattle.wqplan.proofs.command_line.program.Goals as goal
 
-abbrev bare : App
-bare = record (new_app (codes "wqplan")) { top = record (new_app (codes "wqplan")).top { has_version = true; subcommand_required = true } }
-
 pub returns : goal.returns
 returns c =
-    let start_is : app_of c.subcommand_required.result ≡ bare = search rules in
     let one : app_of c.in_ok-subcommand.field-0 ≡ with_subcommand bare plan.top =
-    c.in_ok-subcommand.ensures.shape (third_is_not _ _ _ _ (ap (λ (a : App). a.top.is_plain) c.in_ok-plan.ensures)) ∙ ap₂ with_subcommand start_is (ap (λ (a : App). a.top) c.in_ok-plan.ensures) in
+    c.in_ok-subcommand.ensures.shape (third_is_not _ _ _ _ (ap (λ (a : App). a.top.is_plain) c.in_ok-plan.ensures)) ∙ ap₂ with_subcommand c.bare.ensures (ap (λ (a : App). a.top) c.in_ok-plan.ensures) in
     let two : app_of c.in_ok-subcommand-2.field-0 ≡ with_subcommand (with_subcommand bare plan.top) check.top =
     c.in_ok-subcommand-2.ensures.shape (third_is_not _ _ _ _ (ap (λ (a : App). a.top.is_plain) c.in_ok-check.ensures)) ∙ ap₂ with_subcommand one (ap (λ (a : App). a.top) c.in_ok-check.ensures) in
     let three : app_of c.in_ok-subcommand-3.field-0 ≡ with_subcommand (with_subcommand (with_subcommand bare plan.top) check.top) deadlock.top =
