@@ -430,8 +430,8 @@ To see it:
 
 To mend it:
 A plan has as many workqueues as its longest chain has groups. Take flushes out
-of the chain that `wqplan plan` prints, or run a part of the declaration in which
-no chain is as long.
+of the chain that `wqplan plan` prints, or run a part of the declaration, in
+which no chain is as long.
 ",
 );
 
