@@ -87,6 +87,10 @@ CREWS = [
      f"{served((0, 0))} / body code 0 seen true / caller refused 66 / caller seen true / agree true"
      " / made a cancel no 2 / made a ask no 2 / total 4 / rows 4 / 070000000000000000000000"
      " / 020000000000000000000000 / 070000000000000000000000 / 020000000000000000000000", 0),
+    # Callers stand in their order, and what they answered stands in the same.
+    (*ONE, 10, "body / caller / cancel a / caller / cancel nobody",
+     f"{served((0, 0))} / body code 0 seen true / caller ok / caller refused 66 / caller seen true / caller seen true"
+     " / agree true / made a cancel no 1 / total 1 / rows 1 / 020000000000000000000000", 0),
     # Nobody lingers, so `destroy` doesn't see it.
     (*ONE, 10, "body / caller / destroy / queue a",
      f"{served((0, 0))} / body code 0 seen true / caller refused 61 / caller seen false / {NOTHING}", 0),
@@ -122,6 +126,10 @@ MEETINGS = [
     (*ONE, 10_000_000, "body / queue a / caller / queue a",
      r"finished (\d+) faults 1 / lane 0 finished \1 faults 1 / body code 61 seen true / caller ok / caller seen true"
      r" / agree true / made a queue yes \1 / made a finish yes \1 / total \d+ / rows \d+ / "),
+    # A rescuer goes on after a fault.
+    (*ONE, 100, "body / fail 5 / caller / queue a / flush a / queue a",
+     f"{served((2, 2))} / body code 5 seen true / caller ok / caller seen true / agree true / made a queue yes 2"
+     " / made a ask (?:yes 1 / made a told yes|no) 1 / made a finish yes 2 / total [56] / rows [78] / "),
     # What a caller flushes, another one cancels; what runs waits for what is queued again and again.
     (*TWO, 10_000, "body / body / flush b / caller / queue a / flush a / caller / queue b / flush b / cancel a",
      r"finished (\d+) faults 0 / lane 0 finished 1 faults 0 / lane 1 finished [01] faults 0 / body code 0 seen true"

@@ -66,8 +66,8 @@ fn explain<A: Allocator + Copy>(
 
 /// Writes the explanation of a number, or the list of the numbers that have one.
 ///
-/// The errors are `Fault::Memory`, and `Fault::Write`, where a write failed or took no byte; after the last one a front
-/// of the text is written, and after the other nothing.
+/// The errors are `Fault::Memory`, and `Fault::Write`, where a write failed or took no byte; after the last one a
+/// prefix of the text is written, and after the other nothing.
 pub fn explain_cmd<W: Write, A: Allocator + Copy>(
     alloc: A,
     code: u32,

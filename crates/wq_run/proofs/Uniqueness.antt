@@ -68,3 +68,16 @@ runnable (Err r) out is = absurd (let same : Good ≡ Refused = is.0 in cc)
 
 pub IsRunnable-run : (text out : List ℕ) → Runs text Good out → IsRunnable text
 IsRunnable-run text out = runnable (declaration text) out
+
+good_end : (s : Declared) (end : End) (out : List ℕ) → IsSound s → HasRuntime s → RunsDeclared s end out → end ≡ Good
+good_end s Good out sound has is = refl
+good_end s Bad out sound has is = absurd (not_both s has.assignment is.circle sound has.plan is.walked)
+good_end s Refused out sound has is = absurd (one_width s has.assignment is.assignment has.plan is.plan has.few is.many)
+
+good_ends : (declared : Result Declared Refusal) (end : End) (out : List ℕ) → ((s : Declared) → declared ≡ Ok s → IsSound s) → MatchResult declared HasRuntime (λ r. ⊥)
+    → MatchResult declared (λ s. RunsDeclared s end out) (λ r. IsRefused r end out) → end ≡ Good
+good_ends (Ok s) end out sound has is = good_end s end out (sound s refl) has is
+good_ends (Err r) end out sound has is = absurd has
+
+pub Runs-runnable : (text : List ℕ) (end : End) (out : List ℕ) → IsRunnable text → Runs text end out → end ≡ Good
+Runs-runnable text end out = good_ends (declaration text) end out (IsSound-declaration text)

@@ -22,7 +22,8 @@ pub fn a_refusal_is_printed_as_by_plan()
     ensures { (text out : List ℕ) → Answers text Refused out → Runs text Refused out }
 {}
 
-/// A plan is run exactly where `plan` prints one and a runtime can have its workqueues.
-pub fn what_is_run_is_runnable()
-    ensures { (text out : List ℕ) → Runs text Good out → IsRunnable text }
+/// A plan is run exactly where a text declares items whose plan a runtime can have: at most 256 workqueues.
+pub fn what_is_runnable_is_run()
+    ensures run { (text : List ℕ) (end : End) (out : List ℕ) → IsRunnable text → Runs text end out → end ≡ Good }
+    ensures runnable { (text out : List ℕ) → Runs text Good out → IsRunnable text }
 {}

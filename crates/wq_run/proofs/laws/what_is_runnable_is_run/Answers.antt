@@ -1,0 +1,8 @@
+use Rattle.wq_run.proofs.Uniqueness.{IsRunnable-run, Runs-runnable}
+use Rattle.wq_run.proofs.laws.what_is_runnable_is_run.Goals as goal
+
+pub returns-clause-run : goal.returns-clause-run
+returns-clause-run c = λ text end out runnable is. Runs-runnable text end out runnable is
+
+pub returns-clause-runnable : goal.returns-clause-runnable
+returns-clause-runnable c = λ text out is. IsRunnable-run text out is
