@@ -55,7 +55,7 @@ while IFS=: read -r crate uses; do
 done < <(tac crates.txt)
 
 echo "install: wqplan goes to $prefix. Its ${#crates[@]} crates are proved first: from a fresh clone that takes"
-echo "install: some ten to thirty minutes, by the number of processors; a minute or two where nothing has changed."
+echo "install: some twenty to forty minutes, by the number of processors; a minute or two where nothing has changed."
 
 log=$(mktemp)
 staged=()
