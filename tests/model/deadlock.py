@@ -10,6 +10,7 @@ sys.dont_write_bytecode = True
 import certificate  # noqa: E402  (beside this file)
 import declaration  # noqa: E402
 from circle import arcs_of, find_circle  # noqa: E402
+from command_line import answer_texts  # noqa: E402
 from declaration import Refused  # noqa: E402
 from steps import State  # noqa: E402
 
@@ -94,21 +95,11 @@ def answer(declaration_text, assignment_text):
 
 
 def main(arguments):
-    """Faults and exit statuses. Of the faults of the system only `fault read` is here."""
+    """The exit status."""
     if len(arguments) != 3 or arguments[0] != "deadlock":
         print("usage: deadlock.py deadlock DECL ASSIGN", file=sys.stderr)
         return 2
-    try:
-        texts = []
-        for place, limit in zip(arguments[1:], (declaration.TEXT_LIMIT, certificate.TEXT_LIMIT)):
-            with open(place, "rb") as file:
-                texts.append(file.read(limit + 1))
-    except OSError:
-        print("fault read", file=sys.stderr)
-        return 3
-    printed, status = answer(*texts)
-    sys.stdout.buffer.write(printed)
-    return status
+    return answer_texts(answer, arguments[1:], (declaration.TEXT_LIMIT, certificate.TEXT_LIMIT))
 
 
 if __name__ == "__main__":

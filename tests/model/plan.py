@@ -14,6 +14,7 @@ sys.dont_write_bytecode = True
 from certificate import Assignment  # noqa: E402  (beside this file)
 from circle import arcs_of, find_circle  # noqa: E402
 from deadlock import deadlocking_run, run_text  # noqa: E402
+from command_line import answer_texts  # noqa: E402
 from declaration import TEXT_LIMIT, Refused, read_declaration  # noqa: E402
 
 
@@ -86,22 +87,11 @@ def answer(text):
 
 
 def main(arguments):
-    """Faults and exit statuses. Of the faults of the system only `fault read` is here."""
+    """The exit status."""
     if len(arguments) not in (1, 2) or arguments[0] != "plan":
         print("usage: plan.py plan [FILE]", file=sys.stderr)
         return 2
-    try:
-        if len(arguments) == 2:
-            with open(arguments[1], "rb") as file:
-                text = file.read(TEXT_LIMIT + 1)
-        else:
-            text = sys.stdin.buffer.read(TEXT_LIMIT + 1)
-    except OSError:
-        print("fault read", file=sys.stderr)
-        return 3
-    printed, status = answer(text)
-    sys.stdout.buffer.write(printed)
-    return status
+    return answer_texts(answer, arguments[1:] or [None], (TEXT_LIMIT,))
 
 
 if __name__ == "__main__":

@@ -6,6 +6,7 @@ import sys
 sys.dont_write_bytecode = True
 import certificate  # noqa: E402  (beside this file)
 import declaration  # noqa: E402
+from command_line import answer_texts  # noqa: E402
 from declaration import Refused  # noqa: E402
 from steps import end_of_run  # noqa: E402
 
@@ -25,22 +26,12 @@ def answer(declaration_text, assignment_text, run_text):
 
 
 def main(arguments):
-    """Faults and exit statuses. Of the faults of the system only `fault read` is here."""
+    """The exit status."""
     if len(arguments) != 4 or arguments[0] != "replay":
         print("usage: replay.py replay DECL ASSIGN RUN", file=sys.stderr)
         return 2
     limits = declaration.TEXT_LIMIT, certificate.TEXT_LIMIT, certificate.TEXT_LIMIT
-    try:
-        texts = []
-        for place, limit in zip(arguments[1:], limits):
-            with open(place, "rb") as file:
-                texts.append(file.read(limit + 1))
-    except OSError:
-        print("fault read", file=sys.stderr)
-        return 3
-    printed, status = answer(*texts)
-    sys.stdout.buffer.write(printed)
-    return status
+    return answer_texts(answer, arguments[1:], limits)
 
 
 if __name__ == "__main__":

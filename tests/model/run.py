@@ -6,6 +6,7 @@ import sys
 
 sys.dont_write_bytecode = True
 import plan  # noqa: E402  (beside this file)
+from command_line import answer_texts  # noqa: E402
 from declaration import TEXT_LIMIT, Refused, read_declaration  # noqa: E402
 
 # The most workqueues that a runtime has.
@@ -33,19 +34,11 @@ def answer(text):
 
 
 def main(arguments):
-    """Faults and exit statuses. Of the faults of the system only `fault read` is here."""
+    """The exit status."""
     if len(arguments) != 2 or arguments[0] != "run":
         print("usage: run.py run DECL", file=sys.stderr)
         return 2
-    try:
-        with open(arguments[1], "rb") as file:
-            text = file.read(TEXT_LIMIT + 1)
-    except OSError:
-        print("fault read", file=sys.stderr)
-        return 3
-    printed, status = answer(text)
-    sys.stdout.buffer.write(printed)
-    return status
+    return answer_texts(answer, arguments[1:], (TEXT_LIMIT,))
 
 
 if __name__ == "__main__":
