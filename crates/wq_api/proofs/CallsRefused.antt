@@ -14,7 +14,7 @@ use Rattle.wq_history.specs.Answers.{AnswersStart}
 use Rattle.wq_api.specs.declared.fault.CallError.{CallError}
 use Rattle.wq_api.specs.declared.fault.CallError.TheVariants.{HistoryFull as CallFull, Closed as CallClosed, Undeclared as CallUndeclared, TooManyWaits as CallTooManyWaits, WrongLane as CallWrongLane, NotAsked as CallNotAsked, NoItem as CallNoItem}
 use Rattle.wq_api.specs.declared.fault.NewError.TheVariants.{NotSafe}
-use Rattle.wq_api.specs.Refusals.{RefusesRuntime, call_error, RefusedAs, IsOnLane, HasRoom, RefusesQueueWork, RefusesCancelWork, RefusesFlushWork, RefusesWaitFor, RefusesAskAndCancel}
+use Rattle.wq_api.specs.Refusals.{max_runtime_lanes, RefusesRuntime, call_error, RefusedAs, IsOnLane, HasRoom, RefusesQueueWork, RefusesCancelWork, RefusesFlushWork, RefusesWaitFor, RefusesAskAndCancel}
 use Rattle.wq_api.specs.Locked.{flush_refused, asked_and_cancelled, RefusedCancelSync, RefusedWaitFor}
 
 -- what holds of a refusal holds of the same refusal
@@ -153,10 +153,10 @@ over_counted w old new q target unfinished e lane counted is = subst (λ y. Refu
 -- ---- making a runtime
 
 -- the assignment isn't safe
-pub not_safe_refused : (w v : Wiring) (rows : ℕ) (safe : Bool) → w ≡ v → v.lanes ≤ 256 → rows ≤ max_rows → IsTrue safe ↔ IsSafe v → safe ≡ false
+pub not_safe_refused : (w v : Wiring) (rows : ℕ) (safe : Bool) → w ≡ v → v.lanes ≤ max_runtime_lanes → rows ≤ max_rows → IsTrue safe ↔ IsSafe v → safe ≡ false
     → RefusesRuntime w rows NotSafe
 not_safe_refused w v rows safe same few_lanes few_rows means is = (
-  subst (λ (x : Wiring). x.lanes ≤ 256) (sym same) few_lanes,
+  subst (λ (x : Wiring). x.lanes ≤ max_runtime_lanes) (sym same) few_lanes,
   few_rows,
   (λ holds. let bad : safe ≡ true = means.1 (subst (λ (x : Wiring). IsSafe x) same holds) in let worse : false ≡ true = sym is ∙ bad in absurd cc),
 )

@@ -24,6 +24,7 @@ use Rattle.wq_history.proofs.LegalRows.{IsRun-legal}
 use Rattle.wq_history.specs.Book.{BookView, state, IsBook, LaneRuns, Appends, AppendsOne, IsWaiting, IsNotWaiting, RefusesLane}
 use Rattle.wq_history.specs.Answers.{AnswersStart, AnswersOver}
 use Rattle.wq_history.proofs.KeptRows.{exist}
+use Rattle.wq_api.specs.Refusals.{max_runtime_lanes}
 use Rattle.wq_api.specs.Locked.{IsHeld, Holds, RunsItem, WaitsFor, AnswersOverOf}
 
 -- a sum of nothing but 0
@@ -82,7 +83,7 @@ IsHeld-counted w rows parts b new tallies sums seats left amount event said n ki
 
 -- a runtime on which nothing has happened
 pub IsHeld-first : (w : Wiring) (rows parts : ℕ) (b : BookView) (tallies sums : List ℕ) (left amount : ℕ) → b.wiring ≡ w → b.room ≡ rows → b.rows ≡ []
-    → w.lanes ≤ 256 → IsSafe w → parts ≡ 65536 → tallies ≡ replicate (14 * items w) 0 → sums ≡ replicate (14 * items w) 0 → left ≡ parts → amount ≡ 0
+    → w.lanes ≤ max_runtime_lanes → IsSafe w → parts ≡ 65536 → tallies ≡ replicate (14 * items w) 0 → sums ≡ replicate (14 * items w) 0 → left ≡ parts → amount ≡ 0
     → IsHeld w rows parts b tallies sums 0 left amount
 IsHeld-first w rows parts b tallies sums left amount of_wiring of_rows empty few_lanes safe all_parts no_tallies no_sums all_left none_counted = record {
   of_wiring = of_wiring;

@@ -19,6 +19,7 @@ use Rattle.wq_api.specs.declared.fault.CallError.{CallError}
 use Rattle.wq_api.specs.declared.fault.CallError.TheVariants.{HistoryFull, Closed, Undeclared, TooManyWaits, WrongLane, NotAsked, NoItem}
 use Rattle.wq_api.specs.declared.fault.CloseWhy.{CloseWhy}
 use Rattle.wq_api.specs.declared.fault.CloseWhy.TheVariants.{NotIdle, SeatsMissing}
+use Rattle.wq_api.specs.Refusals.{max_runtime_lanes}
 
 -- what contracts see of it: the book, and how many seats were made
 pub record HeldView : Type 0 where
@@ -28,13 +29,13 @@ pub record HeldView : Type 0 where
 -- ---- what holds whenever the lock is free
 
 -- of a runtime named by its wiring, its rows and the parts of its ledger: the book is of this wiring and has room for these
--- rows; there are 256 lanes at most, and no run of the assignment ends stuck; the tallies are those of the book's rows, and
+-- rows; there are at most 256 lanes, and no run of the assignment ends stuck; the tallies are those of the book's rows, and
 -- add up to the number of its counted rows; the room for the sums is kept empty. Each part of the ledger was given to a seat
 -- or is left; one at least is left, and those that are have no amount
 pub record IsHeld (w : Wiring) (rows parts : ℕ) (book : BookView) (tallies sums : List ℕ) (seats parts_left amount_left : ℕ) : Type 0 where
   pub of_wiring : book.wiring ≡ w
   pub of_rows : book.room ≡ rows
-  pub few_lanes : w.lanes ≤ 256
+  pub few_lanes : w.lanes ≤ max_runtime_lanes
   pub safe : IsSafe w
   pub a_count_each : HasCountsOf (items w) tallies
   pub tallied : AreTallies (items w) book.rows tallies

@@ -67,17 +67,21 @@ RefusedAs cause e = (b : BookError) × cause b × (call_error b ≡ Some e)
 
 -- ---- causes that a caller can know, since they lie in its arguments
 
+-- how many lanes a runtime has at most
+abbrev pub max_runtime_lanes : ℕ
+max_runtime_lanes = 256
+
 -- making a runtime of a wiring with so many rows: too many lanes; too many rows; some run ends stuck; out of memory, never
 -- where there is nothing to keep
 abbrev pub RefusesRuntime : Wiring → ℕ → NewError → Type 0
-RefusesRuntime w rows TooManyLanes = 256 < w.lanes
-RefusesRuntime w rows TooManyRows = (w.lanes ≤ 256) × (max_rows < rows)
-RefusesRuntime w rows NotSafe = (w.lanes ≤ 256) × (rows ≤ max_rows) × (¬ IsSafe w)
-RefusesRuntime w rows OutOfMemory = (w.lanes ≤ 256) × (rows ≤ max_rows) × ((0 < w.lanes) ⊎ (0 < rows))
+RefusesRuntime w rows TooManyLanes = max_runtime_lanes < w.lanes
+RefusesRuntime w rows TooManyRows = (w.lanes ≤ max_runtime_lanes) × (max_rows < rows)
+RefusesRuntime w rows NotSafe = (w.lanes ≤ max_runtime_lanes) × (rows ≤ max_rows) × (¬ IsSafe w)
+RefusesRuntime w rows OutOfMemory = (w.lanes ≤ max_runtime_lanes) × (rows ≤ max_rows) × ((0 < w.lanes) ⊎ (0 < rows))
 
 -- a runtime is made: no such cause holds
 pub record MakesRuntime (w : Wiring) (rows : ℕ) : Type 0 where
-  pub few_lanes : w.lanes ≤ 256
+  pub few_lanes : w.lanes ≤ max_runtime_lanes
   pub few_rows : rows ≤ max_rows
   pub safe : IsSafe w
 

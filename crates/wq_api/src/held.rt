@@ -13,7 +13,7 @@ ghost use Rattle.wq_counts.specs.declared.kind.Kind.TheVariants.{Queue as QueueK
 ghost use Rattle.wq_counts.specs.Counting.{raised, counted_rows};
 ghost use Rattle.wq_history.specs.Book.{BookView, state, free, AppendsOne, IsWaiting, IsWrongToStart, IsNotAwake, RefusesQueue, RefusesItem, RefusesLane, RefusesWait};
 ghost use Rattle.wq_history.specs.Answers.{AnswersAsk, AnswersTold, AnswersStart};
-ghost use Rattle.wq_api.specs.Refusals.{RefusedAs, RefusesAskAndCancel, IsOnLane};
+ghost use Rattle.wq_api.specs.Refusals.{max_runtime_lanes, RefusedAs, RefusesAskAndCancel, IsOnLane};
 ghost use Rattle.wq_api.specs.Locked.{HeldView, Holds, CountsAsk, CountsTold, CountsOver, AsksAndCancels, CountsAskAndCancel, RunsItem, WaitsFor, AnswersOverOf, IsWrongToGoOn, IsWrongToFinish, RefusesClose, Closes};
 ghost use Rattle.wq_api.specs.declared.fault.CallError.TheVariants.{WrongLane, HistoryFull, NoItem};
 ghost use Rattle.wq_api.specs.declared.fault.SeatError.TheVariants.{TooManySeats, OutOfMemory as SeatOutOfMemory};
@@ -64,7 +64,7 @@ impl<N: Naming, A: Allocator + Copy> Held<N, A> {
         requires of_wiring { book.wiring ≡ N.wiring }
         requires of_rows { book.room ≡ N.rows }
         requires empty { book.rows ≡ [] }
-        requires few_lanes { N.wiring.lanes ≤ 256 }
+        requires few_lanes { N.wiring.lanes ≤ max_runtime_lanes }
         requires safe { IsSafe N.wiring }
         ensures held { IfOk result (λ h. h ≡ record { book = book; seats = 0 }) }
         ensures memory { OnErr result (0 < items N.wiring) }
@@ -122,7 +122,7 @@ impl<N: Naming, A: Allocator> Held<N, A> {
     /// How many lanes there are, at most 256.
     pub fn lanes(&self) -> usize
         ensures lanes { result ≡ N.wiring.lanes }
-        ensures few { result ≤ 256 }
+        ensures few { result ≤ max_runtime_lanes }
     {
         self.book.lanes()
     }

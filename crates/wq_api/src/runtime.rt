@@ -13,7 +13,7 @@ ghost use Rattle.wq_groups.specs.Declaration.{declaration_of};
 ghost use Rattle.wq_core.specs.Wiring.{wiring, items};
 ghost use Rattle.wq_counts.specs.declared.kind.Kind.TheVariants.{Queue, Cancel, Told as ToldKind};
 ghost use Rattle.wq_counts.specs.Counting.{raised};
-ghost use Rattle.wq_api.specs.Refusals.{RefusesRuntime, MakesRuntime, IsOnLane, HasRoom, RefusesQueueWork, RefusesCancelWork, RefusesFlushWork};
+ghost use Rattle.wq_api.specs.Refusals.{max_runtime_lanes, RefusesRuntime, MakesRuntime, IsOnLane, HasRoom, RefusesQueueWork, RefusesCancelWork, RefusesFlushWork};
 ghost use Rattle.wq_api.specs.Locked.{flushed, flush_refused, CountsCancelSync, RefusedCancelSync};
 ghost use Rattle.wq_api.specs.Closing.{IsClosed};
 ghost use Rattle.wq_api.specs.declared.fault.CallError.TheVariants.{NotAsked};
@@ -105,7 +105,7 @@ impl<N: Naming, A: Allocator> WqRuntime<N, A> {
     /// How many lanes there are, at most 256.
     pub fn lanes<R: Wait>(&self, rt: &R) -> u16
         ensures lanes { result ≡ N.wiring.lanes }
-        ensures few { result ≤ 256 }
+        ensures few { result ≤ max_runtime_lanes }
     {
         self.held.lock(rt).lanes() as u16
     }

@@ -6,4 +6,4 @@
 
 mod printing;
 
-pub use printing::{put, put_end, put_number, put_word};
+pub use printing::{put, put_count, put_end, put_number, put_word};

@@ -37,6 +37,18 @@ pub fn put_number<A: Allocator + Copy>(
     put_word(out, digits.as_bytes())
 }
 
+/// Adds a space and a count, a number of up to 64 bits. The only error is out of memory (20).
+pub fn put_count<A: Allocator + Copy>(
+    alloc: A,
+    out: &mut Vec<u8, A>,
+    count: u64,
+) -> Result<(), AllocError>
+    ensures { OnOk result (out.new.items ≡ out.old.items ++ spaced (decimal count)) }
+{
+    let digits = count.to_string(alloc)?;
+    put_word(out, digits.as_bytes())
+}
+
 /// Ends a line. The only error is out of memory (20).
 pub fn put_end<A: Allocator + Copy>(out: &mut Vec<u8, A>) -> Result<(), AllocError>
     ensures { OnOk result (out.new.items ≡ out.old.items ++ (10 ∷ [])) }

@@ -7,7 +7,7 @@ use Rattle.wq_commands.specs.Answer.{IsRefused}
 use Rattle.wq_commands.specs.Declaration.{Declared, declaration}
 use Rattle.wq_run.specs.declared.fault.RunStop.{RunStop}
 use Rattle.wq_run.specs.declared.fault.RunStop.TheVariants.{OutOfMemory, Thread, Tally}
-use Rattle.wq_run.specs.Fault.{Stops, StopsDeclared}
+use Rattle.wq_run.specs.Fault.{Stops}
 use Rattle.wq_run.specs.Running.{HasRuntime, IsRunnable, Runs, RunsDeclared}
 
 pub Runs-declared : (text : List ℕ) (s : Declared) (end : End) (out : List ℕ) → declaration text ≡ Ok s → RunsDeclared s end out → Runs text end out
@@ -17,7 +17,7 @@ Runs-declared text s end out is runs =
 IsRunnable-declared : (text : List ℕ) (s : Declared) → declaration text ≡ Ok s → HasRuntime s → IsRunnable text
 IsRunnable-declared text s is has = subst (λ (d : Result Declared Refusal). MatchResult d HasRuntime (λ r. ⊥)) (sym is) has
 
-pub Stops-declared : (text : List ℕ) (s : Declared) (why : RunStop) → declaration text ≡ Ok s → StopsDeclared s why → Stops text why
+pub Stops-declared : (text : List ℕ) (s : Declared) (why : RunStop) → declaration text ≡ Ok s → Stops (HasRuntime s) why → Stops (IsRunnable text) why
 Stops-declared text s OutOfMemory is stops = stops
 Stops-declared text s Thread is stops = IsRunnable-declared text s is stops
 Stops-declared text s Tally is stops = IsRunnable-declared text s is stops

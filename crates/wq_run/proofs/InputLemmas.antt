@@ -37,5 +37,5 @@ IsRunnableInput-read seen came same runnable = record {
 }
 
 -- why there is no answer holds of the text
-pub stopped_by : {T : Type 0} (text : List ℕ) (answer : Result T RunStop) (why : RunStop) → answer ≡ Err why → IfErr answer (Stops text) → Stops text why
-stopped_by text answer why is stops = subst (λ (r : Result _ RunStop). IfErr r (Stops text)) is stops
+pub stopped_by : {T : Type 0} (runnable : Type 0) (answer : Result T RunStop) (why : RunStop) → answer ≡ Err why → IfErr answer (Stops runnable) → Stops runnable why
+stopped_by runnable answer why is stops = subst (λ (r : Result _ RunStop). IfErr r (Stops runnable)) is stops

@@ -11,14 +11,14 @@ use Rattle.wq_plan.proofs.Plans.{IsSafe-plan}
 use Rattle.wq_history.specs.Book.{BookView}
 use Rattle.wq_api.specs.declared.fault.NewError.{NewError}
 use Rattle.wq_api.specs.declared.fault.NewError.TheVariants.{TooManyLanes, TooManyRows, NotSafe, OutOfMemory}
-use Rattle.wq_api.specs.Refusals.{RefusesRuntime, new_code}
+use Rattle.wq_api.specs.Refusals.{max_runtime_lanes, RefusesRuntime, new_code}
 use Rattle.wq_api.specs.Closing.{IsClosed, Agrees}
 use Rattle.wq_commands.specs.declared.end.End.{End}
 use Rattle.wq_commands.specs.declared.end.End.TheVariants.{Refused}
 use Rattle.wq_commands.specs.Answer.{declared_waits, IsRefused}
 use Rattle.wq_commands.specs.Declaration.{Declared}
 use Rattle.wq_commands.proofs.AnswerLemmas.{IsSound, IsDeclaration-sound}
-use Rattle.wq_run.specs.Running.{RunsDeclared, max_workqueues, rows_for}
+use Rattle.wq_run.specs.Running.{RunsDeclared, rows_for}
 
 -- a runtime has as many items as the declaration
 pub items-wiring : (w : Wiring) (s : Declared) (a : Assignment) → IsTable s.table → w ≡ wiring (declared_waits s) a → items w ≡ length s.table.names
@@ -28,7 +28,7 @@ items-wiring w s a table is = ap items is ∙ table.one_list_each
 RunsDeclared-refused : (s : Declared) (w : Wiring) (a : Assignment) (rows : ℕ) (e : NewError) (end : End) (out : List ℕ) → IsSound s → IsPlan (declared_waits s) a
     → w ≡ wiring (declared_waits s) a → rows ≡ rows_for s → RefusesRuntime w rows e → (e ≢ OutOfMemory) × IsRefused (record { code = new_code e; line = 0 }) end out → RunsDeclared s end out
 RunsDeclared-refused s w a rows TooManyLanes end out sound plan is room why refused =
-    let many : max_workqueues < a.lanes = subst (λ (x : Wiring). max_workqueues < x.lanes) is why in
+    let many : max_runtime_lanes < a.lanes = subst (λ (x : Wiring). max_runtime_lanes < x.lanes) is why in
     subst (λ (x : End). RunsDeclared s x out) (sym refused.1.0) (record { assignment = a; plan = plan; many = many; text = refused.1.1 })
 RunsDeclared-refused s w a rows TooManyRows end out sound plan is room why refused = absurd (omega (arith, why.1, room, sound.table.few_items, sound.table.few_flushes))
 RunsDeclared-refused s w a rows NotSafe end out sound plan is room why refused =

@@ -5,16 +5,17 @@ use Rattle.wq_text.specs.Refusal.{Refusal}
 use Rattle.wq_groups.specs.Assignment.{Assignment}
 use Rattle.wq_plan.specs.Plan.{IsPlan}
 use Rattle.wq_plan.proofs.Plans.{IsPlan-unique}
+use Rattle.wq_api.specs.Refusals.{max_runtime_lanes}
 use Rattle.wq_commands.specs.declared.end.End.{End}
 use Rattle.wq_commands.specs.declared.end.End.TheVariants.{Good, Bad, Refused}
 use Rattle.wq_commands.specs.Answer.{Answers, AnswersDeclared, IsRefused, declared_waits}
 use Rattle.wq_commands.specs.Declaration.{Declared, declaration}
 use Rattle.wq_commands.proofs.AnswerLemmas.{IsSound, IsSound-declaration}
 use Rattle.wq_commands.proofs.Uniqueness.{not_both, PrintsCircle-unique}
-use Rattle.wq_run.specs.Running.{HasRuntime, IsRunnable, Runs, RunsDeclared, max_workqueues}
+use Rattle.wq_run.specs.Running.{HasRuntime, IsRunnable, Runs, RunsDeclared}
 
 -- a plan doesn't have both many workqueues and few
-one_width : (s : Declared) (a b : Assignment) → IsPlan (declared_waits s) a → IsPlan (declared_waits s) b → a.lanes ≤ max_workqueues → max_workqueues < b.lanes → ⊥
+one_width : (s : Declared) (a b : Assignment) → IsPlan (declared_waits s) a → IsPlan (declared_waits s) b → a.lanes ≤ max_runtime_lanes → max_runtime_lanes < b.lanes → ⊥
 one_width s a b one two few many =
     let same : a.lanes ≡ b.lanes = ap (λ (x : Assignment). x.lanes) (IsPlan-unique (declared_waits s) a b one two) in
     absurd (omega (arith, same, few, many))

@@ -4,13 +4,11 @@ use Rattle.wq_meter.specs.declared.fault.Fault.TheVariants.{Memory, Read, Write}
 use Rattle.wq_meter.specs.Fault.{fault_text}
 use Rattle.wq_rescuer.specs.declared.running.RunWhy.{RunWhy}
 use Rattle.wq_rescuer.specs.declared.running.RunWhy.TheVariants.{BodiesDiffer, TooManySeats, OutOfMemory as NoMemory, NoThread}
-use Rattle.wq_commands.specs.Declaration.{Declared}
 use Rattle.wq_run.specs.declared.fault.CommandFault.{CommandFault}
 use Rattle.wq_run.specs.declared.fault.CommandFault.TheVariants.{Common, Thread, Tally}
 use Rattle.wq_run.specs.declared.fault.RunStop.{RunStop}
 use Rattle.wq_run.specs.declared.fault.RunStop.TheVariants as stop
 use Rattle.wq_run.specs.declared.fault.RunStop.TheVariants.{OutOfMemory}
-use Rattle.wq_run.specs.Running.{HasRuntime, IsRunnable}
 
 -- the words that are printed for a fault, as bytes
 abbrev pub command_fault_text : CommandFault → List ℕ
@@ -31,14 +29,8 @@ fault_of_stop OutOfMemory = Common Memory
 fault_of_stop stop.Thread = Thread
 fault_of_stop stop.Tally = Tally
 
--- making the answer to a declaration stops for memory, or, where its plan is run, for a thread or the tallies
-abbrev pub StopsDeclared : Declared → RunStop → Type 0
-StopsDeclared s OutOfMemory = Unit {0}
-StopsDeclared s stop.Thread = HasRuntime s
-StopsDeclared s stop.Tally = HasRuntime s
-
--- the same of a text
-abbrev pub Stops : List ℕ → RunStop → Type 0
-Stops text OutOfMemory = Unit {0}
-Stops text stop.Thread = IsRunnable text
-Stops text stop.Tally = IsRunnable text
+-- making the answer stops for memory, or, where there is a plan that a runtime can have, for a thread or the tallies
+abbrev pub Stops : Type 0 → RunStop → Type 0
+Stops runnable OutOfMemory = Unit {0}
+Stops runnable stop.Thread = runnable
+Stops runnable stop.Tally = runnable

@@ -8,6 +8,7 @@ use Rattle.wq_counts.specs.declared.kind.Kind.{Kind}
 use Rattle.wq_counts.specs.Counting.{tally}
 use Rattle.wq_history.specs.Book.{BookView}
 use Rattle.wq_api.specs.declared.fault.CallError.{CallError}
+use Rattle.wq_api.specs.Refusals.{max_runtime_lanes}
 use Rattle.wq_api.specs.Closing.{IsClosed}
 use Rattle.wq_rescuer.specs.declared.rescuing.Rescued.{Rescued}
 use Rattle.wq_rescuer.specs.Serving.{IsRan}
@@ -16,10 +17,6 @@ use Rattle.wq_commands.specs.declared.end.End.TheVariants.{Good, Bad, Refused}
 use Rattle.wq_commands.specs.Answer.{declared_waits, refusal_text, IsRefused, PrintsCircle}
 use Rattle.wq_commands.specs.Declaration.{Declared, declaration}
 use Rattle.wq_run.specs.Report.{report_text}
-
--- how many workqueues a runtime has at most
-abbrev pub max_workqueues : ℕ
-max_workqueues = 256
 
 -- how many rows the history has room for: what one queueing of each item, its flush by a caller and one execution with all
 -- declared flushes write and reserve
@@ -36,7 +33,7 @@ yes_tally book i kind = tally book.rows i kind true
 pub record PrintsRun (s : Declared) (out : List ℕ) : Type 0 where
   pub assignment : Assignment
   pub plan : IsPlan (declared_waits s) assignment
-  pub few : assignment.lanes ≤ max_workqueues
+  pub few : assignment.lanes ≤ max_runtime_lanes
   pub seats : List (List ℕ)
   pub runs : List (ℕ → ℕ)
   pub rescued : List (Result Rescued CallError)
@@ -52,7 +49,7 @@ pub record PrintsRun (s : Declared) (out : List ℕ) : Type 0 where
 pub record IsTooWide (s : Declared) (out : List ℕ) : Type 0 where
   pub assignment : Assignment
   pub plan : IsPlan (declared_waits s) assignment
-  pub many : max_workqueues < assignment.lanes
+  pub many : max_runtime_lanes < assignment.lanes
   pub text : out ≡ refusal_text (record { code = 69; line = 0 })
 
 -- the answer to a declaration: its plan is run, or is too wide for a runtime; or its groups wait in a circle, which is printed
@@ -70,7 +67,7 @@ Runs text end out = MatchResult (declaration text) (λ s. RunsDeclared s end out
 pub record HasRuntime (s : Declared) : Type 0 where
   pub assignment : Assignment
   pub plan : IsPlan (declared_waits s) assignment
-  pub few : assignment.lanes ≤ max_workqueues
+  pub few : assignment.lanes ≤ max_runtime_lanes
 
 -- so has what the text declares
 abbrev pub IsRunnable : List ℕ → Type 0

@@ -5,7 +5,6 @@
 //! The command is that of "`run`" in docs/FORMAT.md; it takes the time of planning, of the executions and of writing the answer.
 #![tactic(auto)]
 
-mod crew;
 mod fault;
 pub mod laws;
 mod outputs;
@@ -13,6 +12,5 @@ mod report;
 mod run;
 mod running;
 
-pub use crew::{script_bodies, script_callers};
 pub use fault::CommandFault;
 pub use run::run_cmd;

@@ -15,19 +15,7 @@ use std::alloc::{AllocError, Allocator};
 use wq_api::{Closed, Counts, Naming};
 use wq_groups::{Assignment, Groups};
 use wq_items::{ItemId, ItemTable};
-use wq_lines::{put, put_end, put_number, put_word};
-
-/// Adds a space and a count. The only error is out of memory (20).
-fn put_count<A: Allocator + Copy>(
-    alloc: A,
-    out: &mut Vec<u8, A>,
-    count: u64,
-) -> Result<(), AllocError>
-    ensures { OnOk result (out.new.items ≡ out.old.items ++ spaced (decimal count)) }
-{
-    let digits = count.to_string(alloc)?;
-    put_word(out, digits.as_bytes())
-}
+use wq_lines::{put, put_count, put_end, put_number, put_word};
 
 /// Adds `workqueues K`.
 fn put_workqueues_line<A: Allocator + Copy>(

@@ -10,13 +10,12 @@ ghost use Rattle.wq_plan.specs.Plan.{IsPlan};
 ghost use Rattle.wq_items.specs.Table.{flush_count};
 ghost use Rattle.wq_plan.specs.Solve.{IsCircled};
 ghost use Rattle.wq_api.specs.declared.fault.NewError.TheVariants.{OutOfMemory as NoMemory};
-ghost use Rattle.wq_api.specs.Refusals.{new_code};
+ghost use Rattle.wq_api.specs.Refusals.{max_runtime_lanes, new_code};
 ghost use Rattle.wq_commands.specs.Answer.{IsRefused};
 ghost use Rattle.wq_run.specs.declared.fault.RunStop.TheVariants.{OutOfMemory};
-ghost use Rattle.wq_run.specs.Fault.{Stops, StopsDeclared};
-ghost use Rattle.wq_run.specs.Running.{PrintsRun, Runs, RunsDeclared, max_workqueues, rows_for};
+ghost use Rattle.wq_run.specs.Fault.{Stops};
+ghost use Rattle.wq_run.specs.Running.{PrintsRun, Runs, RunsDeclared, HasRuntime, IsRunnable, rows_for};
 
-use crate::crew::{script_bodies, script_callers};
 use crate::fault::RunStop;
 use crate::report::report_text;
 use std::alloc::Allocator;
@@ -31,6 +30,7 @@ use wq_groups::{Assignment, Groups};
 use wq_items::ItemTable;
 use wq_plan::{Answer, solve};
 use wq_rescuer::{Ran, run_all};
+use wq_script::{script_bodies, script_callers};
 
 /// How many rows a history needs in which each item is queued, flushed by a caller and executed once.
 fn rows_for<A: Allocator + Copy>(table: &ItemTable<'_, A>) -> u32
@@ -51,11 +51,11 @@ fn serve<N: Naming + Send + Sync, A: Allocator + Copy + Send + Sync, R: Threads 
     requires grouped { length groups.now.group_of ≡ length table.now.names }
     requires assigned { length assignment.now.lane_of_group ≡ groups.now.groups }
     requires plan { IsPlan (declaration_of table.now groups.now) assignment.now }
-    requires few { assignment.now.lanes ≤ max_workqueues }
+    requires few { assignment.now.lanes ≤ max_runtime_lanes }
     requires of_wiring { N.wiring ≡ wiring (declaration_of table.now groups.now) assignment.now }
     requires of_rows { N.rows ≡ rows_for (record { table = table.now; partition = groups.now }) }
     ensures ran { IfOk result (λ text. PrintsRun (record { table = table.now; partition = groups.now }) text.items) }
-    ensures stopped { IfErr result (StopsDeclared (record { table = table.now; partition = groups.now })) }
+    ensures stopped { IfErr result (Stops (HasRuntime (record { table = table.now; partition = groups.now }))) }
 {
     let bodies = script_bodies(alloc, table, runtime.lanes(rt))?;
     let callers = script_callers(alloc, table.len())?;
@@ -108,7 +108,7 @@ fn run_named<N: Naming + Send + Sync, A: Allocator + Copy + Send + Sync, R: Thre
     requires few_rows { rows ≡ rows_for (record { table = table.now; partition = groups.now }) }
     requires of_rows { N.rows ≡ rows }
     ensures ran { IfOk result (λ printed. RunsDeclared (record { table = table.now; partition = groups.now }) printed.0 printed.1.items) }
-    ensures stopped { IfErr result (StopsDeclared (record { table = table.now; partition = groups.now })) }
+    ensures stopped { IfErr result (Stops (HasRuntime (record { table = table.now; partition = groups.now }))) }
 {
     // What holds of every table and of all groups.
     let _items = table.len();
@@ -133,7 +133,7 @@ fn run_plan<A: Allocator + Copy + Send + Sync, R: Threads + Wait + Sync>(
     requires grouped { length groups.now.group_of ≡ length table.now.names }
     requires plan { IsPlan (declaration_of table.now groups.now) assignment.now }
     ensures ran { IfOk result (λ printed. RunsDeclared (record { table = table.now; partition = groups.now }) printed.0 printed.1.items) }
-    ensures stopped { IfErr result (StopsDeclared (record { table = table.now; partition = groups.now })) }
+    ensures stopped { IfErr result (Stops (HasRuntime (record { table = table.now; partition = groups.now }))) }
 {
     let blank = Blank::new(65_536);
     let rows = rows_for(table);
@@ -150,7 +150,7 @@ fn print_circle<A: Allocator + Copy>(
     requires grouped { length groups.now.group_of ≡ length table.now.names }
     requires circled { IsCircled (declaration_of table.now groups.now) arcs.now }
     ensures printed { IfOk result (λ printed. RunsDeclared (record { table = table.now; partition = groups.now }) printed.0 printed.1.items) }
-    ensures stopped { IfErr result (StopsDeclared (record { table = table.now; partition = groups.now })) }
+    ensures stopped { IfErr result (Stops (HasRuntime (record { table = table.now; partition = groups.now }))) }
 {
     let text = text_of_circle(alloc, table, groups, arcs)?;
     Ok((End::Bad, text))
@@ -165,7 +165,7 @@ fn run_declared<A: Allocator + Copy + Send + Sync, R: Threads + Wait + Sync>(
 ) -> Result<(End, Vec<u8, A>), RunStop>
     requires { length groups.now.group_of ≡ length table.now.names }
     ensures ran { IfOk result (λ printed. RunsDeclared (record { table = table.now; partition = groups.now }) printed.0 printed.1.items) }
-    ensures stopped { IfErr result (StopsDeclared (record { table = table.now; partition = groups.now })) }
+    ensures stopped { IfErr result (Stops (HasRuntime (record { table = table.now; partition = groups.now }))) }
 {
     match solve(alloc, table, groups)? {
         Answer::Plan { assignment, .. } => run_plan(rt, alloc, table, groups, &assignment),
@@ -180,7 +180,7 @@ pub(crate) fn answer<A: Allocator + Copy + Send + Sync, R: Threads + Wait + Sync
     text: &[u8],
 ) -> Result<(End, Vec<u8, A>), RunStop>
     ensures ran { IfOk result (λ printed. Runs text.now printed.0 printed.1.items) }
-    ensures stopped { IfErr result (Stops text.now) }
+    ensures stopped { IfErr result (Stops (IsRunnable text.now)) }
 {
     match read_declaration(alloc, text) {
         Ok(declared) => {

@@ -1,2 +1,3 @@
 pub mod Scripts
 pub mod Acts
+pub mod Crews

@@ -7,8 +7,10 @@
 
 mod acting;
 mod calling;
+mod crew;
 mod flushing;
 
 pub use acting::Act;
 pub use calling::ScriptCaller;
+pub use crew::{script_bodies, script_callers};
 pub use flushing::ScriptBody;

@@ -3,12 +3,9 @@
 //!
 //! It takes the time of the bodies and the callers, and then that of printing the history that they leave.
 
-ghost use Rattle.std.specs.Prelude.{◌≡◌, length, IfOk};
-ghost use Rattle.std.specs.List.{All};
+ghost use Rattle.std.specs.Prelude.{◌≡◌, length};
 ghost use Rattle.wq_groups.specs.Declaration.{declaration_of};
 ghost use Rattle.wq_core.specs.Wiring.{wiring};
-ghost use Rattle.wq_rescuer.specs.Executing.{NeverRan};
-ghost use Rattle.wq_script.specs.Scripts.{runs_of};
 
 use crate::making::make;
 use crate::ran::{close, put_results, put_served, put_unrun};
@@ -18,42 +15,9 @@ use std::sync::ledger::Blank;
 use std::thread::Threads;
 use wq_api::Naming;
 use wq_groups::{Assignment, Groups};
-use wq_items::{ItemId, ItemTable};
+use wq_items::ItemTable;
 use wq_rescuer::run_all;
-use wq_script::{Act, ScriptBody, ScriptCaller};
-
-/// A body for each of so many lanes.
-fn make_bodies<'t, 'a>(
-    alloc: Global,
-    table: &'t ItemTable<'a, Global>,
-    lanes: u16,
-) -> Result<Vec<ScriptBody<'t, 'a, Global>>, AllocError>
-    ensures width { IfOk result (λ bs. All (λ b. length b.runs ≡ length table.now.names) bs.items) }
-    ensures never_ran { IfOk result (λ bs. All (λ b. NeverRan (runs_of b)) bs.items) }
-{
-    let mut bodies = Vec::new(alloc);
-    for _ in 0..lanes {
-        let body = ScriptBody::new(alloc, table)?;
-        bodies.push(body)?;
-    }
-    Ok(bodies)
-}
-
-/// A caller that queues every second of so many items, from this one on, and then flushes them.
-fn make_caller(alloc: Global, first: u16, count: u16) -> Result<ScriptCaller<Global>, AllocError> {
-    let mut acts = Vec::new(alloc);
-    for i in 0..count {
-        if i % 2 == first {
-            acts.push(Act::Queue(ItemId::new(i)))?;
-        }
-    }
-    for i in 0..count {
-        if i % 2 == first {
-            acts.push(Act::Flush(ItemId::new(i)))?;
-        }
-    }
-    Ok(ScriptCaller::new(acts))
-}
+use wq_script::{script_bodies, script_callers};
 
 /// Makes a runtime, has it run by scripts, and prints what comes of it. Gives the status.
 pub(crate) fn run_script<N: Naming + Send + Sync, R: Threads + Wait + Sync>(
@@ -77,10 +41,8 @@ pub(crate) fn run_script<N: Naming + Send + Sync, R: Threads + Wait + Sync>(
     let Some(runtime) = make::<N>(alloc, blank, table, groups, assignment, rows, out)? else {
         return Ok(2);
     };
-    let bodies = make_bodies(alloc, table, runtime.lanes(rt))?;
-    let mut callers = Vec::new(alloc);
-    callers.push(make_caller(alloc, 0, table.len())?)?;
-    callers.push(make_caller(alloc, 1, table.len())?)?;
+    let bodies = script_bodies(alloc, table, runtime.lanes(rt))?;
+    let callers = script_callers(alloc, table.len())?;
     match run_all(rt, alloc, &runtime, bodies, callers) {
         Ok(ran) => {
             put_served(out, &ran)?;

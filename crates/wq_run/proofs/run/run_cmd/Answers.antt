@@ -3,6 +3,7 @@ use Rattle.wq_meter.specs.Meter.{WritesPrefix, WritesWhole}
 use Rattle.wq_commands.proofs.InputLemmas.{written_answer, begun_answer}
 use Rattle.wq_run.specs.declared.fault.RunStop.TheVariants as stop
 use Rattle.wq_run.specs.Run.{RunsInput}
+use Rattle.wq_run.specs.Running.{IsRunnable}
 use Rattle.wq_run.proofs.InputLemmas.{RunsInput-read, IsRunnableInput-read, stopped_by}
 use Rattle.wq_run.proofs.run.run_cmd.Goals as goal
 
@@ -19,11 +20,11 @@ returns-clause-answered g c =
 pub returns-clause-no_thread : goal.returns-clause-no_thread
 returns-clause-no_thread g c = λ is.
     let why = c.write_answer.ensures.no_thread is in
-    let runnable = stopped_by c.deref.result.now c.answer-answer.result stop.Thread why.1 c.answer-answer.ensures.stopped in
+    let runnable = stopped_by (IsRunnable c.deref.result.now) c.answer-answer.result stop.Thread why.1 c.answer-answer.ensures.stopped in
     (why.0, IsRunnableInput-read c.deref.result.now c.in_ok-text.ensures.given c.deref.ensures.value runnable)
 
 pub returns-clause-no_tally : goal.returns-clause-no_tally
 returns-clause-no_tally g c = λ is.
     let why = c.write_answer.ensures.no_tally is in
-    let runnable = stopped_by c.deref.result.now c.answer-answer.result stop.Tally why.1 c.answer-answer.ensures.stopped in
+    let runnable = stopped_by (IsRunnable c.deref.result.now) c.answer-answer.result stop.Tally why.1 c.answer-answer.ensures.stopped in
     (why.0, IsRunnableInput-read c.deref.result.now c.in_ok-text.ensures.given c.deref.ensures.value runnable)

@@ -3,7 +3,7 @@ use Rattle.std.specs.List.{All}
 use Rattle.std.proofs.lemmas.List.Elements.{All-push}
 use Rattle.wq_rescuer.specs.Executing.{NeverRan}
 use Rattle.wq_script.specs.Scripts.{Script, runs_of}
-use Rattle.wq_run.proofs.crew.script_bodies.Goals as goal
+use Rattle.wq_script.proofs.crew.script_bodies.Goals as goal
 
 pub loop-preserved : goal.loop-preserved
 loop-preserved g c =

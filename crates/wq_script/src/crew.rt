@@ -7,10 +7,13 @@ ghost use Rattle.std.specs.Prelude.{◌≡◌, length, vec_len, IfOk};
 ghost use Rattle.std.specs.List.{All};
 ghost use Rattle.wq_rescuer.specs.Executing.{NeverRan};
 ghost use Rattle.wq_script.specs.Scripts.{runs_of};
+ghost use Rattle.wq_script.specs.Crews.{every_second, queued_then_flushed, shared_by_two};
 
+use crate::acting::Act;
+use crate::calling::ScriptCaller;
+use crate::flushing::ScriptBody;
 use std::alloc::{AllocError, Allocator};
 use wq_items::{ItemId, ItemTable};
-use wq_script::{Act, ScriptBody, ScriptCaller};
 
 /// A body for each of so many lanes, none of which has run anything. The only error is out of memory (20).
 pub fn script_bodies<'t, 'a, A: Allocator + Copy>(
@@ -35,7 +38,9 @@ fn script_caller<A: Allocator + Copy>(
     alloc: A,
     first: u16,
     count: u16,
-) -> Result<ScriptCaller<A>, AllocError> {
+) -> Result<ScriptCaller<A>, AllocError>
+    ensures { IfOk result (λ caller. caller ≡ queued_then_flushed (every_second first count)) }
+{
     let mut acts = Vec::new(alloc);
     for i in 0..count {
         if i % 2 == first {
@@ -56,12 +61,12 @@ pub fn script_callers<A: Allocator + Copy>(
     alloc: A,
     count: u16,
 ) -> Result<Vec<ScriptCaller<A>, A>, AllocError>
-    ensures { IfOk result (λ callers. vec_len callers ≡ 2) }
+    ensures { IfOk result (λ callers. callers.items ≡ shared_by_two count) }
 {
+    let even = script_caller(alloc, 0, count)?;
+    let odd = script_caller(alloc, 1, count)?;
     let mut callers = Vec::new(alloc);
-    for first in 0..2 {
-        let caller = script_caller(alloc, first, count)?;
-        callers.push(caller)?;
-    }
+    callers.push(even)?;
+    callers.push(odd)?;
     Ok(callers)
 }
