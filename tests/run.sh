@@ -4,6 +4,9 @@
 # crates/wq_book/out/wq_book, crates/wq_stress/out/wq_stress and crates/wq_guide/out/wq_guide.
 set -eu
 cd "$(dirname "$0")/.."
+# As many checks at a time as there are processors, each with one job: a check with several jobs reads the libraries that it stands
+# on in each of them.
+export RT_JOBS="${RT_JOBS:-$(nproc)}"
 rt ci
 bash tests/definitions.sh
 bash tests/pages.sh
