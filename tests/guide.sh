@@ -1,7 +1,8 @@
 #!/usr/bin/env bash
 # Runs every command of docs/GUIDE.md and of the pages in examples/, and compares what it shows with what stands below it
-# on the page; and looks for each excerpt of code on the page in crates/wq_guide. Run it once the gate or `rt run` has built
-# the program and the guide's program, crates/wq_guide. The arguments, if there are any, name others in their place.
+# on the page; looks for each excerpt of code on the page in crates/wq_guide; and gives the `grep` lines of docs/GUIDE.md
+# each name that the page says they find. Run it once the gate or `rt run` has built the program and the guide's program,
+# crates/wq_guide. The arguments, if there are any, name others in their place.
 #
 # A fenced block of a page is one of these:
 # - a file: its first line is a comment that holds its name alone, as `# NAME` or `/* NAME */`. It is written as it stands;
@@ -129,6 +130,35 @@ pages() {
     done
 }
 
+# finds AT NAME..: counts whether the grep line AT of docs/GUIDE.md, counted from 1, finds a line with each of these names.
+finds() {
+    local at=$1 pattern name
+    shift
+    pattern=$(sed -n "s/^\$ grep -nE '\(.*\)' rdisk.c$/\1/p" "$root/docs/GUIDE.md" | sed -n "${at}p")
+    if [ -z "$pattern" ] || [ $# -eq 0 ]; then
+        fail "$page: there is no grep line $at, or no name for it"
+        return
+    fi
+    for name; do
+        if printf '\t%s(x);\n' "$name" | grep -qE -- "$pattern"; then
+            passed=$((passed + 1))
+            echo "ok      $page: grep line $at finds $name"
+        else
+            fail "$page: grep line $at doesn't find $name"
+        fi
+    done
+}
+
+# names FIRST FIELD: the names in backticks that stand in docs/GUIDE.md from the line that begins with FIRST to the next empty
+# one. Of a table only this FIELD counts, each cell up to its `, where`.
+names() {
+    sed -n "/^$1/,/^\$/p" "$root/docs/GUIDE.md" | cut -d'|' -f"$2" | sed 's/, where.*//' |
+        grep -oE '`[A-Za-z]+_[A-Za-z_]*' | tr -d '`'
+}
+
 pages docs/GUIDE.md examples/*.md
+page=docs/GUIDE.md
+finds 1 $(names 'The line also finds' 1) $(names '| File | Lines' 4)
+finds 2 $(names '| Call in a work function | Line' 2)
 echo "guide: $passed passed, $failed failed"
 [ "$failed" -eq 0 ]
