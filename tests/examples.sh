@@ -179,6 +179,15 @@ awk '$1 == "item" { print "wq", lanes++, $2 }' nvmet-tcp.wq >own.assign
 hangs 'nvmet-tcp: a workqueue for each item' nvmet-tcp.wq own.assign
 is 'nvmet-tcp: the run behind the circle' "$(cat hangs.run)" "$(sed -n '/^run/,$p' nvmet-tcp.answer)"
 
+# nvme-auth: two workqueues, of which one hangs; three are enough, and a later kernel has them.
+counts nvme-auth 4 4 4 2
+answers nvme-auth 'plan 3' dhchap_auth_work auth_work io_work
+without_cancel nvme-auth 3
+plan_is_least nvme-auth
+hangs 'nvme-auth: the kernel' nvme-auth.wq nvme-auth.assign 8
+run deadlock nvme-auth.wq nvme-auth.later.assign
+ends 'nvme-auth: a later kernel' 0 safe
+
 # rbd: two ordered groups, five workqueues, safe.
 counts rbd 11 19 6 5
 answers rbd 'plan 3' rbd_acquire_lock do_watch_notify ceph_con_workfn

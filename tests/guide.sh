@@ -1,10 +1,13 @@
 #!/usr/bin/env bash
 # Runs every command of docs/GUIDE.md and of the pages in examples/, and compares what it shows with what stands below it
-# on the page; and looks for each excerpt of code on the page in crates/wq_guide. Run it once the gate or `rt run` has built
-# the program and the guide's program, crates/wq_guide. The arguments, if there are any, name others in their place.
+# on the page; looks for each excerpt of code on the page in crates/wq_guide; compares the files that docs/GUIDE.md shows
+# with those in examples/rdisk; and gives the `grep` lines of docs/GUIDE.md each name that the page says they find. Run it
+# once the gate or `rt run` has built the program and the guide's program, crates/wq_guide. The arguments, if there are
+# any, name others in their place.
 #
 # A fenced block of a page is one of these:
-# - a file: its first line is a comment that holds its name alone, as `# NAME` or `/* NAME */`. It is written as it stands;
+# - a file: its first line is a comment that holds its name alone, as `# NAME` or `/* NAME */`. It is written as it stands.
+#   One of docs/GUIDE.md stands in examples/rdisk as well, just so;
 # - commands: its first line begins with `$ `. Each line that does is a command for bash, with `wqplan` and `wq_guide` on its
 #   path and nothing to read, and the lines below it are what it writes to both streams. `$?` is the status of the command
 #   before it;
@@ -32,6 +35,7 @@ ln -s -- "$driver" "$work/bin/wq_guide"
 export PATH="$work/bin:$PATH"
 passed=0
 failed=0
+shown=()
 
 # fail TEXT..: counts a failure, and says which.
 fail() {
@@ -81,6 +85,18 @@ excerpt() {
     fail "$page: the excerpt at line $at stands in no .$kind file of crates/wq_guide"
 }
 
+# kept NAME: counts whether the file that the page shows stands in examples/rdisk, just so.
+kept() {
+    shown+=("$1")
+    if cmp -s -- "$1" "$root/examples/rdisk/$1"; then
+        passed=$((passed + 1))
+        echo "ok      $page: examples/rdisk/$1"
+    else
+        fail "$page: examples/rdisk/$1 isn't what the page shows"
+        diff -- "$1" "$root/examples/rdisk/$1" | head -n 20
+    fi
+}
+
 # block AT WORD LINE..: does what a block asks for, by its first line and the word behind its backticks. It begins at
 # line AT of the page.
 block() {
@@ -95,6 +111,7 @@ block() {
         commands "$@"
     elif [[ $first =~ ^(#|/\*)\ ([A-Za-z0-9._-]+)(\ \*/)?$ ]]; then
         printf '%s\n' "$@" >"${BASH_REMATCH[2]}"
+        [ "$page" != docs/GUIDE.md ] || kept "${BASH_REMATCH[2]}"
     elif [ "$word" != c ] && [ "$word" != text ]; then
         fail "$page: the block at line $at is no file, no command and nothing to read"
     fi
@@ -129,6 +146,54 @@ pages() {
     done
 }
 
+# others: counts whether each other file of examples/rdisk is the plan of a declaration there.
+others() {
+    local file name plan
+    page=examples/rdisk
+    cd -- "$root/examples/rdisk" || exit 1
+    for file in *; do
+        name=${file%.plan}
+        if [[ " ${shown[*]} " == *" $file "* ]]; then
+            continue
+        elif [ "$name" != "$file" ]; then
+            plan=$(<"$file")
+            play "wqplan plan $name.wq" "$plan"$'\n'
+        else
+            fail "$page/$file: docs/GUIDE.md doesn't show it"
+        fi
+    done
+}
+
+# finds AT NAME..: counts whether the grep line AT of docs/GUIDE.md, counted from 1, finds a line with each of these names.
+finds() {
+    local at=$1 pattern name
+    shift
+    pattern=$(sed -n "s/^\$ grep -nE '\(.*\)' rdisk.c$/\1/p" "$root/docs/GUIDE.md" | sed -n "${at}p")
+    if [ -z "$pattern" ] || [ $# -eq 0 ]; then
+        fail "$page: there is no grep line $at, or no name for it"
+        return
+    fi
+    for name; do
+        if printf '\t%s(x);\n' "$name" | grep -qE -- "$pattern"; then
+            passed=$((passed + 1))
+            echo "ok      $page: grep line $at finds $name"
+        else
+            fail "$page: grep line $at doesn't find $name"
+        fi
+    done
+}
+
+# names FIRST FIELD: the names in backticks that stand in docs/GUIDE.md from the line that begins with FIRST to the next empty
+# one. Of a table only this FIELD counts, each cell up to its `, where`.
+names() {
+    sed -n "/^$1/,/^\$/p" "$root/docs/GUIDE.md" | cut -d'|' -f"$2" | sed 's/, where.*//' |
+        grep -oE '`[A-Za-z]+_[A-Za-z_]*' | tr -d '`'
+}
+
 pages docs/GUIDE.md examples/*.md
+others
+page=docs/GUIDE.md
+finds 1 $(names 'The line also finds' 1) $(names '| File | Lines' 4)
+finds 2 $(names '| Call in a work function | Line' 2)
 echo "guide: $passed passed, $failed failed"
 [ "$failed" -eq 0 ]
