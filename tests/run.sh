@@ -7,6 +7,7 @@ cd "$(dirname "$0")/.."
 rt ci
 bash tests/definitions.sh
 bash tests/pages.sh
+bash tests/dot.sh
 bash tests/outlives.sh
 bash tests/program.sh
 bash tests/rows.sh
