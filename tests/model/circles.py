@@ -69,9 +69,8 @@ def arcs_on_circles(declared, assignment):
     return arcs
 
 
-def circles_text(declared, assignment):
-    """The lines that are printed of an assignment."""
-    arcs = arcs_on_circles(declared, assignment)
+def circles_text(declared, arcs):
+    """The lines that are printed, of the places of the arcs of each component."""
     if not arcs:
         return [b"safe"]
     lines = [b"components %d" % len(arcs)]
@@ -95,7 +94,8 @@ def answer(declaration_text, assignment_text=None):
         declared, assignment = read_texts(declaration_text, assignment_text)
     except Refused as refused:
         return refused.answer()
-    lines = circles_text(declared, assignment or own_workqueues(declared))
+    arcs = arcs_on_circles(declared, assignment or own_workqueues(declared))
+    lines = circles_text(declared, arcs)
     return b"".join(line + b"\n" for line in lines), 0 if lines == [b"safe"] else 1
 
 

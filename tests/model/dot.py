@@ -33,21 +33,24 @@ ORDERED = [
 
 def followed(declared, printed):
     """The places of the flushes that the chain of a plan text follows."""
-    arcs = [tuple(line.split(b" ")[1:]) for line in printed.split(b"\n") if line.startswith(b"arc ")]
-    return [declared.flushes.index(arc) for arc in arcs]
+    least = {}
+    for place, arc in enumerate(declared.flushes):
+        least.setdefault(arc, place)
+    return [least[tuple(line.split(b" ")[1:])] for line in printed.split(b"\n") if line.startswith(b"arc ")]
 
 
-def drawn(declared, assignment, printed):
+def drawn(declared, assignment, declaration_text):
     """What is drawn: the assignment, TITLE, and the places of the red and of the bold flushes.
 
-    `assignment` is None where no ASSIGN is named; `printed` is what `plan` prints then.
+    `assignment` is None where no ASSIGN is named.
     """
-    if assignment is None and printed.startswith(b"plan "):
-        assignment = certificate.read_assignment(printed, declared)
-        return assignment, printed.split(b"\n")[0], [], followed(declared, printed)
-    assignment = assignment or own_workqueues(declared)
-    red = [place for places in arcs_on_circles(declared, assignment) for place in places]
-    return assignment, circles_text(declared, assignment)[0], red, []
+    arcs = arcs_on_circles(declared, assignment or own_workqueues(declared))
+    if assignment is None and not arcs:
+        printed, _ = plan.answer(declaration_text)
+        planned = certificate.read_assignment(printed, declared)
+        return planned, printed.split(b"\n")[0], [], followed(declared, printed)
+    red = [place for places in arcs for place in places]
+    return assignment or own_workqueues(declared), circles_text(declared, arcs)[0], red, []
 
 
 def group_lines(members):
@@ -86,8 +89,7 @@ def answer(declaration_text, assignment_text=None):
         declared, assignment = read_texts(declaration_text, assignment_text)
     except Refused as refused:
         return refused.answer()
-    printed = plan.answer(declaration_text)[0] if assignment is None else b""
-    lines = dot_text(declared, *drawn(declared, assignment, printed))
+    lines = dot_text(declared, *drawn(declared, assignment, declaration_text))
     return b"".join(line + b"\n" for line in lines), 0
 
 
