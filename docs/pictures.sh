@@ -2,7 +2,7 @@
 # Makes the pictures of docs/pictures from declarations of examples/, by Graphviz (apt-get install graphviz). Each is drawn as
 # docs/FORMAT.md, "The command `dot`", says, by the model in tests/model. It is no part of the gate. The argument, if there is one,
 # names another folder for the pictures.
-set -eu
+set -euo pipefail
 cd "$(dirname "$0")/.."
 pictures=$(realpath -m -- "${1:-docs/pictures}")
 command -v dot >/dev/null || {
@@ -19,8 +19,10 @@ picture() {
     shift
     python3 -B tests/model/dot.py dot "${@/#/examples/}" >"$text"
     python3 -B tests/dot.py "$text" | sed "s|^[^:]*|$name|"
-    warnings=$(dot -Tsvg -o "$pictures/$name.svg" "$text" 2>&1)
-    [ -z "$warnings" ] || { echo "pictures: $name: $warnings"; exit 1; }
+    warnings=$(dot -Tsvg -o "$pictures/$name.svg" "$text" 2>&1) && [ -z "$warnings" ] || {
+        echo "pictures: $name: $warnings"
+        exit 1
+    }
 }
 
 picture dm-snapshot dm-snapshot.wq
