@@ -1,10 +1,11 @@
-# Compares the program with the model of it in plan.py, check.py, replay.py, deadlock.py and run.py:
+# Compares the program with the model of it in plan.py, check.py, replay.py, deadlock.py, circles.py,
+# dot.py and run.py:
 #
 #     compare.py PROGRAM [SEED] [CASES] [--only COMMAND,..]
 #
 # It makes up declarations, answers, assignments and runs, gives them to `PROGRAM plan` on standard
-# input, and as files to `PROGRAM check`, `PROGRAM replay`, `PROGRAM deadlock` and `PROGRAM run`, and
-# compares the bytes that are printed and the exit status with the model's. Of each command there are
+# input, and as files to `PROGRAM check`, `PROGRAM replay`, `PROGRAM deadlock`, `PROGRAM circles`,
+# `PROGRAM dot` and `PROGRAM run`, and compares the bytes that are printed and the exit status with the model's. Of each command there are
 # the cases at the limits of docs/FORMAT.md and at each place of small texts, once each, and then
 # CASES random ones; of `run`, which makes threads, a fifth as many. The same SEED makes the same
 # cases. It fails where an answer differs, and where some kind of answer never came, as may be with
@@ -12,7 +13,10 @@
 #
 # What the program prints is then given back to it: the plans and circles to `PROGRAM check`, the
 # plans as assignments to `PROGRAM deadlock`, and the runs, those behind circles too, to `PROGRAM
-# replay`. It must stand by its answers: `yes`, `safe` and `deadlock`.
+# replay`. It must stand by its answers: `yes`, `safe` and `deadlock`. Where it prints `safe` by
+# `circles`, it must print it by `deadlock` too.
+#
+# The program doesn't know `circles` and `dot` yet. It isn't asked for them but with --only.
 #
 # With --only the program is asked for these commands alone; with `--only none` it isn't run at all.
 # The cases of the other commands are made all the same, and the model's answers must have one of
@@ -30,10 +34,13 @@ import traceback
 
 sys.dont_write_bytecode = True
 import check  # noqa: E402  (beside this file)
+import circles  # noqa: E402
 import deadlock  # noqa: E402
+import dot  # noqa: E402
 import examples  # noqa: E402
 import make_assignments  # noqa: E402
 import make_certificates  # noqa: E402
+import make_circles  # noqa: E402
 import make_declarations  # noqa: E402
 import plan  # noqa: E402
 import replay  # noqa: E402
@@ -56,6 +63,22 @@ DECLARATION_REFUSALS = [
 CERTIFICATE_REFUSALS = [("refusals of the declaration", 2, r"refused ([1-9]|1[0-2]) line N\n")] + [
     (f"refusals {code}", 2, rf"refused {code} line N\n") for code in (40, 41, 42, 43)
 ]
+DRAWING = (
+    r'digraph wqplan \{\n  graph \[label="(TITLE)", labelloc=t, labeljust=l, rankdir=LR, newrank=true,'
+    r' nodesep=0\.15, ranksep=1, fontname="sans-serif"\];\n  node \[shape=box, style=filled,'
+    r' fillcolor=white, height=0\.3, fontname="sans-serif", fontsize=12\];\n  edge \[arrowsize=0\.7\];\n'
+    r'(  subgraph "cluster wq N" \{\n    graph \[label="wq N", rank=same, style=filled,'
+    r' color=gray92\];\n(    "Z";\n|    subgraph "cluster ordered Z" \{\n      graph'
+    r' \[label="ordered", style=dashed, color=black\];\n(      "Z";\n)+    \}\n)*  \}\n)*'
+    r'(  "Z" -> "Z"(LOOKS)?;\n)*\}\n'
+)
+
+
+def drawing(title, looks):
+    """The form of a drawing with this title, and with arrows that look so or as most do."""
+    return DRAWING.replace("TITLE", title).replace("LOOKS", looks)
+
+
 COMMANDS = {
     "plan": (
         plan.answer,
@@ -92,6 +115,24 @@ COMMANDS = {
         ["declaration", "assignment"],
         [("safe", 0, r"safe\n"), ("runs", 1, r"run N\nS+")] + CERTIFICATE_REFUSALS,
     ),
+    "circles": (
+        circles.answer,
+        make_circles.limit_circles_cases,
+        make_circles.random_circles_case,
+        ["declaration", "assignment"],
+        [("safe", 0, r"safe\n"), ("one component", 1, r"components 1\ncomponent N\nA+"),
+         ("components", 1, r"components N\n(component N\nA+)+")]
+        + DECLARATION_REFUSALS + CERTIFICATE_REFUSALS[1:],
+    ),
+    "dot": (
+        dot.answer,
+        make_circles.limit_dot_cases,
+        lambda seed, number: make_circles.random_circles_case(f"{seed} dot", number),
+        ["declaration", "assignment"],
+        [("plans", 0, drawing("plan N", r" \[style=bold\]")), ("safe", 0, drawing("safe", "")),
+         ("components", 0, drawing("components N", r" \[color=red\]"))]
+        + DECLARATION_REFUSALS + CERTIFICATE_REFUSALS[1:],
+    ),
     "run": (
         run.answer,
         lambda: [(what, [text]) for what, text in make_declarations.limit_run_cases()],
@@ -103,6 +144,9 @@ COMMANDS = {
         + DECLARATION_REFUSALS,
     ),
 }
+
+# Those that the program doesn't know yet. It is asked for them where --only names them.
+NOT_YET = ["circles", "dot"]
 
 # Each random case of `run` makes threads, so there is one for so many of the other commands.
 CASES_FOR_A_RUN = 5
@@ -169,6 +213,8 @@ def questions(command, texts, printed):
         yield "replay", [texts[0], b"".join(own), steps], (b"deadlock\n", 1)
     if command == "deadlock" and head.startswith(b"run "):
         yield "replay", [*texts, printed], (b"deadlock\n", 1)
+    if command == "circles" and head == b"safe" and len(texts) == 2:
+        yield "deadlock", texts, (b"safe\n", 0)
 
 
 @dataclasses.dataclass
@@ -288,7 +334,8 @@ def show_counts(command, kinds, stood):
 
 def options(arguments):
     """The program, the seed, how many random cases, and the commands that the program is asked for."""
-    arguments, asked = list(arguments), list(COMMANDS)
+    arguments = list(arguments)
+    asked = [command for command in COMMANDS if command not in NOT_YET]
     while "--only" in arguments[:-1]:
         at = arguments.index("--only")
         asked = [] if arguments[at + 1] == "none" else arguments[at + 1].split(",")

@@ -8,7 +8,9 @@ import sys
 
 sys.dont_write_bytecode = True
 import check  # noqa: E402  (beside this file)
+import circles  # noqa: E402
 import deadlock  # noqa: E402
+import dot  # noqa: E402
 import plan  # noqa: E402
 import replay  # noqa: E402
 import run  # noqa: E402
@@ -185,8 +187,110 @@ RUNS = [
     (join(*MANY_ITEMS[:257], *CHAIN[:256]), "refused 69 line 0"),
 ]
 
+# The declaration, the assignment, if one is named, and the answer of `circles`.
+D = ITEMS + " / flush d c / flush a b / flush c d / flush b a / flush b c"
+RING = MANY_ITEMS[:300] + CHAIN[:299]
+RING_WQS = ["wq %d i%04d" % (number, 299 - number) for number in range(300)]
+RING_ARCS = [line.replace("flush", "arc") for line in CHAIN[:299]] + ["arc i0299 i0000"]
+R_JOINED = "components 1 / component 2 / arc a b / arc b c"
+T_CROSSED = "components 1 / component 2 / arc a b / arc c d"
+CIRCLES = [
+    ("", "safe"),
+    ("item a / item b / item c", "safe"),
+    (R, "safe"),
+    (S, "components 1 / component 1 / arc a a"),
+    ("item a / item b / item c / ordered a b / flush a a / flush c a",
+     "components 1 / component 1 / arc a a"),
+    ("item a / item b / ordered a b / flush a b", "components 1 / component 1 / arc a b"),
+    ("item a / item b / ordered a b / flush b a / flush a b",
+     "components 1 / component 2 / arc b a / arc a b"),
+    (T, T_CROSSED),
+    (D, "components 2 / component 2 / arc a b / arc b a / component 2 / arc d c / arc c d"),
+    ("item in / item a / item b / item c / item out / flush in a / flush a b / flush b c / flush c a"
+     " / flush c out", "components 1 / component 3 / arc a b / arc b c / arc c a"),
+    ("item a / item b / item c / flush a b c / flush b a / flush c a",
+     "components 1 / component 4 / arc a b / arc a c / arc b a / arc c a"),
+    ("item a / item b / flush a b b / flush b a / flush a b",
+     "components 1 / component 4 / arc a b / arc a b / arc b a / arc a b"),
+    ("item a / flush a b / item b", "refused 8 line 2"),
+    (" / ".join(RING), "safe"),
+    (" / ".join([*RING, "flush i0299 i0000"]),
+     " / ".join(["components 1", "component 300", *RING_ARCS])),
+    (R, "wq 0 c / wq 1 b / wq 2 a", "safe"),
+    (R, "wq 0 a / wq 1 b / wq 2 c", "safe"),
+    (R, "wq 0 a b c", R_JOINED),
+    (R, "wq 0 a c / wq 1 b", R_JOINED),
+    (R, "wq 0 a b / wq 1 c", "components 1 / component 1 / arc a b"),
+    (U, "wq 0 a d / wq 1 b c", T_CROSSED),
+    (U, "wq 0 b d / wq 1 a c", "safe"),
+    (V, "wq 0 / wq 1 b / wq 2 a / wq 3 z", "components 1 / component 2 / arc a b / arc b a"),
+    (D, "wq 0 c d / wq 1 a b",
+     "components 2 / component 2 / arc d c / arc c d / component 2 / arc a b / arc b a"),
+    (D, "wq 0 a b c d",
+     "components 1 / component 5 / arc d c / arc a b / arc c d / arc b a / arc b c"),
+    (D, "plan 1 / wq 0 a b c d / chain 0",
+     "components 1 / component 5 / arc d c / arc a b / arc c d / arc b a / arc b c"),
+    (T, "wq 0 a d / wq 1 b / wq 2 c", "refused 42 line 3"),
+    (T, "wq 0 a d / wq 1 b", "refused 41 line 0"),
+    (T, "wq 1 a d", "refused 43 line 1"),
+    ("item a / flush a b", "wq 1", "refused 8 line 2"),
+    (" / ".join([*RING, "flush i0299 i0000"]), " / ".join(RING_WQS),
+     " / ".join(["components 1", "component 300", *RING_ARCS])),
+]
+
+
+def drawing(title, *lines):
+    """The answer of `dot` with these lines between the head and the end."""
+    return " / ".join([
+        "digraph wqplan {",
+        f'  graph [label="{title}", labelloc=t, labeljust=l, rankdir=LR, newrank=true, nodesep=0.15,'
+        ' ranksep=1, fontname="sans-serif"];',
+        '  node [shape=box, style=filled, fillcolor=white, height=0.3, fontname="sans-serif",'
+        ' fontsize=12];',
+        "  edge [arrowsize=0.7];", *lines, "}",
+    ])
+
+
+def box(number, *lines):
+    """The lines of a workqueue, with these for its groups."""
+    return [f'  subgraph "cluster wq {number}" {{',
+            f'    graph [label="wq {number}", rank=same, style=filled, color=gray92];', *lines, "  }"]
+
+
+def ordered(*names):
+    """The lines of a group of several items."""
+    return [f'    subgraph "cluster ordered {names[0]}" {{',
+            '      graph [label="ordered", style=dashed, color=black];',
+            *[f'      "{name}";' for name in names], "    }"]
+
+
+# The declaration, the assignment, if one is named, and the answer of `dot`.
+R_BOXES = [*box(0, '    "c";'), *box(1, '    "b";'), *box(2, '    "a";')]
+DOTS = [
+    ("", drawing("plan 0")),
+    ("item 7", drawing("plan 1", *box(0, '    "7";'))),
+    (ITEMS + " / ordered d b / flush c a / flush d a a",
+     drawing("plan 2", *box(0, '    "a";'), *box(1, *ordered("b", "d"), '    "c";'),
+             '  "c" -> "a";', '  "d" -> "a" [style=bold];', '  "d" -> "a";')),
+    (S, drawing("components 1", *box(0, '    "a";'), '  "a" -> "a" [color=red];')),
+    (R, drawing("plan 3", *R_BOXES, '  "a" -> "b" [style=bold];', '  "b" -> "c" [style=bold];')),
+    (T, drawing("components 1", *box(0, *ordered("a", "d")), *box(1, *ordered("b", "c")),
+                '  "a" -> "b" [color=red];', '  "c" -> "d" [color=red];')),
+    (D, drawing("components 2", *box(0, '    "a";'), *box(1, '    "b";'), *box(2, '    "c";'),
+                *box(3, '    "d";'), '  "d" -> "c" [color=red];', '  "a" -> "b" [color=red];',
+                '  "c" -> "d" [color=red];', '  "b" -> "a" [color=red];', '  "b" -> "c";')),
+    (R, "plan 3 / wq 0 c / wq 1 b / wq 2 a / chain 3 / arc a b / arc b c",
+     drawing("safe", *R_BOXES, '  "a" -> "b";', '  "b" -> "c";')),
+    (R, "wq 0 / wq 1 c a / wq 2 b",
+     drawing("components 1", *box(0), *box(1, '    "a";', '    "c";'), *box(2, '    "b";'),
+             '  "a" -> "b" [color=red];', '  "b" -> "c" [color=red];')),
+    ("item a / flush a b / item b", "refused 8 line 2"),
+    (T, "wq 1 a d", "refused 43 line 1"),
+]
+
 STATUSES = {"plan": 0, "yes": 0, "open": 0, "safe": 0, "circle": 1, "no": 1, "not": 1,
-            "deadlock": 1, "stuck": 1, "run": 1, "workqueues": 0, "refused": 2}
+            "deadlock": 1, "stuck": 1, "run": 1, "workqueues": 0, "components": 1, "digraph": 0,
+            "refused": 2}
 
 
 def wanted(answer):
@@ -203,6 +307,10 @@ def failures():
     for *texts, answer in DEADLOCKS:
         answers.append((texts, deadlock.answer(*map(text, texts)), wanted(answer)))
     answers += [(repr(texts), run.answer(texts), wanted(answer)) for texts, answer in RUNS]
+    for *texts, answer in CIRCLES:
+        answers.append((texts, circles.answer(*map(text, texts)), wanted(answer)))
+    for *texts, answer in DOTS:
+        answers.append((texts, dot.answer(*map(text, texts)), wanted(answer)))
     return [
         f"{what}: the page has {page}, the model has {model}"
         for what, model, page in answers if model != page
@@ -210,7 +318,7 @@ def failures():
 
 
 def count():
-    return len(PLANS) + len(CHECKS) + len(REPLAYS) + len(DEADLOCKS) + len(RUNS)
+    return sum(map(len, (PLANS, CHECKS, REPLAYS, DEADLOCKS, RUNS, CIRCLES, DOTS)))
 
 
 if __name__ == "__main__":

@@ -28,9 +28,9 @@ def numbered(word, number):
 # Declarations ------------------------------------------------------------------------------------
 
 
-def make_declaration(choose):
+def make_declaration(choose, shape=None):
     """The bytes of a declaration, and what it declares, or would if it had no fault."""
-    lines = make_lines(choose, min(item_count_of(choose), 80))
+    lines = make_lines(choose, min(item_count_of(choose), 80), shape)
     declared = read_declaration(spell(choose, lines, True))
     if choose.random() < 0.06:
         put_faults(choose, lines, choose.randint(1, 2))

@@ -161,14 +161,29 @@ def shape_two_circles(choose, count):
     return pairs
 
 
+def shape_components(choose, count):
+    """Circles beside one another and one behind the other, with groups between them and at the ends."""
+    parts, left = [], list(range(count))
+    while left:
+        size = choose.choice([1, 1, 1, 1, 2, 2, 3, 4])
+        parts.append(left[:size])
+        left = left[size:]
+    pairs = []
+    for part in parts:
+        if len(part) > 1 or choose.random() < 0.2:
+            pairs += path(part) + [(part[-1], part[0])]
+            pairs += [(choose.choice(part), choose.choice(part)) for _ in range(choose.choice([0, 0, 1, 2]))]
+    return pairs + downward(choose, count, choose.randint(0, count))
+
+
 SHAPES = [
     (shape_none, 2), (shape_any, 8), (shape_downward, 12), (shape_deep, 6), (shape_layers, 12),
     (shape_wide, 4), (shape_circle, 14), (shape_two_circles, 5),
 ]
 
 
-def make_lines(choose, item_count):
-    """The lines of a declaration that breaks no rule, without blank ones."""
+def make_lines(choose, item_count, shape=None):
+    """The lines of a declaration that breaks no rule, without blank ones. The shape is any where none is given."""
     names = make_names(choose, item_count)
     ordered, alone = make_groups(choose, item_count)
     groups = ordered + alone
@@ -176,7 +191,7 @@ def make_lines(choose, item_count):
     if choose.random() < 0.2:
         groups.sort(key=min, reverse=choose.random() < 0.5)
     shapes, weights = zip(*SHAPES)
-    pairs = choose.choices(shapes, weights)[0](choose, len(groups))
+    pairs = (shape or choose.choices(shapes, weights)[0])(choose, len(groups))
 
     if pairs and choose.random() < 0.4:
         pairs += choose.choices(pairs, k=choose.randint(1, 3))

@@ -5,8 +5,8 @@
 # unclear. It goes for plain reading, and not for speed. Each part names the section of
 # docs/FORMAT.md that it is from.
 #
-# declaration.py beside it reads declarations; check.py, replay.py, deadlock.py and run.py are the
-# model of the other commands. compare.py compares the program with them.
+# declaration.py beside it reads declarations; check.py, replay.py, deadlock.py, circles.py, dot.py and
+# run.py are the model of the other commands. compare.py compares the program with them.
 
 import sys
 

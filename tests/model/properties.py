@@ -10,6 +10,8 @@
 # what that search finds must be what the model answers.
 
 import collections
+import importlib.util
+import pathlib
 import random
 import re
 import sys
@@ -17,9 +19,12 @@ import sys
 sys.dont_write_bytecode = True
 import certificate  # noqa: E402  (beside this file)
 import check  # noqa: E402
+import circles  # noqa: E402
 import deadlock  # noqa: E402
+import dot  # noqa: E402
 import make_assignments  # noqa: E402
 import make_certificates  # noqa: E402
+import make_circles  # noqa: E402
 import make_declarations  # noqa: E402
 import plan  # noqa: E402
 import replay  # noqa: E402
@@ -527,6 +532,156 @@ def look_at_deadlocking_run(declaration_text, assignment_text, printed):
         demand(end in (None, b"deadlock\n"), "both readings of the steps say that it deadlocks")
 
 
+# Circles and drawings ----------------------------------------------------------------------------
+
+
+def text_declaring(declared, places):
+    """A text that declares the same items and groups, and of the flushes those at these places."""
+    lines = [b"item %s" % name for name in declared.items]
+    lines += [b"ordered " + b" ".join(members) for members in declared.groups]
+    return joined(lines + [b"flush %s %s" % declared.flushes[place] for place in places])
+
+
+def leads(arcs, count):
+    """Of each workqueue those that it leads to, as the bits of a number: chains over 0, 1, .. are added in turn."""
+    reached = [0] * count
+    for begin, end in arcs:
+        reached[begin] |= 1 << end
+    for over in range(count):
+        reached = [bits | reached[over] if bits >> over & 1 else bits for bits in reached]
+    return reached
+
+
+def second_circles(declared, assignment):
+    """The lines that `circles` prints: arc by arc, without any component."""
+    arcs = [(assignment.workqueue_of[item], assignment.workqueue_of[target])
+            for item, target in declared.flushes]
+    reached = leads(arcs, assignment.count)
+    found = collections.defaultdict(list)  # by the lowest workqueue that leads there and back
+    for (begin, end), flush in zip(arcs, declared.flushes):
+        if reached[end] >> begin & 1:
+            lowest = min(other for other in range(assignment.count)
+                         if reached[begin] >> other & 1 and reached[other] >> begin & 1)
+            found[lowest].append(flush)
+    if not found:
+        return [b"safe"]
+    lines = [b"components %d" % len(found)]
+    for lowest in sorted(found):
+        lines.append(b"component %d" % len(found[lowest]))
+        lines += [b"arc %s %s" % flush for flush in found[lowest]]
+    return lines
+
+
+def printed_arcs(printed):
+    """The arcs of an answer, each as the names of its item and of its target."""
+    return [tuple(line.split(b" ")[1:]) for line in printed.split(b"\n") if line.startswith(b"arc ")]
+
+
+def read_case(texts):
+    """The declaration and the assignment, which is that of the groups where no other is given; they aren't refused."""
+    declared = read_declaration(texts[0])
+    if len(texts) == 1:
+        return declared, certificate.Assignment(declared.group_of, len(declared.groups))
+    return declared, certificate.read_assignment(texts[1], declared)
+
+
+def wqs_of(declared, assignment):
+    """The names on each workqueue, in order of declaration."""
+    wqs = [[] for _ in range(assignment.count)]
+    for name in declared.items:
+        wqs[assignment.workqueue_of[name]].append(name)
+    return wqs
+
+
+def look_at_circles(*texts):
+    """The arcs on circles, by a second reading, and what becomes of them where flushes are taken out."""
+    printed, status = circles.answer(*texts)
+    other, of_other = plan.answer(*texts) if len(texts) == 1 else deadlock.answer(*texts)
+    demand(status == of_other, "circles and plan, or deadlock, have the same status")
+    if status == 2:
+        demand(printed == other, "and the same refusals")
+        return
+    declared, assignment = read_case(texts)
+    if assignment.count <= 300:
+        demand(printed == joined(second_circles(declared, assignment)),
+               "both readings of circles are the same")
+    arcs = printed_arcs(printed)
+    others = printed_arcs(other) if len(texts) == 1 else deadlock.circle_of(declared, assignment)
+    demand(status == 0 or set(others) <= set(arcs), "one circle is among all circles")
+    demand(collections.Counter(arcs) <= collections.Counter(declared.flushes), "each arc is a flush")
+
+    wqs = wqs_of(declared, assignment)
+    plain = wqs_text(wqs)
+    demand(circles.answer(texts[0], plain) == (printed, status),
+           "each group alone is the assignment where none is named")
+    on_circles = [place for place, flush in enumerate(declared.flushes) if flush in set(arcs)]
+    demand(len(on_circles) == len(arcs), "each flush of an item and a target is printed, or none is")
+    demand(circles.answer(text_declaring(declared, on_circles), plain) == (printed, status),
+           "flushes that aren't printed don't matter")
+    rest = [place for place in range(len(declared.flushes)) if place not in set(on_circles)]
+    demand(circles.answer(text_declaring(declared, rest), plain) == (b"safe\n", 0),
+           "without those that are printed it is safe")
+    if assignment.count < 4_096:
+        demand(circles.answer(texts[0], wqs_text([[], *wqs])) == (printed, status),
+               "an empty workqueue means nothing")
+    turned = circles.answer(texts[0], wqs_text(wqs[::-1]))[0]
+    demand(sorted(turned.split(b"component ")) == sorted(printed.split(b"component ")),
+           "the numbers of workqueues matter for the order alone")
+
+
+def load_reader():
+    """The reader of drawings, tests/dot.py. The model's dot.py has the same name."""
+    place = pathlib.Path(__file__).resolve().parent.parent / "dot.py"
+    spec = importlib.util.spec_from_file_location("dot_reader", place)
+    reader = importlib.util.module_from_spec(spec)
+    sys.modules[spec.name] = reader
+    spec.loader.exec_module(reader)
+    return reader
+
+
+READER = load_reader()
+
+
+def names_of(drawn):
+    """What the reader has as strings, as the model has it: names and pairs of names."""
+    return [tuple(name.encode() for name in names) for names in drawn]
+
+
+def look_at_dot(*texts):
+    """A drawing, as the reader reads it, shows what the declaration says, and what `plan` and `circles` answer."""
+    printed, status = dot.answer(*texts)
+    circled, of_circles = circles.answer(*texts)
+    demand((status == 2) == (of_circles == 2), "dot and circles refuse the same")
+    if status == 2:
+        demand(printed == circled, "with the same refusal")
+        return
+    drawing = READER.read(printed)
+    declared, assignment = read_case(texts)
+    lines, bold = circled.split(b"\n"), []
+    if len(texts) == 1 and of_circles == 0:
+        planned, _ = plan.answer(*texts)
+        assignment = certificate.read_assignment(planned, declared)
+        lines, bold = planned.split(b"\n"), printed_arcs(planned)
+    demand(drawing.title.encode() == lines[0], "TITLE is the first line of the answer")
+    groups = [[] for _ in range(assignment.count)]
+    for members in declared.groups:
+        groups[assignment.workqueue_of[members[0]]].append(members)
+    demand([[[name.encode() for name in members] for members in of_one] for of_one in drawing.workqueues]
+           == groups, "each group is on its workqueue")
+    demand(names_of(arrow[:2] for arrow in drawing.arrows) == declared.flushes, "an arrow for each flush, in order")
+    demand(sorted(names_of(drawing.coloured("red"))) == sorted(printed_arcs(circled)), "circles are red")
+    demand(sorted(names_of(drawing.coloured("bold"))) == sorted(bold), "the chain is bold")
+    first = {}
+    for at, (item, target, colour) in enumerate(drawing.arrows):
+        demand(colour != "bold" or (item, target) not in first, "the flush of least place is bold")
+        first.setdefault((item, target), at)
+    again = text_declaring(declared, range(len(declared.flushes)))
+    demand(dot.answer(again, *texts[1:]) == (printed, 0), "how a declaration is spelled means nothing")
+    if len(texts) == 2:
+        plain = wqs_text(wqs_of(declared, assignment))
+        demand(dot.answer(texts[0], plain) == (printed, 0), "how an assignment is spelled means nothing")
+
+
 def look_at_search(choose):
     """The states of search.py allow the same steps as those of the model, on a random way."""
     declared = read_declaration(search.make_declaration(choose))
@@ -571,6 +726,8 @@ def main(arguments):
         ("replay", look_at_replay, make_certificates.random_replay_case),
         ("deadlock", look_at_deadlock, make_assignments.random_deadlock_case),
         ("run", look_at_running, lambda *case: [make_declarations.random_case(*case)]),
+        ("circles", look_at_circles, make_circles.random_circles_case),
+        ("dot", look_at_dot, make_circles.random_circles_case),
     ]
     limits = {
         "plan": [],
@@ -578,6 +735,8 @@ def main(arguments):
         "replay": make_certificates.limit_replay_cases(),
         "deadlock": make_assignments.limit_deadlock_cases(),
         "run": [(what, [text]) for what, text in make_declarations.limit_run_cases()],
+        "circles": make_circles.limit_circles_cases(),
+        "dot": make_circles.limit_dot_cases(),
     }
     looked = 0
     for command, look_at, random_case in parts:

@@ -1,0 +1,111 @@
+"""A model of `wqplan circles DECL [ASSIGN]`.
+
+It prints all flushes that lie on a circle, as docs/FORMAT.md asks for in "The command `circles`". It looks, workqueue by
+workqueue, which others it leads to and which lead to it. See plan.py for what the model is.
+"""
+
+import sys
+
+sys.dont_write_bytecode = True
+import certificate  # noqa: E402  (beside this file)
+import declaration  # noqa: E402
+from certificate import Assignment  # noqa: E402
+from circle import what_remains  # noqa: E402
+from command_line import answer_texts  # noqa: E402
+from declaration import Refused  # noqa: E402
+
+
+def own_workqueues(declared):
+    """The assignment that gives each group a workqueue of its own, numbered as the groups are."""
+    return Assignment(declared.group_of, len(declared.groups))
+
+
+def waiting(declared, assignment):
+    """For each workqueue those that it waits for, and for each those that wait for it."""
+    waits_for = [set() for _ in range(assignment.count)]
+    waited_by = [set() for _ in range(assignment.count)]
+    for item, target in declared.flushes:
+        here, there = assignment.workqueue_of[item], assignment.workqueue_of[target]
+        waits_for[here].add(there)
+        waited_by[there].add(here)
+    return waits_for, waited_by
+
+
+def led_to(workqueue, waits_for):
+    """Which workqueues lead where: those that this one leads to."""
+    found = set()
+    wanted = [workqueue]
+    while wanted:
+        further = waits_for[wanted.pop()] - found
+        found |= further
+        wanted += further
+    return found
+
+
+def components(declared, assignment):
+    """Components: the set of the workqueues of each, by the lowest one."""
+    waits_for, waited_by = waiting(declared, assignment)
+    # Only a workqueue that leads to a circle and that a circle leads to can be in one. The others are left out first,
+    # since there may be thousands of them.
+    left = what_remains(waits_for) & what_remains(waited_by)
+    found = []
+    for workqueue in sorted(left):
+        if not any(workqueue in component for component in found):
+            component = led_to(workqueue, waits_for) & led_to(workqueue, waited_by)
+            if component:
+                found.append(component)
+    return found
+
+
+def arcs_on_circles(declared, assignment):
+    """The places of the arcs of each component, in the order in which they are printed."""
+    found = components(declared, assignment)
+    component_of = {workqueue: number for number, component in enumerate(found) for workqueue in component}
+    arcs = [[] for _ in found]
+    for place, (item, target) in enumerate(declared.flushes):
+        number = component_of.get(assignment.workqueue_of[item])
+        if number is not None and number == component_of.get(assignment.workqueue_of[target]):
+            arcs[number].append(place)
+    return arcs
+
+
+def circles_text(declared, arcs):
+    """The lines that are printed, of the places of the arcs of each component."""
+    if not arcs:
+        return [b"safe"]
+    lines = [b"components %d" % len(arcs)]
+    for places in arcs:
+        lines.append(b"component %d" % len(places))
+        lines += [b"arc %s %s" % declared.flushes[place] for place in places]
+    return lines
+
+
+def read_texts(declaration_text, assignment_text):
+    """The declaration, and the assignment or None where no text of one is given. Raises Refused."""
+    declared = declaration.read_declaration(declaration_text)
+    if assignment_text is None:
+        return declared, None
+    return declared, certificate.read_assignment(assignment_text, declared)
+
+
+def answer(declaration_text, assignment_text=None):
+    """The bytes of the answer, and the exit status (Faults and exit statuses)."""
+    try:
+        declared, assignment = read_texts(declaration_text, assignment_text)
+    except Refused as refused:
+        return refused.answer()
+    arcs = arcs_on_circles(declared, assignment or own_workqueues(declared))
+    lines = circles_text(declared, arcs)
+    return b"".join(line + b"\n" for line in lines), 0 if lines == [b"safe"] else 1
+
+
+def main(arguments):
+    """The exit status."""
+    if len(arguments) not in (2, 3) or arguments[0] != "circles":
+        print("usage: circles.py circles DECL [ASSIGN]", file=sys.stderr)
+        return 2
+    return answer_texts(answer, arguments[1:], (declaration.TEXT_LIMIT, certificate.TEXT_LIMIT))
+
+
+if __name__ == "__main__":
+    sys.exit(main(sys.argv[1:]))
