@@ -34,16 +34,12 @@ fn gather<N: Naming>(
     Ok((seats, tally))
 }
 
-/// Closes a runtime with all seats but one, which must be refused, and then with all. Nothing where that isn't so.
-fn close_twice<N: Naming>(
-    runtime: WqRuntime<N, Global>,
-    mut seats: Vec<Seat<N, Global>>,
+/// Closes a runtime that was refused for the seat that was kept back, with that seat too.
+fn close_again<N: Naming>(
+    refused: CloseRefused<N, Global>,
+    kept: Option<Seat<N, Global>>,
     out: &mut String,
 ) -> Result<Option<Closed<N, Global>>, AllocError> {
-    let kept = seats.pop();
-    let Err(refused) = runtime.close(seats) else {
-        return Ok(None);
-    };
     let CloseRefused {
         runtime,
         mut seats,
@@ -56,9 +52,19 @@ fn close_twice<N: Naming>(
     if let Some(seat) = kept {
         seats.push(seat)?;
     }
+    Ok(runtime.close(seats).ok())
+}
+
+/// Closes a runtime with all seats but one, which must be refused, and then with all. Nothing where that isn't so.
+fn close_twice<N: Naming>(
+    runtime: WqRuntime<N, Global>,
+    mut seats: Vec<Seat<N, Global>>,
+    out: &mut String,
+) -> Result<Option<Closed<N, Global>>, AllocError> {
+    let kept = seats.pop();
     match runtime.close(seats) {
-        Ok(closed) => Ok(Some(closed)),
-        Err(_) => Ok(None),
+        Ok(_) => Ok(None),
+        Err(refused) => close_again(refused, kept, out),
     }
 }
 

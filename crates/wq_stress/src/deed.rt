@@ -78,12 +78,9 @@ pub(crate) fn read_entry(
     word: &[u8],
     mut words: Words<'_>,
 ) -> Option<Entry> {
-    let Some(second) = words.next() else {
-        return entry_alone(word);
-    };
-    if words.next().is_some() {
-        return None;
+    match (words.next(), words.next()) {
+        (None, _) => entry_alone(word),
+        (Some(what), None) => deed_of(table, word, what.bytes()).map(Entry::Deed),
+        (Some(_), Some(_)) => None,
     }
-    let deed = deed_of(table, word, second.bytes())?;
-    Some(Entry::Deed(deed))
 }

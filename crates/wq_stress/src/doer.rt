@@ -149,12 +149,12 @@ fn do_in_caller<N: Naming, A: Allocator, R: Wait>(
     runtime: &WqRuntime<N, A>,
     seat: &mut Seat<N, A>,
 ) -> Result<bool, CallError> {
-    let _answer = match deed {
-        Deed::Flush(item) => runtime.flush_work(rt, seat, item)?,
-        Deed::Queue(item) => queue(rt, runtime, seat, item)?,
-        Deed::Cancel(item) => runtime.cancel_work(rt, seat, item)?,
-        Deed::CancelSync(item) => runtime.cancel_work_sync(rt, seat, item)?,
-        Deed::GiveUp(_) => true,
+    let answer = match deed {
+        Deed::Flush(item) => runtime.flush_work(rt, seat, item),
+        Deed::Queue(item) => queue(rt, runtime, seat, item),
+        Deed::Cancel(item) => runtime.cancel_work(rt, seat, item),
+        Deed::CancelSync(item) => runtime.cancel_work_sync(rt, seat, item),
+        Deed::GiveUp(_) => Ok(true),
         Deed::Meet => return Ok(flags.meet(number)),
         Deed::Linger => return Ok(flags.linger()),
         Deed::Destroy => {
@@ -163,7 +163,7 @@ fn do_in_caller<N: Naming, A: Allocator, R: Wait>(
             return Ok(flags.has_lingered());
         }
     };
-    Ok(true)
+    answer.and(Ok(true))
 }
 
 impl Caller for Doer<'_> {

@@ -112,6 +112,20 @@ fn put_count(
     writeln!(out, " {} {answer} {count}", kind_word(kind))
 }
 
+/// All that was counted of an item, kind by kind.
+fn put_made_of(
+    out: &mut String,
+    table: &ItemTable<'_, Global>,
+    counts: &Counts<Global>,
+    item: ItemId,
+) -> Result<(), AllocError> {
+    for kind in Kind::ALL {
+        put_count(out, table, item, kind, "yes", counts.made(item, kind, true))?;
+        put_count(out, table, item, kind, "no", counts.made(item, kind, false))?;
+    }
+    Ok(())
+}
+
 /// All that was counted, item by item.
 fn put_made(
     out: &mut String,
@@ -119,11 +133,7 @@ fn put_made(
     counts: &Counts<Global>,
 ) -> Result<(), AllocError> {
     for i in 0..table.len() {
-        let item = ItemId::new(i);
-        for kind in Kind::ALL {
-            put_count(out, table, item, kind, "yes", counts.made(item, kind, true))?;
-            put_count(out, table, item, kind, "no", counts.made(item, kind, false))?;
-        }
+        put_made_of(out, table, counts, ItemId::new(i))?;
     }
     writeln!(out, "total {}", counts.total())
 }
