@@ -130,15 +130,15 @@ fn put_counts<N: Naming>(
 fn judge<N: Naming>(
     alloc: Global,
     closed: &Closed<N, Global>,
-    mut core: Core<Global>,
+    core: &mut Core<Global>,
     items: u16,
     tally: &Tally,
     out: &mut String,
 ) -> Result<u8, AllocError>
-    requires { core.state ≡ empty_state core.wiring }
+    requires { core.old.state ≡ empty_state core.old.wiring }
 {
     let is_idle = closed.book.is_idle();
-    let is_legal = is_legal(alloc, &mut core, closed.book.packed())?;
+    let is_legal = is_legal(alloc, core, closed.book.packed())?;
     let are_answers = are_the_answers(items, &closed.counts, tally);
     writeln!(out, "agree {}", closed.agree)?;
     writeln!(out, "idle {is_idle}")?;
@@ -147,31 +147,79 @@ fn judge<N: Naming>(
     Ok(u8::from(!(closed.agree && is_idle && is_legal && are_answers)))
 }
 
+/// Prints what holds of a runtime that is closed, with its counts if these are wanted. Gives the status.
+fn put_judged<N: Naming>(
+    alloc: Global,
+    closed: &Closed<N, Global>,
+    core: &mut Core<Global>,
+    items: u16,
+    tally: &Tally,
+    with_counts: bool,
+    out: &mut String,
+) -> Result<u8, AllocError>
+    requires { core.old.state ≡ empty_state core.old.wiring }
+{
+    let status = judge(alloc, closed, core, items, tally, out)?;
+    if with_counts {
+        put_counts(out, items, closed, tally)?;
+    }
+    Ok(status)
+}
+
+/// What no thread may have been answered, if one was.
+fn forbidden_answer(tally: &Tally) -> Option<&'static str> {
+    if tally.refusals.not_asked != 0 {
+        Some("65")
+    } else if tally.is_broken {
+        Some("lane")
+    } else {
+        None
+    }
+}
+
+/// Closes a runtime with these seats, and prints what holds of it. Gives the status.
+fn close_and_judge<N: Naming>(
+    alloc: Global,
+    runtime: WqRuntime<N, Global>,
+    seats: Vec<Seat<N, Global>>,
+    core: &mut Core<Global>,
+    items: u16,
+    tally: &Tally,
+    with_counts: bool,
+    out: &mut String,
+) -> Result<u8, AllocError>
+    requires { core.old.state ≡ empty_state core.old.wiring }
+{
+    match close_twice(runtime, seats, out)? {
+        Some(closed) => put_judged(alloc, &closed, core, items, tally, with_counts, out),
+        None => fault(out, "close"),
+    }
+}
+
 /// Closes a runtime that no thread uses any more, and prints what holds of it. Gives the status.
 pub(crate) fn conclude<N: Naming>(
     alloc: Global,
     runtime: WqRuntime<N, Global>,
     workers: Vec<Worker<N>>,
-    core: Core<Global>,
+    core: &mut Core<Global>,
     table: &ItemTable<'_, Global>,
     with_counts: bool,
     out: &mut String,
 ) -> Result<u8, AllocError>
-    requires { core.state ≡ empty_state core.wiring }
+    requires { core.old.state ≡ empty_state core.old.wiring }
 {
     let (seats, tally) = gather(alloc, workers)?;
-    if tally.refusals.not_asked != 0 {
-        return fault(out, "65");
+    match forbidden_answer(&tally) {
+        Some(what) => fault(out, what),
+        None => close_and_judge(
+            alloc,
+            runtime,
+            seats,
+            core,
+            table.len(),
+            &tally,
+            with_counts,
+            out,
+        ),
     }
-    if tally.is_broken {
-        return fault(out, "lane");
-    }
-    let Some(closed) = close_twice(runtime, seats, out)? else {
-        return fault(out, "close");
-    };
-    let status = judge(alloc, &closed, core, table.len(), &tally, out)?;
-    if with_counts {
-        put_counts(out, table.len(), &closed, &tally)?;
-    }
-    Ok(status)
 }

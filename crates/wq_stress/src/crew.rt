@@ -102,14 +102,12 @@ fn make_doers<'a>(
     Ok(doers)
 }
 
-/// Prints what all threads left, and closes the runtime. Gives the status.
-fn put_ran<N: Naming>(
+/// Prints what all threads left.
+fn put_left<N: Naming>(
     out: &mut String,
-    table: &ItemTable<'_, Global>,
-    runtime: WqRuntime<N, Global>,
-    ran: Ran<N, Global, Doer<'_>, Doer<'_>>,
-) -> Result<u8, AllocError> {
-    put_served(out, &ran)?;
+    ran: &Ran<N, Global, Doer<'_>, Doer<'_>>,
+) -> Result<(), AllocError> {
+    put_served(out, ran)?;
     for body in ran.bodies.as_slice() {
         writeln!(out, "body code {} seen {}", body.code, body.has_seen)?;
     }
@@ -117,6 +115,17 @@ fn put_ran<N: Naming>(
     for caller in ran.callers.as_slice() {
         writeln!(out, "caller seen {}", caller.has_seen)?;
     }
+    Ok(())
+}
+
+/// Prints what all threads left, and closes the runtime. Gives the status.
+fn put_ran<N: Naming>(
+    out: &mut String,
+    table: &ItemTable<'_, Global>,
+    runtime: WqRuntime<N, Global>,
+    ran: Ran<N, Global, Doer<'_>, Doer<'_>>,
+) -> Result<u8, AllocError> {
+    put_left(out, &ran)?;
     close(out, table, runtime, ran.seats)
 }
 

@@ -71,10 +71,7 @@ pub(crate) fn close<N: Naming>(
     seats: Vec<Seat<N, Global>>,
 ) -> Result<u8, AllocError> {
     match runtime.close(seats) {
-        Ok(closed) => {
-            put_closed(out, table, &closed)?;
-            Ok(0)
-        }
+        Ok(closed) => put_closed(out, table, &closed).and(Ok(0)),
         Err(_) => fault(out, "close"),
     }
 }

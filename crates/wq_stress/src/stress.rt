@@ -155,12 +155,12 @@ fn stress_runtime<N: Naming + Send + Sync, R: Threads + Wait + Sync>(
     rt: &R,
     alloc: Global,
     runtime: WqRuntime<N, Global>,
-    core: Core<Global>,
+    core: &mut Core<Global>,
     table: &ItemTable<'_, Global>,
     load: Load,
     out: &mut String,
 ) -> Result<u8, AllocError>
-    requires { core.state ≡ empty_state core.wiring }
+    requires { core.old.state ≡ empty_state core.old.wiring }
 {
     let lanes = runtime.lanes(rt);
     let count = u32::from(lanes) + CALLERS + 1;
@@ -214,9 +214,9 @@ pub(crate) fn stress<N: Naming + Send + Sync, R: Threads + Wait + Sync>(
     requires of_wiring { N.wiring ≡ wiring (declaration_of table.now groups.now) assignment.now }
     requires of_rows { N.rows ≡ rows }
 {
-    let core = Core::new(alloc, table, groups, assignment)?;
+    let mut core = Core::new(alloc, table, groups, assignment)?;
     match make::<N>(alloc, blank, table, groups, assignment, rows, out)? {
-        Some(runtime) => stress_runtime(rt, alloc, runtime, core, table, load, out),
+        Some(runtime) => stress_runtime(rt, alloc, runtime, &mut core, table, load, out),
         None => Ok(2),
     }
 }
