@@ -1,9 +1,9 @@
 #!/usr/bin/env bash
-# Runs every command of docs/GUIDE.md and of the pages in examples/, and compares what it shows with what stands below it
-# on the page; looks for each excerpt of code on the page in crates/wq_guide; compares the files that docs/GUIDE.md shows
-# with those in examples/rdisk; and gives the `grep` lines of docs/GUIDE.md each name that the page says they find. Run it
-# once the gate or `rt run` has built the program and the guide's program, crates/wq_guide. The arguments, if there are
-# any, name others in their place.
+# Runs every command in the fenced blocks of README.md, of docs/GUIDE.md and of the pages in examples/, and compares what it
+# shows with what stands below it on the page; looks for each excerpt of code on the page in crates/wq_guide; compares the
+# files that docs/GUIDE.md shows with those in examples/rdisk; and gives the `grep` lines of docs/GUIDE.md each name that
+# the page says they find. Run it once the gate or `rt run` has built the program and the guide's program, crates/wq_guide.
+# The arguments, if there are any, name others in their place.
 #
 # A fenced block of a page is one of these:
 # - a file: its first line is a comment that holds its name alone, as `# NAME` or `/* NAME */`. It is written as it stands.
@@ -14,7 +14,8 @@
 # - an excerpt: the word behind the backticks is `rust` or `antt`. Its lines stand in a file of crates/wq_guide, in src/ or
 #   proofs/, one below the other and just so;
 # - something to read, which is skipped: the word behind the backticks is `c` or `text`.
-# A page is played in a folder of its own, from top to bottom. Those in examples/ find the files of examples/ there.
+# A page is played in a folder of its own, from top to bottom. Those in examples/ find the files of examples/ there, and README.md
+# finds the folder.
 set -u
 program=$(realpath -m -- "${1:-$(dirname "$0")/../crates/wqplan/out/wqplan}")
 driver=$(realpath -m -- "${2:-$(dirname "$0")/../crates/wq_guide/out/wq_guide}")
@@ -125,6 +126,8 @@ pages() {
         mkdir -p -- "$work/$page"
         if [ "${page%/*}" = examples ]; then
             cp -- "$root"/examples/*.wq "$root"/examples/*.assign "$work/$page"
+        elif [ "$page" = README.md ]; then
+            cp -R -- "$root/examples" "$work/$page"
         fi
         cd -- "$work/$page" || exit 1
         status=0 number=0 inside=no before=$((passed + failed))
@@ -190,7 +193,7 @@ names() {
         grep -oE '`[A-Za-z]+_[A-Za-z_]*' | tr -d '`'
 }
 
-pages docs/GUIDE.md examples/*.md
+pages README.md docs/GUIDE.md examples/*.md
 others
 page=docs/GUIDE.md
 finds 1 $(names 'The line also finds' 1) $(names '| File | Lines' 4)

@@ -15,8 +15,8 @@ PAGES += [f"docs/{name}.md" for name in ("ARCHITECTURE", "DECISIONS", "DEFINITIO
 # Where the names of the code are found, and names of Linux and of the toolchain's library.
 FOLDERS = ["crates", "tests", "bench", "man"]
 OF_OTHERS = """
-    check_flush_dependency destroy_workqueue disable_work drain_workqueue enable_work flush_workqueue max_active
-    start_flush_work work_busy FitsInMemory SmallVec
+    check_flush_dependency connect_work create_workqueue destroy_workqueue disable_work drain_workqueue enable_work
+    flush_workqueue max_active start_flush_work work_busy CONFIG_PROVE_LOCKING FitsInMemory SmallVec
 """.split()
 # What stands for any name.
 ANY = re.compile(r"NAME|MISTAKE|SUBJECT|FUNCTION|METHOD|FILE")
