@@ -11,6 +11,7 @@ rt ci
 bash tests/definitions.sh
 bash tests/pages.sh
 bash tests/manual.sh
+bash tests/completion.sh
 bash tests/dot.sh
 bash tests/outlives.sh
 bash tests/program.sh
