@@ -1,10 +1,27 @@
 #!/usr/bin/env bash
-# Proves and builds wqplan, and installs it with its manual page and its completion for bash.
+# Proves and builds wqplan, and installs it with its manual pages and its
+# completion for bash.
 #
 #     bash install.sh [PREFIX]
+#     bash install.sh --uninstall [PREFIX]
 #
-# PREFIX is ~/.local where none is named. Installed are PREFIX/bin/wqplan, PREFIX/share/man/man1/wqplan.1 and
-# PREFIX/share/bash-completion/completions/wqplan. Nothing is installed unless all that is built was proved.
+# PREFIX is ~/.local where none is named. Installed are
+#
+#     PREFIX/bin/wqplan
+#     PREFIX/share/man/man1/wqplan.1
+#     PREFIX/share/man/man5/wqplan.5
+#     PREFIX/share/bash-completion/completions/wqplan
+#     PREFIX/share/wqplan/installed
+#
+# The last one is a list of the other files and of the folders that were made.
+# Nothing is installed unless all that is built was proved. From a fresh clone
+# that takes some twenty to forty minutes, by the number of processors; a minute
+# or two where nothing has changed.
+#
+# --uninstall removes the files on the list, the list, and those folders on it
+# that are empty then. Where there is no list, nothing is removed, and the exit
+# status is 1: nothing is installed, or an install.sh of version 0.1.0 did it,
+# which kept no list.
 set -euo pipefail
 
 fail() {
@@ -12,34 +29,87 @@ fail() {
     exit 1
 }
 
+usage='bash install.sh [--uninstall] [PREFIX]'
+uninstall=
 case ${1-} in
     -h | --help)
         sed -n '2,/^set/{/^set/d;s/^# \{0,1\}//;p}' "$0"
         exit 0
         ;;
-    -*) fail "there is no option $1 (bash install.sh [PREFIX])" ;;
+    --uninstall)
+        uninstall=1
+        shift
+        ;;
 esac
-[ $# -le 1 ] || fail 'one PREFIX at most (bash install.sh [PREFIX])'
+case ${1-} in
+    -*) fail "there is no option $1 here ($usage)" ;;
+esac
+[ $# -le 1 ] || fail "one PREFIX at most ($usage)"
 [ -n "${1-}${HOME-}" ] || fail 'name a PREFIX: there is no home folder'
 prefix=$(realpath -m -- "${1:-${HOME-}/.local}")
+
+# What was installed: lines `file NAME` and `folder NAME`, each name as seen from PREFIX.
+list=$prefix/share/wqplan/installed
+
+if [ -n "$uninstall" ]; then
+    [ -f "$list" ] || fail "nothing is installed to $prefix: there is no list $list"
+    mapfile -t lines <"$list"
+    files=()
+    folders=()
+    for line in "${lines[@]}"; do
+        path=$(realpath -ms -- "$prefix/${line#* }")
+        case $line in
+            'file '*) files+=("$path") ;;
+            'folder '*) folders+=("$path") ;;
+        esac
+    done
+    # The list goes last: where a file can't be removed, --uninstall can be called again.
+    for path in "${files[@]}" "$list"; do
+        if [ -e "$path" ] || [ -L "$path" ]; then
+            rm -f -- "$path" 2>/dev/null || fail "can't remove $path"
+            echo "removed $path"
+        fi
+    done
+    # In this order a folder comes before the one that it is in.
+    mapfile -d '' -t folders < <(printf '%s\0' "${folders[@]}" | LC_ALL=C sort -rz)
+    for path in "${folders[@]}"; do
+        rmdir -- "$path" 2>/dev/null || continue
+        echo "removed $path"
+    done
+    exit 0
+fi
 cd -- "$(dirname -- "$0")"
 
-# What is installed: the file in this repository, the folder it goes to, its name there and its mode.
-sources=(crates/wqplan/out/wqplan man/wqplan.1 man/wqplan.bash)
-folders=("$prefix/bin" "$prefix/share/man/man1" "$prefix/share/bash-completion/completions")
-names=(wqplan wqplan.1 wqplan)
-modes=(755 644 644)
+newlist=$(mktemp)
+log=$(mktemp)
+staged=()
+made=()
+cleanup() {
+    rm -f -- "$newlist" "$log" "${staged[@]}"
+    for ((i = ${#made[@]} - 1; i >= 0; i--)); do
+        rmdir -- "${made[i]}" 2>/dev/null || true
+    done
+}
+trap cleanup EXIT
+trap 'exit 1' INT TERM
+
+# What is installed: the file, its place as seen from PREFIX, and its mode. The list comes first, so that --uninstall finds what
+# there is however this ends.
+sources=("$newlist" crates/wqplan/out/wqplan man/wqplan.1 man/wqplan.5 man/wqplan.bash)
+places=(share/wqplan/installed bin/wqplan share/man/man1/wqplan.1 share/man/man5/wqplan.5 share/bash-completion/completions/wqplan)
+modes=(644 755 644 644 644)
 
 # Before anything is built: can a file be made in each folder, or in the nearest one above it that is there?
-for i in "${!folders[@]}"; do
-    nearest=${folders[i]}
+for place in "${places[@]}"; do
+    folder=$(dirname -- "$prefix/$place")
+    nearest=$folder
     while [ ! -e "$nearest" ] && [ ! -L "$nearest" ]; do
         nearest=$(dirname -- "$nearest")
     done
-    [ -d "$nearest" ] || fail "can't install to ${folders[i]}: $nearest is no folder"
-    trial=$(mktemp -d "$nearest/.wqplan.XXXXXX" 2>/dev/null) || fail "can't install to ${folders[i]}: $nearest can't be written"
+    [ -d "$nearest" ] || fail "can't install to $folder: $nearest is no folder"
+    trial=$(mktemp -d "$nearest/.wqplan.XXXXXX" 2>/dev/null) || fail "can't install to $folder: $nearest can't be written"
     rmdir -- "$trial"
-    [ ! -d "${folders[i]}/${names[i]}" ] || fail "can't install: ${folders[i]}/${names[i]} is a folder"
+    [ ! -d "$prefix/$place" ] || fail "can't install: $prefix/$place is a folder"
 done
 command -v rt >/dev/null || fail 'rt, the toolchain of Rattle, is not on the PATH'
 
@@ -56,18 +126,6 @@ done < <(tac crates.txt)
 
 echo "install: wqplan goes to $prefix. Its ${#crates[@]} crates are proved first: from a fresh clone that takes"
 echo "install: some twenty to forty minutes, by the number of processors; a minute or two where nothing has changed."
-
-log=$(mktemp)
-staged=()
-made=()
-cleanup() {
-    rm -f -- "$log" "${staged[@]}"
-    for ((i = ${#made[@]} - 1; i >= 0; i--)); do
-        rmdir -- "${made[i]}" 2>/dev/null || true
-    done
-}
-trap cleanup EXIT
-trap 'exit 1' INT TERM
 
 began=$SECONDS
 for i in "${!crates[@]}"; do
@@ -94,17 +152,31 @@ make() {
     make "$(dirname -- "$1")" && mkdir -- "$1" 2>/dev/null && made+=("$1")
 }
 
-# All three stand beside their places before the first one is renamed.
-for i in "${!folders[@]}"; do
-    make "${folders[i]}" || fail "can't make ${folders[i]}; nothing is installed"
-    new=$(mktemp "${folders[i]}/.wqplan.XXXXXX" 2>/dev/null) || fail "can't write to ${folders[i]}; nothing is installed"
+for place in "${places[@]}"; do
+    folder=$(dirname -- "$prefix/$place")
+    make "$folder" || fail "can't make $folder; nothing is installed"
+done
+
+# What an earlier installation has on its list stays on it.
+{
+    [ ! -f "$list" ] || cat -- "$list"
+    printf 'file %s\n' "${places[@]:1}"
+    for folder in "${made[@]}"; do
+        printf 'folder %s\n' "$(realpath -ms --relative-to="$prefix" -- "$folder")"
+    done
+} | LC_ALL=C sort -u >"$newlist" || fail "can't make the list $list; nothing is installed"
+
+# All of them stand beside their places before the first one is renamed.
+for i in "${!places[@]}"; do
+    place=$prefix/${places[i]}
+    new=$(mktemp "$(dirname -- "$place")/.wqplan.XXXXXX" 2>/dev/null) || fail "can't write $place; nothing is installed"
     staged+=("$new")
-    { cp -- "${sources[i]}" "$new" && chmod "${modes[i]}" "$new"; } 2>/dev/null || fail "can't write to ${folders[i]}; nothing is installed"
+    { cp -- "${sources[i]}" "$new" && chmod "${modes[i]}" "$new"; } 2>/dev/null || fail "can't write $place; nothing is installed"
 done
 made=()
-for i in "${!folders[@]}"; do
-    mv -fT -- "${staged[i]}" "${folders[i]}/${names[i]}"
-    echo "installed ${folders[i]}/${names[i]}"
+for i in "${!places[@]}"; do
+    mv -fT -- "${staged[i]}" "$prefix/${places[i]}"
+    echo "installed $prefix/${places[i]}"
 done
 case :$PATH: in
     *":$prefix/bin:"*) ;;

@@ -1,16 +1,61 @@
-# Completion of wqplan for bash: the commands, the numbers that `explain` knows, and files.
+# Completion of wqplan for bash: the commands, the numbers that `explain` knows, and files. What stands behind a `<` or a `>`
+# is a file of the shell's, and no argument of wqplan; what stands in `<(..)` is another command.
 _wqplan() {
-    local word=${COMP_WORDS[COMP_CWORD]} index command='' words=0
+    local word=${COMP_WORDS[COMP_CWORD]} command='' words=0 redirected='' inside=0 index at next
+    # What stands behind the last word that was looked at.
+    local rest=${COMP_LINE#*"$1"}
     for ((index = 1; index < COMP_CWORD; index++)); do
-        case ${COMP_WORDS[index]} in
+        at=${COMP_WORDS[index]}
+        rest=${rest#*"$at"}
+        if [ "$inside" -gt 0 ]; then
+            case $at in
+                [\<\>]'(') inside=$((inside + 1)) ;;
+                *')')
+                    at=${at//[!)]/}
+                    inside=$((inside - ${#at}))
+                    ;;
+            esac
+            continue
+        fi
+        case $at in
+            [\<\>]'(') inside=1 ;;
+            [\<\>]*)
+                redirected=1
+                continue
+                ;;
+        esac
+        if [ -n "$redirected" ]; then
+            redirected=''
+            continue
+        fi
+        # The number of a file descriptor, as in `2>`.
+        next=${COMP_WORDS[index + 1]}
+        [[ $at != *[!0-9]* && $next == [\<\>]* && $next != *'(' && $rest != [[:space:]]* ]] && continue
+        case $at in
             -*) ;;
             *)
                 [ -n "$command" ] && words=$((words + 1))
-                [ -n "$command" ] || command=${COMP_WORDS[index]}
+                [ -n "$command" ] || command=$at
                 ;;
         esac
     done
     COMPREPLY=()
+    case $word in
+        # A command comes next.
+        [\<\>]'(') return ;;
+        [\<\>]*)
+            redirected=1
+            word=''
+            ;;
+    esac
+    if [ "$inside" -gt 0 ]; then
+        compopt -o bashdefault -o default 2>/dev/null
+        return
+    fi
+    if [ -n "$redirected" ]; then
+        _wqplan_files "$word"
+        return
+    fi
     if [ "${word#-}" != "$word" ]; then
         local options='--help'
         [ -n "$command" ] || options='--help --version'
@@ -38,9 +83,12 @@ _wqplan() {
         replay) files=3 ;;
         *) return ;;
     esac
-    if [ "$words" -lt "$files" ]; then
-        mapfile -t COMPREPLY < <(compgen -f -- "$word")
-        compopt -o filenames 2>/dev/null
-    fi
+    [ "$words" -ge "$files" ] || _wqplan_files "$word"
+}
+
+# _wqplan_files WORD: files whose names begin so.
+_wqplan_files() {
+    mapfile -t COMPREPLY < <(compgen -f -- "$1")
+    compopt -o filenames 2>/dev/null
 }
 complete -F _wqplan wqplan

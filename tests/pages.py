@@ -24,7 +24,7 @@ ANY = re.compile(r"NAME|MISTAKE|SUBJECT|FUNCTION|METHOD|FILE")
 WORD = re.compile(r"[A-Za-z_]\w*")
 NAME = re.compile(r"(?:\w+::)*[A-Za-z_]\w*_\w+|(?:\w+::)*(?:[A-Z]+[a-z]+)+|\w+(?:::\w+)+")
 FIELD = re.compile(r"(\w+)\.(\w+)")
-FILE = re.compile(r"[\w./-]*\w\.(?:antt|rt|py|sh|edit|md|bash|1)")
+FILE = re.compile(r"[\w./-]*\w\.(?:antt|rt|py|sh|edit|md|bash|[15])")
 FOLDER = re.compile(r"(?:crates|tests|docs|bench|man|examples)/[\w./-]*\w")
 
 RECORD = re.compile(r"(?:pub )?record (\w+)")

@@ -10,6 +10,9 @@ export RT_JOBS="${RT_JOBS:-$(nproc)}"
 rt ci
 bash tests/definitions.sh
 bash tests/pages.sh
+bash tests/manual.sh
+bash tests/completion.sh
+bash tests/install.sh
 bash tests/dot.sh
 bash tests/outlives.sh
 bash tests/program.sh

@@ -1,0 +1,265 @@
+#!/usr/bin/env bash
+# Runs install.sh in a copy of what it reads, with a toolchain that proves and builds nothing: an `rt` of this script, which notes
+# its calls. So what is tested is the script alone: what it installs where, what a refusal leaves, what --uninstall removes.
+# It needs no program, and takes seconds.
+set -u
+repository=$(realpath -- "$(dirname "$0")/..")
+work=$(mktemp -d)
+trap 'rm -rf -- "$work"' EXIT
+passed=0
+failed=0
+status=0
+
+# A clone: install.sh, crates.txt, the pages, and a folder for each crate.
+clone="$work/the clone"
+mkdir -p -- "$clone/crates" "$work/toolchain" "$work/home" "$work/tmp"
+cp -r -- "$repository/install.sh" "$repository/crates.txt" "$repository/man" "$clone"
+while IFS=: read -r crate _; do
+    mkdir -- "$clone/crates/$crate"
+done <"$clone/crates.txt"
+
+# `rt check` proves all crates but $UNPROVED. `rt run` makes a program that prints $BUILT, unless that is empty, and then does
+# what $AFTER says.
+cat >"$work/toolchain/rt" <<'END'
+#!/usr/bin/env bash
+echo "${PWD##*/} $*" >>"$CALLS"
+case $1 in
+    check) [ "${PWD##*/}" != "${UNPROVED-}" ] || { echo "not proved: $UNPROVED"; exit 1; } ;;
+    run)
+        [ -n "${BUILT-}" ] || exit 1
+        mkdir -p out
+        printf '#!/bin/sh\necho %s\n' "$BUILT" >out/wqplan
+        chmod 755 out/wqplan
+        eval "${AFTER-}"
+        ;;
+    *) exit 1 ;;
+esac
+END
+chmod 755 "$work/toolchain/rt"
+
+# run ARGS..: runs install.sh, from a folder elsewhere, and keeps what it writes, its status and the calls of `rt`.
+run() {
+    rm -f -- "$work/calls"
+    touch "$work/calls"
+    (cd -- "$work" && umask 077 && CALLS=$work/calls HOME=${HOUSE-$work/home} TMPDIR=$work/tmp BUILT=${BUILT-one} \
+        PATH=${TOOLS-$work/toolchain:$PATH} bash "$clone/install.sh" "$@") >"$work/out" 2>"$work/err" </dev/null
+    status=$?
+}
+
+# is NAME WANTED FOUND: counts whether the two are the same.
+is() {
+    if [ "$2" = "$3" ]; then
+        passed=$((passed + 1))
+        echo "ok      $1"
+    else
+        failed=$((failed + 1))
+        echo "FAILED  $1: wanted '$2', found '$3'"
+    fi
+}
+
+# ends NAME STATUS ERROR: counts whether the last run ended so, with this on standard error, and left nothing in TMPDIR.
+ends() {
+    is "$1" "$2: $3" "$status: $(cat "$work/err")"
+    is "$1: no file is left in TMPDIR" '' "$(ls -A -- "$work/tmp")"
+}
+
+# tree FOLDER: all that is in it, with modes of files; nothing where it isn't there.
+tree() {
+    [ ! -e "$1" ] || find "$1" -mindepth 1 \( -type d -printf '%P/\n' -o -printf '%P %m\n' \) | LC_ALL=C sort
+}
+
+# untouched NAME WANTED FOLDER: counts whether this is still all that is in the folder, and `rt` wasn't called.
+untouched() {
+    is "$1: nothing is installed" "$2" "$(tree "$3")"
+    is "$1: nothing is built" '' "$(cat "$work/calls")"
+}
+
+wanted='bin/
+bin/wqplan 755
+share/
+share/bash-completion/
+share/bash-completion/completions/
+share/bash-completion/completions/wqplan 644
+share/man/
+share/man/man1/
+share/man/man1/wqplan.1 644
+share/man/man5/
+share/man/man5/wqplan.5 644
+share/wqplan/
+share/wqplan/installed 644'
+files='bin/wqplan
+share/bash-completion/completions/wqplan
+share/man/man1/wqplan.1
+share/man/man5/wqplan.5
+share/wqplan/installed'
+folders='bin
+share
+share/bash-completion
+share/bash-completion/completions
+share/man
+share/man/man1
+share/man/man5
+share/wqplan'
+
+# said VERB PREFIX: the names as seen from PREFIX behind this verb, in what the last run said, in order.
+said() {
+    sed -n "s|^$1 $2/||p" "$work/out" | LC_ALL=C sort
+}
+
+# installed NAME PREFIX PROGRAM: counts whether the last run installed the program that prints this, and the pages, and said so.
+installed() {
+    ends "$1" 0 ''
+    is "$1: what is there" "$wanted" "$(tree "$2")"
+    is "$1: what it said" "$files" "$(said installed "$2")"
+    is "$1: the program" "$3" "$("$2/bin/wqplan")"
+    is "$1: wqplan(1)" '' "$(cmp -- "$repository/man/wqplan.1" "$2/share/man/man1/wqplan.1" 2>&1)"
+    is "$1: wqplan(5)" '' "$(cmp -- "$repository/man/wqplan.5" "$2/share/man/man5/wqplan.5" 2>&1)"
+    is "$1: the completion" '' "$(cmp -- "$repository/man/wqplan.bash" "$2/share/bash-completion/completions/wqplan" 2>&1)"
+}
+
+# Into a PREFIX that isn't there, nor the folder above it, with a space in the name and in the clone's.
+prefix="$work/a place/of its own"
+run "$prefix"
+installed 'an installation' "$prefix" one
+is 'the PATH is named' "install: $prefix/bin isn't on the PATH" "$(grep PATH "$work/out")"
+is 'it says how long it takes' 1 "$(grep -c 'forty minutes' "$work/out")"
+
+# Each crate was checked before those that stand on it, the program's last, and then the program was built; no crate of the tests.
+checked=$(sed -n '$!s/ check$//p' "$work/calls")
+is 'the last call builds the program' 'wqplan run -- --version' "$(tail -n 1 "$work/calls")"
+is 'all calls before check a crate' "$(($(wc -l <"$work/calls") - 1))" "$(wc -w <<<"$checked")"
+is 'the program is checked last' wqplan "$(tail -n 1 <<<"$checked")"
+is 'no crate is checked twice' '' "$(sort <<<"$checked" | uniq -d)"
+is 'no crate of the tests or of an example is checked' '' "$(grep -xE 'wq_(book|stress|guide|bench|tests)' <<<"$checked")"
+early=''
+for crate in $checked; do
+    for use in $(sed -n "s/^$crate://p" "$repository/crates.txt"); do
+        [ ! -d "$repository/crates/$use" ] ||
+            sed "/^$crate\$/q" <<<"$checked" | grep -qx -- "$use" || early="$early $crate:$use"
+    done
+done
+is 'each crate is checked behind those that it stands on' '' "$early"
+
+# Again, over the first one; then what was installed is removed, with the folders.
+BUILT=two run "$prefix"
+installed 'a second installation' "$prefix" two
+run --uninstall "$prefix"
+ends 'uninstall' 0 ''
+is 'uninstall: what it said of files and folders' "$(LC_ALL=C sort <<<"$files
+$folders")" "$(said removed "$prefix")"
+is 'uninstall: the folders above PREFIX that were made' '' "$(tree "$work/a place")$(ls -d -- "$work/a place" 2>/dev/null)"
+is 'uninstall: nothing is built' '' "$(cat "$work/calls")"
+run --uninstall "$prefix"
+ends 'uninstall where nothing is' 1 "install: nothing is installed to $prefix: there is no list $prefix/share/wqplan/installed"
+
+# What isn't of the script stays: files of others, and folders that were there, empty ones too.
+prefix=$work/shared
+mkdir -p -- "$prefix/bin" "$prefix/share/man/man1"
+touch "$prefix/share/other"
+before=$(tree "$prefix")
+run "$prefix"
+ends 'into folders that are there' 0 ''
+run --uninstall "$prefix"
+ends 'uninstall from them' 0 ''
+is 'uninstall: all is as before' "$before" "$(tree "$prefix")"
+is 'uninstall: folders that were there are not named' "$(LC_ALL=C sort <<<"$files
+$(grep -vxE 'bin|share|share/man|share/man/man1' <<<"$folders")")" "$(said removed "$prefix")"
+run "$prefix"
+touch "$prefix/bin/other" "$prefix/share/man/man5/other.5"
+run --uninstall "$prefix"
+ends 'uninstall where files of others came' 0 ''
+is 'uninstall: they stay' 'bin/
+bin/other 600
+share/
+share/man/
+share/man/man1/
+share/man/man5/
+share/man/man5/other.5 600
+share/other 600' "$(chmod 600 "$prefix/bin/other" "$prefix/share/man/man5/other.5" "$prefix/share/other" && tree "$prefix")"
+
+# A file that can't be removed: the list stays, and uninstall can be called again.
+prefix=$work/stuck
+run "$prefix"
+rm -- "$prefix/bin/wqplan"
+mkdir -- "$prefix/bin/wqplan"
+run --uninstall "$prefix"
+ends "uninstall where a file can't be removed" 1 "install: can't remove $prefix/bin/wqplan"
+rmdir -- "$prefix/bin/wqplan"
+run --uninstall "$prefix"
+ends 'uninstall once more' 0 ''
+is 'uninstall once more: nothing is left' '' "$(ls -d -- "$prefix" 2>/dev/null)"
+
+# The home folder, where no PREFIX is named.
+run
+installed 'without PREFIX' "$work/home/.local" one
+run --uninstall
+ends 'uninstall without PREFIX' 0 ''
+is 'uninstall without PREFIX: nothing is left' '' "$(tree "$work/home")"
+HOUSE='' run
+ends 'without PREFIX and home' 1 'install: name a PREFIX: there is no home folder'
+HOUSE='' run --uninstall
+ends 'uninstall without PREFIX and home' 1 'install: name a PREFIX: there is no home folder'
+
+# Refusals. Each leaves nothing, and what can be known before is refused before anything is built.
+prefix=$work/refused
+UNPROVED=wq_groups run "$prefix"
+ends "a crate that isn't proved" 1 "not proved: wq_groups
+install: wq_groups isn't proved; nothing is installed"
+is "a crate that isn't proved: nothing is installed" '' "$(ls -d -- "$prefix" 2>/dev/null)"
+is "a crate that isn't proved: it is the last one" 'wq_groups check' "$(tail -n 1 "$work/calls")"
+BUILT='' run "$prefix"
+ends "a program that isn't built" 1 "install: the program isn't built; nothing is installed"
+is "a program that isn't built: nothing is installed" '' "$(ls -d -- "$prefix" 2>/dev/null)"
+AFTER='mkdir -p "$PREFIX/share/man" && touch "$PREFIX/share/man/man5"' PREFIX=$prefix run "$prefix"
+ends 'a folder that can no longer be made' 1 "install: can't make $prefix/share/man/man5; nothing is installed"
+is 'a folder that can no longer be made: nothing is installed' 'share/
+share/man/
+share/man/man5 600' "$(tree "$prefix")"
+rm -r -- "$prefix"
+AFTER='rm "$CLONE/man/wqplan.5"' CLONE=$clone run "$prefix"
+ends 'a page that is no longer there' 1 "install: can't write $prefix/share/man/man5/wqplan.5; nothing is installed"
+is 'a page that is no longer there: nothing is installed' '' "$(ls -d -- "$prefix" 2>/dev/null)"
+cp -- "$repository/man/wqplan.5" "$clone/man"
+
+touch "$prefix"
+run "$prefix"
+ends 'a PREFIX that is a file' 1 "install: can't install to $prefix/share/wqplan: $prefix is no folder"
+untouched 'a PREFIX that is a file' '' "$prefix"
+rm -- "$prefix"
+mkdir -p -- "$prefix/bin/wqplan"
+run "$prefix"
+ends 'a folder in the place of the program' 1 "install: can't install: $prefix/bin/wqplan is a folder"
+untouched 'a folder in the place of the program' 'bin/
+bin/wqplan/' "$prefix"
+rm -r -- "$prefix"
+# In /proc nobody can make a file, root neither.
+run /proc/wqplan
+ends "a PREFIX that can't be written" 1 "install: can't install to /proc/wqplan/share/wqplan: /proc can't be written"
+untouched "a PREFIX that can't be written" '' /proc/wqplan
+mkdir -p -- "$work/bare"
+for tool in bash dirname mktemp realpath rmdir rm; do
+    ln -s -- "$(command -v "$tool")" "$work/bare/$tool"
+done
+TOOLS=$work/bare run "$prefix"
+ends 'no rt on the PATH' 1 'install: rt, the toolchain of Rattle, is not on the PATH'
+untouched 'no rt on the PATH' '' "$prefix"
+for words in --remove '--uninstall --remove' '-x a'; do
+    run $words
+    ends "$words" 1 "install: there is no option $(grep -oE -- '(--remove|-x)' <<<"$words") here (bash install.sh [--uninstall] [PREFIX])"
+done
+for words in "$prefix b" "--uninstall $prefix b"; do
+    run $words
+    ends "two PREFIXes: $words" 1 'install: one PREFIX at most (bash install.sh [--uninstall] [PREFIX])'
+    untouched "two PREFIXes: $words" '' "$prefix"
+done
+
+# Help is the head of the script, within 80 columns, and names each file that is installed.
+run --help
+ends 'help' 0 ''
+is 'help: the head of the script' "$(awk 'NR > 1 && !/^#/ { exit } NR > 1 { sub(/^# ?/, ""); print }' "$repository/install.sh")" "$(cat "$work/out")"
+is 'help: the files' "$files" "$(sed -nE 's|^ +PREFIX/([^ ]+).*|\1|p' "$work/out" | LC_ALL=C sort)"
+is 'help: no line of more than 80 columns' '' "$(grep -E '.{81}' "$work/out")"
+untouched help '' "$prefix"
+
+echo "install: $passed passed, $failed failed"
+[ "$failed" -eq 0 ]
