@@ -137,11 +137,32 @@ fn run<N: Naming + Send + Sync, R: Threads + Wait + Sync + Print + AllocGlobal>(
     Ok(())
 }
 
+/// Runs a plan in a runtime that is named here.
+fn run_plan<R: Threads + Wait + Sync + Print + AllocGlobal>(
+    rt: &R,
+    declared: &Declaration<'_, Global>,
+    plan: &Assignment<Global>,
+) -> Result<()>
+    requires grouped { length declared.now.groups.group_of ≡ length declared.now.table.names }
+    requires assigned { length plan.now.lane_of_group ≡ declared.now.groups.groups }
+{
+    run::<Brand, R>(rt, Blank::new(65_536), declared, plan)
+}
+
+/// Plans a declaration, and runs the plan.
+fn run_declared<R: Threads + Wait + Sync + Print + AllocGlobal>(
+    rt: &R,
+    declared: &Declaration<'_, Global>,
+) -> Result<()>
+    requires { length declared.now.groups.group_of ≡ length declared.now.table.names }
+{
+    match solve(rt.alloc(), &declared.table, &declared.groups)? {
+        Answer::Plan { assignment, .. } => run_plan(rt, declared, &assignment),
+        Answer::Circle { .. } => bail!("the items wait in a circle"),
+    }
+}
+
 fn main(rt: HostRuntime) -> Result<()> {
     let declared = read_declaration(rt.alloc(), DECLARATION).map_err(|stop| anyhow!("{stop:?}"))?;
-    let Answer::Plan { assignment, .. } = solve(rt.alloc(), &declared.table, &declared.groups)?
-    else {
-        bail!("the items wait in a circle");
-    };
-    run::<Brand, HostRuntime>(&rt, Blank::new(65_536), &declared, &assignment)
+    run_declared(&rt, &declared)
 }

@@ -29,17 +29,12 @@ type Done = Result<(), CallError>;
 impl Rdisk {
     /// A driver whose items have these names in the declaration.
     pub(crate) fn new(table: &ItemTable<'_, Global>) -> Option<Rdisk> {
-        let send = table.find(b"send")?;
-        let log = table.find(b"log")?;
-        let reconnect = table.find(b"reconnect")?;
-        let receive = table.find(b"receive")?;
-        let disk = Mutex::new(Disk::new());
         Some(Rdisk {
-            send,
-            log,
-            reconnect,
-            receive,
-            disk,
+            send: table.find(b"send")?,
+            log: table.find(b"log")?,
+            reconnect: table.find(b"reconnect")?,
+            receive: table.find(b"receive")?,
+            disk: Mutex::new(Disk::new()),
         })
     }
 

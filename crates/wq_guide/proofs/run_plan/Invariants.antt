@@ -1,6 +1,6 @@
 use Rattle.wq_groups.specs.Declaration.{declaration_of}
 use Rattle.wq_core.specs.Wiring.{wiring}
-use Rattle.wq_guide.proofs.main.Given as goal
+use Rattle.wq_guide.proofs.run_plan.Given as goal
 
 -- what the runtime is made of
 abbrev pub ghosts-run-N-Naming : goal.ghosts-run-N-Naming
