@@ -5,7 +5,7 @@
 #     bash install.sh [PREFIX]
 #     bash install.sh --uninstall [PREFIX]
 #
-# PREFIX is ~/.local where none is named. Installed are
+# PREFIX is ~/.local unless you name one. These files are installed:
 #
 #     PREFIX/bin/wqplan
 #     PREFIX/share/man/man1/wqplan.1
@@ -15,13 +15,13 @@
 #
 # The last one is a list of the other files and of the folders that were made.
 # Nothing is installed unless all that is built was proved. From a fresh clone
-# that takes some twenty to forty minutes, by the number of processors; a minute
-# or two where nothing has changed.
+# that takes some twenty to forty minutes, depending on the number of processors.
+# If nothing has changed, it takes a minute or two.
 #
-# --uninstall removes the files on the list, the list, and those folders on it
-# that are empty then. Where there is no list, nothing is removed, and the exit
-# status is 1: nothing is installed, or an install.sh of version 0.1.0 did it,
-# which kept no list.
+# --uninstall removes the files on the list, the list itself, and the folders on
+# it that are then empty. If there is no list, nothing is removed, and the exit
+# status is 1. Then nothing is installed, or it was installed by the install.sh
+# of version 0.1.0, which kept no list.
 set -euo pipefail
 
 fail() {
@@ -124,8 +124,8 @@ while IFS=: read -r crate uses; do
     done
 done < <(tac crates.txt)
 
-echo "install: wqplan goes to $prefix. Its ${#crates[@]} crates are proved first: from a fresh clone that takes"
-echo "install: some twenty to forty minutes, by the number of processors; a minute or two where nothing has changed."
+echo "install: wqplan will be installed to $prefix. First its ${#crates[@]} crates are proved. From a fresh clone that takes"
+echo "install: some twenty to forty minutes, depending on the number of processors; if nothing has changed, a minute or two."
 
 began=$SECONDS
 for i in "${!crates[@]}"; do
