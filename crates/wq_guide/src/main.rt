@@ -21,7 +21,7 @@ use std::marker::Brand;
 use std::sync::Wait;
 use std::sync::ledger::Blank;
 use std::thread::Threads;
-use wq_api::{Closed, Counts, Kind, Naming, WqRuntime};
+use wq_api::{CallError, Closed, Counts, Kind, Naming, Seat, WqRuntime};
 use wq_commands::{Declaration, read_declaration};
 use wq_groups::Assignment;
 use wq_items::ItemId;
@@ -74,6 +74,84 @@ fn put_item(
     Ok(())
 }
 
+/// Prints what the closed book counts, and whether the seats agree with it.
+fn put_closed(
+    rt: &impl Print,
+    rdisk: &Rdisk,
+    counts: &Counts<Global>,
+    bodies: &[RdiskBody<'_>],
+    agree: bool,
+) -> Result<()> {
+    put_item(rt, "send", rdisk.send, counts, bodies)?;
+    put_item(rt, "log", rdisk.log, counts, bodies)?;
+    put_item(rt, "reconnect", rdisk.reconnect, counts, bodies)?;
+    put_item(rt, "receive", rdisk.receive, counts, bodies)?;
+    println!(rt;
+        "reconnect cancelled {}",
+        counts.made(rdisk.reconnect, Kind::Cancel, true)
+    )?;
+    println!(rt; "agree {agree}")?;
+    Ok(())
+}
+
+/// Prints what two calls answer once `destroy` has been called.
+fn put_destroyed<N: Naming, R: Wait + Print>(
+    rt: &R,
+    runtime: &WqRuntime<N, Global>,
+    seat: &mut Seat<N, Global>,
+    rdisk: &Rdisk,
+) -> Result<()> {
+    let send_wq = runtime
+        .lane_of(rt, rdisk.send)
+        .context("an item is missing")?;
+    if let Err(error) = runtime.queue_work(rt, seat, send_wq, rdisk.send) {
+        println!(rt; "queue_work after destroy: {} {error}", error.code())?;
+    }
+    let was_pending = runtime.cancel_work_sync(rt, seat, rdisk.receive)?;
+    println!(rt; "cancel_work_sync after destroy: {was_pending}")?;
+    Ok(())
+}
+
+/// Prints what came of the calls and of the requests, and what is answered after `destroy`.
+fn put_ran<N: Naming, R: Wait + Print>(
+    rt: &R,
+    runtime: &WqRuntime<N, Global>,
+    seat: &mut Seat<N, Global>,
+    rdisk: &Rdisk,
+    results: &[Result<(), CallError>],
+    faults: u64,
+) -> Result<()> {
+    for result in results {
+        (*result)?;
+    }
+    put_disk(rt, rdisk, faults)?;
+    put_destroyed(rt, runtime, seat, rdisk)
+}
+
+/// Closes the runtime with all of its seats.
+fn close<N: Naming>(
+    runtime: WqRuntime<N, Global>,
+    mut seats: Vec<Seat<N, Global>>,
+    seat: Seat<N, Global>,
+) -> Result<Closed<N, Global>> {
+    seats.push(seat)?;
+    let closed = runtime.close(seats).map_err(|refused| refused.why)?;
+    Ok(closed)
+}
+
+/// Prints what all threads left, closes the runtime, and prints what its book counts.
+fn conclude<N: Naming, R: Wait + Print>(
+    rt: &R,
+    runtime: WqRuntime<N, Global>,
+    mut seat: Seat<N, Global>,
+    rdisk: &Rdisk,
+    ran: Ran<N, Global, RdiskBody<'_>, Writer<'_>>,
+) -> Result<()> {
+    put_ran(rt, &runtime, &mut seat, rdisk, &ran.results, ran.faults)?;
+    let Closed { counts, agree, .. } = close(runtime, ran.seats, seat)?;
+    put_closed(rt, rdisk, &counts, &ran.bodies, agree)
+}
+
 /// Makes a runtime under a plan, runs bodies and callers, closes the runtime, and prints what came of it.
 fn run<N: Naming + Send + Sync, R: Threads + Wait + Sync + Print + AllocGlobal>(
     rt: &R,
@@ -92,7 +170,7 @@ fn run<N: Naming + Send + Sync, R: Threads + Wait + Sync + Print + AllocGlobal>(
     let alloc = rt.alloc();
     let Declaration { table, groups } = declared;
     let runtime = WqRuntime::<N, Global>::new(alloc, blank, table, groups, plan, ROWS)?;
-    let mut seat = runtime.seat(rt, alloc)?;
+    let seat = runtime.seat(rt, alloc)?;
     let rdisk = Rdisk::new(table).context("an item is missing")?;
     let bodies = make_bodies(alloc, &rdisk, plan.lanes(), table.len())?;
     let middle = REQUESTS / 2;
@@ -101,40 +179,7 @@ fn run<N: Naming + Send + Sync, R: Threads + Wait + Sync + Print + AllocGlobal>(
         Writer::new(&rdisk, middle, REQUESTS),
     ]?;
     let ran = run_all(rt, alloc, &runtime, bodies, writers).map_err(|refused| refused.why)?;
-
-    let Ran {
-        mut seats,
-        bodies,
-        results,
-        faults,
-        ..
-    } = ran;
-    for result in results {
-        result?;
-    }
-    put_disk(rt, &rdisk, faults)?;
-
-    let send_wq = runtime
-        .lane_of(rt, rdisk.send)
-        .context("an item is missing")?;
-    if let Err(error) = runtime.queue_work(rt, &mut seat, send_wq, rdisk.send) {
-        println!(rt; "queue_work after destroy: {} {error}", error.code())?;
-    }
-    let was_pending = runtime.cancel_work_sync(rt, &mut seat, rdisk.receive)?;
-    println!(rt; "cancel_work_sync after destroy: {was_pending}")?;
-
-    seats.push(seat)?;
-    let Closed { counts, agree, .. } = runtime.close(seats).map_err(|refused| refused.why)?;
-    put_item(rt, "send", rdisk.send, &counts, &bodies)?;
-    put_item(rt, "log", rdisk.log, &counts, &bodies)?;
-    put_item(rt, "reconnect", rdisk.reconnect, &counts, &bodies)?;
-    put_item(rt, "receive", rdisk.receive, &counts, &bodies)?;
-    println!(rt;
-        "reconnect cancelled {}",
-        counts.made(rdisk.reconnect, Kind::Cancel, true)
-    )?;
-    println!(rt; "agree {agree}")?;
-    Ok(())
+    conclude(rt, runtime, seat, &rdisk, ran)
 }
 
 /// Runs a plan in a runtime that is named here.
