@@ -32,7 +32,7 @@ module _ (end : End) (out : List ℕ) where
       subst (λ (r : Result Certificate CertError). MatchResult r (λ c. AnswersCheck s c end out) (λ fault. IsRefused (cert_refusal fault) end out))
       (text_reading-take (answer_reading s.table.names s.partition) claim) checks
 
-  Checks-take : (text claim : List ℕ) → Checks (take (max_declaration + 1) text) (take (max_certificate + 1) claim) end out → Checks text claim end out
+  pub Checks-take : (text claim : List ℕ) → Checks (take (max_declaration + 1) text) (take (max_certificate + 1) claim) end out → Checks text claim end out
   Checks-take text claim checks =
       MatchResult-weaker (declaration text)
       (subst (λ (d : Result Declared Refusal). MatchResult d (λ s. ChecksDeclared s (take (max_certificate + 1) claim) end out) (λ r. IsRefused r end out)) (declaration-take text) checks)
@@ -43,7 +43,7 @@ module _ (end : End) (out : List ℕ) where
       subst (λ (r : Result Assignment CertError). MatchResult r (λ a. JudgesAssigned s a end out) (λ fault. IsRefused (cert_refusal fault) end out))
       (text_reading-take (assignment_reading s.table.names s.partition) text) answer
 
-  Judges-take : (declared text : List ℕ) → Judges (take (max_declaration + 1) declared) (take (max_certificate + 1) text) end out → Judges declared text end out
+  pub Judges-take : (declared text : List ℕ) → Judges (take (max_declaration + 1) declared) (take (max_certificate + 1) text) end out → Judges declared text end out
   Judges-take declared text answer =
       MatchResult-weaker (declaration declared)
       (subst (λ (d : Result Declared Refusal). MatchResult d (λ s. JudgesDeclared s (take (max_certificate + 1) text) end out) (λ r. IsRefused r end out)) (declaration-take declared) answer)
@@ -60,7 +60,7 @@ module _ (end : End) (out : List ℕ) where
       (text_reading-take (assignment_reading s.table.names s.partition) lanes) replays)
       (ReplaysAssigned-take s steps) (λ fault refused. refused)
 
-  Replays-take : (text lanes steps : List ℕ) → Replays (take (max_declaration + 1) text) (take (max_certificate + 1) lanes) (take (max_certificate + 1) steps) end out → Replays text lanes steps end out
+  pub Replays-take : (text lanes steps : List ℕ) → Replays (take (max_declaration + 1) text) (take (max_certificate + 1) lanes) (take (max_certificate + 1) steps) end out → Replays text lanes steps end out
   Replays-take text lanes steps replays =
       MatchResult-weaker (declaration text)
       (subst (λ (d : Result Declared Refusal). MatchResult d (λ s. ReplaysDeclared s (take (max_certificate + 1) lanes) (take (max_certificate + 1) steps) end out) (λ r. IsRefused r end out)) (declaration-take text) replays)

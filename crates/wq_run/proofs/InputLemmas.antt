@@ -13,7 +13,7 @@ use Rattle.wq_run.specs.Fault.{Stops}
 use Rattle.wq_run.specs.Run.{RunsInput, IsRunnableInput}
 use Rattle.wq_run.specs.Running.{HasRuntime, IsRunnable, Runs, RunsDeclared}
 
-Runs-same : (one other : List ℕ) (end : End) (out : List ℕ) → declaration one ≡ declaration other → Runs one end out → Runs other end out
+pub Runs-same : (one other : List ℕ) (end : End) (out : List ℕ) → declaration one ≡ declaration other → Runs one end out → Runs other end out
 Runs-same one other end out same runs =
     subst (λ (d : Result Declared Refusal). MatchResult d (λ s. RunsDeclared s end out) (λ r. IsRefused r end out)) same runs
 
