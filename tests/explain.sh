@@ -1,10 +1,11 @@
 #!/usr/bin/env bash
-# Runs `wqplan explain` for each number, and the example that it prints, whose answer has to be that number. The figures in
-# an explanation have to be those of docs/FORMAT.md.
+# Runs `wqplan explain` for each number, and the example that it prints, whose answer has to be that number, and to standard
+# error its diagnosis. The figures in an explanation have to be those of docs/FORMAT.md.
 # Run it once the gate or `rt run` has built the program. The argument, if there is one, names another program.
 set -u
 program=$(realpath -- "${1:-$(dirname "$0")/../crates/wqplan/out/wqplan}")
 format=$(realpath -- "$(dirname "$0")/../docs/FORMAT.md")
+rule=$(realpath -- "$(dirname "$0")/standard_error.py")
 if [ ! -x "$program" ]; then
     echo "explain: there is nothing to run at $program (cd crates/wqplan && rt run builds it)"
     exit 1
@@ -67,7 +68,8 @@ below() {
     awk -v heading="$1" '$0 == heading { on = 1; next } on && $0 == "" { exit } on' out
 }
 
-# explained NUMBER NAME STATUS ANSWER: whether the number is explained, and its example ends with this status and answer.
+# explained NUMBER NAME STATUS ANSWER: whether the number is explained, and its example ends with this status and answer, and with
+# the diagnosis of the last file of its last command, or of standard input where that names none.
 explained() {
     run explain "$1"
     is "explain $1" "0: $1 $2" "$status: $(head -n 1 out)"
@@ -82,22 +84,27 @@ explained() {
     has "explain $1: how to mend it" . "$(below 'To mend it:')"
     mkdir "example$1"
     below 'To see it:' >"example$1/commands"
-    local answer
-    answer=$(cd "example$1" && PATH=$work/bin:$PATH timeout 60 bash commands 2>&1)
-    has "explain $1: the example" "^$3: $4\$" "$?: $answer"
+    local words file said=yes
+    words=$(sed -n '$s/.*wqplan //p' "example$1/commands")
+    file=${words##* }
+    [ "$file" != plan ] || file='<stdin>'
+    (cd "example$1" && PATH=$work/bin:$PATH timeout 60 bash commands) >out 2>err
+    has "explain $1: the example" "^$3: $4\$" "$?: $(cat out)"
+    python3 -B "$rule" out err "$file" || said="$(cat err)"
+    is "explain $1: the diagnosis of the example" yes "$said"
 }
 
 while read -r number name; do
     explained "$number" "$name" 2 "refused $number line [0-9]+"
-done < <(sed -nE 's/^\| ([0-9]+) \| ([A-Za-z]+) \|.*/\1 \2/p' "$format")
+done < <(sed -nE 's/^\| ([0-9]+) \| ([A-Z][A-Za-z]+) \|.*/\1 \2/p' "$format")
 while read -r number name; do
     explained "$number" "$name" 1 "no $number( .*)?"
-done < <(sed -nE 's/^\| `no (5[0-9])[^|]*` \| ([A-Za-z]+) \|.*/\1 \2/p' "$format")
+done < <(sed -nE 's/^\| `no (5[0-9])[^|]*` \| ([A-Z][A-Za-z]+) \|.*/\1 \2/p' "$format")
 
 # A number that is never printed: those that are, with their names.
 {
-    sed -nE 's/^\| ([0-9]+) \| ([A-Za-z]+) \|.*/\1 \2/p' "$format"
-    sed -nE 's/^\| `no (5[0-9])[^|]*` \| ([A-Za-z]+) \|.*/\1 \2/p' "$format"
+    sed -nE 's/^\| ([0-9]+) \| ([A-Z][A-Za-z]+) \|.*/\1 \2/p' "$format"
+    sed -nE 's/^\| `no (5[0-9])[^|]*` \| ([A-Z][A-Za-z]+) \|.*/\1 \2/p' "$format"
 } | sort -n >numbers
 is 'docs/FORMAT.md has 22 numbers' 22 "$(wc -l <numbers)"
 for number in 0 13 20 44 68 70 4294967295; do

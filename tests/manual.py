@@ -1,9 +1,10 @@
 #!/usr/bin/env python3
 """Compares man/wqplan.1 and man/wqplan.5 with docs/FORMAT.md, and answers their examples with the model of tests/model.
 
-wqplan(1) has each command with its arguments, each exit status with what ends so, and each fault; wqplan(5) each directive, each
-line of a form, each refusal, each answer and each limit. Of these commands, statuses, directives, lines, refusals and limits they
-have no others. Where there is a groff, both pages are rendered, without a warning and within 80 columns.
+wqplan(1) has each command with its arguments, each exit status with what ends so, each fault, and how the first line of a diagnosis
+begins and ends; wqplan(5) each directive, each line of a form, each refusal, each answer and each limit. Of these commands,
+statuses, directives, lines, refusals and limits they have no others. The model prints no diagnoses, so no example shows one. Where
+there is a groff, both pages are rendered, without a warning and within 80 columns.
 """
 
 import pathlib
@@ -57,7 +58,10 @@ def plain(line):
     if macro:
         words = re.findall(r'"([^"]*)"|(\S+)', line[macro.end():])
         line = ("" if len(macro[1]) > 1 else " ").join(a or b for a, b in words)
-    return re.sub(r"\\f[A-Z]|\\&", "", line).replace("\\-", "-").replace("\\e", "\\")
+    line = re.sub(r"\\f[A-Z]|\\&", "", line)
+    for escape, character in (("\\-", "-"), ("\\(ga", "`"), ("\\(ha", "^"), ("\\e", "\\")):
+        line = line.replace(escape, character)
+    return line
 
 
 class Page:
@@ -179,6 +183,8 @@ def compare_commands(count, page):
                 count.has(f"wqplan(1), EXIT STATUS, {status}", word, said)
     for fault in faults:
         count.has("wqplan(1), EXIT STATUS, 3", fault, dict(page.tagged("EXIT STATUS")).get("3", ""))
+    for form in re.findall(r"``(\S.*?\])``", section("Diagnoses")):
+        count.has("wqplan(1), DIAGNOSTICS", form, page.words("DIAGNOSTICS"))
     count.equal("wqplan(1), DECLARATION", directives(), page.tags("DECLARATION"))
 
 

@@ -5,6 +5,7 @@ set -u
 
 program=$(realpath -- "${1:-crates/wqplan/out/wqplan}")
 stored=$(realpath -- crates/wqplan)
+rule=$(realpath -- "$(dirname "$0")/standard_error.py")
 if [ ! -x "$program" ]; then
     echo "program: there is nothing to run at $program (cd crates/wqplan && rt run builds it)"
     exit 1
@@ -19,8 +20,9 @@ status=0
 
 seconds=60
 
-# run ARGS..: runs the program on the standard input that it is given, and keeps what it writes and its status.
+# run ARGS..: runs the program on the standard input that it is given, and keeps its words, what it writes and its status.
 run() {
+    given=("$@")
     timeout "$seconds" "$program" "$@" >out 2>err
     status=$?
 }
@@ -34,9 +36,19 @@ holds() {
     fi
 }
 
+# says ERR: whether standard error has this text. `of N` is the diagnosis that belongs to standard output, of the file that is
+# the Nth word behind the command, or of standard input where N is 0.
+says() {
+    local files=('<stdin>' "${given[@]:1}")
+    case $1 in
+        'of '*) python3 -B "$rule" out err "${files[${1#of }]}" ;;
+        *) holds err "$1" ;;
+    esac
+}
+
 # check NAME STATUS OUT ERR: counts whether the last run ended so.
 check() {
-    if [ "$status" -eq "$2" ] && holds out "$3" && holds err "$4"; then
+    if [ "$status" -eq "$2" ] && holds out "$3" && says "$4"; then
         passed=$((passed + 1))
         echo "ok      $1"
     else
@@ -85,9 +97,9 @@ check 'a circle and its run' 1 'circle 1\narc a a\nrun 3\nqueue a\nstart 0 a\nwa
 run plan ordered_circle </dev/null
 check 'a circle within an ordered group' 1 'circle 1\narc a b\nrun 4\nqueue a\nqueue b\nstart 0 a\nwait 0 b\n' ''
 run plan refused </dev/null
-check 'a refusal' 2 'refused 8 line 2\n' ''
+check 'a refusal' 2 'refused 8 line 2\n' 'of 1'
 run plan grouped_twice </dev/null
-check 'a refusal of an item on two ordered lines' 2 'refused 11 line 4\n' ''
+check 'a refusal of an item on two ordered lines' 2 'refused 11 line 4\n' 'of 1'
 
 # The checker.
 printf 'item a\nitem b\nitem c\nitem d\nflush a b\nflush b c\n' >three
@@ -108,21 +120,21 @@ check 'check: two files behind --' 0 'yes 2\n' ''
 run check <(cat declaration) <(cat plan_of_two) </dev/null
 check 'check: two pipes' 0 'yes 2\n' ''
 run check declaration not_least </dev/null
-check 'check: a plan with a workqueue too many' 1 'no 52\n' ''
+check 'check: a plan with a workqueue too many' 1 'no 52\n' 'of 2'
 run check declaration one_workqueue </dev/null
-check 'check: a flush within a workqueue' 1 'no 50 a b\n' ''
+check 'check: a flush within a workqueue' 1 'no 50 a b\n' 'of 2'
 run check declaration cut_off </dev/null
-check 'check: a plan without its last line' 2 'refused 40 line 0\n' ''
+check 'check: a plan without its last line' 2 'refused 40 line 0\n' 'of 2'
 run check declaration no_circle </dev/null
-check 'check: a circle that is none' 1 'no 53 1\n' ''
+check 'check: a circle that is none' 1 'no 53 1\n' 'of 2'
 run check three broken_chain </dev/null
-check 'check: a chain that breaks at its second arc' 1 'no 51 2\n' ''
+check 'check: a chain that breaks at its second arc' 1 'no 51 2\n' 'of 2'
 run check empty chain_of_nothing </dev/null
-check 'check: a chain of one group where there is none' 1 'no 51 0\n' ''
+check 'check: a chain of one group where there is none' 1 'no 51 0\n' 'of 2'
 run check circle circle_with_run </dev/null
 check 'check: a circle with its run' 0 'yes circle 1\n' ''
 run check circle circle_with_open_run </dev/null
-check 'check: a circle with a run that is not stuck' 1 'no 54\n' ''
+check 'check: a circle with a run that is not stuck' 1 'no 54\n' 'of 2'
 
 # Assignments.
 hangs='run 7\nqueue a\nqueue b\nqueue c\nstart 0 a\nwait 0 b\nstart 1 b\nwait 1 c\n'
@@ -193,17 +205,17 @@ check 'run: no item' 0 'workqueues 0\nfaults 0\n' ''
 run run chain256 </dev/null
 check 'run: 256 workqueues' 0 "$ran256\n" ''
 run run chain257 </dev/null
-check 'run: 257 workqueues' 2 'refused 69 line 0\n' ''
+check 'run: 257 workqueues' 2 'refused 69 line 0\n' 'of 1'
 run run circle </dev/null
 check 'run: a circle and its run' 1 'circle 1\narc a a\nrun 3\nqueue a\nstart 0 a\nwait 0 a\n' ''
 run run refused </dev/null
-check 'run: a refusal' 2 'refused 8 line 2\n' ''
+check 'run: a refusal' 2 'refused 8 line 2\n' 'of 1'
 run run too_large </dev/null
-check 'run: a text of 1,048,577 bytes' 2 'refused 1 line 0\n' ''
+check 'run: a text of 1,048,577 bytes' 2 'refused 1 line 0\n' 'of 1'
 run run largest </dev/null
 check 'run: a text of 1,048,576 bytes' 0 'workqueues 0\nfaults 0\n' ''
 run run <(yes 'item a' 2>/dev/null) </dev/null
-check 'run: a text without end' 2 'refused 1 line 0\n' ''
+check 'run: a text without end' 2 'refused 1 line 0\n' 'of 1'
 
 # The same each time, whatever the threads do: the first run that differs is looked at, or the last one.
 ran3=$(printf 'item %s queued 1 cancelled 0 finished 1\\n' 'a wq 2' 'b wq 1' 'c wq 0')
@@ -258,45 +270,45 @@ seconds=60
 # Refusals come in the order of the arguments, each text as a whole before the next one.
 printf 'wq 0 a b\nwq 1\n' >without_c
 run check refused too_large_certificate </dev/null
-check 'check: a wrong declaration beside a certificate that is too long' 2 'refused 8 line 2\n' ''
+check 'check: a wrong declaration beside a certificate that is too long' 2 'refused 8 line 2\n' 'of 1'
 run check too_large too_large_certificate </dev/null
-check 'check: two texts that are too long' 2 'refused 1 line 0\n' ''
+check 'check: two texts that are too long' 2 'refused 1 line 0\n' 'of 1'
 run check declaration too_large_certificate </dev/null
-check 'check: a certificate of 8,388,609 bytes' 2 'refused 40 line 0\n' ''
+check 'check: a certificate of 8,388,609 bytes' 2 'refused 40 line 0\n' 'of 2'
 run check declaration <(cat plan_of_two largest_certificate | head -c 8388608) </dev/null
 check 'check: a certificate of 8,388,608 bytes' 0 'yes 2\n' ''
 run check declaration <(yes '' 2>/dev/null) </dev/null
-check 'check: a certificate without end' 2 'refused 40 line 0\n' ''
+check 'check: a certificate without end' 2 'refused 40 line 0\n' 'of 2'
 run deadlock refused too_large_certificate </dev/null
-check 'deadlock: a wrong declaration beside an assignment that is too long' 2 'refused 8 line 2\n' ''
+check 'deadlock: a wrong declaration beside an assignment that is too long' 2 'refused 8 line 2\n' 'of 1'
 run deadlock too_large too_large_certificate </dev/null
-check 'deadlock: two texts that are too long' 2 'refused 1 line 0\n' ''
+check 'deadlock: two texts that are too long' 2 'refused 1 line 0\n' 'of 1'
 run deadlock chain too_large_certificate </dev/null
-check 'deadlock: an assignment of 8,388,609 bytes' 2 'refused 40 line 0\n' ''
+check 'deadlock: an assignment of 8,388,609 bytes' 2 'refused 40 line 0\n' 'of 2'
 run deadlock chain <(cat safe_lanes largest_certificate | head -c 8388608) </dev/null
 check 'deadlock: an assignment of 8,388,608 bytes' 0 'safe\n' ''
 run deadlock chain <(yes '' 2>/dev/null) </dev/null
-check 'deadlock: an assignment without end' 2 'refused 40 line 0\n' ''
+check 'deadlock: an assignment without end' 2 'refused 40 line 0\n' 'of 2'
 run deadlock chain without_c </dev/null
-check 'deadlock: an assignment without an item' 2 'refused 41 line 0\n' ''
+check 'deadlock: an assignment without an item' 2 'refused 41 line 0\n' 'of 2'
 run replay refused without_c unlawful </dev/null
-check 'replay: a wrong declaration before a wrong assignment' 2 'refused 8 line 2\n' ''
+check 'replay: a wrong declaration before a wrong assignment' 2 'refused 8 line 2\n' 'of 1'
 run replay chain without_c too_large_certificate </dev/null
-check 'replay: a wrong assignment before a run that is too long' 2 'refused 41 line 0\n' ''
+check 'replay: a wrong assignment before a run that is too long' 2 'refused 41 line 0\n' 'of 2'
 run replay chain too_large_certificate unlawful </dev/null
-check 'replay: an assignment that is too long' 2 'refused 40 line 0\n' ''
+check 'replay: an assignment that is too long' 2 'refused 40 line 0\n' 'of 2'
 run replay chain lanes too_large_certificate </dev/null
-check 'replay: a run that is too long' 2 'refused 40 line 0\n' ''
+check 'replay: a run that is too long' 2 'refused 40 line 0\n' 'of 3'
 run replay chain lanes <(printf 'run 1\n\nstart 4096 a\n') </dev/null
-check 'replay: a run with a workqueue that none can be' 2 'refused 43 line 3\n' ''
+check 'replay: a run with a workqueue that none can be' 2 'refused 43 line 3\n' 'of 3'
 
 # Limits: 1,048,576 bytes are read as a declaration, and one byte more is refused.
 run plan largest </dev/null
 check 'a text of 1,048,576 bytes' 0 'plan 0\nchain 0\n' ''
 run plan too_large </dev/null
-check 'a text of 1,048,577 bytes' 2 'refused 1 line 0\n' ''
+check 'a text of 1,048,577 bytes' 2 'refused 1 line 0\n' 'of 1'
 run plan < <(yes 'item a' 2>/dev/null)
-check 'a text without end' 2 'refused 1 line 0\n' ''
+check 'a text without end' 2 'refused 1 line 0\n' 'of 0'
 
 # Faults of the system.
 run plan missing </dev/null
@@ -333,8 +345,10 @@ for files in missing folder ''; do
     run run "$files" </dev/null
     check "run '$files'" 3 '' 'fault read\n'
 done
+# Of a refusal or a `no` that can't be written there is no diagnosis.
 for words in 'plan circle' 'check declaration plan_of_two' 'deadlock chain lanes' 'replay chain lanes deadlock' \
-    'run declaration' 'run circle'; do
+    'run declaration' 'run circle' 'plan refused' 'check declaration no_circle' 'deadlock chain without_c' \
+    'replay chain without_c unlawful' 'run refused'; do
     timeout 60 "$program" $words </dev/null >/dev/full 2>err
     status=$?
     : >out

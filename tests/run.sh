@@ -22,5 +22,6 @@ bash tests/runtime.sh
 bash tests/examples.sh
 bash tests/guide.sh
 bash tests/explain.sh
+bash tests/diagnoses.sh
 bash tests/books.sh
 bash tests/model.sh

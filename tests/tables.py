@@ -10,6 +10,8 @@ import resource
 import subprocess
 import tempfile
 
+from standard_error import belongs, meant  # beside this file
+
 WORKERS = 2
 SECONDS_PER_RUN = 60
 
@@ -28,6 +30,7 @@ class Case:
     status: int
     first_line: bool = False  # only the first line that is printed is compared
     complains: bool = False  # something goes to standard error, and else nothing
+    diagnoses: bool = False  # the program is wqplan: what goes there is what belongs to the answer
     memory: int = 0  # how much address space the program gets, where it isn't all there is
     is_pattern: bool = False  # what is printed begins as the answer, a regular expression, says
 
@@ -48,6 +51,14 @@ def limiter(memory):
     if not memory:
         return None
     return lambda: resource.setrlimit(resource.RLIMIT_AS, (memory, memory))
+
+
+def says_right(given, run, places):
+    """Whether the program wrote to standard error what it should."""
+    if given.diagnoses:
+        files = meant(run.stdout, [os.fsencode(place) for place in places])
+        return belongs(run.stdout, run.stderr, files)
+    return bool(run.stderr) == given.complains
 
 
 def failure(program, folder, number, given):
@@ -72,7 +83,7 @@ def failure(program, folder, number, given):
         is_right = re.match(given.answer, printed) is not None
     else:
         is_right = printed == given.answer
-    if is_right and run.returncode == given.status and bool(run.stderr) == given.complains:
+    if is_right and run.returncode == given.status and says_right(given, run, places):
         return None
     printed = f"status {run.returncode}, {short(printed)}, standard error {short(run.stderr)}"
     return f"{printed}; wanted status {given.status}, {short(given.answer)}"

@@ -5,7 +5,8 @@
 #
 # It makes up declarations, answers, assignments and runs, gives them to `PROGRAM plan` on standard
 # input, and as files to `PROGRAM check`, `PROGRAM replay`, `PROGRAM deadlock`, `PROGRAM circles`,
-# `PROGRAM dot` and `PROGRAM run`, and compares the bytes that are printed and the exit status with the model's. Of each command there are
+# `PROGRAM dot` and `PROGRAM run`, and compares the bytes that are printed and the exit status with the model's. Standard error
+# must have what belongs to the answer (standard_error.py, in the folder above). Of each command there are
 # the cases at the limits of docs/FORMAT.md and at each place of small texts, once each, and then
 # CASES random ones; of `run`, which makes threads, a fifth as many. The same SEED makes the same
 # cases. It fails where an answer differs, and where some kind of answer never came, as may be with
@@ -26,6 +27,7 @@ import collections
 import concurrent.futures
 import dataclasses
 import os
+import pathlib
 import re
 import subprocess
 import sys
@@ -33,6 +35,7 @@ import tempfile
 import traceback
 
 sys.dont_write_bytecode = True
+sys.path.append(str(pathlib.Path(__file__).resolve().parent.parent))
 import check  # noqa: E402  (beside this file)
 import circles  # noqa: E402
 import deadlock  # noqa: E402
@@ -47,6 +50,7 @@ import replay  # noqa: E402
 import run  # noqa: E402
 from command_line import seed_and_counts  # noqa: E402
 from declaration import read_declaration  # noqa: E402
+from standard_error import STDIN, belongs, meant  # noqa: E402  (in the folder above)
 
 DEFAULT_SEED = "1"
 DEFAULT_CASES = 2_000
@@ -174,7 +178,7 @@ def kind_of(command, answer):
 
 
 def ask(program, command, texts, folder, number):
-    """The program's answer, and what it prints to standard error."""
+    """The program's answer, what it prints to standard error, and whether that belongs to the answer."""
     places = []
     if command == "plan":
         given = {"input": texts[0]}
@@ -188,9 +192,11 @@ def ask(program, command, texts, folder, number):
         ended = subprocess.run(
             [program, command, *places], capture_output=True, timeout=SECONDS_PER_RUN, **given
         )
-        return (ended.stdout, ended.returncode), ended.stderr
+        files = meant(ended.stdout, [os.fsencode(place) for place in places] or [STDIN])
+        is_right = belongs(ended.stdout, ended.stderr, files)
+        return (ended.stdout, ended.returncode), ended.stderr, is_right
     except subprocess.TimeoutExpired:
-        return (b"", None), b"(ended: it took too long)"
+        return (b"", None), b"(ended: it took too long)", False
     finally:
         for place in places:
             os.remove(place)
@@ -219,7 +225,7 @@ def questions(command, texts, printed):
 
 @dataclasses.dataclass
 class Difference:
-    """Where two answers differ, or there is none."""
+    """Where two answers differ, there is none, or standard error hasn't what belongs to it."""
 
     what: str
     command: str
@@ -245,15 +251,15 @@ def compare(program, asked, command, what, texts, folder, number):
         return None, 0, Difference(what, command, texts, wanted, errors=errors)
     if command not in asked:
         return kind, 0, None
-    found, errors = ask(program, command, texts, folder, number)
-    if found != wanted:
+    found, errors, is_right = ask(program, command, texts, folder, number)
+    if found != wanted or not is_right:
         return kind, 0, Difference(what, command, texts, wanted, found, errors)
 
     stood = 0
     for question, asked_texts, wanted in questions(command, texts, found[0]):
         if question in asked:
-            found, errors = ask(program, question, asked_texts, folder, number)
-            if found != wanted:
+            found, errors, is_right = ask(program, question, asked_texts, folder, number)
+            if found != wanted or not is_right:
                 what = f"what {command} answers to {what}"
                 difference = Difference(what, question, asked_texts, wanted, found, errors)
                 return kind, stood, difference
@@ -281,9 +287,8 @@ def show_difference(seed, number, difference, folder):
     printed, status = difference.found
     place = show_bytes(printed, folder, f"{command}{number}.program")
     print(f"    program: status {status}, {place}")
-    if difference.errors:
-        errors = difference.errors.decode(errors="backslashreplace")
-        print(f"    standard error: {errors[-2_000:]}")
+    errors = difference.errors.decode(errors="backslashreplace")
+    print(f"    standard error: {errors[-2_000:]}")
 
 
 def compare_all(program, asked, command, seed, random_count, folder):

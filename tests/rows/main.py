@@ -3,9 +3,9 @@
 #     main.py PROGRAM
 #
 # Each row is texts and the answer to them: `PROGRAM plan`, `check`, `deadlock`, `replay` or `run` must
-# print just that, with the exit status that goes with it, and nothing to standard error. What is printed
-# must be true, too: a plan or a circle is then given to `check`, and a run to `replay`. It takes a
-# few seconds.
+# print just that, with the exit status that goes with it. To standard error it must print nothing, but
+# beside a refusal or a `no` its diagnosis. What is printed must be true, too: a plan or a circle is then
+# given to `check`, and a run to `replay`. It takes a few seconds.
 
 import pathlib
 import sys
@@ -33,7 +33,7 @@ def case(table, command, texts, answer):
     answer = text_of(answer)
     status = STATUS[answer.split(maxsplit=1)[0].decode()]
     texts = [text_of(text) for text in texts]
-    return Case(table, [command, *range(len(texts))], texts, answer, status)
+    return Case(table, [command, *range(len(texts))], texts, answer, status, diagnoses=True)
 
 
 def table_cases():

@@ -5,19 +5,25 @@
 
 ghost use Rattle.std.specs.Prelude.{ℕ, List, IfOk};
 ghost use Rattle.wq_commands.specs.Checking.{Checks};
+ghost use Rattle.wq_cert.specs.Texts.{max_certificate};
+ghost use Rattle.wq_commands.specs.Declaration.{max_declaration};
 ghost use Rattle.wq_meter.specs.Input.{IsInput};
+ghost use Rattle.wqplan.specs.Kept.{IsKept};
 ghost use Rattle.wq_meter.specs.Meter.{WritesWhole};
 
-use crate::files::open;
+use crate::diagnosis::{say_of_certificate, say_of_declaration, say_of_no};
+use crate::files::{MAX_CERTIFICATE, open};
 use std::alloc::Global;
 use std::io::{self, Read, Write};
 use std::rt::Files;
-use wq_commands::{End, Fault, Metered, check_cmd};
+use wq_commands::{End, Fault, MAX_DECLARATION, Metered, check_cmd, read_text};
+use wq_diagnosis::{Kind, Source};
 
 /// Answers the declaration in the file of the first path and the certificate in that of the second.
 ///
-/// A file that can't be opened is `Fault::Read`.
-pub(crate) fn check<R: Files + Print + AllocGlobal>(
+/// A file that can't be opened is `Fault::Read`. Of a text that is refused, and of a certificate
+/// that shows nothing, standard error says what is wrong.
+pub(crate) fn check<R: Files + Print + Eprint + AllocGlobal>(
     rt: &R,
     declaration: &str,
     certificate: &str,
@@ -27,20 +33,64 @@ pub(crate) fn check<R: Files + Print + AllocGlobal>(
     let declared = open(rt, declaration)?;
     let certified = open(rt, certificate)?;
     let mut writer = Metered::new(io::writer(rt));
-    check_input(rt.alloc(), declared, certified, &mut writer)
+    let (end, text, claim) = check_input(rt.alloc(), declared, certified, &mut writer)?;
+    match end {
+        End::Good => {}
+        End::Bad => {
+            let file = certificate;
+            say_of_no(rt, &text, Source { file, text: &claim });
+        }
+        End::Refused => say_of(rt, declaration, &text, certificate, &claim),
+    }
+    Ok(end)
 }
 
-/// Writes the answer to the declaration that the first input has and the certificate that the second has.
+/// Says what is wrong with the first text that is refused.
+fn say_of<R: Eprint + AllocGlobal>(
+    rt: &R,
+    declaration: &str,
+    declared: &[u8],
+    certificate: &str,
+    certified: &[u8],
+) {
+    let file = declaration;
+    say_of_declaration(
+        rt,
+        Source {
+            file,
+            text: declared,
+        },
+    );
+    let file = certificate;
+    say_of_certificate(
+        rt,
+        Kind::Answer,
+        declared,
+        Source {
+            file,
+            text: certified,
+        },
+    );
+}
+
+/// Writes the answer to the declaration that the first input has and the certificate that the second has. Both are handed out as far as
+/// they were read.
 fn check_input<D: Read + Drop, C: Read + Drop, W: Write>(
     alloc: Global,
     declaration: D,
     certificate: C,
     writer: &mut Metered<W>,
-) -> Result<End, Fault>
-    ensures { IfOk result (λ end. (text claim out : List ℕ) × IsInput (D.remaining declaration) text
-        × IsInput (C.remaining certificate) claim × Checks text claim end out × WritesWhole W.contents writer.old writer.new out) }
+) -> Result<(End, Vec<u8>, Vec<u8>), Fault>
+    ensures { IfOk result (λ answered. (text claim out : List ℕ) × IsInput (D.remaining declaration) text
+        × IsInput (C.remaining certificate) claim × IsKept max_declaration text answered.1.items × IsKept max_certificate claim answered.2.items
+        × Checks text claim answered.0 out × WritesWhole W.contents writer.old writer.new out) }
 {
     let mut declared = Metered::new(declaration);
     let mut certified = Metered::new(certificate);
-    check_cmd(alloc, &mut declared, &mut certified, writer)
+    let text = read_text(alloc, &mut declared, MAX_DECLARATION)?;
+    let claim = read_text(alloc, &mut certified, MAX_CERTIFICATE)?;
+    let mut kept = Metered::new(text.as_slice());
+    let mut kept_claim = Metered::new(claim.as_slice());
+    let end = check_cmd(alloc, &mut kept, &mut kept_claim, writer)?;
+    Ok((end, text, claim))
 }

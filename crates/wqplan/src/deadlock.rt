@@ -5,19 +5,24 @@
 
 ghost use Rattle.std.specs.Prelude.{ℕ, List, IfOk};
 ghost use Rattle.wq_commands.specs.Deadlocking.{Judges};
+ghost use Rattle.wq_cert.specs.Texts.{max_certificate};
+ghost use Rattle.wq_commands.specs.Declaration.{max_declaration};
 ghost use Rattle.wq_meter.specs.Input.{IsInput};
+ghost use Rattle.wqplan.specs.Kept.{IsKept};
 ghost use Rattle.wq_meter.specs.Meter.{WritesWhole};
 
-use crate::files::open;
+use crate::diagnosis::{say_of_certificate, say_of_declaration};
+use crate::files::{MAX_CERTIFICATE, open};
 use std::alloc::Global;
 use std::io::{self, Read, Write};
 use std::rt::Files;
-use wq_commands::{End, Fault, Metered, deadlock_cmd};
+use wq_commands::{End, Fault, MAX_DECLARATION, Metered, deadlock_cmd, read_text};
+use wq_diagnosis::{Kind, Source};
 
 /// Answers the declaration in the file of the first path and the assignment in that of the second.
 ///
-/// A file that can't be opened is `Fault::Read`.
-pub(crate) fn deadlock<R: Files + Print + AllocGlobal>(
+/// A file that can't be opened is `Fault::Read`. Of a text that is refused standard error says what is wrong.
+pub(crate) fn deadlock<R: Files + Print + Eprint + AllocGlobal>(
     rt: &R,
     declaration: &str,
     assignment: &str,
@@ -27,20 +32,59 @@ pub(crate) fn deadlock<R: Files + Print + AllocGlobal>(
     let declared = open(rt, declaration)?;
     let assigned = open(rt, assignment)?;
     let mut writer = Metered::new(io::writer(rt));
-    deadlock_input(rt.alloc(), declared, assigned, &mut writer)
+    let (end, text, lanes) = deadlock_input(rt.alloc(), declared, assigned, &mut writer)?;
+    if end == End::Refused {
+        say_of(rt, declaration, &text, assignment, &lanes);
+    }
+    Ok(end)
 }
 
-/// Writes the verdict on the declaration that the first input has and the assignment that the second has.
+/// Says what is wrong with the first text that is refused.
+fn say_of<R: Eprint + AllocGlobal>(
+    rt: &R,
+    declaration: &str,
+    declared: &[u8],
+    assignment: &str,
+    assigned: &[u8],
+) {
+    let file = declaration;
+    say_of_declaration(
+        rt,
+        Source {
+            file,
+            text: declared,
+        },
+    );
+    let file = assignment;
+    say_of_certificate(
+        rt,
+        Kind::Assignment,
+        declared,
+        Source {
+            file,
+            text: assigned,
+        },
+    );
+}
+
+/// Writes the verdict on the declaration that the first input has and the assignment that the second has. Both are handed out as far as
+/// they were read.
 fn deadlock_input<D: Read + Drop, A: Read + Drop, W: Write>(
     alloc: Global,
     declaration: D,
     assignment: A,
     writer: &mut Metered<W>,
-) -> Result<End, Fault>
-    ensures { IfOk result (λ end. (text lanes out : List ℕ) × IsInput (D.remaining declaration) text
-        × IsInput (A.remaining assignment) lanes × Judges text lanes end out × WritesWhole W.contents writer.old writer.new out) }
+) -> Result<(End, Vec<u8>, Vec<u8>), Fault>
+    ensures { IfOk result (λ answered. (text lanes out : List ℕ) × IsInput (D.remaining declaration) text
+        × IsInput (A.remaining assignment) lanes × IsKept max_declaration text answered.1.items × IsKept max_certificate lanes answered.2.items
+        × Judges text lanes answered.0 out × WritesWhole W.contents writer.old writer.new out) }
 {
     let mut declared = Metered::new(declaration);
     let mut assigned = Metered::new(assignment);
-    deadlock_cmd(alloc, &mut declared, &mut assigned, writer)
+    let text = read_text(alloc, &mut declared, MAX_DECLARATION)?;
+    let lanes = read_text(alloc, &mut assigned, MAX_CERTIFICATE)?;
+    let mut kept = Metered::new(text.as_slice());
+    let mut kept_lanes = Metered::new(lanes.as_slice());
+    let end = deadlock_cmd(alloc, &mut kept, &mut kept_lanes, writer)?;
+    Ok((end, text, lanes))
 }

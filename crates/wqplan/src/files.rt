@@ -6,6 +6,9 @@ use std::fs;
 use std::rt::Files;
 use wq_commands::Fault;
 
+/// How many bytes a certificate, an assignment or a run may have.
+pub(crate) const MAX_CERTIFICATE: u32 = 8_388_608;
+
 /// The file of this path.
 ///
 /// One that can't be opened is `Fault::Read`.

@@ -14,6 +14,7 @@ ghost use Rattle.wqplan.specs.Ended.{EndsAsAsked};
 mod check;
 mod command_line;
 mod deadlock;
+mod diagnosis;
 mod ending;
 mod explain;
 mod files;
@@ -32,7 +33,7 @@ use wq_commands::End;
 use wq_run::CommandFault;
 
 /// Runs the command that is asked for.
-fn perform<R: Files + Input + Print + AllocGlobal + Threads + Wait + Sync>(
+fn perform<R: Files + Input + Print + Eprint + AllocGlobal + Threads + Wait + Sync>(
     rt: &R,
     request: Request<'_>,
 ) -> Result<End, CommandFault>

@@ -6,39 +6,61 @@
 ghost use Rattle.std.specs.Prelude.{ℕ, List, IfOk};
 ghost use Rattle.wq_meter.specs.Meter.{WritesWhole};
 ghost use Rattle.wq_commands.specs.Answer.{Answers};
+ghost use Rattle.wq_commands.specs.Declaration.{max_declaration};
 ghost use Rattle.wq_meter.specs.Input.{IsInput};
+ghost use Rattle.wqplan.specs.Kept.{IsKept};
 
+use crate::diagnosis::{STDIN, say_of_declaration};
 use crate::files::open;
 use std::alloc::Global;
 use std::io::{self, Read, Write};
 use std::rt::Files;
-use wq_commands::{End, Fault, Metered, plan_cmd};
+use wq_commands::{End, Fault, MAX_DECLARATION, Metered, plan_cmd, read_text};
+use wq_diagnosis::Source;
 
 /// Answers the declaration in the file of this path, or in standard input where there is none.
 ///
-/// A file that can't be opened is `Fault::Read`.
-pub(crate) fn plan<R: Files + Input + Print + AllocGlobal>(
+/// A file that can't be opened is `Fault::Read`. Of a text that is refused standard error says what is wrong.
+pub(crate) fn plan<R: Files + Input + Print + Eprint + AllocGlobal>(
     rt: &R,
     file: Option<&str>,
 ) -> Result<End, Fault>
     ensures { IfOk result (λ end. (text out : List ℕ) × Answers text end out) }
 {
-    let mut writer = Metered::new(io::writer(rt));
     match file {
-        Some(path) => plan_input(rt.alloc(), open(rt, path)?, &mut writer),
-        None => plan_input(rt.alloc(), rt.reader(), &mut writer),
+        Some(path) => answer(rt, path, open(rt, path)?),
+        None => answer(rt, STDIN, rt.reader()),
     }
 }
 
-/// Writes the answer to the declaration that `input` has.
+/// Answers the declaration that `input` has, which is called `file` where it is refused.
+fn answer<R: Print + Eprint + AllocGlobal, I: Read + Drop>(
+    rt: &R,
+    file: &str,
+    input: I,
+) -> Result<End, Fault>
+    ensures { IfOk result (λ end. (text out : List ℕ) × Answers text end out) }
+{
+    let mut writer = Metered::new(io::writer(rt));
+    let (end, text) = plan_input(rt.alloc(), input, &mut writer)?;
+    if end == End::Refused {
+        say_of_declaration(rt, Source { file, text: &text });
+    }
+    Ok(end)
+}
+
+/// Writes the answer to the declaration that `input` has. The text is handed out as far as it was read.
 fn plan_input<I: Read + Drop, W: Write>(
     alloc: Global,
     input: I,
     writer: &mut Metered<W>,
-) -> Result<End, Fault>
-    ensures { IfOk result (λ end. (text out : List ℕ) × IsInput (I.remaining input) text
-        × Answers text end out × WritesWhole W.contents writer.old writer.new out) }
+) -> Result<(End, Vec<u8>), Fault>
+    ensures { IfOk result (λ answered. (text out : List ℕ) × IsInput (I.remaining input) text
+        × IsKept max_declaration text answered.1.items × Answers text answered.0 out × WritesWhole W.contents writer.old writer.new out) }
 {
     let mut reader = Metered::new(input);
-    plan_cmd(alloc, &mut reader, writer)
+    let text = read_text(alloc, &mut reader, MAX_DECLARATION)?;
+    let mut kept = Metered::new(text.as_slice());
+    let end = plan_cmd(alloc, &mut kept, writer)?;
+    Ok((end, text))
 }

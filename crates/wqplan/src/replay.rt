@@ -4,20 +4,25 @@
 //! `plan`.
 
 ghost use Rattle.std.specs.Prelude.{ℕ, List, IfOk};
+ghost use Rattle.wq_cert.specs.Texts.{max_certificate};
+ghost use Rattle.wq_commands.specs.Declaration.{max_declaration};
 ghost use Rattle.wq_meter.specs.Input.{IsInput};
+ghost use Rattle.wqplan.specs.Kept.{IsKept};
 ghost use Rattle.wq_meter.specs.Meter.{WritesWhole};
 ghost use Rattle.wq_commands.specs.Replaying.{Replays};
 
-use crate::files::open;
+use crate::diagnosis::{say_of_certificate, say_of_declaration};
+use crate::files::{MAX_CERTIFICATE, open};
 use std::alloc::Global;
 use std::io::{self, Read, Write};
 use std::rt::Files;
-use wq_commands::{End, Fault, Metered, replay_cmd};
+use wq_commands::{End, Fault, MAX_DECLARATION, Metered, read_text, replay_cmd};
+use wq_diagnosis::{Kind, Source};
 
 /// Answers the declaration, the assignment and the run in the files of these paths.
 ///
-/// A file that can't be opened is `Fault::Read`.
-pub(crate) fn replay<R: Files + Print + AllocGlobal>(
+/// A file that can't be opened is `Fault::Read`. Of a text that is refused standard error says what is wrong.
+pub(crate) fn replay<R: Files + Print + Eprint + AllocGlobal>(
     rt: &R,
     declaration: &str,
     assignment: &str,
@@ -29,23 +34,76 @@ pub(crate) fn replay<R: Files + Print + AllocGlobal>(
     let assigned = open(rt, assignment)?;
     let listed = open(rt, run)?;
     let mut writer = Metered::new(io::writer(rt));
-    replay_input(rt.alloc(), declared, assigned, listed, &mut writer)
+    let (end, texts) = replay_input(rt.alloc(), declared, assigned, listed, &mut writer)?;
+    if end == End::Refused {
+        say_of(rt, declaration, assignment, run, &texts);
+    }
+    Ok(end)
 }
 
-/// Writes the answer to the declaration, the assignment and the run that these inputs have.
+/// The three texts, as far as they were read.
+#[derive(Drop)]
+struct Texts {
+    declaration: Vec<u8>,
+    assignment: Vec<u8>,
+    run: Vec<u8>,
+}
+
+/// Says what is wrong with the first text that is refused.
+fn say_of<R: Eprint + AllocGlobal>(
+    rt: &R,
+    declaration: &str,
+    assignment: &str,
+    run: &str,
+    texts: &Texts,
+) {
+    let declared = &texts.declaration;
+    let file = declaration;
+    say_of_declaration(
+        rt,
+        Source {
+            file,
+            text: declared,
+        },
+    );
+    let assigned = Source {
+        file: assignment,
+        text: &texts.assignment,
+    };
+    let listed = Source {
+        file: run,
+        text: &texts.run,
+    };
+    if !say_of_certificate(rt, Kind::Assignment, declared, assigned) {
+        say_of_certificate(rt, Kind::Run, declared, listed);
+    }
+}
+
+/// Writes the answer to the declaration, the assignment and the run that these inputs have. The texts are handed out as far as
+/// they were read.
 fn replay_input<D: Read + Drop, A: Read + Drop, S: Read + Drop, W: Write>(
     alloc: Global,
     declaration: D,
     assignment: A,
     run: S,
     writer: &mut Metered<W>,
-) -> Result<End, Fault>
-    ensures { IfOk result (λ end. (text lanes steps out : List ℕ) × IsInput (D.remaining declaration) text
-        × IsInput (A.remaining assignment) lanes × IsInput (S.remaining run) steps × Replays text lanes steps end out
-        × WritesWhole W.contents writer.old writer.new out) }
+) -> Result<(End, Texts), Fault>
+    ensures { IfOk result (λ answered. (text lanes steps out : List ℕ) × IsInput (D.remaining declaration) text
+        × IsInput (A.remaining assignment) lanes × IsInput (S.remaining run) steps × IsKept max_declaration text answered.1.declaration.items
+        × IsKept max_certificate lanes answered.1.assignment.items × IsKept max_certificate steps answered.1.run.items
+        × Replays text lanes steps answered.0 out × WritesWhole W.contents writer.old writer.new out) }
 {
     let mut declared = Metered::new(declaration);
     let mut assigned = Metered::new(assignment);
     let mut listed = Metered::new(run);
-    replay_cmd(alloc, &mut declared, &mut assigned, &mut listed, writer)
+    let texts = Texts {
+        declaration: read_text(alloc, &mut declared, MAX_DECLARATION)?,
+        assignment: read_text(alloc, &mut assigned, MAX_CERTIFICATE)?,
+        run: read_text(alloc, &mut listed, MAX_CERTIFICATE)?,
+    };
+    let mut kept = Metered::new(texts.declaration.as_slice());
+    let mut kept_lanes = Metered::new(texts.assignment.as_slice());
+    let mut kept_steps = Metered::new(texts.run.as_slice());
+    let end = replay_cmd(alloc, &mut kept, &mut kept_lanes, &mut kept_steps, writer)?;
+    Ok((end, texts))
 }

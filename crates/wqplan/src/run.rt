@@ -5,21 +5,25 @@
 ghost use Rattle.std.specs.Prelude.{ℕ, List, IfOk};
 ghost use Rattle.wq_meter.specs.Input.{IsInput};
 ghost use Rattle.wq_meter.specs.Meter.{WritesWhole};
+ghost use Rattle.wq_commands.specs.Declaration.{max_declaration};
 ghost use Rattle.wq_run.specs.Running.{Runs};
+ghost use Rattle.wqplan.specs.Kept.{IsKept};
 
+use crate::diagnosis::say_of_run;
 use crate::files::open;
 use std::alloc::Global;
 use std::io::{self, Read, Write};
 use std::rt::Files;
 use std::sync::Wait;
 use std::thread::Threads;
-use wq_commands::{End, Metered};
+use wq_commands::{End, MAX_DECLARATION, Metered, read_text};
+use wq_diagnosis::Source;
 use wq_run::{CommandFault, run_cmd};
 
 /// Plans the declaration in the file of this path, and runs its plan.
 ///
-/// A file that can't be opened is `fault read`.
-pub(crate) fn run<R: Files + Print + AllocGlobal + Threads + Wait + Sync>(
+/// A file that can't be opened is `fault read`. Of a text or a plan that is refused standard error says what is wrong.
+pub(crate) fn run<R: Files + Print + Eprint + AllocGlobal + Threads + Wait + Sync>(
     rt: &R,
     declaration: &str,
 ) -> Result<End, CommandFault>
@@ -27,19 +31,27 @@ pub(crate) fn run<R: Files + Print + AllocGlobal + Threads + Wait + Sync>(
 {
     let declared = open(rt, declaration)?;
     let mut writer = Metered::new(io::writer(rt));
-    run_input(rt, rt.alloc(), declared, &mut writer)
+    let (end, text) = run_input(rt, rt.alloc(), declared, &mut writer)?;
+    if end == End::Refused {
+        let file = declaration;
+        say_of_run(rt, Source { file, text: &text });
+    }
+    Ok(end)
 }
 
-/// Writes what came of the plan of the declaration that the input has.
+/// Writes what came of the plan of the declaration that the input has. The text is handed out as far as it was read.
 fn run_input<R: Threads + Wait + Sync, D: Read + Drop, W: Write>(
     rt: &R,
     alloc: Global,
     declaration: D,
     writer: &mut Metered<W>,
-) -> Result<End, CommandFault>
-    ensures { IfOk result (λ end. (text out : List ℕ) × IsInput (D.remaining declaration) text
-        × Runs text end out × WritesWhole W.contents writer.old writer.new out) }
+) -> Result<(End, Vec<u8>), CommandFault>
+    ensures { IfOk result (λ answered. (text out : List ℕ) × IsInput (D.remaining declaration) text
+        × IsKept max_declaration text answered.1.items × Runs text answered.0 out × WritesWhole W.contents writer.old writer.new out) }
 {
     let mut declared = Metered::new(declaration);
-    run_cmd(rt, alloc, &mut declared, writer)
+    let text = read_text(alloc, &mut declared, MAX_DECLARATION)?;
+    let mut kept = Metered::new(text.as_slice());
+    let end = run_cmd(rt, alloc, &mut kept, writer)?;
+    Ok((end, text))
 }

@@ -1,0 +1,7 @@
+use Rattle.std.proofs.Common.{◌≡◌, ◌++◌, take}
+use Rattle.wq_diagnosis.specs.Diagnosis.{place_text}
+use Rattle.wq_diagnosis.proofs.diagnosis.put_place.Given as goal
+
+-- the numbers so far
+abbrev pub invariant-loop-number : goal.invariant-loop-number
+invariant-loop-number g l = l.out.items ≡ l.fn.out.items ++ place_text (take l.number-index l.place)

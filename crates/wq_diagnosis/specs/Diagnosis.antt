@@ -1,0 +1,40 @@
+-- Diagnoses: what is said on standard error of a text that is refused.
+use Rattle.std.specs.Prelude.{if◌then◌else◌, ◌≡◌, ◌⊎◌, ◌≤◌, ◌<◌, ◌==◌, ℕ, List, [], ◌∷◌, ◌++◌, codes, decimal, flat_map, map}
+use Rattle.std.specs.List.{All}
+use Rattle.wq_decl.specs.Reading.{is_text_byte}
+
+-- a byte as it is shown: printable ASCII as it is, a TAB as a space, any other as `?`
+abbrev pub shown : ℕ → ℕ
+shown byte = if byte == 9 then 32 else (if is_text_byte byte then byte else 63)
+
+-- lines as they are shown
+abbrev pub shown_lines : List (List ℕ) → List ℕ
+shown_lines lines = flat_map (λ line. map shown line ++ (10 ∷ [])) lines
+
+-- numbers behind colons
+abbrev pub place_text : List ℕ → List ℕ
+place_text place = flat_map (λ number. 58 ∷ decimal number) place
+
+-- the first line: the file, the place in it, what is wrong, and the word of the answer, `refused` or `no`, with its number
+abbrev pub head : List ℕ → List ℕ → List ℕ → List ℕ → ℕ → List ℕ
+head file place what word code =
+    (((((((((file ++ place_text place) ++ codes ": ") ++ what) ++ codes " [") ++ word) ++ codes " ") ++ decimal code)
+    ++ codes ", `wqplan explain ") ++ decimal code) ++ codes "`]"
+
+-- a place has this line, and maybe a column; on line 0, where no line is meant, it has neither
+abbrev pub IsOnLine : ℕ → List ℕ → Type 0
+IsOnLine line place = ((line ≡ 0) × (place ≡ []))
+    ⊎ ((0 < line) × ((place ≡ line ∷ []) ⊎ ((column : ℕ) × (place ≡ line ∷ column ∷ []))))
+
+-- what a terminal shows as it is: printable ASCII and line feeds
+abbrev pub IsPlain : List ℕ → Type 0
+IsPlain text = All (λ byte. (byte ≡ 10) ⊎ ((32 ≤ byte) × (byte ≤ 126))) text
+
+-- a diagnosis of an answer: the first line has its file, its line, its word and its number; and it is plain
+pub record IsDiagnosis (file word : List ℕ) (code line : ℕ) (text : List ℕ) : Type 0 where
+  pub place : List ℕ
+  pub what : List ℕ
+  pub more : List (List ℕ)
+  pub on_line : IsOnLine line place
+  pub lines : text ≡ shown_lines (head file place what word code ∷ more)
+  pub plain : IsPlain text

@@ -1,0 +1,45 @@
+-- Which refusal a diagnosis is of.
+use Rattle.std.specs.Prelude.{◌≡◌, ℕ, List, Option, Some, None, Result, Ok, Err, codes}
+use Rattle.wq_text.specs.Refusal.{Refusal}
+use Rattle.wq_cert.specs.declared.fault.CertError.{CertError}
+use Rattle.wq_cert.specs.declared.fault.CertError.TheVariants.{OutOfMemory}
+use Rattle.wq_cert.specs.Texts.{answer_of, assignment_of_text, run_of, cert_refusal}
+use Rattle.wq_commands.specs.Declaration.{Declared, declaration}
+use Rattle.wq_diagnosis.specs.declared.stage.Kind.{Kind}
+use Rattle.wq_diagnosis.specs.declared.stage.Kind.TheVariants.{Answer, Assignment, Run}
+use Rattle.wq_diagnosis.specs.Diagnosis.{IsDiagnosis}
+
+-- what a text is refused for, by what it was read as
+abbrev pub refusal_of : {T E : Type 0} → (E → Refusal) → Result T E → Option Refusal
+refusal_of refusal (Ok _) = None
+refusal_of refusal (Err e) = Some (refusal e)
+
+-- what a declaration is refused for
+abbrev pub declaration_refusal : List ℕ → Option Refusal
+declaration_refusal text = refusal_of (λ r. r) (declaration text)
+
+-- what a certificate of a declaration is refused for
+abbrev pub certificate_refusal : Kind → Declared → List ℕ → Option Refusal
+certificate_refusal Answer s text = refusal_of cert_refusal (answer_of s.table.names s.partition text)
+certificate_refusal Assignment s text = refusal_of cert_refusal (assignment_of_text s.table.names s.partition text)
+certificate_refusal Run s text = refusal_of cert_refusal (run_of s.table.names text)
+
+-- what a certificate is refused for, where the declaration is one
+abbrev pub refusal_by : Kind → Result Declared Refusal → List ℕ → Option Refusal
+refusal_by kind (Ok s) text = certificate_refusal kind s text
+refusal_by kind (Err r) text = None
+
+-- the same of two texts
+abbrev pub refusal_with : Kind → List ℕ → List ℕ → Option Refusal
+refusal_with kind declared text = refusal_by kind (declaration declared) text
+
+-- a fault of this refusal, or out of memory, which says nothing of the text; none where there is no refusal
+abbrev pub IsFaultOfCertificate : Option CertError → Option Refusal → Type 0
+IsFaultOfCertificate None refusal = refusal ≡ None
+IsFaultOfCertificate (Some OutOfMemory) refusal = Unit {0}
+IsFaultOfCertificate (Some e) refusal = refusal ≡ Some (cert_refusal e)
+
+-- what is said of a text: nothing where it isn't refused, and else a diagnosis of its refusal
+abbrev pub Diagnoses : List ℕ → Option Refusal → Option (List ℕ) → Type 0
+Diagnoses file None said = said ≡ None
+Diagnoses file (Some r) said = (text : List ℕ) × (said ≡ Some text) × IsDiagnosis file (codes "refused") r.code r.line text

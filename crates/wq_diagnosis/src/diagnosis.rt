@@ -1,0 +1,455 @@
+//! The text of a diagnosis, and the diagnoses of the texts of a command.
+//!
+//! The form is that of "Diagnoses" in docs/FORMAT.md. A text is read anew to learn its refusal, so a call takes the time and the
+//! memory of reading the texts and of seeking the fault in them.
+
+ghost use Rattle.std.specs.Prelude.{◌≡◌, ◌++◌, ◌∷◌, [], ◌<◌, codes, decimal, length, map, option_map, ℕ, IfOk, IfSome, OnOk};
+ghost use Rattle.wq_diagnosis.specs.Diagnosis.{head, place_text, shown, shown_lines, IsDiagnosis};
+ghost use Rattle.wq_diagnosis.specs.Refused.{Diagnoses, IsFaultOfCertificate, certificate_refusal, declaration_refusal, refusal_with};
+
+use crate::excerpt::{CUT, Window, shown};
+use crate::finding::{Finding, Mark, line_at, said};
+use crate::stage::Kind;
+use crate::{certificate, declaration, no};
+use std::alloc::{AllocError, Allocator};
+use wq_cert::{CertError, read_answer, read_assignment, read_run};
+use wq_checker::{No, check_answer};
+use wq_commands::{Declaration, Stop, read_declaration};
+use wq_lines::put;
+use wq_text::{Line, Text};
+
+/// How many columns the line and its marks are moved to the right.
+const INDENT: &str = "    ";
+
+/// The number of a plan that has too many workqueues to run.
+const TOO_MANY: u32 = 69;
+
+/// A text of a command, and the file that it is from.
+#[derive(Clone, Copy, Debug, PartialEq, Eq)]
+pub struct Source<'a> {
+    /// The path of the file, as it was given.
+    pub file: &'a str,
+    /// The bytes of the text.
+    pub text: &'a [u8],
+}
+
+/// A refusal, or a `no`: the word, its number, and the line, or 0 where no line is meant.
+#[derive(Clone, Copy)]
+struct Refusal {
+    word: &'static str,
+    code: u32,
+    line: u32,
+}
+
+impl Refusal {
+    /// The refusal of this number for this line.
+    fn new(code: u32, line: u32) -> Refusal
+        ensures word { result.word.now ≡ codes "refused" }
+        ensures code { result.code ≡ code }
+        ensures line { result.line ≡ line }
+    {
+        Refusal {
+            word: "refused",
+            code,
+            line,
+        }
+    }
+
+    /// The `no` of this number, which is shown on this line.
+    fn no(code: u32, line: u32) -> Refusal
+        ensures word { result.word.now ≡ codes "no" }
+        ensures code { result.code ≡ code }
+        ensures line { result.line ≡ line }
+    {
+        Refusal {
+            word: "no",
+            code,
+            line,
+        }
+    }
+}
+
+/// The bytes as they are shown.
+fn shown_bytes<A: Allocator + Copy>(alloc: A, bytes: &[u8]) -> Result<Vec<u8, A>, AllocError>
+    ensures { IfOk result (λ line. line.items ≡ map shown bytes.now) }
+{
+    let mut line = Vec::new(alloc);
+    for byte in bytes {
+        line.push(shown(*byte))?;
+    }
+    Ok(line)
+}
+
+/// Adds a line as it is shown.
+fn put_line<A: Allocator + Copy>(
+    alloc: A,
+    out: &mut Vec<u8, A>,
+    line: &[u8],
+) -> Result<(), AllocError>
+    ensures { OnOk result (out.new.items ≡ out.old.items ++ (map shown line.now ++ (10 ∷ []))) }
+{
+    let line = shown_bytes(alloc, line)?;
+    out.extend_from_slice(&line)?;
+    out.push(b'\n')?;
+    Ok(())
+}
+
+/// Adds the numbers of a place, each behind a colon.
+fn put_place<A: Allocator + Copy>(
+    alloc: A,
+    out: &mut Vec<u8, A>,
+    place: &[u32],
+) -> Result<(), AllocError>
+    ensures { OnOk result (out.new.items ≡ out.old.items ++ place_text place.now) }
+{
+    for number in place {
+        put_part(alloc, out, *number)?;
+    }
+    Ok(())
+}
+
+/// Adds a number behind a colon.
+fn put_part<A: Allocator + Copy>(
+    alloc: A,
+    out: &mut Vec<u8, A>,
+    number: u32,
+) -> Result<(), AllocError>
+    ensures { OnOk result (out.new.items ≡ out.old.items ++ (58 ∷ decimal number)) }
+{
+    let digits = number.to_string(alloc)?;
+    out.push(b':')?;
+    out.extend_from_slice(digits.as_bytes())?;
+    Ok(())
+}
+
+/// The first line: the file, the place, what is wrong, and the word of the answer with its number.
+fn head<A: Allocator + Copy>(
+    alloc: A,
+    file: &str,
+    place: &[u32],
+    what: &str,
+    word: &str,
+    code: u32,
+) -> Result<Vec<u8, A>, AllocError>
+    ensures { IfOk result (λ line. line.items ≡ head file.now place.now what.now word.now code) }
+{
+    let code = code.to_string(alloc)?;
+    let mut line = Vec::new(alloc);
+    put(&mut line, file.as_bytes())?;
+    put_place(alloc, &mut line, place)?;
+    put(&mut line, b": ")?;
+    put(&mut line, what.as_bytes())?;
+    put(&mut line, b" [")?;
+    put(&mut line, word.as_bytes())?;
+    put(&mut line, b" ")?;
+    put(&mut line, code.as_bytes())?;
+    put(&mut line, b", `wqplan explain ")?;
+    put(&mut line, code.as_bytes())?;
+    put(&mut line, b"`]")?;
+    Ok(line)
+}
+
+/// The part of a line that is shown, moved to the right.
+fn excerpt<A: Allocator + Copy>(
+    alloc: A,
+    line: &Line<'_>,
+    window: Window,
+) -> Result<Vec<u8, A>, AllocError> {
+    let bytes = line.bytes();
+    let mut out = Vec::new(alloc);
+    out.extend_from_slice(INDENT.as_bytes())?;
+    if window.start > 0 {
+        out.extend_from_slice(CUT.as_bytes())?;
+    }
+    out.extend_from_slice(window.bytes(bytes))?;
+    if window.end < bytes.len() {
+        out.extend_from_slice(CUT.as_bytes())?;
+    }
+    Ok(out)
+}
+
+/// The marks below the part that is shown, with the hint behind them.
+fn marks<A: Allocator + Copy>(
+    alloc: A,
+    window: Window,
+    mark: Mark,
+    hint: &str,
+) -> Result<Vec<u8, A>, AllocError> {
+    let mut out = Vec::new(alloc);
+    out.extend_from_slice(INDENT.as_bytes())?;
+    for _ in 0..window.column(mark) {
+        out.push(b' ')?;
+    }
+    for _ in 0..window.width(mark) {
+        out.push(b'^')?;
+    }
+    if !hint.is_empty() {
+        out.push(b' ')?;
+        out.extend_from_slice(hint.as_bytes())?;
+    }
+    Ok(out)
+}
+
+/// The lines below the first one: the line with its marks where bytes of it are meant, and else the hint alone.
+fn details<A: Allocator + Copy>(
+    alloc: A,
+    line: Option<Line<'_>>,
+    finding: &Finding<A>,
+) -> Result<Vec<Vec<u8, A>, A>, AllocError> {
+    let mut details = Vec::new(alloc);
+    if let (Some(line), Some(mark)) = (line, finding.mark) {
+        let window = Window::round(line.bytes().len(), mark);
+        details.push(excerpt(alloc, &line, window)?)?;
+        details.push(marks(alloc, window, mark, &finding.hint)?)?;
+    }
+    Ok(details)
+}
+
+/// Adds lines as they are shown.
+fn put_lines<A: Allocator + Copy>(
+    alloc: A,
+    out: &mut Vec<u8, A>,
+    lines: &[Vec<u8, A>],
+) -> Result<(), AllocError>
+    ensures { OnOk result (out.new.items ≡ out.old.items ++ shown_lines (map (λ line. line.items) lines.now)) }
+{
+    for line in lines {
+        put_line(alloc, out, line)?;
+    }
+    Ok(())
+}
+
+/// The whole text of a diagnosis.
+fn whole_text<A: Allocator + Copy>(
+    alloc: A,
+    file: &str,
+    place: &[u32],
+    what: &str,
+    word: &str,
+    code: u32,
+    details: &[Vec<u8, A>],
+) -> Result<Vec<u8, A>, AllocError>
+    ensures { IfOk result (λ text. text.items ≡ shown_lines (head file.now place.now what.now word.now code ∷ map (λ line. line.items) details.now)) }
+{
+    let head = head(alloc, file, place, what, word, code)?;
+    let mut out = Vec::new(alloc);
+    put_line(alloc, &mut out, &head)?;
+    put_lines(alloc, &mut out, details)?;
+    Ok(out)
+}
+
+/// The column of a mark, from 1.
+fn column(mark: Mark) -> u32 {
+    u32::try_from(mark.at).unwrap_or(u32::MAX).saturating_add(1)
+}
+
+/// The diagnosis of a refusal of a text, by what was found in it.
+fn diagnosis<A: Allocator + Copy>(
+    alloc: A,
+    file: &str,
+    text: &Text<'_>,
+    refusal: Refusal,
+    finding: &Finding<A>,
+) -> Result<Vec<u8, A>, AllocError>
+    ensures { IfOk result (λ said. IsDiagnosis file.now refusal.word.now refusal.code refusal.line said.items) }
+{
+    let Refusal { word, code, line } = refusal;
+    let details = details(alloc, line_at(text, line), finding)?;
+    let what = &finding.what;
+    if line == 0 {
+        return whole_text(alloc, file, &[], what, word, code, &details);
+    }
+    match finding.mark {
+        Some(mark) => whole_text(
+            alloc,
+            file,
+            &[line, column(mark)],
+            what,
+            word,
+            code,
+            &details,
+        ),
+        None => whole_text(alloc, file, &[line], what, word, code, &details),
+    }
+}
+
+/// The lines of a text, however long they are. Longer texts than 4,294,967,295 bytes, which no command reads, have none.
+fn lines_of(text: &[u8]) -> Text<'_> {
+    match Text::new(text, u32::MAX, u32::MAX) {
+        Ok(text) => text,
+        Err(_) => no_text(),
+    }
+}
+
+/// A text without lines.
+fn no_text<'a>() -> Text<'a> {
+    Text::new(b"", 0, 0).unwrap()
+}
+
+/// What is said of a declaration that is refused so.
+fn of_refused<A: Allocator + Copy>(
+    alloc: A,
+    declaration: Source<'_>,
+    refusal: Refusal,
+) -> Result<Vec<u8, A>, AllocError>
+    ensures { IfOk result (λ said. IsDiagnosis declaration.entry.file.now refusal.word.now refusal.code refusal.line said.items) }
+{
+    let text = lines_of(declaration.text);
+    let finding = declaration::find(alloc, &text, refusal.code, refusal.line)?;
+    diagnosis(alloc, declaration.file, &text, refusal, &finding)
+}
+
+/// What is said of a declaration: nothing where it is one, and else the diagnosis of its refusal.
+///
+/// The only error is out of memory (20).
+pub fn of_declaration<A: Allocator + Copy>(
+    alloc: A,
+    declaration: Source<'_>,
+) -> Result<Option<Vec<u8, A>>, AllocError>
+    ensures { IfOk result (λ said. Diagnoses declaration.entry.file.now (declaration_refusal declaration.entry.text.now) (option_map (λ text. text.items) said)) }
+{
+    match read_declaration(alloc, declaration.text) {
+        Ok(_) => Ok(None),
+        Err(Stop::Refused { code, line }) => {
+            let said = of_refused(alloc, declaration, Refusal::new(code, line))?;
+            Ok(Some(said))
+        }
+        Err(Stop::OutOfMemory) => Err(AllocError),
+    }
+}
+
+/// What a certificate of a declaration is refused for; none where it is of its form.
+fn fault_of<A: Allocator + Copy>(
+    alloc: A,
+    kind: Kind,
+    declared: &Declaration<'_, A>,
+    text: &[u8],
+) -> Option<CertError>
+    requires { length declared.now.groups.group_of ≡ length declared.now.table.names }
+    ensures { IsFaultOfCertificate result (certificate_refusal kind (record { table = declared.now.table; partition = declared.now.groups }) text.now) }
+{
+    let Declaration { table, groups } = declared;
+    match kind {
+        Kind::Answer => read_answer(alloc, text, table, groups).err(),
+        Kind::Assignment => read_assignment(alloc, text, table, groups).err(),
+        Kind::Run => read_run(alloc, text, table).err(),
+    }
+}
+
+/// What is said of a certificate that is refused so.
+fn of_fault<A: Allocator + Copy>(
+    alloc: A,
+    kind: Kind,
+    declared: &Declaration<'_, A>,
+    declaration: &[u8],
+    certificate: Source<'_>,
+    refusal: Refusal,
+) -> Result<Vec<u8, A>, AllocError>
+    requires { length declared.now.groups.group_of ≡ length declared.now.table.names }
+    ensures { IfOk result (λ said. IsDiagnosis certificate.entry.file.now refusal.word.now refusal.code refusal.line said.items) }
+{
+    let text = lines_of(certificate.text);
+    let finding = certificate::find(
+        alloc,
+        kind,
+        &lines_of(declaration),
+        &declared.table,
+        &declared.groups,
+        &text,
+        refusal.code,
+        refusal.line,
+    )?;
+    diagnosis(alloc, certificate.file, &text, refusal, &finding)
+}
+
+/// What is said of a certificate of a declaration: nothing where it is of its form, or where the declaration is refused, and
+/// else the diagnosis of its refusal.
+///
+/// The only error is out of memory (20).
+pub fn of_certificate<A: Allocator + Copy>(
+    alloc: A,
+    kind: Kind,
+    declaration: &[u8],
+    certificate: Source<'_>,
+) -> Result<Option<Vec<u8, A>>, AllocError>
+    ensures { IfOk result (λ said. Diagnoses certificate.entry.file.now (refusal_with kind declaration.now certificate.entry.text.now) (option_map (λ text. text.items) said)) }
+{
+    let declared = match read_declaration(alloc, declaration) {
+        Ok(declared) => declared,
+        Err(Stop::Refused { .. }) => return Ok(None),
+        Err(Stop::OutOfMemory) => return Err(AllocError),
+    };
+    match fault_of(alloc, kind, &declared, certificate.text) {
+        None => Ok(None),
+        Some(CertError::OutOfMemory) => Err(AllocError),
+        Some(fault) => {
+            let refusal = Refusal::new(fault.code(), fault.line());
+            let said = of_fault(alloc, kind, &declared, declaration, certificate, refusal)?;
+            Ok(Some(said))
+        }
+    }
+}
+
+/// What is said of a declaration whose plan has too many workqueues to run.
+///
+/// The only error is out of memory (20).
+pub fn of_too_many<A: Allocator + Copy>(
+    alloc: A,
+    declaration: Source<'_>,
+) -> Result<Vec<u8, A>, AllocError>
+    ensures { IfOk result (λ said. IsDiagnosis declaration.entry.file.now (codes "refused") 69 0 said.items) }
+{
+    let what = said(
+        alloc,
+        "the plan has more than 256 workqueues, each of which takes a thread",
+    )?;
+    let finding = Finding::whole(alloc, what);
+    diagnosis(
+        alloc,
+        declaration.file,
+        &no_text(),
+        Refusal::new(TOO_MANY, 0),
+        &finding,
+    )
+}
+
+/// What the checker answers to a certificate.
+fn checked<A: Allocator + Copy>(
+    alloc: A,
+    declared: &Declaration<'_, A>,
+    text: &[u8],
+) -> Result<Option<No>, AllocError>
+    requires { length declared.now.groups.group_of ≡ length declared.now.table.names }
+{
+    let Declaration { table, groups } = declared;
+    // What holds of every table and of all groups.
+    let _items = table.len();
+    let _groups = groups.len();
+    match read_answer(alloc, text, table, groups) {
+        Ok(answer) => Ok(check_answer(alloc, table, groups, &answer)?.err()),
+        Err(_) => Ok(None),
+    }
+}
+
+/// What is said of a certificate of a declaration to which the checker says no; nothing of another one.
+///
+/// The only error is out of memory (20).
+pub fn of_no<A: Allocator + Copy>(
+    alloc: A,
+    declaration: &[u8],
+    certificate: Source<'_>,
+) -> Result<Option<Vec<u8, A>>, AllocError>
+    ensures { IfOk result (λ said. IfSome said (λ text. (code line : ℕ) × IsDiagnosis certificate.entry.file.now (codes "no") code line text.items)) }
+{
+    let Ok(declared) = read_declaration(alloc, declaration) else {
+        return Ok(None);
+    };
+    let Some(no) = checked(alloc, &declared, certificate.text)? else {
+        return Ok(None);
+    };
+    let text = lines_of(certificate.text);
+    let lack = no::find(alloc, &declared.table, &text, &no)?;
+    let refusal = Refusal::no(no.code(), lack.line);
+    let said = diagnosis(alloc, certificate.file, &text, refusal, &lack.finding)?;
+    Ok(Some(said))
+}

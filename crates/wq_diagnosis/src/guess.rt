@@ -1,0 +1,73 @@
+//! What a word was most likely meant to be.
+//!
+//! How alike two words are is `strsim`'s affair, in time of the product of their lengths. Else a call takes time in the length
+//! of the word.
+
+use crate::excerpt::Quoted;
+use std::alloc::{AllocError, Allocator};
+use std::str;
+use strsim::osa_distance;
+
+/// A word as it is shown, a letter for each byte.
+pub(crate) fn letters<A: Allocator + Copy>(alloc: A, word: &[u8]) -> Result<String<A>, AllocError> {
+    format!(in alloc; "{}", Quoted(word))
+}
+
+/// How many letters have to be put in, left out, replaced or swapped with the next to come from one word to another, if these are
+/// few: at most one of three and fewer than there are, or one in a short word. None where the words aren't alike.
+pub(crate) fn edits_between<A: Allocator + Copy>(
+    alloc: A,
+    word: &str,
+    known: &str,
+) -> Result<Option<usize>, AllocError> {
+    if word.eq_ignore_ascii_case(known) {
+        return Ok(Some(0));
+    }
+    let most = (word.len() / 3).max(1);
+    if word.len().abs_diff(known.len()) > most {
+        return Ok(None);
+    }
+    let edits = osa_distance(alloc, word, known)?;
+    Ok(if edits <= most && edits < word.len() {
+        Some(edits)
+    } else {
+        None
+    })
+}
+
+/// Whether a word begins a comment in another language.
+pub(crate) fn begins_comment(word: &[u8]) -> bool {
+    matches!(
+        word,
+        [b'/', b'/' | b'*', ..] | [b'*' | b';' | b'%', ..] | [b'-', b'-', ..]
+    )
+}
+
+/// Which text has lines that begin with this word.
+pub(crate) fn text_with(word: &[u8]) -> Option<&'static str> {
+    let Ok(word) = str::from_utf8(word) else {
+        return None;
+    };
+    match word {
+        "item" | "flush" | "ordered" => Some("a declaration"),
+        "plan" | "wq" | "chain" => Some("a plan or an assignment"),
+        "circle" => Some("a circle"),
+        "run" | "queue" | "cancel" | "start" | "wait" | "over" | "finish" => Some("a run"),
+        "refused" => Some("a refusal, written here in place of an answer"),
+        _ => None,
+    }
+}
+
+/// The directive that a word was most likely meant to be.
+pub(crate) fn directive_like<A: Allocator + Copy>(
+    alloc: A,
+    word: &[u8],
+) -> Result<Option<&'static str>, AllocError> {
+    let word = letters(alloc, word)?;
+    for directive in ["item", "flush", "ordered"] {
+        if edits_between(alloc, &word, directive)?.is_some() {
+            return Ok(Some(directive));
+        }
+    }
+    Ok(None)
+}

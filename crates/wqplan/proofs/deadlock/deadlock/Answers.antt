@@ -1,5 +1,0 @@
-use Rattle.std.proofs.lemmas.Result.{IfOk-weaker}
-use Rattle.wqplan.proofs.deadlock.deadlock.Goals as goal
-
-pub returns : goal.returns
-returns g c = IfOk-weaker c.deadlock_input.result _ _ (λ end h. (h.0, h.1, h.2, h.5)) c.deadlock_input.ensures

@@ -1,0 +1,61 @@
+//! What is said on standard error of a text that was refused.
+//!
+//! It comes after the refusal is written, and changes neither standard output nor the status: where memory for it is refused, or
+//! standard error can't be written, it is left out. Takes the time and the memory of reading the texts once more.
+
+use std::alloc::{AllocError, Global};
+use std::str;
+use wq_diagnosis::{Kind, Source, of_certificate, of_declaration, of_no, of_too_many};
+
+/// The name of standard input in a diagnosis.
+pub(crate) const STDIN: &str = "<stdin>";
+
+/// Says what is wrong, where anything is. Gives whether there was anything to say.
+fn say(rt: &impl Eprint, said: Result<Option<Vec<u8>>, AllocError>) -> bool {
+    match said {
+        Ok(Some(text)) => {
+            let _ = rt.eprint(str::from_utf8(&text).unwrap_or(""));
+            true
+        }
+        Ok(None) => false,
+        Err(_) => true,
+    }
+}
+
+/// Says what is wrong with a declaration.
+pub(crate) fn say_of_declaration<R: Eprint + AllocGlobal>(rt: &R, declaration: Source<'_>) {
+    say(rt, of_declaration(rt.alloc(), declaration));
+}
+
+/// Says what is wrong with a certificate of a declaration, where that isn't refused itself. Gives whether there was anything to
+/// say.
+pub(crate) fn say_of_certificate<R: Eprint + AllocGlobal>(
+    rt: &R,
+    kind: Kind,
+    declaration: &[u8],
+    certificate: Source<'_>,
+) -> bool {
+    say(
+        rt,
+        of_certificate(rt.alloc(), kind, declaration, certificate),
+    )
+}
+
+/// Says what is wrong with a declaration that was not run: it is none, or its plan is too large.
+pub(crate) fn say_of_run<R: Eprint + AllocGlobal>(rt: &R, declaration: Source<'_>) {
+    let alloc: Global = rt.alloc();
+    let said = match of_declaration(alloc, declaration) {
+        Ok(None) => of_too_many(alloc, declaration).map(Some),
+        said => said,
+    };
+    say(rt, said);
+}
+
+/// Says what a certificate of a declaration lacks to which the answer is no.
+pub(crate) fn say_of_no<R: Eprint + AllocGlobal>(
+    rt: &R,
+    declaration: &[u8],
+    certificate: Source<'_>,
+) {
+    say(rt, of_no(rt.alloc(), declaration, certificate));
+}

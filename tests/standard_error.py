@@ -1,0 +1,78 @@
+#!/usr/bin/env python3
+"""Says whether standard error has what belongs to an answer of wqplan, by docs/FORMAT.md, "Diagnoses".
+
+    standard_error.py OUT ERR FILE
+
+ends with 0 where it has, and with 1 where it hasn't. OUT and ERR are files with what the program wrote to standard output and to
+standard error. Where OUT is a refusal, or a `no` of `check`, ERR must be its diagnosis: it names FILE, the line and the number, and
+shows the line and its marks where a line is meant. Where OUT is any other answer, ERR must be empty. The words and the hints
+of a diagnosis may be any: they aren't compared here. `belongs` and `meant` do this for other scripts.
+"""
+
+import pathlib
+import re
+import sys
+
+# The name of standard input in a diagnosis.
+STDIN = b"<stdin>"
+
+REFUSED = re.compile(rb"(refused) ([0-9]+) line ([0-9]+)\n")
+NO = re.compile(rb"(no) ([0-9]+)(?: [^\n]*)?\n")
+
+NUMBER = rb"[1-9][0-9]*"
+# The line that is meant, and below it the marks, with the hint if there is one.
+MARKED = rb"    [ -~]+\n {4,}\^+(?: [ -~]+)?\n"
+
+
+def shown(file):
+    """A path as a diagnosis shows it."""
+    return re.sub(rb"[^ -~]", b"?", file.replace(b"\t", b" "))
+
+
+def diagnosis(word, code, line, file):
+    """The form of a diagnosis. Where a line is meant, so is a byte of it."""
+    place = b"" if line == b"0" else b":%s:%s" % (line, NUMBER)
+    head = rb"%s%s: [ -~]+ \[%s %s, `wqplan explain %s`\]\n" % (re.escape(shown(file)), place, word, code, code)
+    return head + (MARKED if place else b"")
+
+
+def answer(printed):
+    """The first word of a refusal or of a `no`, its number and its line; of any other answer None.
+
+    The line of a `no` is any: it is that of the word that is meant.
+    """
+    refused, no = REFUSED.fullmatch(printed), NO.fullmatch(printed)
+    if refused:
+        return refused.groups()
+    return (*no.groups(), NUMBER) if no else None
+
+
+def meant(printed, files):
+    """Those of a command's files, in the order of its arguments, that a refusal or a `no` may be of."""
+    found = answer(printed)
+    if not found:
+        return files
+    word, code = found[0], int(found[1])
+    if word == b"no" or code in (41, 42):
+        return files[1:2]
+    return files[1:] if 40 <= code < 50 else files[:1]
+
+
+def belongs(printed, errors, files):
+    """Whether this belongs on standard error beside the answer: the diagnosis of one of these files, or nothing."""
+    found = answer(printed)
+    if not found:
+        return errors == b""
+    return any(re.fullmatch(diagnosis(*found, file), errors) for file in files)
+
+
+def main(arguments):
+    if len(arguments) != 3:
+        print("usage: standard_error.py OUT ERR FILE", file=sys.stderr)
+        return 2
+    printed, errors = (pathlib.Path(place).read_bytes() for place in arguments[:2])
+    return 0 if belongs(printed, errors, [arguments[2].encode(errors="surrogateescape")]) else 1
+
+
+if __name__ == "__main__":
+    sys.exit(main(sys.argv[1:]))
