@@ -1,9 +1,15 @@
--- Which refusal a diagnosis is of.
-use Rattle.std.specs.Prelude.{◌≡◌, ℕ, List, Option, Some, None, Result, Ok, Err, codes}
+-- Which refusal a diagnosis is of, or which `no`.
+use Rattle.std.specs.Prelude.{◌≡◌, ℕ, List, Option, Some, None, Result, Ok, Err, MatchResult, codes}
 use Rattle.wq_text.specs.Refusal.{Refusal}
 use Rattle.wq_cert.specs.declared.fault.CertError.{CertError}
 use Rattle.wq_cert.specs.declared.fault.CertError.TheVariants.{OutOfMemory}
 use Rattle.wq_cert.specs.Texts.{answer_of, assignment_of_text, run_of, cert_refusal}
+use Rattle.wq_cert.specs.Certificate.{Certificate}
+use Rattle.wq_checker.specs.declared.answer.Yes.{Yes}
+use Rattle.wq_checker.specs.declared.answer.No.{No}
+use Rattle.wq_checker.specs.Answers.{AnswersCertificate}
+use Rattle.wq_checker.specs.Codes.{no_code}
+use Rattle.wq_commands.specs.Answer.{declared_waits}
 use Rattle.wq_commands.specs.Declaration.{Declared, declaration}
 use Rattle.wq_diagnosis.specs.declared.stage.Kind.{Kind}
 use Rattle.wq_diagnosis.specs.declared.stage.Kind.TheVariants.{Answer, Assignment, Run}
@@ -43,3 +49,21 @@ IsFaultOfCertificate (Some e) refusal = refusal ≡ Some (cert_refusal e)
 abbrev pub Diagnoses : List ℕ → Option Refusal → Option (List ℕ) → Type 0
 Diagnoses file None said = said ≡ None
 Diagnoses file (Some r) said = (text : List ℕ) × (said ≡ Some text) × IsDiagnosis file (codes "refused") r.code r.line text
+
+-- the `no` that the checker answers to a certificate; none where it answers yes
+abbrev pub IsNoOf : Declared → Certificate → Option No → Type 0
+IsNoOf s c None = (yes : Yes) × AnswersCertificate (declared_waits s) c (Ok yes)
+IsNoOf s c (Some why) = AnswersCertificate (declared_waits s) c (Err why)
+
+-- the same of a text; none where it is refused
+abbrev pub IsNoTo : Declared → List ℕ → Option No → Type 0
+IsNoTo s text why = MatchResult (answer_of s.table.names s.partition text) (λ c. IsNoOf s c why) (λ fault. why ≡ None)
+
+-- what is said of a certificate: the diagnosis of a `no`, with its number; nothing where there is none
+abbrev pub SaysNo : List ℕ → Option No → Option (List ℕ) → Type 0
+SaysNo file None said = said ≡ None
+SaysNo file (Some why) said = (text : List ℕ) × (line : ℕ) × (said ≡ Some text) × IsDiagnosis file (codes "no") (no_code why) line text
+
+-- the same of two texts; nothing where the declaration is refused
+abbrev pub DiagnosesNo : List ℕ → List ℕ → List ℕ → Option (List ℕ) → Type 0
+DiagnosesNo file declared text said = MatchResult (declaration declared) (λ s. (why : Option No) × IsNoTo s text why × SaysNo file why said) (λ r. said ≡ None)

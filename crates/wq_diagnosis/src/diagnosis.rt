@@ -3,9 +3,10 @@
 //! The form is that of "Diagnoses" in docs/FORMAT.md. A text is read anew to learn its refusal, so a call takes the time and the
 //! memory of reading the texts and of seeking the fault in them.
 
-ghost use Rattle.std.specs.Prelude.{◌≡◌, ◌++◌, ◌∷◌, [], ◌<◌, codes, decimal, length, map, option_map, ℕ, IfOk, IfSome, OnOk};
+ghost use Rattle.std.specs.Prelude.{◌≡◌, ◌++◌, ◌∷◌, [], ◌<◌, codes, decimal, length, map, option_map, ℕ, IfOk, OnOk};
 ghost use Rattle.wq_diagnosis.specs.Diagnosis.{head, place_text, shown, shown_lines, IsDiagnosis};
-ghost use Rattle.wq_diagnosis.specs.Refused.{Diagnoses, IsFaultOfCertificate, certificate_refusal, declaration_refusal, refusal_with};
+ghost use Rattle.wq_checker.specs.Codes.{no_code};
+ghost use Rattle.wq_diagnosis.specs.Refused.{Diagnoses, DiagnosesNo, IsFaultOfCertificate, IsNoTo, certificate_refusal, declaration_refusal, refusal_with};
 
 use crate::excerpt::{CUT, Window, shown};
 use crate::finding::{Finding, Mark, line_at, said};
@@ -190,7 +191,7 @@ fn marks<A: Allocator + Copy>(
     Ok(out)
 }
 
-/// The lines below the first one: the line with its marks where bytes of it are meant, and else the hint alone.
+/// The lines below the first one: the line and its marks, where bytes of it are meant; else none.
 fn details<A: Allocator + Copy>(
     alloc: A,
     line: Option<Line<'_>>,
@@ -413,22 +414,42 @@ pub fn of_too_many<A: Allocator + Copy>(
     )
 }
 
-/// What the checker answers to a certificate.
-fn checked<A: Allocator + Copy>(
+/// The `no` that the checker answers to a certificate; none where the certificate is refused, or the answer is yes.
+fn no_to<A: Allocator + Copy>(
     alloc: A,
     declared: &Declaration<'_, A>,
     text: &[u8],
 ) -> Result<Option<No>, AllocError>
     requires { length declared.now.groups.group_of ≡ length declared.now.table.names }
+    ensures { IfOk result (λ no. IsNoTo (record { table = declared.now.table; partition = declared.now.groups }) text.now no) }
 {
     let Declaration { table, groups } = declared;
     // What holds of every table and of all groups.
     let _items = table.len();
     let _groups = groups.len();
     match read_answer(alloc, text, table, groups) {
-        Ok(answer) => Ok(check_answer(alloc, table, groups, &answer)?.err()),
+        Ok(answer) => match check_answer(alloc, table, groups, &answer)? {
+            Ok(_) => Ok(None),
+            Err(no) => Ok(Some(no)),
+        },
+        Err(CertError::OutOfMemory) => Err(AllocError),
         Err(_) => Ok(None),
     }
+}
+
+/// What is said of a certificate to which this is answered.
+fn of_lack<A: Allocator + Copy>(
+    alloc: A,
+    declared: &Declaration<'_, A>,
+    certificate: Source<'_>,
+    no: &No,
+) -> Result<Vec<u8, A>, AllocError>
+    ensures { IfOk result (λ said. (line : ℕ) × IsDiagnosis certificate.entry.file.now (codes "no") (no_code no.now) line said.items) }
+{
+    let text = lines_of(certificate.text);
+    let lack = no::find(alloc, &declared.table, &text, no)?;
+    let refusal = Refusal::no(no.code(), lack.line);
+    diagnosis(alloc, certificate.file, &text, refusal, &lack.finding)
 }
 
 /// What is said of a certificate of a declaration to which the checker says no; nothing of another one.
@@ -439,17 +460,18 @@ pub fn of_no<A: Allocator + Copy>(
     declaration: &[u8],
     certificate: Source<'_>,
 ) -> Result<Option<Vec<u8, A>>, AllocError>
-    ensures { IfOk result (λ said. IfSome said (λ text. (code line : ℕ) × IsDiagnosis certificate.entry.file.now (codes "no") code line text.items)) }
+    ensures { IfOk result (λ said. DiagnosesNo certificate.entry.file.now declaration.now certificate.entry.text.now (option_map (λ text. text.items) said)) }
 {
-    let Ok(declared) = read_declaration(alloc, declaration) else {
-        return Ok(None);
+    let declared = match read_declaration(alloc, declaration) {
+        Ok(declared) => declared,
+        Err(Stop::Refused { .. }) => return Ok(None),
+        Err(Stop::OutOfMemory) => return Err(AllocError),
     };
-    let Some(no) = checked(alloc, &declared, certificate.text)? else {
-        return Ok(None);
-    };
-    let text = lines_of(certificate.text);
-    let lack = no::find(alloc, &declared.table, &text, &no)?;
-    let refusal = Refusal::no(no.code(), lack.line);
-    let said = diagnosis(alloc, certificate.file, &text, refusal, &lack.finding)?;
-    Ok(Some(said))
+    match no_to(alloc, &declared, certificate.text)? {
+        None => Ok(None),
+        Some(no) => {
+            let said = of_lack(alloc, &declared, certificate, &no)?;
+            Ok(Some(said))
+        }
+    }
 }

@@ -73,8 +73,8 @@ fn say_of<R: Eprint + AllocGlobal>(
     );
 }
 
-/// Writes the answer to the declaration that the first input has and the certificate that the second has. Both are handed out as far as
-/// they were read.
+/// Writes the answer to the declaration that the first input has and the certificate that the second has. Both are handed
+/// out as far as they were read.
 fn check_input<D: Read + Drop, C: Read + Drop, W: Write>(
     alloc: Global,
     declaration: D,

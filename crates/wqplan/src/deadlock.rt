@@ -67,8 +67,8 @@ fn say_of<R: Eprint + AllocGlobal>(
     );
 }
 
-/// Writes the verdict on the declaration that the first input has and the assignment that the second has. Both are handed out as far as
-/// they were read.
+/// Writes the verdict on the declaration that the first input has and the assignment that the second has. Both are handed out as
+/// far as they were read.
 fn deadlock_input<D: Read + Drop, A: Read + Drop, W: Write>(
     alloc: Global,
     declaration: D,

@@ -2,7 +2,7 @@ use Rattle.wq_cert.specs.Certificate.{certificate}
 use Rattle.wq_commands.specs.Declaration.{Declared}
 use Rattle.wq_commands.proofs.AnswerLemmas.{IsSound}
 use Rattle.wq_commands.proofs.CheckLemmas.{IsAsked-read}
-use Rattle.wq_diagnosis.proofs.diagnosis.checked.Goals as goal
+use Rattle.wq_diagnosis.proofs.diagnosis.no_to.Goals as goal
 
 pub check_answer-requires-clause-asked : goal.check_answer-requires-clause-asked
 check_answer-requires-clause-asked g c =
