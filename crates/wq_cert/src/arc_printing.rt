@@ -12,7 +12,9 @@ use wq_items::{ItemId, ItemTable};
 use wq_lines::{put, put_end, put_word};
 
 /// Adds `arc NAME TARGET`.
-pub(crate) fn put_arc_line<A: Allocator + Copy>(
+///
+/// The only error is out of memory (20).
+pub fn put_arc_line<A: Allocator + Copy>(
     out: &mut Vec<u8, A>,
     table: &ItemTable<'_, A>,
     arc: (ItemId, ItemId),

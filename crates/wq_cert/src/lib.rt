@@ -27,6 +27,7 @@ mod workqueues;
 
 pub use answer::CertAnswer;
 pub use answer_reading::read_answer;
+pub use arc_printing::put_arc_line;
 pub use assignment_reading::read_assignment;
 pub use circle_printing::circle_text;
 pub use fault::CertError;

@@ -19,7 +19,7 @@ const MAX_CERTIFICATE: u32 = 8_388_608;
 /// Reads a declaration and then a certificate, each to its end or to the first byte too many.
 ///
 /// The errors are `Fault::Read`, where a read failed, and `Fault::Memory`.
-pub(crate) fn read_two<D: Read, C: Read, A: Allocator + Copy>(
+pub fn read_two<D: Read, C: Read, A: Allocator + Copy>(
     alloc: A,
     declaration: &mut Metered<D>,
     certificate: &mut Metered<C>,

@@ -21,7 +21,9 @@ use wq_items::ItemTable;
 use wq_lines::{put, put_end};
 
 /// `safe`.
-fn safe_text<A: Allocator + Copy>(alloc: A) -> Result<Vec<u8, A>, AllocError>
+///
+/// The only error is out of memory (20).
+pub fn safe_text<A: Allocator + Copy>(alloc: A) -> Result<Vec<u8, A>, AllocError>
     ensures { IfOk result (λ text. text.items ≡ safe_text) }
 {
     let mut out = Vec::new(alloc);

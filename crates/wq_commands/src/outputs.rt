@@ -13,7 +13,7 @@ use wq_meter::{Fault, Metered, write_text};
 /// Writes an answer, and says how the run ends.
 ///
 /// The errors are `Fault::Memory`, where there is no answer, and `Fault::Write`, where a write failed or took no byte.
-pub(crate) fn write_answer<W: Write, A: Allocator + Copy>(
+pub fn write_answer<W: Write, A: Allocator + Copy>(
     writer: &mut Metered<W>,
     answer: Result<(End, Vec<u8, A>), AllocError>,
 ) -> Result<End, Fault>

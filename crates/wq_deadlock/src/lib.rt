@@ -15,6 +15,6 @@ mod outcome;
 mod playing;
 mod queueing;
 
-pub use circles::circle_run;
+pub use circles::{circle_run, own_lanes};
 pub use judging::verdict;
 pub use outcome::Verdict;
