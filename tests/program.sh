@@ -388,6 +388,14 @@ for words in --help -h help 'help plan' 'plan --help' 'plan -h' 'help check' 'ch
     check "$words" 0 some ''
 done
 
+# Help fits within 80 columns, that of each command too, in each form. It is written in ASCII, so a byte is a column.
+for words in --help -h help 'help '{plan,check,deadlock,replay,run,explain} {plan,check,deadlock,replay,run,explain}' '{--help,-h}; do
+    run $words </dev/null
+    mv out help
+    LC_ALL=C grep -E '.{81}|[^ -~]' help >out
+    check "$words: 80 columns" 0 '' ''
+done
+
 # shows COMMAND ARGUMENT SUBJECTS: counts whether each form of the command's help has a line for the argument that speaks
 # of these subjects and of no other one. So it tells the argument from all others, however it is worded.
 shows() {

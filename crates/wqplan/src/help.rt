@@ -2,32 +2,33 @@
 
 /// What the program is for.
 pub(crate) const PROGRAM: &str = "\
-Plans workqueues with WQ_MEM_RECLAIM: says which work item goes on which workqueue,
-so that no item shares one with an item that it waits for. Runs such a plan in threads.";
+Plans workqueues with WQ_MEM_RECLAIM: says which work item goes on which
+workqueue, so that no item shares one with an item that it waits for. Runs such
+a plan in threads.";
 
 /// What `plan` reads and prints.
 pub(crate) const PLAN: &str =
-    "Reads a declaration of work items, their flushes and their ordered workqueues, and prints a plan";
+    "Reads a declaration of work items and their flushes, prints its plan";
 
 /// What `check` reads and prints.
 pub(crate) const CHECK: &str =
-    "Reads a declaration and an answer to it, and prints whether the answer shows what it claims";
+    "Reads a declaration and an answer, prints whether that is right";
 
 /// What `deadlock` reads and prints.
-pub(crate) const DEADLOCK: &str = "\
-Reads a declaration and which item is on which workqueue, and prints `safe`, or a run that deadlocks";
+pub(crate) const DEADLOCK: &str =
+    "Reads a declaration and an assignment, prints `safe` or a deadlock";
 
 /// What `replay` reads and prints.
-pub(crate) const REPLAY: &str = "\
-Reads a declaration, which item is on which workqueue, and a run, and prints how the run ends";
+pub(crate) const REPLAY: &str =
+    "Reads a declaration, an assignment and a run, prints how it ends";
 
 /// What `run` reads, does and prints.
-pub(crate) const RUN: &str = "\
-Reads a declaration, runs its plan in threads, and prints how often each item was queued, cancelled and finished";
+pub(crate) const RUN: &str =
+    "Reads a declaration, runs its plan in threads, prints what happened";
 
 /// What `explain` prints.
-pub(crate) const EXPLAIN: &str = "\
-Prints what the number of a refusal or of a `no` means, an example, and how to mend it";
+pub(crate) const EXPLAIN: &str =
+    "Prints what a refusal or a `no` means, and how to mend it";
 
 /// What FILE is.
 pub(crate) const FILE: &str = "The declaration. Without FILE it is read from standard input";
@@ -40,7 +41,7 @@ pub(crate) const CERT: &str = "A plan or a circle, in the form in which `plan` p
 
 /// What ASSIGN is.
 pub(crate) const ASSIGN: &str =
-    "Which item is on which workqueue: `wq` lines alone, or a whole plan";
+    "Which item is on which workqueue: `wq` lines alone, or a plan";
 
 /// What RUN is.
 pub(crate) const STEPS: &str = "The steps of a run";
@@ -50,18 +51,20 @@ pub(crate) const CODE: &str = "The number, as in `refused CODE line N` or `no CO
 
 /// What is printed and returned, and where the formats are described.
 pub(crate) const STATUSES: &str = "\
-Each command prints one answer to standard output, or a line `refused CODE line N`.
+Each command prints one answer to standard output, or `refused CODE line N`.
 
 Exit status:
-  0  the answer is a plan, `yes ..`, `safe`, `open`, the counts of a plan that was
-     run, or an explanation; or help or the version was printed
-  1  the answer is a circle, where items wait for one another and there is no plan;
-     or it is `no ..`, a run that deadlocks, `deadlock`, `stuck` or `not lawful N`
-  2  a refusal was printed: a text isn't of the form that it should have, or a plan
-     has too many workqueues to run; or the number to explain is none that is
-     printed. Or the command line is wrong; then standard error says how, and
+  0  the answer is a plan, `yes ..`, `safe`, `open`, the counts of a plan that
+     was run, or an explanation; or help or the version was printed
+  1  the answer is a circle, where items wait for one another and there is no
+     plan; or it is `no ..`, a run that deadlocks, `deadlock`, `stuck` or
+     `not lawful N`
+  2  a refusal was printed: a text isn't of the form that it should have, or a
+     plan has too many workqueues to run; or the number to explain is none that
+     is printed. Or the command line is wrong; then standard error says how, and
      nothing was read
-  3  a fault: standard error has the line `fault memory`, `fault read`, `fault write`,
-     `fault thread` or `fault tally`
+  3  a fault: standard error has the line `fault memory`, `fault read`,
+     `fault write`, `fault thread` or `fault tally`
 
-docs/FORMAT.md describes the texts and the answers, `wqplan explain CODE` each refusal.";
+docs/FORMAT.md describes the texts and the answers, `wqplan explain CODE` each
+refusal.";
