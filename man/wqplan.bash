@@ -1,4 +1,4 @@
-# Completion of wqplan for bash: the commands, the numbers that `explain` knows, and files. What stands behind a `<` or a `>`
+# Completion of wqplan for bash: the commands, the numbers and names that `explain` knows, and files. What stands behind a `<` or a `>`
 # is a file of the shell's, and no argument of wqplan; what stands in `<(..)` is another command.
 _wqplan() {
     local word=${COMP_WORDS[COMP_CWORD]} command='' words=0 redirected='' inside=0 index at next
@@ -74,8 +74,12 @@ _wqplan() {
             return
             ;;
         explain)
-            [ "$words" -gt 0 ] ||
-                mapfile -t COMPREPLY < <(compgen -W '1 2 3 4 5 6 7 8 9 10 11 12 40 41 42 43 50 51 52 53 54 69' -- "$word")
+            [ "$words" -gt 0 ] && return
+            local codes='1 2 3 4 5 6 7 8 9 10 11 12 40 41 42 43 50 51 52 53 54 69'
+            codes+=' TextTooLong LineTooLong BadByte UnknownWord MissingName BadName ItemTwice UnknownItem TooManyItems'
+            codes+=' TooManyFlushes GroupedTwice ExtraWord BadCertLine NotAllItems GroupSplit NumberOutOfRange NotFalling'
+            codes+=' ChainBroken LengthDiffers CircleBroken RunBroken TooManyLanes read memory thread tally write'
+            mapfile -t COMPREPLY < <(compgen -W "$codes" -- "$word")
             return
             ;;
         plan | run) files=1 ;;

@@ -2,8 +2,8 @@
 """Completes lines of wqplan with man/wqplan.bash, in a folder with a few files.
 
 OFFERED calls the function as bash does, with the words of a line of which the last one is being typed, and compares what it offers.
-TYPED types a line and a TAB into a bash, and compares what then stands there. The commands and the numbers are those of
-docs/FORMAT.md.
+TYPED types a line and a TAB into a bash, and compares what then stands there. The commands, the numbers and the
+names are those of docs/FORMAT.md.
 """
 
 import os
@@ -27,6 +27,8 @@ RESULTS = ["out.plan", "old result"]
 COMMANDS = re.findall(r"`wqplan\s(\w+)[^`]*`", re.search(r"The commands are (.*?)\. Each argument", FORMAT, re.S)[1])
 # Those that are printed have a row with a name of its own; so have those of a `no`.
 NUMBERS = re.findall(r"^\| (?:`no )?(\d+)[^|]*\| [A-Z][A-Za-z]+ \|", FORMAT, re.M)
+NAMES = re.findall(r"^\| (?:`no )?\d+[^|]*\| ([A-Z][A-Za-z]+) \|", FORMAT, re.M)
+FAULTS = re.findall(r"^\| `fault (\w+)` \|", FORMAT, re.M)
 
 # A line behind `wqplan `, and what is offered for its last word.
 OFFERED = [
@@ -36,7 +38,10 @@ OFFERED = [
     ("-", ["--help", "--version"]),
     ("help ", COMMANDS),
     ("help plan ", []),
-    ("explain ", NUMBERS),
+    ("explain ", NUMBERS + NAMES + FAULTS),
+    ("explain Unk", ["UnknownWord", "UnknownItem"]),
+    ("explain t", ["thread", "tally"]),
+    ("explain read ", []),
     ("explain 6", ["6", "69"]),
     ("explain 6 ", []),
     ("plan ", ALL),

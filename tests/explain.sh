@@ -1,6 +1,7 @@
 #!/usr/bin/env bash
-# Runs `wqplan explain` for each number, and the example that it prints, whose answer has to be that number, and to standard
-# error its diagnosis. The figures in an explanation have to be those of docs/FORMAT.md.
+# Runs `wqplan explain` for each number and each fault, by number and by name, and the example that it prints, whose answer has to
+# be that number, and to standard error its diagnosis, or that fault. The figures in an explanation have to be those of
+# docs/FORMAT.md. Also runs it without a word, and with words that have no explanation.
 # Run it once the gate or `rt run` has built the program. The argument, if there is one, names another program.
 set -u
 program=$(realpath -- "${1:-$(dirname "$0")/../crates/wqplan/out/wqplan}")
@@ -63,6 +64,25 @@ prose() {
     sed -E '1d; /^    /d; s/`(refused|no) [0-9]+/`/g' out
 }
 
+# formed WORD: whether `out`, what explains this word, has its form: nothing on standard error, no long line, a section of
+# docs/FORMAT.md, which is left in the file `section`, and how to mend it.
+formed() {
+    is "explain $1: nothing on standard error" '' "$(cat err)"
+    is "explain $1: no line of more than 80 bytes" '' "$(LC_ALL=C grep -E '.{81}' out)"
+    local section
+    section=$(sed -n 's/^The rule: docs\/FORMAT\.md, "\(.*\)"$/\1/p' out)
+    is "explain $1: the section is there" "## $section" "$(grep -Fx -- "## $section" "$format")"
+    awk -v heading="## $section" '/^## / { on = $0 == heading } on' "$format" >section
+    has "explain $1: how to mend it" . "$(below 'To mend it:')"
+}
+
+# same WORD OTHER: whether `out`, what explains the one word, is what explains the other one.
+same() {
+    cp out first
+    run explain "$2"
+    is "explain $2: as $1" 0 "$status$(cmp out first 2>&1)"
+}
+
 # below HEADING: the lines of `out` behind this line, up to an empty one.
 below() {
     awk -v heading="$1" '$0 == heading { on = 1; next } on && $0 == "" { exit } on' out
@@ -73,15 +93,11 @@ below() {
 explained() {
     run explain "$1"
     is "explain $1" "0: $1 $2" "$status: $(head -n 1 out)"
-    is "explain $1: nothing on standard error" '' "$(cat err)"
-    is "explain $1: no line of more than 80 bytes" '' "$(LC_ALL=C grep -E '.{81}' out)"
-    local section
-    section=$(sed -n 's/^The rule: docs\/FORMAT\.md, "\(.*\)"$/\1/p' out)
-    is "explain $1: the section is there" "## $section" "$(grep -Fx -- "## $section" "$format")"
-    awk -v heading="## $section" '/^## / { on = $0 == heading } on' "$format" >section
+    formed "$1"
     is "explain $1: its figures stand in the section" '' "$(comm -23 <(prose | figures) <(figures <section))"
     is "explain $1: its limits are those of its row" "$(grep -F -- "| $2 |" "$format" | limits)" "$(prose | limits)"
-    has "explain $1: how to mend it" . "$(below 'To mend it:')"
+    same "$1" "$2"
+    same "$1" "+00$1"
     mkdir "example$1"
     below 'To see it:' >"example$1/commands"
     local words file said=yes
@@ -101,29 +117,60 @@ while read -r number name; do
     explained "$number" "$name" 1 "no $number( .*)?"
 done < <(sed -nE 's/^\| `no (5[0-9])[^|]*` \| ([A-Z][A-Za-z]+) \|.*/\1 \2/p' "$format")
 
-# A number that is never printed: those that are, with their names.
+# Each fault: its example ends with status 3 and that line. No input meets `fault tally`, so that has no example.
+faults=$(sed -nE 's/^\| `fault ([a-z]+)` \|.*/\1/p' "$format")
+is 'docs/FORMAT.md has 5 faults' 5 "$(wc -l <<<"$faults")"
+for name in $faults; do
+    run explain "$name"
+    is "explain $name" "0: $name fault" "$status: $(head -n 1 out)"
+    formed "$name"
+    below 'To see it:' >commands
+    if [ "$name" = tally ]; then
+        is "explain $name: no example" '' "$(cat commands)"
+        continue
+    fi
+    mkdir "example$name"
+    (cd "example$name" && PATH=$work/bin:$PATH timeout 60 bash ../commands) >out 2>err
+    is "explain $name: the example" "3:: fault $name" "$?:$(cat out): $(cat err)"
+done
+
+# All titles: those of the numbers, with their names, and those of the faults.
 {
     sed -nE 's/^\| ([0-9]+) \| ([A-Z][A-Za-z]+) \|.*/\1 \2/p' "$format"
     sed -nE 's/^\| `no (5[0-9])[^|]*` \| ([A-Z][A-Za-z]+) \|.*/\1 \2/p' "$format"
-} | sort -n >numbers
-is 'docs/FORMAT.md has 22 numbers' 22 "$(wc -l <numbers)"
-for number in 0 13 20 44 68 70 4294967295; do
-    run explain "$number"
-    is "explain $number" "2: $(cat numbers)" "$status: $(tail -n +2 out)"
+} | sort -n >titles
+is 'docs/FORMAT.md has 22 numbers' 22 "$(wc -l <titles)"
+sed 's/$/ fault/' <<<"$faults" >>titles
+run explain
+is 'explain without a word' '0' "$status$(cat err)$(cmp out titles 2>&1)"
+
+# The first word of each title is explained, and that title is the first line.
+while read -r word rest; do
+    run explain "$word"
+    is "explain $word: its title" "0: $word $rest" "$status: $(head -n 1 out)"
+done <titles
+
+# What has no explanation: a line that says so, and all titles. A number that is never printed, one of more than 32 bits, what is
+# no number, names in another case, names with something more, the words of a title, and an empty word.
+for word in 0 13 20 44 68 70 4294967295 4294967296 18446744073709551617 1x x ++1 '+' '1 ' ' 1' 0x1 texttoolong TextToolong \
+    TextTooLon TextTooLong1 Read reads fault 'read fault' 'fault read' '1 TextTooLong' yes '' $'caf\303\251'; do
+    run explain "$word"
+    is "explain '$word'" "2: $(cat titles)" "$status: $(tail -n +2 out)"
+    is "explain '$word': one line above the titles" 28 "$(wc -l <out)"
+    is "explain '$word': nothing on standard error" '' "$(cat err)"
 done
 
-# What is no number of 32 bits is a mistake on the command line.
-for word in x -1 4294967296 1x ''; do
-    run explain "$word"
-    is "explain '$word'" '2:' "$status:$(cat out)"
-    has "explain '$word': standard error" . "$(cat err)"
+# An option that isn't there, and two words, are mistakes on the command line.
+for words in -1 '1 2' 'read 1' --all; do
+    # Each word is an argument of its own.
+    run explain $words
+    is "explain $words" '2:' "$status:$(cat out)"
+    has "explain $words: standard error" . "$(cat err)"
 done
-run explain
-is 'explain without a number' '2:' "$status:$(cat out)"
-run explain 1 2
-is 'explain with two numbers' '2:' "$status:$(cat out)"
 timeout 60 "$program" explain 1 >/dev/full 2>err
 is 'a full device' '3: fault write' "$?: $(cat err)"
+timeout 60 "$program" explain >/dev/full 2>err
+is 'all titles on a full device' '3: fault write' "$?: $(cat err)"
 
 echo "explain: $passed passed, $failed failed"
 [ "$failed" -eq 0 ]

@@ -1,1 +1,2 @@
 mod TableLemmas
+mod NumberLemmas

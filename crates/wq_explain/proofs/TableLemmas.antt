@@ -1,26 +1,25 @@
--- Rows as a program holds them, and the rows of the table.
-use Rattle.std.proofs.Common.{◌≡◌, ◌==◌, ◌∙◌, ℕ, Bool, true, false, cond, List, [], ◌∷◌, Option, Some, None, map, refl, sym, ap}
+-- To search the rows that a program holds is to search what they say.
+use Rattle.std.proofs.Common.{◌≡◌, ◌∙◌, Bool, true, false, cond, List, [], ◌∷◌, Option, Some, None, map, refl, sym, ap}
 use Rattle.std.specs.Prelude.{find, option_map}
 use Rattle.std.specs.Borrow.{Bor}
-use Rattle.wq_explain.specs.Explaining.{Row, explanation_in, row_of}
 
--- to look for a number among rows is to look for it among what they say
-pub explanation_in-row_of : (rows : List (ℕ × Bor (List ℕ) × Bor (List ℕ))) (code : ℕ) → explanation_in (map row_of rows) code ≡ option_map row_of (find (λ row. row.0 == code) rows)
-explanation_in-row_of [] code = refl
-explanation_in-row_of (row ∷ rows) code = go (row.0 == code) (explanation_in-row_of rows code)
+-- the first one of the images is the image of the first one
+find-map : {A B : Type 0} (f : A → B) (p : B → Bool) (xs : List A) → find p (map f xs) ≡ option_map f (find (λ x. p (f x)) xs)
+find-map f p [] = refl
+find-map {A} {B} f p (x ∷ xs) = go (p (f x)) (find-map f p xs)
   where
-    go : (same : Bool) → explanation_in (map row_of rows) code ≡ option_map row_of (find (λ row. row.0 == code) rows)
-        → cond same (Some (row_of row)) (explanation_in (map row_of rows) code) ≡ option_map row_of (cond same (Some row) (find (λ row. row.0 == code) rows))
+    go : (is : Bool) → find p (map f xs) ≡ option_map f (find (λ y. p (f y)) xs)
+        → cond is (Some (f x)) (find p (map f xs)) ≡ option_map f (cond is (Some x) (find (λ y. p (f y)) xs))
     go true rest = refl
     go false rest = rest
 
--- what was found, and that nothing was
-pub explanation_in-found : (rows : List (ℕ × Bor (List ℕ) × Bor (List ℕ))) (code : ℕ) (r : Option (Bor (ℕ × Bor (List ℕ) × Bor (List ℕ)))) (row : Bor (ℕ × Bor (List ℕ) × Bor (List ℕ)))
-    → option_map (λ x. x.now) r ≡ find (λ row. row.0 == code) rows → r ≡ Some row → explanation_in (map row_of rows) code ≡ Some (row_of row.now)
-explanation_in-found rows code r row found is =
-    explanation_in-row_of rows code ∙ ap (option_map row_of) (sym found ∙ ap (option_map (λ (x : Bor (ℕ × Bor (List ℕ) × Bor (List ℕ))). x.now)) is)
+-- to map twice is to map once
+option_map_twice : {X Y W : Type 0} (f : X → Y) (g : Y → W) (o : Option X) → option_map g (option_map f o) ≡ option_map (λ x. g (f x)) o
+option_map_twice f g None = refl
+option_map_twice f g (Some x) = refl
 
-pub explanation_in-none : (rows : List (ℕ × Bor (List ℕ) × Bor (List ℕ))) (code : ℕ) (r : Option (Bor (ℕ × Bor (List ℕ) × Bor (List ℕ))))
-    → option_map (λ x. x.now) r ≡ find (λ row. row.0 == code) rows → r ≡ None → explanation_in (map row_of rows) code ≡ None
-explanation_in-none rows code r found is =
-    explanation_in-row_of rows code ∙ ap (option_map row_of) (sym found ∙ ap (option_map (λ (x : Bor (ℕ × Bor (List ℕ) × Bor (List ℕ))). x.now)) is)
+-- what a reference to the first row says is the first one of what the rows say
+pub found-said : {A B : Type 0} (f : A → B) (p : B → Bool) (xs : List A) (r : Option (Bor A))
+    → option_map (λ x. x.now) r ≡ find (λ x. p (f x)) xs → option_map (λ x. f x.now) r ≡ find p (map f xs)
+found-said {A} f p xs r found =
+    sym (option_map_twice (λ (x : Bor A). x.now) f r) ∙ (ap (option_map f) found ∙ sym (find-map f p xs))

@@ -1,6 +1,10 @@
--- What is printed for a number: its explanation, or the numbers that have one.
-use Rattle.std.specs.Prelude.{◌==◌, ◌++◌, ℕ, List, [], ◌∷◌, Option, Some, None, codes, find, flat_map, map}
+-- What is printed for a word: the explanation that it names, or the list of all.
+use Rattle.std.specs.Prelude.{◌==◌, ◌++◌, ◌^◌, ◌&&◌, ℕ, Bool, false, List, [], ◌∷◌, Option, Some, None, codes, cond, find, flat_map, length, map, nat_lt}
 use Rattle.std.specs.Borrow.{Bor}
+use Rattle.std.specs.Char.{digit_value}
+use Rattle.std.specs.List.{list_all}
+use Rattle.std.specs.Str.{bytes_eq}
+use Rattle.std.specs.Str.Parse.{digits_value, without_leading_plus}
 use Rattle.wq_explain.specs.declared.explain.Explained.{Explained}
 use Rattle.wq_explain.specs.declared.explain.Explained.TheVariants.{Known, Unknown}
 use Rattle.wq_explain.specs.declared.table.TheConstants.{EXPLANATIONS}
@@ -10,54 +14,103 @@ use Rattle.wq_explain.specs.declared.table.TheConstants.{EXPLANATIONS}
 abbrev pub numbers : List ℕ
 numbers = 1 ∷ 2 ∷ 3 ∷ 4 ∷ 5 ∷ 6 ∷ 7 ∷ 8 ∷ 9 ∷ 10 ∷ 11 ∷ 12 ∷ 40 ∷ 41 ∷ 42 ∷ 43 ∷ 50 ∷ 51 ∷ 52 ∷ 53 ∷ 54 ∷ 69 ∷ []
 
--- a row of the table: a number, a line with the number and its name, and what it means
+-- the names that have an explanation: those of the numbers, in their order, and those of the faults
+abbrev pub names : List (List ℕ)
+names =
+    codes "TextTooLong" ∷ codes "LineTooLong" ∷ codes "BadByte" ∷ codes "UnknownWord" ∷ codes "MissingName" ∷ codes "BadName"
+    ∷ codes "ItemTwice" ∷ codes "UnknownItem" ∷ codes "TooManyItems" ∷ codes "TooManyFlushes" ∷ codes "GroupedTwice"
+    ∷ codes "ExtraWord" ∷ codes "BadCertLine" ∷ codes "NotAllItems" ∷ codes "GroupSplit" ∷ codes "NumberOutOfRange"
+    ∷ codes "NotFalling" ∷ codes "ChainBroken" ∷ codes "LengthDiffers" ∷ codes "CircleBroken" ∷ codes "RunBroken"
+    ∷ codes "TooManyLanes" ∷ codes "read" ∷ codes "memory" ∷ codes "thread" ∷ codes "tally" ∷ codes "write" ∷ []
+
+-- a row of the table: the number that it explains, if it is no fault; the name of that or of the fault; its line in a list; and
+-- what it means
 pub record Row : Type 0 where
-  pub code : ℕ
+  pub code : Option ℕ
+  pub name : List ℕ
   pub title : List ℕ
   pub meaning : List ℕ
 
 -- the row that a program holds
-abbrev pub row_of : ℕ × Bor (List ℕ) × Bor (List ℕ) → Row
-row_of row = record { code = row.0; title = row.1.now; meaning = row.2.now }
+abbrev pub row_of : Option ℕ × Bor (List ℕ) × Bor (List ℕ) × Bor (List ℕ) → Row
+row_of row = record { code = row.0; name = row.1.now; title = row.2.now; meaning = row.3.now }
 
 -- the table
 abbrev pub explanations : List Row
-explanations = map (λ row. record { code = row.0; title = row.1.now; meaning = row.2.now }) EXPLANATIONS
+explanations = map (λ row. record { code = row.0; name = row.1.now; title = row.2.now; meaning = row.3.now }) EXPLANATIONS
 
 -- an explanation as it is printed: its title, an empty line, and what it means
 abbrev pub explanation_text : Row → List ℕ
 explanation_text row = row.title ++ codes "\n" ++ row.meaning
 
--- the titles of all rows, below a line that says that a number has none
+-- the titles of all rows
+abbrev pub titles : List Row → List ℕ
+titles rows = flat_map (λ row. row.title) rows
+
+-- the titles of all rows, below a line that says that a word has no explanation
 abbrev pub unknown_text : List Row → List ℕ
-unknown_text rows = codes "This number has no explanation. These have one:\n" ++ flat_map (λ row. row.title) rows
+unknown_text rows = codes "This has no explanation. These have one:\n" ++ titles rows
+
+-- whether this is the number that is asked for
+abbrev pub numbered : Option ℕ → ℕ → Bool
+numbered (Some own) code = own == code
+numbered None code = false
 
 -- the explanation with this number
-abbrev pub explanation_in : List Row → ℕ → Option Row
-explanation_in rows code = find (λ row. row.code == code) rows
+abbrev pub with_number : List Row → ℕ → Option Row
+with_number rows code = find (λ row. numbered row.code code) rows
 
--- what is printed for a number: the text of its explanation where there is one, or else the titles of all
+-- the explanation with this name
+abbrev pub with_name : List Row → List ℕ → Option Row
+with_name rows name = find (λ row. bytes_eq row.name name) rows
+
+-- whether there is a digit, and nothing else
+abbrev pub is_numeral : List ℕ → Bool
+is_numeral digits = nat_lt 0 (length digits) && list_all (λ d. nat_lt (digit_value d) 10) digits
+
+-- the number of 32 bits that a word spells in digits, behind at most one plus
+abbrev pub number_in : List ℕ → Option ℕ
+number_in word =
+    let digits = without_leading_plus word in
+    cond (is_numeral digits && nat_lt (digits_value 10 digits) (2 ^ 32)) (Some (digits_value 10 digits)) None
+
+-- the explanation that a word names, which spells this number or none
+abbrev pub explanation_of : List Row → List ℕ → Option ℕ → Option Row
+explanation_of rows word (Some code) = with_number rows code
+explanation_of rows word None = with_name rows word
+
+-- the explanation that a word names
+abbrev pub explanation_in : List Row → List ℕ → Option Row
+explanation_in rows word = explanation_of rows word (number_in word)
+
+-- what is printed for a word: the text of its explanation where there is one, or else the titles of all
 abbrev pub text_or_titles : List Row → Option Row → List ℕ
 text_or_titles rows (Some row) = explanation_text row
 text_or_titles rows None = unknown_text rows
 
--- the same, where these are the rows of the table
-abbrev pub text_in : List Row → ℕ → List ℕ
-text_in rows code = text_or_titles rows (explanation_in rows code)
+-- what is printed for a word, or without one, where these are the rows of the table
+abbrev pub text_in : List Row → Option (List ℕ) → List ℕ
+text_in rows (Some word) = text_or_titles rows (explanation_in rows word)
+text_in rows None = titles rows
 
 -- whether there is an explanation
 abbrev pub known_or_not : Option Row → Explained
 known_or_not (Some row) = Known
 known_or_not None = Unknown
 
--- whether a number has an explanation, where these are the rows of the table
-abbrev pub end_in : List Row → ℕ → Explained
-end_in rows code = known_or_not (explanation_in rows code)
+-- whether a word has an explanation, where these are the rows of the table; to list all is well too
+abbrev pub end_in : List Row → Option (List ℕ) → Explained
+end_in rows (Some word) = known_or_not (explanation_in rows word)
+end_in rows None = Known
 
--- what is printed for a number
-abbrev pub explained_text : ℕ → List ℕ
-explained_text code = text_in explanations code
+-- what is printed for a word, or without one
+abbrev pub explained_text : Option (List ℕ) → List ℕ
+explained_text word = text_in explanations word
+
+-- whether a word has an explanation in the table, if there is a word
+abbrev pub explained_end : Option (List ℕ) → Explained
+explained_end word = end_in explanations word
 
 -- whether a number has an explanation in the table
-abbrev pub explained_end : ℕ → Explained
-explained_end code = end_in explanations code
+abbrev pub number_end : ℕ → Explained
+number_end code = known_or_not (with_number explanations code)

@@ -1,26 +1,27 @@
-//! The command `explain`: from a number to what it means.
+//! The command `explain`: from a word to what it means, and the list of all that is explained.
 //!
-//! The text is made whole before its first byte is written, and nothing is read. Takes time and memory in the text.
+//! The rule is that of docs/FORMAT.md, "The command `explain`". The text is made whole before its first byte is written, and
+//! nothing is read. Takes time and memory in the text.
 
-ghost use Rattle.std.specs.Prelude.{◌≡◌, ◌≢◌, Err, IfOk, map};
-ghost use Rattle.wq_explain.specs.Explaining.{end_in, explained_end, explained_text, explanation_text, row_of, text_in, unknown_text};
+ghost use Rattle.std.specs.Prelude.{◌≡◌, ◌≢◌, ◌++◌, Err, IfOk, map, option_map};
+ghost use Rattle.wq_explain.specs.Explaining.{end_in, explained_end, explained_text, explanation_in, explanation_text, number_in, row_of, text_in, text_or_titles, titles, unknown_text, known_or_not};
 ghost use Rattle.wq_meter.specs.Meter.{count_after, WritesPrefix, WritesWhole};
 
-use crate::table::{EXPLANATIONS, Explanation, with_number};
+use crate::table::{EXPLANATIONS, Explanation, with_name, with_number};
 use std::alloc::{AllocError, Allocator};
 use std::io::Write;
 use wq_meter::{Fault, Metered, write_text};
 
-/// Whether a number has an explanation.
+/// Whether there is an explanation of a word, or none was asked for.
 #[derive(Clone, Copy, Debug, PartialEq, Eq)]
 pub enum Explained {
-    /// It has one.
+    /// It has one, or all were listed.
     Known,
     /// It has none.
     Unknown,
 }
 
-/// The line with the number and its name, an empty line, and what it means.
+/// The title of an explanation, an empty line, and what it means.
 fn explanation_text<A: Allocator + Copy>(
     alloc: A,
     row: &Explanation,
@@ -28,13 +29,35 @@ fn explanation_text<A: Allocator + Copy>(
     ensures { IfOk result (λ text. text.items ≡ explanation_text (row_of row.now)) }
 {
     let mut text = Vec::new(alloc);
-    text.extend_from_slice(row.1.as_bytes())?;
-    text.push(b'\n')?;
     text.extend_from_slice(row.2.as_bytes())?;
+    text.push(b'\n')?;
+    text.extend_from_slice(row.3.as_bytes())?;
     Ok(text)
 }
 
-/// The lines with the numbers that have an explanation, below one that says that another number has none.
+/// Writes the titles behind what stands there.
+fn push_titles<A: Allocator + Copy>(
+    text: &mut Vec<u8, A>,
+    rows: &[Explanation],
+) -> Result<(), AllocError>
+    ensures { IfOk result (λ _. text.new.items ≡ text.old.items ++ titles (map row_of rows.now)) }
+{
+    for row in rows {
+        text.extend_from_slice(row.2.as_bytes())?;
+    }
+    Ok(())
+}
+
+/// The titles of all.
+fn titles<A: Allocator + Copy>(alloc: A, rows: &[Explanation]) -> Result<Vec<u8, A>, AllocError>
+    ensures { IfOk result (λ text. text.items ≡ titles (map row_of rows.now)) }
+{
+    let mut text = Vec::new(alloc);
+    push_titles(&mut text, rows)?;
+    Ok(text)
+}
+
+/// The titles of all, below a line that says that a word has no explanation.
 fn unknown_text<A: Allocator + Copy>(
     alloc: A,
     rows: &[Explanation],
@@ -42,43 +65,75 @@ fn unknown_text<A: Allocator + Copy>(
     ensures { IfOk result (λ text. text.items ≡ unknown_text (map row_of rows.now)) }
 {
     let mut text = Vec::new(alloc);
-    text.extend_from_slice(b"This number has no explanation. These have one:\n")?;
-    for row in rows {
-        text.extend_from_slice(row.1.as_bytes())?;
-    }
+    text.extend_from_slice(b"This has no explanation. These have one:\n")?;
+    push_titles(&mut text, rows)?;
     Ok(text)
 }
 
-/// What is printed for a number, and whether it has an explanation among these.
-fn explain<A: Allocator + Copy>(
+/// The number of 32 bits that a word spells.
+fn number_in(word: &str) -> Option<u32>
+    ensures { result ≡ number_in word.now }
+{
+    word.parse().ok()
+}
+
+/// The explanation that a word names, by its number or its name.
+fn named<'a>(rows: &'a [Explanation], word: &str) -> Option<&'a Explanation>
+    ensures { option_map (λ row. row_of row.now) result ≡ explanation_in (map row_of rows.now) word.now }
+{
+    match number_in(word) {
+        Some(code) => with_number(rows, code),
+        None => with_name(rows, word),
+    }
+}
+
+/// What is printed for a word, and whether it has an explanation among these.
+fn explain_word<A: Allocator + Copy>(
     alloc: A,
     rows: &[Explanation],
-    code: u32,
+    word: &str,
 ) -> Result<(Explained, Vec<u8, A>), AllocError>
-    ensures known { IfOk result (λ printed. printed.0 ≡ end_in (map row_of rows.now) code) }
-    ensures text { IfOk result (λ printed. printed.1.items ≡ text_in (map row_of rows.now) code) }
+    ensures known { IfOk result (λ printed. printed.0 ≡ known_or_not (explanation_in (map row_of rows.now) word.now)) }
+    ensures text { IfOk result (λ printed. printed.1.items
+        ≡ text_or_titles (map row_of rows.now) (explanation_in (map row_of rows.now) word.now)) }
 {
-    match with_number(rows, code) {
+    match named(rows, word) {
         Some(row) => Ok((Explained::Known, explanation_text(alloc, row)?)),
         None => Ok((Explained::Unknown, unknown_text(alloc, rows)?)),
     }
 }
 
-/// Writes the explanation of a number, or the list of the numbers that have one.
+/// What is printed for a word, or without one, and whether it has an explanation among these.
+fn explain<A: Allocator + Copy>(
+    alloc: A,
+    rows: &[Explanation],
+    word: Option<&str>,
+) -> Result<(Explained, Vec<u8, A>), AllocError>
+    ensures known { IfOk result (λ printed. printed.0 ≡ end_in (map row_of rows.now) (option_map (λ s. s.now) word.entry)) }
+    ensures text { IfOk result (λ printed. printed.1.items ≡ text_in (map row_of rows.now) (option_map (λ s. s.now) word.entry)) }
+{
+    match word {
+        Some(word) => explain_word(alloc, rows, word),
+        None => Ok((Explained::Known, titles(alloc, rows)?)),
+    }
+}
+
+/// Writes the explanation that a word names, by number or by name; without a word, the list of all explanations; for a word
+/// without an explanation, that list below a line that says so.
 ///
 /// The errors are `Fault::Memory`, and `Fault::Write`, where a write failed or took no byte; after the last one a
 /// prefix of the text is written, and after the other nothing.
 pub fn explain_cmd<W: Write, A: Allocator + Copy>(
     alloc: A,
-    code: u32,
+    word: Option<&str>,
     writer: &mut Metered<W>,
 ) -> Result<Explained, Fault>
-    // The text of this number is written, and nothing else.
-    ensures answered { IfOk result (λ end. end ≡ explained_end code) }
-    ensures written { IfOk result (λ end. WritesWhole W.contents writer.old writer.new (explained_text code)) }
+    // The text of this word is written, and nothing else.
+    ensures answered { IfOk result (λ end. end ≡ explained_end (option_map (λ s. s.now) word.entry)) }
+    ensures written { IfOk result (λ end. WritesWhole W.contents writer.old writer.new (explained_text (option_map (λ s. s.now) word.entry))) }
 
     // What a fault leaves.
-    ensures prefix { result ≡ Err Fault.Write → WritesPrefix W.contents writer.old writer.new (explained_text code) }
+    ensures prefix { result ≡ Err Fault.Write → WritesPrefix W.contents writer.old writer.new (explained_text (option_map (λ s. s.now) word.entry)) }
     ensures untouched { result ≡ Err Fault.Memory → writer.new ≡ writer.old }
     ensures never_reads { result ≢ Err Fault.Read }
 
@@ -86,18 +141,18 @@ pub fn explain_cmd<W: Write, A: Allocator + Copy>(
     ensures write_failed { result ≡ Err Fault.Write → writer.new.failures ≡ count_after writer.old.failures 1 }
     ensures no_write_failed { result ≢ Err Fault.Write → writer.new.failures ≡ writer.old.failures }
 {
-    let (end, text) = explain_known(alloc, code)?;
+    let (end, text) = explain_known(alloc, word)?;
     write_text(writer, &text)?;
     Ok(end)
 }
 
-/// What is printed for a number, and whether it has an explanation.
+/// What is printed for a word, or without one, and whether it has an explanation.
 fn explain_known<A: Allocator + Copy>(
     alloc: A,
-    code: u32,
+    word: Option<&str>,
 ) -> Result<(Explained, Vec<u8, A>), AllocError>
-    ensures known { IfOk result (λ printed. printed.0 ≡ explained_end code) }
-    ensures text { IfOk result (λ printed. printed.1.items ≡ explained_text code) }
+    ensures known { IfOk result (λ printed. printed.0 ≡ explained_end (option_map (λ s. s.now) word.entry)) }
+    ensures text { IfOk result (λ printed. printed.1.items ≡ explained_text (option_map (λ s. s.now) word.entry)) }
 {
-    explain(alloc, &EXPLANATIONS, code)
+    explain(alloc, &EXPLANATIONS, word)
 }

@@ -1,16 +1,19 @@
-//! The explanations: one for each number that the program prints.
+//! The explanations: one for each number that the program prints in a refusal or in a `no`, and one for each fault.
 //!
-//! docs/FORMAT.md has the rules. tests/explain.sh runs each example. A search takes time in the number of rows.
+//! docs/FORMAT.md has the rules. tests/explain.sh runs each example. A search takes time in the number of rows and in the word.
 
-ghost use Rattle.std.specs.Prelude.{◌≡◌, ◌==◌, find, option_map};
+ghost use Rattle.std.specs.Prelude.{◌≡◌, find, option_map};
+ghost use Rattle.std.specs.Str.{bytes_eq};
+ghost use Rattle.wq_explain.specs.Explaining.{numbered};
 
-/// A number that the program prints; a line with the number and its name; and what it means. That is what was found, the
-/// section of docs/FORMAT.md in which the rule stands, shell commands of which the last one is answered with the number,
-/// and how to mend it.
-pub type Explanation = (u32, &'static str, &'static str);
+/// A number that the program prints, where it is one that is explained, and none of a fault; its name, or that of the fault;
+/// the line of a list; and what it means. That is what was found, the section of docs/FORMAT.md in which the rule stands, shell
+/// commands of which the last one is answered so, and how to mend it.
+pub type Explanation = (Option<u32>, &'static str, &'static str, &'static str);
 
 const TEXT_TOO_LONG: Explanation = (
-    1,
+    Some(1),
+    "TextTooLong",
     "1 TextTooLong\n",
     "\
 `refused 1 line 0`: the declaration has more than 1,048,576 bytes. Comments and
@@ -28,7 +31,8 @@ Take out comments and blanks. Or declare parts that have no flush and no
 );
 
 const LINE_TOO_LONG: Explanation = (
-    2,
+    Some(2),
+    "LineTooLong",
     "2 LineTooLong\n",
     "\
 `refused 2 line N`: line N of the declaration has more than 4,096 bytes. Its
@@ -47,7 +51,8 @@ to stand on one line: give them shorter names.
 );
 
 const BAD_BYTE: Explanation = (
-    3,
+    Some(3),
+    "BadByte",
     "3 BadByte\n",
     "\
 `refused 3 line N`: before the comment of line N stands a byte that is neither a
@@ -66,7 +71,8 @@ stand.
 );
 
 const UNKNOWN_WORD: Explanation = (
-    4,
+    Some(4),
+    "UnknownWord",
     "4 UnknownWord\n",
     "\
 `refused 4 line N`: the first word of line N is none of `item`, `flush` and
@@ -84,7 +90,8 @@ if it is a comment.
 );
 
 const MISSING_NAME: Explanation = (
-    5,
+    Some(5),
+    "MissingName",
     "5 MissingName\n",
     "\
 `refused 5 line N`: line N has too few words. `item` and `ordered` want at least
@@ -102,7 +109,8 @@ line. What stands behind a `#` is a comment, and no name.
 );
 
 const BAD_NAME: Explanation = (
-    6,
+    Some(6),
+    "BadName",
     "6 BadName\n",
     "\
 `refused 6 line N`: a word of line N, behind the first one, is no name. A name
@@ -120,7 +128,8 @@ Write `_` or `-` in place of other characters, and shorten a name of more than
 );
 
 const ITEM_TWICE: Explanation = (
-    7,
+    Some(7),
+    "ItemTwice",
     "7 ItemTwice\n",
     "\
 `refused 7 line N`: line N declares an item of a name that an `item` line above
@@ -137,7 +146,8 @@ Take out one of the two lines, or rename one of the items.
 );
 
 const UNKNOWN_ITEM: Explanation = (
-    8,
+    Some(8),
+    "UnknownItem",
     "8 UnknownItem\n",
     "\
 `refused 8 line N`: line N, a `flush` or `ordered` line, has a name that no
@@ -155,7 +165,8 @@ name. Upper and lower case differ.
 );
 
 const TOO_MANY_ITEMS: Explanation = (
-    9,
+    Some(9),
+    "TooManyItems",
     "9 TooManyItems\n",
     "\
 `refused 9 line N`: line N declares one more item than the 4,096 that there may
@@ -173,7 +184,8 @@ their own. An item that no such line names may go on any workqueue.
 );
 
 const TOO_MANY_FLUSHES: Explanation = (
-    10,
+    Some(10),
+    "TooManyFlushes",
     "10 TooManyFlushes\n",
     "\
 `refused 10 line N`: with those of line N there are more than 16,384 flushes.
@@ -192,7 +204,8 @@ their own.
 );
 
 const GROUPED_TWICE: Explanation = (
-    11,
+    Some(11),
+    "GroupedTwice",
     "11 GroupedTwice\n",
     "\
 `refused 11 line N`: line N, an `ordered` line, has a name twice, or one that an
@@ -210,7 +223,8 @@ ordered workqueue: write them as one line.
 );
 
 const EXTRA_WORD: Explanation = (
-    12,
+    Some(12),
+    "ExtraWord",
     "12 ExtraWord\n",
     "\
 `refused 12 line N`: line N, an `item` line, has more than one word behind
@@ -227,7 +241,8 @@ Write an `item` line for each item. A comment begins with `#`.
 );
 
 const BAD_CERT_LINE: Explanation = (
-    40,
+    Some(40),
+    "BadCertLine",
     "40 BadCertLine\n",
     "\
 `refused 40 line N`: line N of a plan, a circle, an assignment or a run isn't of
@@ -251,7 +266,8 @@ the text was made for this declaration.
 );
 
 const NOT_ALL_ITEMS: Explanation = (
-    41,
+    Some(41),
+    "NotAllItems",
     "41 NotAllItems\n",
     "\
 `refused 41 line N`: line N, a `wq` line, has an item twice, or one that a `wq`
@@ -271,7 +287,8 @@ where its K says so.
 );
 
 const GROUP_SPLIT: Explanation = (
-    42,
+    Some(42),
+    "GroupSplit",
     "42 GroupSplit\n",
     "\
 `refused 42 line N`: line N, a `wq` line, has an item that shares an `ordered`
@@ -291,7 +308,8 @@ different workqueues, take them off the `ordered` line.
 );
 
 const NUMBER_OUT_OF_RANGE: Explanation = (
-    43,
+    Some(43),
+    "NumberOutOfRange",
     "43 NumberOutOfRange\n",
     "\
 `refused 43 line N`: a number of line N is none that may stand there. The `wq`
@@ -312,7 +330,8 @@ one that is empty.
 );
 
 const NOT_FALLING: Explanation = (
-    50,
+    Some(50),
+    "NotFalling",
     "50 NotFalling\n",
     "\
 `no 50 ITEM TARGET`: ITEM flushes TARGET, and its workqueue isn't above that of
@@ -333,7 +352,8 @@ its workqueues are numbered.
 );
 
 const CHAIN_BROKEN: Explanation = (
-    51,
+    Some(51),
+    "ChainBroken",
     "51 ChainBroken\n",
     "\
 `no 51 AT`: arc AT of the chain, counted from 1, is no declared flush, or its
@@ -354,7 +374,8 @@ then the one that it flushes. `wqplan plan` prints such a chain.
 );
 
 const LENGTH_DIFFERS: Explanation = (
-    52,
+    Some(52),
+    "LengthDiffers",
     "52 LengthDiffers\n",
     "\
 `no 52`: the chain hasn't as many groups as there are workqueues, so it doesn't
@@ -374,7 +395,8 @@ chain. `wqplan plan` prints both.
 );
 
 const CIRCLE_BROKEN: Explanation = (
-    53,
+    Some(53),
+    "CircleBroken",
     "53 CircleBroken\n",
     "\
 `no 53 AT`: arc AT of the circle, counted from 1, is no declared flush, or its
@@ -395,7 +417,8 @@ leads to. `wqplan plan` prints a circle where there is one.
 );
 
 const RUN_BROKEN: Explanation = (
-    54,
+    Some(54),
+    "RunBroken",
     "54 RunBroken\n",
     "\
 `no 54`: the circle goes round, but the run behind it doesn't deadlock where
@@ -415,7 +438,8 @@ plan` prints. `wqplan replay` says how a run ends.
 );
 
 const TOO_MANY_LANES: Explanation = (
-    69,
+    Some(69),
+    "TooManyLanes",
     "69 TooManyLanes\n",
     "\
 `refused 69 line 0`: the plan has more than 256 workqueues, the most that a
@@ -435,8 +459,107 @@ which no chain is as long.
 ",
 );
 
-/// All explanations, by number.
-pub static EXPLANATIONS: [Explanation; 22] = [
+const READ: Explanation = (
+    None,
+    "read",
+    "read fault\n",
+    "\
+`fault read`, with status 3: a file couldn't be opened, or a read of it or of
+standard input failed. Nothing was printed to standard output.
+
+The rule: docs/FORMAT.md, \"Faults and exit statuses\"
+
+To see it:
+    wqplan plan none.wq
+
+To mend it:
+See that each path names a file that exists and that you may read, and is no
+directory. A read that was interrupted has failed too: give the command again.
+",
+);
+
+const MEMORY: Explanation = (
+    None,
+    "memory",
+    "memory fault\n",
+    "\
+`fault memory`, with status 3: memory ran out. Nothing was printed to standard
+output.
+
+The rule: docs/FORMAT.md, \"Faults and exit statuses\"
+
+To see it:
+    echo 'item a' > decl
+    yes '' | head -c 8388608 > cert
+    ulimit -v 8192
+    wqplan check decl cert
+
+To mend it:
+Give the process more memory (see `ulimit -v`, and the limit of its control
+group), or give it smaller texts.
+",
+);
+
+const THREAD: Explanation = (
+    None,
+    "thread",
+    "thread fault\n",
+    "\
+`fault thread`, with status 3: in `run`, a thread couldn't be made. The system
+gives no more of them, or no memory for one. The threads that were made have
+ended, and nothing was printed to standard output.
+
+The rule: docs/FORMAT.md, \"Faults and exit statuses\"
+
+To see it:
+    seq -f 'item i%g' 256 > decl
+    seq 255 | awk '{ print \"flush i\" $1, \"i\" $1 + 1 }' >> decl
+    ulimit -v 131072
+    wqplan run decl
+
+To mend it:
+A run takes a thread for each workqueue of the plan, and two more. Raise the
+limits of the process on threads and on memory (see `ulimit -u` and `ulimit -v`,
+and the limits of its control group), or run a declaration with a shorter chain.
+",
+);
+
+const TALLY: Explanation = (
+    None,
+    "tally",
+    "tally fault\n",
+    "\
+`fault tally`, with status 3: in `run`, the runtime couldn't be closed with
+counts that agree. No input meets it. Nothing was printed to standard output.
+
+The rule: docs/FORMAT.md, \"Faults and exit statuses\"
+
+To mend it:
+It is a fault of the program or of the machine: report it, with the declaration.
+",
+);
+
+const WRITE: Explanation = (
+    None,
+    "write",
+    "write fault\n",
+    "\
+`fault write`, with status 3: a write to standard output failed, or took none of
+its bytes. A prefix of the answer may have been written, and never all of it.
+
+The rule: docs/FORMAT.md, \"Faults and exit statuses\"
+
+To see it:
+    echo 'item a' | wqplan plan > /dev/full
+
+To mend it:
+Don't use what was written. See that the file system has room, and that the
+reader of a pipe stays until the end; then give the command again.
+",
+);
+
+/// All explanations: those of the numbers, in their order, and those of the faults.
+pub static EXPLANATIONS: [Explanation; 27] = [
     TEXT_TOO_LONG,
     LINE_TOO_LONG,
     BAD_BYTE,
@@ -459,11 +582,33 @@ pub static EXPLANATIONS: [Explanation; 22] = [
     CIRCLE_BROKEN,
     RUN_BROKEN,
     TOO_MANY_LANES,
+    READ,
+    MEMORY,
+    THREAD,
+    TALLY,
+    WRITE,
 ];
+
+/// Whether an explanation is that of this number.
+fn is_numbered(row: &Explanation, code: u32) -> bool
+    ensures { result ≡ numbered row.now.0 code }
+{
+    match row.0 {
+        Some(own) => own == code,
+        None => false,
+    }
+}
 
 /// The first of these explanations that has this number, if there is one.
 pub(crate) fn with_number(rows: &[Explanation], code: u32) -> Option<&Explanation>
-    ensures { option_map (λ row. row.now) result ≡ find (λ row. row.0 == code) rows.now }
+    ensures { option_map (λ row. row.now) result ≡ find (λ row. numbered row.0 code) rows.now }
 {
-    rows.iter().find(|row| row.0 == code)
+    rows.iter().find(|row| is_numbered(row, code))
+}
+
+/// The first of these explanations that has this name, if there is one.
+pub(crate) fn with_name<'a>(rows: &'a [Explanation], name: &str) -> Option<&'a Explanation>
+    ensures { option_map (λ row. row.now) result ≡ find (λ row. bytes_eq row.1.now name.now) rows.now }
+{
+    rows.iter().find(|row| row.1 == name)
 }

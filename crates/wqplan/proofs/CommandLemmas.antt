@@ -1,22 +1,14 @@
 -- The command that a parse of the program's words entered, and the files that it was given.
-use Rattle.std.proofs.Common.{arith, refl, ap, ap₂, sym, subst, Result, Ok, Err, IsErrAnd, MatchResult, ◌∙◌, codes, cond, drop, ℕ, ◌<◌, ◌^◌, Bool, true, false, not, ◌==◌, ◌&&◌, [], ◌∷◌, List, Option, Some, None, ◌≡◌}
-use Rattle.std.specs.Prelude.{decimal, option_map, unwrap_or}
+use Rattle.std.proofs.Common.{refl, ap, ap₂, sym, subst, Result, Ok, Err, IsErrAnd, MatchResult, ◌∙◌, codes, Bool, true, false, not, ◌==◌, ◌&&◌, [], ◌∷◌, List, Option, Some, None, ◌≡◌}
+use Rattle.std.specs.Prelude.{option_map, unwrap_or}
 use Rattle.std.specs.Str.{bytes_eq}
-use Rattle.std.specs.Str.Parse.{IsNumeral, ParsesUnsigned, digits_value, without_leading_plus}
 use Rattle.std.specs.Borrow.{Bor}
-use Rattle.std.proofs.lemmas.Bool.{ne_eqb}
-use Rattle.std.proofs.lemmas.Fmt.{decimal_is_IsNumeral}
-use Rattle.std.proofs.lemmas.Str.Parse.{digit_from_value}
-use Rattle.clap.specs.Words.{Row, Text, first_of, first_value, one_of, one_text, is_simple, rows_of, takes}
+use Rattle.clap.specs.Words.{Row, Text, first_of, first_value, is_simple, rows_of, takes}
 use Rattle.clap.specs.declared.parser.matches.Found.{Found}
-use Rattle.clap.specs.Matches.{ReadsOne}
-use Rattle.clap.specs.ValueTests.{accepts}
-use Rattle.clap.specs.declared.builder.value_parser.ValueParser.TheVariants.{Unsigned}
-use Rattle.clap.proofs.ValueTestLemmas.{Accepts-accepts}
-use Rattle.clap.proofs.WalkLemmas.{first_value-rows, one_text-rows}
+use Rattle.clap.proofs.WalkLemmas.{first_value-rows}
 use Rattle.clap.specs.Lexer.{long_of, short_of}
 use Rattle.clap.proofs.OnLiterals.{clap_on_literals}
-use Rattle.wqplan.specs.CommandLine.{wqplan, is_no_option, Asked, Asks, AsksFor, Calls, GivesArguments, IsNumber, command_name}
+use Rattle.wqplan.specs.CommandLine.{wqplan, is_no_option, Asked, Asks, AsksFor, Calls, GivesArguments, command_name}
 use Rattle.wqplan.specs.CommandLine.Asked.{plans, checks, judges, replays, runs, explains}
 
 -- where a part that is turned around is one of those that hold, it doesn't
@@ -130,45 +122,23 @@ pub asks_run : (program declaration : Text) → is_no_option declaration ≡ tru
 unfolding clap_on_literals
 asks_run program declaration p = rw (bytes_eq-no_option declaration p, long_of-no_option declaration p, short_of-no_option declaration p) (_, refl, refl)
 
--- digits begin with no `+` and no `-`
-no_plus : (ds : Text) → IsNumeral 10 ds → without_leading_plus ds ≡ ds
-no_plus [] h = refl
-no_plus (d ∷ ds) h =
-    let plus : (d == 43) ≡ false = ne_eqb _ _ (λ e. omega (arith, digit_from_value d h.1.0)) in
-    ap (λ (b : Bool). drop (cond b 1 0) (d ∷ ds)) plus
-
-numeral_is_no_option : (ds : Text) → IsNumeral 10 ds → is_no_option ds ≡ true
-numeral_is_no_option [] h = refl
-numeral_is_no_option (d ∷ ds) h =
-    let dash : (d == 45) ≡ false = ne_eqb _ _ (λ e. omega (arith, digit_from_value d h.1.0)) in
-    ap not dash
-
--- a number of 32 bits is spelled by its digits
-decimal_is_no_option : (code : ℕ) → code < 2 ^ 32 → is_no_option (decimal code) ≡ true
-decimal_is_no_option code small = numeral_is_no_option (decimal code) (decimal_is_IsNumeral code (omega arith)).0
-
-IsNumber-decimal : (code : ℕ) → code < 2 ^ 32 → IsNumber (decimal code) code
-IsNumber-decimal code small =
-    let digits = decimal_is_IsNumeral code (omega arith) in
-    let value : digits_value 10 (decimal code) ≡ code = digits.1 in
-    subst (λ (ds : Text). IsNumeral 10 ds × (digits_value 10 ds < 2 ^ 32) × (code ≡ digits_value 10 ds))
-    (sym (no_plus (decimal code) digits.0)) (digits.0, omega (arith, value), sym value)
-
--- a number of 32 bits passes the test of CODE
-number_is_accepted : (word : Text) (code : ℕ) → IsNumber word code → accepts false (Unsigned 0 4294967295) word ≡ true
-number_is_accepted word code number =
-    Accepts-accepts false (Unsigned 0 4294967295) word (number.0, omega (arith, number.1), omega arith, omega (arith, number.1))
-
--- `wqplan explain CODE` is taken, and gives the number
-pub takes_explain : (program word : Text) → is_no_option word ≡ true → accepts false (Unsigned 0 4294967295) word ≡ true
-    → takes wqplan (program ∷ codes "explain" ∷ word ∷ []) ≡ true
+-- `wqplan explain` is taken, and gives no CODE
+pub takes_list : (program : Text) → takes wqplan (program ∷ codes "explain" ∷ []) ≡ true
 unfolding clap_on_literals
-takes_explain program word p accepted = rw (bytes_eq-no_option word p, long_of-no_option word p, short_of-no_option word p, accepted) refl
+takes_list program = refl
 
-pub asks_explain : (program word : Text) (code : ℕ) → is_no_option word ≡ true → IsNumber word code
-    → Asks (program ∷ codes "explain" ∷ word ∷ []) (explains code)
+pub asks_list : (program : Text) → Asks (program ∷ codes "explain" ∷ []) (explains None)
 unfolding clap_on_literals
-asks_explain program word code p number = rw (bytes_eq-no_option word p, long_of-no_option word p, short_of-no_option word p) (_, refl, (word, refl, number))
+asks_list program = (_, refl, refl)
+
+-- `wqplan explain CODE` is taken, and gives CODE
+pub takes_explain : (program code : Text) → is_no_option code ≡ true → takes wqplan (program ∷ codes "explain" ∷ code ∷ []) ≡ true
+unfolding clap_on_literals
+takes_explain program code plain = rw (bytes_eq-no_option code plain, long_of-no_option code plain, short_of-no_option code plain) refl
+
+pub asks_explain : (program code : Text) → is_no_option code ≡ true → Asks (program ∷ codes "explain" ∷ code ∷ []) (explains (Some code))
+unfolding clap_on_literals
+asks_explain program code plain = rw (bytes_eq-no_option code plain, long_of-no_option code plain, short_of-no_option code plain) (_, refl, refl)
 
 -- the words of a call are taken, and ask for what they call
 pub takes_Calls : (words : List Text) (wanted : Asked) → Calls words wanted → takes wqplan words ≡ true
@@ -178,8 +148,8 @@ takes_Calls words (checks declaration certificate) (program, are, p, q) = ap (ta
 takes_Calls words (judges declaration assignment) (program, are, p, q) = ap (takes wqplan) are ∙ takes_deadlock program declaration assignment p q
 takes_Calls words (replays declaration assignment run) (program, are, p, q, r) = ap (takes wqplan) are ∙ takes_replay program declaration assignment run p q r
 takes_Calls words (runs declaration) (program, are, p) = ap (takes wqplan) are ∙ takes_run program declaration p
-takes_Calls words (explains code) (program, are, small) =
-    ap (takes wqplan) are ∙ takes_explain program (decimal code) (decimal_is_no_option code small) (number_is_accepted (decimal code) code (IsNumber-decimal code small))
+takes_Calls words (explains None) (program, are) = ap (takes wqplan) are ∙ takes_list program
+takes_Calls words (explains (Some code)) (program, are, p) = ap (takes wqplan) are ∙ takes_explain program code p
 
 pub Asks_Calls : (words : List Text) (wanted : Asked) → Calls words wanted → Asks words wanted
 Asks_Calls words (plans None) (program, are) = subst (λ ws. Asks ws (plans None)) (sym are) (asks_plan program)
@@ -188,8 +158,8 @@ Asks_Calls words (checks declaration certificate) (program, are, p, q) = subst (
 Asks_Calls words (judges declaration assignment) (program, are, p, q) = subst (λ ws. Asks ws (judges declaration assignment)) (sym are) (asks_deadlock program declaration assignment p q)
 Asks_Calls words (replays declaration assignment run) (program, are, p, q, r) = subst (λ ws. Asks ws (replays declaration assignment run)) (sym are) (asks_replay program declaration assignment run p q r)
 Asks_Calls words (runs declaration) (program, are, p) = subst (λ ws. Asks ws (runs declaration)) (sym are) (asks_run program declaration p)
-Asks_Calls words (explains code) (program, are, small) =
-    subst (λ ws. Asks ws (explains code)) (sym are) (asks_explain program (decimal code) code (decimal_is_no_option code small) (IsNumber-decimal code small))
+Asks_Calls words (explains None) (program, are) = subst (λ ws. Asks ws (explains None)) (sym are) (asks_list program)
+Asks_Calls words (explains (Some code)) (program, are, p) = subst (λ ws. Asks ws (explains (Some code))) (sym are) (asks_explain program code p)
 
 -- a value that a getter hands out is the first one of its rows, and where it hands out none there is none
 pub value_given : (r : Option (Bor Text)) (s : Bor Text) (f : Found) (id : Text) → option_map (λ b. b.now) r ≡ first_value f id → r ≡ Some s → first_of id (rows_of f) ≡ Some s.now
@@ -199,29 +169,6 @@ pub not_given : (r : Option (Bor Text)) (f : Found) (id value : Text) → option
 not_given r f id value read is given =
     let bad : None ≡ Some value = sym (ap (option_map (λ (b : Bor Text). b.now)) is) ∙ (read ∙ (first_value-rows f id ∙ given)) in
     cc
-
--- a number that a getter hands out is the one that its row spells, and where it hands out none there is none
-pub number_given : (E : Type 0) (G : Text → Result ℕ E → Type 0) (f : Found) (id : Text) (r : Option ℕ) (code : ℕ)
-    → ((t : Text) (x : Result ℕ E) → G t x → ParsesUnsigned 32 10 t x)
-    → (one_text f id ≡ None → r ≡ None) → ((t : Text) → one_text f id ≡ Some t → ReadsOne G t r) → r ≡ Some code
-    → (word : Text) × (one_of id (rows_of f) ≡ Some word) × IsNumber word code
-number_given E G f id r code only none value is = go (one_text f id) refl
-  where
-    go : (o : Option Text) → one_text f id ≡ o → (word : Text) × (one_of id (rows_of f) ≡ Some word) × IsNumber word code
-    go None e =
-        let bad : None ≡ Some code = sym (none e) ∙ is in
-        cc
-    go (Some t) e =
-        let parsed = only t (Ok code) (subst (λ (q : Option ℕ). ReadsOne G t q) is (value t e)) in
-        (t, sym (one_text-rows f id) ∙ e, (parsed.0.0, parsed.0.1, parsed.1))
-
-pub number_not_given : (E : Type 0) (G : Text → Result ℕ E → Type 0) (f : Found) (id : Text) (r : Option ℕ)
-    → ((t : Text) (x : Result ℕ E) → G t x → ParsesUnsigned 32 10 t x)
-    → ((t : Text) → one_text f id ≡ Some t → ReadsOne G t r) → r ≡ None
-    → (code : ℕ) (word : Text) → one_of id (rows_of f) ≡ Some word → IsNumber word code → ⊥
-number_not_given E G f id r only value is code word given number =
-    let read = subst (λ (q : Option ℕ). ReadsOne G word q) is (value word (one_text-rows f id ∙ given)) in
-    only word (Err read.0) read.1 (number.0, number.1)
 
 -- an option has one value
 pub same_value : {T : Type 0} (o : Option T) (x y : T) → o ≡ Some x → o ≡ Some y → x ≡ y
@@ -278,9 +225,7 @@ GivesArguments-unique rows (explains n) (checks d c) names g h = cc
 GivesArguments-unique rows (explains n) (judges d a) names g h = cc
 GivesArguments-unique rows (explains n) (replays d a r) names g h = cc
 GivesArguments-unique rows (explains n) (runs d) names g h = cc
-GivesArguments-unique rows (explains n) (explains n2) names (word, is, number) (other, also, number2) =
-    let same : word ≡ other = same_value _ word other is also in
-    ap explains (number.2 ∙ (ap (λ (w : Text). digits_value 10 (without_leading_plus w)) same ∙ sym number2.2))
+GivesArguments-unique rows (explains n) (explains n2) names g h = ap explains (sym g ∙ h)
 
 -- a command that was met asks for one thing
 pub AsksFor-unique : (met : Option (Text × List Row)) (a b : Asked) → AsksFor met a → AsksFor met b → a ≡ b
@@ -309,34 +254,3 @@ replays_of met rows wanted is (others, also, given) =
     go (replays d a r) name given = (d, a, r, given)
     go (runs d) name given = cc
     go (explains n) name given = cc
-
--- no other command is called `explain`
-plan_is_not_explain : codes "plan" ≡ codes "explain" → ⊥
-plan_is_not_explain e = cc
-
-check_is_not_explain : codes "check" ≡ codes "explain" → ⊥
-check_is_not_explain e = cc
-
-deadlock_is_not_explain : codes "deadlock" ≡ codes "explain" → ⊥
-deadlock_is_not_explain e = cc
-
-replay_is_not_explain : codes "replay" ≡ codes "explain" → ⊥
-replay_is_not_explain e = cc
-
-run_is_not_explain : codes "run" ≡ codes "explain" → ⊥
-run_is_not_explain e = cc
-
--- what asks for `explain` gives it its number
-pub explains_of : (met : Option (Text × List Row)) (rows : List Row) (wanted : Asked) → met ≡ Some (codes "explain", rows) → AsksFor met wanted
-    → (code : ℕ) × GivesArguments rows (explains code)
-explains_of met rows wanted is (others, also, given) =
-    let both : (command_name wanted, others) ≡ (codes "explain", rows) = same_value {T = Text × List Row} met (command_name wanted, others) (codes "explain", rows) also is in
-    go wanted (ap (λ (p : Text × List Row). p.0) both) (subst (λ (rs : List Row). GivesArguments rs wanted) (ap (λ (p : Text × List Row). p.1) both) given)
-  where
-    go : (w : Asked) → command_name w ≡ codes "explain" → GivesArguments rows w → (code : ℕ) × GivesArguments rows (explains code)
-    go (plans f) name given = absurd (plan_is_not_explain name)
-    go (checks d c) name given = absurd (check_is_not_explain name)
-    go (judges d a) name given = absurd (deadlock_is_not_explain name)
-    go (replays d a r) name given = absurd (replay_is_not_explain name)
-    go (runs d) name given = absurd (run_is_not_explain name)
-    go (explains code) name given = (code, given)

@@ -1,5 +1,5 @@
 -- The numbers that the program prints, and those that have an explanation.
-use Rattle.std.proofs.Common.{◌≡◌, ◌≢◌, ◌==◌, ℕ, Bool, true, false, cond, List, [], ◌∷◌, Some, map, refl, sym, subst}
+use Rattle.std.proofs.Common.{◌≡◌, ◌≢◌, ℕ, Bool, true, false, cond, List, [], ◌∷◌, Option, Some, None, map, refl, sym, subst}
 use Rattle.std.proofs.lemmas.Bool.{eqb-true}
 use Rattle.wq_text.specs.declared.text.TextError.TheVariants.{TextTooLong, LineTooLong}
 use Rattle.wq_decl.specs.declared.fault.DeclError.TheVariants.{BadByte, UnknownWord, MissingName, ExtraWord, BadName}
@@ -10,10 +10,10 @@ use Rattle.wq_checker.specs.declared.answer.No.TheVariants.{NotFalling, LengthDi
 use Rattle.wq_commands.specs.Numbers.{IsPrinted, of_limit, of_line, of_item, of_group, of_certificate, of_no}
 use Rattle.wqplan.specs.Numbers.{IsPrintedByProgram, of_text, of_plan}
 use Rattle.wq_explain.specs.declared.explain.Explained.TheVariants.{Known, Unknown}
-use Rattle.wq_explain.specs.Explaining.{Row, explanations, explained_end, end_in, explanation_in, known_or_not}
+use Rattle.wq_explain.specs.Explaining.{Row, explanations, known_or_not, number_end, numbered, with_number}
 
 -- a number of a text that is refused, or of a `no`, has an explanation
-Known-text : (code : ℕ) → IsPrinted code → explained_end code ≡ Known
+Known-text : (code : ℕ) → IsPrinted code → number_end code ≡ Known
 Known-text code (of_limit TextTooLong) = refl
 Known-text code (of_limit (LineTooLong line)) = refl
 Known-text code (of_line (BadByte line)) = refl
@@ -40,23 +40,33 @@ Known-text code (of_no (CircleBroken at)) = refl
 Known-text code (of_no RunBroken) = refl
 
 -- so has each printed number
-pub Known-printed : (code : ℕ) → IsPrintedByProgram code → explained_end code ≡ Known
+pub Known-printed : (code : ℕ) → IsPrintedByProgram code → number_end code ≡ Known
 Known-printed code (of_text printed) = Known-text code printed
 Known-printed code of_plan = refl
 
--- each of these numbers is printed
-abbrev AllPrinted : List ℕ → Type 0
+-- a row has no number, or one that is printed
+abbrev PrintedIfNumber : Option ℕ → Type 0
+PrintedIfNumber None = Unit {0}
+PrintedIfNumber (Some code) = IsPrintedByProgram code
+
+-- each of these rows does
+abbrev AllPrinted : List (Option ℕ) → Type 0
 AllPrinted [] = Unit {0}
-AllPrinted (code ∷ codes) = IsPrintedByProgram code × AllPrinted codes
+AllPrinted (code ∷ codes) = PrintedIfNumber code × AllPrinted codes
+
+-- the number that a row has is printed
+printed_at : (own : Option ℕ) (code : ℕ) → PrintedIfNumber own → numbered own code ≡ true → IsPrintedByProgram code
+printed_at (Some own) code printed is = subst IsPrintedByProgram (eqb-true own code is) printed
+printed_at None code printed is = cc
 
 -- a number that one of the rows has is one of theirs
-printed_in : (rows : List Row) → AllPrinted (map (λ (row : Row). row.code) rows) → (code : ℕ) → end_in rows code ≡ Known → IsPrintedByProgram code
+printed_in : (rows : List Row) → AllPrinted (map (λ (row : Row). row.code) rows) → (code : ℕ) → known_or_not (with_number rows code) ≡ Known → IsPrintedByProgram code
 printed_in [] printed code known = absurd cc
-printed_in (row ∷ rows) printed code known = go (row.code == code) refl known (printed_in rows printed.1 code)
+printed_in (row ∷ rows) printed code known = go (numbered row.code code) refl known (printed_in rows printed.1 code)
   where
-    go : (same : Bool) → (row.code == code) ≡ same → known_or_not (cond same (Some row) (explanation_in rows code)) ≡ Known
-        → (end_in rows code ≡ Known → IsPrintedByProgram code) → IsPrintedByProgram code
-    go true is found others = subst IsPrintedByProgram (eqb-true row.code code is) printed.0
+    go : (same : Bool) → numbered row.code code ≡ same → known_or_not (cond same (Some row) (with_number rows code)) ≡ Known
+        → (known_or_not (with_number rows code) ≡ Known → IsPrintedByProgram code) → IsPrintedByProgram code
+    go true is found others = printed_at row.code code printed.0 is
     go false is found others = others found
 
 all_printed : AllPrinted (map (λ (row : Row). row.code) explanations)
@@ -104,7 +114,7 @@ all_printed = (
                                           of_text (of_no RunBroken),
                                           (
                                             of_plan,
-                                            tt,
+                                            (tt, (tt, (tt, (tt, (tt, tt))))),
                                           ),
                                         ),
                                       ),
@@ -129,5 +139,5 @@ all_printed = (
 )
 
 -- a number that has an explanation is printed
-pub IsPrinted-known : (code : ℕ) → explained_end code ≡ Known → IsPrintedByProgram code
+pub IsPrinted-known : (code : ℕ) → number_end code ≡ Known → IsPrintedByProgram code
 IsPrinted-known = printed_in explanations all_printed

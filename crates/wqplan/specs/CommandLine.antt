@@ -1,18 +1,12 @@
 -- The command line of the program, in the words of `clap`.
-use Rattle.std.specs.Prelude.{◌≡◌, ◌==◌, ◌<◌, ◌^◌, ℕ, Bool, not, [], ◌∷◌, List, Option, Some, None, codes, decimal, true, option_map}
-use Rattle.std.specs.Str.Parse.{IsNumeral, digits_value, without_leading_plus}
-use Rattle.clap.specs.Words.{App, Row, Rule, Text, first_of, one_of, new_app, new_rule, subcommand_of, with_rule, with_subcommand}
-use Rattle.clap.specs.declared.builder.value_parser.ValueParser.TheVariants.{Unsigned}
+use Rattle.std.specs.Prelude.{◌≡◌, ◌==◌, Bool, not, [], ◌∷◌, List, Option, Some, None, codes, true, option_map}
+use Rattle.clap.specs.Words.{App, Row, Rule, Text, first_of, new_app, new_rule, subcommand_of, with_rule, with_subcommand}
 use Rattle.wqplan.specs.declared.command_line.Request.{Request}
 use Rattle.wqplan.specs.declared.command_line.Request.TheVariants.{Plan, Check, Deadlock, Replay, Run, Explain}
 
 -- a positional argument that has to be given
 abbrev pub needed : Text → Rule
 needed name = record (new_rule name) { required = true }
-
--- a positional argument that has to be given, and to be a number of 32 bits
-abbrev pub needed_number : Text → Rule
-needed_number name = record (needed name) { parser = Some (Unsigned 0 4294967295) }
 
 -- `plan [FILE]`
 abbrev pub plan : App
@@ -34,9 +28,9 @@ replay = with_rule (with_rule (with_rule (new_app (codes "replay")) (needed (cod
 abbrev pub run : App
 run = with_rule (new_app (codes "run")) (needed (codes "DECL"))
 
--- `explain CODE`
+-- `explain [CODE]`
 abbrev pub explain : App
-explain = with_rule (new_app (codes "explain")) (needed_number (codes "CODE"))
+explain = with_rule (new_app (codes "explain")) (new_rule (codes "CODE"))
 
 -- the program without its commands: it has a version, and one of its commands must be given
 abbrev pub bare : App
@@ -49,14 +43,14 @@ abbrev pub wqplan : App
 wqplan =
     with_subcommand (with_subcommand (with_subcommand (with_subcommand (with_subcommand (with_subcommand bare plan.top) check.top) deadlock.top) replay.top) run.top) explain.top
 
--- a command and the paths of its files, or its number
+-- a command and the paths of its files, or the word that it explains
 pub data Asked : Type 0 where
   plans : Option Text → Asked
   checks : Text → Text → Asked
   judges : Text → Text → Asked
   replays : Text → Text → Text → Asked
   runs : Text → Asked
-  explains : ℕ → Asked
+  explains : Option Text → Asked
 
 -- what a request asks for
 abbrev pub spelled : Request → Asked
@@ -65,7 +59,7 @@ spelled (Check declaration certificate) = checks declaration.now certificate.now
 spelled (Deadlock declaration assignment) = judges declaration.now assignment.now
 spelled (Replay declaration assignment steps) = replays declaration.now assignment.now steps.now
 spelled (Run declaration) = runs declaration.now
-spelled (Explain code) = explains code
+spelled (Explain code) = explains (option_map (λ s. s.now) code)
 
 -- the name of the command that is asked for
 abbrev pub command_name : Asked → Text
@@ -76,13 +70,7 @@ command_name (replays declaration assignment steps) = codes "replay"
 command_name (runs declaration) = codes "run"
 command_name (explains code) = codes "explain"
 
--- the word is this number of 32 bits, in digits; a plus may stand before them
-abbrev pub IsNumber : Text → ℕ → Type 0
-IsNumber word code =
-    let digits = without_leading_plus word in
-    IsNumeral 10 digits × (digits_value 10 digits < 2 ^ 32) × (code ≡ digits_value 10 digits)
-
--- the matches of the command give it these files, or this number
+-- the matches of the command give it these files, or this word
 abbrev pub GivesArguments : List Row → Asked → Type 0
 GivesArguments rows (plans file) = first_of (codes "FILE") rows ≡ file
 GivesArguments rows (checks declaration certificate) = (first_of (codes "DECL") rows ≡ Some declaration) × (first_of (codes "CERT") rows ≡ Some certificate)
@@ -90,7 +78,7 @@ GivesArguments rows (judges declaration assignment) = (first_of (codes "DECL") r
 GivesArguments rows (replays declaration assignment steps) =
     (first_of (codes "DECL") rows ≡ Some declaration) × (first_of (codes "ASSIGN") rows ≡ Some assignment) × (first_of (codes "RUN") rows ≡ Some steps)
 GivesArguments rows (runs declaration) = first_of (codes "DECL") rows ≡ Some declaration
-GivesArguments rows (explains code) = (word : Text) × (one_of (codes "CODE") rows ≡ Some word) × IsNumber word code
+GivesArguments rows (explains code) = first_of (codes "CODE") rows ≡ code
 
 -- a command that was met, with its matches, asks for this
 abbrev pub AsksFor : Option (Text × List Row) → Asked → Type 0
@@ -105,7 +93,7 @@ abbrev pub is_no_option : Text → Bool
 is_no_option [] = true
 is_no_option (x ∷ xs) = not (x == 45)
 
--- the words are the program's name and a command, and behind them its files, of which no path looks like an option, or its number
+-- the words are the program's name and a command, and behind them its files, or the word to explain, none of which looks like an option
 abbrev pub Calls : List Text → Asked → Type 0
 Calls words (plans None) = (program : Text) × (words ≡ program ∷ codes "plan" ∷ [])
 Calls words (plans (Some file)) = (program : Text) × (words ≡ program ∷ codes "plan" ∷ file ∷ []) × (is_no_option file ≡ true)
@@ -116,4 +104,5 @@ Calls words (judges declaration assignment) = (program : Text) × (words ≡ pro
 Calls words (replays declaration assignment steps) = (program : Text) × (words ≡ program ∷ codes "replay" ∷ declaration ∷ assignment ∷ steps ∷ [])
     × (is_no_option declaration ≡ true) × (is_no_option assignment ≡ true) × (is_no_option steps ≡ true)
 Calls words (runs declaration) = (program : Text) × (words ≡ program ∷ codes "run" ∷ declaration ∷ []) × (is_no_option declaration ≡ true)
-Calls words (explains code) = (program : Text) × (words ≡ program ∷ codes "explain" ∷ decimal code ∷ []) × (code < 2 ^ 32)
+Calls words (explains None) = (program : Text) × (words ≡ program ∷ codes "explain" ∷ [])
+Calls words (explains (Some code)) = (program : Text) × (words ≡ program ∷ codes "explain" ∷ code ∷ []) × (is_no_option code ≡ true)

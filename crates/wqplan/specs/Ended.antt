@@ -10,7 +10,7 @@ use Rattle.wq_explain.specs.Explaining.{explained_end}
 use Rattle.wqplan.specs.CommandLine.{Asked, plans, checks, judges, replays, runs, explains}
 use Rattle.wqplan.specs.Status.{explain_end}
 
--- the command that is asked for ends so, to some texts; the end of `explain` is that of its number
+-- the command that is asked for ends so, to some texts; the end of `explain` is that of its word
 abbrev pub EndsAsAsked : Asked → End → Type 0
 EndsAsAsked (plans file) end = (text out : List ℕ) × Answers text end out
 EndsAsAsked (checks declaration certificate) end = (text claim out : List ℕ) × Checks text claim end out

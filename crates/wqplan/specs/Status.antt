@@ -7,7 +7,7 @@ use Rattle.wq_commands.specs.declared.end.End.TheVariants.{Good, Refused}
 use Rattle.wq_explain.specs.declared.explain.Explained.{Explained}
 use Rattle.wq_explain.specs.declared.explain.Explained.TheVariants.{Known, Unknown}
 
--- `explain` ends well where the number has an explanation
+-- `explain` ends well where its word has an explanation, or it has none
 abbrev pub explain_end : Explained → End
 explain_end Known = Good
 explain_end Unknown = Refused

@@ -5,10 +5,9 @@
 ghost use Rattle.std.specs.Prelude.{◌≡◌, ℕ, List, Some, codes, false, IfOk, IfSome, IsSome, MatchResult, map};
 ghost use Rattle.clap.specs.Words.{app_of, found_of, kind_of, rows_of, rule_of, subcommand_rows_of};
 ghost use Rattle.clap.specs.declared.error.kind.ErrorKind.TheVariants.{OutOfMemory};
-ghost use Rattle.wqplan.specs.CommandLine.{bare, check, deadlock, explain, needed, needed_number, plan, replay, run, spelled, wqplan, Asked, Asks, AsksFor, Calls, GivesArguments, checks, explains, judges, replays, runs};
+ghost use Rattle.wqplan.specs.CommandLine.{bare, check, deadlock, explain, needed, plan, replay, run, spelled, wqplan, Asked, Asks, AsksFor, Calls, GivesArguments, checks, judges, replays, runs};
 
 use crate::help;
-use clap::builder::ValueParser;
 use clap::error::ErrorKind;
 use clap::{Arg, ArgMatches, Command, Error};
 use std::alloc::{AllocError, Global};
@@ -43,9 +42,9 @@ pub(crate) enum Request<'a> {
     Run {
         declaration: &'a str,
     },
-    /// What this number means.
+    /// What this number or name means, or the list of all that have an explanation.
     Explain {
-        code: u32,
+        code: Option<&'a str>,
     },
 }
 
@@ -61,14 +60,6 @@ fn file<'a>(alloc: Global, name: &'a str, help: &'a str) -> Arg<'a>
     ensures own { result.global ≡ false }
 {
     Arg::new(alloc, name).help(help).required(true)
-}
-
-/// A number of 32 bits that a command has to be given.
-fn number<'a>(alloc: Global, name: &'a str, help: &'a str) -> Arg<'a>
-    ensures rule { rule_of result ≡ needed_number name.entry.now }
-    ensures own { result.global ≡ false }
-{
-    file(alloc, name, help).value_parser(ValueParser::unsigned(0, u64::from(u32::MAX)))
 }
 
 /// The command `plan`.
@@ -138,7 +129,7 @@ fn run<'a>(alloc: Global) -> Result<Command<'a>, AllocError>
 fn explain<'a>(alloc: Global) -> Result<Command<'a>, AllocError>
     ensures { IfOk result (λ command. app_of command ≡ explain) }
 {
-    let code = number(alloc, "CODE", help::CODE);
+    let code = Arg::new(alloc, "CODE").help(help::CODE);
     Command::new(alloc, "explain")
         .about(help::EXPLAIN)
         .after_help(help::STATUSES)
@@ -219,15 +210,6 @@ fn run_request<'a>(given: &ArgMatches<'a>) -> Option<Request<'a>>
     Some(Request::Run { declaration })
 }
 
-/// What `explain` is asked for. Its number is there in all matches that a parse gives.
-fn explain_request<'a>(given: &ArgMatches<'a>) -> Option<Request<'a>>
-    ensures asked { IfSome result (λ request. AsksFor (Some (codes "explain", rows_of (found_of given.now))) (spelled request)) }
-    ensures all { (code : ℕ) → GivesArguments (rows_of (found_of given.now)) (explains code) → IsSome result }
-{
-    let code = given.get_one("CODE")?;
-    Some(Request::Explain { code })
-}
-
 /// What the command that a parse entered is asked for. There is none where `help` was entered.
 fn entered<'a>(matches: &ArgMatches<'a>) -> Option<Request<'a>>
     ensures asked { IfSome result (λ request. AsksFor (subcommand_rows_of matches.now) (spelled request)) }
@@ -250,7 +232,10 @@ fn entered<'a>(matches: &ArgMatches<'a>) -> Option<Request<'a>>
     if let Some(given) = matches.subcommand_matches("run") {
         return run_request(given);
     }
-    explain_request(matches.subcommand_matches("explain")?)
+    let given = matches.subcommand_matches("explain")?;
+    Some(Request::Explain {
+        code: given.get_str("CODE"),
+    })
 }
 
 /// What these words ask for.

@@ -2,7 +2,7 @@
 //!
 //! Nothing is read. Standard output has no buffer, as in `plan`.
 
-ghost use Rattle.std.specs.Prelude.{◌≡◌, IfOk};
+ghost use Rattle.std.specs.Prelude.{◌≡◌, IfOk, option_map};
 ghost use Rattle.wq_explain.specs.Explaining.{explained_end};
 ghost use Rattle.wqplan.specs.Status.{explain_end};
 
@@ -10,9 +10,10 @@ use std::io;
 use wq_commands::{End, Fault, Metered};
 use wq_explain::{Explained, explain_cmd};
 
-/// Prints what a number means. A number without an explanation ends as a text that is refused.
-pub(crate) fn explain<R: Print + AllocGlobal>(rt: &R, code: u32) -> Result<End, Fault>
-    ensures { IfOk result (λ end. end ≡ explain_end (explained_end code)) }
+/// Prints what a number or a name means, or the list of all that have an explanation, where there is no word. A word without an
+/// explanation ends as a text that is refused.
+pub(crate) fn explain<R: Print + AllocGlobal>(rt: &R, code: Option<&str>) -> Result<End, Fault>
+    ensures { IfOk result (λ end. end ≡ explain_end (explained_end (option_map (λ s. s.now) code.entry))) }
 {
     let mut writer = Metered::new(io::writer(rt));
     match explain_cmd(rt.alloc(), code, &mut writer)? {

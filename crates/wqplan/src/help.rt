@@ -11,24 +11,21 @@ pub(crate) const PLAN: &str =
     "Reads a declaration of work items and their flushes, prints its plan";
 
 /// What `check` reads and prints.
-pub(crate) const CHECK: &str =
-    "Reads a declaration and an answer, prints whether that is right";
+pub(crate) const CHECK: &str = "Reads a declaration and an answer, prints whether that is right";
 
 /// What `deadlock` reads and prints.
 pub(crate) const DEADLOCK: &str =
     "Reads a declaration and an assignment, prints `safe` or a deadlock";
 
 /// What `replay` reads and prints.
-pub(crate) const REPLAY: &str =
-    "Reads a declaration, an assignment and a run, prints how it ends";
+pub(crate) const REPLAY: &str = "Reads a declaration, an assignment and a run, prints how it ends";
 
 /// What `run` reads, does and prints.
-pub(crate) const RUN: &str =
-    "Reads a declaration, runs its plan in threads, prints what happened";
+pub(crate) const RUN: &str = "Reads a declaration, runs its plan in threads, prints what happened";
 
 /// What `explain` prints.
 pub(crate) const EXPLAIN: &str =
-    "Prints what a refusal or a `no` means, and how to mend it";
+    "Prints what a refusal, a `no` or a fault means, and how to mend it";
 
 /// What FILE is.
 pub(crate) const FILE: &str = "The declaration. Without FILE it is read from standard input";
@@ -40,14 +37,14 @@ pub(crate) const DECL: &str = "The declaration";
 pub(crate) const CERT: &str = "A plan or a circle, in the form in which `plan` prints it";
 
 /// What ASSIGN is.
-pub(crate) const ASSIGN: &str =
-    "Which item is on which workqueue: `wq` lines alone, or a plan";
+pub(crate) const ASSIGN: &str = "Which item is on which workqueue: `wq` lines alone, or a plan";
 
 /// What RUN is.
 pub(crate) const STEPS: &str = "The steps of a run";
 
 /// What CODE is.
-pub(crate) const CODE: &str = "The number, as in `refused CODE line N` or `no CODE ..`";
+pub(crate) const CODE: &str =
+    "A number, as in `no CODE ..`, or a name. Without CODE all are listed";
 
 /// What is printed and returned, and where the formats are described.
 pub(crate) const STATUSES: &str = "\
@@ -55,16 +52,17 @@ Each command prints one answer to standard output, or `refused CODE line N`.
 
 Exit status:
   0  the answer is a plan, `yes ..`, `safe`, `open`, the counts of a plan that
-     was run, or an explanation; or help or the version was printed
+     was run, an explanation, or the titles of all of them; or help or the
+     version was printed
   1  the answer is a circle, where items wait for one another and there is no
      plan; or it is `no ..`, a run that deadlocks, `deadlock`, `stuck` or
      `not lawful N`
   2  a refusal was printed: a text isn't of the form that it should have, or a
-     plan has too many workqueues to run; or the number to explain is none that
-     is printed. Or the command line is wrong; then standard error says how, and
-     nothing was read
+     plan has too many workqueues to run; or the word to explain is none that
+     has an explanation. Or the command line is wrong; then standard error says
+     how, and nothing was read
   3  a fault: standard error has the line `fault memory`, `fault read`,
      `fault write`, `fault thread` or `fault tally`
 
 docs/FORMAT.md describes the texts and the answers, `wqplan explain CODE` each
-refusal.";
+refusal, each `no` and each fault.";

@@ -4,10 +4,10 @@
 
 ghost use Rattle.std.specs.Prelude.{◌≡◌, ◌↔◌, ℕ};
 ghost use Rattle.wqplan.specs.Numbers.{IsPrintedByProgram};
-ghost use Rattle.wq_explain.specs.Explaining.{explained_end};
+ghost use Rattle.wq_explain.specs.Explaining.{number_end};
 ghost use Rattle.wq_explain.specs.declared.explain.Explained.TheVariants.{Known};
 
 /// `explain` knows just the numbers that a refusal or a `no` can have, that of a plan too large to run among them.
 pub fn each_printed_number_is_explained()
-    ensures { (code : ℕ) → IsPrintedByProgram code ↔ (explained_end code ≡ Known) }
+    ensures { (code : ℕ) → IsPrintedByProgram code ↔ (number_end code ≡ Known) }
 {}

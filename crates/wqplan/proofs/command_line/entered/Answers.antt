@@ -1,7 +1,7 @@
 use Rattle.std.proofs.Common.{refl, sym, codes, List, Some, ◌≡◌, ◌∙◌}
 use Rattle.clap.specs.Words.{Row, Text, found_of, rows_of, subcommand_rows_of}
 use Rattle.clap.proofs.WalkLemmas.{first_value-rows}
-use Rattle.wqplan.proofs.CommandLemmas.{explains_of, met_is, option_map_twice, replays_of}
+use Rattle.wqplan.proofs.CommandLemmas.{met_is, option_map_twice, replays_of}
 use Rattle.wqplan.proofs.command_line.entered.Goals as goal
 
 pub returns-in-Some-clause-asked : goal.returns-in-Some-clause-asked
@@ -21,11 +21,10 @@ returns-in-Some-subcommand_matches-3-clause-all c = λ wanted asked.
     let files = replays_of met (rows_of found) wanted is asked in
     c.replay_request.ensures.all files.0 files.1 files.2 files.3
 
-pub returns-clause-all : goal.returns-clause-all
-returns-clause-all c = λ wanted asked.
-    let found = found_of c.in_ok-subcommand_matches.field-0.now in
+pub returns-clause-asked : goal.returns-clause-asked
+returns-clause-asked c =
+    let found = found_of c.in_ok-given.given.now in
     let met = subcommand_rows_of c.args.matches.now in
     let is : met ≡ Some (codes "explain", rows_of found) =
-    met_is met (codes "explain") (rows_of found) (option_map_twice _ (λ (p : Text × List Row). p.0) _ ∙ c.in_ok-subcommand_matches.ensures.found.0 refl) c.in_ok-subcommand_matches.ensures.rows in
-    let number = explains_of met (rows_of found) wanted is asked in
-    c.explain_request.ensures.all number.0 number.1
+    met_is met (codes "explain") (rows_of found) (option_map_twice _ (λ (p : Text × List Row). p.0) _ ∙ c.in_ok-given.ensures.found.0 refl) c.in_ok-given.ensures.rows in
+    (rows_of found, is, sym (c.get_str-2.ensures ∙ first_value-rows found (codes "CODE")))
