@@ -1,0 +1,75 @@
+//! What a search has found so far: a mark for each vertex, and those that are marked in the order in which they were found.
+//!
+//! Coming to a vertex takes constant time, making the marks time and memory in the vertices.
+
+ghost use Rattle.std.specs.Prelude.{◌≡◌, ◌<◌, length, replicate, false, [], slice_get, IfOk};
+ghost use Rattle.std.specs.List.{All};
+ghost use Rattle.wq_components.specs.Searching.{with_found, with_all_found};
+
+use std::alloc::{AllocError, Allocator};
+use std::marker::Model;
+
+/// A search under way.
+#[derive(Drop)]
+pub(crate) struct Progress<A: Allocator> {
+    marks: Vec<bool, A>,
+    order: Vec<u16, A>,
+}
+
+impl<A: Allocator> Model for Progress<A> {
+    ghost use Rattle.wq_components.specs.Searching.{Search};
+
+    ghost Value = { Search };
+
+    ghost view = { λ p. record { marks = p.marks.items; order = p.order.items } };
+}
+
+impl<A: Allocator + Copy> Progress<A> {
+    /// Nothing is found yet, of so many vertices.
+    pub(crate) fn none(alloc: A, vertices: usize) -> Result<Self, AllocError>
+        ensures marks { IfOk result (λ p. p.marks ≡ replicate vertices false) }
+        ensures order { IfOk result (λ p. p.order ≡ []) }
+    {
+        let marks = vec![in alloc; false; vertices]?;
+        let order = Vec::new(alloc);
+        Ok(Progress { marks, order })
+    }
+
+    /// Comes to a vertex.
+    fn note(&mut self, vertex: u16) -> Result<(), AllocError>
+        requires { vertex < length self.old.marks }
+        ensures { IfOk result (λ _. self.new ≡ with_found self.old vertex) }
+    {
+        let at = usize::from(vertex);
+        if !self.marks[at] {
+            self.marks[at] = true;
+            self.order.push(vertex)?;
+        }
+        Ok(())
+    }
+
+    /// Comes to each of these vertices.
+    pub(crate) fn note_all(&mut self, vertices: &[u16]) -> Result<(), AllocError>
+        requires { All (λ w. w < length self.old.marks) vertices.now }
+        ensures { IfOk result (λ _. self.new ≡ with_all_found self.old vertices.now) }
+    {
+        for vertex in vertices {
+            self.note(*vertex)?;
+        }
+        Ok(())
+    }
+
+    /// The vertex that was found at this place of the order, if so many were found.
+    pub(crate) fn nth(&self, place: usize) -> Option<u16>
+        ensures { result ≡ slice_get self.now.order place }
+    {
+        self.order.get(place).copied()
+    }
+
+    /// The marks, once the search has ended.
+    pub(crate) fn into_marks(self) -> Vec<bool, A>
+        ensures { result.items ≡ self.marks }
+    {
+        self.marks
+    }
+}
