@@ -1,0 +1,8 @@
+use Rattle.wq_circles.proofs.Promised.{AreOnCircles-components}
+use Rattle.wq_circles.proofs.laws.components_are_in_order.Goals as goal
+
+pub returns-clause-places : goal.returns-clause-places
+returns-clause-places c = λ d a components declaration assignment are. (AreOnCircles-components d a declaration assignment components are).places
+
+pub returns-clause-workqueues : goal.returns-clause-workqueues
+returns-clause-workqueues c = λ d a components declaration assignment are. (AreOnCircles-components d a declaration assignment components are).workqueues

@@ -1,0 +1,40 @@
+-- The answer to a declaration and an assignment: the flushes that lie on a circle.
+use Rattle.std.specs.Prelude.{◌≡◌, ◌≢◌, ℕ, List, [], MatchResult}
+use Rattle.wq_groups.specs.Assignment.{Assignment}
+use Rattle.wq_graph.specs.declared.arc.WaitArc.{WaitArc}
+use Rattle.wq_core.specs.Wiring.{own_lanes}
+use Rattle.wq_cert.specs.Texts.{assignment_of_text, cert_refusal}
+use Rattle.wq_commands.specs.declared.end.End.{End}
+use Rattle.wq_commands.specs.declared.end.End.TheVariants.{Good, Bad, Refused}
+use Rattle.wq_commands.specs.Answer.{declared_waits, IsRefused}
+use Rattle.wq_commands.specs.Deadlocking.{safe_text}
+use Rattle.wq_commands.specs.Declaration.{Declared, declaration}
+use Rattle.wq_circles.specs.Components.{AreComponents}
+use Rattle.wq_circles.specs.ComponentsText.{components_text}
+
+-- these are the components of an assignment, one at least, and they are printed
+pub record PrintsComponents (s : Declared) (a : Assignment) (out : List ℕ) : Type 0 where
+  pub components : List (List WaitArc)
+  pub some : components ≢ []
+  pub are : AreComponents (declared_waits s) a components
+  pub text : out ≡ components_text s.table.names components
+
+-- the components of an assignment of a declaration's groups are printed, or `safe` where there is none
+abbrev pub CirclesAssigned : Declared → Assignment → End → List ℕ → Type 0
+CirclesAssigned s a Good out = AreComponents (declared_waits s) a [] × (out ≡ safe_text)
+CirclesAssigned s a Bad out = PrintsComponents s a out
+CirclesAssigned s a Refused out = ⊥
+
+-- the answer to the text of an assignment of a declaration, or its refusal
+abbrev pub CirclesDeclared : Declared → List ℕ → End → List ℕ → Type 0
+CirclesDeclared s text end out =
+    MatchResult (assignment_of_text s.table.names s.partition text) (λ a. CirclesAssigned s a end out) (λ fault. IsRefused (cert_refusal fault) end out)
+
+-- the answer to the texts of a declaration and an assignment: a refusal of the declaration comes first
+abbrev pub Circles : List ℕ → List ℕ → End → List ℕ → Type 0
+Circles declared text end out = MatchResult (declaration declared) (λ s. CirclesDeclared s text end out) (λ r. IsRefused r end out)
+
+-- the answer to the text of a declaration alone: each group has a workqueue of its own, with its number
+abbrev pub OwnCircles : List ℕ → End → List ℕ → Type 0
+OwnCircles declared end out =
+    MatchResult (declaration declared) (λ s. CirclesAssigned s (own_lanes s.partition.groups) end out) (λ r. IsRefused r end out)

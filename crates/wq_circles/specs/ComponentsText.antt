@@ -1,0 +1,31 @@
+-- Components texts: how many components there are, and of each its arcs.
+use Rattle.std.specs.Prelude.{ℕ, ◌<◌, ◌^◌, List, [], ◌∷◌, length, map, flat_map, codes, decimal}
+use Rattle.std.specs.List.{All}
+use Rattle.wq_graph.specs.declared.arc.WaitArc.{WaitArc}
+use Rattle.wq_lines.specs.LineText.{line_text}
+use Rattle.wq_cert.specs.PlanText.{arc_line}
+use Rattle.wq_commands.specs.Answer.{ends_of}
+
+-- `components N`
+abbrev pub components_line : ℕ → List (List ℕ)
+components_line components = codes "components" ∷ decimal components ∷ []
+
+-- `component M`
+abbrev pub component_line : ℕ → List (List ℕ)
+component_line arcs = codes "component" ∷ decimal arcs ∷ []
+
+-- the lines of a component, as words: `component`, and an `arc` line for each arc
+abbrev pub component_lines : List (List ℕ) → List WaitArc → List (List (List ℕ))
+component_lines names arcs = component_line (length arcs) ∷ map (λ (a : WaitArc). arc_line names (ends_of a)) arcs
+
+-- the lines of a components text, as words: `components`, and the lines of each component
+abbrev pub components_lines : List (List ℕ) → List (List WaitArc) → List (List (List ℕ))
+components_lines names components = components_line (length components) ∷ flat_map (component_lines names) components
+
+-- the components text
+abbrev pub components_text : List (List ℕ) → List (List WaitArc) → List ℕ
+components_text names components = flat_map line_text (components_lines names components)
+
+-- fewer arcs than 4,294,967,296, each from one of so many items to one of them
+abbrev pub AreBetween : ℕ → List WaitArc → Type 0
+AreBetween items arcs = (length arcs < 2 ^ 32) × All (λ (a : WaitArc). (a.src < items) × (a.dst < items)) arcs

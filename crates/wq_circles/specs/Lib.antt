@@ -1,0 +1,12 @@
+pub use Rattle.wq_core.specs.Deadlock
+pub use Rattle.wq_groups.specs.Declaration
+pub use Rattle.wq_groups.specs.Assignment
+pub use Rattle.wq_graph.specs.Graph
+pub use Rattle.wq_components.specs.Leading
+pub use Rattle.wq_commands.specs.Deadlocking
+pub mod Components
+pub mod ComponentsText
+pub mod Flushes
+pub mod Circling
+pub mod CirclesPromise
+pub mod CirclesInput

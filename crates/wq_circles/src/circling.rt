@@ -1,0 +1,134 @@
+//! The answer to a declaration and an assignment, or to a declaration alone, made whole in memory.
+//!
+//! The rule is that of "The command `circles`" in docs/FORMAT.md. Takes the time and the memory of reading the texts, of the
+//! components and of their text.
+
+ghost use Rattle.std.specs.Prelude.{◌≡◌, IfOk, length, map};
+ghost use Rattle.wq_groups.specs.Declaration.{declaration_of};
+ghost use Rattle.wq_core.specs.Wiring.{own_lanes};
+ghost use Rattle.wq_circles.specs.Components.{AreComponents};
+ghost use Rattle.wq_circles.specs.Circling.{CirclesAssigned, CirclesDeclared, Circles, OwnCircles};
+
+use crate::joining::components;
+use crate::printing::components_text;
+use std::alloc::{AllocError, Allocator};
+use wq_cert::{CertError, read_assignment};
+use wq_commands::{End, Stop, read_declaration, refuse, safe_text};
+use wq_deadlock::own_lanes;
+use wq_graph::WaitArc;
+use wq_groups::{Assignment, Groups};
+use wq_items::ItemTable;
+
+/// How a run of the program ends that finds these components, and what it prints.
+fn print_components<A: Allocator + Copy>(
+    alloc: A,
+    table: &ItemTable<'_, A>,
+    groups: &Groups<A>,
+    assignment: &Assignment<A>,
+    components: &[Vec<WaitArc, A>],
+) -> Result<(End, Vec<u8, A>), AllocError>
+    requires grouped { length groups.now.group_of ≡ length table.now.names }
+    requires assigned { length assignment.now.lane_of_group ≡ groups.now.groups }
+    requires found { AreComponents (declaration_of table.now groups.now) assignment.now (map (λ l. l.items) components.now) }
+    ensures { IfOk result (λ printed. CirclesAssigned (record { table = table.now; partition = groups.now }) assignment.now printed.0 printed.1.items) }
+{
+    // What holds of every table, of all groups and of every assignment.
+    let _items = table.len();
+    let _groups = groups.len();
+    let _lanes = assignment.lanes();
+    if components.is_empty() {
+        let text = safe_text(alloc)?;
+        return Ok((End::Good, text));
+    }
+    let text = components_text(alloc, table, components)?;
+    Ok((End::Bad, text))
+}
+
+/// How a run of the program ends that is given an assignment of these groups, and what it prints.
+fn circle_assigned<A: Allocator + Copy>(
+    alloc: A,
+    table: &ItemTable<'_, A>,
+    groups: &Groups<A>,
+    assignment: &Assignment<A>,
+) -> Result<(End, Vec<u8, A>), AllocError>
+    requires grouped { length groups.now.group_of ≡ length table.now.names }
+    requires assigned { length assignment.now.lane_of_group ≡ groups.now.groups }
+    ensures { IfOk result (λ printed. CirclesAssigned (record { table = table.now; partition = groups.now }) assignment.now printed.0 printed.1.items) }
+{
+    let components = components(alloc, table, groups, assignment)?;
+    print_components(alloc, table, groups, assignment, &components)
+}
+
+/// How a run of the program ends that is given the text of an assignment of these groups, and what it prints.
+fn circle_declared<A: Allocator + Copy>(
+    alloc: A,
+    table: &ItemTable<'_, A>,
+    groups: &Groups<A>,
+    text: &[u8],
+) -> Result<(End, Vec<u8, A>), AllocError>
+    requires { length groups.now.group_of ≡ length table.now.names }
+    ensures { IfOk result (λ printed. CirclesDeclared (record { table = table.now; partition = groups.now }) text.now printed.0 printed.1.items) }
+{
+    // What holds of all groups.
+    let _groups = groups.len();
+    match read_assignment(alloc, text, table, groups) {
+        Ok(assignment) => {
+            let answer = circle_assigned(alloc, table, groups, &assignment);
+            // Said as a call, so that the proof has one step for it.
+            drop(assignment);
+            answer
+        }
+        Err(CertError::OutOfMemory) => Err(AllocError),
+        Err(fault) => refuse(alloc, fault.code(), fault.line()),
+    }
+}
+
+/// How a run of the program ends that is given no assignment of these groups, and what it prints.
+fn circle_groups<A: Allocator + Copy>(
+    alloc: A,
+    table: &ItemTable<'_, A>,
+    groups: &Groups<A>,
+) -> Result<(End, Vec<u8, A>), AllocError>
+    requires { length groups.now.group_of ≡ length table.now.names }
+    ensures { IfOk result (λ printed. CirclesAssigned (record { table = table.now; partition = groups.now }) (own_lanes groups.now.groups) printed.0 printed.1.items) }
+{
+    let assignment = own_lanes(alloc, groups)?;
+    circle_assigned(alloc, table, groups, &assignment)
+}
+
+/// How a run of the program ends that is given the texts of a declaration and an assignment, and what it prints.
+pub(crate) fn circle<A: Allocator + Copy>(
+    alloc: A,
+    text: &[u8],
+    assigned: &[u8],
+) -> Result<(End, Vec<u8, A>), AllocError>
+    ensures { IfOk result (λ printed. Circles text.now assigned.now printed.0 printed.1.items) }
+{
+    match read_declaration(alloc, text) {
+        Ok(declared) => {
+            let answer = circle_declared(alloc, &declared.table, &declared.groups, assigned);
+            drop(declared);
+            answer
+        }
+        Err(Stop::Refused { code, line }) => refuse(alloc, code, line),
+        Err(Stop::OutOfMemory) => Err(AllocError),
+    }
+}
+
+/// How a run of the program ends that is given the text of a declaration alone, and what it prints.
+pub(crate) fn circle_own<A: Allocator + Copy>(
+    alloc: A,
+    text: &[u8],
+) -> Result<(End, Vec<u8, A>), AllocError>
+    ensures { IfOk result (λ printed. OwnCircles text.now printed.0 printed.1.items) }
+{
+    match read_declaration(alloc, text) {
+        Ok(declared) => {
+            let answer = circle_groups(alloc, &declared.table, &declared.groups);
+            drop(declared);
+            answer
+        }
+        Err(Stop::Refused { code, line }) => refuse(alloc, code, line),
+        Err(Stop::OutOfMemory) => Err(AllocError),
+    }
+}

@@ -1,0 +1,94 @@
+//! Laws of components, as contracts of functions with empty bodies. No code runs here: the clauses are the laws.
+//!
+//! They say in the words of docs/FORMAT.md, "The command `circles`", what components are: of arcs, and of the workqueues that
+//! lead to one another. A workqueue waits for a workqueue by `LaneWaits`, and leads to it by `Leads` of that.
+
+ghost use Rattle.std.specs.Prelude.{◌≡◌, ◌≢◌, ◌≤◌, ◌↔◌, ℕ, List, [], map, AllPairs};
+ghost use Rattle.std.specs.List.{All};
+ghost use Rattle.std.specs.List.Sorted.{IsStrictlyIncreasing};
+ghost use Rattle.wq_groups.specs.Declaration.{Declaration, IsDeclaration};
+ghost use Rattle.wq_groups.specs.Assignment.{Assignment, IsAssignment, item_lane};
+ghost use Rattle.wq_graph.specs.declared.arc.WaitArc.{WaitArc};
+ghost use Rattle.wq_core.specs.Wiring.{LaneWaits, wiring};
+ghost use Rattle.wq_core.specs.Deadlock.{IsSafe};
+ghost use Rattle.wq_components.specs.Leading.{Leads, AreTogether};
+ghost use Rattle.wq_commands.specs.declared.end.End.{End};
+ghost use Rattle.wq_commands.specs.Answer.{Answers};
+ghost use Rattle.wq_commands.specs.Deadlocking.{Judges};
+ghost use Rattle.wq_circles.specs.Circling.{Circles, OwnCircles};
+ghost use Rattle.wq_circles.specs.CirclesPromise.{KeepsCircles, KeepsOwnCircles};
+ghost use Rattle.wq_circles.specs.Components.{AreComponents};
+ghost use Rattle.wq_circles.specs.Flushes.{IsInComponents, AreInOneComponent, IsDeclaredFlush, IsBefore};
+
+/// A flush is in a component exactly where the workqueue of its target leads to that of its item; and nothing is in a component
+/// but declared flushes.
+pub fn what_lies_on_a_circle_is_in_a_component()
+    ensures same { (d : Declaration) (a : Assignment) (components : List (List WaitArc)) (b : WaitArc) → IsDeclaration d →
+        IsAssignment d.groups a → AreComponents d a components → IsDeclaredFlush d.waits b →
+        (IsInComponents components b ↔ Leads (LaneWaits (wiring d a)) (item_lane a d.group_of b.dst) (item_lane a d.group_of b.src)) }
+    ensures declared { (d : Declaration) (a : Assignment) (components : List (List WaitArc)) → IsDeclaration d →
+        IsAssignment d.groups a → AreComponents d a components → All (All (IsDeclaredFlush d.waits)) components }
+{}
+
+/// Two flushes that lie on circles are in one component exactly where their items' workqueues are one, or each leads to the
+/// other; and no component is empty.
+pub fn a_component_is_of_workqueues_that_lead_to_one_another()
+    ensures together { (d : Declaration) (a : Assignment) (components : List (List WaitArc)) (b c : WaitArc) → IsDeclaration d →
+        IsAssignment d.groups a → AreComponents d a components → IsInComponents components b → IsInComponents components c →
+        (AreInOneComponent components b c
+        ↔ AreTogether (LaneWaits (wiring d a)) (item_lane a d.group_of b.src) (item_lane a d.group_of c.src)) }
+    ensures some { (d : Declaration) (a : Assignment) (components : List (List WaitArc)) → AreComponents d a components →
+        All (λ (arcs : List WaitArc). arcs ≢ []) components }
+{}
+
+/// The arcs of a component are in order of place, and the components in the order of their lowest-numbered workqueues. So no
+/// flush is in two components, or twice in one.
+pub fn components_are_in_order()
+    ensures places { (d : Declaration) (a : Assignment) (components : List (List WaitArc)) → IsDeclaration d →
+        IsAssignment d.groups a → AreComponents d a components →
+        All (λ (arcs : List WaitArc). IsStrictlyIncreasing (map (λ (b : WaitArc). b.place) arcs)) components }
+    ensures workqueues { (d : Declaration) (a : Assignment) (components : List (List WaitArc)) → IsDeclaration d →
+        IsAssignment d.groups a → AreComponents d a components →
+        AllPairs (IsBefore (LaneWaits (wiring d a)) (item_lane a d.group_of)) components }
+{}
+
+/// There is no component exactly where no run ends stuck.
+pub fn no_component_is_safe()
+    ensures { (d : Declaration) (a : Assignment) (components : List (List WaitArc)) → IsDeclaration d → IsAssignment d.groups a →
+        a.lanes ≤ 4096 → AreComponents d a components → ((components ≡ []) ↔ IsSafe (wiring d a)) }
+{}
+
+/// An assignment has one list of components.
+pub fn components_are_the_only_ones()
+    ensures { (d : Declaration) (a : Assignment) (one other : List (List WaitArc)) →
+        AreComponents d a one → AreComponents d a other → one ≡ other }
+{}
+
+/// A declaration and an assignment, or a declaration alone, have one answer at most: one end, and one text that is printed.
+pub fn circles_have_one_answer()
+    ensures end { (declared text : List ℕ) (end other : End) (out printed : List ℕ) →
+        Circles declared text end out → Circles declared text other printed → end ≡ other }
+    ensures out { (declared text : List ℕ) (end other : End) (out printed : List ℕ) →
+        Circles declared text end out → Circles declared text other printed → out ≡ printed }
+    ensures own_end { (declared : List ℕ) (end other : End) (out printed : List ℕ) →
+        OwnCircles declared end out → OwnCircles declared other printed → end ≡ other }
+    ensures own_out { (declared : List ℕ) (end other : End) (out printed : List ℕ) →
+        OwnCircles declared end out → OwnCircles declared other printed → out ≡ printed }
+{}
+
+/// An answer keeps its promise. Where `safe` is printed no run ends stuck. Where components are, some run deadlocks, and of the
+/// declared flushes just those are printed whose target's workqueue leads to that of their item.
+pub fn circles_keep_their_promise()
+    ensures assigned { (declared text : List ℕ) (end : End) (out : List ℕ) →
+        Circles declared text end out → KeepsCircles declared text end out }
+    ensures own { (declared : List ℕ) (end : End) (out : List ℕ) → OwnCircles declared end out → KeepsOwnCircles declared end out }
+{}
+
+/// A run of `circles` ends as one of `deadlock` does that is given the same texts, and where no assignment is named, as one of
+/// `plan` does: so `safe` is printed exactly where `deadlock` prints it, or where `plan` prints a plan text.
+pub fn the_end_is_that_of_the_other_commands()
+    ensures deadlock { (declared text : List ℕ) (end other : End) (out printed : List ℕ) →
+        Circles declared text end out → Judges declared text other printed → end ≡ other }
+    ensures plan { (declared : List ℕ) (end other : End) (out printed : List ℕ) →
+        OwnCircles declared end out → Answers declared other printed → end ≡ other }
+{}

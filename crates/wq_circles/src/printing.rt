@@ -1,0 +1,80 @@
+//! Components texts: how many components there are, and of each its arcs.
+//!
+//! The format is that of "The command `circles`" in docs/FORMAT.md. Printing takes time and memory in the length of the text.
+
+ghost use Rattle.std.specs.Prelude.{◌≡◌, ◌<◌, ◌++◌, ◌^◌, length, map, flat_map, IfOk, OnOk};
+ghost use Rattle.std.specs.List.{All};
+ghost use Rattle.wq_lines.specs.LineText.{line_text};
+ghost use Rattle.wq_circles.specs.ComponentsText.{components_line, component_line, component_lines, components_text, AreBetween};
+
+use std::alloc::{AllocError, Allocator};
+use wq_cert::put_arc_line;
+use wq_graph::WaitArc;
+use wq_items::ItemTable;
+use wq_lines::{put, put_end, put_number};
+
+/// Adds `component M`.
+fn put_component_line<A: Allocator + Copy>(
+    alloc: A,
+    out: &mut Vec<u8, A>,
+    arcs: &[WaitArc],
+) -> Result<(), AllocError>
+    requires { length arcs.now < 2 ^ 32 }
+    ensures { OnOk result (out.new.items ≡ out.old.items ++ line_text (component_line (length arcs.now))) }
+{
+    put(out, b"component")?;
+    put_number(alloc, out, arcs.len() as u32)?;
+    put_end(out)
+}
+
+/// Adds `component M` and the arcs.
+fn put_component<A: Allocator + Copy>(
+    alloc: A,
+    out: &mut Vec<u8, A>,
+    table: &ItemTable<'_, A>,
+    arcs: &[WaitArc],
+) -> Result<(), AllocError>
+    requires { AreBetween (length table.now.names) arcs.now }
+    ensures { OnOk result (out.new.items ≡ out.old.items ++ flat_map line_text (component_lines table.now.names arcs.now)) }
+{
+    put_component_line(alloc, out, arcs)?;
+    for arc in arcs {
+        put_arc_line(out, table, (arc.src, arc.dst))?;
+    }
+    Ok(())
+}
+
+/// Adds `components N`.
+fn put_components_line<A: Allocator + Copy>(
+    alloc: A,
+    out: &mut Vec<u8, A>,
+    components: &[Vec<WaitArc, A>],
+) -> Result<(), AllocError>
+    requires { length components.now < 2 ^ 32 }
+    ensures { OnOk result (out.new.items ≡ out.old.items ++ line_text (components_line (length components.now))) }
+{
+    put(out, b"components")?;
+    put_number(alloc, out, components.len() as u32)?;
+    put_end(out)
+}
+
+/// The text of components: how many there are, and of each its arcs, each by an item and its target.
+///
+/// There are fewer than 4,294,967,296 components, and each has fewer arcs than that, from items of the table to items of it.
+/// The only error is out of memory (20).
+pub fn components_text<A: Allocator + Copy>(
+    alloc: A,
+    table: &ItemTable<'_, A>,
+    components: &[Vec<WaitArc, A>],
+) -> Result<Vec<u8, A>, AllocError>
+    requires few { length components.now < 2 ^ 32 }
+    requires between { All (AreBetween (length table.now.names)) (map (λ l. l.items) components.now) }
+    ensures { IfOk result (λ text. text.items ≡ components_text table.now.names (map (λ l. l.items) components.now)) }
+{
+    let mut out = Vec::new(alloc);
+    put_components_line(alloc, &mut out, components)?;
+    for arcs in components {
+        put_component(alloc, &mut out, table, arcs)?;
+    }
+    Ok(out)
+}
