@@ -12,4 +12,5 @@ mod graph;
 pub mod laws;
 
 pub use arc::WaitArc;
+pub use building::group_arcs_by_place;
 pub use graph::WaitGraph;
