@@ -1,0 +1,77 @@
+-- The answer to a declaration and an assignment, or to a declaration alone: a drawing.
+use Rattle.std.specs.Prelude.{◌≡◌, ◌⊎◌, ℕ, zero, suc, List, ◌++◌, length, codes, decimal, MatchResult}
+use Rattle.wq_items.specs.Chain.{HasCircle}
+use Rattle.wq_items.specs.Table.{flush_count}
+use Rattle.wq_groups.specs.Declaration.{GroupWaits}
+use Rattle.wq_groups.specs.Assignment.{Assignment}
+use Rattle.wq_graph.specs.declared.arc.WaitArc.{WaitArc}
+use Rattle.wq_graph.specs.Graph.{group_graph}
+use Rattle.wq_core.specs.Wiring.{own_lanes}
+use Rattle.wq_plan.specs.Plan.{IsPlan, chain_of}
+use Rattle.wq_cert.specs.Texts.{assignment_of_text, cert_refusal}
+use Rattle.wq_commands.specs.declared.end.End.{End}
+use Rattle.wq_commands.specs.declared.end.End.TheVariants.{Good}
+use Rattle.wq_commands.specs.Answer.{declared_waits, IsRefused}
+use Rattle.wq_commands.specs.Declaration.{Declared, declaration}
+use Rattle.wq_circles.specs.Components.{AreComponents}
+use Rattle.wq_drawing.specs.declared.look.FlushLook.{FlushLook}
+use Rattle.wq_drawing.specs.declared.look.FlushLook.TheVariants.{Red, Bold}
+use Rattle.wq_drawing.specs.Drawing.{drawing_text}
+use Rattle.wq_dot.specs.Flushes.{all_arcs, looks_of}
+
+-- ---- titles
+
+-- `plan K`
+abbrev pub plan_title : ℕ → List ℕ
+plan_title workqueues = codes "plan " ++ decimal workqueues
+
+-- `safe`, or `components N` where there are some
+abbrev pub components_title : ℕ → List ℕ
+components_title zero = codes "safe"
+components_title (suc others) = codes "components " ++ decimal (suc others)
+
+-- ---- drawings
+
+-- the drawing of what is declared on the workqueues of this assignment, where the flushes of these arcs look so and the others
+-- are plain
+abbrev pub drawing_of : Declared → Assignment → List ℕ → FlushLook → List WaitArc → List ℕ
+drawing_of s a title look arcs = drawing_text s.table s.partition a title (looks_of (flush_count s.table.waits) look arcs)
+
+-- the plan is drawn, and bold are the flushes that the chain of its plan text follows
+pub record DrawsPlan (s : Declared) (out : List ℕ) : Type 0 where
+  pub assignment : Assignment
+  pub plan : IsPlan (declared_waits s) assignment
+  pub drawn : out ≡ drawing_of s assignment (plan_title assignment.lanes) Bold (chain_of (group_graph (declared_waits s)) assignment.lane_of_group)
+
+-- an assignment is drawn, and red are the flushes that lie on a circle
+pub record DrawsCircles (s : Declared) (a : Assignment) (out : List ℕ) : Type 0 where
+  pub components : List (List WaitArc)
+  pub are : AreComponents (declared_waits s) a components
+  pub drawn : out ≡ drawing_of s a (components_title (length components)) Red (all_arcs components)
+
+-- the groups of a declaration are drawn: on the workqueues of their plan; or, where they wait in a circle, each on one of its own
+abbrev pub DrawsGroups : Declared → List ℕ → Type 0
+DrawsGroups s out = DrawsPlan s out ⊎ (HasCircle (GroupWaits (declared_waits s)) s.partition.groups × DrawsCircles s (own_lanes s.partition.groups) out)
+
+-- ---- answers
+
+-- the answer to an assignment of a declaration's groups
+abbrev pub DrawsAssigned : Declared → Assignment → End → List ℕ → Type 0
+DrawsAssigned s a end out = (end ≡ Good) × DrawsCircles s a out
+
+-- the answer to the text of an assignment of a declaration, or its refusal
+abbrev pub DrawsDeclared : Declared → List ℕ → End → List ℕ → Type 0
+DrawsDeclared s text end out =
+    MatchResult (assignment_of_text s.table.names s.partition text) (λ a. DrawsAssigned s a end out) (λ fault. IsRefused (cert_refusal fault) end out)
+
+-- the answer to the texts of a declaration and an assignment: a refusal of the declaration comes first
+abbrev pub Draws : List ℕ → List ℕ → End → List ℕ → Type 0
+Draws declared text end out = MatchResult (declaration declared) (λ s. DrawsDeclared s text end out) (λ r. IsRefused r end out)
+
+-- the answer to the groups of a declaration
+abbrev pub DrawsOwn : Declared → End → List ℕ → Type 0
+DrawsOwn s end out = (end ≡ Good) × DrawsGroups s out
+
+-- the answer to the text of a declaration alone
+abbrev pub OwnDraws : List ℕ → End → List ℕ → Type 0
+OwnDraws declared end out = MatchResult (declaration declared) (λ s. DrawsOwn s end out) (λ r. IsRefused r end out)

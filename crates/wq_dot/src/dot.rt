@@ -1,0 +1,103 @@
+//! The command `dot`: from the bytes of a declaration, and of an assignment where one is named, to the bytes of the answer.
+//!
+//! The declaration is read first and the assignment next, both before one is judged, and the answer is made whole before the
+//! first byte is written. The rule is that of "The command `dot`" in docs/FORMAT.md. Takes the time of reading the texts, of
+//! the plan or the components, and of drawing and writing.
+
+ghost use Rattle.std.specs.Prelude.{◌≡◌, ◌≢◌, ◌≤◌, ◌+◌, ◌⊎◌, ℕ, List, Err, IfOk};
+ghost use Rattle.wq_meter.specs.Meter.{count_after, LosesPrefix, WritesPrefix, WritesWhole};
+ghost use Rattle.wq_meter.specs.Input.{AfterGiven, HasFailed, HasGiven};
+ghost use Rattle.wq_cert.specs.Texts.{max_certificate};
+ghost use Rattle.wq_commands.specs.Declaration.{max_declaration};
+ghost use Rattle.wq_commands.specs.declared.end.End.{End};
+ghost use Rattle.wq_dot.specs.DotInput.{DotInput, OwnDotInput};
+
+use crate::dotting::{draw, draw_own};
+use std::alloc::Allocator;
+use std::io::{Read, Write};
+use wq_commands::{End, MAX_DECLARATION, read_two, write_answer};
+use wq_meter::{Fault, Metered, read_text};
+
+/// Reads a declaration and then an assignment to their ends, and writes the drawing of the assignment, in which the flushes that
+/// lie on a circle of its workqueues are red, or the refusal of the first of the two that is refused.
+///
+/// At most 1,048,577 bytes of the declaration and 8,388,609 of the assignment are read, in at most as many calls; the
+/// assignment is untouched until the declaration has been read to its end. The errors are `Fault::Read`, where a read failed,
+/// `Fault::Memory`, and `Fault::Write`, where a write failed or took no byte; after the last one a prefix of the answer is
+/// written, and after the others nothing.
+pub fn dot_cmd<D: Read, S: Read, W: Write, A: Allocator + Copy>(
+    alloc: A,
+    declaration: &mut Metered<D>,
+    assignment: &mut Metered<S>,
+    writer: &mut Metered<W>,
+) -> Result<End, Fault>
+    // The answer to the texts that the readers had is written, and nothing else.
+    ensures answered { IfOk result (λ end. (out : List ℕ)
+        × DotInput D.remaining S.remaining declaration.old declaration.new assignment.old assignment.new end out
+        × WritesWhole W.contents writer.old writer.new out) }
+
+    // What a fault leaves.
+    ensures prefix { result ≡ Err Fault.Write → (end : End) × (out : List ℕ)
+        × DotInput D.remaining S.remaining declaration.old declaration.new assignment.old assignment.new end out
+        × WritesPrefix W.contents writer.old writer.new out }
+    ensures untouched { result ≡ Err Fault.Memory → writer.new ≡ writer.old }
+    ensures unwritten { result ≡ Err Fault.Read → writer.new ≡ writer.old }
+
+    // What is asked of the readers, whatever the result.
+    ensures lost { LosesPrefix D.remaining declaration.old declaration.new (max_declaration + 1)
+        × LosesPrefix S.remaining assignment.old assignment.new (max_certificate + 1) }
+    ensures order { AfterGiven D.remaining declaration.old declaration.new max_declaration assignment.old assignment.new }
+    ensures reads { (declaration.new.calls ≤ declaration.old.calls + (max_declaration + 1)) × (assignment.new.calls ≤ assignment.old.calls + (max_certificate + 1)) }
+    ensures bytes_read { (declaration.new.bytes ≤ declaration.old.bytes + (max_declaration + 1)) × (assignment.new.bytes ≤ assignment.old.bytes + (max_certificate + 1)) }
+
+    // Which fault it is, and of which reader.
+    ensures read_failed { result ≡ Err Fault.Read →
+        (HasFailed declaration.old declaration.new × (assignment.new ≡ assignment.old))
+        ⊎ (HasGiven D.remaining declaration.old declaration.new max_declaration × HasFailed assignment.old assignment.new) }
+    ensures no_read_failed { result ≢ Err Fault.Read →
+        (declaration.new.failures ≡ declaration.old.failures) × (assignment.new.failures ≡ assignment.old.failures) }
+    ensures write_failed { result ≡ Err Fault.Write → writer.new.failures ≡ count_after writer.old.failures 1 }
+    ensures no_write_failed { result ≢ Err Fault.Write → writer.new.failures ≡ writer.old.failures }
+{
+    let (text, lanes) = read_two(alloc, declaration, assignment)?;
+    let answer = draw(alloc, &text, &lanes);
+    write_answer(writer, answer)
+}
+
+/// Reads a declaration to its end, and writes the drawing of its plan, in which the flushes of the plan's chain are bold. Where
+/// the groups wait in a circle each has a workqueue of its own, and the flushes that lie on a circle are red. Or the refusal of
+/// the declaration is written.
+///
+/// At most 1,048,577 bytes are read, in at most as many calls. The errors are `Fault::Read`, where a read failed,
+/// `Fault::Memory`, and `Fault::Write`, where a write failed or took no byte; after the last one a prefix of the answer is
+/// written, and after the others nothing.
+pub fn own_dot_cmd<D: Read, W: Write, A: Allocator + Copy>(
+    alloc: A,
+    declaration: &mut Metered<D>,
+    writer: &mut Metered<W>,
+) -> Result<End, Fault>
+    // The answer to the text that the reader had is written, and nothing else.
+    ensures answered { IfOk result (λ end. (out : List ℕ) × OwnDotInput D.remaining declaration.old declaration.new end out
+        × WritesWhole W.contents writer.old writer.new out) }
+
+    // What a fault leaves.
+    ensures prefix { result ≡ Err Fault.Write → (end : End) × (out : List ℕ) × OwnDotInput D.remaining declaration.old declaration.new end out
+        × WritesPrefix W.contents writer.old writer.new out }
+    ensures untouched { result ≡ Err Fault.Memory → writer.new ≡ writer.old }
+    ensures unwritten { result ≡ Err Fault.Read → writer.new ≡ writer.old }
+
+    // What is asked of the reader, whatever the result.
+    ensures lost { LosesPrefix D.remaining declaration.old declaration.new (max_declaration + 1) }
+    ensures reads { declaration.new.calls ≤ declaration.old.calls + (max_declaration + 1) }
+    ensures bytes_read { declaration.new.bytes ≤ declaration.old.bytes + (max_declaration + 1) }
+
+    // Which fault it is.
+    ensures read_failed { result ≡ Err Fault.Read → declaration.new.failures ≡ count_after declaration.old.failures 1 }
+    ensures no_read_failed { result ≢ Err Fault.Read → declaration.new.failures ≡ declaration.old.failures }
+    ensures write_failed { result ≡ Err Fault.Write → writer.new.failures ≡ count_after writer.old.failures 1 }
+    ensures no_write_failed { result ≢ Err Fault.Write → writer.new.failures ≡ writer.old.failures }
+{
+    let text = read_text(alloc, declaration, MAX_DECLARATION)?;
+    let answer = draw_own(alloc, &text);
+    write_answer(writer, answer)
+}

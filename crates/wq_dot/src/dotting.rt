@@ -1,0 +1,263 @@
+//! The answer to a declaration and an assignment, or to a declaration alone, made whole in memory.
+//!
+//! The rule is that of "The command `dot`" in docs/FORMAT.md. Takes the time and the memory of reading the texts, of the plan,
+//! of the components and of the drawing.
+
+ghost use Rattle.std.specs.Prelude.{◌≡◌, IfOk, length, map};
+ghost use Rattle.std.specs.List.{All};
+ghost use Rattle.wq_items.specs.Chain.{HasCircle};
+ghost use Rattle.wq_items.specs.Table.{flush_count};
+ghost use Rattle.wq_groups.specs.Declaration.{GroupWaits, declaration_of};
+ghost use Rattle.wq_core.specs.Wiring.{own_lanes};
+ghost use Rattle.wq_plan.specs.Solve.{IsPlanned, Solves};
+ghost use Rattle.wq_circles.specs.Components.{AreComponents};
+ghost use Rattle.wq_drawing.specs.declared.look.FlushLook.{FlushLook};
+ghost use Rattle.wq_dot.specs.Flushes.{AreMarkable, all_arcs};
+ghost use Rattle.wq_dot.specs.Dotting.{DrawsAssigned, DrawsCircles, DrawsDeclared, DrawsGroups, DrawsOwn, DrawsPlan, Draws, OwnDraws, drawing_of};
+
+use crate::flushes::{bold_flushes, red_flushes};
+use crate::titles::{components_title, plan_title};
+use std::alloc::{AllocError, Allocator};
+use wq_cert::{CertError, read_assignment};
+use wq_circles::components;
+use wq_commands::{End, Stop, read_declaration, refuse};
+use wq_deadlock::own_lanes;
+use wq_drawing::drawing_text;
+use wq_graph::WaitArc;
+use wq_groups::{Assignment, Groups};
+use wq_items::ItemTable;
+use wq_plan::{Answer, solve};
+
+/// The drawing of an assignment with this title, in which the flushes of this chain are bold.
+fn draw_bold<A: Allocator + Copy>(
+    alloc: A,
+    table: &ItemTable<'_, A>,
+    groups: &Groups<A>,
+    assignment: &Assignment<A>,
+    title: &[u8],
+    chain: &[WaitArc],
+) -> Result<Vec<u8, A>, AllocError>
+    requires grouped { length groups.now.group_of ≡ length table.now.names }
+    requires assigned { length assignment.now.lane_of_group ≡ groups.now.groups }
+    requires places { AreMarkable (flush_count table.now.waits) chain.now }
+    ensures { IfOk result (λ text. text.items
+        ≡ drawing_of (record { table = table.now; partition = groups.now }) assignment.now title.now FlushLook.Bold chain.now) }
+{
+    let looks = bold_flushes(alloc, table, chain)?;
+    drawing_text(alloc, table, groups, assignment, title, looks.as_slice())
+}
+
+/// The drawing of an assignment with this title, in which the flushes of these components are red.
+fn draw_red<A: Allocator + Copy>(
+    alloc: A,
+    table: &ItemTable<'_, A>,
+    groups: &Groups<A>,
+    assignment: &Assignment<A>,
+    title: &[u8],
+    components: &[Vec<WaitArc, A>],
+) -> Result<Vec<u8, A>, AllocError>
+    requires grouped { length groups.now.group_of ≡ length table.now.names }
+    requires assigned { length assignment.now.lane_of_group ≡ groups.now.groups }
+    requires places { All (AreMarkable (flush_count table.now.waits)) (map (λ l. l.items) components.now) }
+    ensures { IfOk result (λ text. text.items ≡ drawing_of (record { table = table.now; partition = groups.now }) assignment.now
+        title.now FlushLook.Red (all_arcs (map (λ l. l.items) components.now))) }
+{
+    let looks = red_flushes(alloc, table, components)?;
+    drawing_text(alloc, table, groups, assignment, title, looks.as_slice())
+}
+
+/// The drawing of the plan of a table's items, with the chain that `solve` answered beside it.
+fn draw_plan<A: Allocator + Copy>(
+    alloc: A,
+    table: &ItemTable<'_, A>,
+    groups: &Groups<A>,
+    assignment: &Assignment<A>,
+    chain: &[WaitArc],
+) -> Result<Vec<u8, A>, AllocError>
+    requires grouped { length groups.now.group_of ≡ length table.now.names }
+    requires planned { IsPlanned (declaration_of table.now groups.now) assignment.now chain.now }
+    ensures { IfOk result (λ text. DrawsPlan (record { table = table.now; partition = groups.now }) text.items) }
+{
+    // What holds of every table and of all groups.
+    let _items = table.len();
+    let _groups = groups.len();
+    let title = plan_title(alloc, assignment.lanes())?;
+    draw_bold(alloc, table, groups, assignment, title.as_slice(), chain)
+}
+
+/// The drawing of an assignment that has these components.
+fn draw_components<A: Allocator + Copy>(
+    alloc: A,
+    table: &ItemTable<'_, A>,
+    groups: &Groups<A>,
+    assignment: &Assignment<A>,
+    components: &[Vec<WaitArc, A>],
+) -> Result<Vec<u8, A>, AllocError>
+    requires grouped { length groups.now.group_of ≡ length table.now.names }
+    requires assigned { length assignment.now.lane_of_group ≡ groups.now.groups }
+    requires found { AreComponents (declaration_of table.now groups.now) assignment.now (map (λ l. l.items) components.now) }
+    ensures { IfOk result (λ text. DrawsCircles (record { table = table.now; partition = groups.now }) assignment.now text.items) }
+{
+    // What holds of every table, of all groups and of every assignment.
+    let _items = table.len();
+    let _groups = groups.len();
+    let _lanes = assignment.lanes();
+    let title = components_title(alloc, components)?;
+    draw_red(
+        alloc,
+        table,
+        groups,
+        assignment,
+        title.as_slice(),
+        components,
+    )
+}
+
+/// The drawing of an assignment, with its flushes that lie on a circle.
+fn draw_circles<A: Allocator + Copy>(
+    alloc: A,
+    table: &ItemTable<'_, A>,
+    groups: &Groups<A>,
+    assignment: &Assignment<A>,
+) -> Result<Vec<u8, A>, AllocError>
+    requires grouped { length groups.now.group_of ≡ length table.now.names }
+    requires assigned { length assignment.now.lane_of_group ≡ groups.now.groups }
+    ensures { IfOk result (λ text. DrawsCircles (record { table = table.now; partition = groups.now }) assignment.now text.items) }
+{
+    let components = components(alloc, table, groups, assignment)?;
+    draw_components(alloc, table, groups, assignment, &components)
+}
+
+/// The drawing of groups each of which has a workqueue of its own.
+fn draw_own_lanes<A: Allocator + Copy>(
+    alloc: A,
+    table: &ItemTable<'_, A>,
+    groups: &Groups<A>,
+) -> Result<Vec<u8, A>, AllocError>
+    requires { length groups.now.group_of ≡ length table.now.names }
+    ensures { IfOk result (λ text.
+        DrawsCircles (record { table = table.now; partition = groups.now }) (own_lanes groups.now.groups) text.items) }
+{
+    let assignment = own_lanes(alloc, groups)?;
+    draw_circles(alloc, table, groups, &assignment)
+}
+
+/// The drawing of groups that have this answer.
+fn draw_answer<A: Allocator + Copy>(
+    alloc: A,
+    table: &ItemTable<'_, A>,
+    groups: &Groups<A>,
+    answer: &Answer<A>,
+) -> Result<Vec<u8, A>, AllocError>
+    requires grouped { length groups.now.group_of ≡ length table.now.names }
+    requires solved { Solves (declaration_of table.now groups.now) answer.now }
+    ensures { IfOk result (λ text. DrawsGroups (record { table = table.now; partition = groups.now }) text.items) }
+{
+    match answer {
+        Answer::Plan { assignment, chain } => draw_plan(alloc, table, groups, assignment, chain),
+        Answer::Circle { .. } => draw_own_lanes(alloc, table, groups),
+    }
+}
+
+/// The drawing of groups: of their plan, or of the circles in which they wait.
+fn draw_groups<A: Allocator + Copy>(
+    alloc: A,
+    table: &ItemTable<'_, A>,
+    groups: &Groups<A>,
+) -> Result<Vec<u8, A>, AllocError>
+    requires { length groups.now.group_of ≡ length table.now.names }
+    ensures { IfOk result (λ text. DrawsGroups (record { table = table.now; partition = groups.now }) text.items) }
+{
+    let answer = solve(alloc, table, groups)?;
+    draw_answer(alloc, table, groups, &answer)
+}
+
+/// How a run of the program ends that is given an assignment of these groups, and what it prints.
+fn draw_assigned<A: Allocator + Copy>(
+    alloc: A,
+    table: &ItemTable<'_, A>,
+    groups: &Groups<A>,
+    assignment: &Assignment<A>,
+) -> Result<(End, Vec<u8, A>), AllocError>
+    requires grouped { length groups.now.group_of ≡ length table.now.names }
+    requires assigned { length assignment.now.lane_of_group ≡ groups.now.groups }
+    ensures { IfOk result (λ printed.
+        DrawsAssigned (record { table = table.now; partition = groups.now }) assignment.now printed.0 printed.1.items) }
+{
+    let text = draw_circles(alloc, table, groups, assignment)?;
+    Ok((End::Good, text))
+}
+
+/// How a run of the program ends that is given no assignment of these groups, and what it prints.
+fn draw_unassigned<A: Allocator + Copy>(
+    alloc: A,
+    table: &ItemTable<'_, A>,
+    groups: &Groups<A>,
+) -> Result<(End, Vec<u8, A>), AllocError>
+    requires { length groups.now.group_of ≡ length table.now.names }
+    ensures { IfOk result (λ printed. DrawsOwn (record { table = table.now; partition = groups.now }) printed.0 printed.1.items) }
+{
+    let text = draw_groups(alloc, table, groups)?;
+    Ok((End::Good, text))
+}
+
+/// How a run of the program ends that is given the text of an assignment of these groups, and what it prints.
+fn draw_declared<A: Allocator + Copy>(
+    alloc: A,
+    table: &ItemTable<'_, A>,
+    groups: &Groups<A>,
+    text: &[u8],
+) -> Result<(End, Vec<u8, A>), AllocError>
+    requires { length groups.now.group_of ≡ length table.now.names }
+    ensures { IfOk result (λ printed. DrawsDeclared (record { table = table.now; partition = groups.now }) text.now printed.0 printed.1.items) }
+{
+    // What holds of all groups.
+    let _groups = groups.len();
+    match read_assignment(alloc, text, table, groups) {
+        Ok(assignment) => {
+            let answer = draw_assigned(alloc, table, groups, &assignment);
+            // Said as a call, so that the proof has one step for it.
+            drop(assignment);
+            answer
+        }
+        Err(CertError::OutOfMemory) => Err(AllocError),
+        Err(fault) => refuse(alloc, fault.code(), fault.line()),
+    }
+}
+
+/// How a run of the program ends that is given the texts of a declaration and an assignment, and what it prints.
+pub(crate) fn draw<A: Allocator + Copy>(
+    alloc: A,
+    text: &[u8],
+    assigned: &[u8],
+) -> Result<(End, Vec<u8, A>), AllocError>
+    ensures { IfOk result (λ printed. Draws text.now assigned.now printed.0 printed.1.items) }
+{
+    match read_declaration(alloc, text) {
+        Ok(declared) => {
+            let answer = draw_declared(alloc, &declared.table, &declared.groups, assigned);
+            drop(declared);
+            answer
+        }
+        Err(Stop::Refused { code, line }) => refuse(alloc, code, line),
+        Err(Stop::OutOfMemory) => Err(AllocError),
+    }
+}
+
+/// How a run of the program ends that is given the text of a declaration alone, and what it prints.
+pub(crate) fn draw_own<A: Allocator + Copy>(
+    alloc: A,
+    text: &[u8],
+) -> Result<(End, Vec<u8, A>), AllocError>
+    ensures { IfOk result (λ printed. OwnDraws text.now printed.0 printed.1.items) }
+{
+    match read_declaration(alloc, text) {
+        Ok(declared) => {
+            let answer = draw_unassigned(alloc, &declared.table, &declared.groups);
+            drop(declared);
+            answer
+        }
+        Err(Stop::Refused { code, line }) => refuse(alloc, code, line),
+        Err(Stop::OutOfMemory) => Err(AllocError),
+    }
+}

@@ -1,0 +1,56 @@
+//! How each flush of a drawing looks: those of a chain bold, those of components red, and the others plain.
+//!
+//! The rule is that of "The command `dot`" in docs/FORMAT.md. A flush is told by its place, so one of several with the same
+//! item and target is marked alone. Takes time and memory in the flushes.
+
+ghost use Rattle.std.specs.Prelude.{◌≡◌, ◌<◌, length, map, flat_map, IfOk};
+ghost use Rattle.std.specs.List.{All};
+ghost use Rattle.wq_items.specs.Table.{flush_count};
+ghost use Rattle.wq_drawing.specs.declared.look.FlushLook.{FlushLook};
+ghost use Rattle.wq_dot.specs.Flushes.{AreMarkable, all_arcs, looks_of, with_marks};
+
+use std::alloc::{AllocError, Allocator};
+use wq_drawing::FlushLook;
+use wq_graph::WaitArc;
+use wq_items::ItemTable;
+
+/// Gives the flushes of these arcs this look.
+fn mark(looks: &mut [FlushLook], arcs: &[WaitArc], look: FlushLook)
+    requires { AreMarkable (length looks.old) arcs.now }
+    ensures { looks.new ≡ with_marks look looks.old arcs.now }
+{
+    for arc in arcs {
+        looks[arc.place as usize] = look;
+    }
+}
+
+/// How each flush of a table's items looks, in order of place: those of this chain are bold.
+pub(crate) fn bold_flushes<A: Allocator + Copy>(
+    alloc: A,
+    table: &ItemTable<'_, A>,
+    chain: &[WaitArc],
+) -> Result<Vec<FlushLook, A>, AllocError>
+    requires { AreMarkable (flush_count table.now.waits) chain.now }
+    ensures { IfOk result (λ looks. looks.items ≡ looks_of (flush_count table.now.waits) FlushLook.Bold chain.now) }
+{
+    let mut looks = vec![in alloc; FlushLook::Plain; table.flushes() as usize]?;
+    mark(looks.as_mut_slice(), chain, FlushLook::Bold);
+    Ok(looks)
+}
+
+/// How each flush of a table's items looks, in order of place: those of these components are red.
+pub(crate) fn red_flushes<A: Allocator + Copy>(
+    alloc: A,
+    table: &ItemTable<'_, A>,
+    components: &[Vec<WaitArc, A>],
+) -> Result<Vec<FlushLook, A>, AllocError>
+    requires { All (AreMarkable (flush_count table.now.waits)) (map (λ l. l.items) components.now) }
+    ensures { IfOk result (λ looks. looks.items
+        ≡ looks_of (flush_count table.now.waits) FlushLook.Red (all_arcs (map (λ l. l.items) components.now))) }
+{
+    let mut looks = vec![in alloc; FlushLook::Plain; table.flushes() as usize]?;
+    for arcs in components {
+        mark(looks.as_mut_slice(), arcs, FlushLook::Red);
+    }
+    Ok(looks)
+}

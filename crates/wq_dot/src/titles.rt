@@ -1,0 +1,41 @@
+//! The titles of drawings: the first line of what is printed of a plan, or of components.
+//!
+//! They are those of "The command `dot`" in docs/FORMAT.md. Making one takes constant time.
+
+ghost use Rattle.std.specs.Prelude.{◌≡◌, ◌<◌, ◌^◌, length, map, IfOk};
+ghost use Rattle.wq_dot.specs.Dotting.{plan_title, components_title};
+
+use std::alloc::{AllocError, Allocator};
+use wq_graph::WaitArc;
+use wq_lines::{put, put_number};
+
+/// `plan K`, for so many workqueues.
+pub(crate) fn plan_title<A: Allocator + Copy>(
+    alloc: A,
+    workqueues: u16,
+) -> Result<Vec<u8, A>, AllocError>
+    ensures { IfOk result (λ title. title.items ≡ plan_title workqueues) }
+{
+    let mut title = Vec::new(alloc);
+    put(&mut title, b"plan")?;
+    put_number(alloc, &mut title, u32::from(workqueues))?;
+    Ok(title)
+}
+
+/// `safe`, or `components N` where there are some.
+pub(crate) fn components_title<A: Allocator + Copy>(
+    alloc: A,
+    components: &[Vec<WaitArc, A>],
+) -> Result<Vec<u8, A>, AllocError>
+    requires { length components.now < 2 ^ 32 }
+    ensures { IfOk result (λ title. title.items ≡ components_title (length components.now)) }
+{
+    let mut title = Vec::new(alloc);
+    if components.is_empty() {
+        put(&mut title, b"safe")?;
+        return Ok(title);
+    }
+    put(&mut title, b"components")?;
+    put_number(alloc, &mut title, components.len() as u32)?;
+    Ok(title)
+}
