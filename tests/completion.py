@@ -34,6 +34,7 @@ FAULTS = re.findall(r"^\| `fault (\w+)` \|", FORMAT, re.M)
 OFFERED = [
     ("", [*COMMANDS, "help"]),
     ("r", ["replay", "run"]),
+    ("c", ["check", "circles"]),
     ("x", []),
     ("-", ["--help", "--version"]),
     ("help ", COMMANDS),
@@ -55,6 +56,9 @@ OFFERED = [
     ("check a.wq b.wq ", []),
     ("deadlock a.wq o", RESULTS),
     ("deadlock a.wq b.wq ", []),
+    ("circles ", ALL),
+    ("circles a.wq o", RESULTS),
+    ("circles a.wq b.wq ", []),
     ("replay a.wq b.wq o", RESULTS),
     ("replay a.wq b.wq out.plan ", []),
     # A file of the shell's: where the command takes no more arguments, and where it takes none that is a file.

@@ -25,6 +25,7 @@ NOT_SHOWN = ["dot"]
 OF_PLANS = "$ wqplan plan decl"
 OF_CIRCLES = "$ (cat decl && echo ordered disk log) >ordered; wqplan plan ordered"
 OF_RUNS = "$ wqplan deadlock decl assign"
+OF_COMPONENTS = "$ wqplan circles decl assign"
 OF_REFUSALS = "$ (cat decl && echo flush disk data) >unknown; wqplan plan unknown"
 
 # The program, as the shell of an example finds it.
@@ -240,7 +241,8 @@ def examples_of_texts(page):
     """The examples of wqplan(5), as transcripts: a declaration and an assignment are files, the others are answers."""
     heads = {
         "DECLARATIONS": "$ cat decl", "ASSIGNMENTS": "$ cat assign",
-        "PLANS": OF_PLANS, "CIRCLES": OF_CIRCLES, "RUNS": OF_RUNS, "REFUSALS": OF_REFUSALS,
+        "PLANS": OF_PLANS, "CIRCLES": OF_CIRCLES, "RUNS": OF_RUNS,
+        "COMPONENTS": OF_COMPONENTS, "REFUSALS": OF_REFUSALS,
     }
     return [[heads[name], *lines] for name, lines in page.blocks(".EX", ".EE")], set(heads)
 

@@ -155,6 +155,27 @@ check 'deadlock: two files behind --' 1 "$hangs" ''
 run deadlock <(cat chain) <(cat lanes) </dev/null
 check 'deadlock: two pipes' 1 "$hangs" ''
 
+# All flushes on circles at once.
+components='components 1\ncomponent 2\narc a b\narc b c\n'
+run circles chain lanes </dev/null
+check 'circles: the flushes on circles' 1 "$components" ''
+run circles chain safe_lanes </dev/null
+check 'circles: a safe assignment' 0 'safe\n' ''
+run circles chain lanes_of_a_plan </dev/null
+check 'circles: a plan text as an assignment' 1 "$components" ''
+run circles chain </dev/null
+check 'circles: a declaration that has a plan' 0 'safe\n' ''
+run circles circle </dev/null
+check 'circles: a declaration that has none' 1 'components 1\ncomponent 1\narc a a\n' ''
+run circles empty </dev/null
+check 'circles: no byte at all' 0 'safe\n' ''
+run circles -- chain lanes </dev/null
+check 'circles: two files behind --' 1 "$components" ''
+run circles <(cat chain) <(cat lanes) </dev/null
+check 'circles: two pipes' 1 "$components" ''
+run circles <(cat circle) </dev/null
+check 'circles: a pipe' 1 'components 1\ncomponent 1\narc a a\n' ''
+
 # Replays.
 printf "$hangs" >deadlock
 printf 'run 6\nqueue a\nqueue b\nqueue c\nstart 0 a\nwait 0 b\nstart 1 b\n' >open
@@ -257,10 +278,12 @@ run_fed check declaration plan_of_two
 check 'check: two pipes that are opened in turn' 0 'yes 2\n' ''
 run_fed deadlock chain lanes
 check 'deadlock: two pipes that are opened in turn' 1 "$hangs" ''
+run_fed circles chain lanes
+check 'circles: two pipes that are opened in turn' 1 "$components" ''
 run_fed replay chain lanes deadlock
 check 'replay: three pipes that are opened in turn' 1 'deadlock\n' ''
-for words in 'check missing second' 'deadlock missing second' 'replay missing second third' \
-    'replay chain missing third'; do
+for words in 'check missing second' 'deadlock missing second' 'circles missing second' \
+    'replay missing second third' 'replay chain missing third'; do
     # Each word is an argument of its own.
     run $words </dev/null
     check "$words: a pipe behind a FILE that is missing" 3 '' 'fault read\n'
@@ -291,6 +314,18 @@ run deadlock chain <(yes '' 2>/dev/null) </dev/null
 check 'deadlock: an assignment without end' 2 'refused 40 line 0\n' 'of 2'
 run deadlock chain without_c </dev/null
 check 'deadlock: an assignment without an item' 2 'refused 41 line 0\n' 'of 2'
+run circles refused too_large_certificate </dev/null
+check 'circles: a wrong declaration beside an assignment that is too long' 2 'refused 8 line 2\n' 'of 1'
+run circles chain too_large_certificate </dev/null
+check 'circles: an assignment of 8,388,609 bytes' 2 'refused 40 line 0\n' 'of 2'
+run circles chain <(cat safe_lanes largest_certificate | head -c 8388608) </dev/null
+check 'circles: an assignment of 8,388,608 bytes' 0 'safe\n' ''
+run circles chain without_c </dev/null
+check 'circles: an assignment without an item' 2 'refused 41 line 0\n' 'of 2'
+run circles refused </dev/null
+check 'circles: a refusal, without ASSIGN' 2 'refused 8 line 2\n' 'of 1'
+run circles too_large </dev/null
+check 'circles: a text of 1,048,577 bytes' 2 'refused 1 line 0\n' 'of 1'
 run replay refused without_c unlawful </dev/null
 check 'replay: a wrong declaration before a wrong assignment' 2 'refused 8 line 2\n' 'of 1'
 run replay chain without_c too_large_certificate </dev/null
@@ -336,6 +371,8 @@ done
 for files in 'missing lanes' 'chain missing' 'folder lanes' 'chain folder' 'refused missing'; do
     run deadlock $files </dev/null
     check "deadlock $files" 3 '' 'fault read\n'
+    run circles $files </dev/null
+    check "circles $files" 3 '' 'fault read\n'
 done
 for files in 'missing lanes deadlock' 'chain missing deadlock' 'chain lanes missing' 'refused lanes folder'; do
     run replay $files </dev/null
@@ -344,11 +381,14 @@ done
 for files in missing folder ''; do
     run run "$files" </dev/null
     check "run '$files'" 3 '' 'fault read\n'
+    run circles "$files" </dev/null
+    check "circles '$files'" 3 '' 'fault read\n'
 done
 # Of a refusal or a `no` that can't be written there is no diagnosis.
 for words in 'plan circle' 'check declaration plan_of_two' 'deadlock chain lanes' 'replay chain lanes deadlock' \
-    'run declaration' 'run circle' 'plan refused' 'check declaration no_circle' 'deadlock chain without_c' \
-    'replay chain without_c unlawful' 'run refused'; do
+    'circles chain lanes' 'circles chain' 'circles circle' 'run declaration' 'run circle' 'plan refused' \
+    'check declaration no_circle' 'deadlock chain without_c' 'replay chain without_c unlawful' \
+    'circles refused' 'circles chain without_c' 'run refused'; do
     timeout 60 "$program" $words </dev/null >/dev/full 2>err
     status=$?
     : >out
@@ -370,8 +410,8 @@ run plan declaration circle </dev/null
 check 'two FILEs' 2 '' some
 for words in 'check' 'check declaration' 'check declaration plan_of_two lanes' 'deadlock' 'deadlock chain' \
     'deadlock chain lanes open' 'replay' 'replay chain' 'replay chain lanes' 'replay chain lanes deadlock open' \
-    'check --fast declaration plan_of_two' 'deadlock --fast chain lanes' 'run' 'run declaration circle' \
-    'run --fast declaration'; do
+    'check --fast declaration plan_of_two' 'deadlock --fast chain lanes' 'circles' 'circles chain lanes open' \
+    'circles --fast chain' 'run' 'run declaration circle' 'run --fast declaration'; do
     run $words </dev/null
     check "$words" 2 '' some
 done
@@ -382,14 +422,15 @@ check 'help for an unknown subcommand' 2 '' some
 run plan $'\xff' </dev/null
 check 'an argument that is not UTF-8' 2 '' some
 for words in --help -h help 'help plan' 'plan --help' 'plan -h' 'help check' 'check --help' 'help deadlock' \
-    'deadlock --help' 'deadlock -h' 'help replay' 'replay -h' 'help run' 'run --help' 'run -h'; do
+    'deadlock --help' 'deadlock -h' 'help circles' 'circles -h' 'help replay' 'replay -h' 'help run' 'run --help' 'run -h'; do
     # Each word is an argument of its own.
     run $words </dev/null
     check "$words" 0 some ''
 done
 
 # Help fits within 80 columns, that of each command too, in each form. It is written in ASCII, so a byte is a column.
-for words in --help -h help 'help '{plan,check,deadlock,replay,run,explain} {plan,check,deadlock,replay,run,explain}' '{--help,-h}; do
+for words in --help -h help 'help '{plan,check,deadlock,replay,circles,run,explain} \
+    {plan,check,deadlock,replay,circles,run,explain}' '{--help,-h}; do
     run $words </dev/null
     mv out help
     LC_ALL=C grep -E '.{81}|[^ -~]' help >out
@@ -419,6 +460,8 @@ shows check DECL declaration
 shows check CERT circle
 shows deadlock DECL declaration
 shows deadlock ASSIGN workqueue
+shows circles DECL declaration
+shows circles ASSIGN workqueue
 shows replay DECL declaration
 shows replay ASSIGN workqueue
 shows replay RUN step

@@ -17,7 +17,7 @@
 # replay`. It must stand by its answers: `yes`, `safe` and `deadlock`. Where it prints `safe` by
 # `circles`, it must print it by `deadlock` too.
 #
-# The program doesn't know `circles` and `dot` yet. It isn't asked for them but with --only.
+# The program doesn't know `dot` yet. It isn't asked for it but with --only.
 #
 # With --only the program is asked for these commands alone; with `--only none` it isn't run at all.
 # The cases of the other commands are made all the same, and the model's answers must have one of
@@ -150,7 +150,7 @@ COMMANDS = {
 }
 
 # Those that the program doesn't know yet. It is asked for them where --only names them.
-NOT_YET = ["circles", "dot"]
+NOT_YET = ["dot"]
 
 # Each random case of `run` makes threads, so there is one for so many of the other commands.
 CASES_FOR_A_RUN = 5

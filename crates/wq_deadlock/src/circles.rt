@@ -32,7 +32,10 @@ fn lanes_in_turn<A: Allocator + Copy>(alloc: A, count: u16) -> Result<Vec<LaneId
 /// The assignment in which group g has lane g.
 ///
 /// The only error is out of memory (20), never where there is no group.
-pub fn own_lanes<A: Allocator + Copy>(alloc: A, groups: &Groups<A>) -> Result<Assignment<A>, AllocError>
+pub fn own_lanes<A: Allocator + Copy>(
+    alloc: A,
+    groups: &Groups<A>,
+) -> Result<Assignment<A>, AllocError>
     ensures lanes { IfOk result (λ a. a ≡ own_lanes groups.now.groups) }
     ensures memory { OnErr result (0 < groups.now.groups) }
 {

@@ -1,5 +1,5 @@
 -- The command that a parse of the program's words entered, and the files that it was given.
-use Rattle.std.proofs.Common.{refl, ap, ap₂, sym, subst, Result, Ok, Err, IsErrAnd, MatchResult, ◌∙◌, codes, Bool, true, false, not, ◌==◌, ◌&&◌, [], ◌∷◌, List, Option, Some, None, ◌≡◌}
+use Rattle.std.proofs.Common.{arith, slice_index, refl, ap, ap₂, sym, subst, Result, Ok, Err, IsErrAnd, MatchResult, ◌∙◌, codes, Bool, true, false, not, ◌==◌, ◌&&◌, [], ◌∷◌, List, Option, Some, None, ◌≡◌}
 use Rattle.std.specs.Prelude.{option_map, unwrap_or}
 use Rattle.std.specs.Str.{bytes_eq}
 use Rattle.std.specs.Borrow.{Bor}
@@ -9,7 +9,7 @@ use Rattle.clap.proofs.WalkLemmas.{first_value-rows}
 use Rattle.clap.specs.Lexer.{long_of, short_of}
 use Rattle.clap.proofs.OnLiterals.{clap_on_literals}
 use Rattle.wqplan.specs.CommandLine.{wqplan, is_no_option, Asked, Asks, AsksFor, Calls, GivesArguments, command_name}
-use Rattle.wqplan.specs.CommandLine.Asked.{plans, checks, judges, replays, runs, explains}
+use Rattle.wqplan.specs.CommandLine.Asked.{plans, checks, judges, replays, finds, runs, explains}
 
 -- where a part that is turned around is one of those that hold, it doesn't
 pub third_is_not : (x y z w : Bool) → x && (y && (not z && w)) ≡ true → z ≡ false
@@ -113,6 +113,30 @@ asks_replay program declaration assignment run p q r =
     (rw (bytes_eq-no_option assignment q, long_of-no_option assignment q, short_of-no_option assignment q)
     (rw (bytes_eq-no_option run r, long_of-no_option run r, short_of-no_option run r) (_, refl, (refl, refl, refl))))
 
+-- `wqplan circles DECL` is taken, and gives it alone
+pub takes_own_circles : (program declaration : Text) → is_no_option declaration ≡ true → takes wqplan (program ∷ codes "circles" ∷ declaration ∷ []) ≡ true
+unfolding clap_on_literals
+takes_own_circles program declaration p = rw (bytes_eq-no_option declaration p, long_of-no_option declaration p, short_of-no_option declaration p) refl
+
+pub asks_own_circles : (program declaration : Text) → is_no_option declaration ≡ true → Asks (program ∷ codes "circles" ∷ declaration ∷ []) (finds declaration None)
+unfolding clap_on_literals
+asks_own_circles program declaration p = rw (bytes_eq-no_option declaration p, long_of-no_option declaration p, short_of-no_option declaration p) (_, refl, (refl, refl))
+
+-- `wqplan circles DECL ASSIGN` is taken, and gives both
+pub takes_circles : (program declaration assignment : Text) → is_no_option declaration ≡ true → is_no_option assignment ≡ true
+    → takes wqplan (program ∷ codes "circles" ∷ declaration ∷ assignment ∷ []) ≡ true
+unfolding clap_on_literals
+takes_circles program declaration assignment p q =
+    rw (bytes_eq-no_option declaration p, long_of-no_option declaration p, short_of-no_option declaration p)
+    (rw (bytes_eq-no_option assignment q, long_of-no_option assignment q, short_of-no_option assignment q) refl)
+
+pub asks_circles : (program declaration assignment : Text) → is_no_option declaration ≡ true → is_no_option assignment ≡ true
+    → Asks (program ∷ codes "circles" ∷ declaration ∷ assignment ∷ []) (finds declaration (Some assignment))
+unfolding clap_on_literals
+asks_circles program declaration assignment p q =
+    rw (bytes_eq-no_option declaration p, long_of-no_option declaration p, short_of-no_option declaration p)
+    (rw (bytes_eq-no_option assignment q, long_of-no_option assignment q, short_of-no_option assignment q) (_, refl, (refl, refl)))
+
 -- `wqplan run DECL` is taken, and gives it
 pub takes_run : (program declaration : Text) → is_no_option declaration ≡ true → takes wqplan (program ∷ codes "run" ∷ declaration ∷ []) ≡ true
 unfolding clap_on_literals
@@ -147,6 +171,8 @@ takes_Calls words (plans (Some file)) (program, are, p) = ap (takes wqplan) are 
 takes_Calls words (checks declaration certificate) (program, are, p, q) = ap (takes wqplan) are ∙ takes_check program declaration certificate p q
 takes_Calls words (judges declaration assignment) (program, are, p, q) = ap (takes wqplan) are ∙ takes_deadlock program declaration assignment p q
 takes_Calls words (replays declaration assignment run) (program, are, p, q, r) = ap (takes wqplan) are ∙ takes_replay program declaration assignment run p q r
+takes_Calls words (finds declaration None) (program, are, p) = ap (takes wqplan) are ∙ takes_own_circles program declaration p
+takes_Calls words (finds declaration (Some assignment)) (program, are, p, q) = ap (takes wqplan) are ∙ takes_circles program declaration assignment p q
 takes_Calls words (runs declaration) (program, are, p) = ap (takes wqplan) are ∙ takes_run program declaration p
 takes_Calls words (explains None) (program, are) = ap (takes wqplan) are ∙ takes_list program
 takes_Calls words (explains (Some code)) (program, are, p) = ap (takes wqplan) are ∙ takes_explain program code p
@@ -157,6 +183,8 @@ Asks_Calls words (plans (Some file)) (program, are, p) = subst (λ ws. Asks ws (
 Asks_Calls words (checks declaration certificate) (program, are, p, q) = subst (λ ws. Asks ws (checks declaration certificate)) (sym are) (asks_check program declaration certificate p q)
 Asks_Calls words (judges declaration assignment) (program, are, p, q) = subst (λ ws. Asks ws (judges declaration assignment)) (sym are) (asks_deadlock program declaration assignment p q)
 Asks_Calls words (replays declaration assignment run) (program, are, p, q, r) = subst (λ ws. Asks ws (replays declaration assignment run)) (sym are) (asks_replay program declaration assignment run p q r)
+Asks_Calls words (finds declaration None) (program, are, p) = subst (λ ws. Asks ws (finds declaration None)) (sym are) (asks_own_circles program declaration p)
+Asks_Calls words (finds declaration (Some assignment)) (program, are, p, q) = subst (λ ws. Asks ws (finds declaration (Some assignment))) (sym are) (asks_circles program declaration assignment p q)
 Asks_Calls words (runs declaration) (program, are, p) = subst (λ ws. Asks ws (runs declaration)) (sym are) (asks_run program declaration p)
 Asks_Calls words (explains None) (program, are) = subst (λ ws. Asks ws (explains None)) (sym are) (asks_list program)
 Asks_Calls words (explains (Some code)) (program, are, p) = subst (λ ws. Asks ws (explains (Some code))) (sym are) (asks_explain program code p)
@@ -190,41 +218,54 @@ met_is (Some p) name rows named held =
 -- the same matches give one command the same files
 pub GivesArguments-unique : (rows : List Row) (a b : Asked) → command_name a ≡ command_name b → GivesArguments rows a → GivesArguments rows b → a ≡ b
 GivesArguments-unique rows (plans f) (plans f2) names g h = ap plans (sym g ∙ h)
-GivesArguments-unique rows (plans f) (checks d c) names g h = cc
-GivesArguments-unique rows (plans f) (judges d a) names g h = cc
-GivesArguments-unique rows (plans f) (replays d a r) names g h = cc
-GivesArguments-unique rows (plans f) (runs d) names g h = cc
-GivesArguments-unique rows (plans f) (explains n) names g h = cc
-GivesArguments-unique rows (checks d c) (plans f) names g h = cc
+GivesArguments-unique rows (plans f) (checks d2 c2) names g h = cc
+GivesArguments-unique rows (plans f) (judges d2 a2) names g h = cc
+GivesArguments-unique rows (plans f) (replays d2 a2 r2) names g h = cc
+GivesArguments-unique rows (plans f) (finds d2 a2) names g h = absurd (let letter : 112 ≡ 99 = ap (λ (t : Text). slice_index t 0) names in omega (arith, letter))
+GivesArguments-unique rows (plans f) (runs d2) names g h = cc
+GivesArguments-unique rows (plans f) (explains n2) names g h = cc
+GivesArguments-unique rows (checks d c) (plans f2) names g h = cc
 GivesArguments-unique rows (checks d c) (checks d2 c2) names (gd, gc) (hd, hc) = ap₂ checks (same_value _ d d2 gd hd) (same_value _ c c2 gc hc)
-GivesArguments-unique rows (checks d c) (judges d2 a) names g h = cc
-GivesArguments-unique rows (checks d c) (replays d2 a r) names g h = cc
+GivesArguments-unique rows (checks d c) (judges d2 a2) names g h = cc
+GivesArguments-unique rows (checks d c) (replays d2 a2 r2) names g h = cc
+GivesArguments-unique rows (checks d c) (finds d2 a2) names g h = absurd (let letter : 104 ≡ 105 = ap (λ (t : Text). slice_index t 1) names in omega (arith, letter))
 GivesArguments-unique rows (checks d c) (runs d2) names g h = cc
-GivesArguments-unique rows (checks d c) (explains n) names g h = cc
-GivesArguments-unique rows (judges d a) (plans f) names g h = cc
-GivesArguments-unique rows (judges d a) (checks d2 c) names g h = cc
+GivesArguments-unique rows (checks d c) (explains n2) names g h = cc
+GivesArguments-unique rows (judges d a) (plans f2) names g h = cc
+GivesArguments-unique rows (judges d a) (checks d2 c2) names g h = cc
 GivesArguments-unique rows (judges d a) (judges d2 a2) names (gd, ga) (hd, ha) = ap₂ judges (same_value _ d d2 gd hd) (same_value _ a a2 ga ha)
-GivesArguments-unique rows (judges d a) (replays d2 a2 r) names g h = cc
+GivesArguments-unique rows (judges d a) (replays d2 a2 r2) names g h = cc
+GivesArguments-unique rows (judges d a) (finds d2 a2) names g h = absurd (let letter : 100 ≡ 99 = ap (λ (t : Text). slice_index t 0) names in omega (arith, letter))
 GivesArguments-unique rows (judges d a) (runs d2) names g h = cc
-GivesArguments-unique rows (judges d a) (explains n) names g h = cc
-GivesArguments-unique rows (replays d a r) (plans f) names g h = cc
-GivesArguments-unique rows (replays d a r) (checks d2 c) names g h = cc
+GivesArguments-unique rows (judges d a) (explains n2) names g h = cc
+GivesArguments-unique rows (replays d a r) (plans f2) names g h = cc
+GivesArguments-unique rows (replays d a r) (checks d2 c2) names g h = cc
 GivesArguments-unique rows (replays d a r) (judges d2 a2) names g h = cc
 GivesArguments-unique rows (replays d a r) (replays d2 a2 r2) names (gd, ga, gr) (hd, ha, hr) =
     rw (same_value _ d d2 gd hd, same_value _ a a2 ga ha, same_value _ r r2 gr hr) refl
+GivesArguments-unique rows (replays d a r) (finds d2 a2) names g h = absurd (let letter : 114 ≡ 99 = ap (λ (t : Text). slice_index t 0) names in omega (arith, letter))
 GivesArguments-unique rows (replays d a r) (runs d2) names g h = cc
-GivesArguments-unique rows (replays d a r) (explains n) names g h = cc
-GivesArguments-unique rows (runs d) (plans f) names g h = cc
-GivesArguments-unique rows (runs d) (checks d2 c) names g h = cc
-GivesArguments-unique rows (runs d) (judges d2 a) names g h = cc
-GivesArguments-unique rows (runs d) (replays d2 a r) names g h = cc
+GivesArguments-unique rows (replays d a r) (explains n2) names g h = cc
+GivesArguments-unique rows (finds d a) (plans f2) names g h = absurd (let letter : 99 ≡ 112 = ap (λ (t : Text). slice_index t 0) names in omega (arith, letter))
+GivesArguments-unique rows (finds d a) (checks d2 c2) names g h = absurd (let letter : 105 ≡ 104 = ap (λ (t : Text). slice_index t 1) names in omega (arith, letter))
+GivesArguments-unique rows (finds d a) (judges d2 a2) names g h = absurd (let letter : 99 ≡ 100 = ap (λ (t : Text). slice_index t 0) names in omega (arith, letter))
+GivesArguments-unique rows (finds d a) (replays d2 a2 r2) names g h = absurd (let letter : 99 ≡ 114 = ap (λ (t : Text). slice_index t 0) names in omega (arith, letter))
+GivesArguments-unique rows (finds d a) (finds d2 a2) names (gd, ga) (hd, ha) = ap₂ finds (same_value _ d d2 gd hd) (sym ga ∙ ha)
+GivesArguments-unique rows (finds d a) (runs d2) names g h = absurd (let letter : 99 ≡ 114 = ap (λ (t : Text). slice_index t 0) names in omega (arith, letter))
+GivesArguments-unique rows (finds d a) (explains n2) names g h = absurd (let letter : 99 ≡ 101 = ap (λ (t : Text). slice_index t 0) names in omega (arith, letter))
+GivesArguments-unique rows (runs d) (plans f2) names g h = cc
+GivesArguments-unique rows (runs d) (checks d2 c2) names g h = cc
+GivesArguments-unique rows (runs d) (judges d2 a2) names g h = cc
+GivesArguments-unique rows (runs d) (replays d2 a2 r2) names g h = cc
+GivesArguments-unique rows (runs d) (finds d2 a2) names g h = absurd (let letter : 114 ≡ 99 = ap (λ (t : Text). slice_index t 0) names in omega (arith, letter))
 GivesArguments-unique rows (runs d) (runs d2) names g h = ap runs (same_value _ d d2 g h)
-GivesArguments-unique rows (runs d) (explains n) names g h = cc
-GivesArguments-unique rows (explains n) (plans f) names g h = cc
-GivesArguments-unique rows (explains n) (checks d c) names g h = cc
-GivesArguments-unique rows (explains n) (judges d a) names g h = cc
-GivesArguments-unique rows (explains n) (replays d a r) names g h = cc
-GivesArguments-unique rows (explains n) (runs d) names g h = cc
+GivesArguments-unique rows (runs d) (explains n2) names g h = cc
+GivesArguments-unique rows (explains n) (plans f2) names g h = cc
+GivesArguments-unique rows (explains n) (checks d2 c2) names g h = cc
+GivesArguments-unique rows (explains n) (judges d2 a2) names g h = cc
+GivesArguments-unique rows (explains n) (replays d2 a2 r2) names g h = cc
+GivesArguments-unique rows (explains n) (finds d2 a2) names g h = absurd (let letter : 101 ≡ 99 = ap (λ (t : Text). slice_index t 0) names in omega (arith, letter))
+GivesArguments-unique rows (explains n) (runs d2) names g h = cc
 GivesArguments-unique rows (explains n) (explains n2) names g h = ap explains (sym g ∙ h)
 
 -- a command that was met asks for one thing
@@ -252,5 +293,6 @@ replays_of met rows wanted is (others, also, given) =
     go (checks d c) name given = cc
     go (judges d a) name given = cc
     go (replays d a r) name given = (d, a, r, given)
+    go (finds d a) name given = cc
     go (runs d) name given = cc
     go (explains n) name given = cc

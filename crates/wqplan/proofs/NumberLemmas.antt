@@ -1,5 +1,5 @@
 -- The numbers that the program prints, and those that have an explanation.
-use Rattle.std.proofs.Common.{◌≡◌, ◌≢◌, ℕ, Bool, true, false, cond, List, [], ◌∷◌, Option, Some, None, map, refl, sym, subst}
+use Rattle.std.proofs.Common.{◌≡◌, ℕ, Bool, true, false, cond, List, [], ◌∷◌, Option, Some, None, map, refl, subst}
 use Rattle.std.proofs.lemmas.Bool.{eqb-true}
 use Rattle.wq_text.specs.declared.text.TextError.TheVariants.{TextTooLong, LineTooLong}
 use Rattle.wq_decl.specs.declared.fault.DeclError.TheVariants.{BadByte, UnknownWord, MissingName, ExtraWord, BadName}
@@ -9,7 +9,7 @@ use Rattle.wq_cert.specs.declared.fault.CertError.TheVariants as certificates
 use Rattle.wq_checker.specs.declared.answer.No.TheVariants.{NotFalling, LengthDiffers, ChainBroken, CircleBroken, RunBroken}
 use Rattle.wq_commands.specs.Numbers.{IsPrinted, of_limit, of_line, of_item, of_group, of_certificate, of_no}
 use Rattle.wqplan.specs.Numbers.{IsPrintedByProgram, of_text, of_plan}
-use Rattle.wq_explain.specs.declared.explain.Explained.TheVariants.{Known, Unknown}
+use Rattle.wq_explain.specs.declared.explain.Explained.TheVariants.{Known}
 use Rattle.wq_explain.specs.Explaining.{Row, explanations, known_or_not, number_end, numbered, with_number}
 
 -- a number of a text that is refused, or of a `no`, has an explanation

@@ -2,10 +2,10 @@
 //!
 //! It is read by `clap`: one command, and positional arguments alone. The time is linear in the words.
 
-ghost use Rattle.std.specs.Prelude.{◌≡◌, ℕ, List, Some, codes, false, IfOk, IfSome, IsSome, MatchResult, map};
+ghost use Rattle.std.specs.Prelude.{◌≡◌, ℕ, List, Option, Some, codes, false, IfOk, IfSome, IsSome, MatchResult, map};
 ghost use Rattle.clap.specs.Words.{app_of, found_of, kind_of, rows_of, rule_of, subcommand_rows_of};
 ghost use Rattle.clap.specs.declared.error.kind.ErrorKind.TheVariants.{OutOfMemory};
-ghost use Rattle.wqplan.specs.CommandLine.{bare, check, deadlock, explain, needed, plan, replay, run, spelled, wqplan, Asked, Asks, AsksFor, Calls, GivesArguments, checks, judges, replays, runs};
+ghost use Rattle.wqplan.specs.CommandLine.{bare, check, circles, deadlock, explain, needed, plan, replay, run, spelled, wqplan, Asked, Asks, AsksFor, Calls, GivesArguments, checks, finds, judges, replays, runs};
 
 use crate::help;
 use clap::error::ErrorKind;
@@ -37,6 +37,12 @@ pub(crate) enum Request<'a> {
         declaration: &'a str,
         assignment: &'a str,
         run: &'a str,
+    },
+    /// The flushes that lie on a circle under the assignment in the second file, or where each group has a workqueue of its own,
+    /// of the declaration in the first.
+    Circles {
+        declaration: &'a str,
+        assignment: Option<&'a str>,
     },
     /// A run of the plan of the declaration in this file.
     Run {
@@ -114,6 +120,19 @@ fn replay<'a>(alloc: Global) -> Result<Command<'a>, AllocError>
         .arg(run)
 }
 
+/// The command `circles`.
+fn circles<'a>(alloc: Global) -> Result<Command<'a>, AllocError>
+    ensures { IfOk result (λ command. app_of command ≡ circles) }
+{
+    let declaration = file(alloc, "DECL", help::DECL);
+    let assignment = Arg::new(alloc, "ASSIGN").help(help::ANY_ASSIGN);
+    Command::new(alloc, "circles")
+        .about(help::CIRCLES)
+        .after_help(help::STATUSES)
+        .arg(declaration)?
+        .arg(assignment)
+}
+
 /// The command `run`.
 fn run<'a>(alloc: Global) -> Result<Command<'a>, AllocError>
     ensures { IfOk result (λ command. app_of command ≡ run) }
@@ -156,6 +175,7 @@ fn program<'a>(alloc: Global) -> Result<Command<'a>, AllocError>
         .subcommand(check(alloc)?)?
         .subcommand(deadlock(alloc)?)?
         .subcommand(replay(alloc)?)?
+        .subcommand(circles(alloc)?)?
         .subcommand(run(alloc)?)?
         .subcommand(explain(alloc)?)
 }
@@ -201,6 +221,19 @@ fn replay_request<'a>(given: &ArgMatches<'a>) -> Option<Request<'a>>
     })
 }
 
+/// What `circles` is asked for. Its first file is there in all matches that a parse gives.
+fn circles_request<'a>(given: &ArgMatches<'a>) -> Option<Request<'a>>
+    ensures asked { IfSome result (λ request. AsksFor (Some (codes "circles", rows_of (found_of given.now))) (spelled request)) }
+    ensures all { (declaration : List ℕ) (assignment : Option (List ℕ)) → GivesArguments (rows_of (found_of given.now)) (finds declaration assignment) → IsSome result }
+{
+    let declaration = given.get_str("DECL")?;
+    let assignment = given.get_str("ASSIGN");
+    Some(Request::Circles {
+        declaration,
+        assignment,
+    })
+}
+
 /// What `run` is asked for. Its file is there in all matches that a parse gives.
 fn run_request<'a>(given: &ArgMatches<'a>) -> Option<Request<'a>>
     ensures asked { IfSome result (λ request. AsksFor (Some (codes "run", rows_of (found_of given.now))) (spelled request)) }
@@ -228,6 +261,9 @@ fn entered<'a>(matches: &ArgMatches<'a>) -> Option<Request<'a>>
     }
     if let Some(given) = matches.subcommand_matches("replay") {
         return replay_request(given);
+    }
+    if let Some(given) = matches.subcommand_matches("circles") {
+        return circles_request(given);
     }
     if let Some(given) = matches.subcommand_matches("run") {
         return run_request(given);

@@ -11,13 +11,12 @@ ghost use Rattle.wq_meter.specs.Input.{IsInput};
 ghost use Rattle.wqplan.specs.Kept.{IsKept};
 ghost use Rattle.wq_meter.specs.Meter.{WritesWhole};
 
-use crate::diagnosis::{say_of_certificate, say_of_declaration};
+use crate::diagnosis::say_of_assignment;
 use crate::files::{MAX_CERTIFICATE, open};
 use std::alloc::Global;
 use std::io::{self, Read, Write};
 use std::rt::Files;
 use wq_commands::{End, Fault, MAX_DECLARATION, Metered, deadlock_cmd, read_text};
-use wq_diagnosis::{Kind, Source};
 
 /// Answers the declaration in the file of the first path and the assignment in that of the second.
 ///
@@ -34,37 +33,9 @@ pub(crate) fn deadlock<R: Files + Print + Eprint + AllocGlobal>(
     let mut writer = Metered::new(io::writer(rt));
     let (end, text, lanes) = deadlock_input(rt.alloc(), declared, assigned, &mut writer)?;
     if end == End::Refused {
-        say_of(rt, declaration, &text, assignment, &lanes);
+        say_of_assignment(rt, declaration, &text, assignment, &lanes);
     }
     Ok(end)
-}
-
-/// Says what is wrong with the first text that is refused.
-fn say_of<R: Eprint + AllocGlobal>(
-    rt: &R,
-    declaration: &str,
-    declared: &[u8],
-    assignment: &str,
-    assigned: &[u8],
-) {
-    let file = declaration;
-    say_of_declaration(
-        rt,
-        Source {
-            file,
-            text: declared,
-        },
-    );
-    let file = assignment;
-    say_of_certificate(
-        rt,
-        Kind::Assignment,
-        declared,
-        Source {
-            file,
-            text: assigned,
-        },
-    );
 }
 
 /// Writes the verdict on the declaration that the first input has and the assignment that the second has. Both are handed out as

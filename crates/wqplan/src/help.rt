@@ -20,6 +20,9 @@ pub(crate) const DEADLOCK: &str =
 /// What `replay` reads and prints.
 pub(crate) const REPLAY: &str = "Reads a declaration, an assignment and a run, prints how it ends";
 
+/// What `circles` reads and prints.
+pub(crate) const CIRCLES: &str = "Reads a declaration, prints all flushes on circles, or `safe`";
+
 /// What `run` reads, does and prints.
 pub(crate) const RUN: &str = "Reads a declaration, runs its plan in threads, prints what happened";
 
@@ -39,6 +42,10 @@ pub(crate) const CERT: &str = "A plan or a circle, in the form in which `plan` p
 /// What ASSIGN is.
 pub(crate) const ASSIGN: &str = "Which item is on which workqueue: `wq` lines alone, or a plan";
 
+/// What ASSIGN is of a command that can do without it.
+pub(crate) const ANY_ASSIGN: &str =
+    "As for `deadlock`. Without it each group has its own workqueue";
+
 /// What RUN is.
 pub(crate) const STEPS: &str = "The steps of a run";
 
@@ -55,8 +62,8 @@ Exit status:
      was run, an explanation, or the titles of all of them; or help or the
      version was printed
   1  the answer is a circle, where items wait for one another and there is no
-     plan; or it is `no ..`, a run that deadlocks, `deadlock`, `stuck` or
-     `not lawful N`
+     plan; or it is `no ..`, a run that deadlocks, `components N`, `deadlock`,
+     `stuck` or `not lawful N`
   2  a refusal was printed: a text isn't of the form that it should have, or a
      plan has too many workqueues to run; or the word to explain is none that
      has an explanation. Or the command line is wrong; then standard error says

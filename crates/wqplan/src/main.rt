@@ -1,5 +1,5 @@
-//! `wqplan`: the commands of `wq_commands`, `wq_run` and `wq_explain`, over the files, the standard streams and the threads
-//! of a process.
+//! `wqplan`: the commands of `wq_commands`, `wq_circles`, `wq_run` and `wq_explain`, over the files, the standard streams and
+//! the threads of a process.
 //!
 //! What this crate adds is the command line, the files and the exit status; what is read and what is answered stand
 //! in those crates. The formats and the statuses are those of docs/FORMAT.md. The status is returned from `main` as
@@ -12,6 +12,7 @@ ghost use Rattle.wqplan.specs.CommandLine.{spelled};
 ghost use Rattle.wqplan.specs.Ended.{EndsAsAsked};
 
 mod check;
+mod circles;
 mod command_line;
 mod deadlock;
 mod diagnosis;
@@ -54,6 +55,10 @@ fn perform<R: Files + Input + Print + Eprint + AllocGlobal + Threads + Wait + Sy
             assignment,
             run,
         } => replay::replay(rt, declaration, assignment, run)?,
+        Request::Circles {
+            declaration,
+            assignment,
+        } => circles::circles(rt, declaration, assignment)?,
         Request::Run { declaration } => run::run(rt, declaration)?,
         Request::Explain { code } => explain::explain(rt, code)?,
     };

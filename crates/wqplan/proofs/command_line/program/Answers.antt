@@ -1,7 +1,7 @@
 use Rattle.std.proofs.Common.{ap, ap₂, ◌≡◌, ◌∙◌}
 use Rattle.std.proofs.lemmas.Result.{IfOk-weaker}
 use Rattle.clap.specs.Words.{App, app_of, with_subcommand}
-use Rattle.wqplan.specs.CommandLine.{bare, plan, check, deadlock, replay, run}
+use Rattle.wqplan.specs.CommandLine.{bare, plan, check, deadlock, replay, circles, run}
 use Rattle.wqplan.proofs.CommandLemmas.{third_is_not}
 use Rattle.wqplan.proofs.command_line.program.Goals as goal
 
@@ -15,6 +15,9 @@ returns c =
     c.in_ok-subcommand-3.ensures.shape (third_is_not _ _ _ _ (ap (λ (a : App). a.top.is_plain) c.in_ok-deadlock.ensures)) ∙ ap₂ with_subcommand two (ap (λ (a : App). a.top) c.in_ok-deadlock.ensures) in
     let four : app_of c.in_ok-subcommand-4.field-0 ≡ with_subcommand (with_subcommand (with_subcommand (with_subcommand bare plan.top) check.top) deadlock.top) replay.top =
     c.in_ok-subcommand-4.ensures.shape (third_is_not _ _ _ _ (ap (λ (a : App). a.top.is_plain) c.in_ok-replay.ensures)) ∙ ap₂ with_subcommand three (ap (λ (a : App). a.top) c.in_ok-replay.ensures) in
-    let five : app_of c.in_ok-subcommand-5.field-0 ≡ with_subcommand (with_subcommand (with_subcommand (with_subcommand (with_subcommand bare plan.top) check.top) deadlock.top) replay.top) run.top =
-    c.in_ok-subcommand-5.ensures.shape (third_is_not _ _ _ _ (ap (λ (a : App). a.top.is_plain) c.in_ok-run.ensures)) ∙ ap₂ with_subcommand four (ap (λ (a : App). a.top) c.in_ok-run.ensures) in
-    IfOk-weaker c.subcommand-6.result _ _ (λ r added. added.shape (third_is_not _ _ _ _ (ap (λ (a : App). a.top.is_plain) c.in_ok-explain.ensures)) ∙ ap₂ with_subcommand five (ap (λ (a : App). a.top) c.in_ok-explain.ensures)) c.subcommand-6.ensures
+    let five : app_of c.in_ok-subcommand-5.field-0 ≡ with_subcommand (with_subcommand (with_subcommand (with_subcommand (with_subcommand bare plan.top) check.top) deadlock.top) replay.top) circles.top =
+    c.in_ok-subcommand-5.ensures.shape (third_is_not _ _ _ _ (ap (λ (a : App). a.top.is_plain) c.in_ok-circles.ensures)) ∙ ap₂ with_subcommand four (ap (λ (a : App). a.top) c.in_ok-circles.ensures) in
+    let six : app_of c.in_ok-subcommand-6.field-0
+    ≡ with_subcommand (with_subcommand (with_subcommand (with_subcommand (with_subcommand (with_subcommand bare plan.top) check.top) deadlock.top) replay.top) circles.top) run.top =
+    c.in_ok-subcommand-6.ensures.shape (third_is_not _ _ _ _ (ap (λ (a : App). a.top.is_plain) c.in_ok-run.ensures)) ∙ ap₂ with_subcommand five (ap (λ (a : App). a.top) c.in_ok-run.ensures) in
+    IfOk-weaker c.subcommand-7.result _ _ (λ r added. added.shape (third_is_not _ _ _ _ (ap (λ (a : App). a.top.is_plain) c.in_ok-explain.ensures)) ∙ ap₂ with_subcommand six (ap (λ (a : App). a.top) c.in_ok-explain.ensures)) c.subcommand-7.ensures
