@@ -50,7 +50,17 @@ fn of_assignment<R: Files + Print + Eprint + AllocGlobal>(
     let mut writer = Metered::new(io::writer(rt));
     let (end, text, lanes) = circles_input(rt.alloc(), declared, assigned, &mut writer)?;
     if end == End::Refused {
-        say_of_assignment(rt, declaration, &text, assignment, &lanes);
+        say_of_assignment(
+            rt,
+            Source {
+                file: declaration,
+                text: &text,
+            },
+            Source {
+                file: assignment,
+                text: &lanes,
+            },
+        );
     }
     Ok(end)
 }

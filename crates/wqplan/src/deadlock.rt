@@ -17,6 +17,7 @@ use std::alloc::Global;
 use std::io::{self, Read, Write};
 use std::rt::Files;
 use wq_commands::{End, Fault, MAX_DECLARATION, Metered, deadlock_cmd, read_text};
+use wq_diagnosis::Source;
 
 /// Answers the declaration in the file of the first path and the assignment in that of the second.
 ///
@@ -33,7 +34,17 @@ pub(crate) fn deadlock<R: Files + Print + Eprint + AllocGlobal>(
     let mut writer = Metered::new(io::writer(rt));
     let (end, text, lanes) = deadlock_input(rt.alloc(), declared, assigned, &mut writer)?;
     if end == End::Refused {
-        say_of_assignment(rt, declaration, &text, assignment, &lanes);
+        say_of_assignment(
+            rt,
+            Source {
+                file: declaration,
+                text: &text,
+            },
+            Source {
+                file: assignment,
+                text: &lanes,
+            },
+        );
     }
     Ok(end)
 }

@@ -41,32 +41,14 @@ pub(crate) fn say_of_certificate<R: Eprint + AllocGlobal>(
     )
 }
 
-/// Says what is wrong with the first of the two that is refused: a declaration, and an assignment of it, each with its file.
+/// Says what is wrong with the first of the two that is refused: a declaration, and an assignment of it.
 pub(crate) fn say_of_assignment<R: Eprint + AllocGlobal>(
     rt: &R,
-    declaration: &str,
-    declared: &[u8],
-    assignment: &str,
-    assigned: &[u8],
+    declaration: Source<'_>,
+    assignment: Source<'_>,
 ) {
-    let file = declaration;
-    say_of_declaration(
-        rt,
-        Source {
-            file,
-            text: declared,
-        },
-    );
-    let file = assignment;
-    say_of_certificate(
-        rt,
-        Kind::Assignment,
-        declared,
-        Source {
-            file,
-            text: assigned,
-        },
-    );
+    say_of_declaration(rt, declaration);
+    say_of_certificate(rt, Kind::Assignment, declaration.text, assignment);
 }
 
 /// Says what is wrong with a declaration that was not run: it is none, or its plan is too large.
