@@ -1,10 +1,16 @@
 #!/usr/bin/env bash
-# Makes the pictures of docs/pictures from declarations of examples/, by Graphviz (apt-get install graphviz). Each is drawn as
-# docs/FORMAT.md, "The command `dot`", says, by the model in tests/model. It is no part of the gate. The argument, if there is one,
-# names another folder for the pictures.
+# Makes the pictures of docs/pictures from declarations of examples/, by the command `dot` of the program and by Graphviz (apt-get
+# install graphviz). It is no part of the gate. Run it once the gate or `rt run` has built the program. The arguments, if there are
+# any, name another folder for the pictures, and another program.
 set -euo pipefail
-cd "$(dirname "$0")/.."
-pictures=$(realpath -m -- "${1:-docs/pictures}")
+root=$(realpath -- "$(dirname "$0")/..")
+pictures=$(realpath -m -- "${1:-$root/docs/pictures}")
+program=$(realpath -m -- "${2:-$root/crates/wqplan/out/wqplan}")
+cd -- "$root"
+[ -x "$program" ] || {
+    echo "pictures: there is nothing to run at $program (cd crates/wqplan && rt run builds it)"
+    exit 1
+}
 command -v dot >/dev/null || {
     echo "pictures: there is no program dot (apt-get install graphviz)"
     exit 1
@@ -17,7 +23,7 @@ trap 'rm -f -- "$text"' EXIT
 picture() {
     local name=$1 warnings
     shift
-    python3 -B tests/model/dot.py dot "${@/#/examples/}" >"$text"
+    "$program" dot "${@/#/examples/}" >"$text"
     python3 -B tests/dot.py "$text" | sed "s|^[^:]*|$name|"
     warnings=$(dot -Tsvg -o "$pictures/$name.svg" "$text" 2>&1) && [ -z "$warnings" ] || {
         echo "pictures: $name: $warnings"

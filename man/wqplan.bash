@@ -65,12 +65,12 @@ _wqplan() {
     local files
     case $command in
         '')
-            mapfile -t COMPREPLY < <(compgen -W 'plan check deadlock replay circles run explain help' -- "$word")
+            mapfile -t COMPREPLY < <(compgen -W 'plan check deadlock replay circles dot run explain help' -- "$word")
             return
             ;;
         help)
             [ "$words" -gt 0 ] ||
-                mapfile -t COMPREPLY < <(compgen -W 'plan check deadlock replay circles run explain' -- "$word")
+                mapfile -t COMPREPLY < <(compgen -W 'plan check deadlock replay circles dot run explain' -- "$word")
             return
             ;;
         explain)
@@ -83,7 +83,7 @@ _wqplan() {
             return
             ;;
         plan | run) files=1 ;;
-        check | deadlock | circles) files=2 ;;
+        check | deadlock | circles | dot) files=2 ;;
         replay) files=3 ;;
         *) return ;;
     esac

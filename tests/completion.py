@@ -35,6 +35,7 @@ OFFERED = [
     ("", [*COMMANDS, "help"]),
     ("r", ["replay", "run"]),
     ("c", ["check", "circles"]),
+    ("d", ["deadlock", "dot"]),
     ("x", []),
     ("-", ["--help", "--version"]),
     ("help ", COMMANDS),
@@ -59,6 +60,9 @@ OFFERED = [
     ("circles ", ALL),
     ("circles a.wq o", RESULTS),
     ("circles a.wq b.wq ", []),
+    ("dot ", ALL),
+    ("dot a.wq o", RESULTS),
+    ("dot a.wq b.wq ", []),
     ("replay a.wq b.wq o", RESULTS),
     ("replay a.wq b.wq out.plan ", []),
     # A file of the shell's: where the command takes no more arguments, and where it takes none that is a file.

@@ -1,9 +1,10 @@
 #!/usr/bin/env bash
-# Runs `plan`, `check`, `deadlock`, `replay` and `run` over the subsystems of Linux 6.1 in examples/. What is expected of each
-# (how many workqueues, which circle, whether the kernel's assignment is safe, how long the run is) was worked out by
-# hand from the kernel's sources, and stands in this script. Of all else that the program prints the program's own checkers
+# Runs `plan`, `check`, `deadlock`, `replay`, `run`, `circles` and `dot` over the subsystems of Linux 6.1 in examples/. What is
+# expected of each (how many workqueues, which circle, whether the kernel's assignment is safe, how long the run is) was worked
+# out by hand from the kernel's sources, and stands in this script. Of all else that the program prints the program's own checkers
 # are asked: `check` says yes to each plan and circle, `replay` says deadlock of each run. `run` has each item on the workqueue
-# that `plan` gives it, queued once and finished once.
+# that `plan` gives it, queued once and finished once. tests/dot.py reads each drawing, and what is drawn is what `plan` and
+# `circles` print.
 # Run it once the gate or `rt run` has built the program. The argument, if there is one, names another program.
 set -u
 program=$(realpath -m -- "${1:-$(dirname "$0")/../crates/wqplan/out/wqplan}")
@@ -13,6 +14,7 @@ if [ ! -x "$program" ]; then
     exit 1
 fi
 
+reader=$(realpath -- "$(dirname "$0")/dot.py")
 work=$(mktemp -d)
 trap 'rm -rf -- "$work"' EXIT
 cp -- "$examples"/*.wq "$examples"/*.assign "$work"
@@ -142,6 +144,43 @@ plan_is_least() {
     done
 }
 
+# arrows LOOK: those of the file `out` that look so, as `arc` lines, sorted.
+arrows() {
+    sed -nE "s/^  \"([^\"]*)\" -> \"([^\"]*)\" \[$1\];$/arc \1 \2/p" out | LC_ALL=C sort
+}
+
+# boxes FILE: the items on each workqueue of a drawing, or of a file with `wq` lines, sorted.
+boxes() {
+    tr -d '";' <"$1" | awk '
+        /^wq / { for (at = 3; at <= NF; at++) print $2, $at }
+        /^  subgraph / { lane = $4 }
+        /^ +[^ ]+$/ && $1 != "}" { print lane, $1 }' | LC_ALL=C sort
+}
+
+# draws NAME COUNTS DECL [ASSIGN]: counts whether the reader of drawings finds these counts in what `dot` prints. The red arrows
+# must be the flushes that `circles` prints; and where a plan is drawn, its workqueues and the bold arrows must be those of `plan`.
+draws() {
+    local name=$1 counts=$2 wanted
+    shift 2
+    run circles "$@"
+    wanted=$(grep '^arc ' out | LC_ALL=C sort)
+    run dot "$@"
+    is "$name: dot" 0 "$status"
+    is "$name: what is drawn" "$counts" "$(python3 -B "$reader" out | sed 's/^out: //')"
+    is "$name: the red arrows" "$wanted" "$(arrows color=red)"
+    cp out drawing
+    if [ $# -eq 1 ] && [ "${counts%% *}" = plan ]; then
+        run plan "$1"
+        cp out drawn.plan
+        is "$name: the boxes" "$(boxes drawn.plan)" "$(boxes drawing)"
+        cp drawing out
+        is "$name: the bold arrows" "$(grep '^arc ' drawn.plan | LC_ALL=C sort)" "$(arrows style=bold)"
+    elif [ $# -eq 2 ]; then
+        sed 's/#.*//' "$2" >drawn.assign
+        is "$name: the boxes" "$(boxes drawn.assign)" "$(boxes drawing)"
+    fi
+}
+
 # Each wait names its kind and its place in the kernel's sources.
 for file in *.wq; do
     is "$file: each flush has a kind, a file, a line and a function" '' \
@@ -156,6 +195,10 @@ plan_is_least dm-snapshot
 run deadlock dm-snapshot.wq dm-snapshot.assign
 ends 'dm-snapshot: the kernel' 0 safe
 hangs 'dm-snapshot: one kcopyd' dm-snapshot.wq dm-snapshot.merged.assign 14
+draws dm-snapshot 'plan 3: items 6, workqueues 3, arrows 3, red 0, bold 2' dm-snapshot.wq
+draws 'dm-snapshot: the kernel' 'safe: items 6, workqueues 6, arrows 3, red 0, bold 0' dm-snapshot.wq dm-snapshot.assign
+draws 'dm-snapshot: one kcopyd' 'components 1: items 6, workqueues 3, arrows 3, red 1, bold 0' \
+    dm-snapshot.wq dm-snapshot.merged.assign
 
 # dm-integrity: six workqueues, safe; without dm-integrity-offload it hangs.
 counts dm-integrity 8 13 8 6
@@ -165,6 +208,7 @@ plan_is_least dm-integrity
 run deadlock dm-integrity.wq dm-integrity.assign
 ends 'dm-integrity: the kernel' 0 safe
 hangs 'dm-integrity: without dm-integrity-offload' dm-integrity.wq dm-integrity.merged.assign 20
+draws dm-integrity 'plan 3: items 8, workqueues 3, arrows 13, red 0, bold 2' dm-integrity.wq
 
 # nvmet-tcp: a circle, so that every assignment hangs: the kernel's, one workqueue for all, and one for each item. The
 # last is the one whose run stands behind the circle.
@@ -178,6 +222,7 @@ hangs 'nvmet-tcp: one workqueue' nvmet-tcp.wq one.assign
 awk '$1 == "item" { print "wq", lanes++, $2 }' nvmet-tcp.wq >own.assign
 hangs 'nvmet-tcp: a workqueue for each item' nvmet-tcp.wq own.assign
 is 'nvmet-tcp: the run behind the circle' "$(cat hangs.run)" "$(sed -n '/^run/,$p' nvmet-tcp.answer)"
+draws nvmet-tcp 'components 1: items 10, workqueues 10, arrows 15, red 2, bold 0' nvmet-tcp.wq
 
 # nvme-auth: two workqueues, of which one hangs; three are enough, and a later kernel has them.
 counts nvme-auth 4 4 4 2
@@ -187,6 +232,9 @@ plan_is_least nvme-auth
 hangs 'nvme-auth: the kernel' nvme-auth.wq nvme-auth.assign 8
 run deadlock nvme-auth.wq nvme-auth.later.assign
 ends 'nvme-auth: a later kernel' 0 safe
+draws nvme-auth 'plan 3: items 4, workqueues 3, arrows 4, red 0, bold 2' nvme-auth.wq
+draws 'nvme-auth: the kernel' 'components 1: items 4, workqueues 2, arrows 4, red 2, bold 0' nvme-auth.wq nvme-auth.assign
+draws 'nvme-auth: a later kernel' 'safe: items 4, workqueues 3, arrows 4, red 0, bold 0' nvme-auth.wq nvme-auth.later.assign
 
 # rbd: two ordered groups, five workqueues, safe.
 counts rbd 11 19 6 5
@@ -195,6 +243,8 @@ without_cancel rbd 3
 plan_is_least rbd
 run deadlock rbd.wq rbd.assign
 ends 'rbd: the kernel' 0 safe
+draws rbd 'plan 3: items 11, workqueues 3, arrows 19, red 0, bold 2' rbd.wq
+draws 'rbd: the kernel' 'safe: items 11, workqueues 5, arrows 19, red 0, bold 0' rbd.wq rbd.assign
 
 # xfs: eleven workqueues, safe; five are enough, and four without the two that have no rescuer.
 counts xfs 12 18 12 11
@@ -203,6 +253,7 @@ without_cancel xfs 5
 plan_is_least xfs
 run deadlock xfs.wq xfs.assign
 ends 'xfs: the kernel' 0 safe
+draws xfs 'plan 5: items 12, workqueues 5, arrows 18, red 0, bold 4' xfs.wq
 grep -vE '^[^#]*(xfs_flush_inodes_worker|xfs_log_worker|xlog_discard_endio_work)' xfs.wq >xfs.rescuers.wq
 run plan xfs.rescuers.wq
 begins 'xfs: plan, without xfs-sync and xfsdiscard' 0 'plan 4'

@@ -176,6 +176,51 @@ check 'circles: two pipes' 1 "$components" ''
 run circles <(cat circle) </dev/null
 check 'circles: a pipe' 1 'components 1\ncomponent 1\narc a a\n' ''
 
+# Drawings. What is drawn has status 0, also where it is a circle.
+
+# drawing TITLE LINE..: a drawing with these lines between its head and its end.
+drawing() {
+    local title=$1
+    shift
+    echo 'digraph wqplan {'
+    echo "  graph [label=\"$title\", labelloc=t, labeljust=l, rankdir=LR, newrank=true, nodesep=0.15, ranksep=1, fontname=\"sans-serif\"];"
+    echo '  node [shape=box, style=filled, fillcolor=white, height=0.3, fontname="sans-serif", fontsize=12];'
+    echo '  edge [arrowsize=0.7];'
+    [ $# -eq 0 ] || printf '  %s\n' "$@"
+    echo '}'
+}
+
+# box NUMBER ITEM..: the lines of a workqueue with these items, to be put behind two spaces.
+box() {
+    echo "subgraph \"cluster wq $1\" {"
+    echo "    graph [label=\"wq $1\", rank=same, style=filled, color=gray92];"
+    printf '    "%s";\n' "${@:2}"
+    echo '  }'
+}
+
+drawn_plan="$(drawing 'plan 3' "$(box 0 c)" "$(box 1 b)" "$(box 2 a)" '"a" -> "b" [style=bold];' '"b" -> "c" [style=bold];')\n"
+drawn_safe="$(drawing safe "$(box 0 c)" "$(box 1 b)" "$(box 2 a)" '"a" -> "b";' '"b" -> "c";')\n"
+drawn_circle="$(drawing 'components 1' "$(box 0 a c)" "$(box 1 b)" '"a" -> "b" [color=red];' '"b" -> "c" [color=red];')\n"
+drawn_loop="$(drawing 'components 1' "$(box 0 a)" '"a" -> "a" [color=red];')\n"
+run dot chain </dev/null
+check 'dot: a plan' 0 "$drawn_plan" ''
+run dot circle </dev/null
+check 'dot: a declaration that has no plan' 0 "$drawn_loop" ''
+run dot empty </dev/null
+check 'dot: no byte at all' 0 "$(drawing 'plan 0')\n" ''
+run dot chain lanes </dev/null
+check 'dot: the flushes on circles' 0 "$drawn_circle" ''
+run dot chain safe_lanes </dev/null
+check 'dot: a safe assignment' 0 "$drawn_safe" ''
+run dot chain lanes_of_a_plan </dev/null
+check 'dot: a plan text as an assignment' 0 "$drawn_circle" ''
+run dot -- chain lanes </dev/null
+check 'dot: two files behind --' 0 "$drawn_circle" ''
+run dot <(cat chain) <(cat lanes) </dev/null
+check 'dot: two pipes' 0 "$drawn_circle" ''
+run dot <(cat chain) </dev/null
+check 'dot: a pipe' 0 "$drawn_plan" ''
+
 # Replays.
 printf "$hangs" >deadlock
 printf 'run 6\nqueue a\nqueue b\nqueue c\nstart 0 a\nwait 0 b\nstart 1 b\n' >open
@@ -280,9 +325,11 @@ run_fed deadlock chain lanes
 check 'deadlock: two pipes that are opened in turn' 1 "$hangs" ''
 run_fed circles chain lanes
 check 'circles: two pipes that are opened in turn' 1 "$components" ''
+run_fed dot chain lanes
+check 'dot: two pipes that are opened in turn' 0 "$drawn_circle" ''
 run_fed replay chain lanes deadlock
 check 'replay: three pipes that are opened in turn' 1 'deadlock\n' ''
-for words in 'check missing second' 'deadlock missing second' 'circles missing second' \
+for words in 'check missing second' 'deadlock missing second' 'circles missing second' 'dot missing second' \
     'replay missing second third' 'replay chain missing third'; do
     # Each word is an argument of its own.
     run $words </dev/null
@@ -326,6 +373,20 @@ run circles refused </dev/null
 check 'circles: a refusal, without ASSIGN' 2 'refused 8 line 2\n' 'of 1'
 run circles too_large </dev/null
 check 'circles: a text of 1,048,577 bytes' 2 'refused 1 line 0\n' 'of 1'
+run dot refused too_large_certificate </dev/null
+check 'dot: a wrong declaration beside an assignment that is too long' 2 'refused 8 line 2\n' 'of 1'
+run dot chain too_large_certificate </dev/null
+check 'dot: an assignment of 8,388,609 bytes' 2 'refused 40 line 0\n' 'of 2'
+run dot chain <(cat safe_lanes largest_certificate | head -c 8388608) </dev/null
+check 'dot: an assignment of 8,388,608 bytes' 0 "$drawn_safe" ''
+run dot chain without_c </dev/null
+check 'dot: an assignment without an item' 2 'refused 41 line 0\n' 'of 2'
+run dot refused </dev/null
+check 'dot: a refusal, without ASSIGN' 2 'refused 8 line 2\n' 'of 1'
+run dot too_large </dev/null
+check 'dot: a text of 1,048,577 bytes' 2 'refused 1 line 0\n' 'of 1'
+run dot largest </dev/null
+check 'dot: a text of 1,048,576 bytes' 0 "$(drawing 'plan 0')\n" ''
 run replay refused without_c unlawful </dev/null
 check 'replay: a wrong declaration before a wrong assignment' 2 'refused 8 line 2\n' 'of 1'
 run replay chain without_c too_large_certificate </dev/null
@@ -373,6 +434,8 @@ for files in 'missing lanes' 'chain missing' 'folder lanes' 'chain folder' 'refu
     check "deadlock $files" 3 '' 'fault read\n'
     run circles $files </dev/null
     check "circles $files" 3 '' 'fault read\n'
+    run dot $files </dev/null
+    check "dot $files" 3 '' 'fault read\n'
 done
 for files in 'missing lanes deadlock' 'chain missing deadlock' 'chain lanes missing' 'refused lanes folder'; do
     run replay $files </dev/null
@@ -383,12 +446,14 @@ for files in missing folder ''; do
     check "run '$files'" 3 '' 'fault read\n'
     run circles "$files" </dev/null
     check "circles '$files'" 3 '' 'fault read\n'
+    run dot "$files" </dev/null
+    check "dot '$files'" 3 '' 'fault read\n'
 done
 # Of a refusal or a `no` that can't be written there is no diagnosis.
 for words in 'plan circle' 'check declaration plan_of_two' 'deadlock chain lanes' 'replay chain lanes deadlock' \
-    'circles chain lanes' 'circles chain' 'circles circle' 'run declaration' 'run circle' 'plan refused' \
-    'check declaration no_circle' 'deadlock chain without_c' 'replay chain without_c unlawful' \
-    'circles refused' 'circles chain without_c' 'run refused'; do
+    'circles chain lanes' 'circles chain' 'circles circle' 'dot chain lanes' 'dot chain' 'dot circle' 'run declaration' \
+    'run circle' 'plan refused' 'check declaration no_circle' 'deadlock chain without_c' 'replay chain without_c unlawful' \
+    'circles refused' 'circles chain without_c' 'dot refused' 'dot chain without_c' 'run refused'; do
     timeout 60 "$program" $words </dev/null >/dev/full 2>err
     status=$?
     : >out
@@ -411,7 +476,8 @@ check 'two FILEs' 2 '' some
 for words in 'check' 'check declaration' 'check declaration plan_of_two lanes' 'deadlock' 'deadlock chain' \
     'deadlock chain lanes open' 'replay' 'replay chain' 'replay chain lanes' 'replay chain lanes deadlock open' \
     'check --fast declaration plan_of_two' 'deadlock --fast chain lanes' 'circles' 'circles chain lanes open' \
-    'circles --fast chain' 'run' 'run declaration circle' 'run --fast declaration'; do
+    'circles --fast chain' 'dot' 'dot chain lanes open' 'dot --fast chain' 'run' 'run declaration circle' \
+    'run --fast declaration'; do
     run $words </dev/null
     check "$words" 2 '' some
 done
@@ -422,15 +488,16 @@ check 'help for an unknown subcommand' 2 '' some
 run plan $'\xff' </dev/null
 check 'an argument that is not UTF-8' 2 '' some
 for words in --help -h help 'help plan' 'plan --help' 'plan -h' 'help check' 'check --help' 'help deadlock' \
-    'deadlock --help' 'deadlock -h' 'help circles' 'circles -h' 'help replay' 'replay -h' 'help run' 'run --help' 'run -h'; do
+    'deadlock --help' 'deadlock -h' 'help circles' 'circles -h' 'help dot' 'dot --help' 'dot -h' 'help replay' 'replay -h' \
+    'help run' 'run --help' 'run -h'; do
     # Each word is an argument of its own.
     run $words </dev/null
     check "$words" 0 some ''
 done
 
 # Help fits within 80 columns, that of each command too, in each form. It is written in ASCII, so a byte is a column.
-for words in --help -h help 'help '{plan,check,deadlock,replay,circles,run,explain} \
-    {plan,check,deadlock,replay,circles,run,explain}' '{--help,-h}; do
+for words in --help -h help 'help '{plan,check,deadlock,replay,circles,dot,run,explain} \
+    {plan,check,deadlock,replay,circles,dot,run,explain}' '{--help,-h}; do
     run $words </dev/null
     mv out help
     LC_ALL=C grep -E '.{81}|[^ -~]' help >out
@@ -462,6 +529,8 @@ shows deadlock DECL declaration
 shows deadlock ASSIGN workqueue
 shows circles DECL declaration
 shows circles ASSIGN workqueue
+shows dot DECL declaration
+shows dot ASSIGN workqueue
 shows replay DECL declaration
 shows replay ASSIGN workqueue
 shows replay RUN step

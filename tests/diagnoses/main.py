@@ -14,8 +14,9 @@ import sys
 
 sys.dont_write_bytecode = True
 HERE = pathlib.Path(__file__).resolve().parent
-sys.path.append(str(HERE.parent))
+# The model first: its dot.py isn't the reader of drawings in the folder above, of the same name.
 sys.path.append(str(HERE.parent / "model"))
+sys.path.append(str(HERE.parent))
 import certificates  # noqa: E402  (beside this file)
 import declarations  # noqa: E402
 import diagnoses  # noqa: E402  (in tests/model)

@@ -59,6 +59,40 @@ FILES = [
         "    flush a",
         "           ^ the line should be `flush NAME TARGET..`",
     ]),
+    # `circles` and `dot`, without an assignment and with one.
+    ({"d": AB + " / flush b c"}, "circles d", "refused 8 line 4", 2, [
+        "d:4:9: no item `c` is declared above this line [refused 8, `wqplan explain 8`]",
+        "    flush b c",
+        "            ^ write `item c` above",
+    ]),
+    ({"d": "item a / item a", "a": "wq 1"}, "circles ./d a", "refused 7 line 2", 2, [
+        "./d:2:6: the item `a` is declared twice [refused 7, `wqplan explain 7`]",
+        "    item a",
+        "         ^ first on line 1",
+    ]),
+    ({"d": AB, "a": "wq 0 a / wq 1 b a"}, "circles d ./a", "refused 41 line 2", 2, [
+        "./a:2:8: `a` stands on a workqueue already [refused 41, `wqplan explain 41`]",
+        "    wq 1 b a",
+        "           ^ on line 1",
+    ]),
+    ({"d": "item a b"}, "dot d", "refused 12 line 1", 2, [
+        "d:1:8: an `item` line has one name [refused 12, `wqplan explain 12`]",
+        "    item a b",
+        "           ^ each item has an `item` line of its own",
+    ]),
+    ({"d": AB, "a": WQS}, "dot a d", "refused 4 line 1", 2, [
+        "a:1:1: `wq` is no directive [refused 4, `wqplan explain 4`]",
+        "    wq 0 b",
+        "    ^^ this looks like a plan or an assignment: are the files in the right order?",
+    ]),
+    ({"d": AB + " / ordered a b", "a": WQS}, "dot d a", "refused 42 line 2", 2, [
+        "a:2:6: `a` and `b` are on one `ordered` line, and on two workqueues [refused 42, `wqplan explain 42`]",
+        "    wq 1 a",
+        "         ^ the other one on line 1",
+    ]),
+    ({"d": AB, "a": "wq 0 b"}, ["dot", "--", "d", "a"], "refused 41 line 0", 2, [
+        "a: `a` stands on no workqueue [refused 41, `wqplan explain 41`]",
+    ]),
     # Bytes that aren't printed in certificates, in what is said and in the line.
     ({"d": AB, "p": b"\xef\xbb\xbfplan 2\r\n"}, "check d p", "refused 40 line 1", 2, [
         "p:1:1: `???plan` stands where `plan K` should [refused 40, `wqplan explain 40`]",
@@ -277,6 +311,18 @@ NOES = [
     ]),
 ]
 
+
+def drawn(title):
+    """The drawing of no item, with this title."""
+    return " / ".join([
+        "digraph wqplan {",
+        f'  graph [label="{title}", labelloc=t, labeljust=l, rankdir=LR, newrank=true, nodesep=0.15, ranksep=1, fontname="sans-serif"];',
+        '  node [shape=box, style=filled, fillcolor=white, height=0.3, fontname="sans-serif", fontsize=12];',
+        "  edge [arrowsize=0.7];",
+        "}",
+    ])
+
+
 # What isn't refused: nothing is said of it.
 ACCEPTED = [
     ({"d.wq": AB}, "plan d.wq", "plan 2 / wq 0 b / wq 1 a / chain 2 / arc a b", 0, []),
@@ -286,6 +332,10 @@ ACCEPTED = [
     ({"d": AB, "p": "plan 2 / wq 0 b / wq 1 a / chain 2 / arc a b"}, "check d p", "yes 2", 0, []),
     ({"d": AB, "a": WQS}, "deadlock d a", "safe", 0, []),
     ({"d": AB, "a": "wq 0 a b"}, "deadlock d a", "run 4 / queue a / queue b / start 0 a / wait 0 b", 1, []),
+    ({"d": AB}, "circles d", "safe", 0, []),
+    ({"d": AB, "a": "wq 0 a b"}, "circles d a", "components 1 / component 1 / arc a b", 1, []),
+    ({"d": ""}, "dot d", drawn("plan 0"), 0, []),
+    ({"d": "", "a": ""}, "dot d a", drawn("safe"), 0, []),
     ({"d": AB, "a": WQS, "r": "run 1 / queue a"}, "replay d a r", "open", 0, []),
     ({"d": AB, "a": WQS, "r": "run 1 / start 1 a"}, "replay d a r", "not lawful 1", 1, []),
     ({"d": AB}, "run d", "workqueues 2 / item a wq 1 queued 1 cancelled 0 finished 1 / "

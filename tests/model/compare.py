@@ -5,19 +5,17 @@
 #
 # It makes up declarations, answers, assignments and runs, gives them to `PROGRAM plan` on standard
 # input, and as files to `PROGRAM check`, `PROGRAM replay`, `PROGRAM deadlock`, `PROGRAM circles`,
-# `PROGRAM dot` and `PROGRAM run`, and compares the bytes that are printed and the exit status with the model's. Standard error
-# must have what belongs to the answer (standard_error.py, in the folder above). Of each command there are
-# the cases at the limits of docs/FORMAT.md and at each place of small texts, once each, and then
-# CASES random ones; of `run`, which makes threads, a fifth as many. The same SEED makes the same
-# cases. It fails where an answer differs, and where some kind of answer never came, as may be with
+# `PROGRAM dot` and `PROGRAM run`, and compares the bytes that are printed and the exit status with the
+# model's. Standard error must have what belongs to the answer (standard_error.py, in the folder above). Of
+# each command there are the cases at the limits of docs/FORMAT.md and at each place of small texts, once
+# each, and then CASES random ones; of `run`, which makes threads, a fifth as many. The same SEED makes the
+# same cases. It fails where an answer differs, and where some kind of answer never came, as may be with
 # few CASES. Before all this the model must answer the worked examples of the page (examples.py).
 #
 # What the program prints is then given back to it: the plans and circles to `PROGRAM check`, the
 # plans as assignments to `PROGRAM deadlock`, and the runs, those behind circles too, to `PROGRAM
 # replay`. It must stand by its answers: `yes`, `safe` and `deadlock`. Where it prints `safe` by
 # `circles`, it must print it by `deadlock` too.
-#
-# The program doesn't know `dot` yet. It isn't asked for it but with --only.
 #
 # With --only the program is asked for these commands alone; with `--only none` it isn't run at all.
 # The cases of the other commands are made all the same, and the model's answers must have one of
@@ -148,9 +146,6 @@ COMMANDS = {
         + DECLARATION_REFUSALS,
     ),
 }
-
-# Those that the program doesn't know yet. It is asked for them where --only names them.
-NOT_YET = ["dot"]
 
 # Each random case of `run` makes threads, so there is one for so many of the other commands.
 CASES_FOR_A_RUN = 5
@@ -340,7 +335,7 @@ def show_counts(command, kinds, stood):
 def options(arguments):
     """The program, the seed, how many random cases, and the commands that the program is asked for."""
     arguments = list(arguments)
-    asked = [command for command in COMMANDS if command not in NOT_YET]
+    asked = list(COMMANDS)
     while "--only" in arguments[:-1]:
         at = arguments.index("--only")
         asked = [] if arguments[at + 1] == "none" else arguments[at + 1].split(",")

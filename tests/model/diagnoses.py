@@ -35,7 +35,9 @@ import tempfile
 sys.dont_write_bytecode = True
 import certificate  # noqa: E402  (beside this file)
 import check  # noqa: E402
+import circles  # noqa: E402
 import deadlock  # noqa: E402
+import dot  # noqa: E402
 import plan  # noqa: E402
 import replay  # noqa: E402
 import run  # noqa: E402
@@ -47,12 +49,15 @@ from declaration import (  # noqa: E402
 
 ROOT = pathlib.Path(__file__).resolve().parent.parent.parent
 
-# The commands: the model of each, the kinds of its texts behind the declaration, and how they are read.
+# The commands: the model of each, the kinds of its texts behind the declaration, and how they are read. The assignment of
+# `circles` and `dot` may be missing.
 COMMANDS = {
     "plan": (plan.answer, []),
     "check": (check.answer, ["answer"]),
     "deadlock": (deadlock.answer, ["assignment"]),
     "replay": (replay.answer, ["assignment", "run"]),
+    "circles": (circles.answer, ["assignment"]),
+    "dot": (dot.answer, ["assignment"]),
     "run": (run.answer, []),
 }
 READERS = {
@@ -584,7 +589,9 @@ def seeds():
     sys.path.append(str(ROOT / "tests"))
     sys.path.append(str(ROOT / "tests" / "rows"))
     import checks
+    import circlings
     import deadlocks
+    import drawings
     import plans
     import replays
     from tables import text_of
@@ -593,9 +600,10 @@ def seeds():
     for path in sorted((ROOT / "examples").rglob("*.wq")):
         text = path.read_bytes()
         found += [("plan", [text]), ("run", [text]), ("check", [text, plan.answer(text)[0]])]
+        found += [("circles", [text]), ("dot", [text])]
         for other in sorted(path.parent.glob(path.stem + "*.assign")):
             assignment = other.read_bytes()
-            found.append(("deadlock", [text, assignment]))
+            found += [(command, [text, assignment]) for command in ("deadlock", "circles", "dot")]
             found.append(("replay", [text, assignment, deadlock.answer(text, assignment)[0]]))
     for path in sorted((ROOT / "tests" / "samples").iterdir()):
         found.append(("plan", [path.read_bytes()]))
@@ -608,6 +616,8 @@ def seeds():
     for text, rows in deadlocks.DEADLOCKS:
         found += [("deadlock", [text_of(text), text_of(assignment)]) for assignment, _ in rows]
     found += [("deadlock", [text_of(text) for text in texts]) for *texts, _ in deadlocks.REFUSALS]
+    for command, rows in (("circles", circlings.REFUSALS), ("dot", drawings.REFUSALS)):
+        found += [(command, [text_of(text) for text in texts]) for *texts, _ in rows]
     for text, assignment, rows in replays.REPLAYS:
         found += [("replay", [text_of(text), text_of(assignment), text_of(steps)]) for steps, _ in rows]
     return found

@@ -2,10 +2,10 @@
 #
 #     main.py PROGRAM
 #
-# Each row is texts and the answer to them: `PROGRAM plan`, `check`, `deadlock`, `replay`, `circles` or
-# `run` must print just that, with the exit status that goes with it. To standard error it must print
-# nothing, but beside a refusal or a `no` its diagnosis. What is printed must be true, too: a plan or a circle is then
-# given to `check`, and a run to `replay`. It takes a few seconds.
+# Each row is texts and the answer to them: `PROGRAM plan`, `check`, `deadlock`, `replay`, `circles`,
+# `dot` or `run` must print just that, with the exit status that goes with it. To standard error it must
+# print nothing, but beside a refusal or a `no` its diagnosis. What is printed must be true, too: a plan or
+# a circle is then given to `check`, and a run to `replay`. It takes a few seconds.
 
 import pathlib
 import sys
@@ -15,6 +15,7 @@ sys.path.append(str(pathlib.Path(__file__).resolve().parent.parent))
 import checks  # noqa: E402  (beside this file)
 import circlings  # noqa: E402
 import deadlocks  # noqa: E402
+import drawings  # noqa: E402
 import limits  # noqa: E402
 import plans  # noqa: E402
 import prefixes  # noqa: E402
@@ -24,7 +25,7 @@ from tables import Case, run_cases, text_of  # noqa: E402  (in the folder above)
 
 # "Faults and exit statuses": the status that goes with the first word of an answer.
 STATUS = {
-    "plan": 0, "yes": 0, "safe": 0, "open": 0, "workqueues": 0,
+    "plan": 0, "yes": 0, "safe": 0, "open": 0, "workqueues": 0, "digraph": 0,
     "circle": 1, "no": 1, "run": 1, "not": 1, "deadlock": 1, "stuck": 1, "components": 1,
     "refused": 2,
 }
@@ -70,6 +71,14 @@ def table_cases():
     for text, rows in circlings.ASSIGNED:
         for assignment, answer in rows:
             yield case("components of assignments", "circles", [text, assignment], answer)
+    for table, rows in [
+        ("drawings", drawings.OWN), ("refusals of `dot`", drawings.REFUSALS)
+    ]:
+        for *texts, answer in rows:
+            yield case(table, "dot", texts, answer)
+    for text, rows in drawings.ASSIGNED:
+        for assignment, answer in rows:
+            yield case("drawings of assignments", "dot", [text, assignment], answer)
     for text, assignment, rows in replays.REPLAYS:
         for run, answer in rows:
             yield case("runs", "replay", [text, assignment, run], answer)

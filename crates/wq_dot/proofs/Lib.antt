@@ -1,3 +1,4 @@
 pub mod Marked
 pub mod Placed
-mod Taking
+pub mod Taking
+mod OneDrawing

@@ -9,6 +9,7 @@
 mod dot;
 mod dotting;
 mod flushes;
+pub mod laws;
 mod titles;
 
 pub use dot::{dot_cmd, own_dot_cmd};

@@ -1,5 +1,5 @@
 -- The command that a parse of the program's words entered, and the files that it was given.
-use Rattle.std.proofs.Common.{arith, slice_index, refl, ap, ap₂, sym, subst, Result, Ok, Err, IsErrAnd, MatchResult, ◌∙◌, codes, Bool, true, false, not, ◌==◌, ◌&&◌, [], ◌∷◌, List, Option, Some, None, ◌≡◌}
+use Rattle.std.proofs.Common.{refl, ap, ap₂, sym, subst, Result, Ok, Err, IsErrAnd, MatchResult, ◌∙◌, codes, Bool, true, false, cond, not, ◌==◌, ◌&&◌, [], ◌∷◌, List, Option, Some, None, ◌≡◌}
 use Rattle.std.specs.Prelude.{option_map, unwrap_or}
 use Rattle.std.specs.Str.{bytes_eq}
 use Rattle.std.specs.Borrow.{Bor}
@@ -9,7 +9,7 @@ use Rattle.clap.proofs.WalkLemmas.{first_value-rows}
 use Rattle.clap.specs.Lexer.{long_of, short_of}
 use Rattle.clap.proofs.OnLiterals.{clap_on_literals}
 use Rattle.wqplan.specs.CommandLine.{wqplan, is_no_option, Asked, Asks, AsksFor, Calls, GivesArguments, command_name}
-use Rattle.wqplan.specs.CommandLine.Asked.{plans, checks, judges, replays, finds, runs, explains}
+use Rattle.wqplan.specs.CommandLine.Asked.{plans, checks, judges, replays, finds, draws, runs, explains}
 
 -- where a part that is turned around is one of those that hold, it doesn't
 pub third_is_not : (x y z w : Bool) → x && (y && (not z && w)) ≡ true → z ≡ false
@@ -137,6 +137,30 @@ asks_circles program declaration assignment p q =
     rw (bytes_eq-no_option declaration p, long_of-no_option declaration p, short_of-no_option declaration p)
     (rw (bytes_eq-no_option assignment q, long_of-no_option assignment q, short_of-no_option assignment q) (_, refl, (refl, refl)))
 
+-- `wqplan dot DECL` is taken, and gives it alone
+pub takes_own_dot : (program declaration : Text) → is_no_option declaration ≡ true → takes wqplan (program ∷ codes "dot" ∷ declaration ∷ []) ≡ true
+unfolding clap_on_literals
+takes_own_dot program declaration p = rw (bytes_eq-no_option declaration p, long_of-no_option declaration p, short_of-no_option declaration p) refl
+
+pub asks_own_dot : (program declaration : Text) → is_no_option declaration ≡ true → Asks (program ∷ codes "dot" ∷ declaration ∷ []) (draws declaration None)
+unfolding clap_on_literals
+asks_own_dot program declaration p = rw (bytes_eq-no_option declaration p, long_of-no_option declaration p, short_of-no_option declaration p) (_, refl, (refl, refl))
+
+-- `wqplan dot DECL ASSIGN` is taken, and gives both
+pub takes_dot : (program declaration assignment : Text) → is_no_option declaration ≡ true → is_no_option assignment ≡ true
+    → takes wqplan (program ∷ codes "dot" ∷ declaration ∷ assignment ∷ []) ≡ true
+unfolding clap_on_literals
+takes_dot program declaration assignment p q =
+    rw (bytes_eq-no_option declaration p, long_of-no_option declaration p, short_of-no_option declaration p)
+    (rw (bytes_eq-no_option assignment q, long_of-no_option assignment q, short_of-no_option assignment q) refl)
+
+pub asks_dot : (program declaration assignment : Text) → is_no_option declaration ≡ true → is_no_option assignment ≡ true
+    → Asks (program ∷ codes "dot" ∷ declaration ∷ assignment ∷ []) (draws declaration (Some assignment))
+unfolding clap_on_literals
+asks_dot program declaration assignment p q =
+    rw (bytes_eq-no_option declaration p, long_of-no_option declaration p, short_of-no_option declaration p)
+    (rw (bytes_eq-no_option assignment q, long_of-no_option assignment q, short_of-no_option assignment q) (_, refl, (refl, refl)))
+
 -- `wqplan run DECL` is taken, and gives it
 pub takes_run : (program declaration : Text) → is_no_option declaration ≡ true → takes wqplan (program ∷ codes "run" ∷ declaration ∷ []) ≡ true
 unfolding clap_on_literals
@@ -173,6 +197,8 @@ takes_Calls words (judges declaration assignment) (program, are, p, q) = ap (tak
 takes_Calls words (replays declaration assignment run) (program, are, p, q, r) = ap (takes wqplan) are ∙ takes_replay program declaration assignment run p q r
 takes_Calls words (finds declaration None) (program, are, p) = ap (takes wqplan) are ∙ takes_own_circles program declaration p
 takes_Calls words (finds declaration (Some assignment)) (program, are, p, q) = ap (takes wqplan) are ∙ takes_circles program declaration assignment p q
+takes_Calls words (draws declaration None) (program, are, p) = ap (takes wqplan) are ∙ takes_own_dot program declaration p
+takes_Calls words (draws declaration (Some assignment)) (program, are, p, q) = ap (takes wqplan) are ∙ takes_dot program declaration assignment p q
 takes_Calls words (runs declaration) (program, are, p) = ap (takes wqplan) are ∙ takes_run program declaration p
 takes_Calls words (explains None) (program, are) = ap (takes wqplan) are ∙ takes_list program
 takes_Calls words (explains (Some code)) (program, are, p) = ap (takes wqplan) are ∙ takes_explain program code p
@@ -185,6 +211,8 @@ Asks_Calls words (judges declaration assignment) (program, are, p, q) = subst (�
 Asks_Calls words (replays declaration assignment run) (program, are, p, q, r) = subst (λ ws. Asks ws (replays declaration assignment run)) (sym are) (asks_replay program declaration assignment run p q r)
 Asks_Calls words (finds declaration None) (program, are, p) = subst (λ ws. Asks ws (finds declaration None)) (sym are) (asks_own_circles program declaration p)
 Asks_Calls words (finds declaration (Some assignment)) (program, are, p, q) = subst (λ ws. Asks ws (finds declaration (Some assignment))) (sym are) (asks_circles program declaration assignment p q)
+Asks_Calls words (draws declaration None) (program, are, p) = subst (λ ws. Asks ws (draws declaration None)) (sym are) (asks_own_dot program declaration p)
+Asks_Calls words (draws declaration (Some assignment)) (program, are, p, q) = subst (λ ws. Asks ws (draws declaration (Some assignment))) (sym are) (asks_dot program declaration assignment p q)
 Asks_Calls words (runs declaration) (program, are, p) = subst (λ ws. Asks ws (runs declaration)) (sym are) (asks_run program declaration p)
 Asks_Calls words (explains None) (program, are) = subst (λ ws. Asks ws (explains None)) (sym are) (asks_list program)
 Asks_Calls words (explains (Some code)) (program, are, p) = subst (λ ws. Asks ws (explains (Some code))) (sym are) (asks_explain program code p)
@@ -215,58 +243,39 @@ met_is (Some p) name rows named held =
     let same_rows : p.1 ≡ rows = ap (λ o. unwrap_or o p.1) held in
     rw (← same_name, ← same_rows) refl
 
+-- the file that the matches give under this name; where they give none, the empty text
+abbrev file_of : List Row → Text → Text
+file_of rows name = unwrap_or (first_of name rows) []
+
+-- what a command of this name asks for with these matches
+abbrev asked_by : Text → List Row → Asked
+asked_by name rows =
+    cond (bytes_eq name (codes "plan")) (plans (first_of (codes "FILE") rows))
+    (cond (bytes_eq name (codes "check")) (checks (file_of rows (codes "DECL")) (file_of rows (codes "CERT")))
+    (cond (bytes_eq name (codes "deadlock")) (judges (file_of rows (codes "DECL")) (file_of rows (codes "ASSIGN")))
+    (cond (bytes_eq name (codes "replay")) (replays (file_of rows (codes "DECL")) (file_of rows (codes "ASSIGN")) (file_of rows (codes "RUN")))
+    (cond (bytes_eq name (codes "circles")) (finds (file_of rows (codes "DECL")) (first_of (codes "ASSIGN") rows))
+    (cond (bytes_eq name (codes "dot")) (draws (file_of rows (codes "DECL")) (first_of (codes "ASSIGN") rows))
+    (cond (bytes_eq name (codes "run")) (runs (file_of rows (codes "DECL"))) (explains (first_of (codes "CODE") rows))))))))
+
+file_of-is : (rows : List Row) (name file : Text) → first_of name rows ≡ Some file → file_of rows name ≡ file
+file_of-is rows name file is = ap (λ (o : Option Text). unwrap_or o []) is
+
+-- it is what the matches give its files
+asked_by-is : (rows : List Row) (a : Asked) → GivesArguments rows a → asked_by (command_name a) rows ≡ a
+asked_by-is rows (plans f) g = ap plans g
+asked_by-is rows (checks d c) (gd, gc) = ap₂ checks (file_of-is rows (codes "DECL") d gd) (file_of-is rows (codes "CERT") c gc)
+asked_by-is rows (judges d a) (gd, ga) = ap₂ judges (file_of-is rows (codes "DECL") d gd) (file_of-is rows (codes "ASSIGN") a ga)
+asked_by-is rows (replays d a r) (gd, ga, gr) =
+    rw (file_of-is rows (codes "DECL") d gd, file_of-is rows (codes "ASSIGN") a ga, file_of-is rows (codes "RUN") r gr) refl
+asked_by-is rows (finds d a) (gd, ga) = ap₂ finds (file_of-is rows (codes "DECL") d gd) ga
+asked_by-is rows (draws d a) (gd, ga) = ap₂ draws (file_of-is rows (codes "DECL") d gd) ga
+asked_by-is rows (runs d) g = ap runs (file_of-is rows (codes "DECL") d g)
+asked_by-is rows (explains n) g = ap explains g
+
 -- the same matches give one command the same files
-pub GivesArguments-unique : (rows : List Row) (a b : Asked) → command_name a ≡ command_name b → GivesArguments rows a → GivesArguments rows b → a ≡ b
-GivesArguments-unique rows (plans f) (plans f2) names g h = ap plans (sym g ∙ h)
-GivesArguments-unique rows (plans f) (checks d2 c2) names g h = cc
-GivesArguments-unique rows (plans f) (judges d2 a2) names g h = cc
-GivesArguments-unique rows (plans f) (replays d2 a2 r2) names g h = cc
-GivesArguments-unique rows (plans f) (finds d2 a2) names g h = absurd (let letter : 112 ≡ 99 = ap (λ (t : Text). slice_index t 0) names in omega (arith, letter))
-GivesArguments-unique rows (plans f) (runs d2) names g h = cc
-GivesArguments-unique rows (plans f) (explains n2) names g h = cc
-GivesArguments-unique rows (checks d c) (plans f2) names g h = cc
-GivesArguments-unique rows (checks d c) (checks d2 c2) names (gd, gc) (hd, hc) = ap₂ checks (same_value _ d d2 gd hd) (same_value _ c c2 gc hc)
-GivesArguments-unique rows (checks d c) (judges d2 a2) names g h = cc
-GivesArguments-unique rows (checks d c) (replays d2 a2 r2) names g h = cc
-GivesArguments-unique rows (checks d c) (finds d2 a2) names g h = absurd (let letter : 104 ≡ 105 = ap (λ (t : Text). slice_index t 1) names in omega (arith, letter))
-GivesArguments-unique rows (checks d c) (runs d2) names g h = cc
-GivesArguments-unique rows (checks d c) (explains n2) names g h = cc
-GivesArguments-unique rows (judges d a) (plans f2) names g h = cc
-GivesArguments-unique rows (judges d a) (checks d2 c2) names g h = cc
-GivesArguments-unique rows (judges d a) (judges d2 a2) names (gd, ga) (hd, ha) = ap₂ judges (same_value _ d d2 gd hd) (same_value _ a a2 ga ha)
-GivesArguments-unique rows (judges d a) (replays d2 a2 r2) names g h = cc
-GivesArguments-unique rows (judges d a) (finds d2 a2) names g h = absurd (let letter : 100 ≡ 99 = ap (λ (t : Text). slice_index t 0) names in omega (arith, letter))
-GivesArguments-unique rows (judges d a) (runs d2) names g h = cc
-GivesArguments-unique rows (judges d a) (explains n2) names g h = cc
-GivesArguments-unique rows (replays d a r) (plans f2) names g h = cc
-GivesArguments-unique rows (replays d a r) (checks d2 c2) names g h = cc
-GivesArguments-unique rows (replays d a r) (judges d2 a2) names g h = cc
-GivesArguments-unique rows (replays d a r) (replays d2 a2 r2) names (gd, ga, gr) (hd, ha, hr) =
-    rw (same_value _ d d2 gd hd, same_value _ a a2 ga ha, same_value _ r r2 gr hr) refl
-GivesArguments-unique rows (replays d a r) (finds d2 a2) names g h = absurd (let letter : 114 ≡ 99 = ap (λ (t : Text). slice_index t 0) names in omega (arith, letter))
-GivesArguments-unique rows (replays d a r) (runs d2) names g h = cc
-GivesArguments-unique rows (replays d a r) (explains n2) names g h = cc
-GivesArguments-unique rows (finds d a) (plans f2) names g h = absurd (let letter : 99 ≡ 112 = ap (λ (t : Text). slice_index t 0) names in omega (arith, letter))
-GivesArguments-unique rows (finds d a) (checks d2 c2) names g h = absurd (let letter : 105 ≡ 104 = ap (λ (t : Text). slice_index t 1) names in omega (arith, letter))
-GivesArguments-unique rows (finds d a) (judges d2 a2) names g h = absurd (let letter : 99 ≡ 100 = ap (λ (t : Text). slice_index t 0) names in omega (arith, letter))
-GivesArguments-unique rows (finds d a) (replays d2 a2 r2) names g h = absurd (let letter : 99 ≡ 114 = ap (λ (t : Text). slice_index t 0) names in omega (arith, letter))
-GivesArguments-unique rows (finds d a) (finds d2 a2) names (gd, ga) (hd, ha) = ap₂ finds (same_value _ d d2 gd hd) (sym ga ∙ ha)
-GivesArguments-unique rows (finds d a) (runs d2) names g h = absurd (let letter : 99 ≡ 114 = ap (λ (t : Text). slice_index t 0) names in omega (arith, letter))
-GivesArguments-unique rows (finds d a) (explains n2) names g h = absurd (let letter : 99 ≡ 101 = ap (λ (t : Text). slice_index t 0) names in omega (arith, letter))
-GivesArguments-unique rows (runs d) (plans f2) names g h = cc
-GivesArguments-unique rows (runs d) (checks d2 c2) names g h = cc
-GivesArguments-unique rows (runs d) (judges d2 a2) names g h = cc
-GivesArguments-unique rows (runs d) (replays d2 a2 r2) names g h = cc
-GivesArguments-unique rows (runs d) (finds d2 a2) names g h = absurd (let letter : 114 ≡ 99 = ap (λ (t : Text). slice_index t 0) names in omega (arith, letter))
-GivesArguments-unique rows (runs d) (runs d2) names g h = ap runs (same_value _ d d2 g h)
-GivesArguments-unique rows (runs d) (explains n2) names g h = cc
-GivesArguments-unique rows (explains n) (plans f2) names g h = cc
-GivesArguments-unique rows (explains n) (checks d2 c2) names g h = cc
-GivesArguments-unique rows (explains n) (judges d2 a2) names g h = cc
-GivesArguments-unique rows (explains n) (replays d2 a2 r2) names g h = cc
-GivesArguments-unique rows (explains n) (finds d2 a2) names g h = absurd (let letter : 101 ≡ 99 = ap (λ (t : Text). slice_index t 0) names in omega (arith, letter))
-GivesArguments-unique rows (explains n) (runs d2) names g h = cc
-GivesArguments-unique rows (explains n) (explains n2) names g h = ap explains (sym g ∙ h)
+GivesArguments-unique : (rows : List Row) (a b : Asked) → command_name a ≡ command_name b → GivesArguments rows a → GivesArguments rows b → a ≡ b
+GivesArguments-unique rows a b names g h = sym (asked_by-is rows a g) ∙ ap (λ (name : Text). asked_by name rows) names ∙ asked_by-is rows b h
 
 -- a command that was met asks for one thing
 pub AsksFor-unique : (met : Option (Text × List Row)) (a b : Asked) → AsksFor met a → AsksFor met b → a ≡ b
@@ -286,13 +295,7 @@ pub replays_of : (met : Option (Text × List Row)) (rows : List Row) (wanted : A
     → (declaration : Text) × (assignment : Text) × (run : Text) × GivesArguments rows (replays declaration assignment run)
 replays_of met rows wanted is (others, also, given) =
     let both : (command_name wanted, others) ≡ (codes "replay", rows) = same_value {T = Text × List Row} met (command_name wanted, others) (codes "replay", rows) also is in
-    go wanted (ap (λ (p : Text × List Row). p.0) both) (subst (λ (rs : List Row). GivesArguments rs wanted) (ap (λ (p : Text × List Row). p.1) both) given)
-  where
-    go : (w : Asked) → command_name w ≡ codes "replay" → GivesArguments rows w → (d : Text) × (a : Text) × (r : Text) × GivesArguments rows (replays d a r)
-    go (plans f) name given = cc
-    go (checks d c) name given = cc
-    go (judges d a) name given = cc
-    go (replays d a r) name given = (d, a, r, given)
-    go (finds d a) name given = cc
-    go (runs d) name given = cc
-    go (explains n) name given = cc
+    let gives = subst (λ (rs : List Row). GivesArguments rs wanted) (ap (λ (p : Text × List Row). p.1) both) given in
+    let is_replay : wanted ≡ asked_by (codes "replay") rows =
+    sym (asked_by-is rows wanted gives) ∙ ap (λ (name : Text). asked_by name rows) (ap (λ (p : Text × List Row). p.0) both) in
+    (file_of rows (codes "DECL"), file_of rows (codes "ASSIGN"), file_of rows (codes "RUN"), subst (GivesArguments rows) is_replay gives)

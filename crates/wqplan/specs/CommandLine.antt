@@ -2,7 +2,7 @@
 use Rattle.std.specs.Prelude.{◌≡◌, ◌==◌, Bool, not, [], ◌∷◌, List, Option, Some, None, codes, true, option_map}
 use Rattle.clap.specs.Words.{App, Row, Rule, Text, first_of, new_app, new_rule, subcommand_of, with_rule, with_subcommand}
 use Rattle.wqplan.specs.declared.command_line.Request.{Request}
-use Rattle.wqplan.specs.declared.command_line.Request.TheVariants.{Plan, Check, Deadlock, Replay, Circles, Run, Explain}
+use Rattle.wqplan.specs.declared.command_line.Request.TheVariants.{Plan, Check, Deadlock, Replay, Circles, Dot, Run, Explain}
 
 -- a positional argument that has to be given
 abbrev pub needed : Text → Rule
@@ -28,6 +28,10 @@ replay = with_rule (with_rule (with_rule (new_app (codes "replay")) (needed (cod
 abbrev pub circles : App
 circles = with_rule (with_rule (new_app (codes "circles")) (needed (codes "DECL"))) (new_rule (codes "ASSIGN"))
 
+-- `dot DECL [ASSIGN]`
+abbrev pub dot : App
+dot = with_rule (with_rule (new_app (codes "dot")) (needed (codes "DECL"))) (new_rule (codes "ASSIGN"))
+
 -- `run DECL`
 abbrev pub run : App
 run = with_rule (new_app (codes "run")) (needed (codes "DECL"))
@@ -45,8 +49,8 @@ bare =
 -- the program
 abbrev pub wqplan : App
 wqplan =
-    with_subcommand (with_subcommand (with_subcommand (with_subcommand (with_subcommand (with_subcommand (with_subcommand bare plan.top) check.top) deadlock.top) replay.top)
-    circles.top) run.top) explain.top
+    with_subcommand (with_subcommand (with_subcommand (with_subcommand (with_subcommand (with_subcommand (with_subcommand (with_subcommand bare plan.top) check.top) deadlock.top)
+    replay.top) circles.top) dot.top) run.top) explain.top
 
 -- a command and the paths of its files, or the word that it explains
 pub data Asked : Type 0 where
@@ -55,6 +59,7 @@ pub data Asked : Type 0 where
   judges : Text → Text → Asked
   replays : Text → Text → Text → Asked
   finds : Text → Option Text → Asked
+  draws : Text → Option Text → Asked
   runs : Text → Asked
   explains : Option Text → Asked
 
@@ -65,6 +70,7 @@ spelled (Check declaration certificate) = checks declaration.now certificate.now
 spelled (Deadlock declaration assignment) = judges declaration.now assignment.now
 spelled (Replay declaration assignment steps) = replays declaration.now assignment.now steps.now
 spelled (Circles declaration assignment) = finds declaration.now (option_map (λ s. s.now) assignment)
+spelled (Dot declaration assignment) = draws declaration.now (option_map (λ s. s.now) assignment)
 spelled (Run declaration) = runs declaration.now
 spelled (Explain code) = explains (option_map (λ s. s.now) code)
 
@@ -75,6 +81,7 @@ command_name (checks declaration certificate) = codes "check"
 command_name (judges declaration assignment) = codes "deadlock"
 command_name (replays declaration assignment steps) = codes "replay"
 command_name (finds declaration assignment) = codes "circles"
+command_name (draws declaration assignment) = codes "dot"
 command_name (runs declaration) = codes "run"
 command_name (explains code) = codes "explain"
 
@@ -86,6 +93,7 @@ GivesArguments rows (judges declaration assignment) = (first_of (codes "DECL") r
 GivesArguments rows (replays declaration assignment steps) =
     (first_of (codes "DECL") rows ≡ Some declaration) × (first_of (codes "ASSIGN") rows ≡ Some assignment) × (first_of (codes "RUN") rows ≡ Some steps)
 GivesArguments rows (finds declaration assignment) = (first_of (codes "DECL") rows ≡ Some declaration) × (first_of (codes "ASSIGN") rows ≡ assignment)
+GivesArguments rows (draws declaration assignment) = (first_of (codes "DECL") rows ≡ Some declaration) × (first_of (codes "ASSIGN") rows ≡ assignment)
 GivesArguments rows (runs declaration) = first_of (codes "DECL") rows ≡ Some declaration
 GivesArguments rows (explains code) = first_of (codes "CODE") rows ≡ code
 
@@ -114,6 +122,9 @@ Calls words (replays declaration assignment steps) = (program : Text) × (words 
     × (is_no_option declaration ≡ true) × (is_no_option assignment ≡ true) × (is_no_option steps ≡ true)
 Calls words (finds declaration None) = (program : Text) × (words ≡ program ∷ codes "circles" ∷ declaration ∷ []) × (is_no_option declaration ≡ true)
 Calls words (finds declaration (Some assignment)) = (program : Text) × (words ≡ program ∷ codes "circles" ∷ declaration ∷ assignment ∷ [])
+    × (is_no_option declaration ≡ true) × (is_no_option assignment ≡ true)
+Calls words (draws declaration None) = (program : Text) × (words ≡ program ∷ codes "dot" ∷ declaration ∷ []) × (is_no_option declaration ≡ true)
+Calls words (draws declaration (Some assignment)) = (program : Text) × (words ≡ program ∷ codes "dot" ∷ declaration ∷ assignment ∷ [])
     × (is_no_option declaration ≡ true) × (is_no_option assignment ≡ true)
 Calls words (runs declaration) = (program : Text) × (words ≡ program ∷ codes "run" ∷ declaration ∷ []) × (is_no_option declaration ≡ true)
 Calls words (explains None) = (program : Text) × (words ≡ program ∷ codes "explain" ∷ [])

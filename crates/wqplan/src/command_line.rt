@@ -5,7 +5,7 @@
 ghost use Rattle.std.specs.Prelude.{◌≡◌, ℕ, List, Option, Some, codes, false, IfOk, IfSome, IsSome, MatchResult, map};
 ghost use Rattle.clap.specs.Words.{app_of, found_of, kind_of, rows_of, rule_of, subcommand_rows_of};
 ghost use Rattle.clap.specs.declared.error.kind.ErrorKind.TheVariants.{OutOfMemory};
-ghost use Rattle.wqplan.specs.CommandLine.{bare, check, circles, deadlock, explain, needed, plan, replay, run, spelled, wqplan, Asked, Asks, AsksFor, Calls, GivesArguments, checks, finds, judges, replays, runs};
+ghost use Rattle.wqplan.specs.CommandLine.{bare, check, circles, deadlock, dot, explain, needed, plan, replay, run, spelled, wqplan, Asked, Asks, AsksFor, Calls, GivesArguments, checks, draws, finds, judges, replays, runs};
 
 use crate::help;
 use clap::error::ErrorKind;
@@ -41,6 +41,11 @@ pub(crate) enum Request<'a> {
     /// The flushes that lie on a circle under the assignment in the second file, or where each group has a workqueue of its own,
     /// of the declaration in the first.
     Circles {
+        declaration: &'a str,
+        assignment: Option<&'a str>,
+    },
+    /// A drawing of the declaration in the first file, on the workqueues of the assignment in the second or of its plan.
+    Dot {
         declaration: &'a str,
         assignment: Option<&'a str>,
     },
@@ -133,6 +138,19 @@ fn circles<'a>(alloc: Global) -> Result<Command<'a>, AllocError>
         .arg(assignment)
 }
 
+/// The command `dot`.
+fn dot<'a>(alloc: Global) -> Result<Command<'a>, AllocError>
+    ensures { IfOk result (λ command. app_of command ≡ dot) }
+{
+    let declaration = file(alloc, "DECL", help::DECL);
+    let assignment = Arg::new(alloc, "ASSIGN").help(help::DRAWN_ASSIGN);
+    Command::new(alloc, "dot")
+        .about(help::DOT)
+        .after_help(help::STATUSES)
+        .arg(declaration)?
+        .arg(assignment)
+}
+
 /// The command `run`.
 fn run<'a>(alloc: Global) -> Result<Command<'a>, AllocError>
     ensures { IfOk result (λ command. app_of command ≡ run) }
@@ -176,6 +194,7 @@ fn program<'a>(alloc: Global) -> Result<Command<'a>, AllocError>
         .subcommand(deadlock(alloc)?)?
         .subcommand(replay(alloc)?)?
         .subcommand(circles(alloc)?)?
+        .subcommand(dot(alloc)?)?
         .subcommand(run(alloc)?)?
         .subcommand(explain(alloc)?)
 }
@@ -234,6 +253,19 @@ fn circles_request<'a>(given: &ArgMatches<'a>) -> Option<Request<'a>>
     })
 }
 
+/// What `dot` is asked for. Its first file is there in all matches that a parse gives.
+fn dot_request<'a>(given: &ArgMatches<'a>) -> Option<Request<'a>>
+    ensures asked { IfSome result (λ request. AsksFor (Some (codes "dot", rows_of (found_of given.now))) (spelled request)) }
+    ensures all { (declaration : List ℕ) (assignment : Option (List ℕ)) → GivesArguments (rows_of (found_of given.now)) (draws declaration assignment) → IsSome result }
+{
+    let declaration = given.get_str("DECL")?;
+    let assignment = given.get_str("ASSIGN");
+    Some(Request::Dot {
+        declaration,
+        assignment,
+    })
+}
+
 /// What `run` is asked for. Its file is there in all matches that a parse gives.
 fn run_request<'a>(given: &ArgMatches<'a>) -> Option<Request<'a>>
     ensures asked { IfSome result (λ request. AsksFor (Some (codes "run", rows_of (found_of given.now))) (spelled request)) }
@@ -264,6 +296,9 @@ fn entered<'a>(matches: &ArgMatches<'a>) -> Option<Request<'a>>
     }
     if let Some(given) = matches.subcommand_matches("circles") {
         return circles_request(given);
+    }
+    if let Some(given) = matches.subcommand_matches("dot") {
+        return dot_request(given);
     }
     if let Some(given) = matches.subcommand_matches("run") {
         return run_request(given);

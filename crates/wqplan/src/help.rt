@@ -23,6 +23,9 @@ pub(crate) const REPLAY: &str = "Reads a declaration, an assignment and a run, p
 /// What `circles` reads and prints.
 pub(crate) const CIRCLES: &str = "Reads a declaration, prints all flushes on circles, or `safe`";
 
+/// What `dot` reads and prints.
+pub(crate) const DOT: &str = "Reads a declaration, prints a drawing of it for Graphviz";
+
 /// What `run` reads, does and prints.
 pub(crate) const RUN: &str = "Reads a declaration, runs its plan in threads, prints what happened";
 
@@ -46,6 +49,10 @@ pub(crate) const ASSIGN: &str = "Which item is on which workqueue: `wq` lines al
 pub(crate) const ANY_ASSIGN: &str =
     "As for `deadlock`. Without it each group has its own workqueue";
 
+/// What ASSIGN is of a command that draws the plan without it.
+pub(crate) const DRAWN_ASSIGN: &str =
+    "As for `deadlock`. Without it the plan's workqueues are drawn";
+
 /// What RUN is.
 pub(crate) const STEPS: &str = "The steps of a run";
 
@@ -58,9 +65,9 @@ pub(crate) const STATUSES: &str = "\
 Each command prints one answer to standard output, or `refused CODE line N`.
 
 Exit status:
-  0  the answer is a plan, `yes ..`, `safe`, `open`, the counts of a plan that
-     was run, an explanation, or the titles of all of them; or help or the
-     version was printed
+  0  the answer is a plan, `yes ..`, `safe`, `open`, a drawing, the counts of a
+     plan that was run, an explanation, or the titles of all of them; or help or
+     the version was printed
   1  the answer is a circle, where items wait for one another and there is no
      plan; or it is `no ..`, a run that deadlocks, `components N`, `deadlock`,
      `stuck` or `not lawful N`

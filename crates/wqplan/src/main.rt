@@ -1,5 +1,5 @@
-//! `wqplan`: the commands of `wq_commands`, `wq_circles`, `wq_run` and `wq_explain`, over the files, the standard streams and
-//! the threads of a process.
+//! `wqplan`: the commands of `wq_commands`, `wq_circles`, `wq_dot`, `wq_run` and `wq_explain`, over the files, the standard
+//! streams and the threads of a process.
 //!
 //! What this crate adds is the command line, the files and the exit status; what is read and what is answered stand
 //! in those crates. The formats and the statuses are those of docs/FORMAT.md. The status is returned from `main` as
@@ -16,6 +16,7 @@ mod circles;
 mod command_line;
 mod deadlock;
 mod diagnosis;
+mod dot;
 mod ending;
 mod explain;
 mod files;
@@ -59,6 +60,10 @@ fn perform<R: Files + Input + Print + Eprint + AllocGlobal + Threads + Wait + Sy
             declaration,
             assignment,
         } => circles::circles(rt, declaration, assignment)?,
+        Request::Dot {
+            declaration,
+            assignment,
+        } => dot::dot(rt, declaration, assignment)?,
         Request::Run { declaration } => run::run(rt, declaration)?,
         Request::Explain { code } => explain::explain(rt, code)?,
     };

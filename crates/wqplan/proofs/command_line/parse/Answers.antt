@@ -12,6 +12,15 @@ returns-in_err-matches-clause-called g c = λ wanted is.
     let taken : takes (app_of c.in_ok-command.command) words ≡ true = ap (λ a. takes a words) app_is ∙ takes_Calls words wanted is in
     failed_with c.from_residual-in_err-matches.result c.in_err-matches.field-0.0 (λ request. spelled request ≡ wanted) (λ e. kind_of e ≡ OutOfMemory) c.from_residual-in_err-matches.ensures.1 (c.in_err-matches.ensures.passes taken)
 
+pub returns-in-Some-clause-asked : goal.returns-in-Some-clause-asked
+returns-in-Some-clause-asked g c =
+    let words = map g.S.AsStr.text c.args.words.now in
+    let matches = c.in_ok-matches.matches in
+    let app_is : app_of c.in_ok-command.command ≡ wqplan = c.in_ok-command.ensures in
+    let entered_is : subcommand_rows_of matches ≡ subcommand_of wqplan words =
+    (c.in_ok-matches.ensures.ok.2 (ap is_simple app_is ∙ wqplan_is_simple)).1 ∙ ap (λ (a : App). subcommand_of a words) app_is in
+    subst (λ met. AsksFor met (spelled c.in-Some.request)) entered_is c.in-Some.ensures.asked
+
 pub returns-in-Some-clause-called : goal.returns-in-Some-clause-called
 returns-in-Some-clause-called g c = λ wanted is.
     let words = map g.S.AsStr.text c.args.words.now in

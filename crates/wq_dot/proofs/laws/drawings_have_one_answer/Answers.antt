@@ -1,0 +1,14 @@
+use Rattle.wq_dot.proofs.OneDrawing.{Draws-unique, OwnDraws-unique}
+use Rattle.wq_dot.proofs.laws.drawings_have_one_answer.Goals as goal
+
+pub returns-clause-end : goal.returns-clause-end
+returns-clause-end c = λ declared text end other out printed one two. (Draws-unique declared text end other out printed one two).0
+
+pub returns-clause-out : goal.returns-clause-out
+returns-clause-out c = λ declared text end other out printed one two. (Draws-unique declared text end other out printed one two).1
+
+pub returns-clause-own_end : goal.returns-clause-own_end
+returns-clause-own_end c = λ declared end other out printed one two. (OwnDraws-unique declared end other out printed one two).0
+
+pub returns-clause-own_out : goal.returns-clause-own_out
+returns-clause-own_out c = λ declared end other out printed one two. (OwnDraws-unique declared end other out printed one two).1

@@ -1,0 +1,122 @@
+//! The command `dot` over one file or two and standard output.
+//!
+//! The files are opened in the order of the arguments, before either is read. Standard output has no buffer, as in
+//! `plan`.
+
+ghost use Rattle.std.specs.Prelude.{ℕ, List, IfOk, option_map};
+ghost use Rattle.wq_cert.specs.Texts.{max_certificate};
+ghost use Rattle.wq_dot.specs.Dotting.{Draws, OwnDraws};
+ghost use Rattle.wq_commands.specs.Declaration.{max_declaration};
+ghost use Rattle.wq_meter.specs.Input.{IsInput};
+ghost use Rattle.wq_meter.specs.Meter.{WritesWhole};
+ghost use Rattle.wqplan.specs.Ended.{EndsDot};
+ghost use Rattle.wqplan.specs.Kept.{IsKept};
+
+use crate::diagnosis::{say_of_assignment, say_of_declaration};
+use crate::files::{MAX_CERTIFICATE, open};
+use std::alloc::Global;
+use std::io::{self, Read, Write};
+use std::rt::Files;
+use wq_commands::{End, Fault, MAX_DECLARATION, Metered, read_text};
+use wq_diagnosis::Source;
+use wq_dot::{dot_cmd, own_dot_cmd};
+
+/// Draws the declaration in the file of the first path, on the workqueues of the assignment in that of the second, where there is
+/// one, or else on those of its plan.
+///
+/// A file that can't be opened is `Fault::Read`. Of a text that is refused standard error says what is wrong.
+pub(crate) fn dot<R: Files + Print + Eprint + AllocGlobal>(
+    rt: &R,
+    declaration: &str,
+    assignment: Option<&str>,
+) -> Result<End, Fault>
+    ensures { IfOk result (λ end. EndsDot (option_map (λ s. s.now) assignment.entry) end) }
+{
+    match assignment {
+        Some(assignment) => of_assignment(rt, declaration, assignment),
+        None => of_groups(rt, declaration),
+    }
+}
+
+/// Draws a declaration and an assignment.
+fn of_assignment<R: Files + Print + Eprint + AllocGlobal>(
+    rt: &R,
+    declaration: &str,
+    assignment: &str,
+) -> Result<End, Fault>
+    ensures { IfOk result (λ end. (text lanes out : List ℕ) × Draws text lanes end out) }
+{
+    let declared = open(rt, declaration)?;
+    let assigned = open(rt, assignment)?;
+    let mut writer = Metered::new(io::writer(rt));
+    let (end, text, lanes) = dot_input(rt.alloc(), declared, assigned, &mut writer)?;
+    if end == End::Refused {
+        say_of_assignment(
+            rt,
+            Source {
+                file: declaration,
+                text: &text,
+            },
+            Source {
+                file: assignment,
+                text: &lanes,
+            },
+        );
+    }
+    Ok(end)
+}
+
+/// Draws a declaration and its plan, or, where there is none, each group on a workqueue of its own.
+fn of_groups<R: Files + Print + Eprint + AllocGlobal>(
+    rt: &R,
+    declaration: &str,
+) -> Result<End, Fault>
+    ensures { IfOk result (λ end. (text out : List ℕ) × OwnDraws text end out) }
+{
+    let declared = open(rt, declaration)?;
+    let mut writer = Metered::new(io::writer(rt));
+    let (end, text) = own_dot_input(rt.alloc(), declared, &mut writer)?;
+    if end == End::Refused {
+        let file = declaration;
+        say_of_declaration(rt, Source { file, text: &text });
+    }
+    Ok(end)
+}
+
+/// Writes the drawing of the declaration that the first input has and the assignment that the second has. Both are handed out
+/// as far as they were read.
+fn dot_input<D: Read + Drop, A: Read + Drop, W: Write>(
+    alloc: Global,
+    declaration: D,
+    assignment: A,
+    writer: &mut Metered<W>,
+) -> Result<(End, Vec<u8>, Vec<u8>), Fault>
+    ensures { IfOk result (λ answered. (text lanes out : List ℕ) × IsInput (D.remaining declaration) text
+        × IsInput (A.remaining assignment) lanes × IsKept max_declaration text answered.1.items × IsKept max_certificate lanes answered.2.items
+        × Draws text lanes answered.0 out × WritesWhole W.contents writer.old writer.new out) }
+{
+    let mut declared = Metered::new(declaration);
+    let mut assigned = Metered::new(assignment);
+    let text = read_text(alloc, &mut declared, MAX_DECLARATION)?;
+    let lanes = read_text(alloc, &mut assigned, MAX_CERTIFICATE)?;
+    let mut kept = Metered::new(text.as_slice());
+    let mut kept_lanes = Metered::new(lanes.as_slice());
+    let end = dot_cmd(alloc, &mut kept, &mut kept_lanes, writer)?;
+    Ok((end, text, lanes))
+}
+
+/// Writes the drawing of the declaration that `input` has. The text is handed out as far as it was read.
+fn own_dot_input<I: Read + Drop, W: Write>(
+    alloc: Global,
+    input: I,
+    writer: &mut Metered<W>,
+) -> Result<(End, Vec<u8>), Fault>
+    ensures { IfOk result (λ answered. (text out : List ℕ) × IsInput (I.remaining input) text
+        × IsKept max_declaration text answered.1.items × OwnDraws text answered.0 out × WritesWhole W.contents writer.old writer.new out) }
+{
+    let mut reader = Metered::new(input);
+    let text = read_text(alloc, &mut reader, MAX_DECLARATION)?;
+    let mut kept = Metered::new(text.as_slice());
+    let end = own_dot_cmd(alloc, &mut kept, writer)?;
+    Ok((end, text))
+}
