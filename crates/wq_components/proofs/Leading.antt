@@ -58,8 +58,3 @@ module _ (R : ℕ → ℕ → Type 0) where
   pub AreTogether-lowest : (v w c d : ℕ) → c ≡ d → IsLowest R v c → IsLowest R w d → AreTogether R v w
   AreTogether-lowest v w c d same one two =
       AreTogether-trans v c w one.together (subst (λ (x : ℕ). AreTogether R x w) (sym same) (AreTogether-sym w d two.together))
-
-  -- leading on from what is together
-  pub Leads-together : (u v w : ℕ) → AreTogether R u v → Leads R v w → Leads R u w
-  Leads-together u v w (inl same) leads = subst (λ (x : ℕ). Leads R x w) (sym same) leads
-  Leads-together u v w (inr both) leads = Leads-trans u v w both.0 leads

@@ -1,5 +1,7 @@
 pub mod Leading
+pub mod Once
 pub mod Turned
 pub mod Searched
-pub mod Known
-pub mod BothWays
+pub mod Walked
+pub mod Settled
+pub mod Completed

@@ -1,24 +1,18 @@
 -- A search under way: what it has found, and what it found when it has looked at all.
-use Rattle.std.proofs.Common.{◌≡◌, ◌≢◌, ℕ, suc, ◌+◌, ◌<◌, ◌≤◌, ◌⊎◌, ◌↔◌, inl, inr, Bool, true, false, List, [], ◌∷◌, ◌++◌, length, get_or, set, replicate, slice_index, refl, sym, subst, ap, ◌∙◌, arith}
-use Rattle.std.specs.Prelude.{Contains, All, nat_lt}
-use Rattle.std.proofs.lemmas.Bool.{cases_eq, cases_lt, cond_both, cond-true, cond-false}
-use Rattle.std.proofs.lemmas.Bool.Decides.{nat_tests}
-use Rattle.std.proofs.lemmas.List.{length-append, length-set, get_or-set_same, get_or-set_other, get_or-replicate, length-replicate, get_or_append_left, get_or_push, get_or_default}
-use Rattle.std.proofs.lemmas.List.Elements.{All-append, All-nil, Contains-get_or, Contains-append_left, Contains-append_right, Contains-append_cases}
-use Rattle.wq_items.specs.Chain.{IsChain, last_of, Repeats}
+use Rattle.std.proofs.Common.{◌≡◌, ◌≢◌, ℕ, suc, ◌+◌, ◌<◌, ◌≤◌, ◌⊎◌, ◌↔◌, inl, inr, Bool, true, false, List, [], ◌∷◌, ◌++◌, length, take, get_or, set, replicate, slice_index, None, Some, refl, sym, subst, ap, ◌∙◌, arith}
+use Rattle.std.specs.Prelude.{Contains, All, slice_get}
+use Rattle.std.proofs.lemmas.Bool.{cases_eq, cases_lt, cond_both}
+use Rattle.std.proofs.lemmas.List.{length-append, length-set, length-take-le, get_or-set_same, get_or-set_other, get_or-replicate, length-replicate, get_or_append_left, get_or_default, get_or-take, ext_get_or}
+use Rattle.std.proofs.lemmas.List.Elements.{All-append, All-contains, All-nil, Contains-get_or, Contains-append_left, Contains-append_right, Contains-append_cases}
+use Rattle.std.proofs.lemmas.Option.{get_or_from_slice_get, slice_get_within, slice_get-get_or, none-some}
+use Rattle.wq_items.specs.Chain.{Repeats}
 use Rattle.wq_items.proofs.Lists.{Contains-here, Contains-later}
-use Rattle.wq_items.proofs.Pigeonhole.{repeats_from_length}
 use Rattle.wq_graph.proofs.ListLemmas.{Contains-cases}
 use Rattle.wq_components.specs.Leading.{Leads}
 use Rattle.wq_components.specs.Lists.{Next, listed_at}
-use Rattle.wq_components.specs.Searching.{Search, is_marked, with_found, with_all_found, after_look, AreLedTo}
-use Rattle.wq_components.proofs.Leading.{Leads-arc, Leads-trans, closed-chain}
-
--- marked is just what stands in the order, and there once
-pub record AreFound (s : Search) : Type 0 where
-  pub below : All (λ w. w < length s.marks) s.order
-  pub marked : (w : ℕ) → w < length s.marks → (is_marked s.marks w ≡ true) ↔ Contains s.order w
-  pub once : ¬ Repeats s.order
+use Rattle.wq_components.specs.Searching.{Search, AreFound, NextNew, Spreads, is_marked, with_found, with_all_found}
+use Rattle.wq_components.proofs.Once.{place-of, contains_or_not, at_most, once_push}
+use Rattle.wq_components.proofs.Leading.{Leads-arc, Leads-trans, Leads-closed}
 
 -- a search came from s to t by way of these vertices: what was found stays in its place, and only these came
 pub record Grows (s t : Search) (ws : List ℕ) : Type 0 where
@@ -36,10 +30,6 @@ Grows-contains s t ws grows u (k, within, is) =
     let at : slice_index t.order k ≡ slice_index s.order k = grows.keeps k within in
     let here : k < length t.order = omega (arith, longer, within) in
     (k, here, get_or_default t.order k u 0 here ∙ at ∙ get_or_default s.order k 0 u within ∙ is)
-
--- where an element stands
-pub place-of : (xs : List ℕ) (u : ℕ) → Contains xs u → (k : ℕ) × (k < length xs) × (slice_index xs k ≡ u)
-place-of xs u at = (at.0, at.1, get_or_default xs at.0 0 u at.1 ∙ at.2)
 
 -- nothing new is added by what is found already
 Grows-none : (s : Search) (w : ℕ) → AreFound s → Contains s.order w → Grows s s (w ∷ [])
@@ -95,16 +85,7 @@ Grows-new s w found within unmarked = record {
     )
 
   once : ¬ Repeats (s.order ++ (w ∷ []))
-  once (i, j, less, upto, same) = go (cases_lt j (length s.order)) where
-    i_is : slice_index (s.order ++ (w ∷ [])) i ≡ slice_index s.order i
-    i_is = get_or_append_left s.order (w ∷ []) 0 i (omega (arith, less, upto, length-append s.order (w ∷ [])))
-
-    go : ((j < length s.order) ⊎ (length s.order ≤ j)) → ⊥
-    go (inl before) = found.once (i, j, less, before, sym i_is ∙ same ∙ get_or_append_left s.order (w ∷ []) 0 j before)
-    go (inr last) =
-        let at : j ≡ length s.order = omega (arith, last, upto, length-append s.order (w ∷ [])) in
-        let is : slice_index (s.order ++ (w ∷ [])) j ≡ w = get_or_push s.order w 0 j (sym at) in
-        new_is (subst (Contains s.order) (sym i_is ∙ same ∙ is) (Contains-get_or s.order i 0 (omega (arith, less, at))))
+  once = once_push s.order w found.once new_is
 
 pub Grows-one : (s : Search) (w : ℕ) → AreFound s → w < length s.marks → Grows s (with_found s w) (w ∷ [])
 Grows-one s w found within =
@@ -155,16 +136,8 @@ pub marks-with_all_found : (ws : List ℕ) (s : Search) → length (with_all_fou
 marks-with_all_found [] s = refl
 marks-with_all_found (w ∷ ws) s = marks-with_all_found ws (with_found s w) ∙ marks-with_found s w
 
--- a search from v has looked at the first i places: it leads to all that it found, and what the lists of those hold is found
-pub record IsSearched (lists : List (List ℕ)) (v : ℕ) (s : Search) (i : ℕ) : Type 0 where
-  pub count : length s.marks ≡ length lists
-  pub found : AreFound s
-  pub led : (u : ℕ) → Contains s.order u → Leads (Next lists) v u
-  pub first : (u : ℕ) → Next lists v u → Contains s.order u
-  pub onward : (j u : ℕ) → j < i → j < length s.order → Next lists (slice_index s.order j) u → Contains s.order u
-
 -- nothing is found of unmarked vertices
-AreFound-none : (s : Search) (n : ℕ) → s.marks ≡ replicate n false → s.order ≡ [] → AreFound s
+pub AreFound-none : (s : Search) (n : ℕ) → s.marks ≡ replicate n false → s.order ≡ [] → AreFound s
 AreFound-none s n unmarked empty = record {
   below = subst (All (λ w. w < length s.marks)) (sym empty) (All-nil (λ w. w < length s.marks));
   marked = λ w lt. (
@@ -174,90 +147,151 @@ AreFound-none s n unmarked empty = record {
   once = λ (i, j, less, upto, same). (let none : length s.order ≡ 0 = ap length empty in absurd (omega (arith, none, upto)));
 }
 
-pub IsSearched-first : (lists : List (List ℕ)) (v : ℕ) (s : Search) → s.marks ≡ replicate (length lists) false → s.order ≡ []
-    → All (λ w. w < length lists) (listed_at lists v) → IsSearched lists v (with_all_found s (listed_at lists v)) 0
-IsSearched-first lists v s unmarked empty within =
-    let long : length s.marks ≡ length lists = ap length unmarked ∙ length-replicate (length lists) false in
-    let grows : Grows s (with_all_found s (listed_at lists v)) (listed_at lists v) =
-    Grows-all (listed_at lists v) s (AreFound-none s (length lists) unmarked empty) (subst (λ (n : ℕ). All (λ w. w < n) (listed_at lists v)) (sym long) within) in
+-- no more are found than there are marks
+AreFound-few : (s : Search) → AreFound s → length s.order ≤ length s.marks
+AreFound-few s found = at_most (length s.marks) s.order found.below found.once
+
+-- what isn't marked isn't found
+pub AreFound-new : (s : Search) (v : ℕ) → AreFound s → is_marked s.marks v ≡ false → ¬ Contains s.order v
+AreFound-new s v found unmarked has =
+    let within : v < length s.marks = All-contains (λ w. w < length s.marks) s.order v found.below has in
+    let holds : is_marked s.marks v ≡ true = (found.marked v within).1 has in
+    absurd (cc)
+
+-- ---- a search goes on
+
+-- the search s goes on from v, and came to t; the places from that of v on and before i were looked at
+pub record IsSpreading (lists : List (List ℕ)) (s : Search) (v : ℕ) (t : Search) (i : ℕ) : Type 0 where
+  pub marks : length t.marks ≡ length s.marks
+  pub found : AreFound t
+  pub longer : length s.order ≤ length t.order
+  pub keeps : (j : ℕ) → j < length s.order → slice_index t.order j ≡ slice_index s.order j
+  pub from : Contains t.order v
+  pub led : (w : ℕ) → Contains t.order w → Contains s.order w ⊎ ((w ≡ v) ⊎ Leads (NextNew lists s) v w)
+  pub onward : (j w : ℕ) → length s.order ≤ j → j < i → j < length t.order → Next lists (slice_index t.order j) w → Contains t.order w
+
+-- what was found before is found at its place
+Contains-kept : (s t : Search) → length s.order ≤ length t.order → ((j : ℕ) → j < length s.order → slice_index t.order j ≡ slice_index s.order j)
+    → (u : ℕ) → Contains s.order u → Contains t.order u
+Contains-kept s t longer keeps u has =
+    let place = place-of s.order u has in
+    subst (Contains t.order) (keeps place.0 place.1 ∙ place.2) (Contains-get_or t.order place.0 0 (omega (arith, longer, place.1)))
+
+pub IsSpreading-first : (lists : List (List ℕ)) (s : Search) (v : ℕ) → AreFound s → v < length s.marks → IsSpreading lists s v (with_found s v) (length s.order)
+IsSpreading-first lists s v found within =
+    let grows : Grows s (with_found s v) (v ∷ []) = Grows-one s v found within in
     record {
-      count = grows.marks ∙ long;
+      marks = grows.marks;
       found = grows.found;
-      led = λ u has. elim (grows.only u has) [
-        | inl before ↦ (let none : length s.order ≡ 0 = ap length empty in absurd (omega (arith, none, before.1)))
-        | inr listed ↦ Leads-arc (Next lists) v u listed
+      longer = grows.longer;
+      keeps = grows.keeps;
+      from = grows.all v (Contains-here v []);
+      led = λ w has. elim (grows.only w has) [
+        | inl before ↦ inl before
+        | inr here ↦ elim (Contains-cases v [] w here) [ inl is ↦ inr (inl (sym is)) | inr none ↦ absurd (omega (arith, none.1)) ]
       ];
-      first = grows.all;
-      onward = λ j u lt within next. absurd (omega (arith, lt));
+      onward = λ j w le lt. absurd (omega (arith, le, lt));
     }
 
--- the next place is looked at
-pub IsSearched-more : (lists : List (List ℕ)) (v : ℕ) (s : Search) (i : ℕ) → IsSearched lists v s i
-    → ((u : ℕ) → All (λ w. w < length lists) (listed_at lists u)) → IsSearched lists v (after_look s lists i) (i + 1)
-IsSearched-more lists v s i is within = go (cases_lt i (length s.order)) where
-  u : ℕ
-  u = slice_index s.order i
+-- what is looked at was found
+pub IsSpreading-at : (lists : List (List ℕ)) (s : Search) (v : ℕ) (t : Search) (i u : ℕ) → IsSpreading lists s v t i → slice_get t.order i ≡ Some u → (u < length s.marks) × (i < length s.marks)
+IsSpreading-at lists s v t i u is here =
+    let inside : i < length t.order = slice_get_within t.order i u here in
+    let marks = is.marks in
+    let below : u < length t.marks =
+    subst (λ (x : ℕ). x < length t.marks) (get_or_from_slice_get t.order i u 0 here) (is.found.below i 0 inside) in
+    (omega (arith, below, marks), omega (arith, inside, marks, AreFound-few t is.found))
 
-  go : ((i < length s.order) ⊎ (length s.order ≤ i)) → IsSearched lists v (after_look s lists i) (i + 1)
-  go (inl some) =
-      let looked : after_look s lists i ≡ with_all_found s (listed_at lists u) = cond-true (nat_lt i (length s.order)) (with_all_found s (listed_at lists u)) s (grind (arith, nat_tests)) in
-      let count = is.count in
-      let t : Search = with_all_found s (listed_at lists u) in
-      let grows : Grows s t (listed_at lists u) = Grows-all (listed_at lists u) s is.found (subst (λ (n : ℕ). All (λ w. w < n) (listed_at lists u)) (sym count) (within u)) in
-      let next : IsSearched lists v t (i + 1) = record {
-        count = grows.marks ∙ count;
-        found = grows.found;
-        led = λ w has. elim (grows.only w has) [
-          | inl before ↦ is.led w before
-          | inr listed ↦ Leads-trans (Next lists) v u w (is.led u (Contains-get_or s.order i 0 some)) (Leads-arc (Next lists) u w listed)
-        ];
-        first = λ w listed. Grows-contains s t (listed_at lists u) grows w (is.first w listed);
-        onward = λ j w lt here listed. on t grows j w some lt listed (cases_eq j i);
-      } in
-      subst (λ (x : Search). IsSearched lists v x (i + 1)) (sym looked) next
-    where
-      on : (t : Search) → Grows s t (listed_at lists u) → (j w : ℕ) → i < length s.order → j < i + 1 → Next lists (slice_index t.order j) w → ((j ≡ i) ⊎ (j ≢ i)) → Contains t.order w
-      on t grows j w some lt listed (inl own) =
-          let at : slice_index t.order j ≡ u = ap (slice_index t.order) own ∙ grows.keeps i some in
-          grows.all w (subst (λ (x : ℕ). Next lists x w) at listed)
-      on t grows j w some lt listed (inr other) =
-          let less : j < i = omega (arith, lt, other) in
-          let old : j < length s.order = omega (arith, less, some) in
-          Grows-contains s t (listed_at lists u) grows w (is.onward j w less old (subst (λ (x : ℕ). Next lists x w) (grows.keeps j old) listed))
-  go (inr none) =
-      let looked : after_look s lists i ≡ s = cond-false (nat_lt i (length s.order)) (with_all_found s (listed_at lists u)) s (grind (arith, nat_tests)) in
-      let next : IsSearched lists v s (i + 1) = record {
-        count = is.count;
-        found = is.found;
-        led = is.led;
-        first = is.first;
-        onward = λ j w lt here listed. is.onward j w (omega (arith, here, none)) here listed;
-      } in
-      subst (λ (x : Search). IsSearched lists v x (i + 1)) (sym looked) next
+-- one place more is looked at
+pub IsSpreading-more : (lists : List (List ℕ)) (s : Search) (v : ℕ) (t : Search) (i u : ℕ) → IsSpreading lists s v t i → length s.order ≤ i → slice_get t.order i ≡ Some u
+    → All (λ w. w < length s.marks) (listed_at lists u) → IsSpreading lists s v (with_all_found t (listed_at lists u)) (i + 1)
+IsSpreading-more lists s v t i u is from here within = record {
+  marks = grows.marks ∙ is.marks;
+  found = grows.found;
+  longer = longer;
+  keeps = λ j lt. grows.keeps j (in_t j lt) ∙ is.keeps j lt;
+  from = Grows-contains t next (listed_at lists u) grows v is.from;
+  led = λ w has. led w (new w) (grows.only w has);
+  onward = λ j w le lt in_next listed. onward j w le lt listed (cases_eq j i);
+} where
+  next : Search
+  next = with_all_found t (listed_at lists u)
 
--- all places are looked at: no more was found than there are vertices
-pub AreLedTo-searched : (lists : List (List ℕ)) (v : ℕ) (s : Search) → IsSearched lists v s (length lists) → AreLedTo lists v s.marks
-AreLedTo-searched lists v s is = record { one_each = is.count; led_to = λ w lt. (led w lt, marked w lt) } where
-  few : length s.order ≤ length lists
-  few = elim (cases_lt (length lists) (length s.order)) [
-    | inl long ↦ absurd (is.found.once (repeats_from_length (length lists) s.order (subst (λ (n : ℕ). All (λ w. w < n) s.order) is.count is.found.below) long))
+  inside : i < length t.order
+  inside = slice_get_within t.order i u here
+
+  at_i : slice_index t.order i ≡ u
+  at_i = get_or_from_slice_get t.order i u 0 here
+
+  in_t : (j : ℕ) → j < length s.order → j < length t.order
+  in_t j lt = let longer = is.longer in omega (arith, longer, lt)
+
+  grows : Grows t next (listed_at lists u)
+  grows = Grows-all (listed_at lists u) t is.found (subst (λ (n : ℕ). All (λ w. w < n) (listed_at lists u)) (sym is.marks) within)
+
+  longer : length s.order ≤ length next.order
+  longer = let one = is.longer in let two = grows.longer in omega (arith, one, two)
+
+  u_is : (u ≡ v) ⊎ Leads (NextNew lists s) v u
+  u_is = elim (is.led u (subst (Contains t.order) at_i (Contains-get_or t.order i 0 inside))) [
+    | inl before ↦
+        let place = place-of s.order u before in
+        absurd (is.found.once (place.0, i, omega (arith, place.1, from), inside, is.keeps place.0 place.1 ∙ place.2 ∙ sym at_i))
+    | inr new ↦ new
+  ]
+
+  new : (w : ℕ) → Contains s.order w ⊎ (¬ Contains s.order w)
+  new w = contains_or_not s.order w
+
+  led : (w : ℕ) → (Contains s.order w ⊎ (¬ Contains s.order w)) → (Contains t.order w ⊎ Contains (listed_at lists u) w) → Contains s.order w ⊎ ((w ≡ v) ⊎ Leads (NextNew lists s) v w)
+  led w either (inl before) = is.led w before
+  led w (inl old) (inr listed) = inl old
+  led w (inr new_w) (inr listed) = inr (inr (elim u_is [
+    | inl own ↦ Leads-arc (NextNew lists s) v w (subst (λ (x : ℕ). Next lists x w) own listed, new_w)
+    | inr leads ↦ Leads-trans (NextNew lists s) v u w leads (Leads-arc (NextNew lists s) u w (listed, new_w))
+  ]))
+
+  onward : (j w : ℕ) → length s.order ≤ j → j < i + 1 → Next lists (slice_index next.order j) w → ((j ≡ i) ⊎ (j ≢ i)) → Contains next.order w
+  onward j w le lt listed (inl own) =
+      let at : slice_index next.order j ≡ u = ap (slice_index next.order) own ∙ grows.keeps i inside ∙ at_i in
+      grows.all w (subst (λ (x : ℕ). Next lists x w) at listed)
+  onward j w le lt listed (inr other) =
+      let less : j < i = omega (arith, lt, other) in
+      let old : j < length t.order = omega (arith, less, inside) in
+      Grows-contains t next (listed_at lists u) grows w (is.onward j w le less old (subst (λ (x : ℕ). Next lists x w) (grows.keeps j old) listed))
+
+-- all places are looked at
+pub Spreads-all : (lists : List (List ℕ)) (s : Search) (v : ℕ) (t : Search) (i : ℕ) → IsSpreading lists s v t i → ¬ Contains s.order v → slice_get t.order i ≡ None → Spreads lists s v t
+Spreads-all lists s v t i is new end = record {
+  marks = is.marks;
+  found = is.found;
+  keeps = ext_get_or 0 (take (length s.order) t.order) s.order taken (λ j lt. (
+      let within : j < length s.order = omega (arith, lt, taken) in
+      get_or-take (length s.order) t.order j 0 within ∙ is.keeps j within));
+  reached = λ w. (is.led w, back w);
+} where
+  taken : length (take (length s.order) t.order) ≡ length s.order
+  taken = length-take-le (length s.order) t.order is.longer
+
+  all : length t.order ≤ i
+  all = elim (cases_lt i (length t.order)) [
+    | inl lt ↦ absurd (none-some (slice_index t.order i) (sym end ∙ slice_get-get_or t.order i 0 lt))
     | inr le ↦ le
   ]
 
-  in_marks : (w : ℕ) → w < length lists → w < length s.marks
-  in_marks w lt = let count = is.count in omega (arith, count, lt)
+  IsNew : ℕ → Type 0
+  IsNew x = Contains t.order x × (¬ Contains s.order x)
 
-  led : (w : ℕ) → w < length lists → is_marked s.marks w ≡ true → Leads (Next lists) v w
-  led w lt holds = is.led w ((is.found.marked w (in_marks w lt)).0 holds)
+  on : (x y : ℕ) → IsNew x → NextNew lists s x y → IsNew y
+  on x y is_new next =
+      let place = place-of t.order x is_new.0 in
+      let later : length s.order ≤ place.0 = elim (cases_lt place.0 (length s.order)) [
+        | inl lt ↦ absurd (is_new.1 (subst (Contains s.order) (sym (is.keeps place.0 lt) ∙ place.2) (Contains-get_or s.order place.0 0 lt)))
+        | inr le ↦ le
+      ] in
+      (is.onward place.0 y later (omega (arith, place.1, all)) place.1 (subst (λ (z : ℕ). Next lists z y) (sym place.2) next.0), next.1)
 
-  on : (x y : ℕ) → Contains s.order x → Next lists x y → Contains s.order y
-  on x y at next =
-      let place = place-of s.order x at in
-      is.onward place.0 y (omega (arith, place.1, few)) place.1 (subst (λ (z : ℕ). Next lists z y) (sym place.2) next)
-
-  ends : (w : ℕ) (others : List ℕ) → others ≢ [] → IsChain (Next lists) (v ∷ others) → last_of v others ≡ w → Contains s.order w
-  ends w [] some chain last = absurd (some refl)
-  ends w (x ∷ xs) some chain last = subst (Contains s.order) last (closed-chain (Next lists) (Contains s.order) on x xs chain.1 (is.first x chain.0))
-
-  marked : (w : ℕ) → w < length lists → Leads (Next lists) v w → is_marked s.marks w ≡ true
-  marked w lt leads = (is.found.marked w (in_marks w lt)).1 (ends w leads.others leads.some leads.chain leads.ends)
+  back : (w : ℕ) → (Contains s.order w ⊎ ((w ≡ v) ⊎ Leads (NextNew lists s) v w)) → Contains t.order w
+  back w (inl before) = Contains-kept s t is.longer is.keeps w before
+  back w (inr (inl own)) = subst (Contains t.order) (sym own) is.from
+  back w (inr (inr leads)) = (Leads-closed (NextNew lists s) IsNew on v w leads (is.from, new)).0

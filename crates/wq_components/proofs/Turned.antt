@@ -80,6 +80,20 @@ shown-below {A = A} (l ∷ lists) n within v = elim (cases_lt v (length (l ∷ l
       subst (All (λ w. w < n)) (sym (past_end (map items (l ∷ lists)) v [] (omega (arith, past, length-map (l ∷ lists) items)))) (λ k d lt. absurd (omega (arith, lt)))
 ]
 
+-- where the lists hold vertices
+pub listed_at-below : {A : Type 0} (lists : List (Vec ℕ A)) → All (λ (l : Vec ℕ A). All (λ w. w < length lists) l.items) lists
+    → (v : ℕ) → All (λ w. w < length (map (λ (l : Vec ℕ A). l.items) lists)) (listed_at (map (λ (l : Vec ℕ A). l.items) lists) v)
+listed_at-below {A = A} lists within v =
+    let items : Vec ℕ A → List ℕ = λ (l : Vec ℕ A). l.items in
+    subst (λ (n : ℕ). All (λ w. w < n) (listed_at (map items lists) v)) (sym (length-map lists items)) (shown-below lists (length lists) within v)
+
+-- what is read at a place is the list of its vertex
+pub listed_at-read : {A : Type 0} (lists : List (Vec ℕ A)) (v n : ℕ) (read : Vec ℕ A) → n ≡ v → read ≡ get_or lists n read → v < length lists
+    → read.items ≡ listed_at (map (λ (l : Vec ℕ A). l.items) lists) v
+listed_at-read {A = A} lists v n read same is inside =
+    let items : Vec ℕ A → List ℕ = λ (l : Vec ℕ A). l.items in
+    ap items (is ∙ ap (λ (k : ℕ). get_or lists k read) same) ∙ sym (get_or-map items lists v read [] inside)
+
 -- ---- arcs turned round
 
 -- where each arc of R is one of S, what leads by R leads by S

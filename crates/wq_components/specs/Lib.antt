@@ -3,3 +3,4 @@ pub use Rattle.wq_graph.specs.Graph
 pub mod Leading
 pub mod Lists
 pub mod Searching
+pub mod Finishing

@@ -10,6 +10,10 @@ listed_at lists v = slice_index_or lists v []
 abbrev pub Next : List (List ℕ) → ℕ → ℕ → Type 0
 Next lists v w = Contains (listed_at lists v) w
 
+-- the same of lists that are turned round: vertex v is in the list of vertex w
+abbrev pub NextBack : List (List ℕ) → ℕ → ℕ → Type 0
+NextBack lists v w = Next lists w v
+
 -- of each vertex in turn the heads of its arcs
 abbrev pub heads_of : List (List WaitArc) → List (List ℕ)
 heads_of graph = map (λ arcs. map (λ (a : WaitArc). a.head) arcs) graph

@@ -1,7 +1,9 @@
--- Searching: which vertices a search from one of them finds, and what is said of those that it finds both ways.
-use Rattle.std.specs.Prelude.{◌≡◌, ◌↔◌, ℕ, ◌<◌, ◌==◌, ◌||◌, ◌&&◌, Bool, true, false, cond, nat_lt, List, [], ◌∷◌, ◌++◌, length, fold, slice_index, slice_index_or, slice_set}
+-- Searching: what a search from vertex to vertex finds, where others were found before.
+use Rattle.std.specs.Prelude.{◌≡◌, ◌⊎◌, ◌↔◌, ℕ, ◌<◌, ◌≤◌, Bool, true, false, cond, List, [], ◌∷◌, ◌++◌, length, fold, take, slice_index_or, slice_set, Contains}
+use Rattle.std.specs.List.{All}
+use Rattle.wq_items.specs.Chain.{Repeats}
 use Rattle.wq_components.specs.Leading.{Leads}
-use Rattle.wq_components.specs.Lists.{Next, listed_at}
+use Rattle.wq_components.specs.Lists.{Next}
 
 -- the mark of vertex w
 abbrev pub is_marked : List Bool → ℕ → Bool
@@ -20,20 +22,30 @@ with_found s w = cond (is_marked s.marks w) s (record { marks = slice_set s.mark
 abbrev pub with_all_found : Search → List ℕ → Search
 with_all_found s ws = fold with_found s ws
 
--- the search after it looked at the list of what it found at this place, if there is anything
-abbrev pub after_look : Search → List (List ℕ) → ℕ → Search
-after_look s lists place = cond (nat_lt place (length s.order)) (with_all_found s (listed_at lists (slice_index s.order place))) s
+-- marked is just what stands in the order, and there once
+pub record AreFound (s : Search) : Type 0 where
+  pub below : All (λ w. w < length s.marks) s.order
+  pub marked : (w : ℕ) → w < length s.marks → (is_marked s.marks w ≡ true) ↔ Contains s.order w
+  pub once : ¬ Repeats s.order
 
--- marked are just the vertices that v leads to, from list to list
-pub record AreLedTo (lists : List (List ℕ)) (v : ℕ) (marks : List Bool) : Type 0 where
-  pub one_each : length marks ≡ length lists
-  pub led_to : (w : ℕ) → w < length lists → (is_marked marks w ≡ true) ↔ Leads (Next lists) v w
+-- vertex w is in the list of vertex v, and wasn't found
+abbrev pub NextNew : List (List ℕ) → Search → ℕ → ℕ → Type 0
+NextNew lists s v w = Next lists v w × (¬ Contains s.order w)
 
--- w is v, or marked both ways
-abbrev pub is_both : ℕ → List Bool → List Bool → ℕ → Bool
-is_both v led_to leading w = (w == v) || (is_marked led_to w && is_marked leading w)
+-- the search s went on to t: found are, after what was found before, v and what it leads to over vertices that weren't found
+pub record Spreads (lists : List (List ℕ)) (s : Search) (v : ℕ) (t : Search) : Type 0 where
+  pub marks : length t.marks ≡ length s.marks
+  pub found : AreFound t
+  pub keeps : take (length s.order) t.order ≡ s.order
+  pub reached : (w : ℕ) → Contains t.order w ↔ (Contains s.order w ⊎ ((w ≡ v) ⊎ Leads (NextNew lists s) v w))
 
--- v is the answer for each vertex that is v or marked both ways; the others keep theirs
-pub record AreSettled (v : ℕ) (led_to leading : List Bool) (old new : List ℕ) : Type 0 where
+-- c is the lowest of these vertices
+pub record IsLeastOf (vertices : List ℕ) (c : ℕ) : Type 0 where
+  pub one : Contains vertices c
+  pub least : All (λ v. c ≤ v) vertices
+
+-- the lowest of these vertices is the answer for each of them; the others keep theirs
+pub record AreSettled (vertices old new : List ℕ) : Type 0 where
   pub one_each : length new ≡ length old
-  pub settled : (w : ℕ) → w < length old → slice_index new w ≡ cond (is_both v led_to leading w) v (slice_index old w)
+  pub settled : (v : ℕ) → Contains vertices v → IsLeastOf vertices (slice_index_or new v 0)
+  pub others : (v : ℕ) → (¬ Contains vertices v) → slice_index_or new v 0 ≡ slice_index_or old v 0

@@ -1,40 +1,87 @@
 //! Of each vertex the lowest-numbered one that waits for it and that it waits for.
 //!
-//! The vertices are taken in turn. One without an answer is the lowest-numbered of its component, and two searches from it,
-//! along the arcs and against them, find the others. Takes two searches for each component.
+//! A depth-first search gives the order in which the vertices are finished. They are then taken in the reverse of that order. Each
+//! that wasn't found yet finds its component by a search against the arcs, and the lowest-numbered vertex found is the answer for
+//! all of them (S. R. Kosaraju; M. Sharir, "A strong-connectivity algorithm and its applications in data flow analysis", Computers
+//! and Mathematics with Applications 7, 1981). Takes time and memory in the vertices and the arcs.
 
-ghost use Rattle.std.specs.Prelude.{◌≡◌, ◌<◌, length, IfOk, IfErr};
+ghost use Rattle.std.specs.Prelude.{◌≡◌, ◌<◌, ◌≤◌, length, map, false, MatchOption, IfOk, IfErr};
+ghost use Rattle.std.specs.List.{All};
 ghost use Rattle.wq_graph.specs.Graph.{HasArc};
 ghost use Rattle.wq_components.specs.Leading.{AreLowest};
-ghost use Rattle.wq_components.specs.Searching.{AreSettled, is_both};
+ghost use Rattle.wq_components.specs.Lists.{NextBack};
+ghost use Rattle.wq_components.specs.Searching.{AreFound, AreSettled, IsLeastOf, Spreads, is_marked};
+ghost use Rattle.wq_components.specs.Finishing.{IsFinishing};
 
+use crate::finishing::finishing_order;
 use crate::lists::{heads, tails};
-use crate::search::search;
+use crate::progress::Progress;
 use std::alloc::{AllocError, Allocator};
 use wq_graph::WaitGraph;
 
-/// Whether a vertex is this one, or was found both ways.
-fn is_both(vertex: u16, led_to: &[bool], leading: &[bool], other: u16) -> bool
-    requires led_to { other < length led_to.now }
-    requires leading { other < length leading.now }
-    ensures { result ≡ is_both vertex led_to.now leading.now other }
+/// Finds a vertex that wasn't found, and all that it leads to, from list to list, over vertices that weren't found.
+fn spread<A: Allocator + Copy>(
+    found: &mut Progress<A>,
+    lists: &[Vec<u16, A>],
+    root: u16,
+) -> Result<(), AllocError>
+    requires one_each { length found.old.marks ≡ length lists.now }
+    requires found { AreFound found.old }
+    requires root { root < length lists.now }
+    requires new { is_marked found.old.marks root ≡ false }
+    requires within { All (λ list. All (λ w. w < length lists.now) list.items) lists.now }
+    ensures { IfOk result (λ _. Spreads (map (λ l. l.items) lists.now) found.old root found.new) }
 {
-    let at = usize::from(other);
-    other == vertex || (led_to[at] && leading[at])
+    let mut place = found.count();
+    found.note(root)?;
+    while let Some(vertex) = found.nth(place) {
+        found.note_all(&lists[usize::from(vertex)])?;
+        place += 1;
+    }
+    Ok(())
 }
 
-/// Makes a vertex the answer for itself and for those that were found both ways.
-fn settle(lowest: &mut [u16], led_to: &[bool], leading: &[bool], vertex: u16, vertices: u16)
-    requires vertices { length lowest.old ≡ vertices }
-    requires led_to { length led_to.now ≡ vertices }
-    requires leading { length leading.now ≡ vertices }
-    ensures { AreSettled vertex led_to.now leading.now lowest.old lowest.new }
+/// The lowest of these vertices.
+fn least(vertices: &[u16]) -> Option<u16>
+    ensures { MatchOption result (length vertices.now ≡ 0) (IsLeastOf vertices.now) }
 {
-    for other in 0..vertices {
-        if is_both(vertex, led_to, leading, other) {
-            lowest[usize::from(other)] = vertex;
+    vertices.iter().copied().min()
+}
+
+/// Makes the lowest of these vertices the answer for each of them.
+fn settle(lowest: &mut [u16], vertices: &[u16])
+    requires { All (λ v. v < length lowest.old) vertices.now }
+    ensures { AreSettled vertices.now lowest.old lowest.new }
+{
+    if let Some(least) = least(vertices) {
+        for vertex in vertices {
+            lowest[usize::from(*vertex)] = least;
         }
     }
+}
+
+/// Of each vertex the lowest-numbered one of its component. The lists hold the tails of arcs, and the vertices are given in the
+/// order in which a depth-first search along the arcs finishes them.
+fn lowest_of_components<A: Allocator + Copy>(
+    alloc: A,
+    tails: &[Vec<u16, A>],
+    finished: &[u16],
+) -> Result<Vec<u16, A>, AllocError>
+    requires finished { IsFinishing (NextBack (map (λ l. l.items) tails.now)) (length tails.now) finished.now }
+    requires within { All (λ list. All (λ w. w < length tails.now) list.items) tails.now }
+    ensures { IfOk result (λ lowest. AreLowest (NextBack (map (λ l. l.items) tails.now)) (length tails.now) lowest.items) }
+{
+    let mut found = Progress::none(alloc, tails.len())?;
+    let mut lowest = vec![in alloc; 0; tails.len()]?;
+    for place in (0..finished.len()).rev() {
+        let root = finished[place];
+        if !found.has(root) {
+            let before = found.count();
+            spread(&mut found, tails, root)?;
+            settle(lowest.as_mut_slice(), found.since(before));
+        }
+    }
+    Ok(lowest)
 }
 
 /// Of each vertex the lowest-numbered one that is together with it: that is the vertex itself, or each of the two leads to the
@@ -53,15 +100,7 @@ pub fn lowest<A: Allocator + Copy>(
         return Ok(Vec::new(alloc));
     }
     let heads = heads(alloc, graph)?;
+    let finished = finishing_order(alloc, &heads, vertices)?;
     let tails = tails(alloc, &heads, vertices)?;
-    // No vertex has this number.
-    let mut lowest = vec![in alloc; vertices; usize::from(vertices)]?;
-    for v in 0..vertices {
-        if lowest[usize::from(v)] == vertices {
-            let led_to = search(alloc, &heads, v)?;
-            let leading = search(alloc, &tails, v)?;
-            settle(lowest.as_mut_slice(), &led_to, &leading, v, vertices);
-        }
-    }
-    Ok(lowest)
+    lowest_of_components(alloc, &tails, &finished)
 }

@@ -2,9 +2,9 @@
 //!
 //! Coming to a vertex takes constant time, making the marks time and memory in the vertices.
 
-ghost use Rattle.std.specs.Prelude.{◌≡◌, ◌<◌, length, replicate, false, [], slice_get, IfOk};
+ghost use Rattle.std.specs.Prelude.{◌≡◌, ◌<◌, ◌≤◌, length, drop, replicate, false, [], slice_get, IfOk};
 ghost use Rattle.std.specs.List.{All};
-ghost use Rattle.wq_components.specs.Searching.{with_found, with_all_found};
+ghost use Rattle.wq_components.specs.Searching.{is_marked, with_found, with_all_found};
 
 use std::alloc::{AllocError, Allocator};
 use std::marker::Model;
@@ -35,8 +35,16 @@ impl<A: Allocator + Copy> Progress<A> {
         Ok(Progress { marks, order })
     }
 
+    /// Whether a vertex was found.
+    pub(crate) fn has(&self, vertex: u16) -> bool
+        requires { vertex < length self.now.marks }
+        ensures { result ≡ is_marked self.now.marks vertex }
+    {
+        self.marks[usize::from(vertex)]
+    }
+
     /// Comes to a vertex.
-    fn note(&mut self, vertex: u16) -> Result<(), AllocError>
+    pub(crate) fn note(&mut self, vertex: u16) -> Result<(), AllocError>
         requires { vertex < length self.old.marks }
         ensures { IfOk result (λ _. self.new ≡ with_found self.old vertex) }
     {
@@ -59,6 +67,13 @@ impl<A: Allocator + Copy> Progress<A> {
         Ok(())
     }
 
+    /// How many vertices were found.
+    pub(crate) fn count(&self) -> usize
+        ensures { result ≡ length self.now.order }
+    {
+        self.order.len()
+    }
+
     /// The vertex that was found at this place of the order, if so many were found.
     pub(crate) fn nth(&self, place: usize) -> Option<u16>
         ensures { result ≡ slice_get self.now.order place }
@@ -66,10 +81,11 @@ impl<A: Allocator + Copy> Progress<A> {
         self.order.get(place).copied()
     }
 
-    /// The marks, once the search has ended.
-    pub(crate) fn into_marks(self) -> Vec<bool, A>
-        ensures { result.items ≡ self.marks }
+    /// The vertices that were found from this place of the order on.
+    pub(crate) fn since(&self, place: usize) -> &[u16]
+        requires { place ≤ length self.now.order }
+        ensures { result.now ≡ drop place self.now.order }
     {
-        self.marks
+        &self.order[place..]
     }
 }
