@@ -7,15 +7,15 @@ ghost use Rattle.std.specs.Prelude.{◌≡◌, length};
 
 use crate::declaration::{first_mark, too_long};
 use crate::excerpt::Quoted;
-use crate::finding::{Finding, Mark, bytes_at, line_at, said, word_at};
-use crate::guess::{begins_comment, text_with};
+use crate::finding::{Finding, Mark, Token, bytes_at, line_at, word_at};
+use crate::guess::{comment_hint, text_with};
 use crate::names::Names;
 use crate::placed::{find_split, find_twice, find_unplaced};
 use crate::stage::{Kind, Shape, Stage, stage_at};
 use std::alloc::{AllocError, Allocator};
 use wq_groups::Groups;
 use wq_items::ItemTable;
-use wq_text::{Line, Text, Word, number};
+use wq_text::{Line, Text, number};
 
 /// How many bytes a certificate may have.
 const MAX_TEXT: usize = 8_388_608;
@@ -61,12 +61,27 @@ fn cut_short<A: Allocator + Copy>(
     stage: Stage,
 ) -> Result<Finding<A>, AllocError> {
     if text.bytes().len() > MAX_TEXT {
-        let what = said(alloc, "the text has more than 8,388,608 bytes")?;
-        return Ok(Finding::whole(alloc, what));
+        return Finding::whole(alloc, "the text has more than 8,388,608 bytes");
     }
-    let form = stage.form(alloc)?;
-    let what = format!(in alloc; "the text ends where {form} should stand")?;
-    Ok(Finding::whole(alloc, what))
+    Finding::whole(
+        alloc,
+        format_args!("the text ends where {stage} should stand"),
+    )
+}
+
+/// A `wq` line with another number than the next one.
+fn out_of_order<A: Allocator + Copy>(
+    alloc: A,
+    mark: Mark,
+    next: u32,
+) -> Result<Finding<A>, AllocError> {
+    let hint = "workqueues are numbered from 0, in order";
+    if next < MAX_WORKQUEUES {
+        let what = format_args!("`wq {next}` should stand here");
+        return Finding::marked(alloc, mark, what, hint);
+    }
+    let what = "an assignment has at most 4,096 workqueues";
+    Finding::marked(alloc, mark, what, hint)
 }
 
 /// A number that is out of its range.
@@ -75,24 +90,18 @@ fn out_of_range<A: Allocator + Copy>(
     line: &Line<'_>,
     stage: Stage,
 ) -> Result<Finding<A>, AllocError> {
-    let what = match stage {
-        Stage::Plan => said(alloc, "a plan has at most 4,096 workqueues")?,
-        Stage::Chain => said(alloc, "a chain has at most 4,096 groups")?,
-        Stage::Circle => said(alloc, "a circle has 1 to 4,096 arcs")?,
-        Stage::Workqueue { next, .. } if next < MAX_WORKQUEUES => {
-            format!(in alloc; "`wq {next}` should stand here")?
-        }
-        Stage::Workqueue { .. } => said(alloc, "an assignment has at most 4,096 workqueues")?,
-        _ => said(alloc, "the number of a workqueue is at most 4,095")?,
+    let mark = match word_at(line, 1) {
+        Some(word) => word.mark,
+        None => first_mark(line),
     };
-    let mark = word_at(line, 1).map_or(first_mark(line), |word| Mark::of(line, &word));
-    let finding = Finding::marked(alloc, mark, what);
-    Ok(match stage {
-        Stage::Workqueue { .. } => {
-            finding.hint(said(alloc, "workqueues are numbered from 0, in order")?)
-        }
-        _ => finding,
-    })
+    let what = match stage {
+        Stage::Workqueue { next, .. } => return out_of_order(alloc, mark, next),
+        Stage::Plan => "a plan has at most 4,096 workqueues",
+        Stage::Chain => "a chain has at most 4,096 groups",
+        Stage::Circle => "a circle has 1 to 4,096 arcs",
+        _ => "the number of a workqueue is at most 4,095",
+    };
+    Finding::marked(alloc, mark, what, "")
 }
 
 /// A line that isn't what should stand there.
@@ -117,32 +126,34 @@ fn wrong_line<A: Allocator + Copy>(
     wrong_words(alloc, declaration, line, stage, stage.shape(word))
 }
 
+/// A line behind the last one of the text.
+fn behind_end<A: Allocator + Copy>(alloc: A, line: &Line<'_>) -> Result<Finding<A>, AllocError> {
+    Finding::marked(
+        alloc,
+        first_mark(line),
+        "the text should end above this line",
+        comment_hint(bytes_at(line, 0)),
+    )
+}
+
 /// A line with another first word.
 fn other_line<A: Allocator + Copy>(
     alloc: A,
     line: &Line<'_>,
     stage: Stage,
 ) -> Result<Finding<A>, AllocError> {
-    let word = bytes_at(line, 0);
-    let form = stage.form(alloc)?;
-    let what = match stage {
-        Stage::End | Stage::Workqueue { left: None, .. } => {
-            said(alloc, "the text should end above this line")?
-        }
-        _ => format!(in alloc; "`{}` stands where {form} should", Quoted(word))?,
-    };
-    let finding = Finding::marked(alloc, first_mark(line), what);
-    if begins_comment(word) {
-        return Ok(finding.hint(said(alloc, "a comment begins with `#`")?));
+    if stage.may_end() {
+        return behind_end(alloc, line);
     }
+    let mark = first_mark(line);
+    let word = bytes_at(line, 0);
+    let what = format_args!("`{}` stands where {stage} should", Quoted(word));
     match text_with(word) {
-        Some(other) if !matches!(stage, Stage::End | Stage::Workqueue { left: None, .. }) => {
-            let hint = format!(in alloc;
-                "this looks like {other}: are the files in the right order?"
-            )?;
-            Ok(finding.hint(hint))
+        Some(other) => {
+            let hint = format_args!("this looks like {other}: are the files in the right order?");
+            Finding::marked(alloc, mark, what, hint)
         }
-        _ => Ok(finding),
+        None => Finding::marked(alloc, mark, what, comment_hint(word)),
     }
 }
 
@@ -156,6 +167,43 @@ fn number_hint(word: &[u8]) -> &'static str {
     }
 }
 
+/// The word of a line where a number should stand, if it is none.
+fn wrong_number<'a>(line: &Line<'a>, shape: Shape) -> Option<Token<'a>> {
+    match word_at(line, 1) {
+        Some(word) if shape.has_number && number(word.bytes).is_none() => Some(word),
+        _ => None,
+    }
+}
+
+/// A word that should be a number and is none.
+fn no_number<A: Allocator + Copy>(alloc: A, word: Token<'_>) -> Result<Finding<A>, AllocError> {
+    let what = format_args!("`{word}` is no number");
+    Finding::marked(alloc, word.mark, what, number_hint(word.bytes))
+}
+
+/// The first word of a line that is too much.
+fn surplus_word<'a>(line: &Line<'a>, shape: Shape) -> Option<Token<'a>> {
+    match shape.names {
+        Some(_) => word_at(line, shape.fewest()),
+        None => None,
+    }
+}
+
+/// A line that has another number of words than the one that should stand there.
+fn other_length<A: Allocator + Copy>(
+    alloc: A,
+    mark: Mark,
+    what: &str,
+    stage: Stage,
+) -> Result<Finding<A>, AllocError> {
+    Finding::marked(
+        alloc,
+        mark,
+        what,
+        format_args!("the line should be {stage}"),
+    )
+}
+
 /// A line whose first word is right.
 fn wrong_words<A: Allocator + Copy>(
     alloc: A,
@@ -164,58 +212,47 @@ fn wrong_words<A: Allocator + Copy>(
     stage: Stage,
     shape: Shape,
 ) -> Result<Finding<A>, AllocError> {
-    if shape.has_number
-        && let Some(word) = word_at(line, 1)
-        && number(word.bytes()).is_none()
-    {
-        let what = format!(in alloc; "`{}` is no number", Quoted(word.bytes()))?;
-        let hint = said(alloc, number_hint(word.bytes()))?;
-        return Ok(Finding::marked(alloc, Mark::of(line, &word), what).hint(hint));
+    if let Some(word) = wrong_number(line, shape) {
+        return no_number(alloc, word);
     }
-    let form = stage.form(alloc)?;
     if word_at(line, shape.fewest().saturating_sub(1)).is_none() {
-        let what = said(alloc, "a word is missing")?;
-        let hint = format!(in alloc; "the line should be {form}")?;
-        return Ok(Finding::marked(alloc, Mark::behind(line), what).hint(hint));
+        return other_length(alloc, Mark::behind(line), "a word is missing", stage);
     }
-    if shape.names.is_some()
-        && let Some(word) = word_at(line, shape.fewest())
-    {
-        let what = said(alloc, "here is a word too many")?;
-        let hint = format!(in alloc; "the line should be {form}")?;
-        return Ok(Finding::marked(alloc, Mark::of(line, &word), what).hint(hint));
+    if let Some(word) = surplus_word(line, shape) {
+        return other_length(alloc, word.mark, "here is a word too many", stage);
     }
-    unknown_name(alloc, declaration, line, shape)
+    let items = Names::read(alloc, declaration, b"item")?;
+    unknown_name(alloc, &items, line, shape)
 }
 
 /// A name that is no item.
 fn unknown_name<A: Allocator + Copy>(
     alloc: A,
-    declaration: &Text<'_>,
+    items: &Names<'_, A>,
     line: &Line<'_>,
     shape: Shape,
 ) -> Result<Finding<A>, AllocError> {
-    let items = Names::read(alloc, declaration, b"item")?;
     for word in line.words().skip(shape.first_name()) {
         if items.line_of(word.bytes()).is_none() {
-            return no_item(alloc, &items, line, &word);
+            return no_item(alloc, items, Token::of(line, &word));
         }
     }
-    let what = said(alloc, "the line is refused")?;
-    Ok(Finding::whole(alloc, what))
+    Finding::whole(alloc, "the line is refused")
 }
 
 /// A word that is the name of no item.
 fn no_item<A: Allocator + Copy>(
     alloc: A,
     items: &Names<'_, A>,
-    line: &Line<'_>,
-    word: &Word<'_>,
+    word: Token<'_>,
 ) -> Result<Finding<A>, AllocError> {
-    let what = format!(in alloc; "no item `{}` is declared", Quoted(word.bytes()))?;
-    let finding = Finding::marked(alloc, Mark::of(line, word), what);
-    Ok(match items.nearest(alloc, word.bytes())? {
-        Some((near, _)) => finding.hint(format!(in alloc; "did you mean `{}`?", Quoted(near))?),
-        None => finding,
-    })
+    let nearest = items.nearest(alloc, word.bytes)?;
+    let what = format_args!("no item `{word}` is declared");
+    match nearest {
+        Some((near, _)) => {
+            let hint = format_args!("did you mean `{}`?", Quoted(near));
+            Finding::marked(alloc, word.mark, what, hint)
+        }
+        None => Finding::marked(alloc, word.mark, what, ""),
+    }
 }

@@ -4,11 +4,14 @@
 //! the names of the text times the length of one.
 
 use crate::excerpt::Quoted;
-use crate::finding::{Finding, Mark, bytes_at, line_at, said, word_at};
+use crate::finding::{
+    Finding, Mark, Token, bytes_at, line_at, stands_before, twice_on_line, word_at,
+};
 use crate::guess::{begins_comment, directive_like, text_with};
 use crate::names::{Names, begins_with};
 use std::alloc::{AllocError, Allocator};
-use wq_text::{Line, Text, Word};
+use std::fmt::Display;
+use wq_text::{Line, Text};
 
 /// How many bytes a line may have.
 const MAX_LINE: usize = 4096;
@@ -23,31 +26,38 @@ pub(crate) fn find<A: Allocator + Copy>(
     code: u32,
     no: u32,
 ) -> Result<Finding<A>, AllocError> {
-    let Some(line) = line_at(text, no) else {
-        let what = said(alloc, "the declaration has more than 1,048,576 bytes")?;
-        return Ok(Finding::whole(alloc, what));
-    };
+    match line_at(text, no) {
+        Some(line) => find_on(alloc, text, &line, code),
+        None => Finding::whole(alloc, "the declaration has more than 1,048,576 bytes"),
+    }
+}
+
+/// What is wrong on this line of a declaration that is refused with this number for it.
+fn find_on<A: Allocator + Copy>(
+    alloc: A,
+    text: &Text<'_>,
+    line: &Line<'_>,
+    code: u32,
+) -> Result<Finding<A>, AllocError> {
     match code {
-        2 => too_long(alloc, &line, MAX_LINE, "the line has more than 4,096 bytes"),
-        3 => bad_byte(alloc, &line),
-        4 => unknown_word(alloc, &line),
-        5 => missing_name(alloc, &line),
-        6 => bad_name(alloc, &line),
-        7 => item_twice(alloc, text, &line),
-        8 => unknown_item(alloc, text, &line),
-        9 => at_word(alloc, &line, 0, "there are more than 4,096 items"),
+        2 => too_long(alloc, line, MAX_LINE, "the line has more than 4,096 bytes"),
+        3 => bad_byte(alloc, line),
+        4 => unknown_word(alloc, line),
+        5 => missing_name(alloc, line),
+        6 => bad_name(alloc, line),
+        7 => item_twice(alloc, text, line),
+        8 => unknown_item(alloc, text, line),
+        9 => at_word(alloc, line, 0, "there are more than 4,096 items", ""),
         10 => at_word(
             alloc,
-            &line,
+            line,
             0,
             "with this line there are more than 16,384 flushes",
+            "",
         ),
-        11 => grouped_twice(alloc, text, &line),
-        12 => extra_word(alloc, &line),
-        _ => {
-            let what = said(alloc, "the line is refused")?;
-            Ok(Finding::whole(alloc, what))
-        }
+        11 => grouped_twice(alloc, text, line),
+        12 => extra_word(alloc, line),
+        _ => Finding::whole(alloc, "the line is refused"),
     }
 }
 
@@ -62,21 +72,21 @@ pub(crate) fn too_long<A: Allocator + Copy>(
         at: limit,
         len: line.bytes().len().saturating_sub(limit),
     };
-    Ok(Finding::marked(alloc, mark, said(alloc, what)?))
+    Finding::marked(alloc, mark, what, "")
 }
 
 /// The word at this place of a line.
-fn at_word<A: Allocator + Copy>(
+fn at_word<A: Allocator + Copy, W: Display + Drop, H: Display + Drop>(
     alloc: A,
     line: &Line<'_>,
     place: usize,
-    what: &str,
+    what: W,
+    hint: H,
 ) -> Result<Finding<A>, AllocError> {
-    let what = said(alloc, what)?;
-    Ok(match word_at(line, place) {
-        Some(word) => Finding::marked(alloc, Mark::of(line, &word), what),
+    match word_at(line, place) {
+        Some(word) => Finding::marked(alloc, word.mark, what, hint),
         None => Finding::whole(alloc, what),
-    })
+    }
 }
 
 /// Whether a byte may stand before a comment.
@@ -101,76 +111,75 @@ fn byte_hint(line: &Line<'_>, at: usize) -> &'static str {
 fn bad_byte<A: Allocator + Copy>(alloc: A, line: &Line<'_>) -> Result<Finding<A>, AllocError> {
     for (at, byte) in line.content().iter().enumerate() {
         if !may_stand(*byte) {
-            let what = format!(in alloc;
-                "the byte 0x{byte:02X} is neither TAB nor printable ASCII"
-            )?;
-            let hint = said(alloc, byte_hint(line, at))?;
-            return Ok(Finding::marked(alloc, Mark { at, len: 1 }, what).hint(hint));
+            let what = format_args!("the byte 0x{byte:02X} is neither TAB nor printable ASCII");
+            return Finding::marked(alloc, Mark { at, len: 1 }, what, byte_hint(line, at));
         }
     }
-    let what = said(
+    Finding::whole(
         alloc,
         "a byte before the comment is neither TAB nor printable ASCII",
-    )?;
-    Ok(Finding::whole(alloc, what))
-}
-
-/// What a first word that is no directive was most likely meant to be.
-fn first_word_hint<A: Allocator + Copy>(alloc: A, word: &[u8]) -> Result<String<A>, AllocError> {
-    if begins_comment(word) {
-        return said(alloc, "a comment begins with `#`");
-    }
-    if let Some(what) = text_with(word) {
-        return format!(in alloc; "this looks like {what}: are the files in the right order?");
-    }
-    match directive_like(alloc, word)? {
-        Some(directive) => format!(in alloc; "did you mean `{directive}`?"),
-        None => said(alloc, "a line begins with `item`, `flush` or `ordered`"),
-    }
+    )
 }
 
 /// A first word that is no directive.
 fn unknown_word<A: Allocator + Copy>(alloc: A, line: &Line<'_>) -> Result<Finding<A>, AllocError> {
     let word = bytes_at(line, 0);
-    let what = format!(in alloc; "`{}` is no directive", Quoted(word))?;
     let mark = Mark {
         len: word.len(),
         ..first_mark(line)
     };
-    Ok(Finding::marked(alloc, mark, what).hint(first_word_hint(alloc, word)?))
+    let what = format_args!("`{}` is no directive", Quoted(word));
+    if begins_comment(word) {
+        return Finding::marked(alloc, mark, what, "a comment begins with `#`");
+    }
+    if let Some(other) = text_with(word) {
+        let hint = format_args!("this looks like {other}: are the files in the right order?");
+        return Finding::marked(alloc, mark, what, hint);
+    }
+    match directive_like(alloc, word)? {
+        Some(directive) => {
+            let hint = format_args!("did you mean `{directive}`?");
+            Finding::marked(alloc, mark, what, hint)
+        }
+        None => {
+            let hint = "a line begins with `item`, `flush` or `ordered`";
+            Finding::marked(alloc, mark, what, hint)
+        }
+    }
 }
 
 /// Where the first word of a line stands.
 pub(crate) fn first_mark(line: &Line<'_>) -> Mark {
     match word_at(line, 0) {
-        Some(word) => Mark::of(line, &word),
+        Some(word) => word.mark,
         None => Mark { at: 0, len: 1 },
+    }
+}
+
+/// The form of the lines that begin as this one does.
+fn form_of(line: &Line<'_>) -> &'static str {
+    match bytes_at(line, 0) {
+        b"item" => "item NAME",
+        b"ordered" => "ordered NAME..",
+        _ => "flush NAME TARGET..",
     }
 }
 
 /// A line that ends where a name should stand.
 fn missing_name<A: Allocator + Copy>(alloc: A, line: &Line<'_>) -> Result<Finding<A>, AllocError> {
-    let form = if begins_with(line, b"item") {
-        "item NAME"
-    } else if begins_with(line, b"ordered") {
-        "ordered NAME.."
-    } else {
-        "flush NAME TARGET.."
-    };
-    let what = said(alloc, "a name is missing")?;
-    let hint = format!(in alloc; "the line should be `{form}`")?;
-    Ok(Finding::marked(alloc, Mark::behind(line), what).hint(hint))
+    let form = form_of(line);
+    let hint = format_args!("the line should be `{form}`");
+    Finding::marked(alloc, Mark::behind(line), "a name is missing", hint)
 }
 
 /// An `item` line with more than a name.
 fn extra_word<A: Allocator + Copy>(alloc: A, line: &Line<'_>) -> Result<Finding<A>, AllocError> {
-    let finding = at_word(alloc, line, 2, "an `item` line has one name")?;
     let hint = if begins_comment(bytes_at(line, 2)) {
         "a comment begins with `#`"
     } else {
         "each item has an `item` line of its own"
     };
-    Ok(finding.hint(said(alloc, hint)?))
+    at_word(alloc, line, 2, "an `item` line has one name", hint)
 }
 
 /// Whether a byte may stand in a name.
@@ -197,16 +206,29 @@ fn name_hint(word: &[u8]) -> &'static str {
 }
 
 /// A word that should be a name and is none.
+fn no_name<A: Allocator + Copy>(alloc: A, word: Token<'_>) -> Result<Finding<A>, AllocError> {
+    let what = format_args!("`{word}` is no name");
+    Finding::marked(alloc, word.mark, what, name_hint(word.bytes))
+}
+
+/// The first word of a line that should be a name and is none.
 fn bad_name<A: Allocator + Copy>(alloc: A, line: &Line<'_>) -> Result<Finding<A>, AllocError> {
     for word in line.words().skip(1) {
         if !is_name(word.bytes()) {
-            let what = format!(in alloc; "`{}` is no name", Quoted(word.bytes()))?;
-            let hint = said(alloc, name_hint(word.bytes()))?;
-            return Ok(Finding::marked(alloc, Mark::of(line, &word), what).hint(hint));
+            return no_name(alloc, Token::of(line, &word));
         }
     }
-    let what = said(alloc, "a word of the line is no name")?;
-    Ok(Finding::whole(alloc, what))
+    Finding::whole(alloc, "a word of the line is no name")
+}
+
+/// The first `item` line of a text that has a name.
+fn declared_on<A: Allocator + Copy>(
+    alloc: A,
+    text: &Text<'_>,
+    name: &[u8],
+) -> Result<Option<u32>, AllocError> {
+    let items = Names::read(alloc, text, b"item")?;
+    Ok(items.line_of(name))
 }
 
 /// An item that is declared twice.
@@ -216,27 +238,11 @@ fn item_twice<A: Allocator + Copy>(
     line: &Line<'_>,
 ) -> Result<Finding<A>, AllocError> {
     let name = bytes_at(line, 1);
-    let what = format!(in alloc; "the item `{}` is declared twice", Quoted(name))?;
-    let finding = at_word(alloc, line, 1, &what)?;
-    let items = Names::read(alloc, text, b"item")?;
-    Ok(match items.line_of(name) {
-        Some(first) => finding.hint(format!(in alloc; "first on line {first}")?),
-        None => finding,
-    })
-}
-
-/// What an unknown name was most likely meant to be.
-fn unknown_hint<A: Allocator + Copy>(
-    alloc: A,
-    items: &Names<'_, A>,
-    name: &[u8],
-) -> Result<String<A>, AllocError> {
-    if let Some(below) = items.line_of(name) {
-        return format!(in alloc; "it is declared below, on line {below}");
-    }
-    match items.nearest(alloc, name)? {
-        Some((near, line)) => format!(in alloc; "did you mean `{}`, line {line}?", Quoted(near)),
-        None => format!(in alloc; "write `item {}` above", Quoted(name)),
+    let declared = declared_on(alloc, text, name)?;
+    let what = format_args!("the item `{}` is declared twice", Quoted(name));
+    match declared {
+        Some(first) => at_word(alloc, line, 1, what, format_args!("first on line {first}")),
+        None => at_word(alloc, line, 1, what, ""),
     }
 }
 
@@ -247,16 +253,46 @@ fn unknown_item<A: Allocator + Copy>(
     line: &Line<'_>,
 ) -> Result<Finding<A>, AllocError> {
     let items = Names::read(alloc, text, b"item")?;
+    not_above(alloc, &items, line)
+}
+
+/// The first name of a line that no line above declares.
+fn not_above<A: Allocator + Copy>(
+    alloc: A,
+    items: &Names<'_, A>,
+    line: &Line<'_>,
+) -> Result<Finding<A>, AllocError> {
     for word in line.words().skip(1) {
         if !is_above(items.line_of(word.bytes()), line) {
-            let name = word.bytes();
-            let what = format!(in alloc; "no item `{}` is declared above this line", Quoted(name))?;
-            let hint = unknown_hint(alloc, &items, name)?;
-            return Ok(Finding::marked(alloc, Mark::of(line, &word), what).hint(hint));
+            return undeclared(alloc, items, Token::of(line, &word));
         }
     }
-    let what = said(alloc, "a name of the line is declared by no line above")?;
-    Ok(Finding::whole(alloc, what))
+    Finding::whole(alloc, "a name of the line is declared by no line above")
+}
+
+/// A word that is the name of no item declared above.
+fn undeclared<A: Allocator + Copy>(
+    alloc: A,
+    items: &Names<'_, A>,
+    word: Token<'_>,
+) -> Result<Finding<A>, AllocError> {
+    let what = format_args!("no item `{word}` is declared above this line");
+    if let Some(below) = items.line_of(word.bytes) {
+        let hint = format_args!("it is declared below, on line {below}");
+        return Finding::marked(alloc, word.mark, what, hint);
+    }
+    match items.nearest(alloc, word.bytes)? {
+        Some((near, line)) => {
+            let hint = format_args!("did you mean `{}`, line {line}?", Quoted(near));
+            Finding::marked(alloc, word.mark, what, hint)
+        }
+        None => Finding::marked(
+            alloc,
+            word.mark,
+            what,
+            format_args!("write `item {word}` above"),
+        ),
+    }
 }
 
 /// Whether there is a line, and it stands above this one.
@@ -282,19 +318,6 @@ fn ordered_above<'a, A: Allocator + Copy>(
     Ok(names)
 }
 
-/// How often a name stands on a line before this word.
-fn stands_before(line: &Line<'_>, word: &Word<'_>) -> bool {
-    for other in line.words().skip(1) {
-        if other.span() == word.span() {
-            return false;
-        }
-        if other.bytes() == word.bytes() {
-            return true;
-        }
-    }
-    false
-}
-
 /// A name that stands on two `ordered` lines, or twice on one.
 fn grouped_twice<A: Allocator + Copy>(
     alloc: A,
@@ -302,19 +325,38 @@ fn grouped_twice<A: Allocator + Copy>(
     line: &Line<'_>,
 ) -> Result<Finding<A>, AllocError> {
     let above = ordered_above(alloc, text, line)?;
+    ordered_twice(alloc, &above, line)
+}
+
+/// The first name of an `ordered` line that stands on one above, or before on the line.
+fn ordered_twice<A: Allocator + Copy>(
+    alloc: A,
+    above: &Names<'_, A>,
+    line: &Line<'_>,
+) -> Result<Finding<A>, AllocError> {
     for word in line.words().skip(1) {
-        let name = word.bytes();
-        let mark = Mark::of(line, &word);
-        if let Some(first) = above.line_of(name) {
-            let what = format!(in alloc; "`{}` stands on two `ordered` lines", Quoted(name))?;
-            let hint = format!(in alloc; "first on line {first}")?;
-            return Ok(Finding::marked(alloc, mark, what).hint(hint));
+        let word = Token::of(line, &word);
+        if let Some(first) = above.line_of(word.bytes) {
+            return on_two_lines(alloc, word, first);
         }
-        if stands_before(line, &word) {
-            let what = format!(in alloc; "`{}` stands twice on this line", Quoted(name))?;
-            return Ok(Finding::marked(alloc, mark, what));
+        if stands_before(line, 1, word) {
+            return twice_on_line(alloc, word);
         }
     }
-    let what = said(alloc, "a name stands on two `ordered` lines")?;
-    Ok(Finding::whole(alloc, what))
+    Finding::whole(alloc, "a name stands on two `ordered` lines")
+}
+
+/// A word that stands on an `ordered` line above.
+fn on_two_lines<A: Allocator + Copy>(
+    alloc: A,
+    word: Token<'_>,
+    first: u32,
+) -> Result<Finding<A>, AllocError> {
+    let what = format_args!("`{word}` stands on two `ordered` lines");
+    Finding::marked(
+        alloc,
+        word.mark,
+        what,
+        format_args!("first on line {first}"),
+    )
 }

@@ -3,13 +3,14 @@
 //! The form is that of "Diagnoses" in docs/FORMAT.md. A text is read anew to learn its refusal, so a call takes the time and the
 //! memory of reading the texts and of seeking the fault in them.
 
-ghost use Rattle.std.specs.Prelude.{◌≡◌, ◌++◌, ◌∷◌, [], ◌<◌, codes, decimal, length, map, option_map, ℕ, IfOk, OnOk};
+ghost use Rattle.std.specs.Prelude.{◌≡◌, ◌++◌, ◌∷◌, [], ◌<◌, codes, decimal, length, map, option_map, ℕ, IfOk, OnOk, Option};
 ghost use Rattle.wq_diagnosis.specs.Diagnosis.{head, place_text, shown, shown_lines, IsDiagnosis};
 ghost use Rattle.wq_checker.specs.Codes.{no_code};
-ghost use Rattle.wq_diagnosis.specs.Refused.{Diagnoses, DiagnosesNo, IsFaultOfCertificate, IsNoTo, certificate_refusal, declaration_refusal, refusal_with};
+ghost use Rattle.wq_checker.specs.declared.answer.No.{No};
+ghost use Rattle.wq_diagnosis.specs.Refused.{Diagnoses, DiagnosesNo, IsFaultOfCertificate, IsNoTo, SaysNo, certificate_refusal, declaration_refusal, refusal_with};
 
 use crate::excerpt::{CUT, Window, shown};
-use crate::finding::{Finding, Mark, line_at, said};
+use crate::finding::{Finding, Mark, line_at};
 use crate::stage::Kind;
 use crate::{certificate, declaration, no};
 use std::alloc::{AllocError, Allocator};
@@ -123,6 +124,23 @@ fn put_part<A: Allocator + Copy>(
     Ok(())
 }
 
+/// Adds the word of an answer with its number, and the command that says more of it.
+fn put_answer<A: Allocator + Copy>(
+    out: &mut Vec<u8, A>,
+    word: &str,
+    code: &str,
+) -> Result<(), AllocError>
+    ensures { OnOk result (out.new.items ≡ ((((((out.old.items ++ codes " [") ++ word.now) ++ codes " ") ++ code.now) ++ codes ", `wqplan explain ") ++ code.now) ++ codes "`]") }
+{
+    put(out, b" [")?;
+    put(out, word.as_bytes())?;
+    put(out, b" ")?;
+    put(out, code.as_bytes())?;
+    put(out, b", `wqplan explain ")?;
+    put(out, code.as_bytes())?;
+    put(out, b"`]")
+}
+
 /// The first line: the file, the place, what is wrong, and the word of the answer with its number.
 fn head<A: Allocator + Copy>(
     alloc: A,
@@ -140,13 +158,7 @@ fn head<A: Allocator + Copy>(
     put_place(alloc, &mut line, place)?;
     put(&mut line, b": ")?;
     put(&mut line, what.as_bytes())?;
-    put(&mut line, b" [")?;
-    put(&mut line, word.as_bytes())?;
-    put(&mut line, b" ")?;
-    put(&mut line, code.as_bytes())?;
-    put(&mut line, b", `wqplan explain ")?;
-    put(&mut line, code.as_bytes())?;
-    put(&mut line, b"`]")?;
+    put_answer(&mut line, word, &code)?;
     Ok(line)
 }
 
@@ -337,6 +349,23 @@ fn fault_of<A: Allocator + Copy>(
     }
 }
 
+/// What is wrong in a certificate that is refused so.
+fn find_fault<A: Allocator + Copy>(
+    alloc: A,
+    kind: Kind,
+    declared: &Declaration<'_, A>,
+    declaration: &[u8],
+    text: &Text<'_>,
+    refusal: Refusal,
+) -> Result<Finding<A>, AllocError>
+    requires { length declared.now.groups.group_of ≡ length declared.now.table.names }
+{
+    let Declaration { table, groups } = declared;
+    let declaration = lines_of(declaration);
+    let Refusal { code, line, .. } = refusal;
+    certificate::find(alloc, kind, &declaration, table, groups, text, code, line)
+}
+
 /// What is said of a certificate that is refused so.
 fn of_fault<A: Allocator + Copy>(
     alloc: A,
@@ -350,17 +379,30 @@ fn of_fault<A: Allocator + Copy>(
     ensures { IfOk result (λ said. IsDiagnosis certificate.entry.file.now refusal.word.now refusal.code refusal.line said.items) }
 {
     let text = lines_of(certificate.text);
-    let finding = certificate::find(
-        alloc,
-        kind,
-        &lines_of(declaration),
-        &declared.table,
-        &declared.groups,
-        &text,
-        refusal.code,
-        refusal.line,
-    )?;
+    let finding = find_fault(alloc, kind, declared, declaration, &text, refusal)?;
     diagnosis(alloc, certificate.file, &text, refusal, &finding)
+}
+
+/// What is said of a certificate of this declaration: nothing where it is of its form, and else the diagnosis of its refusal.
+fn of_certificate_for<A: Allocator + Copy>(
+    alloc: A,
+    kind: Kind,
+    declared: &Declaration<'_, A>,
+    declaration: &[u8],
+    certificate: Source<'_>,
+) -> Result<Option<Vec<u8, A>>, AllocError>
+    requires { length declared.now.groups.group_of ≡ length declared.now.table.names }
+    ensures { IfOk result (λ said. Diagnoses certificate.entry.file.now (certificate_refusal kind (record { table = declared.now.table; partition = declared.now.groups }) certificate.entry.text.now) (option_map (λ text. text.items) said)) }
+{
+    match fault_of(alloc, kind, declared, certificate.text) {
+        None => Ok(None),
+        Some(CertError::OutOfMemory) => Err(AllocError),
+        Some(fault) => {
+            let refusal = Refusal::new(fault.code(), fault.line());
+            let said = of_fault(alloc, kind, declared, declaration, certificate, refusal)?;
+            Ok(Some(said))
+        }
+    }
 }
 
 /// What is said of a certificate of a declaration: nothing where it is of its form, or where the declaration is refused, and
@@ -375,19 +417,10 @@ pub fn of_certificate<A: Allocator + Copy>(
 ) -> Result<Option<Vec<u8, A>>, AllocError>
     ensures { IfOk result (λ said. Diagnoses certificate.entry.file.now (refusal_with kind declaration.now certificate.entry.text.now) (option_map (λ text. text.items) said)) }
 {
-    let declared = match read_declaration(alloc, declaration) {
-        Ok(declared) => declared,
-        Err(Stop::Refused { .. }) => return Ok(None),
-        Err(Stop::OutOfMemory) => return Err(AllocError),
-    };
-    match fault_of(alloc, kind, &declared, certificate.text) {
-        None => Ok(None),
-        Some(CertError::OutOfMemory) => Err(AllocError),
-        Some(fault) => {
-            let refusal = Refusal::new(fault.code(), fault.line());
-            let said = of_fault(alloc, kind, &declared, declaration, certificate, refusal)?;
-            Ok(Some(said))
-        }
+    match read_declaration(alloc, declaration) {
+        Ok(declared) => of_certificate_for(alloc, kind, &declared, declaration, certificate),
+        Err(Stop::Refused { .. }) => Ok(None),
+        Err(Stop::OutOfMemory) => Err(AllocError),
     }
 }
 
@@ -400,11 +433,10 @@ pub fn of_too_many<A: Allocator + Copy>(
 ) -> Result<Vec<u8, A>, AllocError>
     ensures { IfOk result (λ said. IsDiagnosis declaration.entry.file.now (codes "refused") 69 0 said.items) }
 {
-    let what = said(
+    let finding = Finding::whole(
         alloc,
         "the plan has more than 256 workqueues, each of which takes a thread",
     )?;
-    let finding = Finding::whole(alloc, what);
     diagnosis(
         alloc,
         declaration.file,
@@ -452,6 +484,24 @@ fn of_lack<A: Allocator + Copy>(
     diagnosis(alloc, certificate.file, &text, refusal, &lack.finding)
 }
 
+/// What is said of a certificate of this declaration to which the checker says no; nothing of another one.
+fn of_no_for<A: Allocator + Copy>(
+    alloc: A,
+    declared: &Declaration<'_, A>,
+    certificate: Source<'_>,
+) -> Result<Option<Vec<u8, A>>, AllocError>
+    requires { length declared.now.groups.group_of ≡ length declared.now.table.names }
+    ensures { IfOk result (λ said. (why : Option No) × IsNoTo (record { table = declared.now.table; partition = declared.now.groups }) certificate.entry.text.now why × SaysNo certificate.entry.file.now why (option_map (λ text. text.items) said)) }
+{
+    match no_to(alloc, declared, certificate.text)? {
+        None => Ok(None),
+        Some(no) => {
+            let said = of_lack(alloc, declared, certificate, &no)?;
+            Ok(Some(said))
+        }
+    }
+}
+
 /// What is said of a certificate of a declaration to which the checker says no; nothing of another one.
 ///
 /// The only error is out of memory (20).
@@ -462,16 +512,9 @@ pub fn of_no<A: Allocator + Copy>(
 ) -> Result<Option<Vec<u8, A>>, AllocError>
     ensures { IfOk result (λ said. DiagnosesNo certificate.entry.file.now declaration.now certificate.entry.text.now (option_map (λ text. text.items) said)) }
 {
-    let declared = match read_declaration(alloc, declaration) {
-        Ok(declared) => declared,
-        Err(Stop::Refused { .. }) => return Ok(None),
-        Err(Stop::OutOfMemory) => return Err(AllocError),
-    };
-    match no_to(alloc, &declared, certificate.text)? {
-        None => Ok(None),
-        Some(no) => {
-            let said = of_lack(alloc, &declared, certificate, &no)?;
-            Ok(Some(said))
-        }
+    match read_declaration(alloc, declaration) {
+        Ok(declared) => of_no_for(alloc, &declared, certificate),
+        Err(Stop::Refused { .. }) => Ok(None),
+        Err(Stop::OutOfMemory) => Err(AllocError),
     }
 }

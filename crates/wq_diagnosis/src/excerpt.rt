@@ -49,7 +49,7 @@ impl fmt::Display for Quoted<'_> {
 }
 
 /// The bytes of a line that are shown: from `start` up to but not including `end`.
-#[derive(Clone, Copy, Debug, PartialEq, Eq)]
+#[derive(Clone, Copy)]
 pub(crate) struct Window {
     pub(crate) start: usize,
     pub(crate) end: usize,

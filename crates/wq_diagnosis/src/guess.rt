@@ -43,6 +43,15 @@ pub(crate) fn begins_comment(word: &[u8]) -> bool {
     )
 }
 
+/// The hint for a word that begins a comment in another language; empty for any other word.
+pub(crate) fn comment_hint(word: &[u8]) -> &'static str {
+    if begins_comment(word) {
+        "a comment begins with `#`"
+    } else {
+        ""
+    }
+}
+
 /// Which text has lines that begin with this word.
 pub(crate) fn text_with(word: &[u8]) -> Option<&'static str> {
     let Ok(word) = str::from_utf8(word) else {

@@ -3,18 +3,54 @@
 //! The reasons are those of "The command `check`" in docs/FORMAT.md. Takes time in the length of the text.
 
 use crate::excerpt::Quoted;
-use crate::finding::{Finding, Mark, bytes_at, said, word_at};
+use crate::finding::{Finding, Mark, Token, bytes_at, word_at};
 use crate::names::begins_with;
 use std::alloc::{AllocError, Allocator};
+use std::fmt::Display;
 use wq_checker::No;
 use wq_items::{ItemId, ItemTable};
-use wq_text::{Line, Text, Word};
+use wq_text::{Line, Text};
+
+/// What is said of an arc where its names aren't known.
+const WRONG_ARC: &str = "an arc is no flush, or doesn't begin where the one before it ends";
 
 /// What is found, and the number of its line.
 #[derive(Drop)]
 pub(crate) struct Lack<A: Allocator> {
     pub(crate) line: u32,
     pub(crate) finding: Finding<A>,
+}
+
+impl<A: Allocator + Copy> Lack<A> {
+    /// What a whole certificate lacks.
+    fn whole(alloc: A, what: &str) -> Result<Lack<A>, AllocError> {
+        Ok(Lack {
+            line: 0,
+            finding: Finding::whole(alloc, what)?,
+        })
+    }
+
+    /// What is wrong with these bytes of a line, and a hint, empty where nothing is known.
+    fn marked<W: Display + Drop, H: Display + Drop>(
+        alloc: A,
+        line: u32,
+        mark: Mark,
+        what: W,
+        hint: H,
+    ) -> Result<Lack<A>, AllocError> {
+        Ok(Lack {
+            line,
+            finding: Finding::marked(alloc, mark, what, hint)?,
+        })
+    }
+}
+
+/// An item on its `wq` line: the number of the line, the workqueue, and the word.
+#[derive(Clone, Copy)]
+struct Placed<'a> {
+    line: u32,
+    workqueue: &'a [u8],
+    word: Token<'a>,
 }
 
 /// What a certificate lacks of which this is answered.
@@ -54,24 +90,30 @@ fn word_of<'a, A: Allocator + Copy>(
     table: &ItemTable<'_, A>,
     line: &Line<'a>,
     item: ItemId,
-) -> Option<Word<'a>> {
+) -> Option<Token<'a>> {
     for word in line.words().skip(2) {
         if table.find(word.bytes()) == Some(item) {
-            return Some(word);
+            return Some(Token::of(line, &word));
         }
     }
     None
 }
 
-/// The `wq` line on which an item stands.
-fn line_of<'a, A: Allocator + Copy>(
+/// Where an item stands.
+fn place_of<'a, A: Allocator + Copy>(
     table: &ItemTable<'_, A>,
     text: &Text<'a>,
     item: ItemId,
-) -> Option<Line<'a>> {
+) -> Option<Placed<'a>> {
     for line in text.lines() {
-        if begins_with(&line, b"wq") && word_of(table, &line, item).is_some() {
-            return Some(line);
+        if begins_with(&line, b"wq")
+            && let Some(word) = word_of(table, &line, item)
+        {
+            return Some(Placed {
+                line: line.no(),
+                workqueue: bytes_at(&line, 1),
+                word,
+            });
         }
     }
     None
@@ -85,35 +127,29 @@ fn not_falling<A: Allocator + Copy>(
     item: ItemId,
     target: ItemId,
 ) -> Result<Lack<A>, AllocError> {
-    if let (Some(line), Some(other)) = (line_of(table, text, item), line_of(table, text, target))
-        && let (Some(word), Some(flushed)) = (
-            word_of(table, &line, item),
-            word_of(table, &other, target),
-        )
-    {
-        let (name, target) = (Quoted(word.bytes()), Quoted(flushed.bytes()));
-        let what = format!(in alloc;
-            "`{name}` flushes `{target}`, so it should stand on a higher workqueue"
-        )?;
-        let hint = format!(in alloc;
-            "`{}` is on workqueue {}",
-            Quoted(flushed.bytes()),
-            Quoted(bytes_at(&other, 1))
-        )?;
-        let finding = Finding::marked(alloc, Mark::of(&line, &word), what).hint(hint);
-        return Ok(Lack {
-            line: line.no(),
-            finding,
-        });
+    match (place_of(table, text, item), place_of(table, text, target)) {
+        (Some(item), Some(target)) => too_low(alloc, item, target),
+        _ => Lack::whole(
+            alloc,
+            "an item doesn't stand on a higher workqueue than all that it flushes",
+        ),
     }
-    let what = said(
-        alloc,
-        "an item doesn't stand on a higher workqueue than all that it flushes",
-    )?;
-    Ok(Lack {
-        line: 0,
-        finding: Finding::whole(alloc, what),
-    })
+}
+
+/// An item that should stand above its target.
+fn too_low<A: Allocator + Copy>(
+    alloc: A,
+    item: Placed<'_>,
+    target: Placed<'_>,
+) -> Result<Lack<A>, AllocError> {
+    let Placed { line, word, .. } = item;
+    let flushed = target.word;
+    let workqueue = Quoted(target.workqueue);
+    let what = format_args!(
+        "`{word}` flushes `{flushed}`, so it should stand on a higher workqueue"
+    );
+    let hint = format_args!("`{flushed}` is on workqueue {workqueue}");
+    Lack::marked(alloc, line, word.mark, what, hint)
 }
 
 /// The line of this number, counted from 1, among those that begin with this word.
@@ -137,19 +173,22 @@ fn counted<A: Allocator + Copy>(
     first: &[u8],
     what: &str,
 ) -> Result<Lack<A>, AllocError> {
-    let what = said(alloc, what)?;
-    if let Some(line) = nth_line(text, first, 1)
-        && let Some(word) = word_at(&line, 1)
-    {
-        return Ok(Lack {
-            line: line.no(),
-            finding: Finding::marked(alloc, Mark::of(&line, &word), what),
-        });
+    match nth_line(text, first, 1) {
+        Some(line) => wrong_number(alloc, &line, what),
+        None => Lack::whole(alloc, what),
     }
-    Ok(Lack {
-        line: 0,
-        finding: Finding::whole(alloc, what),
-    })
+}
+
+/// What is wrong with the number on a line.
+fn wrong_number<A: Allocator + Copy>(
+    alloc: A,
+    line: &Line<'_>,
+    what: &str,
+) -> Result<Lack<A>, AllocError> {
+    match word_at(line, 1) {
+        Some(word) => Lack::marked(alloc, line.no(), word.mark, what, ""),
+        None => Lack::whole(alloc, what),
+    }
 }
 
 /// An arc that is no flush, or doesn't begin where the one before it ends.
@@ -159,25 +198,25 @@ fn broken_arc<A: Allocator + Copy>(
     at: u32,
     before: &str,
 ) -> Result<Lack<A>, AllocError> {
-    if let Some(line) = nth_line(text, b"arc", at)
-        && let Some(item) = word_at(&line, 1)
-        && let Some(target) = word_at(&line, 2)
-    {
-        let (name, flushed) = (Quoted(item.bytes()), Quoted(target.bytes()));
-        let what = format!(in alloc;
-            "`{name}` doesn't flush `{flushed}`, or isn't in the group of the target {before}"
-        )?;
-        return Ok(Lack {
-            line: line.no(),
-            finding: Finding::marked(alloc, Mark::of(&line, &item), what),
-        });
+    match nth_line(text, b"arc", at) {
+        Some(line) => wrong_arc(alloc, &line, before),
+        None => Lack::whole(alloc, WRONG_ARC),
     }
-    let what = said(
-        alloc,
-        "an arc is no flush, or doesn't begin where the one before it ends",
-    )?;
-    Ok(Lack {
-        line: 0,
-        finding: Finding::whole(alloc, what),
-    })
+}
+
+/// The line of such an arc.
+fn wrong_arc<A: Allocator + Copy>(
+    alloc: A,
+    line: &Line<'_>,
+    before: &str,
+) -> Result<Lack<A>, AllocError> {
+    match (word_at(line, 1), word_at(line, 2)) {
+        (Some(item), Some(target)) => {
+            let what = format_args!(
+                "`{item}` doesn't flush `{target}`, or isn't in the group of the target {before}"
+            );
+            Lack::marked(alloc, line.no(), item.mark, what, "")
+        }
+        _ => Lack::whole(alloc, WRONG_ARC),
+    }
 }

@@ -5,12 +5,12 @@
 ghost use Rattle.std.specs.Prelude.{◌≡◌, ◌<◌, length};
 
 use crate::excerpt::Quoted;
-use crate::finding::{Finding, Mark, bytes_at, said};
+use crate::finding::{Finding, Token, bytes_at, stands_before, twice_on_line};
 use crate::stage::{Kind, Stage};
 use std::alloc::{AllocError, Allocator};
 use wq_groups::Groups;
 use wq_items::{ItemId, ItemTable};
-use wq_text::{Line, Text, Word};
+use wq_text::{Line, Text};
 
 /// How many items are named that stand on no workqueue.
 const NAMED: usize = 3;
@@ -83,39 +83,49 @@ pub(crate) fn find_unplaced<A: Allocator + Copy>(
     text: &Text<'_>,
 ) -> Result<Finding<A>, AllocError> {
     let places = Places::above(alloc, kind, table, text, 0)?;
+    unplaced(alloc, table, &places)
+}
+
+/// The items that have no place.
+fn unplaced<A: Allocator + Copy>(
+    alloc: A,
+    table: &ItemTable<'_, A>,
+    places: &Places<A>,
+) -> Result<Finding<A>, AllocError> {
     let mut names = String::new(alloc);
     let mut count = 0usize;
     for i in 0..table.len() {
         let item = ItemId::new(i);
         if places.line_of(item).is_none() {
             if count < NAMED {
-                let separator = if count == 0 { "" } else { ", " };
-                write!(names, "{separator}`{}`", Quoted(table.name(item)))?;
+                put_name(&mut names, table.name(item))?;
             }
             count = count.saturating_add(1);
         }
     }
-    let what = match count.checked_sub(NAMED) {
-        Some(more) if more > 0 => format!(in alloc;
-            "{names} and {more} more stand on no workqueue"
-        )?,
-        _ if count == 1 => format!(in alloc; "{names} stands on no workqueue")?,
-        _ => format!(in alloc; "{names} stand on no workqueue")?,
-    };
-    Ok(Finding::whole(alloc, what))
+    unplaced_names(alloc, &names, count)
 }
 
-/// Whether a word stands on a line before this one, behind the number.
-fn stands_before(line: &Line<'_>, word: &Word<'_>) -> bool {
-    for other in line.words().skip(2) {
-        if other.span() == word.span() {
-            return false;
-        }
-        if other.bytes() == word.bytes() {
-            return true;
-        }
+/// Adds a name to those before.
+fn put_name<A: Allocator + Copy>(names: &mut String<A>, name: &[u8]) -> Result<(), AllocError> {
+    let separator = if names.is_empty() { "" } else { ", " };
+    write!(names, "{separator}`{}`", Quoted(name))
+}
+
+/// So many items that have no place, of which the first are named.
+fn unplaced_names<A: Allocator + Copy>(
+    alloc: A,
+    names: &str,
+    count: usize,
+) -> Result<Finding<A>, AllocError> {
+    match count.checked_sub(NAMED) {
+        Some(more) if more > 0 => Finding::whole(
+            alloc,
+            format_args!("{names} and {more} more stand on no workqueue"),
+        ),
+        _ if count == 1 => Finding::whole(alloc, format_args!("{names} stands on no workqueue")),
+        _ => Finding::whole(alloc, format_args!("{names} stand on no workqueue")),
     }
-    false
 }
 
 /// An item that stands on a second workqueue, or twice on one.
@@ -127,23 +137,38 @@ pub(crate) fn find_twice<A: Allocator + Copy>(
     line: &Line<'_>,
 ) -> Result<Finding<A>, AllocError> {
     let places = Places::above(alloc, kind, table, text, line.no())?;
+    placed_twice(alloc, table, &places, line)
+}
+
+/// The first item of a line that has a place, or stands before on the line.
+fn placed_twice<A: Allocator + Copy>(
+    alloc: A,
+    table: &ItemTable<'_, A>,
+    places: &Places<A>,
+    line: &Line<'_>,
+) -> Result<Finding<A>, AllocError> {
     for word in line.words().skip(2) {
-        let name = word.bytes();
-        let mark = Mark::of(line, &word);
-        if let Some(item) = table.find(name)
+        let word = Token::of(line, &word);
+        if let Some(item) = table.find(word.bytes)
             && let Some(first) = places.line_of(item)
         {
-            let what = format!(in alloc; "`{}` stands on a workqueue already", Quoted(name))?;
-            let hint = format!(in alloc; "on line {first}")?;
-            return Ok(Finding::marked(alloc, mark, what).hint(hint));
+            return placed_already(alloc, word, first);
         }
-        if stands_before(line, &word) {
-            let what = format!(in alloc; "`{}` stands twice on this line", Quoted(name))?;
-            return Ok(Finding::marked(alloc, mark, what));
+        if stands_before(line, 2, word) {
+            return twice_on_line(alloc, word);
         }
     }
-    let what = said(alloc, "an item of the line stands on a workqueue already")?;
-    Ok(Finding::whole(alloc, what))
+    Finding::whole(alloc, "an item of the line stands on a workqueue already")
+}
+
+/// A word whose item stands on a line above.
+fn placed_already<A: Allocator + Copy>(
+    alloc: A,
+    word: Token<'_>,
+    first: u32,
+) -> Result<Finding<A>, AllocError> {
+    let what = format_args!("`{word}` stands on a workqueue already");
+    Finding::marked(alloc, word.mark, what, format_args!("on line {first}"))
 }
 
 /// A member of the group of an item that stands on a line above.
@@ -179,19 +204,39 @@ pub(crate) fn find_split<A: Allocator + Copy>(
     requires { length groups.now.group_of ≡ length table.now.names }
 {
     let places = Places::above(alloc, kind, table, text, line.no())?;
+    split(alloc, table, groups, &places, line)
+}
+
+/// The first item of a line whose group has a place.
+fn split<A: Allocator + Copy>(
+    alloc: A,
+    table: &ItemTable<'_, A>,
+    groups: &Groups<A>,
+    places: &Places<A>,
+    line: &Line<'_>,
+) -> Result<Finding<A>, AllocError>
+    requires { length groups.now.group_of ≡ length table.now.names }
+{
     for word in line.words().skip(2) {
         if let Some(item) = table.find(word.bytes())
-            && let Some((other, first)) = placed_member(table, groups, &places, item)
+            && let Some((other, first)) = placed_member(table, groups, places, item)
         {
-            let name = Quoted(word.bytes());
-            let other = Quoted(other);
-            let what = format!(in alloc;
-                "`{name}` and `{other}` are on one `ordered` line, and on two workqueues"
-            )?;
-            let hint = format!(in alloc; "the other one on line {first}")?;
-            return Ok(Finding::marked(alloc, Mark::of(line, &word), what).hint(hint));
+            return split_from(alloc, Token::of(line, &word), Quoted(other), first);
         }
     }
-    let what = said(alloc, "a group of the line is on another workqueue too")?;
-    Ok(Finding::whole(alloc, what))
+    Finding::whole(alloc, "a group of the line is on another workqueue too")
+}
+
+/// A word whose item is in one group with another item, which stands on a line above.
+fn split_from<A: Allocator + Copy>(
+    alloc: A,
+    word: Token<'_>,
+    other: Quoted<'_>,
+    first: u32,
+) -> Result<Finding<A>, AllocError> {
+    let what = format_args!(
+        "`{word}` and `{other}` are on one `ordered` line, and on two workqueues"
+    );
+    let hint = format_args!("the other one on line {first}");
+    Finding::marked(alloc, word.mark, what, hint)
 }

@@ -3,8 +3,10 @@
 //! The forms are those of "Certificates" in docs/FORMAT.md. The lines above are of their forms, since a certificate is judged
 //! line by line. Going through them takes time in the length of the text.
 
+ghost use Rattle.std.specs.Prelude.{None};
+
 use crate::finding::bytes_at;
-use std::alloc::{AllocError, Allocator};
+use std::fmt;
 use wq_text::{Line, Text, number};
 
 /// Which certificate a text should be.
@@ -19,7 +21,7 @@ pub enum Kind {
 }
 
 /// What the next line should be.
-#[derive(Clone, Copy, Debug, PartialEq, Eq)]
+#[derive(Clone, Copy)]
 pub(crate) enum Stage {
     /// `plan K`.
     Plan,
@@ -117,34 +119,24 @@ impl Stage {
         }
     }
 
-    /// The line that should stand here, as a message names it.
-    pub(crate) fn form<A: Allocator + Copy>(self, alloc: A) -> Result<String<A>, AllocError> {
-        match self {
-            Stage::Plan => format!(in alloc; "`plan K`"),
-            Stage::Circle => format!(in alloc; "`circle N`"),
-            Stage::Workqueue { next, .. } => format!(in alloc; "`wq {next} NAME..`"),
-            Stage::Chain => format!(in alloc; "`chain N`"),
-            Stage::ChainArc { .. } | Stage::CircleArc { .. } => format!(in alloc;
-                "`arc NAME TARGET`"
-            ),
-            Stage::Run => format!(in alloc; "`run M`"),
-            Stage::Step { .. } => format!(in alloc; "a step"),
-            Stage::End => format!(in alloc; "nothing"),
-        }
+    /// Whether the text may end here.
+    pub(crate) fn may_end(self) -> bool {
+        matches!(self, Stage::End | Stage::Workqueue { left: None, .. })
     }
 
     /// Whether a line that should stand here may begin with this word.
     pub(crate) fn may_begin_with(self, word: &[u8]) -> bool {
-        match self {
-            Stage::Plan => word == b"plan".as_slice(),
-            Stage::Circle => word == b"circle".as_slice(),
-            Stage::Workqueue { .. } => word == b"wq".as_slice(),
-            Stage::Chain => word == b"chain".as_slice(),
-            Stage::ChainArc { .. } | Stage::CircleArc { .. } => word == b"arc".as_slice(),
-            Stage::Run => word == b"run".as_slice(),
-            Stage::Step { .. } => is_step(word),
-            Stage::End => false,
-        }
+        let first: &[u8] = match self {
+            Stage::Plan => b"plan",
+            Stage::Circle => b"circle",
+            Stage::Workqueue { .. } => b"wq",
+            Stage::Chain => b"chain",
+            Stage::ChainArc { .. } | Stage::CircleArc { .. } => b"arc",
+            Stage::Run => b"run",
+            Stage::Step { .. } => return is_step(word),
+            Stage::End => return false,
+        };
+        word == first
     }
 
     /// What stands behind the first word of such a line.
@@ -170,8 +162,26 @@ impl Stage {
     }
 }
 
+/// The line that should stand here, as a message names it.
+impl fmt::Display for Stage {
+    ghost output = { λ _. None };
+
+    fn fmt<W: fmt::Write>(&self, f: &mut fmt::Formatter<W>) -> fmt::Result {
+        match self {
+            Stage::Plan => f.write_str("`plan K`"),
+            Stage::Circle => f.write_str("`circle N`"),
+            Stage::Workqueue { next, .. } => write!(f, "`wq {next} NAME..`"),
+            Stage::Chain => f.write_str("`chain N`"),
+            Stage::ChainArc { .. } | Stage::CircleArc { .. } => f.write_str("`arc NAME TARGET`"),
+            Stage::Run => f.write_str("`run M`"),
+            Stage::Step { .. } => f.write_str("a step"),
+            Stage::End => f.write_str("nothing"),
+        }
+    }
+}
+
 /// What stands behind the first word of a line: maybe a number, and then so many names, or any number of them.
-#[derive(Clone, Copy, Debug, PartialEq, Eq)]
+#[derive(Clone, Copy)]
 pub(crate) struct Shape {
     pub(crate) has_number: bool,
     pub(crate) names: Option<usize>,
