@@ -24,6 +24,13 @@ module _ (R : ℕ → ℕ → Type 0) where
   pub IsEndless-before : (v w : ℕ) → R v w → IsEndless R w → IsEndless R v
   IsEndless-before v w waits endless m = BeginsChain-less R v (m + 1) (m + 1 + 1) (omega arith) (omega arith) (BeginsChain-more R v w (m + 1) waits (endless m))
 
+  -- where each vertex with P waits for one with P, these are endless
+  pub IsEndless-held : (P : ℕ → Type 0) → ((v : ℕ) → P v → (w : ℕ) × R v w × P w) → (v : ℕ) → P v → IsEndless R v
+  IsEndless-held P next v held zero = BeginsChain-at R v 1 (zero + 1) (omega arith) (BeginsChain-one R v)
+  IsEndless-held P next v held (suc m) =
+      let on = next v held in
+      BeginsChain-at R v (m + 1 + 1) (suc m + 1) (omega arith) (BeginsChain-more R v on.0 (m + 1) on.1 (IsEndless-held P next on.0 on.2 m))
+
   -- a chain with a vertex twice: its first vertex is endless
   endless_first : (x : ℕ) (xs : List ℕ) → IsChain R (x ∷ xs) → HasAgain (x ∷ xs) → IsEndless R x
   endless_first x xs chain (inl found) = endless_again x xs chain found

@@ -12,6 +12,7 @@ use Rattle.wq_graph.specs.Graph.{IsGraph, HasArc, arcs_at}
 use Rattle.wq_levels.specs.Ranks.{AreRanks}
 use Rattle.wq_levels.specs.Walks.{Remains, IsWayOn, vertices_walked, IsWalkedCircle}
 use Rattle.wq_levels.proofs.Graphs.{HasArc-below}
+use Rattle.wq_levels.proofs.Endless.{IsEndless-held}
 use Rattle.wq_levels.proofs.First.{Decided, Tells-told, told, IsFirst-find, least_from}
 use Rattle.wq_levels.proofs.WaysOn.{IsWayOn-first, Remains-next}
 use Rattle.wq_levels.proofs.Walks.{length-vertices_walked}
@@ -143,14 +144,12 @@ module _ (graph : List (List WaitArc)) where
 
   -- ---- what remains
 
-  -- vertices that each have an arc to one of them: chains of every length begin at each
-  held_chain : (kept : List ℕ) → All (λ v. (v < length graph) × Any (λ (a : WaitArc). Contains kept a.head) (arcs_at graph v)) kept → (n v : ℕ) → Contains kept v → BeginsChain (HasArc graph) v (n + 1)
-  held_chain kept held zero v kept_v = BeginsChain-at (HasArc graph) v 1 (zero + 1) (omega arith) (BeginsChain-one (HasArc graph) v)
-  held_chain kept held (suc n) v kept_v =
-      let arc = (All-contains (λ v. (v < length graph) × Any (λ (a : WaitArc). Contains kept a.head) (arcs_at graph v)) kept v held kept_v).1 in
-      BeginsChain-at (HasArc graph) v (n + 2) (suc n + 1) (omega arith)
-      (longer_from_arc v n (arc.0, arc.1, arc.2, arc.3, held_chain kept held n arc.1.head arc.4))
-
-  -- so they remain
+  -- vertices that each have an arc to one of them remain
   pub Remains-held : (kept : List ℕ) → All (λ v. (v < length graph) × Any (λ (a : WaitArc). Contains kept a.head) (arcs_at graph v)) kept → All (Remains graph) kept
-  Remains-held kept held k d fits = ((held k d fits).0, held_chain kept held (length graph) (get_or kept k d) (Contains-get_or kept k d fits))
+  Remains-held kept held k d fits =
+      ((held k d fits).0, IsEndless-held (HasArc graph) (Contains kept) next (get_or kept k d) (Contains-get_or kept k d fits) (length graph))
+    where
+      next : (v : ℕ) → Contains kept v → (w : ℕ) × HasArc graph v w × Contains kept w
+      next v kept_v =
+          let arc = (All-contains (λ (u : ℕ). (u < length graph) × Any (λ (a : WaitArc). Contains kept a.head) (arcs_at graph u)) kept v held kept_v).1 in
+          (arc.1.head, (arc.0, arc.1, arc.2, arc.3, refl), arc.4)

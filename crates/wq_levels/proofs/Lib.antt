@@ -1,9 +1,11 @@
-pub mod Capped
 pub mod Graphs
-pub mod MidRound
 pub mod Ranks
 pub mod Endless
 pub mod First
+pub mod Times
+pub mod Turned
+pub mod Taken
+pub mod Marked
 pub mod WaysOn
 pub mod Walks
 pub mod UnderWay

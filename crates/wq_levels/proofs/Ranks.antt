@@ -1,5 +1,5 @@
 -- Laws of ranks of wait graphs.
-use Rattle.std.proofs.Common.{◌≡◌, ℕ, zero, suc, ◌+◌, ◌<◌, ◌≤◌, inl, inr, List, length, slice_index, EachIndex, SomeIndex, MatchBool, nat_eq, refl, sym, ◌∙◌, ext_get_or, ne_eqb, subst, arith}
+use Rattle.std.proofs.Common.{◌≡◌, ℕ, ◌+◌, ◌<◌, ◌≤◌, inl, inr, List, length, slice_index, sym, ◌∙◌, ext_get_or, subst, arith}
 use Rattle.std.specs.List.{All, Any}
 use Rattle.std.proofs.lemmas.Bool.{cases_lt}
 use Rattle.std.proofs.lemmas.List.Elements.{All-from_get_or}
@@ -9,52 +9,9 @@ use Rattle.wq_items.proofs.Circles.{no_circle_from_ranks, circle_from_BeginsChai
 use Rattle.wq_graph.specs.declared.arc.WaitArc.{WaitArc}
 use Rattle.wq_graph.specs.Graph.{IsGraph, HasArc, arcs_at}
 use Rattle.wq_levels.specs.Ranks.{AreRanks}
-use Rattle.wq_levels.specs.Rounds.{AreCapped}
-use Rattle.wq_levels.specs.Walks.{Remains, MarkRemaining}
 use Rattle.wq_levels.proofs.Graphs.{HasArc-below}
-use Rattle.wq_levels.proofs.Capped.{IsRank-from_capped}
-
--- what a test for 0 decides
-pub MatchBool-zero : (n : ℕ) (P Q : Type 0) → (n ≡ 0 → P) → (0 < n → Q) → MatchBool (nat_eq n 0) P Q
-MatchBool-zero zero P Q none some = none refl
-MatchBool-zero (suc n) P Q none some = rw (ne_eqb (suc n) 0 (λ e. omega arith)) (some (omega arith))
 
 module _ (graph : List (List WaitArc)) (ranks : List ℕ) where
-  -- after a round that raised none
-  pub AreRanks-from_capped : (rounds : ℕ) → length ranks ≡ length graph → AreCapped (HasArc graph) (rounds + 1) ranks → EachIndex ranks (λ v. slice_index ranks v ≤ rounds) → AreRanks graph ranks
-  AreRanks-from_capped rounds one_each capped settled = record {
-    one_each = one_each;
-    longest = λ v vertex. let fits : v < length ranks = omega arith in IsRank-from_capped (HasArc graph) rounds v (slice_index ranks v) (settled v fits) (capped v fits);
-  }
-
-  -- where there is no vertex
-  pub AreRanks-none : length ranks ≡ length graph → length graph ≡ 0 → AreRanks graph ranks
-  AreRanks-none one_each none = record { one_each = one_each; longest = λ v vertex. absurd (omega arith) }
-
-  -- after as many rounds as there are vertices: a vertex that each of them raised remains, and no other
-  Remains-from_top : (rounds : ℕ) → rounds ≡ length graph → length ranks ≡ length graph → AreCapped (HasArc graph) rounds ranks → (v : ℕ) → v < length graph → slice_index ranks v ≡ length graph → Remains graph v
-  Remains-from_top rounds all one_each capped v vertex top =
-      let fits : v < length ranks = omega arith in
-      (vertex, BeginsChain-at (HasArc graph) v (slice_index ranks v + 1) (length graph + 1) (omega arith) (capped v fits).begins)
-
-  top_from_Remains : (rounds : ℕ) → rounds ≡ length graph → length ranks ≡ length graph → AreCapped (HasArc graph) rounds ranks → (v : ℕ) → Remains graph v → slice_index ranks v ≡ length graph
-  top_from_Remains rounds all one_each capped v remains =
-      let vertex : v < length graph = remains.0 in
-      let fits : v < length ranks = omega arith in
-      let within : slice_index ranks v ≤ rounds = (capped v fits).within in
-      elim (cases_lt (slice_index ranks v) rounds) [
-        | inl lower ↦ absurd ((capped v fits).ends lower (BeginsChain-less (HasArc graph) v (slice_index ranks v + 2) (length graph + 1) (omega arith) (omega arith) remains.1))
-        | inr high ↦ omega arith
-      ]
-
-  -- after as many rounds as there are vertices, each of which raised one
-  pub MarkRemaining-from_capped : (rounds : ℕ) → rounds ≡ length graph → length ranks ≡ length graph → AreCapped (HasArc graph) rounds ranks → SomeIndex ranks (λ v. slice_index ranks v ≡ rounds) → MarkRemaining graph ranks
-  MarkRemaining-from_capped rounds all one_each capped raised = record {
-    one_each = one_each;
-    marked = λ v vertex. (Remains-from_top rounds all one_each capped v vertex, top_from_Remains rounds all one_each capped v);
-    some = (raised.0, raised.1, raised.2 ∙ all);
-  }
-
   -- no circle has ranks
   pub AreRanks-no_circle : AreRanks graph ranks → ¬ HasCircle (HasArc graph) (length graph)
   AreRanks-no_circle are = no_circle_from_ranks (HasArc graph) (length graph) (λ v vertex. (slice_index ranks v, are.longest v vertex))

@@ -2,14 +2,15 @@
 //!
 //! What the layer above relies on: longest-chain ranks, or the circle of the walk, as "Plan texts" and "Circle texts"
 //! in docs/FORMAT.md say. The rule behind it is that of Documentation/core-api/workqueue.rst, "Guidelines": work items
-//! that depend on one another stand on separate workqueues, so a chain of n vertices needs n. It takes time in the ranks
-//! times the vertices and arcs.
+//! that depend on one another stand on separate workqueues, so a chain of n vertices needs n. It takes time and memory in
+//! the vertices and the arcs.
 #![tactic(auto)]
 
+mod incoming;
 pub mod laws;
+mod progress;
 mod ranked;
 mod ranking;
-mod rounds;
 mod walk;
 
 pub use ranked::Ranked;

@@ -1,26 +1,54 @@
 //! The rank of each vertex, or the circle that leaves some without one.
 //!
-//! The rounds find the ranks, or else which vertices remain, and the walk then finds the circle: the
-//! workqueues of "Plan texts" and the circle of "Circle texts" in docs/FORMAT.md. Most of the running time is that of
-//! the rounds: at most the vertices times the vertices and arcs.
+//! A vertex is taken off once all of its arcs have gone, and the arcs that lead to it go then: so each vertex comes after those
+//! that it waits for (A. B. Kahn, "Topological sorting of large networks", Communications of the ACM 5, 1962). Where all are
+//! taken off, their ranks are found: the workqueues of "Plan texts" in docs/FORMAT.md. The others are those that remain, and
+//! the walk from the lowest-numbered of them finds the circle of "Circle texts". Takes time and memory in the vertices and the
+//! arcs.
 
-ghost use Rattle.std.specs.Prelude.{◌≡◌, ◌<◌, length, replicate, IfOk, OnErr};
+ghost use Rattle.std.specs.Prelude.{◌≡◌, ◌<◌, ◌↔◌, length, IfOk, OnErr, IsTrue};
+ghost use Rattle.std.specs.List.{Any};
 ghost use Rattle.wq_levels.specs.Ranked.{IsRanking};
+ghost use Rattle.wq_levels.specs.Taking.{AreMarked, AreTakenOff};
 
+use crate::incoming::tails;
+use crate::progress::Progress;
 use crate::ranked::Ranked;
-use crate::rounds::settle;
 use crate::walk::walk_circle;
 use std::alloc::{AllocError, Allocator};
 use wq_graph::WaitGraph;
 
-/// So many ranks of 0.
-fn lowest<A: Allocator + Copy>(alloc: A, count: u16) -> Result<Vec<u16, A>, AllocError>
-    ensures ranks { IfOk result (λ ranks. ranks.items ≡ replicate count 0) }
-    ensures memory { OnErr result (0 < count) }
+/// Takes off each vertex whose arcs all go.
+fn take_off<A: Allocator + Copy>(alloc: A, graph: &WaitGraph<A>) -> Result<Progress<A>, AllocError>
+    ensures { IfOk result (λ p. AreTakenOff graph.now p.remaining p.ranks) }
 {
-    let mut ranks = Vec::with_capacity(alloc, usize::from(count))?;
-    ranks.resize(usize::from(count), 0)?;
-    Ok(ranks)
+    let tails = tails(alloc, graph)?;
+    let mut progress = Progress::new(alloc, graph)?;
+    for place in 0..graph.vertices() {
+        if let Some(vertex) = progress.nth(usize::from(place)) {
+            progress.take_off(vertex, &tails[usize::from(vertex)])?;
+        }
+    }
+    Ok(progress)
+}
+
+/// Gives this rank to each vertex of which an arc remains.
+fn mark_remaining(remaining: &[usize], ranks: &mut [u16], mark: u16)
+    requires { length remaining.now ≡ length ranks.old }
+    ensures { AreMarked remaining.now mark ranks.old ranks.new }
+{
+    for (v, arcs) in remaining.iter().enumerate() {
+        if *arcs > 0 {
+            ranks[v] = mark;
+        }
+    }
+}
+
+/// Whether an arc of some vertex remains.
+fn is_any_left(remaining: &[usize]) -> bool
+    ensures { IsTrue result ↔ Any (λ arcs. 0 < arcs) remaining.now }
+{
+    remaining.iter().any(|arcs| *arcs > 0)
 }
 
 /// The ranks of a wait graph where it has no circle, and else the circle of its walk.
@@ -30,9 +58,14 @@ pub fn rank<A: Allocator + Copy>(alloc: A, graph: &WaitGraph<A>) -> Result<Ranke
     ensures ranking { IfOk result (IsRanking graph.now) }
     ensures memory { OnErr result (0 < length graph.now) }
 {
-    let mut ranks = lowest(alloc, graph.vertices())?;
-    if settle(graph, ranks.as_mut_slice()) {
+    let vertices = graph.vertices();
+    if vertices == 0 {
+        return Ok(Ranked::Ranks(Vec::new(alloc)));
+    }
+    let (remaining, mut ranks) = take_off(alloc, graph)?.into_parts();
+    if !is_any_left(&remaining) {
         return Ok(Ranked::Ranks(ranks));
     }
+    mark_remaining(&remaining, ranks.as_mut_slice(), vertices);
     Ok(Ranked::Circle(walk_circle(alloc, graph, &ranks)?))
 }

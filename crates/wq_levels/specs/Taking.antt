@@ -1,0 +1,73 @@
+-- Taking vertices off a wait graph: a vertex is taken off once all of its arcs have gone, and the arcs that lead to it go
+-- then.
+use Rattle.std.specs.Prelude.{◌≡◌, ◌≢◌, ◌↔◌, ℕ, ◌+◌, ◌-◌, ◌<◌, ◌==◌, cond, max, List, [], ◌∷◌, ◌++◌, length, fold, count_by, slice_index, slice_index_or, slice_set, Contains}
+use Rattle.wq_items.specs.Chain.{IsRank, Repeats}
+use Rattle.wq_graph.specs.declared.arc.WaitArc.{WaitArc}
+use Rattle.wq_graph.specs.Graph.{HasArc, arcs_at}
+use Rattle.wq_levels.specs.Walks.{Remains}
+
+-- ---- against the arcs
+
+-- how often vertex v is in the list
+abbrev pub times : List ℕ → ℕ → ℕ
+times vs v = count_by (λ (u : ℕ). u == v) vs
+
+-- how many of these arcs lead to vertex w
+abbrev pub arcs_to : List WaitArc → ℕ → ℕ
+arcs_to arcs w = count_by (λ (a : WaitArc). a.head == w) arcs
+
+-- the list of vertex w
+abbrev pub tails_at : List (List ℕ) → ℕ → List ℕ
+tails_at tails w = slice_index_or tails w []
+
+-- vertex v came to the lists of the heads of these arcs, once for each arc
+pub record HasTails (old new : List (List ℕ)) (v : ℕ) (arcs : List WaitArc) : Type 0 where
+  pub one_each : length new ≡ length old
+  pub own : (w : ℕ) → w < length old → times (tails_at new w) v ≡ times (tails_at old w) v + arcs_to arcs w
+  pub others : (u w : ℕ) → u ≢ v → times (tails_at new w) u ≡ times (tails_at old w) u
+
+-- of each vertex the vertices that the arcs to it leave, once for each arc
+pub record AreTails (graph : List (List WaitArc)) (tails : List (List ℕ)) : Type 0 where
+  pub one_each : length tails ≡ length graph
+  pub turned : (v w : ℕ) → w < length graph → times (tails_at tails w) v ≡ arcs_to (arcs_at graph v) w
+
+-- ---- under way
+
+-- of each vertex how many of its arcs haven't gone, and its rank by those that have gone; and the vertices whose arcs have all
+-- gone, in the order in which that happened
+pub record Taking : Type 0 where
+  pub remaining : List ℕ
+  pub ranks : List ℕ
+  pub order : List ℕ
+
+-- of the first n vertices those of which no arc remains, each once
+pub record AreFree (n : ℕ) (remaining order : List ℕ) : Type 0 where
+  pub free : (v : ℕ) → Contains order v ↔ ((v < n) × (slice_index remaining v ≡ 0))
+  pub once : ¬ Repeats order
+
+-- after an arc of vertex v to one of this rank has gone
+abbrev pub with_arc_gone : ℕ → Taking → ℕ → Taking
+with_arc_gone rank p v = record {
+  remaining = slice_set p.remaining v (slice_index p.remaining v - 1);
+  ranks = slice_set p.ranks v (max (slice_index p.ranks v) (rank + 1));
+  order = cond (slice_index p.remaining v == 1) (p.order ++ (v ∷ [])) p.order;
+}
+
+-- after an arc of each of these vertices to one of this rank has gone
+abbrev pub with_arcs_gone : ℕ → Taking → List ℕ → Taking
+with_arcs_gone rank p vs = fold (with_arc_gone rank) p vs
+
+-- ---- at the end
+
+-- a vertex of which no arc remains has its rank, and any other remains
+pub record AreTakenOff (graph : List (List WaitArc)) (remaining ranks : List ℕ) : Type 0 where
+  pub one_each : length remaining ≡ length graph
+  pub one_rank_each : length ranks ≡ length graph
+  pub ranked : (v : ℕ) → v < length graph → slice_index remaining v ≡ 0 → IsRank (HasArc graph) v (slice_index ranks v)
+  pub held : (v : ℕ) → v < length graph → 0 < slice_index remaining v → Remains graph v
+
+-- a vertex of which an arc remains has this rank now, and any other keeps its own
+pub record AreMarked (remaining : List ℕ) (mark : ℕ) (old new : List ℕ) : Type 0 where
+  pub one_each : length new ≡ length old
+  pub marked : (v : ℕ) → v < length remaining → 0 < slice_index remaining v → slice_index new v ≡ mark
+  pub kept : (v : ℕ) → slice_index remaining v ≡ 0 → slice_index new v ≡ slice_index old v

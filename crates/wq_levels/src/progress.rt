@@ -1,0 +1,125 @@
+//! How far taking off the vertices has come: of each vertex its arcs that haven't gone and its rank so far, and the vertices
+//! that wait to be taken off.
+//!
+//! An arc goes in constant time. Making it takes time and memory in the vertices.
+
+ghost use Rattle.std.specs.Prelude.{◌≡◌, ◌<◌, ◌≤◌, ℕ, length, map, replicate, slice_index, slice_get, IfOk};
+ghost use Rattle.wq_levels.specs.Taking.{AreFree, times, with_arc_gone, with_arcs_gone};
+
+use std::alloc::{AllocError, Allocator};
+use std::marker::Model;
+use wq_graph::WaitGraph;
+
+/// Vertices being taken off.
+#[derive(Drop)]
+pub(crate) struct Progress<A: Allocator> {
+    remaining: Vec<usize, A>,
+    ranks: Vec<u16, A>,
+    order: Vec<u16, A>,
+}
+
+impl<A: Allocator> Model for Progress<A> {
+    ghost use Rattle.wq_levels.specs.Taking.{Taking};
+
+    ghost Value = { Taking };
+
+    ghost view = { λ p. record { remaining = p.remaining.items; ranks = p.ranks.items; order = p.order.items } };
+}
+
+/// Of each vertex in turn how many arcs it has.
+fn arc_counts<A: Allocator + Copy>(
+    alloc: A,
+    graph: &WaitGraph<A>,
+) -> Result<Vec<usize, A>, AllocError>
+    ensures { IfOk result (λ counts. counts.items ≡ map length graph.now) }
+{
+    let vertices = graph.vertices();
+    let mut counts = Vec::with_capacity(alloc, usize::from(vertices))?;
+    for v in 0..vertices {
+        counts.push(graph.arcs(v).len())?;
+    }
+    Ok(counts)
+}
+
+/// Of so many vertices those of which no arc remains. There is room for all of them.
+fn free<A: Allocator + Copy>(
+    alloc: A,
+    remaining: &[usize],
+    vertices: u16,
+) -> Result<Vec<u16, A>, AllocError>
+    requires { length remaining.now ≡ vertices }
+    ensures { IfOk result (λ order. AreFree vertices remaining.now order.items) }
+{
+    let mut order = Vec::with_capacity(alloc, usize::from(vertices))?;
+    for v in 0..vertices {
+        if remaining[usize::from(v)] == 0 {
+            order.push(v)?;
+        }
+    }
+    Ok(order)
+}
+
+impl<A: Allocator + Copy> Progress<A> {
+    /// No arc has gone yet.
+    pub(crate) fn new(alloc: A, graph: &WaitGraph<A>) -> Result<Self, AllocError>
+        ensures remaining { IfOk result (λ p. p.remaining ≡ map length graph.now) }
+        ensures ranks { IfOk result (λ p. p.ranks ≡ replicate (length graph.now) 0) }
+        ensures order { IfOk result (λ p. AreFree (length graph.now) p.remaining p.order) }
+    {
+        let vertices = graph.vertices();
+        let remaining = arc_counts(alloc, graph)?;
+        let ranks = vec![in alloc; 0; usize::from(vertices)]?;
+        let order = free(alloc, &remaining, vertices)?;
+        Ok(Progress {
+            remaining,
+            ranks,
+            order,
+        })
+    }
+
+    /// The vertex at this place of the order, if the order has come so far.
+    pub(crate) fn nth(&self, place: usize) -> Option<u16>
+        ensures { result ≡ slice_get self.now.order place }
+    {
+        self.order.get(place).copied()
+    }
+
+    /// An arc of a vertex goes, to one of this rank.
+    fn lose_arc(&mut self, vertex: u16, rank: u16) -> Result<(), AllocError>
+        requires one_each { length self.old.ranks ≡ length self.old.remaining }
+        requires some { 0 < slice_index self.old.remaining vertex }
+        requires low { rank < 4096 }
+        ensures { IfOk result (λ _. self.new ≡ with_arc_gone rank self.old vertex) }
+    {
+        let at = usize::from(vertex);
+        self.ranks[at] = self.ranks[at].max(rank + 1);
+        self.remaining[at] -= 1;
+        if self.remaining[at] == 0 {
+            self.order.push(vertex)?;
+        }
+        Ok(())
+    }
+
+    /// Takes off a vertex: an arc of each of these vertices goes.
+    pub(crate) fn take_off(&mut self, vertex: u16, tails: &[u16]) -> Result<(), AllocError>
+        requires one_each { length self.old.ranks ≡ length self.old.remaining }
+        requires vertex { vertex < length self.old.ranks }
+        requires low { slice_index self.old.ranks vertex < 4096 }
+        requires some { (v : ℕ) → times tails.now v ≤ slice_index self.old.remaining v }
+        ensures { IfOk result (λ _. self.new ≡ with_arcs_gone (slice_index self.old.ranks vertex) self.old tails.now) }
+    {
+        let rank = self.ranks[usize::from(vertex)];
+        for tail in tails {
+            self.lose_arc(*tail, rank)?;
+        }
+        Ok(())
+    }
+
+    /// Of each vertex how many of its arcs remain, and its rank.
+    pub(crate) fn into_parts(self) -> (Vec<usize, A>, Vec<u16, A>)
+        ensures remaining { result.0.items ≡ self.remaining }
+        ensures ranks { result.1.items ≡ self.ranks }
+    {
+        (self.remaining, self.ranks)
+    }
+}
