@@ -1,0 +1,231 @@
+"""The worst inputs that were found for each command but `run`, within the limits of docs/FORMAT.md.
+
+A case is a name, a command and its texts. `cases(PROGRAM)` gives all of them, the same ones each time; a certificate or a run that
+belongs to a declaration is what PROGRAM answers to it.
+"""
+
+import random
+import subprocess
+
+ITEMS = 4096
+FLUSHES = 16384
+MOST_DECLARATION = 1048576
+MOST_LINE = 4096
+MOST_CERTIFICATE = 8388608
+MOST_CERTIFICATE_LINE = 524288
+HALF = ITEMS // 2
+LAST = ITEMS - 1
+
+
+def short(i):
+    return f"{i:x}"
+
+
+def long(i):
+    return short(i).rjust(63, "-")
+
+
+# ---- declarations
+
+def declaration(items, flushes, ordered=(), name=short):
+    """All items, of each group a line with its items, and of each flush a line."""
+    lines = [f"item {name(i)}\n" for i in range(items)]
+    lines += ["ordered " + " ".join(name(i) for i in group) + "\n" for group in ordered]
+    lines += [f"flush {name(source)} {name(target)}\n" for source, target in flushes]
+    return "".join(lines)
+
+
+def chain():
+    """Each item flushes the next one four times."""
+    return [(i, i + 1) for i in range(LAST) for _ in range(4)]
+
+
+def downwards():
+    """Each item flushes the one before it four times, so that what is lowest comes last."""
+    return [(i + 1, i) for i in range(LAST) for _ in range(4)]
+
+
+def circle():
+    """Each item flushes the next one four times, and the last one the first."""
+    return [(i, (i + 1) % ITEMS) for i in range(ITEMS) for _ in range(4)]
+
+
+def one_flushes_all():
+    """The last item flushes the others, again and again."""
+    return [(LAST, place % LAST) for place in range(FLUSHES)]
+
+
+def all_flush_one():
+    """The others flush the first item, again and again."""
+    return [(1 + place % LAST, 0) for place in range(FLUSHES)]
+
+
+def layers():
+    """Each item flushes the four after it, so that each may be reached on very many ways."""
+    return [(i, i + step) for i in range(ITEMS - 4) for step in (1, 2, 3, 4)]
+
+
+def drawn(seed):
+    """Random flushes, in both directions."""
+    numbers = random.Random(seed)
+    return [(numbers.randrange(ITEMS), numbers.randrange(ITEMS)) for _ in range(FLUSHES)]
+
+
+def falling(seed):
+    """Random flushes to items declared earlier."""
+    numbers = random.Random(seed)
+    return [tuple(sorted(numbers.sample(range(ITEMS), 2), reverse=True)) for _ in range(FLUSHES)]
+
+
+def pairs():
+    """Two items each that flush each other: as many circles as there can be."""
+    return [(i, i ^ 1) for i in range(ITEMS) for _ in range(4)]
+
+
+# Items that wait for the last of a long workqueue, and two that hang.
+WAITING = 2046
+
+
+def waiting():
+    """The first items flush the last one of the next 2,048, which flush nothing; the last two flush each other."""
+    return [(i, WAITING + 2047) for i in range(WAITING)] + [(ITEMS - 2, ITEMS - 1), (ITEMS - 1, ITEMS - 2)]
+
+
+def waiting_workqueues(name=short):
+    queues = [[i] for i in range(WAITING)] + [range(WAITING, WAITING + 2048), [ITEMS - 2], [ITEMS - 1]]
+    return workqueues(queues, name)
+
+
+def waiting_for_group():
+    """The same as groups: 3,094 items flush the last one of a group of 1,000, and the last two flush each other."""
+    group = range(ITEMS - 1002, ITEMS - 2)
+    flushes = [(i, ITEMS - 3) for i in range(ITEMS - 1002)] + [(ITEMS - 2, ITEMS - 1), (ITEMS - 1, ITEMS - 2)]
+    return declaration(ITEMS, flushes, [group])
+
+
+def padded(line, count, most):
+    """As many of these lines as a text of so many bytes has room for."""
+    return line * min(count, most // len(line))
+
+
+# ---- assignments and runs
+
+def workqueues(queues, name=short):
+    return "".join(f"wq {q}" + "".join(f" {name(i)}" for i in items) + "\n" for q, items in enumerate(queues))
+
+
+def one():
+    return workqueues([range(ITEMS)])
+
+
+def two():
+    return workqueues([range(HALF), range(HALF, ITEMS)])
+
+
+def own():
+    return workqueues([i] for i in range(ITEMS))
+
+
+def backwards():
+    return workqueues([i] for i in reversed(range(ITEMS)))
+
+
+def run_text(first, again, most=MOST_CERTIFICATE):
+    """The first steps, and then the others again and again, as often as the longest text has room for."""
+    head, body = "".join(first), "".join(again)
+    turns = (most - len(head) - len("run 99999999\n")) // len(body)
+    return f"run {len(first) + turns * len(again)}\n" + head + body * turns
+
+
+def queued(items, name=short):
+    return [f"queue {name(i)}\n" for i in items]
+
+
+def runs():
+    """Of each a name, the declaration, the assignment and the run."""
+    nothing = declaration(ITEMS, [])
+    everything = queued(range(ITEMS))
+    yield "the last of 4,096 entries cancelled and queued", nothing, one(), run_text(everything, ["cancel fff\n", "queue fff\n"])
+    yield "4,096 entries rotated", nothing, one(), run_text(everything, [s for i in range(ITEMS) for s in (f"cancel {i:x}\n", f"queue {i:x}\n")])
+    yield "4,096 entries cancelled from the last one on", nothing, one(), run_text([], everything + [f"cancel {i:x}\n" for i in reversed(range(ITEMS))])
+    yield "an entry queued, started and finished", nothing, one(), run_text([], ["queue 0\n", "start 0 0\n", "finish 0 0\n"])
+    yield "the same on the last of 4,096 workqueues", nothing, own(), run_text([], ["queue fff\n", "start 4095 fff\n", "finish 4095 fff\n"])
+    targets = [(0, 1)] * (FLUSHES - 1) + [(0, 2)]
+    turn = ["queue 0\n", "start 0 0\n"] + ["wait 0 2\n", "over 0 2\n"] * FLUSHES + ["finish 0 0\n"]
+    yield "waits for the last of 16,384 targets", declaration(ITEMS, targets), own(), run_text([], turn)
+    several = [(0, 1 + place % LAST) for place in range(FLUSHES)]
+    turn = ["queue 0\n", "start 0 0\n"] + [s for place in reversed(range(FLUSHES)) for s in (f"wait 0 {1 + place % LAST:x}\n", f"over 0 {1 + place % LAST:x}\n")] + ["finish 0 0\n"]
+    yield "waits for 4,095 targets, the last one first", declaration(ITEMS, several), own(), run_text([], turn)
+    behind = [(0, LAST)] * FLUSHES
+    queues = workqueues([[0], range(1, ITEMS)])
+    turn = ["queue 0\n", "start 0 0\n"] + ["wait 0 fff\n", "over 0 fff\n"] * FLUSHES + ["finish 0 0\n"]
+    yield "waits for an item behind 4,094 entries", declaration(ITEMS, behind), queues, run_text(queued(range(1, LAST)), turn)
+    yield "4,096 workqueues start and finish", nothing, own(), run_text([], [s for i in range(ITEMS) for s in (f"queue {i:x}\n", f"start {i} {i:x}\n", f"finish {i} {i:x}\n")])
+    names = declaration(ITEMS, [], name=long)
+    yield "the longest names", names, workqueues([range(ITEMS)], long), run_text(queued(range(ITEMS), long), [f"cancel {long(LAST)}\n", f"queue {long(LAST)}\n"])
+    yield "the longest text of empty lines", nothing, one(), padded("\n", MOST_CERTIFICATE, MOST_CERTIFICATE - 6) + "run 0\n"
+    yield "the longest lines of comments", nothing, one(), padded("#" * MOST_CERTIFICATE_LINE + "\n", 16, MOST_CERTIFICATE - 6) + "run 0\n"
+    yield "not lawful at the last step", nothing, one(), run_text(everything, ["cancel fff\n", "queue fff\n"], MOST_CERTIFICATE - 16) + "start 1 0\n"
+
+
+def declarations():
+    """Of each a name, and the declaration."""
+    yield "a chain", declaration(ITEMS, chain())
+    yield "a chain downwards", declaration(ITEMS, downwards())
+    yield "a circle of all", declaration(ITEMS, circle())
+    yield "one flushes all", declaration(ITEMS, one_flushes_all())
+    yield "all flush one", declaration(ITEMS, all_flush_one())
+    yield "layers", declaration(ITEMS, layers())
+    yield "random flushes", declaration(ITEMS, falling(1))
+    yield "random flushes with circles", declaration(ITEMS, drawn(2))
+    yield "2,048 circles of two", declaration(ITEMS, pairs())
+    yield "2,046 wait for the last of 2,048", declaration(ITEMS, waiting())
+    yield "3,094 wait for the last of a group of 1,000", waiting_for_group()
+    yield "groups of two, a chain of them", declaration(ITEMS, [(i, (i + 2) % ITEMS) for i in range(ITEMS - 2) for _ in range(4)], [[i, i + 1] for i in range(0, ITEMS, 2)])
+
+
+def texts():
+    """Declarations that are long rather than hard."""
+    lines = declaration(ITEMS, falling(3), name=long)[:MOST_DECLARATION]
+    yield "the longest names", lines[:lines.rindex("\n") + 1]
+    yield "empty lines alone", "\n" * MOST_DECLARATION
+    yield "comments alone", ("#" * MOST_LINE + "\n") * (MOST_DECLARATION // (MOST_LINE + 1))
+    yield "lines of spaces", (" " * MOST_LINE + "\n") * (MOST_DECLARATION // (MOST_LINE + 1))
+    many = "flush 0" + " 1" * ((MOST_LINE - 7) // 2) + "\n"
+    yield "long lines of short names", "item 0\nitem 1\n" + many * (FLUSHES // many.count(" 1"))
+    yield "an unknown name at the end", declaration(ITEMS, falling(4)) + "flush 0 unknown\n"
+    yield "a wrong byte at the end", declaration(ITEMS, falling(4)) + "\x7f\n"
+
+
+class Program:
+    def __init__(self, path):
+        self.path = path
+
+    def answer(self, command, folder, *words):
+        run = subprocess.run([self.path, command, *words], capture_output=True, cwd=folder)
+        return run.stdout.decode("ascii")
+
+
+def cases(program, folder, write):
+    """All cases. `write(text)` writes a text into the folder and gives its name there."""
+    for name, text in declarations():
+        path = write(text)
+        yield "plan", name, [path]
+        yield "check", name, [path, write(program.answer("plan", folder, path))]
+        yield "circles", name, [path]
+        yield "dot", name, [path]
+        # A group of an `ordered` line stays together, so the assignments of single items are for the others.
+        if "ordered" not in text:
+            for kind, assignment in [("one workqueue", one()), ("two workqueues", two()), ("own workqueues", own()), ("own workqueues backwards", backwards())]:
+                yield "deadlock", f"{name}, {kind}", [path, write(assignment)]
+            yield "circles", f"{name}, one workqueue", [path, write(one())]
+            yield "dot", f"{name}, two workqueues", [path, write(two())]
+    path = write(declaration(ITEMS, waiting()))
+    yield "deadlock", "2,046 workqueues wait for the last of 2,048 items", [path, write(waiting_workqueues())]
+    for name, text in texts():
+        path = write(text)
+        yield "plan", name, [path]
+    for name, text, assignment, run in runs():
+        yield "replay", name, [write(text), write(assignment), write(run)]
+    path, queues = write(declaration(ITEMS, circle())), write(one())
+    yield "replay", "what deadlock answers to a circle on one workqueue", [path, queues, write(program.answer("deadlock", folder, path, queues))]
