@@ -1,0 +1,12 @@
+//! Places by their keys: of each key the places where it is in a list, in rising order.
+//!
+//! What the layers above rely on: the buckets are `buckets_of` the list, one for each key. They know nothing of declarations.
+//! Making them takes time and memory in the list and the keys, and nothing is compared.
+#![tactic(auto)]
+
+mod buckets;
+mod cuts;
+mod links;
+
+pub use buckets::Buckets;
+pub use cuts::piece;
