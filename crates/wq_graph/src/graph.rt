@@ -1,10 +1,10 @@
 //! Who waits for whom: of each vertex the declared flushes that leave it.
 //!
 //! The vertices are the groups of the items, or their lanes, so an arc leaves a group or a lane whichever of its items
-//! declares the flush. Making a graph takes time and memory in the items, the vertices and the flushes; each other call
-//! takes constant time.
+//! declares the flush. All arcs are in one vector, those of vertex 0 first, and of each vertex it is known where its arcs begin.
+//! Making a graph takes time and memory in the items, the vertices and the flushes; each other call takes constant time.
 
-ghost use Rattle.std.specs.Prelude.{◌≡◌, ◌<◌, ◌≤◌, length, IfOk, IfErr};
+ghost use Rattle.std.specs.Prelude.{◌≡◌, ◌<◌, ◌≤◌, length, flat_map, IfOk, IfErr};
 ghost use Rattle.std.specs.List.{All};
 ghost use Rattle.wq_groups.specs.Declaration.{declaration_of};
 ghost use Rattle.wq_graph.specs.Graph.{IsGraph, arcs_at, graph_of, group_graph, lane_graph};
@@ -13,25 +13,28 @@ use crate::arc::WaitArc;
 use crate::building::{arcs_by_place, arcs_by_vertex, groups_of_items, item_lanes};
 use std::alloc::{AllocError, Allocator};
 use std::marker::Model;
+use wq_buckets::piece;
 use wq_groups::{Assignment, Groups};
 use wq_items::ItemTable;
 
-/// A wait graph. Contracts see the list of its vertices' arcs.
+/// A wait graph. Contracts see of each vertex the list of its arcs.
 #[derive(Drop)]
 pub struct WaitGraph<A: Allocator> {
-    arcs: Vec<Vec<WaitArc, A>, A>,
+    arcs: Vec<WaitArc, A>,
+    begins: Vec<usize, A>,
 }
 
 impl<A: Allocator> Model for WaitGraph<A> {
-    ghost use Rattle.std.specs.Prelude.{List, map};
+    ghost use Rattle.std.specs.Prelude.{List};
+    ghost use Rattle.wq_buckets.specs.Cuts.{AreCuts, pieces};
     ghost use Rattle.wq_graph.specs.declared.arc.WaitArc.{WaitArc};
     ghost use Rattle.wq_graph.specs.Graph.{IsGraph};
 
     ghost Value = { List (List WaitArc) };
 
-    ghost view = { λ g. map (λ l. l.items) g.arcs.items };
+    ghost view = { λ g. pieces g.begins.items g.arcs.items };
 
-    ghost invariant = { λ g. IsGraph (map (λ l. l.items) g.arcs.items) };
+    ghost invariant = { λ g. AreCuts g.begins.items g.arcs.items × IsGraph (pieces g.begins.items g.arcs.items) };
 }
 
 impl<A: Allocator + Copy> WaitGraph<A> {
@@ -49,8 +52,8 @@ impl<A: Allocator + Copy> WaitGraph<A> {
         ensures memory { IfErr result (λ _. 0 < vertices) }
     {
         let arcs = arcs_by_place(alloc, table, vertex_of)?;
-        let arcs = arcs_by_vertex(alloc, arcs.as_slice(), vertex_of, vertices)?;
-        Ok(WaitGraph { arcs })
+        let (arcs, begins) = arcs_by_vertex(alloc, arcs.as_slice(), vertex_of, vertices)?;
+        Ok(WaitGraph { arcs, begins })
     }
 
     /// The wait graph of the groups of a table's items. The groups are those of this table.
@@ -94,7 +97,7 @@ impl<A: Allocator + Copy> WaitGraph<A> {
         ensures vertices { result ≡ length self.now }
         ensures graph { IsGraph self.now }
     {
-        self.arcs.len() as u16
+        self.begins.len().saturating_sub(1) as u16
     }
 
     /// The arcs that leave a vertex below `vertices()`, in order of place.
@@ -102,6 +105,13 @@ impl<A: Allocator + Copy> WaitGraph<A> {
         requires { vertex < length self.now }
         ensures { result.now ≡ arcs_at self.now vertex }
     {
-        self.arcs[usize::from(vertex)].as_slice()
+        piece(self.arcs.as_slice(), self.begins.as_slice(), vertex)
+    }
+
+    /// All arcs: those of vertex 0, then those of vertex 1, and so on.
+    pub fn all(&self) -> &[WaitArc]
+        ensures { result.now ≡ flat_map (λ arcs. arcs) self.now }
+    {
+        self.arcs.as_slice()
     }
 }
