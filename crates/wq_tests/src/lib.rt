@@ -26,6 +26,8 @@ mod heaps;
 #[cfg(test)]
 mod machine;
 #[cfg(test)]
+mod rounds;
+#[cfg(test)]
 mod tables;
 #[cfg(test)]
 mod texts;
