@@ -1,7 +1,7 @@
 -- Directives: what a line of a declaration says, or its first fault by the rows of the format's table.
-use Rattle.std.specs.Prelude.{ℕ, ◌==◌, ◌||◌, ◌&&◌, Bool, nat_le, if◌then◌else◌, List, [], ◌∷◌, Option, Some, None, Result, Ok, Err, bytes_eq, codes, IsTrue}
+use Rattle.std.specs.Prelude.{ℕ, ◌==◌, ◌||◌, ◌&&◌, Bool, true, false, nat_le, if◌then◌else◌, List, [], ◌∷◌, Option, Some, None, Result, Ok, Err, bytes_eq, codes, IsTrue}
 use Rattle.std.specs.Option.{option_or}
-use Rattle.std.specs.List.{list_all, filter_map, AllByRecursion}
+use Rattle.std.specs.List.{list_all, list_any, filter_map, AllByRecursion}
 use Rattle.wq_text.specs.Lines.{LineView}
 use Rattle.wq_text.specs.Comments.{before_comment}
 use Rattle.wq_text.specs.Words.{WordView, words_of}
@@ -64,6 +64,16 @@ first_fault (line ∷ lines) = option_or (fault_in (reading line)) (first_fault 
 -- the directives in order, each with the number of its line
 abbrev pub directives : List LineView → List (ℕ × Directive)
 directives lines = filter_map (λ (line : LineView). directive_in line.no (reading line)) lines
+
+-- the directive is that of an `ordered` line
+abbrev pub is_ordered : Directive → Bool
+is_ordered (Item name) = false
+is_ordered (Flush name targets) = false
+is_ordered (Ordered names) = true
+
+-- some line is an `ordered` line
+abbrev pub has_ordered : List (ℕ × Directive) → Bool
+has_ordered ds = list_any (λ (d : ℕ × Directive). is_ordered d.1) ds
 
 -- each word of a directive is a name
 abbrev pub HasNames : Directive → Type 0

@@ -1,6 +1,9 @@
 //! What a line of a declaration says.
 //!
-//! The directives are those of "Directives" in docs/FORMAT.md. Nothing is computed here.
+//! The directives are those of "Directives" in docs/FORMAT.md. Each call takes constant time.
+
+ghost use Rattle.std.specs.Prelude.{◌≡◌};
+ghost use Rattle.wq_decl.specs.Reading.{is_ordered};
 
 use wq_text::{Word, Words};
 
@@ -13,4 +16,13 @@ pub enum Directive<'a> {
     Flush(Word<'a>, Words<'a>),
     /// `ordered NAME..`: the items of these names share one ordered workqueue.
     Ordered(Words<'a>),
+}
+
+impl<'a> Directive<'a> {
+    /// Whether this is the directive of an `ordered` line.
+    pub fn is_ordered(&self) -> bool
+        ensures { result ≡ is_ordered self.now }
+    {
+        matches!(self, Directive::Ordered(_))
+    }
 }

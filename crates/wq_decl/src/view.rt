@@ -7,7 +7,7 @@ ghost use Rattle.std.specs.Iterator.{YieldsFirst, item_count};
 ghost use Rattle.std.specs.List.{AllByRecursion};
 ghost use Rattle.wq_text.specs.Lines.{lines_of};
 ghost use Rattle.wq_decl.specs.declared.directive.Directive.{Directive};
-ghost use Rattle.wq_decl.specs.Reading.{directives, first_fault, HasNames};
+ghost use Rattle.wq_decl.specs.Reading.{directives, first_fault, has_ordered, HasNames};
 
 use crate::directive::Directive;
 use crate::fault::DeclError;
@@ -19,6 +19,8 @@ use wq_text::{Lines, Text};
 #[derive(Drop)]
 pub struct DeclView<'a> {
     text: Text<'a>,
+    /// Whether some line is an `ordered` line.
+    orders: bool,
 }
 
 impl<'a> Model for DeclView<'a> {
@@ -28,11 +30,12 @@ impl<'a> Model for DeclView<'a> {
 
     ghost Value = { List (ℕ × Directive) };
 
-    ghost use Rattle.wq_decl.specs.Reading.{directives, first_fault};
+    ghost use Rattle.wq_decl.specs.Reading.{directives, first_fault, has_ordered};
 
     ghost view = { λ d. directives (lines_of d.text) };
 
-    ghost invariant = { λ d. first_fault (lines_of d.text) ≡ None };
+    ghost invariant = { λ d. (first_fault (lines_of d.text) ≡ None)
+        × (d.orders ≡ has_ordered (directives (lines_of d.text))) };
 }
 
 impl<'a> DeclView<'a> {
@@ -44,10 +47,20 @@ impl<'a> DeclView<'a> {
         ensures directives { IfOk result (λ view. (view ≡ directives (lines_of text.entry)) × (first_fault (lines_of text.entry) ≡ None)) }
         ensures fault { IfErr result (λ e. first_fault (lines_of text.entry) ≡ Some e) }
     {
+        let mut orders = false;
         for line in text.lines() {
-            read_line(&line)?;
+            if let Some(directive) = read_line(&line)? {
+                orders = orders || directive.is_ordered();
+            }
         }
-        Ok(DeclView { text })
+        Ok(DeclView { text, orders })
+    }
+
+    /// Whether some line is an `ordered` line.
+    pub fn has_ordered(&self) -> bool
+        ensures { result ≡ has_ordered self.now }
+    {
+        self.orders
     }
 
     /// The directives in order, each with the number of its line.

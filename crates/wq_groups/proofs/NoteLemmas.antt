@@ -4,7 +4,7 @@ use Rattle.std.specs.Prelude.{IsSome, is_some, Contains, bytes_eq, replicate}
 use Rattle.std.specs.List.{All, position, position_or_len, range_with_len, filter_map}
 use Rattle.std.specs.Option.{unwrap_or}
 use Rattle.std.proofs.Math.Bool.{or-false}
-use Rattle.std.proofs.lemmas.Bool.{cases_Bool, or_cases, or_left, or_right, and_parts, and_from, cond-true, cond-false, lt-ltb, false_from_ne_true}
+use Rattle.std.proofs.lemmas.Bool.{cases_Bool, or_cases, or_parts, or_left, or_right, and_parts, and_from, cond-true, cond-false, lt-ltb, false_from_ne_true}
 use Rattle.std.proofs.lemmas.List.{length-map, get_or-map, ext_get_or, get_or-replicate, length-replicate, drop_all, take_all}
 use Rattle.std.proofs.lemmas.List.Folds.{list_any-append}
 use Rattle.std.proofs.lemmas.List.FromFn.{length-range_with_len, get_or-range_with_len}
@@ -13,6 +13,7 @@ use Rattle.std.proofs.lemmas.List.Sums.{position_or_len_is}
 use Rattle.wq_text.specs.Words.{WordView}
 use Rattle.wq_decl.specs.declared.directive.Directive.{Directive}
 use Rattle.wq_decl.specs.declared.directive.Directive.TheVariants.{Item, Flush, Ordered}
+use Rattle.wq_decl.specs.Reading.{is_ordered, has_ordered}
 use Rattle.wq_items.specs.Table.{Table, item_named}
 use Rattle.wq_items.specs.Building.{table_of, items_named, and_item}
 use Rattle.wq_items.specs.Flushes.{item_name}
@@ -218,3 +219,29 @@ NotedSoFar-twice ds names d rest first marks twice so_far =
 
 pub NotedSoFar-all : (ds : List (ℕ × Directive)) (names : List (List ℕ)) (first : List ℕ) (marks : List Bool) → NotedSoFar ds [] names first marks → IsNoted ds names first marks
 NotedSoFar-all ds names first marks so_far = subst (λ (l : List (ℕ × Directive)). IsNoted l names first marks) (sym (so_far.parts ∙ append-nil so_far.before)) so_far.noted
+
+-- ---- no `ordered` line
+
+unordered-step : (ds : List (ℕ × Directive)) (names : List (List ℕ)) (d : ℕ × Directive) (rest : List (ℕ × Directive)) (first : List ℕ) (marks : List Bool) → is_ordered d.1 ≡ false
+    → NotedSoFar ds (d ∷ rest) names first marks → NotedSoFar ds rest names first marks
+unordered-step ds names d rest first marks other so_far =
+    NotedSoFar-more ds names d rest first first marks marks (λ before noted. IsNoted-other before d names first marks (nothing d.0 d.1 other) noted) so_far
+  where
+    nothing : (n : ℕ) (e : Directive) → is_ordered e ≡ false → names_ordered (n, e) ≡ []
+    nothing n (Item name) other = refl
+    nothing n (Flush name targets) other = refl
+    nothing n (Ordered names) other = absurd cc
+
+-- directives that are left count for nothing if none of them is that of an `ordered` line
+NotedSoFar-unordered : (ds : List (ℕ × Directive)) (names : List (List ℕ)) (rest : List (ℕ × Directive)) (first : List ℕ) (marks : List Bool) → has_ordered rest ≡ false
+    → NotedSoFar ds rest names first marks → NotedSoFar ds [] names first marks
+NotedSoFar-unordered ds names [] first marks none so_far = so_far
+NotedSoFar-unordered ds names (d ∷ rest) first marks none so_far =
+    let parts = or_parts (is_ordered d.1) (has_ordered rest) none in
+    NotedSoFar-unordered ds names rest first marks parts.1 (unordered-step ds names d rest first marks parts.0 so_far)
+
+-- without an `ordered` line each item is the first-declared one of its group
+pub IsNoted-unordered : (ds : List (ℕ × Directive)) (names : List (List ℕ)) (first : List ℕ) (marks : List Bool) → has_ordered ds ≡ false → Differ names → first ≡ range_with_len 0 (length names)
+    → marks ≡ replicate (length names) false → IsNoted ds names first marks
+IsNoted-unordered ds names first marks none differ numbers unmarked =
+    NotedSoFar-all ds names first marks (NotedSoFar-unordered ds names ds first marks none (NotedSoFar-none ds names first marks differ numbers unmarked))

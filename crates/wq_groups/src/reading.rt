@@ -1,7 +1,8 @@
 //! Going over the `ordered` lines: of each item the first-declared one of its group.
 //!
-//! The rules are those of "Items and groups" in docs/FORMAT.md. The words of each line are gone over twice, so this takes time in the
-//! number of the words. What is noted of the items lies on the stack: no memory is taken before all lines are judged.
+//! The rules are those of "Items and groups" in docs/FORMAT.md. Where there is no `ordered` line, each item has a group of its own,
+//! and the lines aren't gone over: this takes time in the number of the items. Else the words of each line are gone over twice, in
+//! time in the number of the words. What is noted of the items lies on the stack: no memory is taken before all lines are judged.
 
 ghost use Rattle.std.specs.Prelude.{◌≡◌, ◌≢◌, ◌↔◌, ◌++◌, ◌∷◌, ◌<◌, [], ℕ, List, length, map, Ok, IfOk, IfErr, IfSome, IsSome, OnSome, IsTrue, AllPairs, None, if◌then◌else◌, bytes_eq};
 ghost use Rattle.std.specs.List.{list_any};
@@ -111,6 +112,9 @@ pub(crate) fn first_members<A: Allocator + Copy>(
     for i in 0..table.len() {
         first.push(ItemId::new(i));
         ordered.push(false);
+    }
+    if !view.has_ordered() {
+        return Ok(first);
     }
     for (line, directive) in view.directives() {
         if let Directive::Ordered(names) = directive {

@@ -1,4 +1,4 @@
-use Rattle.std.proofs.Common.{◌≡◌, ◌++◌, ◌∷◌, [], Bool, true, false, length, take, drop, ℕ, List, refl, sym, ap, subst, subst₂, ◌∙◌, arith, rules}
+use Rattle.std.proofs.Common.{◌≡◌, ◌++◌, ◌∷◌, ◌≤◌, [], Bool, true, false, length, take, drop, ℕ, List, refl, sym, ap, subst, subst₂, ◌∙◌, arith, rules}
 use Rattle.std.specs.Prelude.{replicate}
 use Rattle.std.specs.List.{range_with_len}
 use Rattle.std.proofs.lemmas.Bool.{both_ways}
@@ -6,11 +6,13 @@ use Rattle.std.proofs.lemmas.List.{replicate_more}
 use Rattle.std.proofs.lemmas.List.FromFn.{length-range_with_len}
 use Rattle.wq_decl.specs.declared.directive.Directive.{Directive}
 use Rattle.wq_decl.specs.declared.directive.Directive.TheVariants.{Ordered}
+use Rattle.wq_decl.specs.Reading.{has_ordered}
 use Rattle.wq_groups.specs.Grouping.{names_ordered}
 use Rattle.wq_groups.specs.Reading.{IsNoted}
+use Rattle.wq_groups.proofs.Among.{Differ}
 use Rattle.wq_groups.proofs.Heads.{range_with_len-push}
 use Rattle.wq_groups.proofs.Regrouped.{first_regrouped-none}
-use Rattle.wq_groups.proofs.NoteLemmas.{NotedSoFar, NotedSoFar-none, NotedSoFar-known, NotedSoFar-more, NotedSoFar-twice, NotedSoFar-all, IsNoted-other, names_ordered-other, written_back}
+use Rattle.wq_groups.proofs.NoteLemmas.{NotedSoFar, NotedSoFar-none, NotedSoFar-known, NotedSoFar-more, NotedSoFar-twice, NotedSoFar-all, IsNoted-other, IsNoted-unordered, names_ordered-other, written_back}
 use Rattle.wq_groups.proofs.reading.first_members.Goals as goal
 
 pub push-requires : goal.push-requires
@@ -22,6 +24,24 @@ loop-i-preserved g c = (
   c.push.ensures.items ∙ ap (λ (i : ℕ). c.loop-i.first.items ++ (i ∷ [])) c.new.ensures ∙ ap (λ (is : List ℕ). is ++ (c.loop-i.i ∷ [])) c.loop-i.invariant.0 ∙ sym (range_with_len-push c.loop-i.i),
   c.push-in-loop-i.ensures.items ∙ ap (λ (bs : List Bool). bs ++ (false ∷ [])) c.loop-i.invariant.1 ∙ replicate_more c.loop-i.i false,
 )
+
+-- what is noted before the lines is noted of them all where none is an `ordered` line
+unordered : (view : List (ℕ × Directive)) (names : List (List ℕ)) (first : List ℕ) (marks : List Bool) (n end : ℕ) (said : Bool) → Differ names → (first ≡ range_with_len 0 n) × (marks ≡ replicate n false)
+    → n ≤ end → end ≤ n → end ≡ length names → said ≡ has_ordered view → said ≡ false → IsNoted view names first marks
+unordered view names first marks n end said differ so_far below above len says none =
+    let all : n ≡ length names = omega arith in
+    IsNoted-unordered view names first marks (sym says ∙ none) differ (so_far.0 ∙ ap (range_with_len 0) all) (so_far.1 ∙ ap (λ (n : ℕ). replicate n false) all)
+
+pub returns-then-not-has_ordered-clause-once : goal.returns-then-not-has_ordered-clause-once
+returns-then-not-has_ordered-clause-once g c =
+    first_regrouped-none c.args.view.now
+    (unordered c.args.view.now c.args.table.now.names c.loop-i.first.items c.loop-i.ordered.items c.loop-i.i c.len-i-end.result c.has_ordered.result c.len-i-end.ensures.table.distinct c.loop-i.invariant
+    c.loop-i.auto.i-end c.loop-i-test.false c.len-i-end.ensures.len c.has_ordered.ensures c.if-not-has_ordered.true).apart
+
+pub returns-then-not-has_ordered-clause-first : goal.returns-then-not-has_ordered-clause-first
+returns-then-not-has_ordered-clause-first g c =
+    (unordered c.args.view.now c.args.table.now.names c.loop-i.first.items c.loop-i.ordered.items c.loop-i.i c.len-i-end.result c.has_ordered.result c.len-i-end.ensures.table.distinct c.loop-i.invariant
+    c.loop-i.auto.i-end c.loop-i-test.false c.len-i-end.ensures.len c.has_ordered.ensures c.if-not-has_ordered.true).firsts
 
 pub loop-line-init : goal.loop-line-init
 loop-line-init g c =
