@@ -2,3 +2,4 @@ pub mod NameLemmas
 pub mod FaultLemmas
 pub mod OriginLemmas
 pub mod RowLemmas
+pub mod TextLemmas

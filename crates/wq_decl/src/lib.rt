@@ -7,6 +7,7 @@
 
 mod directive;
 mod fault;
+mod known;
 pub mod laws;
 mod reading;
 mod view;

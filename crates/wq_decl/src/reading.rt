@@ -1,11 +1,11 @@
 //! One line as a directive.
 //!
-//! Looks at each byte of the line a fixed number of times.
+//! Looks at each byte of the line a fixed number of times: as words are cut, as names are judged, and where there is a fault.
 
 ghost use Rattle.std.specs.Prelude.{◌≡◌};
 ghost use Rattle.std.specs.List.{list_all};
 ghost use Rattle.wq_decl.specs.Names.{is_name_byte, is_name, are_names};
-ghost use Rattle.wq_decl.specs.Reading.{is_text_byte, item_reading, flush_reading, ordered_reading, reading};
+ghost use Rattle.wq_decl.specs.Reading.{is_text_byte, item_reading, flush_reading, ordered_reading, words_reading, reading};
 
 use crate::directive::Directive;
 use crate::fault::DeclError;
@@ -78,18 +78,18 @@ fn read_item<'a>(line: u32, mut words: Words<'a>) -> Result<Option<Directive<'a>
 fn read_flush<'a>(line: u32, mut words: Words<'a>) -> Result<Option<Directive<'a>>, DeclError>
     ensures { result ≡ flush_reading line words.entry }
 {
-    let names = words.again();
     let Some(name) = words.next() else {
         return Err(DeclError::MissingName { line });
     };
     let targets = words.again();
-    if words.next().is_none() {
+    let Some(target) = words.next() else {
         return Err(DeclError::MissingName { line });
+    };
+    if is_name(name.bytes()) && is_name(target.bytes()) && are_names(words) {
+        Ok(Some(Directive::Flush(name, targets)))
+    } else {
+        Err(DeclError::BadName { line })
     }
-    if !are_names(names) {
-        return Err(DeclError::BadName { line });
-    }
-    Ok(Some(Directive::Flush(name, targets)))
 }
 
 /// The words behind `ordered` on this line.
@@ -97,34 +97,44 @@ fn read_ordered<'a>(line: u32, mut words: Words<'a>) -> Result<Option<Directive<
     ensures { result ≡ ordered_reading line words.entry }
 {
     let names = words.again();
-    if words.next().is_none() {
+    let Some(name) = words.next() else {
         return Err(DeclError::MissingName { line });
+    };
+    if is_name(name.bytes()) && are_names(words) {
+        Ok(Some(Directive::Ordered(names)))
+    } else {
+        Err(DeclError::BadName { line })
     }
-    if !are_names(names.again()) {
-        return Err(DeclError::BadName { line });
-    }
-    Ok(Some(Directive::Ordered(names)))
 }
 
-/// What a line says: nothing where no word stands before its comment, else a directive, or its first fault.
-pub(crate) fn read_line<'a>(line: &Line<'a>) -> Result<Option<Directive<'a>>, DeclError>
-    ensures { result ≡ reading line.now }
+/// What the words of this line say: nothing where there is none, else a directive, or their first fault.
+fn read_words<'a>(line: u32, mut words: Words<'a>) -> Result<Option<Directive<'a>>, DeclError>
+    ensures { result ≡ words_reading line words.entry }
 {
-    let no = line.no();
-    if !are_text_bytes(line.content()) {
-        return Err(DeclError::BadByte { line: no });
-    }
-    let mut words = line.words();
     let Some(first) = words.next() else {
         return Ok(None);
     };
     if first.bytes() == b"item".as_slice() {
-        read_item(no, words)
+        read_item(line, words)
     } else if first.bytes() == b"flush".as_slice() {
-        read_flush(no, words)
+        read_flush(line, words)
     } else if first.bytes() == b"ordered".as_slice() {
-        read_ordered(no, words)
+        read_ordered(line, words)
     } else {
-        Err(DeclError::UnknownWord { line: no })
+        Err(DeclError::UnknownWord { line })
     }
+}
+
+/// What a line says: nothing where no word stands before its comment, else a directive, or its first fault.
+///
+/// A line whose words have no fault holds no bad byte, since these words hold none, so its bytes are judged only where
+/// there is a fault.
+pub(crate) fn read_line<'a>(line: &Line<'a>) -> Result<Option<Directive<'a>>, DeclError>
+    ensures { result ≡ reading line.now }
+{
+    let found = read_words(line.no(), line.words());
+    if found.is_err() && !are_text_bytes(line.content()) {
+        return Err(DeclError::BadByte { line: line.no() });
+    }
+    found
 }

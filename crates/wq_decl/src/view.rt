@@ -11,6 +11,7 @@ ghost use Rattle.wq_decl.specs.Reading.{directives, first_fault, has_ordered, Ha
 
 use crate::directive::Directive;
 use crate::fault::DeclError;
+use crate::known::read_known_line;
 use crate::reading::read_line;
 use std::marker::Model;
 use wq_text::{Lines, Text};
@@ -100,7 +101,7 @@ fn next_directive<'a>(lines: &mut Lines<'a>) -> Option<(u32, Directive<'a>)>
     ensures sound { first_fault lines.new ≡ None }
 {
     while let Some(line) = lines.next() {
-        if let Ok(Some(directive)) = read_line(&line) {
+        if let Some(directive) = read_known_line(&line) {
             return Some((line.no(), directive));
         }
     }
