@@ -1,4 +1,5 @@
 pub mod CommentLemmas
+pub mod CutLemmas
 pub mod LimitLaws
 pub mod LineLemmas
 pub mod NumberLemmas

@@ -1,7 +1,7 @@
 -- What bytes begin with, as words.
-use Rattle.std.proofs.Common.{◌≡◌, ◌≢◌, ℕ, suc, ◌+◌, ◌<◌, ◌≤◌, Bool, true, false, not, cond, List, [], ◌∷◌, ◌++◌, length, take, drop, refl, sym, ap, ◌∙◌, arith, append-nil, one-add, inl, inr, ◌⊎◌}
+use Rattle.std.proofs.Common.{◌≡◌, ◌≢◌, ℕ, suc, ◌+◌, ◌≤◌, Bool, true, false, cond, List, [], ◌∷◌, ◌++◌, length, take, drop, refl, sym, ap, ◌∙◌, arith, one-add, inl, inr, ◌⊎◌}
 use Rattle.std.specs.List.{AllByRecursion, prefix_len}
-use Rattle.wq_text.specs.Words.{WordView, words_from, is_blank, is_filled, begins_word, longer, AllBlank, NoBlank, EndsAWord, IsFirstWord}
+use Rattle.wq_text.specs.Words.{WordView, words_from, is_blank, begins_word, longer, AllBlank, NoBlank, EndsAWord, IsFirstWord}
 
 pub cons_not_nil : (x : ℕ) (xs : List ℕ) → x ∷ xs ≡ [] → ⊥
 cons_not_nil x xs e = cc
@@ -66,54 +66,9 @@ pub FailsAtOnce-drop-prefix_len : (p : ℕ → Bool) (xs : List ℕ) → FailsAt
 FailsAtOnce-drop-prefix_len p [] = tt
 FailsAtOnce-drop-prefix_len p (x ∷ xs) = fails-step p x xs (p x) refl (FailsAtOnce-drop-prefix_len p xs)
 
-not_true : (b : Bool) → not b ≡ true → b ≡ false
-not_true true h = absurd cc
-not_true false h = refl
-
-pub NoBlank-from_filled : (bs : List ℕ) → AllByRecursion (λ b. is_filled b ≡ true) bs → NoBlank bs
-NoBlank-from_filled [] h = tt
-NoBlank-from_filled (b ∷ bs) h = (not_true (is_blank b) h.0, NoBlank-from_filled bs h.1)
-
-pub EndsAWord-from_fails : (bs : List ℕ) → FailsAtOnce is_filled bs → EndsAWord bs
-EndsAWord-from_fails [] h = refl
-EndsAWord-from_fails (b ∷ bs) h = h
-
 pub begins_word-from_fails : (bs : List ℕ) → FailsAtOnce is_blank bs → begins_word bs ≡ true ⊎ (bs ≡ [])
 begins_word-from_fails [] h = inr refl
 begins_word-from_fails (b ∷ bs) h = inl (rw h refl)
-
-pub filled-take : (bs : List ℕ) → begins_word bs ≡ true → take (prefix_len is_filled bs) bs ≢ []
-filled-take [] h e = absurd cc
-filled-take (b ∷ bs) h e = let step : take (prefix_len is_filled (b ∷ bs)) (b ∷ bs) ≡ b ∷ take (prefix_len is_filled bs) bs = rw (h, one-add) refl in absurd (cons_not_nil _ _ (sym step ∙ e))
-
--- ---- blanks, a word and the rest, as they are cut off one after the other
-
-append-empty : (gap rest : List ℕ) → length rest ≡ 0 → gap ++ rest ≡ gap
-append-empty gap [] e = append-nil gap
-append-empty gap (b ∷ bs) e = absurd (omega arith)
-
--- blanks, and nothing behind them
-pub words_from-blank_front : (at : ℕ) (bs gap rest : List ℕ) → bs ≡ gap ++ rest → AllBlank gap → length rest ≡ 0 → words_from at bs ≡ []
-words_from-blank_front at bs gap rest whole blank none = ap (words_from at) (whole ∙ append-empty gap rest none) ∙ words_from-blank at gap blank
-
-begins_here : (rest : List ℕ) → 0 < length rest → begins_word rest ≡ true ⊎ (rest ≡ []) → begins_word rest ≡ true
-begins_here rest some (inl begins) = begins
-begins_here rest some (inr none) = absurd (omega (arith, ap length none))
-
--- blanks, a word, and the rest behind it
-pub words_from-two_splits : (at : ℕ) (bs gap rest word after : List ℕ) → bs ≡ gap ++ rest → AllBlank gap → begins_word rest ≡ true ⊎ (rest ≡ []) → 0 < length rest
-    → rest ≡ word ++ after → NoBlank word → (begins_word rest ≡ true → word ≢ []) → EndsAWord after
-    → words_from at bs ≡ record { start = at + length gap; bytes = word } ∷ words_from (at + length gap + length word) after
-words_from-two_splits at bs gap rest word after whole blank begins some cut unbroken filled longest =
-    words_from-first_word at bs (record { start = at + length gap; bytes = word }) after (record {
-      gap = gap;
-      blanks = blank;
-      parts = whole ∙ ap (λ (r : List ℕ). gap ++ r) cut;
-      starts = refl;
-      filled = filled (begins_here rest some begins);
-      unbroken = unbroken;
-      longest = longest;
-    })
 
 -- ---- how many words there are
 

@@ -1,5 +1,5 @@
 -- Words: the longest runs of bytes other than space and TAB before a line's comment.
-use Rattle.std.specs.Prelude.{◌≡◌, ◌≢◌, ℕ, ◌+◌, ◌==◌, ◌||◌, not, if◌then◌else◌, Bool, true, false, List, [], ◌∷◌, ◌++◌, length}
+use Rattle.std.specs.Prelude.{◌≡◌, ◌≢◌, ℕ, ◌+◌, ◌==◌, ◌||◌, not, if◌then◌else◌, Bool, true, false, List, [], ◌∷◌, ◌++◌, length, ⊤}
 use Rattle.std.specs.List.{AllByRecursion}
 use Rattle.wq_text.specs.Lines.{LineView}
 use Rattle.wq_text.specs.Comments.{before_comment}
@@ -38,6 +38,25 @@ words_from at (b ∷ bs) =
 -- the words of a line: those of the bytes before its comment
 abbrev pub words_of : LineView → List WordView
 words_of line = words_from line.start (before_comment line.bytes)
+
+-- ---- how words are cut off bytes with a comment
+
+-- a byte ends a word: a blank, or the `#` that begins a comment
+abbrev pub ends_word : ℕ → Bool
+ends_word b = is_blank b || b == 35
+
+-- a byte may stand in a word before a comment
+abbrev pub in_word : ℕ → Bool
+in_word b = not (ends_word b)
+
+-- only bytes that may stand in a word before a comment
+abbrev pub AllInWord : List ℕ → Type 0
+AllInWord bs = AllByRecursion (λ b. in_word b ≡ true) bs
+
+-- nothing, or a byte that ends a word and what follows it
+abbrev pub EndsAtOnce : List ℕ → Type 0
+EndsAtOnce [] = ⊤
+EndsAtOnce (b ∷ bs) = in_word b ≡ false
 
 -- ---- the same without recursion over the bytes
 

@@ -4,8 +4,7 @@
 //! carriage return (CR, the byte 13) directly before a line feed is no part of the line. A comment begins at the first
 //! `#` of a line and reaches to the line's end. The rules are those of "Lines, words and numbers" in docs/FORMAT.md.
 //!
-//! Going through the lines looks at each byte of the text once, by `memchr`; looking for the comment of a line looks at
-//! each byte of the line once more.
+//! Going through the lines looks at each byte of the text once, by `memchr`, and so does looking for the comment of a line.
 
 ghost use Rattle.std.specs.Prelude.{◌≡◌, ◌+◌, ◌<◌, ◌≤◌, ◌^◌, ◌∷◌, List, ℕ, length, find, nat_lt, option_map};
 ghost use Rattle.std.specs.Iterator.{YieldsFirst, item_count};
@@ -80,7 +79,7 @@ impl<'a> Line<'a> {
     pub fn words(&self) -> Words<'a>
         ensures { result ≡ words_of self.now }
     {
-        Words::of(self.start, self.content())
+        Words::of(self.start, self.bytes)
     }
 }
 

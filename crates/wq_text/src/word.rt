@@ -1,15 +1,20 @@
 //! Words: the longest runs of bytes other than space and TAB.
 //!
-//! The rule is that of "Lines, words and numbers" in docs/FORMAT.md. Which bytes of a line stand before its comment is
-//! settled before its words are sought. Each of those bytes is looked at once.
+//! The rule is that of "Lines, words and numbers" in docs/FORMAT.md. A `#` ends the word before it and all words of a line,
+//! so the comment isn't sought before the words are. Each byte before it is looked at once.
 
-ghost use Rattle.std.specs.Prelude.{◌≡◌, ◌≢◌, ◌+◌, ◌<◌, ◌^◌, ◌⊎◌, true, [], ◌++◌, length};
+ghost use Rattle.std.specs.Prelude.{◌≡◌, ◌+◌, ◌<◌, ◌^◌, ◌⊎◌, true, [], ◌++◌, length};
 ghost use Rattle.std.specs.List.{prefix_len};
 ghost use Rattle.std.specs.Iterator.{YieldsFirst, item_count};
-ghost use Rattle.wq_text.specs.Words.{words_from, is_blank, is_filled, begins_word, AllBlank, NoBlank, EndsAWord};
+ghost use Rattle.wq_text.specs.Comments.{before_comment};
+ghost use Rattle.wq_text.specs.Words.{words_from, is_blank, in_word, begins_word, AllBlank, AllInWord, EndsAtOnce};
 
 use crate::span::Span;
+use memchr::memchr3;
 use std::marker::Model;
+
+/// From how many bytes on the end of a word is sought many bytes at a time.
+const MANY: usize = 32;
 
 /// A word of a line. Contracts see its offset in the text and its bytes.
 #[derive(Drop)]
@@ -59,11 +64,19 @@ impl<'a> Word<'a> {
     }
 }
 
-/// Whether a byte parts words: a space or a TAB.
+/// Whether a byte parts words: a space or a TAB. Most bytes of a line are greater, which one comparison tells.
 fn is_blank(byte: u8) -> bool
     ensures { result ≡ is_blank byte }
 {
-    byte == b' ' || byte == b'\t'
+    byte <= b' ' && (byte == b' ' || byte == b'\t')
+}
+
+/// Whether a byte may stand in a word: neither a blank nor the `#` of a comment. Most bytes of a line are greater than these,
+/// which one comparison tells.
+fn in_word(byte: u8) -> bool
+    ensures { result ≡ in_word byte }
+{
+    byte > b'#' || !(byte == b' ' || byte == b'\t' || byte == b'#')
 }
 
 /// How many bytes at the front are blanks.
@@ -73,11 +86,32 @@ fn blanks_in_front(bytes: &[u8]) -> usize
     bytes.iter().take_while(|byte| is_blank(**byte)).count()
 }
 
-/// How many bytes at the front are no blanks.
-fn word_in_front(bytes: &[u8]) -> usize
-    ensures { result ≡ prefix_len is_filled bytes.now }
+/// How many bytes at the front may stand in a word, one byte after the other.
+fn short_word_in_front(bytes: &[u8]) -> usize
+    ensures { result ≡ prefix_len in_word bytes.now }
 {
-    bytes.iter().take_while(|byte| !is_blank(**byte)).count()
+    bytes.iter().take_while(|byte| in_word(**byte)).count()
+}
+
+/// The same, many bytes at a time.
+fn long_word_in_front(bytes: &[u8]) -> usize
+    ensures { result ≡ prefix_len in_word bytes.now }
+{
+    match memchr3(b' ', b'\t', b'#', bytes) {
+        Some(end) => end,
+        None => bytes.len(),
+    }
+}
+
+/// How many bytes at the front may stand in a word.
+fn word_in_front(bytes: &[u8]) -> usize
+    ensures { result ≡ prefix_len in_word bytes.now }
+{
+    if bytes.len() < MANY {
+        short_word_in_front(bytes)
+    } else {
+        long_word_in_front(bytes)
+    }
 }
 
 /// Parts the blanks at the front from what follows them.
@@ -90,12 +124,11 @@ fn split_blanks(bytes: &[u8]) -> (&[u8], &[u8])
     bytes.split_at(len)
 }
 
-/// Parts the word at the front from what follows it.
+/// Parts the word at the front from what follows it. There is none where the comment or the end comes at once.
 fn split_word(bytes: &[u8]) -> (&[u8], &[u8])
     ensures whole { bytes.now ≡ result.0.now ++ result.1.now }
-    ensures unbroken { NoBlank result.0.now }
-    ensures filled { begins_word bytes.now ≡ true → result.0.now ≢ [] }
-    ensures longest { EndsAWord result.1.now }
+    ensures unbroken { AllInWord result.0.now }
+    ensures longest { EndsAtOnce result.1.now }
 {
     let len = word_in_front(bytes);
     bytes.split_at(len)
@@ -110,20 +143,21 @@ pub struct Words<'a> {
 
 impl<'a> Model for Words<'a> {
     ghost use Rattle.std.specs.Prelude.{List, length, ◌+◌, ◌<◌, ◌^◌};
+    ghost use Rattle.wq_text.specs.Comments.{before_comment};
     ghost use Rattle.wq_text.specs.Words.{WordView, words_from};
 
     ghost Value = { List WordView };
 
-    ghost view = { λ s. words_from s.start s.rest.now };
+    ghost view = { λ s. words_from s.start (before_comment s.rest.now) };
 
     ghost invariant = { λ s. s.start + length s.rest.now < 2 ^ 32 };
 }
 
 impl<'a> Words<'a> {
-    /// The words of these bytes, the first of which stands at this offset.
+    /// The words of these bytes before their comment. The first of the bytes stands at this offset.
     pub(crate) fn of(start: u32, bytes: &'a [u8]) -> Words<'a>
         requires { start + length bytes.now < 2 ^ 32 }
-        ensures { result ≡ words_from start bytes.now }
+        ensures { result ≡ words_from start (before_comment bytes.now) }
     {
         Words { start, rest: bytes }
     }
@@ -149,10 +183,10 @@ impl<'a> Iterator for Words<'a> {
 
     fn next(&mut self) -> Option<Word<'a>> {
         let (gap, rest) = split_blanks(self.rest);
-        if rest.is_empty() {
+        let (bytes, rest) = split_word(rest);
+        if bytes.is_empty() {
             return None;
         }
-        let (bytes, rest) = split_word(rest);
         let start = self.start + gap.len() as u32;
         self.start = start + bytes.len() as u32;
         self.rest = rest;

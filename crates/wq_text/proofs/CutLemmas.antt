@@ -1,0 +1,106 @@
+-- Words before a comment, as they are cut off one after the other.
+use Rattle.std.proofs.Common.{◌≡◌, ◌≢◌, ℕ, ◌+◌, ◌<◌, Bool, true, false, eqb, not, ◌||◌, List, [], ◌∷◌, ◌++◌, length, Some, None, refl, sym, ap, subst, ◌∙◌, arith, append-nil, one-add, inl, inr, ◌⊎◌}
+use Rattle.std.specs.List.{prefix_len}
+use Rattle.std.proofs.lemmas.Bool.{or_parts}
+use Rattle.std.proofs.lemmas.Bool.Decides.{nat_tests}
+use Rattle.std.proofs.lemmas.List.Sums.{position_or_len_is}
+use Rattle.memchr.specs.Find.{IsFirstByte, is_byte3}
+use Rattle.wq_text.specs.Comments.{before_comment}
+use Rattle.wq_text.specs.Words.{words_from, is_blank, begins_word, in_word, AllBlank, NoBlank, EndsAWord, AllInWord, EndsAtOnce}
+use Rattle.wq_text.proofs.PieceLemmas.{is_false}
+use Rattle.wq_text.proofs.WordLemmas.{FailsAtOnce, words_from-blank, words_from-first_word}
+
+-- ---- how many bytes stand before the first that ends a word
+
+pub prefix_len-at_end : (bs : List ℕ) (k : ℕ) → IsFirstByte (is_byte3 32 9 35) bs (Some k) → k ≡ prefix_len in_word bs
+prefix_len-at_end bs k h =
+    let within : k < length bs = h.0.high in
+    sym (position_or_len_is (λ b. is_byte3 32 9 35 b) bs k 0 (omega arith) (λ j lt. is_false _ (λ e. h.0.before j (omega arith) lt e)) (λ lt. h.1))
+
+pub prefix_len-no_end : (bs : List ℕ) → IsFirstByte (is_byte3 32 9 35) bs None → length bs ≡ prefix_len in_word bs
+prefix_len-no_end bs h =
+    sym (position_or_len_is (λ b. is_byte3 32 9 35 b) bs (length bs) 0 (omega arith) (λ j lt. is_false _ (λ e. h j (omega arith) lt e)) (λ lt. absurd (omega arith)))
+
+pub EndsAtOnce-from_fails : (bs : List ℕ) → FailsAtOnce in_word bs → EndsAtOnce bs
+EndsAtOnce-from_fails [] h = tt
+EndsAtOnce-from_fails (b ∷ bs) h = h
+
+-- ---- bytes before a comment
+
+not_true : (b : Bool) → not b ≡ true → b ≡ false
+not_true true h = absurd cc
+not_true false h = refl
+
+not_false : (b : Bool) → not b ≡ false → b ≡ true
+not_false true h = refl
+not_false false h = absurd cc
+
+-- a byte that isn't the first of a comment
+before_comment-more : (b : ℕ) (bs : List ℕ) → eqb b 35 ≡ false → before_comment (b ∷ bs) ≡ b ∷ before_comment bs
+before_comment-more b bs e = rw (e, one-add) refl
+
+before_comment-stop : (b : ℕ) (bs : List ℕ) → eqb b 35 ≡ true → before_comment (b ∷ bs) ≡ []
+before_comment-stop b bs e = rw e refl
+
+blank_no_hash : (b : ℕ) → is_blank b ≡ true → eqb b 35 ≡ false
+blank_no_hash b h = grind (arith, nat_tests)
+
+before_comment-gap : (gap rest : List ℕ) → AllBlank gap → before_comment (gap ++ rest) ≡ gap ++ before_comment rest
+before_comment-gap [] rest h = refl
+before_comment-gap (b ∷ gap) rest h = before_comment-more b (gap ++ rest) (blank_no_hash b h.0) ∙ ap (λ (l : List ℕ). b ∷ l) (before_comment-gap gap rest h.1)
+
+before_comment-word : (word rest : List ℕ) → AllInWord word → before_comment (word ++ rest) ≡ word ++ before_comment rest
+before_comment-word [] rest h = refl
+before_comment-word (b ∷ word) rest h =
+    let parts = or_parts (is_blank b) (eqb b 35) (not_true _ h.0) in
+    before_comment-more b (word ++ rest) parts.1 ∙ ap (λ (l : List ℕ). b ∷ l) (before_comment-word word rest h.1)
+
+NoBlank-in_word : (word : List ℕ) → AllInWord word → NoBlank word
+NoBlank-in_word [] h = tt
+NoBlank-in_word (b ∷ word) h = ((or_parts (is_blank b) (eqb b 35) (not_true _ h.0)).0, NoBlank-in_word word h.1)
+
+-- what follows a word, before the comment
+ends_by : (b : ℕ) (bs : List ℕ) (blank hash : Bool) → is_blank b ≡ blank → eqb b 35 ≡ hash → (blank || hash) ≡ true → EndsAWord (before_comment (b ∷ bs))
+ends_by b bs blank true p q h = rw (before_comment-stop b bs q) refl
+ends_by b bs true false p q h = rw (before_comment-more b bs q, p) refl
+ends_by b bs false false p q h = absurd cc
+
+EndsAWord-before_comment : (rest : List ℕ) → EndsAtOnce rest → EndsAWord (before_comment rest)
+EndsAWord-before_comment [] h = refl
+EndsAWord-before_comment (b ∷ bs) h = ends_by b bs (is_blank b) (eqb b 35) refl refl (not_false _ h)
+
+-- ---- a word, or none
+
+-- blanks, and then a comment or the end
+nothing_left : (rest : List ℕ) → begins_word rest ≡ true ⊎ (rest ≡ []) → EndsAtOnce rest → before_comment rest ≡ []
+nothing_left [] h ends = refl
+nothing_left (b ∷ bs) (inl filled) ends = before_comment-stop b bs (hash (is_blank b) (eqb b 35) filled (not_false _ ends))
+  where
+    hash : (x y : Bool) → not x ≡ true → (x || y) ≡ true → y ≡ true
+    hash true y p q = absurd cc
+    hash false y p q = q
+nothing_left (b ∷ bs) (inr e) ends = absurd cc
+
+pub words_from-none : (at : ℕ) (bs gap rest word after : List ℕ) → bs ≡ gap ++ rest → AllBlank gap → begins_word rest ≡ true ⊎ (rest ≡ []) → rest ≡ word ++ after → EndsAtOnce after → length word ≡ 0
+    → words_from at (before_comment bs) ≡ []
+words_from-none at bs gap rest [] after whole blank begins cut ends none =
+    let left : before_comment rest ≡ [] = nothing_left rest begins (subst EndsAtOnce (sym cut) ends) in
+    ap (λ (l : List ℕ). words_from at (before_comment l)) whole ∙ ap (words_from at) (before_comment-gap gap rest blank ∙ ap (λ (l : List ℕ). gap ++ l) left ∙ append-nil gap) ∙ words_from-blank at gap blank
+words_from-none at bs gap rest (b ∷ word) after whole blank begins cut ends none = absurd (omega arith)
+
+nonempty : (word : List ℕ) → 0 < length word → word ≢ []
+nonempty word some e = absurd (omega (arith, ap length e))
+
+-- blanks, a word, and the rest behind it
+pub words_from-cut : (at : ℕ) (bs gap rest word after : List ℕ) → bs ≡ gap ++ rest → AllBlank gap → rest ≡ word ++ after → AllInWord word → EndsAtOnce after → 0 < length word
+    → words_from at (before_comment bs) ≡ record { start = at + length gap; bytes = word } ∷ words_from (at + length gap + length word) (before_comment after)
+words_from-cut at bs gap rest word after whole blank cut inside ends some =
+    words_from-first_word at (before_comment bs) (record { start = at + length gap; bytes = word }) (before_comment after) (record {
+      gap = gap;
+      blanks = blank;
+      parts = ap (λ (l : List ℕ). before_comment l) whole ∙ before_comment-gap gap rest blank ∙ ap (λ (l : List ℕ). gap ++ before_comment l) cut ∙ ap (λ (l : List ℕ). gap ++ l) (before_comment-word word after inside);
+      starts = refl;
+      filled = nonempty word some;
+      unbroken = NoBlank-in_word word inside;
+      longest = EndsAWord-before_comment after ends;
+    })
