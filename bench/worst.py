@@ -7,6 +7,8 @@ belongs to a declaration is what PROGRAM answers to it.
 import random
 import subprocess
 
+import collisions
+
 ITEMS = 4096
 FLUSHES = 16384
 MOST_DECLARATION = 1048576
@@ -188,6 +190,7 @@ def texts():
     """Declarations that are long rather than hard."""
     lines = declaration(ITEMS, falling(3), name=long)[:MOST_DECLARATION]
     yield "the longest names", lines[:lines.rindex("\n") + 1]
+    yield "names that collide for the seed 0", collisions.declaration(ITEMS, FLUSHES)
     yield "empty lines alone", "\n" * MOST_DECLARATION
     yield "comments alone", ("#" * MOST_LINE + "\n") * (MOST_DECLARATION // (MOST_LINE + 1))
     yield "lines of spaces", (" " * MOST_LINE + "\n") * (MOST_DECLARATION // (MOST_LINE + 1))

@@ -1,10 +1,9 @@
 -- Where a name stands among names.
-use Rattle.std.proofs.Common.{◌≡◌, ℕ, suc, ◌+◌, Bool, true, false, not, cond, ltb, List, [], ◌∷◌, ◌++◌, length, map, Option, Some, None, refl, sym, ap, ◌∙◌, arith, one-add, inl, inr}
+use Rattle.std.proofs.Common.{◌≡◌, ℕ, suc, ◌+◌, Bool, true, false, not, cond, ltb, List, [], ◌∷◌, length, map, Option, Some, None, is_some, refl, sym, ap, ◌∙◌, arith, one-add, inl, inr}
 use Rattle.std.specs.Prelude.{position, bytes_eq}
 use Rattle.std.specs.List.{list_any, prefix_len, position_or_len}
-use Rattle.std.specs.Borrow.{Bor}
 use Rattle.std.proofs.lemmas.Bool.{cases_lt, lt-ltb, le-ltb}
-use Rattle.std.proofs.lemmas.List.{map-append}
+use Rattle.wq_items.specs.Table.{item_named}
 
 prefix_len-map : {X Y : Type 0} (p : Y → Bool) (f : X → Y) (xs : List X) → prefix_len p (map f xs) ≡ prefix_len (λ x. p (f x)) xs
 prefix_len-map p f [] = refl
@@ -35,7 +34,7 @@ list_any-step p x xs true e rest = rw e (sym (lt-ltb 0 (suc (length xs)) (omega 
 list_any-step p x xs false e rest = rw (e, one-add) (rest ∙ sym (ltb-suc (position_or_len p xs) (length xs)))
 
 -- an element passes where there is a first one that does
-pub list_any-is : {X : Type 0} (p : X → Bool) (xs : List X) → list_any p xs ≡ ltb (position_or_len p xs) (length xs)
+list_any-is : {X : Type 0} (p : X → Bool) (xs : List X) → list_any p xs ≡ ltb (position_or_len p xs) (length xs)
 list_any-is p [] = refl
 list_any-is p (x ∷ xs) = list_any-step p x xs (p x) refl (list_any-is p xs)
 
@@ -43,13 +42,14 @@ pub none_is : {X : Type 0} (b : Bool) (n : X) → cond b (Some n) None ≡ None 
 none_is true n e = absurd cc
 none_is false n e = refl
 
-pub list_any-none : {X : Type 0} (p : X → Bool) (xs : List X) → position p xs ≡ None → list_any p xs ≡ false
-list_any-none p xs e = list_any-is p xs ∙ none_is (ltb (position_or_len p xs) (length xs)) (position_or_len p xs) e
+is_there : {X : Type 0} (b : Bool) (x : X) → b ≡ is_some (cond b (Some x) None)
+is_there true x = refl
+is_there false x = refl
 
--- the keys with a name that isn't there, which goes last
-pub map-insert_key : (keys : List (Bor (List ℕ))) (k : Bor (List ℕ)) → position (bytes_eq k.now) (map (λ (x : Bor (List ℕ)). x.now) keys) ≡ None
-    → map (λ (x : Bor (List ℕ)). x.now) (cond (list_any (λ (x : Bor (List ℕ)). bytes_eq k.now x.now) keys) keys (keys ++ (k ∷ []))) ≡ map (λ (x : Bor (List ℕ)). x.now) keys ++ (k.now ∷ [])
-map-insert_key keys k e =
-    let absent : list_any (λ (x : Bor (List ℕ)). bytes_eq k.now x.now) keys ≡ false =
-    list_any-none (λ (x : Bor (List ℕ)). bytes_eq k.now x.now) keys (sym (position-map (bytes_eq k.now) (λ (x : Bor (List ℕ)). x.now) keys) ∙ e) in
-    ap (λ (b : Bool). map (λ (x : Bor (List ℕ)). x.now) (cond b keys (keys ++ (k ∷ [])))) absent ∙ map-append (λ (x : Bor (List ℕ)). x.now) keys (k ∷ [])
+-- a key with this name is there where an item has it
+pub found_key : {X : Type 0} (f : X → List ℕ) (keys : List X) (names : List (List ℕ)) (name : List ℕ) → map f keys ≡ names
+    → list_any (λ (x : X). bytes_eq name (f x)) keys ≡ is_some (item_named names name)
+found_key {X} f keys names name same =
+    let test : X → Bool = λ x. bytes_eq name (f x) in
+    list_any-is test keys ∙ is_there (ltb (position_or_len test keys) (length keys)) (position_or_len test keys) ∙ ap is_some (sym (position-map (bytes_eq name) f keys))
+    ∙ ap (λ (ns : List (List ℕ)). is_some (item_named ns name)) same

@@ -7,7 +7,7 @@ use Rattle.wq_decl.specs.Names.{is_name}
 use Rattle.wq_items.specs.declared.target.Target.{Target}
 use Rattle.wq_items.specs.Table.{Table, IsTable, item_named, targets_of, flush_count}
 use Rattle.wq_items.specs.Building.{items_named, targets_from, span_of}
-use Rattle.wq_items.proofs.TableLemmas.{IsTable-with_item, IsTable-with_flushes, flush_count-with_item, flush_count-with_flushes, items_named-below, length-items_named}
+use Rattle.wq_items.proofs.TableLemmas.{IsTable-with_item, IsTable-with_flushes, flush_count-with_item, flush_count-with_flushes, items_named-below}
 
 pub IsTable-item_added : (t : Table) (name : WordView) (names : List (List ℕ)) (spans : List Span) (waits : List (List Target)) → IsTable t → item_named t.names name.bytes ≡ None → length t.names < 4096
     → IsTrue (is_name name.bytes) → names ≡ t.names ++ (name.bytes ∷ []) → spans ≡ t.spans ++ (span_of name ∷ []) → waits ≡ t.waits ++ ([] ∷ [])
@@ -20,28 +20,23 @@ IsTable-item_added t name names spans waits sound new room named n s w =
       sym (flush_count-with_item t name) ∙ ap flush_count (sym w),
     )
 
--- how many items the words of a line name, where all are known
-known_count : (o : Option (List ℕ)) (count : ℕ) → Some count ≡ option_map length o → (items : List ℕ) × (o ≡ Some items) × (length items ≡ count)
-known_count None count e = absurd cc
-known_count (Some items) count e = (items, refl, cc)
+-- the items that the words of a line name, where all are known, and the place behind them
+known_next : (o : Option (List ℕ)) (first next : ℕ) → option_map (λ (items : List ℕ). first + length items) o ≡ Some next → (items : List ℕ) × (o ≡ Some items) × (first + length items ≡ next)
+known_next None first next e = absurd cc
+known_next (Some items) first next e = (items, refl, cc)
 
-pub count_is : (names : List (List ℕ)) (words : List WordView) (count : ℕ) → Some count ≡ option_map length (items_named names words) → count ≡ length words
-count_is names words count e =
-    let k = known_count (items_named names words) count e in
-    sym k.2 ∙ length-items_named names words k.0 k.1
-
-pub IsTable-flushes_added : (t : Table) (i : ℕ) (words : List WordView) (count : ℕ) (waits : List (List Target)) → IsTable t → i < length t.names
-    → Some count ≡ option_map length (items_named t.names words) → flush_count t.waits + count ≤ 16384
+pub IsTable-flushes_added : (t : Table) (i : ℕ) (words : List WordView) (next : ℕ) (waits : List (List Target)) → IsTable t → i < length t.names
+    → option_map (λ (items : List ℕ). flush_count t.waits + length items) (items_named t.names words) ≡ Some next → next ≤ 16384
     → IfSome (items_named t.names words) (λ items. waits ≡ slice_set t.waits i (targets_of t.waits i ++ targets_from (flush_count t.waits) items))
-    → IsTable (record { names = t.names; spans = t.spans; waits = waits }) × (flush_count t.waits + count ≡ flush_count waits)
-IsTable-flushes_added t i words count waits sound within known room grown =
-    let k = known_count (items_named t.names words) count known in
+    → IsTable (record { names = t.names; spans = t.spans; waits = waits }) × (next ≡ flush_count waits)
+IsTable-flushes_added t i words next waits sound within known room grown =
+    let k = known_next (items_named t.names words) (flush_count t.waits) next known in
     let items = k.0 in
     let w : waits ≡ slice_set t.waits i (targets_of t.waits i ++ targets_from (flush_count t.waits) items) =
     subst (λ (o : Option (List ℕ)). IfSome o (λ js. waits ≡ slice_set t.waits i (targets_of t.waits i ++ targets_from (flush_count t.waits) js))) k.1 grown in
     let table = IsTable-with_flushes t i items sound within (items_named-below t.names words items k.1) (omega (arith, k.2)) in (
       subst (λ (ws : List (List Target)). IsTable (record { names = t.names; spans = t.spans; waits = ws })) (sym w) table,
-      ap (λ (n : ℕ). flush_count t.waits + n) (sym k.2) ∙ sym (flush_count-with_flushes t i items (omega (arith, sound.one_list_each))) ∙ ap flush_count (sym w),
+      sym k.2 ∙ sym (flush_count-with_flushes t i items (omega (arith, sound.one_list_each))) ∙ ap flush_count (sym w),
     )
 
 pub span_is : (s : Span) (w : WordView) → s.start ≡ w.start → s.end ≡ w.start + length w.bytes → s ≡ span_of w

@@ -10,6 +10,7 @@
 
 pub mod chain_laws;
 mod fault;
+mod hashing;
 pub mod laws;
 mod names;
 mod table;

@@ -1,20 +1,20 @@
 //! Names, each with its number.
 //!
 //! No name is declared twice, by "Items and groups" in docs/FORMAT.md. A name is found in constant time on average, by
-//! its hash; the names themselves stay in the text.
+//! its hash; the names themselves stay in the text. Each call hashes its name once.
 
-ghost use Rattle.std.specs.Prelude.{◌≡◌, ◌<◌, ◌+◌, ◌++◌, ◌∷◌, [], List, ℕ, length, None, Some, slice_get, OnOk, OnErr, IfSome};
+ghost use Rattle.std.specs.Prelude.{◌≡◌, ◌<◌, ◌+◌, ◌++◌, ◌∷◌, [], List, ℕ, length, is_some, not, false, Some, slice_get, IfOk, OnErr, if◌then◌else◌};
 ghost use Rattle.wq_items.specs.Table.{item_named};
 
+use crate::hashing::{Name, Seeded};
 use indexmap::IndexSet;
 use std::alloc::{AllocError, Allocator};
-use std::hash::{BuildHasherDefault, FoldHasher};
 use std::marker::Model;
 
 /// Names that differ, in the order in which they were added. Contracts see the list of the names.
 #[derive(Drop)]
 pub(crate) struct Names<'a, A: Allocator> {
-    set: IndexSet<&'a [u8], BuildHasherDefault<FoldHasher>, A>,
+    set: IndexSet<Name<'a>, Seeded, A>,
 }
 
 impl<'a, A: Allocator> Model for Names<'a, A> {
@@ -22,16 +22,16 @@ impl<'a, A: Allocator> Model for Names<'a, A> {
 
     ghost Value = { List (List ℕ) };
 
-    ghost view = { λ n. map (λ k. k.now) n.set.keys };
+    ghost view = { λ n. map (λ k. k.bytes.now) n.set.keys };
 }
 
 impl<'a, A: Allocator + Copy> Names<'a, A> {
-    /// No name.
-    pub(crate) fn new(alloc: A) -> Self
+    /// No name. Names are hashed with this seed.
+    pub(crate) fn new(alloc: A, seed: u64) -> Self
         ensures { result ≡ [] }
     {
         Names {
-            set: IndexSet::new(alloc),
+            set: IndexSet::with_hasher(alloc, Seeded { seed }),
         }
     }
 
@@ -46,7 +46,7 @@ impl<'a, A: Allocator + Copy> Names<'a, A> {
     pub(crate) fn find(&self, name: &[u8]) -> Option<usize>
         ensures { result ≡ item_named self.now name.now }
     {
-        self.set.get_index_of(&name)
+        self.set.get_index_of(&Name { bytes: name })
     }
 
     /// The name of this number.
@@ -54,16 +54,16 @@ impl<'a, A: Allocator + Copy> Names<'a, A> {
         requires { i < length self.now }
         ensures { slice_get self.now i ≡ Some result.now }
     {
-        self.set.as_slice()[i]
+        self.set.as_slice()[i].bytes
     }
 
-    /// Adds a name that isn't there.
-    pub(crate) fn push(&mut self, name: &'a [u8]) -> Result<(), AllocError>
-        requires { item_named self.old name.now ≡ None }
-        ensures ok { OnOk result (self.new ≡ self.old ++ (name.now ∷ [])) }
-        ensures err { OnErr result (self.new ≡ self.old) }
+    /// Adds a name where it isn't there, and answers whether it did.
+    pub(crate) fn add(&mut self, name: &'a [u8]) -> Result<bool, AllocError>
+        ensures added { IfOk result (λ added. added ≡ not (is_some (item_named self.old name.now))) }
+        ensures names { IfOk result (λ added. self.new ≡ (if added then self.old ++ (name.now ∷ []) else self.old)) }
+        ensures absent { OnErr result (is_some (item_named self.old name.now) ≡ false) }
     {
-        self.set.insert(name)?;
-        Ok(())
+        let added = self.set.insert(Name { bytes: name })?;
+        Ok(added)
     }
 }

@@ -3,22 +3,23 @@
 //! The rules are those of "Items and groups" in docs/FORMAT.md. Of an `ordered` line only the names are looked up here;
 //! it changes nothing in the table.
 //!
-//! Reading takes time in the number of the words of the declaration, and memory in the number of items and flushes.
-//! Afterwards each question is answered in constant time, but for `find`, which takes the time to hash a name.
+//! Reading takes time in the length of the names and words of the declaration, on average, and memory in the number of
+//! items and flushes: each name is looked up once, on a line that is refused once more. Afterwards each question is
+//! answered in constant time, but for `find`, which takes the time to hash a name.
 
-ghost use Rattle.std.specs.Prelude.{◌≡◌, ◌+◌, ◌^◌, ◌<◌, ◌≤◌, ℕ, length, Ok, Err, IfOk, IfErr, IfSome, IsOk, IsSome, OnOk, slice_get, slice_set, Some, IsTrue, ◌↔◌, ◌∷◌, ◌++◌, option_map};
+ghost use Rattle.std.specs.Prelude.{◌≡◌, ◌+◌, ◌^◌, ◌<◌, ◌≤◌, ℕ, length, Ok, Err, IfOk, IfErr, IfSome, IfNone, IsOk, slice_get, slice_set, Some, IsTrue, ◌↔◌, ◌∷◌, ◌++◌, option_map};
 ghost use Rattle.wq_decl.specs.Names.{is_name};
 ghost use Rattle.wq_decl.specs.Reading.{HasNames};
-ghost use Rattle.wq_items.specs.Table.{IsTable, item_named, targets_of, flush_count};
+ghost use Rattle.wq_items.specs.Table.{Table, IsTable, item_named, targets_of, flush_count};
 ghost use Rattle.wq_items.specs.declared.fault.ItemError.TheVariants.{OutOfMemory};
 ghost use Rattle.wq_items.specs.FirstFault.{RanOut, DeclaresMore};
-ghost use Rattle.wq_items.specs.Building.{table_of, declared, item_declared, flushes_declared, items_ordered, items_named, targets_from, empty_table, IsFaultOf};
+ghost use Rattle.wq_items.specs.Building.{table_of, declared, item_declared, flushes_declared, items_ordered, items_named, and_item, targets_from, empty_table, IsFaultOf};
 
 use crate::fault::ItemError;
 use crate::names::Names;
 use crate::target::{ItemId, Target};
 use crate::wait_lists::WaitLists;
-use std::alloc::{AllocError, Allocator};
+use std::alloc::Allocator;
 use std::marker::Model;
 use wq_decl::{DeclView, Directive};
 use wq_text::{Span, Word, Words};
@@ -28,6 +29,9 @@ const MAX_ITEMS: usize = 4096;
 
 /// How many flushes a declaration may declare, all items together.
 const MAX_FLUSHES: u32 = 16_384;
+
+/// The seed of `ItemTable::read`.
+const SEED: u64 = 0;
 
 /// The items of a declaration, by number. Contracts see the record of their names, spans and targets.
 #[derive(Drop)]
@@ -49,42 +53,93 @@ impl<'a, A: Allocator> Model for ItemTable<'a, A> {
     ghost invariant = { λ t. IsTable (record { names = t.names; spans = t.spans.items; waits = t.waits }) × (t.flushes ≡ flush_count t.waits) };
 }
 
-/// Adds targets of one item, at the places from `place` on.
+/// How many words there are, if each names an item.
+fn count_known<'a, A: Allocator + Copy>(names: &Names<'a, A>, words: Words<'a>) -> Option<u32>
+    requires { length words < 2 ^ 32 }
+    ensures { result ≡ option_map length (items_named names.now words.entry) }
+{
+    let mut count = 0u32;
+    for word in words {
+        names.find(word.bytes())?;
+        count += 1;
+    }
+    Some(count)
+}
+
+/// Adds targets of one item, at the places from `place` on, and answers the place behind them. There is no answer where
+/// a name is unknown, where there are too many flushes, or where memory ran out; `refusal` says which it is.
 fn push_targets<'a, A: Allocator + Copy>(
     names: &Names<'a, A>,
     waits: &mut WaitLists<A>,
     item: usize,
     place: u32,
     targets: Words<'a>,
-) -> Result<(), AllocError>
+) -> Option<u32>
     requires item { item < length waits.old }
-    requires known { IsSome (items_named names.now targets) }
     requires items { length names.now ≤ 4096 }
-    requires room { place + length targets ≤ 16384 }
-    ensures added { OnOk result (IfSome (items_named names.now targets.entry) (λ items.
+    requires room { place ≤ 16384 }
+    ensures next { IfSome result (λ next. option_map (λ items. place + length items) (items_named names.now targets.entry) ≡ Some next) }
+    ensures room { IfSome result (λ next. next ≤ 16384) }
+    ensures added { IfSome result (λ _. IfSome (items_named names.now targets.entry) (λ items.
         waits.new ≡ slice_set waits.old item (targets_of waits.old item ++ targets_from place items))) }
-    ensures memory { IfErr result (λ _. 0 < length targets.entry) }
+    ensures none { IfNone result (0 < length targets.entry) }
 {
     let mut next = place;
     for word in targets {
-        let target = names.find(word.bytes()).unwrap();
+        let target = names.find(word.bytes())?;
+        if next >= MAX_FLUSHES {
+            return None;
+        }
         let target = Target {
             item: ItemId::new(target as u16),
             place: next,
         };
-        waits.push_target(item, target)?;
+        waits.push_target(item, target).ok()?;
         next += 1;
     }
-    Ok(())
+    Some(next)
+}
+
+/// Why the targets of a line weren't added to a table with this many flushes.
+fn refusal<'a, A: Allocator + Copy>(
+    names: &Names<'a, A>,
+    flushes: u32,
+    line: u32,
+    targets: Words<'a>,
+) -> ItemError
+    requires few { length targets < 2 ^ 32 }
+    requires room { flushes ≤ 16384 }
+    ensures fault { (t : Table) (i : ℕ) → flush_count t.waits ≡ flushes →
+        IsFaultOf result (flushes_declared t line (and_item (Some i) (items_named names.now targets.entry))) }
+    ensures memory { (t : Table) (i : ℕ) → flush_count t.waits ≡ flushes → result ≡ OutOfMemory →
+        IsOk (flushes_declared t line (and_item (Some i) (items_named names.now targets.entry))) }
+{
+    match count_known(names, targets) {
+        None => ItemError::UnknownItem { line },
+        Some(count) if count > MAX_FLUSHES - flushes => ItemError::TooManyFlushes { line },
+        Some(_) => ItemError::OutOfMemory,
+    }
+}
+
+/// Why a table of 4,096 items doesn't take this one.
+fn when_full<'a, A: Allocator + Copy>(names: &Names<'a, A>, line: u32, name: Word<'a>) -> ItemError
+    requires { 4096 ≤ length names.now }
+    ensures { (t : Table) → t.names ≡ names.now → item_declared t line name.entry ≡ Err result }
+{
+    if names.find(name.bytes()).is_some() {
+        ItemError::ItemTwice { line }
+    } else {
+        ItemError::TooManyItems { line }
+    }
 }
 
 impl<'a, A: Allocator + Copy> ItemTable<'a, A> {
-    /// No item.
-    fn empty(alloc: A) -> Self
+    /// No item. Names are hashed with this seed.
+    fn empty(alloc: A, seed: u64) -> Self
         ensures { result ≡ empty_table }
     {
         ItemTable {
-            names: Names::new(alloc),
+            names: Names::new(alloc, seed),
             spans: Vec::new(alloc),
             waits: WaitLists::new(alloc),
             flushes: 0,
@@ -104,7 +159,19 @@ impl<'a, A: Allocator + Copy> ItemTable<'a, A> {
         ensures fault { IfErr result (λ e. IsFaultOf e (table_of view.now)) }
         ensures memory { IfErr result (λ e. e ≡ OutOfMemory → RanOut view.now) }
     {
-        let mut table = ItemTable::empty(alloc);
+        ItemTable::read_seeded(alloc, SEED, view)
+    }
+
+    /// The same table, made with a seed for the hashes of names.
+    ///
+    /// The answer doesn't depend on it, but the time does that reading takes: with a seed that is chosen at random, who
+    /// wrote the text can't know which names have the same hash.
+    pub fn read_seeded(alloc: A, seed: u64, view: &DeclView<'a>) -> Result<Self, ItemError>
+        ensures table { IfOk result (λ t. table_of view.now ≡ Ok t) }
+        ensures fault { IfErr result (λ e. IsFaultOf e (table_of view.now)) }
+        ensures memory { IfErr result (λ e. e ≡ OutOfMemory → RanOut view.now) }
+    {
+        let mut table = ItemTable::empty(alloc, seed);
         for (line, directive) in view.directives() {
             table = table.declare(alloc, line, directive)?;
         }
@@ -139,13 +206,12 @@ impl<'a, A: Allocator + Copy> ItemTable<'a, A> {
             mut waits,
             flushes,
         } = self;
-        if names.find(name.bytes()).is_some() {
+        if names.len() >= MAX_ITEMS {
+            return Err(when_full(&names, line, name));
+        }
+        if !names.add(name.bytes())? {
             return Err(ItemError::ItemTwice { line });
         }
-        if names.len() >= MAX_ITEMS {
-            return Err(ItemError::TooManyItems { line });
-        }
-        names.push(name.bytes())?;
         spans.push(name.span())?;
         waits.push_item(alloc)?;
         Ok(ItemTable {
@@ -154,19 +220,6 @@ impl<'a, A: Allocator + Copy> ItemTable<'a, A> {
             waits,
             flushes,
         })
-    }
-
-    /// How many words there are, if each names an item.
-    fn count_known(&self, words: Words<'a>) -> Option<u32>
-        requires { length words < 2 ^ 32 }
-        ensures { result ≡ option_map length (items_named self.now.names words.entry) }
-    {
-        let mut count = 0u32;
-        for word in words {
-            self.names.find(word.bytes())?;
-            count += 1;
-        }
-        Some(count)
     }
 
     /// The table with the flushes that one item declares.
@@ -184,25 +237,21 @@ impl<'a, A: Allocator + Copy> ItemTable<'a, A> {
         let Some(item) = self.names.find(name.bytes()) else {
             return Err(ItemError::UnknownItem { line });
         };
-        let Some(count) = self.count_known(targets.again()) else {
-            return Err(ItemError::UnknownItem { line });
-        };
-        if count > MAX_FLUSHES - self.flushes {
-            return Err(ItemError::TooManyFlushes { line });
-        }
         let ItemTable {
             names,
             spans,
             mut waits,
             flushes,
         } = self;
-        push_targets(&names, &mut waits, item, flushes, targets)?;
-        Ok(ItemTable {
-            names,
-            spans,
-            waits,
-            flushes: flushes + count,
-        })
+        match push_targets(&names, &mut waits, item, flushes, targets.again()) {
+            Some(flushes) => Ok(ItemTable {
+                names,
+                spans,
+                waits,
+                flushes,
+            }),
+            None => Err(refusal(&names, flushes, line, targets)),
+        }
     }
 
     /// The table as it is, if each of these words names an item.
@@ -210,7 +259,7 @@ impl<'a, A: Allocator + Copy> ItemTable<'a, A> {
         ensures table { IfOk result (λ t. items_ordered self.entry line (items_named self.entry.names names.entry) ≡ Ok t) }
         ensures fault { IfErr result (λ e. items_ordered self.entry line (items_named self.entry.names names.entry) ≡ Err e) }
     {
-        if self.count_known(names.again()).is_none() {
+        if count_known(&self.names, names.again()).is_none() {
             return Err(ItemError::UnknownItem { line });
         }
         Ok(self)

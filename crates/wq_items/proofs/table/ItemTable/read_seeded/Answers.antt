@@ -4,7 +4,7 @@ use Rattle.wq_decl.specs.declared.directive.Directive.{Directive}
 use Rattle.wq_decl.specs.Reading.{HasNames}
 use Rattle.std.proofs.lemmas.Result.{err_from_is_err_and}
 use Rattle.wq_items.proofs.ReadLemmas.{Made-none, Made-more, Made-ran_out}
-use Rattle.wq_items.proofs.table.ItemTable.read.Goals as goal
+use Rattle.wq_items.proofs.table.ItemTable.read_seeded.Goals as goal
 
 pub loop-line-init : goal.loop-line-init
 loop-line-init g c =

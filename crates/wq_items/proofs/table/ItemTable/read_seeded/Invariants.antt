@@ -4,7 +4,7 @@ use Rattle.wq_decl.specs.declared.directive.Directive.{Directive}
 use Rattle.wq_decl.specs.Reading.{HasNames}
 use Rattle.wq_items.specs.Building.{table_after, table_of}
 use Rattle.wq_items.proofs.ReadLemmas.{Made}
-use Rattle.wq_items.proofs.table.ItemTable.read.Given as goal
+use Rattle.wq_items.proofs.table.ItemTable.read_seeded.Given as goal
 
 -- the directives before those that are left made the table so far, and with those that are left it gives what all give
 abbrev pub invariant-loop-line : goal.invariant-loop-line

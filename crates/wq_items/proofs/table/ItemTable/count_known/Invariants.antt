@@ -1,5 +1,0 @@
-use Rattle.wq_items.proofs.TargetLemmas.{Counted}
-use Rattle.wq_items.proofs.table.ItemTable.count_known.Given as goal
-
-abbrev pub invariant-loop-word : goal.invariant-loop-word
-invariant-loop-word g l = Counted l.self.names l.count l.word-iterator l.fn.words
