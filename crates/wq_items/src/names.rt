@@ -1,7 +1,7 @@
 //! Names, each with its number.
 //!
 //! No name is declared twice, by "Items and groups" in docs/FORMAT.md. A name is found in constant time on average, by
-//! its hash; the names themselves stay in the text. Each call hashes its name once.
+//! its hash, which goes by a seed; the names themselves stay in the text. Each call hashes its name once.
 
 ghost use Rattle.std.specs.Prelude.{◌≡◌, ◌<◌, ◌+◌, ◌++◌, ◌∷◌, [], List, ℕ, length, is_some, not, false, Some, slice_get, IfOk, OnErr, if◌then◌else◌};
 ghost use Rattle.wq_items.specs.Table.{item_named};
