@@ -1,17 +1,20 @@
 -- Machines as their fields hold them, after one lane has changed.
 use Rattle.std.proofs.Common.{◌≡◌, ◌≢◌, ℕ, zero, suc, ◌==◌, ◌+◌, ◌<◌, ◌≤◌, ◌⊎◌, ◌^◌, List, [], ◌∷◌, map, set, refl, sym, subst, ◌∙◌, ap, arith, inl, inr}
-use Rattle.std.specs.Prelude.{Some, slice_get}
+use Rattle.std.specs.Prelude.{Option, Some, None, slice_get}
 use Rattle.std.specs.List.{count_by}
 use Rattle.std.proofs.lemmas.List.{get_or-map, map-set, length-set}
 use Rattle.std.proofs.lemmas.Option.{slice_get_within, get_or_from_slice_get}
 use Rattle.wq_items.specs.declared.target.Target.{Target}
 use Rattle.wq_core.specs.declared.step.Step.{Step}
 use Rattle.wq_core.specs.declared.step.Step.TheVariants.{Queue, Cancel, Start, Wait, Over, Finish}
-use Rattle.wq_core.specs.Wiring.{lane_of}
+use Rattle.wq_core.specs.Wiring.{IsWiring, Wiring, items, lane_of}
 use Rattle.wq_core.specs.State.{Lane, State, idle_lane, lane_at, with_lane}
 use Rattle.wq_core.specs.Rules.{Lawful, effect, with_queued, with_cancelled, with_started, with_wait, with_over, with_finished}
-use Rattle.wq_core.specs.Held.{HeldLane, Machine, machine_of, HasRoom, IsHeld, IsMachine, IsNumberOf, UsesUp, machine_after, IsDone}
+use Rattle.wq_core.specs.Held.{HeldLane, Machine, machine_of, HasRoom, IsNumbering, IsRising, IsHeld, IsMachine, IsNumberOf, UsesUp, machine_after, IsDone}
+use Rattle.wq_core.proofs.Numbered.{IsNumbering-effect, numbers_after}
+use Rattle.wq_core.proofs.Rising.{IsRising-effect}
 use Rattle.wq_core.proofs.Sound.{IsSoundState-effect}
+use Rattle.wq_core.proofs.Wirings.{lane_of-within}
 
 -- each lane is as it was, or the one that was put there
 set_cases : (lanes : List HeldLane) (q : ℕ) (new : HeldLane) (p : ℕ) (h : HeldLane) → slice_get (set lanes q new) p ≡ Some h → (slice_get lanes p ≡ Some h) ⊎ ((p ≡ q) × (new ≡ h))
@@ -24,7 +27,7 @@ set_cases (l ∷ ls) (suc q) new (suc p) h is = elim (set_cases ls q new p h is)
   | inr there ↦ inr (ap suc there.0, there.1)
 ]
 
-module _ (waits : List (List Target)) (lane_of_item : List ℕ) (lanes : List HeldLane) (next : ℕ) where
+module _ (waits : List (List Target)) (lane_of_item : List ℕ) (numbers : List (Option ℕ)) (lanes : List HeldLane) (next : ℕ) where
   -- the machine that the fields hold
   abbrev held_machine : Machine
   held_machine = machine_of waits lane_of_item lanes next
@@ -49,10 +52,10 @@ module _ (waits : List (List Target)) (lane_of_item : List ℕ) (lanes : List He
   ]
 
   -- a lawful step whose effect is such a change
-  changed : (m : Machine) (step : Step) (n q : ℕ) (old new : HeldLane) (later : ℕ) → IsHeld waits lane_of_item lanes next → held_machine ≡ m → IsNumberOf m step (Some n) → ¬ UsesUp m.state step
+  changed : (m : Machine) (step : Step) (n q : ℕ) (old new : HeldLane) (later : ℕ) → IsHeld waits lane_of_item numbers lanes next → held_machine ≡ m → IsNumberOf m step (Some n) → ¬ UsesUp m.state step
       → slice_get lanes q ≡ Some old → new.room ≡ old.room → later < 2 ^ 32
       → record { next = later; lanes = set held_machine.state.lanes q new.lane } ≡ effect held_machine.wiring held_machine.state step
-      → IsHeld waits lane_of_item (set lanes q new) later × IsDone m step n (machine_of waits lane_of_item (set lanes q new) later)
+      → IsHeld waits lane_of_item (numbers_after held_machine.state step numbers) (set lanes q new) later × IsDone m step n (machine_of waits lane_of_item (set lanes q new) later)
   changed m step n q old new later held view number left was room small made =
       let lawful : Lawful held_machine.wiring held_machine.state step = subst (λ (k : Machine). Lawful k.wiring k.state step) (sym view) number.0 in
       let is : machine_of waits lane_of_item (set lanes q new) later ≡ machine_after held_machine step = machine_of-set q new later ∙ ap (λ (s : State). record { wiring = held_machine.wiring; state = s }) made in
@@ -64,36 +67,44 @@ module _ (waits : List (List Target)) (lane_of_item : List ℕ) (lanes : List He
         few_flushes = before.few_flushes;
         few_lanes = before.few_lanes;
         numbers = subst (λ (s : State). s.next < 2 ^ 32) made small;
-      } in (
-        record { machine = subst IsMachine (sym is) after; room = room_kept q old new was room held.room },
+      } in
+      let numbered : IsNumbering held_machine.wiring (effect held_machine.wiring held_machine.state step) (numbers_after held_machine.state step numbers) =
+      IsNumbering-effect held_machine.wiring held_machine.state step numbers before.state (lane_of-within held_machine.wiring before.wiring) lawful held.numbers in
+      let rising : (p : ℕ) → IsRising (lane_at (effect held_machine.wiring held_machine.state step) p).pending = IsRising-effect held_machine.wiring held_machine.state step before.state held.rising in (
+        record {
+          machine = subst IsMachine (sym is) after;
+          room = room_kept q old new was room held.room;
+          numbers = subst (λ (k : Machine). IsNumbering k.wiring k.state (numbers_after held_machine.state step numbers)) (sym is) numbered;
+          rising = subst (λ (k : Machine). (p : ℕ) → IsRising (lane_at k.state p).pending) (sym is) rising;
+        },
         record { lawful = number.0; number_left = left; gives = number.1; after = is ∙ ap (λ (k : Machine). machine_after k step) view },
       )
 
-  module _ (m : Machine) (n : ℕ) (old new : HeldLane) (held : IsHeld waits lane_of_item lanes next) (view : held_machine ≡ m) (room : new.room ≡ old.room) where
+  module _ (m : Machine) (n : ℕ) (old new : HeldLane) (held : IsHeld waits lane_of_item numbers lanes next) (view : held_machine ≡ m) (room : new.room ≡ old.room) where
     -- the state with lane q as f makes it
     put : (q : ℕ) (f : Lane → Lane) → slice_get lanes q ≡ Some old → new.lane ≡ f old.lane → record { next = next; lanes = set held_machine.state.lanes q new.lane } ≡ with_lane held_machine.state q (f (lane_at held_machine.state q))
     put q f was is = ap (λ (l : Lane). with_lane held_machine.state q l) (is ∙ ap f (sym (held_lane q old was)))
 
     pub finished : (q i : ℕ) → IsNumberOf m (Finish q i) (Some n) → slice_get lanes q ≡ Some old → new.lane ≡ with_finished old.lane
-        → IsHeld waits lane_of_item (set lanes q new) next × IsDone m (Finish q i) n (machine_of waits lane_of_item (set lanes q new) next)
+        → IsHeld waits lane_of_item numbers (set lanes q new) next × IsDone m (Finish q i) n (machine_of waits lane_of_item (set lanes q new) next)
     finished q i number was is = changed m (Finish q i) n q old new next held view number (λ u. u) was room held.machine.numbers (put q with_finished was is)
 
     pub over : (q b : ℕ) → IsNumberOf m (Over q b) (Some n) → slice_get lanes q ≡ Some old → new.lane ≡ with_over old.lane
-        → IsHeld waits lane_of_item (set lanes q new) next × IsDone m (Over q b) n (machine_of waits lane_of_item (set lanes q new) next)
+        → IsHeld waits lane_of_item numbers (set lanes q new) next × IsDone m (Over q b) n (machine_of waits lane_of_item (set lanes q new) next)
     over q b number was is = changed m (Over q b) n q old new next held view number (λ u. u) was room held.machine.numbers (put q with_over was is)
 
     pub waited : (q b : ℕ) → IsNumberOf m (Wait q b) (Some n) → slice_get lanes q ≡ Some old → new.lane ≡ with_wait b n old.lane
-        → IsHeld waits lane_of_item (set lanes q new) next × IsDone m (Wait q b) n (machine_of waits lane_of_item (set lanes q new) next)
+        → IsHeld waits lane_of_item numbers (set lanes q new) next × IsDone m (Wait q b) n (machine_of waits lane_of_item (set lanes q new) next)
     waited q b number was is =
         let mark : n ≡ next = number.1 ∙ ap (λ (k : Machine). k.state.next) (sym view) in
         changed m (Wait q b) n q old new next held view number (λ u. u) was room held.machine.numbers (put q (with_wait b next) was (is ∙ ap (λ (k : ℕ). with_wait b k old.lane) mark))
 
     pub started : (q i : ℕ) → IsNumberOf m (Start q i) (Some n) → slice_get lanes q ≡ Some old → new.lane ≡ with_started old.lane
-        → IsHeld waits lane_of_item (set lanes q new) next × IsDone m (Start q i) n (machine_of waits lane_of_item (set lanes q new) next)
+        → IsHeld waits lane_of_item (set numbers i None) (set lanes q new) next × IsDone m (Start q i) n (machine_of waits lane_of_item (set lanes q new) next)
     started q i number was is = changed m (Start q i) n q old new next held view number (λ u. u) was room held.machine.numbers (put q with_started was is)
 
     pub cancelled : (q i : ℕ) → q ≡ lane_of m.wiring i → IsNumberOf m (Cancel i) (Some n) → slice_get lanes q ≡ Some old → new.lane ≡ with_cancelled i old.lane
-        → IsHeld waits lane_of_item (set lanes q new) next × IsDone m (Cancel i) n (machine_of waits lane_of_item (set lanes q new) next)
+        → IsHeld waits lane_of_item (set numbers i None) (set lanes q new) next × IsDone m (Cancel i) n (machine_of waits lane_of_item (set lanes q new) next)
     cancelled q i own number was is =
         let at : q ≡ lane_of held_machine.wiring i = own ∙ ap (λ (k : Machine). lane_of k.wiring i) (sym view) in
         changed m (Cancel i) n q old new next held view number (λ u. u) was room held.machine.numbers (
@@ -101,12 +112,13 @@ module _ (waits : List (List Target)) (lane_of_item : List ℕ) (lanes : List He
         )
 
     pub queued : (q i : ℕ) → q ≡ lane_of m.wiring i → IsNumberOf m (Queue i) (Some n) → n ≢ 4294967295 → slice_get lanes q ≡ Some old → new.lane ≡ with_queued (record { number = n; item = i }) old.lane
-        → IsHeld waits lane_of_item (set lanes q new) (next + 1) × IsDone m (Queue i) n (machine_of waits lane_of_item (set lanes q new) (next + 1))
+        → IsHeld waits lane_of_item (set numbers i (Some n)) (set lanes q new) (next + 1) × IsDone m (Queue i) n (machine_of waits lane_of_item (set lanes q new) (next + 1))
     queued q i own number left was is =
         let at : q ≡ lane_of held_machine.wiring i = own ∙ ap (λ (k : Machine). lane_of k.wiring i) (sym view) in
         let given : n ≡ next = number.1 ∙ ap (λ (k : Machine). k.state.next) (sym view) in
         let lane : Lane → Lane = with_queued (record { number = next; item = i }) in
-        changed m (Queue i) n q old new (next + 1) held view number (λ u. left (number.1 ∙ u)) was room (omega (arith, held.machine.numbers, given, left)) (
+        let now = changed m (Queue i) n q old new (next + 1) held view number (λ u. left (number.1 ∙ u)) was room (omega (arith, held.machine.numbers, given, left)) (
         ap (λ (l : Lane). record { next = next + 1; lanes = set held_machine.state.lanes q l }) (is ∙ ap (λ (k : ℕ). with_queued (record { number = k; item = i }) old.lane) given ∙ ap lane (sym (held_lane q old was)))
         ∙ ap (λ (p : ℕ). record { next = next + 1; lanes = set held_machine.state.lanes p (lane (lane_at held_machine.state p)) }) at
-        )
+        ) in
+        (subst (λ (k : ℕ). IsHeld waits lane_of_item (set numbers i (Some k)) (set lanes q new) (next + 1)) (sym given) now.0, now.1)

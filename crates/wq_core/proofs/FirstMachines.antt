@@ -1,15 +1,18 @@
 -- The machine of a declaration and an assignment, before anything is queued, and how it is held.
-use Rattle.std.proofs.Common.{◌≡◌, ℕ, ◌<◌, ◌≤◌, List, [], ◌∷◌, length, map, get_or, replicate, Some, refl, sym, ap, subst, ◌∙◌, arith}
+use Rattle.std.proofs.Common.{◌≡◌, ℕ, ◌<◌, ◌≤◌, List, [], ◌∷◌, length, map, get_or, replicate, Option, Some, None, refl, sym, ap, subst, ◌∙◌, arith}
 use Rattle.std.specs.Prelude.{slice_get}
 use Rattle.std.proofs.lemmas.List.{length-map, get_or-map}
 use Rattle.std.proofs.lemmas.Option.{get_or_from_slice_get, slice_get_within}
 use Rattle.wq_items.specs.declared.target.Target.{Target}
 use Rattle.wq_groups.specs.Declaration.{Declaration, IsDeclaration}
 use Rattle.wq_groups.specs.Assignment.{Assignment, IsAssignment, item_lanes}
-use Rattle.wq_core.specs.Wiring.{wiring, count_on}
-use Rattle.wq_core.specs.State.{Lane, idle_lane}
-use Rattle.wq_core.specs.Held.{HeldLane, IsMachine, IsHeld, HasRoom, machine_of}
+use Rattle.wq_core.specs.Wiring.{wiring, items, count_on}
+use Rattle.wq_core.specs.State.{Lane, idle_lane, lane_at, empty_state}
+use Rattle.wq_core.specs.Held.{HeldLane, Machine, IsMachine, IsHeld, IsNumbering, IsRising, HasRoom, machine_of}
 use Rattle.wq_core.specs.Building.{idle_with_room, first_machine}
+use Rattle.wq_core.proofs.LaneLemmas.{lane_at-empty_state}
+use Rattle.wq_core.proofs.Numbered.{IsNumbering-empty}
+use Rattle.wq_core.proofs.Rising.{IsRising-nil}
 use Rattle.wq_core.proofs.Sound.{IsSoundState-empty}
 use Rattle.wq_core.proofs.Wirings.{IsWiring-wiring}
 
@@ -49,11 +52,16 @@ HasRoom-first lane_of_item lanes rooms idle counted q h there =
     let room : get_or rooms q 0 ≡ h.room = ap (λ (l : HeldLane). l.room) is in
     omega (arith, room, counted q within)
 
--- there is room for all items where the rooms count them
-pub IsHeld-first : (d : Declaration) (a : Assignment) (waits : List (List Target)) (lane_of_item : List ℕ) (lanes : List HeldLane) (rooms : List ℕ) → IsDeclaration d → IsAssignment d.groups a → a.lanes ≤ 4096
-    → waits ≡ d.waits → lane_of_item ≡ item_lanes a d.group_of → lanes ≡ map idle_with_room rooms → length rooms ≡ a.lanes → ((q : ℕ) → q < a.lanes → get_or rooms q 0 ≡ count_on lane_of_item q)
-    → IsHeld waits lane_of_item lanes 0
-IsHeld-first d a waits lane_of_item lanes rooms declaration assignment few same_waits same_lanes idle one_each counted = record {
-  machine = subst IsMachine (sym (machine_of-first d a waits lane_of_item lanes rooms same_waits same_lanes idle one_each)) (IsMachine-first_machine d a declaration assignment few);
-  room = HasRoom-first lane_of_item lanes rooms idle (λ q within. counted q (omega (arith, within, one_each)));
-}
+-- there is room for all items where the rooms count them, and no entry is pending
+pub IsHeld-first : (d : Declaration) (a : Assignment) (waits : List (List Target)) (lane_of_item : List ℕ) (numbers : List (Option ℕ)) (lanes : List HeldLane) (rooms : List ℕ) (count : ℕ) → IsDeclaration d → IsAssignment d.groups a → a.lanes ≤ 4096
+    → waits ≡ d.waits → lane_of_item ≡ item_lanes a d.group_of → numbers ≡ replicate count None → count ≡ length d.waits → lanes ≡ map idle_with_room rooms → length rooms ≡ a.lanes → ((q : ℕ) → q < a.lanes → get_or rooms q 0 ≡ count_on lane_of_item q)
+    → IsHeld waits lane_of_item numbers lanes 0
+IsHeld-first d a waits lane_of_item numbers lanes rooms count declaration assignment few same_waits same_lanes none all idle one_each counted =
+    let first : machine_of waits lane_of_item lanes 0 ≡ first_machine d a = machine_of-first d a waits lane_of_item lanes rooms same_waits same_lanes idle one_each in
+    let empty : numbers ≡ replicate (items (wiring d a)) None = none ∙ ap (λ (n : ℕ). replicate n None) all in
+    record {
+      machine = subst IsMachine (sym first) (IsMachine-first_machine d a declaration assignment few);
+      room = HasRoom-first lane_of_item lanes rooms idle (λ q within. counted q (omega (arith, within, one_each)));
+      numbers = subst (λ (m : Machine). IsNumbering m.wiring m.state numbers) (sym first) (subst (IsNumbering (wiring d a) (empty_state (wiring d a))) (sym empty) (IsNumbering-empty (wiring d a)));
+      rising = subst (λ (m : Machine). (q : ℕ) → IsRising (lane_at m.state q).pending) (sym first) (λ q. subst (λ (l : Lane). IsRising l.pending) (sym (lane_at-empty_state (wiring d a) q)) IsRising-nil);
+    }

@@ -52,7 +52,7 @@ idle_lanes n q = elim (cases_lt q n) [
 pub lane_at-empty_state : (w : Wiring) (q : ℕ) → lane_at (empty_state w) q ≡ idle_lane
 lane_at-empty_state w q = idle_lanes w.lanes q
 
-Contains-nil : {X : Type 0} (x : X) → ¬ Contains [] x
+pub Contains-nil : {X : Type 0} (x : X) → ¬ Contains [] x
 Contains-nil x (k, lt, at) = omega arith
 
 pub idle_lane-unfinished : (e : Entry) → ¬ IsUnfinishedOn idle_lane e

@@ -1,6 +1,6 @@
--- A lane that has room for all its items has room for one entry more, where a queueing is lawful.
+-- What a lawful step asks of the lane and of the numbers: room for one entry more, an entry that is there, a count that fits.
 use Rattle.std.proofs.Common.{◌≡◌, ◌≢◌, ℕ, zero, suc, ◌+◌, ◌-◌, ◌<◌, ◌≤◌, ◌==◌, eqb, Bool, true, false, List, [], ◌∷◌, length, map, take, get_or, refl, sym, subst, ◌∙◌, ap, arith, inl, inr}
-use Rattle.std.specs.Prelude.{Option, Some, slice_get, IfSome}
+use Rattle.std.specs.Prelude.{AllPairs, Option, Some, slice_get, IfSome}
 use Rattle.std.specs.List.{All, count_by}
 use Rattle.std.proofs.lemmas.Bool.{cases_lt}
 use Rattle.std.proofs.lemmas.List.{get_or-map, length-map, take_all, length-append}
@@ -10,14 +10,15 @@ use Rattle.wq_items.specs.declared.target.Target.{Target}
 use Rattle.wq_items.proofs.Pigeonhole.{repeats_from_length}
 use Rattle.wq_core.specs.declared.entry.Entry.{Entry}
 use Rattle.wq_core.specs.declared.entry.Running.{Running}
-use Rattle.wq_core.specs.declared.step.Step.TheVariants.{Queue, Wait}
+use Rattle.wq_core.specs.declared.step.Step.TheVariants.{Queue, Cancel, Start, Wait}
 use Rattle.wq_core.specs.Wiring.{Wiring, IsWiring, items, lane_of}
-use Rattle.wq_core.specs.State.{Lane, State, lane_at}
+use Rattle.wq_core.specs.State.{Lane, State, lane_at, IsPendingOn}
 use Rattle.wq_core.specs.Rules.{Lawful, effect, with_queued}
-use Rattle.wq_core.specs.Held.{IsSoundState, HeldLane, Machine, machine_of, IsHeld, IsMachine, IsNumberOf}
+use Rattle.wq_core.specs.Held.{IsSoundState, IsRising, HeldLane, Machine, machine_of, IsHeld, IsMachine, IsNumberOf}
 use Rattle.wq_core.proofs.LaneLemmas.{lane_at-with_lane_same}
-use Rattle.wq_core.proofs.Sound.{IsSoundState-effect}
-use Rattle.wq_core.proofs.Machines.{running-item}
+use Rattle.wq_core.proofs.Sound.{Differ, IsSoundState-effect}
+use Rattle.wq_core.proofs.LawfulSteps.{start-item}
+use Rattle.wq_core.proofs.Machines.{running-item, pending-own_lane}
 use Rattle.wq_core.proofs.Changes.{held_lane}
 
 -- ---- places of a list at which a test passes
@@ -116,8 +117,8 @@ pending_count w s q wiring sound = subst (λ n. n ≤ count_by (λ l. l == q) w.
         let i_in : i < length ps = omega (arith, less, j_in) in
         sound.once q i j none less j_in (sym (item_at i d i_in) ∙ same ∙ item_at j d j_in)
 
-module _ (waits : List (List Target)) (lane_of_item : List ℕ) (lanes : List HeldLane) (next : ℕ) (m : Machine) (n q : ℕ) (old : HeldLane)
-    (held : IsHeld waits lane_of_item lanes next) (view : machine_of waits lane_of_item lanes next ≡ m) (was : slice_get lanes q ≡ Some old) where
+module _ (waits : List (List Target)) (lane_of_item : List ℕ) (numbers : List (Option ℕ)) (lanes : List HeldLane) (next : ℕ) (m : Machine) (n q : ℕ) (old : HeldLane)
+    (held : IsHeld waits lane_of_item numbers lanes next) (view : machine_of waits lane_of_item lanes next ≡ m) (was : slice_get lanes q ≡ Some old) where
   abbrev before : Machine
   before = machine_of waits lane_of_item lanes next
 
@@ -132,7 +133,7 @@ module _ (waits : List (List Target)) (lane_of_item : List ℕ) (lanes : List He
       let there : q < length before.state.lanes = omega (arith, within, held.machine.state.one_each, ap (λ (k : Machine). k.wiring.lanes) view) in
       let lane : lane_at after q ≡ with_queued e old.lane =
       subst (λ r. lane_at (effect before.wiring before.state (Queue i)) r ≡ with_queued e (lane_at before.state r)) at (lane_at-with_lane_same before.state (lane_of before.wiring i) (with_queued e (lane_at before.state (lane_of before.wiring i))) (rw at there))
-      ∙ ap (λ (l : Lane). with_queued e l) (held_lane waits lane_of_item lanes next q old was) in
+      ∙ ap (λ (l : Lane). with_queued e l) (held_lane waits lane_of_item numbers lanes next q old was) in
       let longer : length (lane_at after q).pending ≡ length old.lane.pending + 1 = ap (λ (l : Lane). length l.pending) lane ∙ length-append old.lane.pending (e ∷ []) in
       omega (arith, count, longer, held.room q old was)
 
@@ -142,5 +143,27 @@ module _ (waits : List (List Target)) (lane_of_item : List ℕ) (lanes : List He
       let sound : IsMachine m = subst IsMachine view held.machine in
       let there : r.entry.item < items m.wiring = running-item m.wiring m.state q r sound.state runs in
       let few = get_or-le-sum_by length m.wiring.waits r.entry.item [] there in
-      let is : old.lane.running ≡ Some r = ap (λ (l : Lane). l.running) (sym (held_lane waits lane_of_item lanes next q old was) ∙ ap (λ (k : Machine). lane_at k.state q) view) ∙ runs in
+      let is : old.lane.running ≡ Some r = ap (λ (l : Lane). l.running) (sym (held_lane waits lane_of_item numbers lanes next q old was) ∙ ap (λ (k : Machine). lane_at k.state q) view) ∙ runs in
       subst (λ (o : Option Running). IfSome o (λ (x : Running). x.made + 1 < 4294967296)) (sym is) (omega (arith, may.fewer, few, sound.few_flushes))
+
+  -- the entry that is cancelled is one of the lane's, which rise and of which each item has one
+  pub cancel_pending : (i : ℕ) → q ≡ lane_of m.wiring i → IsNumberOf m (Cancel i) (Some n) → IsPendingOn old.lane (record { number = n; item = i })
+  cancel_pending i own number =
+      let sound : IsMachine m = subst IsMachine view held.machine in
+      let (h, given) = number.1 in
+      let same : h.lane ≡ q = (pending-own_lane m.wiring m.state i sound.state h).1 ∙ sym own in
+      let lane : lane_at m.state h.lane ≡ old.lane = ap (λ p. lane_at m.state p) same ∙ ap (λ (k : Machine). lane_at k.state q) (sym view) ∙ held_lane waits lane_of_item numbers lanes next q old was in
+      let there : IsPendingOn old.lane h.entry = subst (λ (l : Lane). IsPendingOn l h.entry) lane h.pending in
+      subst (λ k. IsPendingOn old.lane (record { number = k; item = i })) given (subst (λ k. IsPendingOn old.lane (record { number = h.entry.number; item = k })) h.of_item there)
+
+  pub cancel_once : AllPairs Differ old.lane.pending
+  cancel_once = subst (λ (l : Lane). AllPairs Differ l.pending) (held_lane waits lane_of_item numbers lanes next q old was) (held.machine.state.once q)
+
+  pub cancel_rising : IsRising old.lane.pending
+  cancel_rising = subst (λ (l : Lane). IsRising l.pending) (held_lane waits lane_of_item numbers lanes next q old was) (held.rising q)
+
+  pub start_numbered : (i : ℕ) → IsNumberOf m (Start q i) (Some n) → i < length numbers
+  start_numbered i number =
+      let sound : IsMachine m = subst IsMachine view held.machine in
+      let below : i < items m.wiring = start-item m.wiring m.state q i sound.state number.0 in
+      omega (arith, below, held.numbers.one_each, ap (λ (k : Machine). items k.wiring) view)

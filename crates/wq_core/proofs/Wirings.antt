@@ -6,7 +6,7 @@ use Rattle.wq_items.specs.Table.{TargetsBelow}
 use Rattle.wq_groups.specs.Declaration.{Declaration, IsDeclaration}
 use Rattle.wq_groups.specs.Assignment.{Assignment, IsAssignment, group_lane}
 use Rattle.wq_groups.proofs.Lanes.{item_lanes-within}
-use Rattle.wq_core.specs.Wiring.{IsWiring, wiring}
+use Rattle.wq_core.specs.Wiring.{Wiring, IsWiring, wiring, items, lane_of}
 
 -- the same of equal numbers and lists
 pub All-below : (m n : ℕ) (xs ys zs : List ℕ) → n ≡ m → zs ≡ ys → ys ≡ xs → All (λ x. x < m) xs → All (λ x. x < n) zs
@@ -25,3 +25,6 @@ lanes-some group_of groups a within assignment some =
     let group : get_or group_of 0 0 < groups = within 0 0 some in
     let lane : get_or a.lane_of_group 0 0 < a.lanes = assignment.within 0 0 (omega (arith, group, assignment.one_each)) in
     omega (arith, lane)
+
+pub lane_of-within : (w : Wiring) → IsWiring w → (i : ℕ) → i < items w → lane_of w i < w.lanes
+lane_of-within w wiring i within = wiring.within i 0 (omega (arith, within, wiring.one_lane_each))

@@ -1,7 +1,8 @@
 -- Lanes and machines as the code holds them.
-use Rattle.std.specs.Prelude.{◌≡◌, ◌≢◌, ℕ, ◌<◌, ◌≤◌, ◌^◌, List, length, AllPairs, Some, None, Option, map, Bool, false, ◌==◌, ◌&&◌, nat_lt, slice_get, MatchOption}
+use Rattle.std.specs.Prelude.{◌≡◌, ◌≢◌, ℕ, ◌<◌, ◌≤◌, ◌^◌, List, [], length, AllPairs, Some, None, Option, map, Bool, false, ◌==◌, ◌&&◌, nat_lt, slice_get, slice_index_or, MatchOption, IsPermutation}
+use Rattle.std.specs.List.Sorted.{IsNonDecreasing}
 use Rattle.wq_items.specs.declared.target.Target.{Target}
-use Rattle.wq_items.specs.Table.{ItemWaits, flush_count, max_items, max_flushes}
+use Rattle.wq_items.specs.Table.{ItemWaits, targets_of, flush_count, max_items, max_flushes}
 use Rattle.wq_groups.specs.Assignment.{max_lanes}
 use Rattle.wq_core.specs.declared.entry.Entry.{Entry}
 use Rattle.wq_core.specs.declared.entry.Waiting.{Waiting}
@@ -11,7 +12,7 @@ use Rattle.wq_core.specs.declared.step.Step.TheVariants.{Queue, Cancel, Start, W
 use Rattle.wq_core.specs.declared.step.StepError.{StepError}
 use Rattle.wq_core.specs.declared.step.StepError.TheVariants.{NotLawful, NumbersUsedUp}
 use Rattle.wq_core.specs.Wiring.{Wiring, IsWiring, items, lane_of, declared_by, count_on}
-use Rattle.wq_core.specs.State.{Lane, State, max_number, lane_at, Runs, IsUnfinishedOn}
+use Rattle.wq_core.specs.State.{Lane, State, max_number, lane_at, Runs, IsPendingOn, IsUnfinishedOn}
 use Rattle.wq_core.specs.Rules.{Lawful, Gives, effect}
 use Rattle.wq_core.specs.Runs.{after, IsRunFrom}
 
@@ -35,6 +36,36 @@ pub record LaneHasUnfinishedBelow (lane : Lane) (item mark : ℕ) : Type 0 where
   pub unfinished : IsUnfinishedOn lane entry
   pub of_item : entry.item ≡ item
   pub below : entry.number < mark
+
+-- a pending entry of the item has a number below the mark
+pub record HasPendingBelow (s : State) (item mark : ℕ) : Type 0 where
+  pub lane : ℕ
+  pub entry : Entry
+  pub pending : IsPendingOn (lane_at s lane) entry
+  pub of_item : entry.item ≡ item
+  pub below : entry.number < mark
+
+-- an entry of the item runs, and has a number below the mark
+pub record RunsBelow (s : State) (item mark : ℕ) : Type 0 where
+  pub lane : ℕ
+  pub running : Running
+  pub runs : Runs (lane_at s lane) running
+  pub of_item : running.entry.item ≡ item
+  pub below : running.entry.number < mark
+
+-- the items are those of the targets, sorted
+pub record IsSortedOf (targets : List Target) (items : List ℕ) : Type 0 where
+  pub same : IsPermutation (map (λ (t : Target). t.item) targets) items
+  pub rise : IsNonDecreasing items
+
+-- of the first n items the targets, sorted
+pub record AreSorted (n : ℕ) (waits : List (List Target)) (sorted : List (List ℕ)) : Type 0 where
+  pub one_each : length sorted ≡ n
+  pub each : (i : ℕ) → i < n → IsSortedOf (targets_of waits i) (slice_index_or sorted i [])
+
+-- the numbers of the entries rise: each was queued after those before it
+abbrev pub IsRising : List Entry → Type 0
+IsRising entries = AllPairs (λ (e f : Entry). e.number < f.number) entries
 
 -- a machine: its wiring, and its state
 pub record Machine : Type 0 where
@@ -77,10 +108,19 @@ machine_of waits lane_of_item lanes next = record {
 abbrev pub HasRoom : List ℕ → ℕ → HeldLane → Type 0
 HasRoom lane_of_item q h = count_on lane_of_item q ≤ h.room
 
--- what holds of these fields: the machine is sound, and each lane has room for all its items
-pub record IsHeld (waits : List (List Target)) (lane_of_item : List ℕ) (lanes : List HeldLane) (next : ℕ) : Type 0 where
+-- of each item in turn the number of its pending entry, and none where no entry of it is pending
+pub record IsNumbering (w : Wiring) (s : State) (numbers : List (Option ℕ)) : Type 0 where
+  pub one_each : length numbers ≡ items w
+  pub pending : (i n : ℕ) → slice_index_or numbers i None ≡ Some n → IsPendingOn (lane_at s (lane_of w i)) (record { number = n; item = i })
+  pub noted : (q : ℕ) (e : Entry) → IsPendingOn (lane_at s q) e → slice_index_or numbers e.item None ≡ Some e.number
+
+-- what holds of these fields: the machine is sound, each lane has room for all its items, the numbers are those of the pending
+-- entries, and on each lane they rise
+pub record IsHeld (waits : List (List Target)) (lane_of_item : List ℕ) (pending : List (Option ℕ)) (lanes : List HeldLane) (next : ℕ) : Type 0 where
   pub machine : IsMachine (machine_of waits lane_of_item lanes next)
   pub room : (q : ℕ) (h : HeldLane) → slice_get lanes q ≡ Some h → HasRoom lane_of_item q h
+  pub numbers : IsNumbering (machine_of waits lane_of_item lanes next).wiring (machine_of waits lane_of_item lanes next).state pending
+  pub rising : (q : ℕ) → IsRising (lane_at (machine_of waits lane_of_item lanes next).state q).pending
 
 -- ---- steps of a machine
 

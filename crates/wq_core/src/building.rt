@@ -1,35 +1,17 @@
 //! The parts of a machine, made of a declaration and an assignment.
 //!
-//! Each part takes time and memory in the number of what it lists: the items and their flushes, or the lanes. A list of
-//! nothing takes no memory.
+//! Each part takes time and memory in the number of what it lists: the items, or the lanes. A list of nothing takes no
+//! memory.
 
-ghost use Rattle.std.specs.Prelude.{◌≡◌, ◌<◌, ◌≤◌, ℕ, length, map, replicate, slice_index, IfOk, OnErr};
+ghost use Rattle.std.specs.Prelude.{◌≡◌, ◌<◌, ◌≤◌, ℕ, length, replicate, slice_index, IfOk, OnErr};
 ghost use Rattle.std.specs.List.{All};
-ghost use Rattle.wq_items.specs.Table.{IsTable};
 ghost use Rattle.wq_groups.specs.Partition.{IsPartition};
 ghost use Rattle.wq_groups.specs.Assignment.{item_lanes};
 ghost use Rattle.wq_core.specs.Wiring.{count_on};
 
 use std::alloc::{AllocError, Allocator};
 use wq_groups::{Assignment, Groups, LaneId};
-use wq_items::{ItemId, ItemTable, Target};
-
-/// The targets of each item.
-pub(crate) fn copy_waits<A: Allocator + Copy>(
-    alloc: A,
-    table: &ItemTable<'_, A>,
-) -> Result<Vec<Vec<Target, A>, A>, AllocError>
-    ensures waits { IfOk result (λ waits. map (λ l. l.items) waits.items ≡ table.now.waits) }
-    ensures table { IsTable table.now }
-    ensures memory { OnErr result (0 < length table.now.names) }
-{
-    let items = table.len();
-    let mut waits = Vec::with_capacity(alloc, usize::from(items))?;
-    for i in 0..items {
-        waits.push(Vec::from_slice(alloc, table.waits(ItemId::new(i)))?)?;
-    }
-    Ok(waits)
-}
+use wq_items::ItemId;
 
 /// The lane of each of so many items.
 pub(crate) fn item_lanes<A: Allocator + Copy>(

@@ -1,15 +1,14 @@
 //! A lane: what is queued on it, and what its context runs.
 //!
-//! It changes as "Rules" in the specs of this crate says, in words of one lane alone. `cancel`, `pending_of` and
-//! `unfinished_below` take time in the number of pending entries, each other call takes constant time. Only `new`
-//! takes memory.
+//! It changes as "Rules" in the specs of this crate says, in words of one lane alone. `cancel` finds the entry in time in
+//! the logarithm of the number of pending entries, and then moves those before or behind it, whichever are fewer; each
+//! other call takes constant time. Only `new` takes memory.
 
-ghost use Rattle.std.specs.Prelude.{◌≡◌, ◌<◌, ◌+◌, ◌^◌, ◌==◌, ◌↔◌, length, IfOk, OnErr, IfSome, IsTrue, slice_get};
-ghost use Rattle.std.specs.List.{find, list_any};
+ghost use Rattle.std.specs.Prelude.{◌≡◌, ◌≢◌, ◌<◌, ◌+◌, ◌^◌, ◌↔◌, length, AllPairs, IfOk, OnErr, IfSome, IsTrue, slice_get};
 ghost use Rattle.std.specs.VecDeque.Iter.{deque_iter_rest};
 ghost use Rattle.wq_core.specs.declared.entry.Entry.{Entry};
-ghost use Rattle.wq_core.specs.State.{idle_lane};
-ghost use Rattle.wq_core.specs.Held.{LaneHasUnfinishedBelow, is_below, runs_below};
+ghost use Rattle.wq_core.specs.State.{idle_lane, IsPendingOn};
+ghost use Rattle.wq_core.specs.Held.{IsRising, runs_below};
 ghost use Rattle.wq_core.specs.Rules.{with_queued, with_cancelled, with_started, with_wait, with_over, with_finished};
 
 use crate::entry::{Entry, Running, Waiting};
@@ -77,37 +76,14 @@ impl<A: Allocator> Lane<A> {
         self.pending.iter()
     }
 
-    /// The first pending entry of an item.
-    pub fn pending_of(&self, item: ItemId) -> Option<Entry>
-        ensures { result ≡ find (λ (e : Entry). e.item == item) self.now.lane.pending }
-    {
-        self.pending.iter().find(|e| e.item == item).copied()
-    }
-
-    /// Whether a pending entry of an item has a number below the mark.
-    fn has_pending_below(&self, item: ItemId, mark: u32) -> bool
-        ensures { result ≡ list_any (is_below item mark) self.now.lane.pending }
-    {
-        self.pending
-            .iter()
-            .any(|e| e.item == item && e.number < mark)
-    }
-
     /// Whether the entry that runs is of an item and has a number below the mark.
-    fn runs_below(&self, item: ItemId, mark: u32) -> bool
+    pub(crate) fn runs_below(&self, item: ItemId, mark: u32) -> bool
         ensures { result ≡ runs_below item mark self.now.lane.running }
     {
         match self.running {
             Some(r) => r.entry.item == item && r.entry.number < mark,
             None => false,
         }
-    }
-
-    /// Whether an unfinished entry of an item, pending or running, has a number below the mark.
-    pub fn unfinished_below(&self, item: ItemId, mark: u32) -> bool
-        ensures { IsTrue result ↔ LaneHasUnfinishedBelow self.now.lane item mark }
-    {
-        self.has_pending_below(item, mark) || self.runs_below(item, mark)
     }
 
     /// An entry is queued, last.
@@ -119,12 +95,16 @@ impl<A: Allocator> Lane<A> {
         self.pending.push_back_reserved(entry);
     }
 
-    /// The pending entry of an item is taken out.
-    pub fn cancel(&mut self, item: ItemId)
-        ensures lane { self.new.lane ≡ with_cancelled item self.old.lane }
+    /// A pending entry is taken out, the only one of its item. It is found by its number, since numbers rise.
+    pub(crate) fn cancel(&mut self, entry: Entry)
+        requires pending { IsPendingOn self.old.lane entry }
+        requires once { AllPairs (λ (e f : Entry). e.item ≢ f.item) self.old.lane.pending }
+        requires rising { IsRising self.old.lane.pending }
+        ensures lane { self.new.lane ≡ with_cancelled entry.item self.old.lane }
         ensures room { self.new.room ≡ self.old.room }
     {
-        self.pending.retain(|e| e.item != item);
+        let at = self.pending.partition_point(|e| e.number < entry.number);
+        self.pending.remove(at);
     }
 
     /// The first pending entry runs.

@@ -2,8 +2,9 @@
 //!
 //! What the layer above relies on: a step is done exactly where it is lawful, with its effect. Each lane is a workqueue
 //! with WQ_MEM_RECLAIM and one execution context, its rescuer (Documentation/core-api/workqueue.rst, "WQ_MEM_RECLAIM").
-//! The machine knows lists of steps only: no graph, no rank and no chain. A step takes time in the entries that are pending
-//! on a lane, or in the flushes of an item; questions about all lanes take time in these.
+//! The machine knows lists of steps only: no graph, no rank and no chain. A step takes time in the logarithm of the number
+//! of entries that are pending on a lane, or of the flushes of an item, and a cancellation moves entries; questions about
+//! all lanes take time in these.
 #![tactic(auto)]
 
 mod building;
@@ -12,8 +13,10 @@ mod lane;
 mod lanes;
 pub mod laws;
 mod machine;
+mod pending;
 mod questions;
 mod step;
+mod targets;
 mod work;
 
 pub use entry::{Entry, Running, Waiting};

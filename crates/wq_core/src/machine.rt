@@ -1,9 +1,11 @@
 //! The machine: its wiring, its state, and the steps that change it.
 //!
-//! The rules are those of "Rules" in the specs of this crate. A question about an item looks at the item's own lane
-//! alone, since its entries stand there: it takes time in the number of entries that are pending on it. So does each step,
-//! and the question which number it would give; a wait takes time in the number of the targets of an item. Only `new` takes
-//! memory; it takes time and memory in the number of items, flushes and lanes.
+//! The rules are those of "Rules" in the specs of this crate. The number of an item's pending entry stands beside the lanes,
+//! so a question about an item takes constant time. So does each step, and the question which number it would give, but for
+//! two: a cancellation takes time in the logarithm of the number of entries that are pending on the lane, and moves those
+//! before or behind the one that is taken out, whichever are fewer; and a wait takes time in the logarithm of the number of
+//! the item's targets. Only `new` takes memory; it takes memory in the number of items, flushes and lanes, and time in that
+//! too, times the logarithm of the flushes of one item.
 
 ghost use Rattle.std.specs.Prelude.{◌≡◌, ◌<◌, ◌≤◌, length, slice_get, Some, IfSome, IfNone, OnSome, IfOk, OnErr, IfErr, IsTrue, ◌↔◌, take};
 ghost use Rattle.wq_items.specs.Table.{ItemWaits};
@@ -12,14 +14,16 @@ ghost use Rattle.wq_core.specs.declared.step.StepError.{StepError};
 ghost use Rattle.wq_core.specs.declared.step.Step.TheVariants.{Queue, Cancel, Start, Wait, Over, Finish};
 ghost use Rattle.wq_core.specs.Wiring.{items, lane_of, declared_by};
 ghost use Rattle.wq_core.specs.State.{lane_at, IsPendingOn, HasPending, HasUnfinishedBelow, HasUnfinishedOf, HasUnfinished};
-ghost use Rattle.wq_core.specs.Held.{IsMachine, IsNumberOf, IsDone, IsRefusal, AreDone, machine_after};
+ghost use Rattle.wq_core.specs.Held.{IsMachine, IsNumberOf, IsDone, IsRefusal, AreDone, machine_after, HasPendingBelow, RunsBelow};
 ghost use Rattle.wq_core.specs.Building.{first_machine};
 
-use crate::building::{copy_waits, count_items, item_lanes};
+use crate::building::{count_items, item_lanes};
 use crate::entry::{Entry, Running};
 use crate::lane::Lane;
 use crate::lanes::Lanes;
+use crate::pending::PendingNumbers;
 use crate::step::{RunError, Step, StepError};
+use crate::targets::Targets;
 use std::alloc::{AllocError, Allocator};
 use std::marker::Model;
 use wq_groups::{Assignment, Groups, LaneId};
@@ -28,21 +32,21 @@ use wq_items::{ItemId, ItemTable, Target};
 /// The machine. Contracts see its wiring and its state.
 #[derive(Drop)]
 pub struct Core<A: Allocator> {
-    waits: Vec<Vec<Target, A>, A>,
+    targets: Targets<A>,
     lane_of_item: Vec<LaneId, A>,
+    pending: PendingNumbers<A>,
     lanes: Lanes<A>,
     next: u32,
 }
 
 impl<A: Allocator> Model for Core<A> {
-    ghost use Rattle.std.specs.Prelude.{map};
     ghost use Rattle.wq_core.specs.Held.{Machine, machine_of, IsHeld};
 
     ghost Value = { Machine };
 
-    ghost view = { λ m. machine_of (map (λ l. l.items) m.waits.items) m.lane_of_item.items m.lanes m.next };
+    ghost view = { λ m. machine_of m.targets m.lane_of_item.items m.lanes m.next };
 
-    ghost invariant = { λ m. IsHeld (map (λ l. l.items) m.waits.items) m.lane_of_item.items m.lanes m.next };
+    ghost invariant = { λ m. IsHeld m.targets m.lane_of_item.items m.pending m.lanes m.next };
 }
 
 impl<A: Allocator + Copy> Core<A> {
@@ -63,12 +67,14 @@ impl<A: Allocator + Copy> Core<A> {
     {
         let count = assignment.lanes();
         let lane_of_item = item_lanes(alloc, table.len(), groups, assignment)?;
-        let waits = copy_waits(alloc, table)?;
+        let targets = Targets::new(alloc, table)?;
+        let pending = PendingNumbers::new(alloc, table.len())?;
         let rooms = count_items(alloc, count, lane_of_item.as_slice())?;
         let lanes = Lanes::new(alloc, rooms.as_slice())?;
         Ok(Core {
-            waits,
+            targets,
             lane_of_item,
+            pending,
             lanes,
             next: 0,
         })
@@ -81,7 +87,7 @@ impl<A: Allocator> Core<A> {
         ensures items { result ≡ items self.now.wiring }
         ensures machine { IsMachine self.now }
     {
-        self.waits.len()
+        self.targets.len()
     }
 
     /// How many lanes there are.
@@ -142,10 +148,28 @@ impl<A: Allocator> Core<A> {
         ensures none { IfNone result (¬ HasPending self.now.state item) }
         ensures machine { IsMachine self.now }
     {
+        let number = self.pending.of(item)?;
+        Some(Entry { number, item })
+    }
+
+    /// Whether a pending entry of an item has a number below the mark.
+    fn has_pending_below(&self, item: ItemId, mark: u32) -> bool
+        ensures { IsTrue result ↔ HasPendingBelow self.now.state item mark }
+    {
+        match self.pending.of(item) {
+            Some(number) => number < mark,
+            None => false,
+        }
+    }
+
+    /// Whether an entry of an item runs, with a number below the mark.
+    fn runs_below(&self, item: ItemId, mark: u32) -> bool
+        ensures { IsTrue result ↔ RunsBelow self.now.state item mark }
+    {
         if usize::from(item.get()) < self.items() {
-            self.lane(self.lane_of(item)).pending_of(item)
+            self.lane(self.lane_of(item)).runs_below(item, mark)
         } else {
-            None
+            false
         }
     }
 
@@ -154,11 +178,7 @@ impl<A: Allocator> Core<A> {
     pub fn unfinished_below(&self, item: ItemId, mark: u32) -> bool
         ensures { IsTrue result ↔ HasUnfinishedBelow self.now.state item mark }
     {
-        if usize::from(item.get()) < self.items() {
-            self.lane(self.lane_of(item)).unfinished_below(item, mark)
-        } else {
-            false
-        }
+        self.has_pending_below(item, mark) || self.runs_below(item, mark)
     }
 
     /// Whether an entry of an item is unfinished, pending or running; none is of an item that doesn't exist.
@@ -181,7 +201,7 @@ impl<A: Allocator> Core<A> {
         requires { item < items self.now.wiring }
         ensures { result.now ≡ declared_by self.now.wiring item }
     {
-        self.waits[usize::from(item.get())].as_slice()
+        self.targets.of(item)
     }
 
     /// Whether an item declares a flush of another, or of itself.
@@ -189,7 +209,7 @@ impl<A: Allocator> Core<A> {
         requires { item < items self.now.wiring }
         ensures { IsTrue result ↔ ItemWaits self.now.wiring.waits item target }
     {
-        self.waits(item).iter().any(|t| t.item == target)
+        self.targets.has(item, target)
     }
 
     /// The number that a queueing of an item gives, where it is lawful.
@@ -278,6 +298,7 @@ impl<A: Allocator> Core<A> {
         }
         let q = self.lane_of(item);
         self.lanes.lane_mut(q).queue(Entry { number, item });
+        self.pending.note(item, number);
         self.next += 1;
         Ok(number)
     }
@@ -291,7 +312,8 @@ impl<A: Allocator> Core<A> {
             return Err(StepError::NotLawful);
         };
         let q = self.lane_of(item);
-        self.lanes.lane_mut(q).cancel(item);
+        self.lanes.lane_mut(q).cancel(Entry { number, item });
+        self.pending.forget(item);
         Ok(number)
     }
 
@@ -304,6 +326,7 @@ impl<A: Allocator> Core<A> {
             return Err(StepError::NotLawful);
         };
         self.lanes.lane_mut(q).start();
+        self.pending.forget(item);
         Ok(number)
     }
 

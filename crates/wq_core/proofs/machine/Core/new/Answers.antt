@@ -17,12 +17,19 @@ returns-in_err-lane_of_item-clause-memory g c =
     let some : 0 < length groups.group_of = omega (arith, c.in_err-lane_of_item.ensures.memory, c.len.ensures.len, c.requires.grouped) in
     OnErr-holds c.from_residual.result (lanes-some groups.group_of groups.groups a c.in_err-lane_of_item.ensures.partition.within (record { one_each = c.requires.assigned; within = c.lanes-count.ensures.within }) some)
 
-pub returns-in_err-waits-clause-memory : goal.returns-in_err-waits-clause-memory
-returns-in_err-waits-clause-memory g c =
+pub returns-in_err-targets-clause-memory : goal.returns-in_err-targets-clause-memory
+returns-in_err-targets-clause-memory g c =
     let groups = c.args.groups.now in
     let a = c.args.assignment.now in
-    let some : 0 < length groups.group_of = omega (arith, c.in_err-waits.ensures.memory, c.requires.grouped) in
-    OnErr-holds c.from_residual-in_err-waits.result (lanes-some groups.group_of groups.groups a c.in_ok-lane_of_item.ensures.partition.within (record { one_each = c.requires.assigned; within = c.lanes-count.ensures.within }) some)
+    let some : 0 < length groups.group_of = omega (arith, c.in_err-targets.ensures.memory, c.requires.grouped) in
+    OnErr-holds c.from_residual-in_err-targets.result (lanes-some groups.group_of groups.groups a c.in_ok-lane_of_item.ensures.partition.within (record { one_each = c.requires.assigned; within = c.lanes-count.ensures.within }) some)
+
+pub returns-in_err-pending-clause-memory : goal.returns-in_err-pending-clause-memory
+returns-in_err-pending-clause-memory g c =
+    let groups = c.args.groups.now in
+    let a = c.args.assignment.now in
+    let some : 0 < length groups.group_of = omega (arith, c.in_err-pending.ensures.memory, c.len-2.ensures.len, c.requires.grouped) in
+    OnErr-holds c.from_residual-in_err-pending.result (lanes-some groups.group_of groups.groups a c.in_ok-lane_of_item.ensures.partition.within (record { one_each = c.requires.assigned; within = c.lanes-count.ensures.within }) some)
 
 pub count_items-requires-clause-within : goal.count_items-requires-clause-within
 count_items-requires-clause-within g c =
@@ -38,13 +45,13 @@ invariant_of-result g c =
     let groups = c.args.groups.now in
     let a = c.args.assignment.now in
     let d : Declaration = declaration_of table groups in
-    let declaration : IsDeclaration d = IsDeclaration-of table groups c.in_ok-waits.ensures.table c.in_ok-lane_of_item.ensures.partition c.requires.grouped in
+    let declaration : IsDeclaration d = IsDeclaration-of table groups c.in_ok-targets.ensures.table c.in_ok-lane_of_item.ensures.partition c.requires.grouped in
     let assignment : IsAssignment d.groups a = record { one_each = c.requires.assigned; within = c.lanes-count.ensures.within } in
-    IsHeld-first d a _ c.in_ok-lane_of_item.lane_of_item.items c.in_ok-lanes.lanes c.in_ok-rooms.rooms.items declaration assignment (omega (arith, c.lanes-count.ensures.lanes, c.lanes-count.ensures.few)) c.in_ok-waits.ensures.waits c.in_ok-lane_of_item.ensures.lanes
-    (c.in_ok-lanes.ensures.lanes ∙ ap (map idle_with_room) c.as_slice-2.ensures.value) (c.in_ok-rooms.ensures.len ∙ c.lanes-count.ensures.lanes)
+    IsHeld-first d a c.in_ok-targets.targets c.in_ok-lane_of_item.lane_of_item.items c.in_ok-pending.pending c.in_ok-lanes.lanes c.in_ok-rooms.rooms.items c.len-2.result declaration assignment (omega (arith, c.lanes-count.ensures.lanes, c.lanes-count.ensures.few)) c.in_ok-targets.ensures.targets c.in_ok-lane_of_item.ensures.lanes
+    c.in_ok-pending.ensures.numbers (omega (arith, c.len-2.ensures.len, c.in_ok-targets.ensures.table.one_list_each)) (c.in_ok-lanes.ensures.lanes ∙ ap (map idle_with_room) c.as_slice-2.ensures.value) (c.in_ok-rooms.ensures.len ∙ c.lanes-count.ensures.lanes)
     (λ q within. c.in_ok-rooms.ensures.counts q (omega (arith, within, c.lanes-count.ensures.lanes)) ∙ ap (λ (l : List ℕ). count_on l q) c.as_slice.ensures.value)
 
 pub returns-clause-machine : goal.returns-clause-machine
 returns-clause-machine g c =
-    machine_of-first (declaration_of c.args.table.now c.args.groups.now) c.args.assignment.now _ c.in_ok-lane_of_item.lane_of_item.items c.in_ok-lanes.lanes c.in_ok-rooms.rooms.items c.in_ok-waits.ensures.waits c.in_ok-lane_of_item.ensures.lanes
+    machine_of-first (declaration_of c.args.table.now c.args.groups.now) c.args.assignment.now c.in_ok-targets.targets c.in_ok-lane_of_item.lane_of_item.items c.in_ok-lanes.lanes c.in_ok-rooms.rooms.items c.in_ok-targets.ensures.targets c.in_ok-lane_of_item.ensures.lanes
     (c.in_ok-lanes.ensures.lanes ∙ ap (map idle_with_room) c.as_slice-2.ensures.value) (c.in_ok-rooms.ensures.len ∙ c.lanes-count.ensures.lanes)

@@ -1,16 +1,18 @@
-use Rattle.std.proofs.Common.{arith}
-use Rattle.wq_core.proofs.Machines.{unfinished_on_own_lane, unfinished-own_lane}
+use Rattle.std.proofs.Common.{◌≡◌, true, false, inl, inr, sym, ◌∙◌}
+use Rattle.wq_core.proofs.Machines.{unfinished_below-either, cases_unfinished_below}
 use Rattle.wq_core.proofs.machine.Core.unfinished_below.Goals as goal
 
-pub returns-then-from-items : goal.returns-then-from-items
-returns-then-from-items g c =
-    let m = c.args.self.now in
-    let own = unfinished_on_own_lane m.wiring m.state c.lane_of.result c.args.item c.args.mark c.lane.result.now.lane c.items.ensures.machine.state c.lane_of.ensures.lane c.lane.ensures in
-    ((λ h. own.0 (c.unfinished_below.ensures.0 h)), (λ h. c.unfinished_below.ensures.1 (own.1 h)))
+pub returns-then-has_pending_below : goal.returns-then-has_pending_below
+returns-then-has_pending_below g c =
+    let s = c.args.self.now.state in
+    ((λ h. unfinished_below-either s c.args.item c.args.mark (inl (c.has_pending_below.ensures.0 h))), (λ h. c.if-has_pending_below.true))
 
-pub returns-else-from-items : goal.returns-else-from-items
-returns-else-from-items g c =
-    let m = c.args.self.now in (
-      (λ h. absurd cc),
-      (λ h. absurd (omega (arith, (unfinished-own_lane m.wiring m.state c.args.item c.args.mark c.items.ensures.machine.state h).0, c.if-from-items.false, c.items.ensures.items, c.from.ensures, c.get.ensures))),
+pub returns-else-has_pending_below : goal.returns-else-has_pending_below
+returns-else-has_pending_below g c =
+    let s = c.args.self.now.state in (
+      (λ h. unfinished_below-either s c.args.item c.args.mark (inr (c.runs_below.ensures.0 h))),
+      (λ h. elim (cases_unfinished_below s c.args.item c.args.mark h) [
+        | inl pending ↦ absurd (let never : false ≡ true = sym c.if-has_pending_below.false ∙ c.has_pending_below.ensures.1 pending in cc)
+        | inr runs ↦ c.runs_below.ensures.1 runs
+      ]),
     )

@@ -1,0 +1,102 @@
+-- Entries of a lane, whose numbers rise: after a step, and where one of them is taken out.
+use Rattle.std.proofs.Common.{◌≡◌, ◌≢◌, ℕ, zero, suc, ◌<◌, ◌≤◌, inl, inr, Bool, true, false, not, eqb, ltb, List, [], ◌∷◌, length, get_or, drop, refl, sym, ap, subst, ◌∙◌, arith}
+use Rattle.std.specs.Prelude.{AllPairs, Contains, remove}
+use Rattle.std.specs.List.{All, filter}
+use Rattle.std.specs.List.Sorted.{IsPartitionPoint, IsNonDecreasingBy}
+use Rattle.std.proofs.lemmas.Bool.{cases_lt, cases_eq, cond-true, cond-false, eq-eqb, ne_eqb}
+use Rattle.std.proofs.lemmas.List.Elements.{All-head, All-tail, Contains-get_or}
+use Rattle.std.proofs.lemmas.List.Quantifiers.{all_pairs_push}
+use Rattle.std.proofs.lemmas.List.Kept.{AllPairs-filter}
+use borrow.Author.Tests.{ltb-true}
+use Rattle.wq_items.proofs.Lists.{AllPairs-head, AllPairs-tail}
+use Rattle.wq_core.specs.declared.entry.Entry.{Entry}
+use Rattle.wq_core.specs.declared.step.Step.{Step}
+use Rattle.wq_core.specs.declared.step.Step.TheVariants.{Queue, Cancel, Start, Wait, Over, Finish}
+use Rattle.wq_core.specs.Wiring.{Wiring, lane_of}
+use Rattle.wq_core.specs.State.{Lane, State, lane_at, with_lane}
+use Rattle.wq_core.specs.Rules.{Lawful, effect, with_queued, with_cancelled, with_started, with_wait, with_over, with_finished}
+use Rattle.wq_core.specs.Held.{IsSoundState, IsRising}
+use Rattle.wq_core.proofs.LaneLemmas.{cases_with_lane, AllPairs-nil}
+use Rattle.wq_core.proofs.Sound.{Differ}
+
+-- two entries of one lane in their order
+abbrev Rise : Entry → Entry → Type 0
+Rise e f = e.number < f.number
+
+-- ---- one entry, found by its number
+
+pub IsNonDecreasingBy-rising : (ps : List Entry) → IsRising ps → IsNonDecreasingBy (λ (e : Entry). e.number) ps
+IsNonDecreasingBy-rising ps rising i j d le within = elim (cases_lt i j) [
+  | inl less ↦ let lt = rising i j d less within in omega arith
+  | inr no_less ↦ let same : i ≡ j = omega arith in subst (λ k. (get_or ps i d).number ≤ (get_or ps k d).number) same (omega arith)
+]
+
+-- the place at which the numbers reach that of an entry is its own
+pub place_of : (ps : List Entry) (e : Entry) (k : ℕ) → IsRising ps → IsPartitionPoint (λ (f : Entry). ltb f.number e.number ≡ true) (λ (f : Entry). ltb f.number e.number ≡ false) ps k → Contains ps e
+    → (k < length ps) × (get_or ps k e ≡ e)
+place_of ps e k rising point (j, within, is) = elim (cases_lt j k) [
+  | inl before ↦ (
+      let low : ltb (get_or ps j e).number e.number ≡ true = point.0 j e (omega arith) before in
+      let less : e.number < e.number = subst (λ (f : Entry). f.number < e.number) is (ltb-true (get_or ps j e).number e.number low) in
+      absurd (omega arith)
+      )
+  | inr no_before ↦ elim (cases_lt k j) [
+    | inl behind ↦ (
+        let high : ltb (get_or ps k e).number e.number ≡ false = point.1 k e (omega arith) (omega arith) in
+        let less : (get_or ps k e).number < e.number = subst (λ (f : Entry). (get_or ps k e).number < f.number) is (rising k j e behind within) in
+        absurd (grind (arith, high, less))
+        )
+    | inr no_behind ↦ let same : j ≡ k = omega arith in (omega arith, subst (λ m. get_or ps m e ≡ e) same is)
+  ]
+]
+
+all_pass : (i : ℕ) (ps : List Entry) → All (λ (e : Entry). e.item ≢ i) ps → filter (λ (e : Entry). not (eqb e.item i)) ps ≡ ps
+all_pass i [] differ = refl
+all_pass i (p ∷ ps) differ =
+    let others : List Entry → List Entry = λ (es : List Entry). filter (λ (e : Entry). not (eqb e.item i)) es in
+    let here : not (eqb p.item i) ≡ true = ap not (ne_eqb p.item i (All-head (λ (e : Entry). e.item ≢ i) p ps differ)) in
+    cond-true (not (eqb p.item i)) (p ∷ others ps) (others ps) here ∙ ap (λ (es : List Entry). p ∷ es) (all_pass i ps (All-tail (λ (e : Entry). e.item ≢ i) p ps differ))
+
+-- where each item has one entry, without it the others are left
+pub remove-others : (i : ℕ) (ps : List Entry) (k : ℕ) (d : Entry) → k < length ps → (get_or ps k d).item ≡ i → AllPairs Differ ps → remove ps k ≡ filter (λ (e : Entry). not (eqb e.item i)) ps
+remove-others i [] k d within is once = absurd (omega arith)
+remove-others i (p ∷ ps) zero d within is once =
+    let others : List Entry → List Entry = λ (es : List Entry). filter (λ (e : Entry). not (eqb e.item i)) es in
+    let here : not (eqb p.item i) ≡ false = ap not (eq-eqb p.item i is) in
+    let rest : others ps ≡ ps = all_pass i ps (λ m c fits same. AllPairs-head Differ p ps once m c fits (is ∙ sym same)) in
+    sym (cond-false (not (eqb p.item i)) (p ∷ others ps) (others ps) here ∙ rest)
+remove-others i (p ∷ ps) (suc k) d within is once =
+    let others : List Entry → List Entry = λ (es : List Entry). filter (λ (e : Entry). not (eqb e.item i)) es in
+    let there : k < length ps = omega arith in
+    let here : not (eqb p.item i) ≡ true = ap not (ne_eqb p.item i (λ same. AllPairs-head Differ p ps once k d there (same ∙ sym is))) in
+    ap (λ (es : List Entry). p ∷ es) (remove-others i ps k d there is (AllPairs-tail Differ p ps once)) ∙ sym (cond-true (not (eqb p.item i)) (p ∷ others ps) (others ps) here)
+
+-- ---- after a step
+
+IsRising-with_lane : (s : State) (q : ℕ) (lane : Lane) → IsRising lane.pending → ((p : ℕ) → IsRising (lane_at s p).pending) → (p : ℕ) → IsRising (lane_at (with_lane s q lane) p).pending
+IsRising-with_lane s q lane new each p = elim (cases_with_lane s q lane p) [
+  | inl same ↦ subst (λ (l : Lane). IsRising l.pending) (sym same) (each p)
+  | inr there ↦ subst (λ (l : Lane). IsRising l.pending) (sym there.1) new
+]
+
+pub IsRising-nil : IsRising []
+IsRising-nil = AllPairs-nil Rise
+
+drop_rising : (ps : List Entry) → IsRising ps → IsRising (drop 1 ps)
+drop_rising [] rising = IsRising-nil
+drop_rising (p ∷ ps) rising = AllPairs-tail Rise p ps rising
+
+pub IsRising-effect : (w : Wiring) (s : State) (step : Step) → IsSoundState w s → ((p : ℕ) → IsRising (lane_at s p).pending) → (p : ℕ) → IsRising (lane_at (effect w s step) p).pending
+IsRising-effect w s (Queue i) sound each =
+    let q : ℕ = lane_of w i in
+    let ps : List Entry = (lane_at s q).pending in
+    let e : Entry = record { number = s.next; item = i } in
+    let last : (k : ℕ) (d : Entry) → k < length ps → Rise (get_or ps k d) e = λ k d lt. sound.given q (get_or ps k d) (inl (Contains-get_or ps k d lt)) in
+    IsRising-with_lane s q (with_queued e (lane_at s q)) (all_pairs_push Rise ps e (each q) last) each
+IsRising-effect w s (Cancel i) sound each =
+    let q : ℕ = lane_of w i in
+    IsRising-with_lane s q (with_cancelled i (lane_at s q)) (AllPairs-filter Rise (λ (e : Entry). not (eqb e.item i)) (lane_at s q).pending (each q)) each
+IsRising-effect w s (Start q i) sound each = IsRising-with_lane s q (with_started (lane_at s q)) (drop_rising (lane_at s q).pending (each q)) each
+IsRising-effect w s (Wait q b) sound each = IsRising-with_lane s q (with_wait b s.next (lane_at s q)) (each q) each
+IsRising-effect w s (Over q b) sound each = IsRising-with_lane s q (with_over (lane_at s q)) (each q) each
+IsRising-effect w s (Finish q i) sound each = IsRising-with_lane s q (with_finished (lane_at s q)) (each q) each
