@@ -22,7 +22,12 @@ fn is_name_byte(byte: u8) -> bool
 fn are_name_bytes(word: &[u8]) -> bool
     ensures { result ≡ list_all is_name_byte word.now }
 {
-    word.iter().all(|byte| is_name_byte(*byte))
+    for byte in word {
+        if !is_name_byte(*byte) {
+            return false;
+        }
+    }
+    true
 }
 
 /// Whether a word is a name: 1 to 63 bytes that a name may have.

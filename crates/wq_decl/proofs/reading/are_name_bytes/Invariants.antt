@@ -1,0 +1,8 @@
+use Rattle.std.proofs.Common.{◌≡◌, take, true}
+use Rattle.std.specs.List.{list_all}
+use Rattle.wq_decl.specs.Names.{is_name_byte}
+use Rattle.wq_decl.proofs.reading.are_name_bytes.Given as goal
+
+-- the bytes passed over may stand in a name
+abbrev pub invariant-loop-byte : goal.invariant-loop-byte
+invariant-loop-byte l = list_all is_name_byte (take l.byte-index l.word) ≡ true
