@@ -1,4 +1,5 @@
 pub mod Kept
+pub mod KnownStuck
 pub mod Onward
 pub mod Making
 pub mod OwnLanes

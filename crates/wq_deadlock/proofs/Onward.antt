@@ -1,5 +1,5 @@
 -- Playing step by step: what holds of the steps so far, and of the lanes that were passed over.
-use Rattle.std.proofs.Common.{◌≡◌, ℕ, ◌+◌, ◌*◌, ◌-◌, ◌<◌, ◌≤◌, inl, inr, suc, List, [], ◌∷◌, ◌++◌, length, refl, sym, ap, subst, ◌∙◌, arith}
+use Rattle.std.proofs.Common.{◌≡◌, ℕ, ◌+◌, ◌*◌, ◌-◌, ◌<◌, ◌≤◌, inl, inr, suc, List, [], ◌∷◌, ◌++◌, length, refl, sym, ap, subst, ◌∙◌, arith, below_more}
 use Rattle.std.proofs.lemmas.Bool.{cases_lt}
 use Rattle.std.proofs.Math.Nat.{suc-mul, mul-le-mul_right}
 use Rattle.wq_core.specs.declared.step.Step.{Step}
@@ -46,6 +46,11 @@ pub record IsPlaying (start now : Machine) (steps : List Step) (q : ℕ) : Type 
 
 pub IsPlaying-start : (start : Machine) → IsSoundState start.wiring start.state → IsPlaying start start [] 0
 IsPlaying-start start sound = record { wiring = refl; play = tt; state = refl; sound = sound; below = λ p lt. absurd (omega arith) }
+
+-- a lane that can't move is passed over
+pub IsPlaying-passed : (start now : Machine) (steps : List Step) (q : ℕ) → IsPlaying start now steps q → HasNoDeclaredStep now.wiring now.state q → IsPlaying start now steps (q + 1)
+IsPlaying-passed start now steps q playing none =
+    record { wiring = playing.wiring; play = playing.play; state = playing.state; sound = playing.sound; below = below_more (λ p. HasNoDeclaredStep now.wiring now.state p) q playing.below none }
 
 -- a step more
 pub IsPlaying-move : (start now : Machine) (steps : List Step) (q : ℕ) (step : Step) → IsPlaying start now steps q → IsDeclaredStep now.wiring now.state q step

@@ -8,3 +8,4 @@ pub mod CircleRun
 pub mod Verdict
 pub mod Bounds
 pub mod Search
+pub mod Stuck

@@ -3,7 +3,7 @@
 //! The graph is that of the lanes, so groups that share a lane are one vertex: a group waits for all that stands on the
 //! lanes of what it flushes. A chain of lanes with falling ranks can always move at its end; lanes in a circle need not.
 //! The time is that of the graph and its ranks, and where the lanes wait in a circle that of the run: each of its steps
-//! asks a lane what it can do, and each finish all lanes below the one that moves next.
+//! asks a lane what it can do, and after each finish the stuck lanes below the one that moves next are passed over.
 
 ghost use Rattle.std.specs.Prelude.{◌≡◌, ◌<◌, length, IfOk, OnErr};
 ghost use Rattle.wq_graph.specs.Graph.{lane_graph};

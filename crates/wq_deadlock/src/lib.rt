@@ -14,6 +14,7 @@ pub mod laws;
 mod outcome;
 mod playing;
 mod queueing;
+mod stuck;
 
 pub use circles::{circle_run, own_lanes};
 pub use judging::verdict;

@@ -2,19 +2,25 @@
 //!
 //! It is "Played" in the specs of `wq_core`. A start, a wait or the end of a wait makes no lower lane movable, since
 //! nothing is finished by it. So the search for the lowest lane goes on from the lane that moved, and begins again at
-//! lane 0 only after a finish. Each lane is asked once for each of its own steps, once for each finish and once more,
-//! at most.
+//! lane 0 only after a finish. A lane that was found to be stuck is passed over until the item is finished that it waits
+//! for. So each lane is asked twice for each of its own steps and once more, at most; what is left of the search is to pass
+//! over stuck lanes after each finish.
 
-ghost use Rattle.std.specs.Prelude.{◌≡◌, IfOk, OnOk, [], ◌∷◌, ◌++◌};
+ghost use Rattle.std.specs.Prelude.{◌≡◌, ◌<◌, ℕ, length, Some, IfOk, IfSome, OnOk, [], ◌∷◌, ◌++◌};
+ghost use Rattle.wq_core.specs.declared.step.Step.TheVariants.{Finish};
+ghost use Rattle.wq_core.specs.Wiring.{items};
 ghost use Rattle.wq_core.specs.Held.{machine_after};
 ghost use Rattle.wq_core.specs.Played.{IsPlayedFrom};
 ghost use Rattle.wq_core.specs.Rules.{Lawful};
 ghost use Rattle.wq_core.specs.Runs.{IsRescuerStep};
 ghost use Rattle.wq_deadlock.specs.Search.{search_from};
+ghost use Rattle.wq_deadlock.specs.Stuck.{Awaits, IsAfter};
 
+use crate::stuck::Stuck;
 use std::alloc::{AllocError, Allocator};
 use wq_core::{Core, Step};
 use wq_groups::LaneId;
+use wq_items::ItemId;
 
 /// The lane from which the search goes on after a step of lane `q`.
 fn search_from(q: u16, step: Step) -> u16
@@ -42,6 +48,28 @@ fn make<A: Allocator + Copy>(
     Ok(())
 }
 
+/// The item that a lane waits for, if it waits.
+fn awaited<A: Allocator>(core: &Core<A>, q: LaneId) -> Option<ItemId>
+    ensures item { IfSome result (λ i. i < items core.now.wiring) }
+    ensures awaited { (i : ℕ) → Awaits core.now.state q i → result ≡ Some i }
+{
+    let running = core.running_on(q)?;
+    let flush = running.waiting?;
+    Some(flush.target)
+}
+
+/// Lanes that are known to be stuck are asked again after a step, where it may let them move.
+fn release_after<A: Allocator + Copy>(stuck: &mut Stuck<A>, step: &Step)
+    requires { (q i : ℕ) → step.now ≡ Finish q i → i < length stuck.old.waiting }
+    ensures after { IsAfter stuck.old step.now stuck.new }
+    ensures len { length stuck.new.known ≡ length stuck.old.known }
+{
+    match *step {
+        Step::Queue(_) | Step::Cancel(_) | Step::Start(..) | Step::Wait(..) | Step::Over(..) => {}
+        Step::Finish(_, item) => stuck.release(item),
+    }
+}
+
 /// Plays the machine to its end, and gives the steps.
 pub(crate) fn play<A: Allocator + Copy>(
     alloc: A,
@@ -50,15 +78,20 @@ pub(crate) fn play<A: Allocator + Copy>(
     ensures { IfOk result (λ steps. IsPlayedFrom core.old.wiring core.old.state steps.items) }
 {
     let lanes = core.lanes() as u16;
+    let mut stuck = Stuck::new(alloc, lanes, core.items() as u16)?;
     let mut steps = Vec::new(alloc);
     let mut q = 0;
     while q < lanes {
-        match core.declared(LaneId::new(q)) {
-            Some(step) => {
-                make(core, &mut steps, &step)?;
-                q = search_from(q, step);
-            }
-            None => q += 1,
+        let lane = LaneId::new(q);
+        if stuck.has(lane) {
+            q += 1;
+        } else if let Some(step) = core.declared(lane) {
+            make(core, &mut steps, &step)?;
+            release_after(&mut stuck, &step);
+            q = search_from(q, step);
+        } else {
+            stuck.note(lane, awaited(core, lane))?;
+            q += 1;
         }
     }
     Ok(steps)

@@ -1,14 +1,24 @@
 use Rattle.std.proofs.Common.{ℕ, ◌<◌, List, sym, subst, arith}
 use Rattle.wq_core.specs.declared.step.Step.{Step}
 use Rattle.wq_core.specs.Held.{Machine}
-use Rattle.wq_core.specs.Played.{IsDeclaredStep}
-use Rattle.wq_deadlock.proofs.Onward.{IsPlaying, IsPlaying-start, IsPlaying-move, IsPlayedFrom-playing, play_left, play_left-move}
+use Rattle.wq_core.specs.Played.{IsDeclaredStep, HasNoDeclaredStep}
+use Rattle.wq_deadlock.specs.Stuck.{StuckLanes}
+use Rattle.wq_deadlock.proofs.KnownStuck.{KnowsStuck, KnowsStuck-start, KnowsStuck-noted, KnowsStuck-step, finished-within, awaited-within}
+use Rattle.wq_deadlock.proofs.Onward.{IsPlaying, IsPlaying-start, IsPlaying-move, IsPlaying-passed, IsPlayedFrom-playing, play_left, play_left-move}
 use Rattle.wq_deadlock.proofs.playing.play.Goals as goal
 
 pub loop-q-init : goal.loop-q-init
 loop-q-init g c =
     let start = c.args.core.now in
-    subst (λ (steps : List Step). IsPlaying start start steps 0) (sym c.new-steps.ensures.items) (IsPlaying-start start c.lanes-lanes.ensures.machine.state)
+    record {
+      playing = subst (λ (steps : List Step). IsPlaying start start steps 0) (sym c.new-steps.ensures.items) (IsPlaying-start start c.lanes-lanes.ensures.machine.state);
+      stuck = KnowsStuck-start start.wiring start.state c.in_ok-stuck.stuck c.lanes-lanes.result c.items.result c.in_ok-stuck.ensures.known c.in_ok-stuck.ensures.waiting c.lanes-lanes.ensures.lanes c.items.ensures.items;
+    }
+
+pub release_after-requires : goal.release_after-requires
+release_after-requires g c =
+    let core = c.loop-q.core in
+    finished-within core.wiring core.state c.new-lane.result c.in-Some.step c.loop-q.stuck c.declared.ensures.machine.state c.loop-q.invariant.stuck c.in-Some.ensures.some
 
 pub loop-q-smaller-in-Some : goal.loop-q-smaller-in-Some
 loop-q-smaller-in-Some g c =
@@ -16,19 +26,32 @@ loop-q-smaller-in-Some g c =
     let step = c.in-Some.step in
     let q = c.loop-q.q in
     let lanes = c.lanes-lanes.result in
-    let is = subst (λ (n : ℕ). IsDeclaredStep core.wiring core.state n step) c.new.ensures c.in-Some.ensures.some in
-    subst (λ (m : Machine). play_left m lanes c.search_from-q.result < play_left core lanes q) (sym c.in_ok-make-in-Some.ensures.made)
-    (play_left-move core lanes q c.search_from-q.result step c.declared.ensures.machine is)
+    let is = subst (λ (n : ℕ). IsDeclaredStep core.wiring core.state n step) c.new-lane.ensures c.in-Some.ensures.some in
+    subst (λ (m : Machine). play_left m lanes c.search_from-q.result < play_left core lanes q) (sym c.in_ok-make.ensures.made) (play_left-move core lanes q c.search_from-q.result step c.declared.ensures.machine is)
 
 pub loop-q-preserved-in-Some : goal.loop-q-preserved-in-Some
 loop-q-preserved-in-Some g c =
     let core = c.loop-q.core in
     let step = c.in-Some.step in
     let q = c.loop-q.q in
-    let is = subst (λ (n : ℕ). IsDeclaredStep core.wiring core.state n step) c.new.ensures c.in-Some.ensures.some in
-    rw (c.in_ok-make-in-Some.ensures.made, c.in_ok-make-in-Some.ensures.noted, c.search_from-q.ensures)
-    (IsPlaying-move c.args.core.now core c.loop-q.steps.items q step c.loop-q.invariant is)
+    let is = subst (λ (n : ℕ). IsDeclaredStep core.wiring core.state n step) c.new-lane.ensures c.in-Some.ensures.some in
+    let stuck = KnowsStuck-step core.wiring core.state q step c.loop-q.stuck c.release_after.new.stuck c.loop-q.invariant.stuck is c.release_after.ensures.after c.release_after.ensures.len in
+    record {
+      playing = rw (c.in_ok-make.ensures.made, c.in_ok-make.ensures.noted, c.search_from-q.ensures) (IsPlaying-move c.args.core.now core c.loop-q.steps.items q step c.loop-q.invariant.playing is);
+      stuck = subst (λ (m : Machine). KnowsStuck m.wiring m.state c.release_after.new.stuck) (sym c.in_ok-make.ensures.made) stuck;
+    }
+
+pub loop-q-preserved : goal.loop-q-preserved
+loop-q-preserved g c =
+    let core = c.loop-q.core in
+    let machine = c.declared.ensures.machine in
+    let none = subst (λ (n : ℕ). HasNoDeclaredStep core.wiring core.state n) c.new-lane.ensures c.in_default.ensures.none in
+    let noted = KnowsStuck-noted core.wiring core.state c.loop-q.stuck c.new-lane.result c.awaited.result c.loop-q.invariant.stuck c.in_default.ensures.none c.awaited.ensures.awaited (awaited-within core.wiring core.state machine.wiring machine.state) in
+    record {
+      playing = IsPlaying-passed c.args.core.now core c.loop-q.steps.items c.loop-q.q c.loop-q.invariant.playing none;
+      stuck = subst (λ (s : StuckLanes). KnowsStuck core.wiring core.state s) (sym c.in_ok-note.ensures) noted;
+    }
 
 pub returns : goal.returns
 returns g c =
-    IsPlayedFrom-playing c.args.core.now c.loop-q.core c.loop-q.steps.items c.loop-q.q c.loop-q.invariant (omega (arith, c.loop-q-test.false, c.lanes-lanes.ensures.lanes))
+    IsPlayedFrom-playing c.args.core.now c.loop-q.core c.loop-q.steps.items c.loop-q.q c.loop-q.invariant.playing (omega (arith, c.loop-q-test.false, c.lanes-lanes.ensures.lanes))

@@ -1,8 +1,12 @@
+use Rattle.wq_deadlock.proofs.KnownStuck.{KnowsStuck}
 use Rattle.wq_deadlock.proofs.Onward.{IsPlaying, play_left}
 use Rattle.wq_deadlock.proofs.playing.play.Given as goal
 
 abbrev pub invariant-loop-q : goal.invariant-loop-q
-invariant-loop-q g l = IsPlaying l.fn.core l.core l.steps.items l.q
+invariant-loop-q g l = record {
+  playing : IsPlaying l.fn.core l.core l.steps.items l.q;
+  stuck : KnowsStuck l.core.wiring l.core.state l.stuck;
+}
 
 abbrev pub decreases-loop-q : goal.decreases-loop-q
 decreases-loop-q g l = play_left l.core l.lanes l.q

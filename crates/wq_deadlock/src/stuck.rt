@@ -1,0 +1,101 @@
+//! Lanes that are known to be stuck while a machine is played.
+//!
+//! A lane that can't move waits for an item, or has nothing to start. Where nothing is queued, it can move again only once
+//! that item is finished. So it isn't asked again before. Each call takes constant time, but for `new`, in the number of
+//! lanes and items, and `release`, in the number of lanes that are released. Memory is taken for each lane and each item,
+//! and for the lanes that wait.
+
+ghost use Rattle.std.specs.Prelude.{◌≡◌, ◌<◌, ◌↔◌, ℕ, length, map, replicate, slice_index_or, true, false, [], Contains, IfOk, OnOk, IfSome, IsTrue};
+ghost use Rattle.wq_deadlock.specs.Stuck.{IsKnown, IsReleased, with_stuck};
+
+use std::alloc::{AllocError, Allocator};
+use std::marker::Model;
+use wq_groups::LaneId;
+use wq_items::ItemId;
+
+/// Of each lane whether it is known to be stuck, and of each item the lanes that were found to wait for it.
+#[derive(Drop)]
+pub(crate) struct Stuck<A: Allocator> {
+    known: Vec<bool, A>,
+    waiting: Vec<Vec<LaneId, A>, A>,
+}
+
+impl<A: Allocator> Model for Stuck<A> {
+    ghost use Rattle.std.specs.Prelude.{map};
+    ghost use Rattle.wq_deadlock.specs.Stuck.{StuckLanes};
+
+    ghost Value = { StuckLanes };
+
+    ghost view = { λ s. record { known = s.known.items; waiting = map (λ l. l.items) s.waiting.items } };
+}
+
+/// So many lists with nothing in them.
+fn empty_lists<A: Allocator + Copy>(
+    alloc: A,
+    items: u16,
+) -> Result<Vec<Vec<LaneId, A>, A>, AllocError>
+    ensures { IfOk result (λ lists. map (λ l. l.items) lists.items ≡ replicate items []) }
+{
+    let mut lists = Vec::with_capacity(alloc, usize::from(items))?;
+    for _ in 0..items {
+        lists.push(Vec::new(alloc))?;
+    }
+    Ok(lists)
+}
+
+/// None of these lanes is known to be stuck any more.
+fn forget<A: Allocator>(known: &mut Vec<bool, A>, lanes: &[LaneId])
+    ensures known { (q : ℕ) → slice_index_or known.new.items q false ≡ true → (slice_index_or known.old.items q false ≡ true) × (¬ Contains lanes.now q) }
+    ensures len { length known.new.items ≡ length known.old.items }
+{
+    for q in lanes {
+        if let Some(known) = known.get_mut(usize::from(q.get())) {
+            *known = false;
+        }
+    }
+}
+
+impl<A: Allocator + Copy> Stuck<A> {
+    /// So many lanes and items, of which no lane is known to be stuck.
+    pub(crate) fn new(alloc: A, lanes: u16, items: u16) -> Result<Self, AllocError>
+        ensures known { IfOk result (λ stuck. stuck.known ≡ replicate lanes false) }
+        ensures waiting { IfOk result (λ stuck. stuck.waiting ≡ replicate items []) }
+    {
+        let mut known = Vec::with_capacity(alloc, usize::from(lanes))?;
+        known.resize(usize::from(lanes), false)?;
+        let waiting = empty_lists(alloc, items)?;
+        Ok(Stuck { known, waiting })
+    }
+
+    /// Whether a lane is known to be stuck.
+    pub(crate) fn has(&self, q: LaneId) -> bool
+        requires { q < length self.now.known }
+        ensures { IsTrue result ↔ IsKnown self.now q }
+    {
+        self.known[usize::from(q.get())]
+    }
+
+    /// A lane is found to be stuck, and to wait for this item, or for none.
+    pub(crate) fn note(&mut self, q: LaneId, awaited: Option<ItemId>) -> Result<(), AllocError>
+        requires lane { q < length self.old.known }
+        requires item { IfSome awaited (λ i. i < length self.old.waiting) }
+        ensures { OnOk result (self.new ≡ with_stuck self.old q awaited) }
+    {
+        self.known[usize::from(q.get())] = true;
+        if let Some(item) = awaited {
+            self.waiting[usize::from(item.get())].push(q)?;
+        }
+        Ok(())
+    }
+
+    /// An item is finished: the lanes that wait for it are asked again.
+    pub(crate) fn release(&mut self, item: ItemId)
+        requires { item < length self.old.waiting }
+        ensures released { IsReleased self.old item self.new }
+        ensures len { length self.new.known ≡ length self.old.known }
+    {
+        let place = usize::from(item.get());
+        forget(&mut self.known, self.waiting[place].as_slice());
+        self.waiting[place].clear();
+    }
+}
