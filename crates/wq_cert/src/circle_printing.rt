@@ -18,7 +18,6 @@ use wq_lines::{put, put_end, put_number};
 
 /// Adds `circle N`.
 fn put_circle_line<A: Allocator + Copy>(
-    alloc: A,
     out: &mut Vec<u8, A>,
     arcs: &[(ItemId, ItemId)],
 ) -> Result<(), AllocError>
@@ -26,13 +25,12 @@ fn put_circle_line<A: Allocator + Copy>(
     ensures { OnOk result (out.new.items ≡ out.old.items ++ line_text (circle_line arcs.now)) }
 {
     put(out, b"circle")?;
-    put_number(alloc, out, arcs.len() as u32)?;
+    put_number(out, arcs.len() as u32)?;
     put_end(out)
 }
 
 /// Adds `circle N` and the arcs.
 fn put_circle<A: Allocator + Copy>(
-    alloc: A,
     out: &mut Vec<u8, A>,
     table: &ItemTable<'_, A>,
     arcs: &[(ItemId, ItemId)],
@@ -41,7 +39,7 @@ fn put_circle<A: Allocator + Copy>(
     requires items { All (λ (arc : ℕ × ℕ). (arc.0 < length table.now.names) × (arc.1 < length table.now.names)) arcs.now }
     ensures { OnOk result (out.new.items ≡ out.old.items ++ circle_text table.now.names arcs.now None) }
 {
-    put_circle_line(alloc, out, arcs)?;
+    put_circle_line(out, arcs)?;
     for arc in arcs {
         put_arc_line(out, table, *arc)?;
     }
@@ -66,9 +64,9 @@ pub fn circle_text<A: Allocator + Copy>(
     ensures { IfOk result (λ text. text.items ≡ circle_text table.now.names arcs.now (option_copied steps.entry)) }
 {
     let mut out = Vec::new(alloc);
-    put_circle(alloc, &mut out, table, arcs)?;
+    put_circle(&mut out, table, arcs)?;
     if let Some(steps) = steps {
-        put_run(alloc, &mut out, table, steps)?;
+        put_run(&mut out, table, steps)?;
     }
     Ok(out)
 }

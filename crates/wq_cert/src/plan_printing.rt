@@ -16,21 +16,16 @@ use wq_items::{ItemId, ItemTable};
 use wq_lines::{put, put_end, put_number, put_word};
 
 /// Adds `plan K`.
-fn put_plan_line<A: Allocator + Copy>(
-    alloc: A,
-    out: &mut Vec<u8, A>,
-    lanes: u16,
-) -> Result<(), AllocError>
+fn put_plan_line<A: Allocator + Copy>(out: &mut Vec<u8, A>, lanes: u16) -> Result<(), AllocError>
     ensures { OnOk result (out.new.items ≡ out.old.items ++ line_text (plan_line lanes)) }
 {
     put(out, b"plan")?;
-    put_number(alloc, out, u32::from(lanes))?;
+    put_number(out, u32::from(lanes))?;
     put_end(out)
 }
 
 /// Adds `wq Q NAME..`.
 fn put_wq_line<A: Allocator + Copy>(
-    alloc: A,
     out: &mut Vec<u8, A>,
     table: &ItemTable<'_, A>,
     lane: &[u16],
@@ -40,7 +35,7 @@ fn put_wq_line<A: Allocator + Copy>(
     ensures { OnOk result (out.new.items ≡ out.old.items ++ line_text (wq_line table.now.names lane.now q)) }
 {
     put(out, b"wq")?;
-    put_number(alloc, out, u32::from(q))?;
+    put_number(out, u32::from(q))?;
     for i in 0..table.len() {
         if lane[usize::from(i)] == q {
             put_word(out, table.name(ItemId::new(i)))?;
@@ -51,7 +46,6 @@ fn put_wq_line<A: Allocator + Copy>(
 
 /// Adds `chain N`.
 fn put_chain_line<A: Allocator + Copy>(
-    alloc: A,
     out: &mut Vec<u8, A>,
     lanes: u16,
     chain: &[(ItemId, ItemId)],
@@ -65,7 +59,7 @@ fn put_chain_line<A: Allocator + Copy>(
         chain.len() as u32 + 1
     };
     put(out, b"chain")?;
-    put_number(alloc, out, groups)?;
+    put_number(out, groups)?;
     put_end(out)
 }
 
@@ -124,11 +118,11 @@ fn print_plan<A: Allocator + Copy>(
     ensures { IfOk result (λ text. text.items ≡ plan_text table.now.names lanes lane.now chain.now) }
 {
     let mut out = Vec::new(alloc);
-    put_plan_line(alloc, &mut out, lanes)?;
+    put_plan_line(&mut out, lanes)?;
     for q in 0..lanes {
-        put_wq_line(alloc, &mut out, table, lane, q)?;
+        put_wq_line(&mut out, table, lane, q)?;
     }
-    put_chain_line(alloc, &mut out, lanes, chain)?;
+    put_chain_line(&mut out, lanes, chain)?;
     for arc in chain {
         put_arc_line(&mut out, table, *arc)?;
     }

@@ -16,16 +16,12 @@ use wq_items::{ItemId, ItemTable};
 use wq_lines::{put, put_end, put_number, put_word};
 
 /// Adds `run M`.
-fn put_run_line<A: Allocator + Copy>(
-    alloc: A,
-    out: &mut Vec<u8, A>,
-    steps: &[Step],
-) -> Result<(), AllocError>
+fn put_run_line<A: Allocator + Copy>(out: &mut Vec<u8, A>, steps: &[Step]) -> Result<(), AllocError>
     requires { length steps.now < 2 ^ 32 }
     ensures { OnOk result (out.new.items ≡ out.old.items ++ line_text (run_line steps.now)) }
 {
     put(out, b"run")?;
-    put_number(alloc, out, steps.len() as u32)?;
+    put_number(out, steps.len() as u32)?;
     put_end(out)
 }
 
@@ -46,7 +42,6 @@ fn put_item_step<A: Allocator + Copy>(
 
 /// Adds `KEYWORD Q NAME`.
 fn put_lane_step<A: Allocator + Copy>(
-    alloc: A,
     out: &mut Vec<u8, A>,
     table: &ItemTable<'_, A>,
     keyword: &[u8],
@@ -58,14 +53,13 @@ fn put_lane_step<A: Allocator + Copy>(
         ≡ out.old.items ++ line_text (keyword.now ∷ decimal lane ∷ name_of table.now.names item ∷ [])) }
 {
     put(out, keyword)?;
-    put_number(alloc, out, u32::from(lane.get()))?;
+    put_number(out, u32::from(lane.get()))?;
     put_word(out, table.name(item))?;
     put_end(out)
 }
 
 /// Adds the line of a step.
 fn put_step_line<A: Allocator + Copy>(
-    alloc: A,
     out: &mut Vec<u8, A>,
     table: &ItemTable<'_, A>,
     step: Step,
@@ -76,16 +70,15 @@ fn put_step_line<A: Allocator + Copy>(
     match step {
         Step::Queue(item) => put_item_step(out, table, b"queue", item),
         Step::Cancel(item) => put_item_step(out, table, b"cancel", item),
-        Step::Start(lane, item) => put_lane_step(alloc, out, table, b"start", lane, item),
-        Step::Wait(lane, target) => put_lane_step(alloc, out, table, b"wait", lane, target),
-        Step::Over(lane, target) => put_lane_step(alloc, out, table, b"over", lane, target),
-        Step::Finish(lane, item) => put_lane_step(alloc, out, table, b"finish", lane, item),
+        Step::Start(lane, item) => put_lane_step(out, table, b"start", lane, item),
+        Step::Wait(lane, target) => put_lane_step(out, table, b"wait", lane, target),
+        Step::Over(lane, target) => put_lane_step(out, table, b"over", lane, target),
+        Step::Finish(lane, item) => put_lane_step(out, table, b"finish", lane, item),
     }
 }
 
 /// Adds the lines of a run.
 pub(crate) fn put_run<A: Allocator + Copy>(
-    alloc: A,
     out: &mut Vec<u8, A>,
     table: &ItemTable<'_, A>,
     steps: &[Step],
@@ -94,9 +87,9 @@ pub(crate) fn put_run<A: Allocator + Copy>(
     requires items { All (λ (step : Step). item_in step < length table.now.names) steps.now }
     ensures { OnOk result (out.new.items ≡ out.old.items ++ run_text table.now.names steps.now) }
 {
-    put_run_line(alloc, out, steps)?;
+    put_run_line(out, steps)?;
     for step in steps {
-        put_step_line(alloc, out, table, *step)?;
+        put_step_line(out, table, *step)?;
     }
     Ok(())
 }
@@ -114,6 +107,6 @@ pub fn run_text<A: Allocator + Copy>(
     ensures { IfOk result (λ text. text.items ≡ run_text table.now.names steps.now) }
 {
     let mut out = Vec::new(alloc);
-    put_run(alloc, &mut out, table, steps)?;
+    put_run(&mut out, table, steps)?;
     Ok(out)
 }

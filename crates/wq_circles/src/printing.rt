@@ -15,7 +15,6 @@ use wq_lines::{put, put_end, put_number};
 
 /// Adds `component M`.
 fn put_component_line<A: Allocator + Copy>(
-    alloc: A,
     out: &mut Vec<u8, A>,
     arcs: &[WaitArc],
 ) -> Result<(), AllocError>
@@ -23,13 +22,12 @@ fn put_component_line<A: Allocator + Copy>(
     ensures { OnOk result (out.new.items ≡ out.old.items ++ line_text (component_line (length arcs.now))) }
 {
     put(out, b"component")?;
-    put_number(alloc, out, arcs.len() as u32)?;
+    put_number(out, arcs.len() as u32)?;
     put_end(out)
 }
 
 /// Adds `component M` and the arcs.
 fn put_component<A: Allocator + Copy>(
-    alloc: A,
     out: &mut Vec<u8, A>,
     table: &ItemTable<'_, A>,
     arcs: &[WaitArc],
@@ -37,7 +35,7 @@ fn put_component<A: Allocator + Copy>(
     requires { AreBetween (length table.now.names) arcs.now }
     ensures { OnOk result (out.new.items ≡ out.old.items ++ flat_map line_text (component_lines table.now.names arcs.now)) }
 {
-    put_component_line(alloc, out, arcs)?;
+    put_component_line(out, arcs)?;
     for arc in arcs {
         put_arc_line(out, table, (arc.src, arc.dst))?;
     }
@@ -46,7 +44,6 @@ fn put_component<A: Allocator + Copy>(
 
 /// Adds `components N`.
 fn put_components_line<A: Allocator + Copy>(
-    alloc: A,
     out: &mut Vec<u8, A>,
     components: &[Vec<WaitArc, A>],
 ) -> Result<(), AllocError>
@@ -54,7 +51,7 @@ fn put_components_line<A: Allocator + Copy>(
     ensures { OnOk result (out.new.items ≡ out.old.items ++ line_text (components_line (length components.now))) }
 {
     put(out, b"components")?;
-    put_number(alloc, out, components.len() as u32)?;
+    put_number(out, components.len() as u32)?;
     put_end(out)
 }
 
@@ -72,9 +69,9 @@ pub fn components_text<A: Allocator + Copy>(
     ensures { IfOk result (λ text. text.items ≡ components_text table.now.names (map (λ l. l.items) components.now)) }
 {
     let mut out = Vec::new(alloc);
-    put_components_line(alloc, &mut out, components)?;
+    put_components_line(&mut out, components)?;
     for arcs in components {
-        put_component(alloc, &mut out, table, arcs)?;
+        put_component(&mut out, table, arcs)?;
     }
     Ok(out)
 }

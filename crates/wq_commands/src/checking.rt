@@ -26,7 +26,7 @@ fn yes_text<A: Allocator + Copy>(alloc: A, number: u32) -> Result<Vec<u8, A>, Al
 {
     let mut out = Vec::new(alloc);
     put(&mut out, b"yes")?;
-    put_number(alloc, &mut out, number)?;
+    put_number(&mut out, number)?;
     put_end(&mut out)?;
     Ok(out)
 }
@@ -37,7 +37,7 @@ fn yes_circle_text<A: Allocator + Copy>(alloc: A, length: u32) -> Result<Vec<u8,
 {
     let mut out = Vec::new(alloc);
     put(&mut out, b"yes circle")?;
-    put_number(alloc, &mut out, length)?;
+    put_number(&mut out, length)?;
     put_end(&mut out)?;
     Ok(out)
 }
@@ -69,16 +69,15 @@ fn put_flush<A: Allocator + Copy>(
 }
 
 /// Adds a place.
-fn put_place<A: Allocator + Copy>(alloc: A, out: &mut Vec<u8, A>, at: u32) -> Result<(), AllocError>
+fn put_place<A: Allocator + Copy>(out: &mut Vec<u8, A>, at: u32) -> Result<(), AllocError>
     ensures { OnOk result (out.new.items ≡ out.old.items ++ flat_map spaced (decimal at ∷ [])) }
 {
-    put_number(alloc, out, at)?;
+    put_number(out, at)?;
     Ok(())
 }
 
 /// Adds what a no speaks of: an item and its target, a place, or nothing.
 fn put_details<A: Allocator + Copy>(
-    alloc: A,
     table: &ItemTable<'_, A>,
     out: &mut Vec<u8, A>,
     no: &No,
@@ -88,9 +87,9 @@ fn put_details<A: Allocator + Copy>(
 {
     match *no {
         No::NotFalling { item, target } => put_flush(table, out, item, target),
-        No::ChainBroken { at } => put_place(alloc, out, at),
+        No::ChainBroken { at } => put_place(out, at),
         No::LengthDiffers => Ok(()),
-        No::CircleBroken { at } => put_place(alloc, out, at),
+        No::CircleBroken { at } => put_place(out, at),
         No::RunBroken => Ok(()),
     }
 }
@@ -106,8 +105,8 @@ fn no_line<A: Allocator + Copy>(
 {
     let mut out = Vec::new(alloc);
     put(&mut out, b"no")?;
-    put_number(alloc, &mut out, no.code())?;
-    put_details(alloc, table, &mut out, &no)?;
+    put_number(&mut out, no.code())?;
+    put_details(table, &mut out, &no)?;
     put_end(&mut out)?;
     Ok(out)
 }

@@ -19,9 +19,9 @@ pub(crate) fn refusal_text<A: Allocator + Copy>(
 {
     let mut out = Vec::new(alloc);
     put(&mut out, b"refused")?;
-    put_number(alloc, &mut out, code)?;
+    put_number(&mut out, code)?;
     put_word(&mut out, b"line")?;
-    put_number(alloc, &mut out, line)?;
+    put_number(&mut out, line)?;
     put_end(&mut out)?;
     Ok(out)
 }

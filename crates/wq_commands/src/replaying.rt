@@ -23,7 +23,7 @@ fn unlawful_text<A: Allocator + Copy>(alloc: A, number: u32) -> Result<Vec<u8, A
 {
     let mut out = Vec::new(alloc);
     put(&mut out, b"not lawful")?;
-    put_number(alloc, &mut out, number)?;
+    put_number(&mut out, number)?;
     put_end(&mut out)?;
     Ok(out)
 }

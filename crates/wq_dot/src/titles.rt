@@ -18,7 +18,7 @@ pub(crate) fn plan_title<A: Allocator + Copy>(
 {
     let mut title = Vec::new(alloc);
     put(&mut title, b"plan")?;
-    put_number(alloc, &mut title, u32::from(workqueues))?;
+    put_number(&mut title, u32::from(workqueues))?;
     Ok(title)
 }
 
@@ -36,6 +36,6 @@ pub(crate) fn components_title<A: Allocator + Copy>(
         return Ok(title);
     }
     put(&mut title, b"components")?;
-    put_number(alloc, &mut title, components.len() as u32)?;
+    put_number(&mut title, components.len() as u32)?;
     Ok(title)
 }

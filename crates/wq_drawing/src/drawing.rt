@@ -41,7 +41,7 @@ pub fn drawing_text<A: Allocator + Copy>(
     put_head(&mut out, title)?;
     for number in 0..assignment.lanes() {
         let own = workqueues[usize::from(number)].as_slice();
-        put_workqueue(alloc, &mut out, table, groups, number, own)?;
+        put_workqueue(&mut out, table, groups, number, own)?;
     }
     for flush in &flushes {
         put_flush(&mut out, table, *flush, looks[flush.place as usize])?;

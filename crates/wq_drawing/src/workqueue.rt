@@ -14,7 +14,6 @@ use wq_lines::{put, put_number};
 
 /// Adds the lines of a workqueue with these groups.
 pub(crate) fn put_workqueue<A: Allocator + Copy>(
-    alloc: A,
     out: &mut Vec<u8, A>,
     table: &ItemTable<'_, A>,
     groups: &Groups<A>,
@@ -27,10 +26,10 @@ pub(crate) fn put_workqueue<A: Allocator + Copy>(
         ≡ out.old.items ++ flat_map ended (box_lines table.now.names groups.now.group_of number own.now)) }
 {
     put(out, b"  subgraph \"cluster wq")?;
-    put_number(alloc, out, u32::from(number))?;
+    put_number(out, u32::from(number))?;
     put(out, b"\" {\n")?;
     put(out, b"    graph [label=\"wq")?;
-    put_number(alloc, out, u32::from(number))?;
+    put_number(out, u32::from(number))?;
     put(out, b"\", rank=same, style=filled, color=gray92];\n")?;
     for group in own {
         put_group(out, table, groups.members(*group))?;

@@ -1,11 +1,12 @@
 //! A line, word by word: one space between two words, and a line feed behind the last.
 //!
 //! So each line of "Plan texts", "Circle texts" and "Run texts" in docs/FORMAT.md is printed, and what the commands answer.
-//! Each call takes time and memory in what it adds; where memory runs out, a part of that may stand there.
+//! Each call takes time in what it adds, and memory for nothing else; where memory runs out, a part of it may stand there.
 
 ghost use Rattle.std.specs.Prelude.{◌≡◌, ◌++◌, ◌∷◌, [], OnOk, decimal};
 ghost use Rattle.wq_lines.specs.LineText.{spaced};
 
+use itoa::Buffer;
 use std::alloc::{AllocError, Allocator};
 
 /// Adds bytes. The only error is out of memory (20).
@@ -26,27 +27,19 @@ pub fn put_word<A: Allocator + Copy>(out: &mut Vec<u8, A>, word: &[u8]) -> Resul
 }
 
 /// Adds a space and a number. The only error is out of memory (20).
-pub fn put_number<A: Allocator + Copy>(
-    alloc: A,
-    out: &mut Vec<u8, A>,
-    number: u32,
-) -> Result<(), AllocError>
+pub fn put_number<A: Allocator + Copy>(out: &mut Vec<u8, A>, number: u32) -> Result<(), AllocError>
     ensures { OnOk result (out.new.items ≡ out.old.items ++ spaced (decimal number)) }
 {
-    let digits = number.to_string(alloc)?;
-    put_word(out, digits.as_bytes())
+    let mut digits = Buffer::new();
+    put_word(out, digits.format(number).as_bytes())
 }
 
 /// Adds a space and a count, a number of up to 64 bits. The only error is out of memory (20).
-pub fn put_count<A: Allocator + Copy>(
-    alloc: A,
-    out: &mut Vec<u8, A>,
-    count: u64,
-) -> Result<(), AllocError>
+pub fn put_count<A: Allocator + Copy>(out: &mut Vec<u8, A>, count: u64) -> Result<(), AllocError>
     ensures { OnOk result (out.new.items ≡ out.old.items ++ spaced (decimal count)) }
 {
-    let digits = count.to_string(alloc)?;
-    put_word(out, digits.as_bytes())
+    let mut digits = Buffer::new();
+    put_word(out, digits.format(count).as_bytes())
 }
 
 /// Ends a line. The only error is out of memory (20).

@@ -19,20 +19,18 @@ use wq_lines::{put, put_count, put_end, put_number, put_word};
 
 /// Adds `workqueues K`.
 fn put_workqueues_line<A: Allocator + Copy>(
-    alloc: A,
     out: &mut Vec<u8, A>,
     lanes: u16,
 ) -> Result<(), AllocError>
     ensures { OnOk result (out.new.items ≡ out.old.items ++ line_text (workqueues_line lanes)) }
 {
     put(out, b"workqueues")?;
-    put_number(alloc, out, u32::from(lanes))?;
+    put_number(out, u32::from(lanes))?;
     put_end(out)
 }
 
 /// Adds ` queued N cancelled N finished N`.
 fn put_counts<A: Allocator + Copy>(
-    alloc: A,
     out: &mut Vec<u8, A>,
     counts: &Counts<A>,
     item: ItemId,
@@ -40,16 +38,15 @@ fn put_counts<A: Allocator + Copy>(
     ensures { OnOk result (out.new.items ≡ out.old.items ++ flat_map spaced (count_words (λ kind. made counts.now item kind true))) }
 {
     put_word(out, b"queued")?;
-    put_count(alloc, out, counts.queued(item))?;
+    put_count(out, counts.queued(item))?;
     put_word(out, b"cancelled")?;
-    put_count(alloc, out, counts.cancelled(item))?;
+    put_count(out, counts.cancelled(item))?;
     put_word(out, b"finished")?;
-    put_count(alloc, out, counts.finished(item))
+    put_count(out, counts.finished(item))
 }
 
 /// Adds `item NAME wq Q queued N cancelled N finished N`.
 fn put_item_line<A: Allocator + Copy>(
-    alloc: A,
     out: &mut Vec<u8, A>,
     table: &ItemTable<'_, A>,
     groups: &Groups<A>,
@@ -67,21 +64,17 @@ fn put_item_line<A: Allocator + Copy>(
     put(out, b"item")?;
     put_word(out, table.name(item))?;
     put_word(out, b"wq")?;
-    put_number(alloc, out, u32::from(lane.get()))?;
-    put_counts(alloc, out, counts, item)?;
+    put_number(out, u32::from(lane.get()))?;
+    put_counts(out, counts, item)?;
     put_end(out)
 }
 
 /// Adds `faults N`.
-fn put_faults_line<A: Allocator + Copy>(
-    alloc: A,
-    out: &mut Vec<u8, A>,
-    faults: u64,
-) -> Result<(), AllocError>
+fn put_faults_line<A: Allocator + Copy>(out: &mut Vec<u8, A>, faults: u64) -> Result<(), AllocError>
     ensures { OnOk result (out.new.items ≡ out.old.items ++ line_text (faults_line faults)) }
 {
     put(out, b"faults")?;
-    put_count(alloc, out, faults)?;
+    put_count(out, faults)?;
     put_end(out)
 }
 
@@ -102,19 +95,11 @@ pub(crate) fn report_text<N: Naming, A: Allocator + Copy>(
         ≡ report_text (record { table = table.now; partition = groups.now }) assignment.now (yes_tally closed.now.book) faults) }
 {
     let mut out = Vec::new(alloc);
-    put_workqueues_line(alloc, &mut out, assignment.lanes())?;
+    put_workqueues_line(&mut out, assignment.lanes())?;
     for i in 0..table.len() {
         let item = ItemId::new(i);
-        put_item_line(
-            alloc,
-            &mut out,
-            table,
-            groups,
-            assignment,
-            &closed.counts,
-            item,
-        )?;
+        put_item_line(&mut out, table, groups, assignment, &closed.counts, item)?;
     }
-    put_faults_line(alloc, &mut out, faults)?;
+    put_faults_line(&mut out, faults)?;
     Ok(out)
 }
