@@ -7,12 +7,13 @@ ghost use Rattle.std.specs.Prelude.{◌≡◌, length, IfOk};
 ghost use Rattle.wq_items.specs.Table.{flush_count};
 ghost use Rattle.wq_drawing.specs.Drawing.{drawing_text};
 
-use crate::by_workqueue::groups_by_workqueue;
 use crate::flush::put_flush;
+use crate::group_lanes::lanes_of_groups;
 use crate::head::put_head;
 use crate::look::FlushLook;
 use crate::workqueue::put_workqueue;
 use std::alloc::{AllocError, Allocator};
+use wq_buckets::Buckets;
 use wq_graph::group_arcs_by_place;
 use wq_groups::{Assignment, Groups};
 use wq_items::ItemTable;
@@ -35,13 +36,14 @@ pub fn drawing_text<A: Allocator + Copy>(
     requires looks { length looks.now ≡ flush_count table.now.waits }
     ensures { IfOk result (λ text. text.items ≡ drawing_text table.now groups.now assignment.now title.now looks.now) }
 {
-    let workqueues = groups_by_workqueue(alloc, assignment, groups.len())?;
+    let workqueues = assignment.lanes();
+    let lanes = lanes_of_groups(alloc, assignment, groups.len())?;
+    let by_workqueue = Buckets::new(alloc, &lanes, workqueues)?;
     let flushes = group_arcs_by_place(alloc, table, groups)?;
     let mut out = Vec::new(alloc);
     put_head(&mut out, title)?;
-    for number in 0..assignment.lanes() {
-        let own = workqueues[usize::from(number)].as_slice();
-        put_workqueue(&mut out, table, groups, number, own)?;
+    for number in 0..workqueues {
+        put_workqueue(&mut out, table, groups, number, by_workqueue.places(number))?;
     }
     for flush in &flushes {
         put_flush(&mut out, table, *flush, looks[flush.place as usize])?;

@@ -6,10 +6,10 @@
 //! the groups, the workqueues, the flushes and the length of the text.
 #![tactic(auto)]
 
-mod by_workqueue;
 mod drawing;
 mod flush;
 mod group;
+mod group_lanes;
 mod head;
 pub mod laws;
 mod look;

@@ -18,13 +18,15 @@ pub(crate) fn put_workqueue<A: Allocator + Copy>(
     table: &ItemTable<'_, A>,
     groups: &Groups<A>,
     number: u16,
-    own: &[GroupId],
+    own: &[u32],
 ) -> Result<(), AllocError>
     requires grouped { length groups.now.group_of ≡ length table.now.names }
     requires own { All (λ g. g < groups.now.groups) own.now }
     ensures { OnOk result (out.new.items
         ≡ out.old.items ++ flat_map ended (box_lines table.now.names groups.now.group_of number own.now)) }
 {
+    // What holds of all groups.
+    let _groups = groups.len();
     put(out, b"  subgraph \"cluster wq")?;
     put_number(out, u32::from(number))?;
     put(out, b"\" {\n")?;
@@ -32,7 +34,7 @@ pub(crate) fn put_workqueue<A: Allocator + Copy>(
     put_number(out, u32::from(number))?;
     put(out, b"\", rank=same, style=filled, color=gray92];\n")?;
     for group in own {
-        put_group(out, table, groups.members(*group))?;
+        put_group(out, table, groups.members(GroupId::new(*group as u16)))?;
     }
     put(out, b"  }\n")
 }

@@ -1,6 +1,7 @@
-use Rattle.std.proofs.Common.{◌≡◌, ◌<◌, ◌++◌, ℕ, List, length, sym, ap, subst, ◌∙◌, arith}
+use Rattle.std.proofs.Common.{◌≡◌, ◌<◌, ◌++◌, ℕ, List, length, get_or, sym, ap, subst, ◌∙◌, arith}
 use Rattle.std.specs.Prelude.{codes, decimal, flat_map}
 use Rattle.std.specs.List.{All}
+use Rattle.std.proofs.lemmas.List.{get_or_default}
 use Rattle.std.proofs.lemmas.Result.{on_ok_weaker}
 use Rattle.wq_lines.specs.LineText.{spaced}
 use Rattle.wq_items.specs.Table.{items_at}
@@ -13,14 +14,16 @@ use Rattle.wq_drawing.proofs.workqueue.put_workqueue.Goals as goal
 pub put_group-requires : goal.put_group-requires
 put_group-requires g c =
     let n = length c.args.table.now.names in
-    subst (λ (is : List ℕ). All (λ i. i < n) is) (sym c.members.ensures) (items_at-below c.args.groups.now.group_of n c.group-item.result c.requires.grouped)
+    subst (λ (is : List ℕ). All (λ i. i < n) is) (sym c.members.ensures) (items_at-below c.args.groups.now.group_of n c.new.result c.requires.grouped)
 
 pub loop-group-preserved : goal.loop-group-preserved
 loop-group-preserved g c =
     let names = c.args.table.now.names in
     let group_of = c.args.groups.now.group_of in
     let lines : ℕ → List (List ℕ) = λ k. group_lines names (items_at group_of k) in
-    text_of-next lines c.put-4.new.out.items c.loop-group.out.items _ c.args.own.now c.loop-group.group-index c.group-item.result c.loop-group-test.true c.group-item.is c.loop-group.invariant
+    let group : c.new.result ≡ get_or c.args.own.now c.loop-group.group-index c.new.result =
+    c.new.ensures ∙ get_or_default c.args.own.now c.loop-group.group-index 0 c.new.result c.loop-group-test.true in
+    text_of-next lines c.put-4.new.out.items c.loop-group.out.items _ c.args.own.now c.loop-group.group-index c.new.result c.loop-group-test.true group c.loop-group.invariant
     (c.in_ok-put_group.ensures ∙ ap (λ (is : List ℕ). c.loop-group.out.items ++ text_of (group_lines names is)) c.members.ensures)
 
 pub returns : goal.returns
