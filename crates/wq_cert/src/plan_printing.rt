@@ -1,16 +1,17 @@
 //! Plan texts: the workqueues with their items, and a longest waiting chain.
 //!
-//! The format is that of "Plan texts" in docs/FORMAT.md. Printing takes time in the workqueues times the items, and in the
-//! length of the text, and memory in the number of items and the length of the text.
+//! The format is that of "Plan texts" in docs/FORMAT.md. Printing takes time and memory in the number of items and the length of
+//! the text.
 
 ghost use Rattle.std.specs.Prelude.{◌≡◌, ◌<◌, ◌+◌, ◌++◌, ◌^◌, ℕ, length, OnOk, IfOk};
 ghost use Rattle.std.specs.List.{All};
 ghost use Rattle.wq_lines.specs.LineText.{line_text};
 ghost use Rattle.wq_groups.specs.Assignment.{item_lanes};
-ghost use Rattle.wq_cert.specs.PlanText.{plan_line, wq_line, chain_line, plan_text};
+ghost use Rattle.wq_cert.specs.PlanText.{plan_line, workqueue_line, chain_line, plan_text};
 
 use crate::arc_printing::put_arc_line;
 use std::alloc::{AllocError, Allocator};
+use wq_buckets::Buckets;
 use wq_groups::{Assignment, Groups};
 use wq_items::{ItemId, ItemTable};
 use wq_lines::{put, put_end, put_number, put_word};
@@ -24,22 +25,22 @@ fn put_plan_line<A: Allocator + Copy>(out: &mut Vec<u8, A>, lanes: u16) -> Resul
     put_end(out)
 }
 
-/// Adds `wq Q NAME..`.
+/// Adds `wq Q NAME..`, with the names of these items.
 fn put_wq_line<A: Allocator + Copy>(
     out: &mut Vec<u8, A>,
     table: &ItemTable<'_, A>,
-    lane: &[u16],
     q: u16,
+    items: &[u32],
 ) -> Result<(), AllocError>
-    requires one_each { length lane.now ≡ length table.now.names }
-    ensures { OnOk result (out.new.items ≡ out.old.items ++ line_text (wq_line table.now.names lane.now q)) }
+    requires { All (λ i. i < length table.now.names) items.now }
+    ensures { OnOk result (out.new.items ≡ out.old.items ++ line_text (workqueue_line table.now.names (q, items.now))) }
 {
+    // What holds of every table.
+    let _items = table.len();
     put(out, b"wq")?;
     put_number(out, u32::from(q))?;
-    for i in 0..table.len() {
-        if lane[usize::from(i)] == q {
-            put_word(out, table.name(ItemId::new(i)))?;
-        }
+    for item in items {
+        put_word(out, table.name(ItemId::new(*item as u16)))?;
     }
     put_end(out)
 }
@@ -100,8 +101,11 @@ pub fn plan_text<A: Allocator + Copy>(
     ensures { IfOk result (λ text. text.items
         ≡ plan_text table.now.names assignment.now.lanes (item_lanes assignment.now groups.now.group_of) chain.now) }
 {
+    // What holds of all groups.
+    let _groups = groups.len();
+    let lanes = assignment.lanes();
     let lane = item_lanes(alloc, table.len(), groups, assignment)?;
-    print_plan(alloc, table, assignment.lanes(), &lane, chain)
+    print_plan(alloc, table, lanes, &lane, chain)
 }
 
 /// The text of a plan that gives each item its workqueue.
@@ -113,14 +117,18 @@ fn print_plan<A: Allocator + Copy>(
     chain: &[(ItemId, ItemId)],
 ) -> Result<Vec<u8, A>, AllocError>
     requires one_each { length lane.now ≡ length table.now.names }
+    requires within { All (λ q. q < lanes) lane.now }
     requires few { length chain.now + 1 < 2 ^ 32 }
     requires items { All (λ (arc : ℕ × ℕ). (arc.0 < length table.now.names) × (arc.1 < length table.now.names)) chain.now }
     ensures { IfOk result (λ text. text.items ≡ plan_text table.now.names lanes lane.now chain.now) }
 {
+    // What holds of every table.
+    let _items = table.len();
+    let items = Buckets::new(alloc, lane, lanes)?;
     let mut out = Vec::new(alloc);
     put_plan_line(&mut out, lanes)?;
     for q in 0..lanes {
-        put_wq_line(&mut out, table, lane, q)?;
+        put_wq_line(&mut out, table, q, items.places(q))?;
     }
     put_chain_line(&mut out, lanes, chain)?;
     for arc in chain {

@@ -1,7 +1,7 @@
 //! The answer to a declaration text, made whole in memory.
 //!
-//! Takes time in the workqueues times the items and flushes, and behind a circle that of its run (`wq_deadlock`); and memory
-//! in the length of the text.
+//! Takes time in the length of the text, and behind a circle that of its run (`wq_deadlock`); and memory in the length of the
+//! text.
 
 ghost use Rattle.std.specs.Prelude.{◌≡◌, IfOk, length};
 ghost use Rattle.wq_groups.specs.Declaration.{declaration_of};

@@ -14,7 +14,7 @@ use Rattle.wq_drawing.proofs.drawing.drawing_text.Goals as goal
 
 pub places-requires : goal.places-requires
 places-requires g c =
-    let many = ap length c.in_ok-by_workqueue.ensures ∙ length-map-range_with_len (places_of c.deref.result.now) 0 c.lanes-workqueues.result in
+    let many = ap length c.in_ok-by_workqueue.ensures.buckets ∙ length-map-range_with_len (places_of c.deref.result.now) 0 c.lanes-workqueues.result in
     omega (arith, many, c.loop-number-test.true)
 
 pub put_workqueue-requires-clause-own : goal.put_workqueue-requires-clause-own
@@ -22,7 +22,7 @@ put_workqueue-requires-clause-own g c =
     let a = c.args.assignment.now in
     let groups = c.args.groups.now.groups in
     let number = c.loop-number.number in
-    let made = subst (λ n. c.in_ok-by_workqueue.by_workqueue ≡ buckets_of c.deref.result.now n) c.lanes-workqueues.ensures.lanes c.in_ok-by_workqueue.ensures in
+    let made = subst (λ n. c.in_ok-by_workqueue.by_workqueue ≡ buckets_of c.deref.result.now n) c.lanes-workqueues.ensures.lanes c.in_ok-by_workqueue.ensures.buckets in
     let own = groups_on-bucket a c.deref.result.now c.in_ok-by_workqueue.by_workqueue number c.places.result.now (c.deref.ensures.value ∙ c.in_ok-lanes.ensures) made (omega (arith, c.loop-number-test.true, c.lanes-workqueues.ensures.lanes)) c.places.ensures in
     subst (λ (is : List ℕ). All (λ i. i < groups) is) (sym own) (groups_on-below a groups number c.requires.assigned)
 
@@ -33,7 +33,7 @@ loop-number-preserved g c =
     let group_of = c.args.groups.now.group_of in
     let number = c.loop-number.number in
     let out = c.put_head.new.out.items in
-    let made = subst (λ n. c.in_ok-by_workqueue.by_workqueue ≡ buckets_of c.deref.result.now n) c.lanes-workqueues.ensures.lanes c.in_ok-by_workqueue.ensures in
+    let made = subst (λ n. c.in_ok-by_workqueue.by_workqueue ≡ buckets_of c.deref.result.now n) c.lanes-workqueues.ensures.lanes c.in_ok-by_workqueue.ensures.buckets in
     let own = groups_on-bucket a c.deref.result.now c.in_ok-by_workqueue.by_workqueue number c.places.result.now (c.deref.ensures.value ∙ c.in_ok-lanes.ensures) made (omega (arith, c.loop-number-test.true, c.lanes-workqueues.ensures.lanes)) c.places.ensures in
     c.in_ok-put_workqueue.ensures
     ∙ ap (λ (is : List ℕ). c.loop-number.out.items ++ text_of (box_lines names group_of number is)) own
