@@ -3,7 +3,8 @@ use Rattle.std.proofs.Common.{◌≡◌, ◌⊎◌, inl, inr, ℕ, ◌≤◌, Bo
 use Rattle.std.specs.Prelude.{if◌then◌else◌, ◌==◌, ◌&&◌, ◌||◌, nat_le}
 use Rattle.std.proofs.lemmas.Bool.{leb-true}
 use Rattle.std.proofs.lemmas.List.Elements.{All-append, All-cons, All-nil}
-use Rattle.wq_diagnosis.specs.Diagnosis.{shown, shown_lines, head, IsDiagnosis, IsOnLine, IsPlain}
+use Rattle.wq_findings.specs.Shown.{shown}
+use Rattle.wq_diagnosis.specs.Diagnosis.{shown_lines, head, IsDiagnosis, IsOnLine, IsPlain}
 
 -- ---- what is shown is plain
 

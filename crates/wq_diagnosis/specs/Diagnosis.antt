@@ -1,19 +1,11 @@
 -- Diagnoses: what is said on standard error of a text that is refused.
-use Rattle.std.specs.Prelude.{if◌then◌else◌, ◌≡◌, ◌⊎◌, ◌≤◌, ◌<◌, ◌==◌, ℕ, List, [], ◌∷◌, ◌++◌, codes, decimal, flat_map, map}
+use Rattle.std.specs.Prelude.{◌≡◌, ◌⊎◌, ◌≤◌, ◌<◌, ℕ, List, [], ◌∷◌, ◌++◌, codes, decimal, flat_map, map}
 use Rattle.std.specs.List.{All}
-use Rattle.wq_decl.specs.Reading.{is_text_byte}
-
--- a byte as it is shown: printable ASCII as it is, a TAB as a space, any other as `?`
-abbrev pub shown : ℕ → ℕ
-shown byte = if byte == 9 then 32 else (if is_text_byte byte then byte else 63)
+use Rattle.wq_findings.specs.Shown.{place_text, shown}
 
 -- lines as they are shown
 abbrev pub shown_lines : List (List ℕ) → List ℕ
 shown_lines lines = flat_map (λ line. map shown line ++ (10 ∷ [])) lines
-
--- numbers behind colons
-abbrev pub place_text : List ℕ → List ℕ
-place_text place = flat_map (λ number. 58 ∷ decimal number) place
 
 -- the first line: the file, the place in it, what is wrong, and the word of the answer, `refused` or `no`, with its number
 abbrev pub head : List ℕ → List ℕ → List ℕ → List ℕ → ℕ → List ℕ

@@ -11,8 +11,8 @@ use Rattle.wq_checker.specs.Answers.{AnswersCertificate}
 use Rattle.wq_checker.specs.Codes.{no_code}
 use Rattle.wq_commands.specs.Answer.{declared_waits}
 use Rattle.wq_commands.specs.Declaration.{Declared, declaration}
-use Rattle.wq_diagnosis.specs.declared.stage.Kind.{Kind}
-use Rattle.wq_diagnosis.specs.declared.stage.Kind.TheVariants.{Answer, Assignment, Run}
+use Rattle.wq_findings.specs.declared.stage.Kind.{Kind}
+use Rattle.wq_findings.specs.declared.stage.Kind.TheVariants.{Answer, Assignment, Run}
 use Rattle.wq_diagnosis.specs.Diagnosis.{IsDiagnosis}
 
 -- what a text is refused for, by what it was read as

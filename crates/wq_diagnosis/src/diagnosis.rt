@@ -4,24 +4,22 @@
 //! memory of reading the texts and of seeking the fault in them.
 
 ghost use Rattle.std.specs.Prelude.{◌≡◌, ◌++◌, ◌∷◌, [], ◌<◌, codes, decimal, length, map, option_map, ℕ, IfOk, OnOk, Option};
-ghost use Rattle.wq_diagnosis.specs.Diagnosis.{head, place_text, shown, shown_lines, IsDiagnosis};
+ghost use Rattle.wq_findings.specs.Shown.{place_text, shown};
+ghost use Rattle.wq_diagnosis.specs.Diagnosis.{head, shown_lines, IsDiagnosis};
 ghost use Rattle.wq_checker.specs.Codes.{no_code};
 ghost use Rattle.wq_checker.specs.declared.answer.No.{No};
 ghost use Rattle.wq_diagnosis.specs.Refused.{Diagnoses, DiagnosesNo, IsFaultOfCertificate, IsNoTo, SaysNo, certificate_refusal, declaration_refusal, refusal_with};
 
-use crate::excerpt::{CUT, Window, shown};
-use crate::finding::{Finding, Mark, line_at};
-use crate::stage::Kind;
-use crate::{certificate, declaration, no};
 use std::alloc::{AllocError, Allocator};
 use wq_cert::{CertError, read_answer, read_assignment, read_run};
 use wq_checker::{No, check_answer};
 use wq_commands::{Declaration, Stop, read_declaration};
+use wq_findings::{
+    Excerpt, Finding, Kind, Mark, Marks, What, in_answer, in_certificate, in_declaration, line_at,
+    put_place, shown,
+};
 use wq_lines::put;
 use wq_text::{Line, Text};
-
-/// How many columns the line and its marks are moved to the right.
-const INDENT: &str = "    ";
 
 /// The number of a plan that has too many workqueues to run.
 const TOO_MANY: u32 = 69;
@@ -96,34 +94,6 @@ fn put_line<A: Allocator + Copy>(
     Ok(())
 }
 
-/// Adds the numbers of a place, each behind a colon.
-fn put_place<A: Allocator + Copy>(
-    alloc: A,
-    out: &mut Vec<u8, A>,
-    place: &[u32],
-) -> Result<(), AllocError>
-    ensures { OnOk result (out.new.items ≡ out.old.items ++ place_text place.now) }
-{
-    for number in place {
-        put_part(alloc, out, *number)?;
-    }
-    Ok(())
-}
-
-/// Adds a number behind a colon.
-fn put_part<A: Allocator + Copy>(
-    alloc: A,
-    out: &mut Vec<u8, A>,
-    number: u32,
-) -> Result<(), AllocError>
-    ensures { OnOk result (out.new.items ≡ out.old.items ++ (58 ∷ decimal number)) }
-{
-    let digits = number.to_string(alloc)?;
-    out.push(b':')?;
-    out.extend_from_slice(digits.as_bytes())?;
-    Ok(())
-}
-
 /// Adds the word of an answer with its number, and the command that says more of it.
 fn put_answer<A: Allocator + Copy>(
     out: &mut Vec<u8, A>,
@@ -141,7 +111,26 @@ fn put_answer<A: Allocator + Copy>(
     put(out, b"`]")
 }
 
-/// The first line: the file, the place, what is wrong, and the word of the answer with its number.
+/// Adds the first line: the file, the place, what is wrong, and the word of the answer with its number.
+fn put_head<A: Allocator + Copy>(
+    alloc: A,
+    out: &mut Vec<u8, A>,
+    file: &str,
+    place: &[u32],
+    what: &str,
+    word: &str,
+    code: &str,
+) -> Result<(), AllocError>
+    ensures { OnOk result (out.new.items ≡ ((((((((((out.old.items ++ file.now) ++ place_text place.now) ++ codes ": ") ++ what.now) ++ codes " [") ++ word.now) ++ codes " ") ++ code.now) ++ codes ", `wqplan explain ") ++ code.now) ++ codes "`]") }
+{
+    put(out, file.as_bytes())?;
+    put_place(alloc, out, place)?;
+    put(out, b": ")?;
+    put(out, what.as_bytes())?;
+    put_answer(out, word, code)
+}
+
+/// The first line.
 fn head<A: Allocator + Copy>(
     alloc: A,
     file: &str,
@@ -154,67 +143,34 @@ fn head<A: Allocator + Copy>(
 {
     let code = code.to_string(alloc)?;
     let mut line = Vec::new(alloc);
-    put(&mut line, file.as_bytes())?;
-    put_place(alloc, &mut line, place)?;
-    put(&mut line, b": ")?;
-    put(&mut line, what.as_bytes())?;
-    put_answer(&mut line, word, &code)?;
+    put_head(alloc, &mut line, file, place, what, word, &code)?;
     Ok(line)
 }
 
-/// The part of a line that is shown, moved to the right.
-fn excerpt<A: Allocator + Copy>(
+/// Adds the line that is meant and its marks, where bytes of it are.
+fn add_details<A: Allocator + Copy>(
     alloc: A,
-    line: &Line<'_>,
-    window: Window,
-) -> Result<Vec<u8, A>, AllocError> {
-    let bytes = line.bytes();
-    let mut out = Vec::new(alloc);
-    out.extend_from_slice(INDENT.as_bytes())?;
-    if window.start > 0 {
-        out.extend_from_slice(CUT.as_bytes())?;
+    details: &mut Vec<Vec<u8, A>, A>,
+    line: Option<Line<'_>>,
+    finding: Finding<'_>,
+) -> Result<(), AllocError> {
+    if let (Some(line), Some(mark)) = (line, finding.mark) {
+        let bytes = line.bytes();
+        let marks = Marks::of(bytes.len(), mark, finding.hint);
+        details.push(Excerpt::of(bytes, mark).to_string(alloc)?.into_bytes())?;
+        details.push(marks.to_string(alloc)?.into_bytes())?;
     }
-    out.extend_from_slice(window.bytes(bytes))?;
-    if window.end < bytes.len() {
-        out.extend_from_slice(CUT.as_bytes())?;
-    }
-    Ok(out)
-}
-
-/// The marks below the part that is shown, with the hint behind them.
-fn marks<A: Allocator + Copy>(
-    alloc: A,
-    window: Window,
-    mark: Mark,
-    hint: &str,
-) -> Result<Vec<u8, A>, AllocError> {
-    let mut out = Vec::new(alloc);
-    out.extend_from_slice(INDENT.as_bytes())?;
-    for _ in 0..window.column(mark) {
-        out.push(b' ')?;
-    }
-    for _ in 0..window.width(mark) {
-        out.push(b'^')?;
-    }
-    if !hint.is_empty() {
-        out.push(b' ')?;
-        out.extend_from_slice(hint.as_bytes())?;
-    }
-    Ok(out)
+    Ok(())
 }
 
 /// The lines below the first one: the line and its marks, where bytes of it are meant; else none.
 fn details<A: Allocator + Copy>(
     alloc: A,
     line: Option<Line<'_>>,
-    finding: &Finding<A>,
+    finding: Finding<'_>,
 ) -> Result<Vec<Vec<u8, A>, A>, AllocError> {
     let mut details = Vec::new(alloc);
-    if let (Some(line), Some(mark)) = (line, finding.mark) {
-        let window = Window::round(line.bytes().len(), mark);
-        details.push(excerpt(alloc, &line, window)?)?;
-        details.push(marks(alloc, window, mark, &finding.hint)?)?;
-    }
+    add_details(alloc, &mut details, line, finding)?;
     Ok(details)
 }
 
@@ -256,23 +212,22 @@ fn column(mark: Mark) -> u32 {
     u32::try_from(mark.at).unwrap_or(u32::MAX).saturating_add(1)
 }
 
-/// The diagnosis of a refusal of a text, by what was found in it.
-fn diagnosis<A: Allocator + Copy>(
+/// The diagnosis of a refusal, by the bytes that are meant, what is wrong, and the lines below the first one.
+fn diagnosis_at<A: Allocator + Copy>(
     alloc: A,
     file: &str,
-    text: &Text<'_>,
     refusal: Refusal,
-    finding: &Finding<A>,
+    mark: Option<Mark>,
+    what: &str,
+    details: &[Vec<u8, A>],
 ) -> Result<Vec<u8, A>, AllocError>
     ensures { IfOk result (λ said. IsDiagnosis file.now refusal.word.now refusal.code refusal.line said.items) }
 {
     let Refusal { word, code, line } = refusal;
-    let details = details(alloc, line_at(text, line), finding)?;
-    let what = &finding.what;
     if line == 0 {
-        return whole_text(alloc, file, &[], what, word, code, &details);
+        return whole_text(alloc, file, &[], what, word, code, details);
     }
-    match finding.mark {
+    match mark {
         Some(mark) => whole_text(
             alloc,
             file,
@@ -280,10 +235,25 @@ fn diagnosis<A: Allocator + Copy>(
             what,
             word,
             code,
-            &details,
+            details,
         ),
-        None => whole_text(alloc, file, &[line], what, word, code, &details),
+        None => whole_text(alloc, file, &[line], what, word, code, details),
     }
+}
+
+/// The diagnosis of a refusal of a text, by what was found in it.
+fn diagnosis<A: Allocator + Copy>(
+    alloc: A,
+    file: &str,
+    text: &Text<'_>,
+    refusal: Refusal,
+    finding: Finding<'_>,
+) -> Result<Vec<u8, A>, AllocError>
+    ensures { IfOk result (λ said. IsDiagnosis file.now refusal.word.now refusal.code refusal.line said.items) }
+{
+    let what = finding.what.to_string(alloc)?;
+    let details = details(alloc, line_at(text, refusal.line), finding)?;
+    diagnosis_at(alloc, file, refusal, finding.mark, &what, &details)
 }
 
 /// The lines of a text, however long they are. Longer texts than 4,294,967,295 bytes, which no command reads, have none.
@@ -308,8 +278,8 @@ fn of_refused<A: Allocator + Copy>(
     ensures { IfOk result (λ said. IsDiagnosis declaration.entry.file.now refusal.word.now refusal.code refusal.line said.items) }
 {
     let text = lines_of(declaration.text);
-    let finding = declaration::find(alloc, &text, refusal.code, refusal.line)?;
-    diagnosis(alloc, declaration.file, &text, refusal, &finding)
+    let finding = in_declaration(alloc, &text, refusal.code, refusal.line)?;
+    diagnosis(alloc, declaration.file, &text, refusal, finding)
 }
 
 /// What is said of a declaration: nothing where it is one, and else the diagnosis of its refusal.
@@ -350,20 +320,20 @@ fn fault_of<A: Allocator + Copy>(
 }
 
 /// What is wrong in a certificate that is refused so.
-fn find_fault<A: Allocator + Copy>(
+fn find_fault<'a, A: Allocator + Copy>(
     alloc: A,
     kind: Kind,
-    declared: &Declaration<'_, A>,
-    declaration: &[u8],
-    text: &Text<'_>,
+    declared: &Declaration<'a, A>,
+    declaration: &'a [u8],
+    text: &Text<'a>,
     refusal: Refusal,
-) -> Result<Finding<A>, AllocError>
+) -> Result<Finding<'a>, AllocError>
     requires { length declared.now.groups.group_of ≡ length declared.now.table.names }
 {
     let Declaration { table, groups } = declared;
     let declaration = lines_of(declaration);
     let Refusal { code, line, .. } = refusal;
-    certificate::find(alloc, kind, &declaration, table, groups, text, code, line)
+    in_certificate(alloc, kind, &declaration, table, groups, text, code, line)
 }
 
 /// What is said of a certificate that is refused so.
@@ -380,7 +350,7 @@ fn of_fault<A: Allocator + Copy>(
 {
     let text = lines_of(certificate.text);
     let finding = find_fault(alloc, kind, declared, declaration, &text, refusal)?;
-    diagnosis(alloc, certificate.file, &text, refusal, &finding)
+    diagnosis(alloc, certificate.file, &text, refusal, finding)
 }
 
 /// What is said of a certificate of this declaration: nothing where it is of its form, and else the diagnosis of its refusal.
@@ -433,16 +403,13 @@ pub fn of_too_many<A: Allocator + Copy>(
 ) -> Result<Vec<u8, A>, AllocError>
     ensures { IfOk result (λ said. IsDiagnosis declaration.entry.file.now (codes "refused") 69 0 said.items) }
 {
-    let finding = Finding::whole(
-        alloc,
-        "the plan has more than 256 workqueues, each of which takes a thread",
-    )?;
+    let what = What::Said("the plan has more than 256 workqueues, each of which takes a thread");
     diagnosis(
         alloc,
         declaration.file,
         &no_text(),
         Refusal::new(TOO_MANY, 0),
-        &finding,
+        Finding::whole(what),
     )
 }
 
@@ -479,9 +446,9 @@ fn of_lack<A: Allocator + Copy>(
     ensures { IfOk result (λ said. (line : ℕ) × IsDiagnosis certificate.entry.file.now (codes "no") (no_code no.now) line said.items) }
 {
     let text = lines_of(certificate.text);
-    let lack = no::find(alloc, &declared.table, &text, no)?;
+    let lack = in_answer(&declared.table, &text, no);
     let refusal = Refusal::no(no.code(), lack.line);
-    diagnosis(alloc, certificate.file, &text, refusal, &lack.finding)
+    diagnosis(alloc, certificate.file, &text, refusal, lack.finding)
 }
 
 /// What is said of a certificate of this declaration to which the checker says no; nothing of another one.

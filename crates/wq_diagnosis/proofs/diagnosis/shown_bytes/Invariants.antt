@@ -1,5 +1,5 @@
 use Rattle.std.proofs.Common.{◌≡◌, take, map}
-use Rattle.wq_diagnosis.specs.Diagnosis.{shown}
+use Rattle.wq_findings.specs.Shown.{shown}
 use Rattle.wq_diagnosis.proofs.diagnosis.shown_bytes.Given as goal
 
 -- the bytes so far

@@ -3,14 +3,15 @@
 //! How alike two words are is `strsim`'s affair, in time of the product of their lengths. Else a call takes time in the length
 //! of the word.
 
-use crate::excerpt::Quoted;
+use crate::hint::Hint;
+use crate::quoted::Quoted;
 use std::alloc::{AllocError, Allocator};
 use std::str;
 use strsim::osa_distance;
 
 /// A word as it is shown, a letter for each byte.
 pub(crate) fn letters<A: Allocator + Copy>(alloc: A, word: &[u8]) -> Result<String<A>, AllocError> {
-    format!(in alloc; "{}", Quoted(word))
+    Quoted(word).to_string(alloc)
 }
 
 /// How many letters have to be put in, left out, replaced or swapped with the next to come from one word to another, if these are
@@ -18,8 +19,11 @@ pub(crate) fn letters<A: Allocator + Copy>(alloc: A, word: &[u8]) -> Result<Stri
 pub(crate) fn edits_between<A: Allocator + Copy>(
     alloc: A,
     word: &str,
-    known: &str,
+    known: &[u8],
 ) -> Result<Option<usize>, AllocError> {
+    let Ok(known) = str::from_utf8(known) else {
+        return Ok(None);
+    };
     if word.eq_ignore_ascii_case(known) {
         return Ok(Some(0));
     }
@@ -43,12 +47,12 @@ pub(crate) fn begins_comment(word: &[u8]) -> bool {
     )
 }
 
-/// The hint for a word that begins a comment in another language; empty for any other word.
-pub(crate) fn comment_hint(word: &[u8]) -> &'static str {
+/// The hint for a word that begins a comment in another language, if it does.
+pub(crate) fn comment_hint(word: &[u8]) -> Hint<'static> {
     if begins_comment(word) {
-        "a comment begins with `#`"
+        Hint::COMMENT
     } else {
-        ""
+        Hint::Nothing
     }
 }
 
@@ -73,8 +77,16 @@ pub(crate) fn directive_like<A: Allocator + Copy>(
     word: &[u8],
 ) -> Result<Option<&'static str>, AllocError> {
     let word = letters(alloc, word)?;
+    like_directive(alloc, &word)
+}
+
+/// The same of a word that is shown so.
+fn like_directive<A: Allocator + Copy>(
+    alloc: A,
+    word: &str,
+) -> Result<Option<&'static str>, AllocError> {
     for directive in ["item", "flush", "ordered"] {
-        if edits_between(alloc, &word, directive)?.is_some() {
+        if edits_between(alloc, word, directive.as_bytes())?.is_some() {
             return Ok(Some(directive));
         }
     }

@@ -2,11 +2,12 @@
 //!
 //! The reasons are those of "The command `check`" in docs/FORMAT.md. Takes time in the length of the text.
 
-use crate::excerpt::Quoted;
-use crate::finding::{Finding, Mark, Token, bytes_at, word_at};
-use crate::names::begins_with;
-use std::alloc::{AllocError, Allocator};
-use std::fmt::Display;
+use crate::finding::Finding;
+use crate::hint::Hint;
+use crate::quoted::Quoted;
+use crate::token::{Mark, Token, begins_with, bytes_at, word_at};
+use crate::what::What;
+use std::alloc::Allocator;
 use wq_checker::No;
 use wq_items::{ItemId, ItemTable};
 use wq_text::{Line, Text};
@@ -14,34 +15,30 @@ use wq_text::{Line, Text};
 /// What is said of an arc where its names aren't known.
 const WRONG_ARC: &str = "an arc is no flush, or doesn't begin where the one before it ends";
 
-/// What is found, and the number of its line.
-#[derive(Drop)]
-pub(crate) struct Lack<A: Allocator> {
-    pub(crate) line: u32,
-    pub(crate) finding: Finding<A>,
+/// What is found, and the number of its line, 0 where no line is meant.
+#[derive(Clone, Copy)]
+pub struct Lack<'a> {
+    /// The number of the line.
+    pub line: u32,
+    /// What is found on it.
+    pub finding: Finding<'a>,
 }
 
-impl<A: Allocator + Copy> Lack<A> {
+impl<'a> Lack<'a> {
     /// What a whole certificate lacks.
-    fn whole(alloc: A, what: &str) -> Result<Lack<A>, AllocError> {
-        Ok(Lack {
+    fn whole(what: &'static str) -> Lack<'a> {
+        Lack {
             line: 0,
-            finding: Finding::whole(alloc, what)?,
-        })
+            finding: Finding::whole(What::Said(what)),
+        }
     }
 
-    /// What is wrong with these bytes of a line, and a hint, empty where nothing is known.
-    fn marked<W: Display + Drop, H: Display + Drop>(
-        alloc: A,
-        line: u32,
-        mark: Mark,
-        what: W,
-        hint: H,
-    ) -> Result<Lack<A>, AllocError> {
-        Ok(Lack {
+    /// What is wrong with these bytes of a line, and a hint.
+    fn marked(line: u32, mark: Mark, what: What<'a>, hint: Hint<'a>) -> Lack<'a> {
+        Lack {
             line,
-            finding: Finding::marked(alloc, mark, what, hint)?,
-        })
+            finding: Finding::marked(mark, what, hint),
+        }
     }
 }
 
@@ -53,31 +50,27 @@ struct Placed<'a> {
     word: Token<'a>,
 }
 
-/// What a certificate lacks of which this is answered.
-pub(crate) fn find<A: Allocator + Copy>(
-    alloc: A,
+/// What a certificate of these items lacks to which this is answered.
+pub fn in_answer<'a, A: Allocator + Copy>(
     table: &ItemTable<'_, A>,
-    text: &Text<'_>,
+    text: &Text<'a>,
     no: &No,
-) -> Result<Lack<A>, AllocError> {
+) -> Lack<'a> {
     match *no {
-        No::NotFalling { item, target } => not_falling(alloc, table, text, item, target),
+        No::NotFalling { item, target } => not_falling(table, text, item, target),
         No::ChainBroken { at: 0 } => counted(
-            alloc,
             text,
             b"chain",
             "no item is declared, so there is no chain",
         ),
-        No::ChainBroken { at } => broken_arc(alloc, text, at, "above"),
+        No::ChainBroken { at } => broken_arc(text, at, "above"),
         No::LengthDiffers => counted(
-            alloc,
             text,
             b"chain",
             "the chain should have as many groups as there are workqueues",
         ),
-        No::CircleBroken { at } => broken_arc(alloc, text, at, "before it"),
+        No::CircleBroken { at } => broken_arc(text, at, "before it"),
         No::RunBroken => counted(
-            alloc,
             text,
             b"run",
             "these steps don't deadlock where each group has a workqueue of its own",
@@ -120,36 +113,25 @@ fn place_of<'a, A: Allocator + Copy>(
 }
 
 /// An item that doesn't stand above what it flushes.
-fn not_falling<A: Allocator + Copy>(
-    alloc: A,
+fn not_falling<'a, A: Allocator + Copy>(
     table: &ItemTable<'_, A>,
-    text: &Text<'_>,
+    text: &Text<'a>,
     item: ItemId,
     target: ItemId,
-) -> Result<Lack<A>, AllocError> {
+) -> Lack<'a> {
     match (place_of(table, text, item), place_of(table, text, target)) {
-        (Some(item), Some(target)) => too_low(alloc, item, target),
-        _ => Lack::whole(
-            alloc,
-            "an item doesn't stand on a higher workqueue than all that it flushes",
-        ),
+        (Some(item), Some(target)) => too_low(item, target),
+        _ => Lack::whole("an item doesn't stand on a higher workqueue than all that it flushes"),
     }
 }
 
 /// An item that should stand above its target.
-fn too_low<A: Allocator + Copy>(
-    alloc: A,
-    item: Placed<'_>,
-    target: Placed<'_>,
-) -> Result<Lack<A>, AllocError> {
+fn too_low<'a>(item: Placed<'a>, target: Placed<'a>) -> Lack<'a> {
     let Placed { line, word, .. } = item;
-    let flushed = target.word;
-    let workqueue = Quoted(target.workqueue);
-    let what = format_args!(
-        "`{word}` flushes `{flushed}`, so it should stand on a higher workqueue"
-    );
-    let hint = format_args!("`{flushed}` is on workqueue {workqueue}");
-    Lack::marked(alloc, line, word.mark, what, hint)
+    let flushed = target.word.quoted();
+    let what = What::TooLow(word.quoted(), flushed);
+    let hint = Hint::OnWorkqueue(flushed, Quoted(target.workqueue));
+    Lack::marked(line, word.mark, what, hint)
 }
 
 /// The line of this number, counted from 1, among those that begin with this word.
@@ -167,56 +149,36 @@ fn nth_line<'a>(text: &Text<'a>, first: &[u8], number: u32) -> Option<Line<'a>> 
 }
 
 /// What is wrong with the number on the line that begins with this word.
-fn counted<A: Allocator + Copy>(
-    alloc: A,
-    text: &Text<'_>,
-    first: &[u8],
-    what: &str,
-) -> Result<Lack<A>, AllocError> {
+fn counted<'a>(text: &Text<'a>, first: &[u8], what: &'static str) -> Lack<'a> {
     match nth_line(text, first, 1) {
-        Some(line) => wrong_number(alloc, &line, what),
-        None => Lack::whole(alloc, what),
+        Some(line) => wrong_number(&line, what),
+        None => Lack::whole(what),
     }
 }
 
 /// What is wrong with the number on a line.
-fn wrong_number<A: Allocator + Copy>(
-    alloc: A,
-    line: &Line<'_>,
-    what: &str,
-) -> Result<Lack<A>, AllocError> {
+fn wrong_number<'a>(line: &Line<'a>, what: &'static str) -> Lack<'a> {
     match word_at(line, 1) {
-        Some(word) => Lack::marked(alloc, line.no(), word.mark, what, ""),
-        None => Lack::whole(alloc, what),
+        Some(word) => Lack::marked(line.no(), word.mark, What::Said(what), Hint::Nothing),
+        None => Lack::whole(what),
     }
 }
 
 /// An arc that is no flush, or doesn't begin where the one before it ends.
-fn broken_arc<A: Allocator + Copy>(
-    alloc: A,
-    text: &Text<'_>,
-    at: u32,
-    before: &str,
-) -> Result<Lack<A>, AllocError> {
+fn broken_arc<'a>(text: &Text<'a>, at: u32, before: &'static str) -> Lack<'a> {
     match nth_line(text, b"arc", at) {
-        Some(line) => wrong_arc(alloc, &line, before),
-        None => Lack::whole(alloc, WRONG_ARC),
+        Some(line) => wrong_arc(&line, before),
+        None => Lack::whole(WRONG_ARC),
     }
 }
 
 /// The line of such an arc.
-fn wrong_arc<A: Allocator + Copy>(
-    alloc: A,
-    line: &Line<'_>,
-    before: &str,
-) -> Result<Lack<A>, AllocError> {
+fn wrong_arc<'a>(line: &Line<'a>, before: &'static str) -> Lack<'a> {
     match (word_at(line, 1), word_at(line, 2)) {
         (Some(item), Some(target)) => {
-            let what = format_args!(
-                "`{item}` doesn't flush `{target}`, or isn't in the group of the target {before}"
-            );
-            Lack::marked(alloc, line.no(), item.mark, what, "")
+            let what = What::WrongArc(item.quoted(), target.quoted(), before);
+            Lack::marked(line.no(), item.mark, what, Hint::Nothing)
         }
-        _ => Lack::whole(alloc, WRONG_ARC),
+        _ => Lack::whole(WRONG_ARC),
     }
 }

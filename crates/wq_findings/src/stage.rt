@@ -5,7 +5,7 @@
 
 ghost use Rattle.std.specs.Prelude.{None};
 
-use crate::finding::bytes_at;
+use crate::token::bytes_at;
 use std::fmt;
 use wq_text::{Line, Text, number};
 
@@ -22,7 +22,7 @@ pub enum Kind {
 
 /// What the next line should be.
 #[derive(Clone, Copy)]
-pub(crate) enum Stage {
+pub enum Stage {
     /// `plan K`.
     Plan,
     /// `circle N`.

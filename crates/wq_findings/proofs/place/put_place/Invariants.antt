@@ -1,6 +1,6 @@
 use Rattle.std.proofs.Common.{◌≡◌, ◌++◌, take}
-use Rattle.wq_diagnosis.specs.Diagnosis.{place_text}
-use Rattle.wq_diagnosis.proofs.diagnosis.put_place.Given as goal
+use Rattle.wq_findings.specs.Shown.{place_text}
+use Rattle.wq_findings.proofs.place.put_place.Given as goal
 
 -- the numbers so far
 abbrev pub invariant-loop-number : goal.invariant-loop-number

@@ -1,0 +1,242 @@
+//! What is wrong on a line of a certificate that is refused, and what was most likely meant.
+//!
+//! The refusals are those of "Refusals of certificates" in docs/FORMAT.md. Takes time in the length of the text, and where a
+//! name is unknown in the names of the declaration times the length of one.
+
+ghost use Rattle.std.specs.Prelude.{◌≡◌, length};
+
+use crate::finding::Finding;
+use crate::guess::{comment_hint, text_with};
+use crate::hint::Hint;
+use crate::names::nearest;
+use crate::placed::{find_split, find_twice, find_unplaced};
+use crate::quoted::Quoted;
+use crate::stage::{Kind, Shape, Stage, stage_at};
+use crate::token::{Mark, Token, bytes_at, first_mark, line_at, word_at};
+use crate::what::What;
+use std::alloc::{AllocError, Allocator};
+use wq_groups::Groups;
+use wq_items::ItemTable;
+use wq_text::{Line, Text, number};
+
+/// How many bytes a certificate may have.
+const MAX_TEXT: usize = 8_388_608;
+
+/// How many bytes a line of it may have.
+const MAX_LINE: usize = 524_288;
+
+/// How many workqueues an assignment may have.
+const MAX_WORKQUEUES: u32 = 4096;
+
+/// What is wrong in a certificate of this declaration that is refused with this number for this line.
+///
+/// The only error is out of memory (20).
+pub fn in_certificate<'a, A: Allocator + Copy>(
+    alloc: A,
+    kind: Kind,
+    declaration: &Text<'a>,
+    table: &ItemTable<'a, A>,
+    groups: &Groups<A>,
+    text: &Text<'a>,
+    code: u32,
+    no: u32,
+) -> Result<Finding<'a>, AllocError>
+    requires { length groups.now.group_of ≡ length table.now.names }
+{
+    let stage = stage_at(kind, text, no);
+    match line_at(text, no) {
+        Some(line) => on_line(
+            alloc,
+            kind,
+            declaration,
+            table,
+            groups,
+            text,
+            &line,
+            stage,
+            code,
+        ),
+        None if code == 41 => find_unplaced(alloc, kind, table, text),
+        None => Ok(cut_short(text, stage)),
+    }
+}
+
+/// What is wrong on this line of a certificate that is refused with this number for it.
+fn on_line<'a, A: Allocator + Copy>(
+    alloc: A,
+    kind: Kind,
+    declaration: &Text<'a>,
+    table: &ItemTable<'a, A>,
+    groups: &Groups<A>,
+    text: &Text<'a>,
+    line: &Line<'a>,
+    stage: Stage,
+    code: u32,
+) -> Result<Finding<'a>, AllocError>
+    requires { length groups.now.group_of ≡ length table.now.names }
+{
+    match code {
+        41 => find_twice(alloc, kind, table, text, line),
+        42 => find_split(alloc, kind, table, groups, text, line),
+        43 => Ok(out_of_range(line, stage)),
+        _ => wrong_line(alloc, declaration, table, line, stage),
+    }
+}
+
+/// A text that is too long, or ends too early.
+fn cut_short<'a>(text: &Text<'_>, stage: Stage) -> Finding<'a> {
+    if text.bytes().len() > MAX_TEXT {
+        return Finding::whole(What::Said("the text has more than 8,388,608 bytes"));
+    }
+    Finding::whole(What::EndsAt(stage))
+}
+
+/// What is said of the number of a `wq` line that is not the next one.
+fn out_of_order<'a>(next: u32) -> What<'a> {
+    if next < MAX_WORKQUEUES {
+        What::OutOfOrder(next)
+    } else {
+        What::Said("an assignment has at most 4,096 workqueues")
+    }
+}
+
+/// A number that is out of its range.
+fn out_of_range<'a>(line: &Line<'a>, stage: Stage) -> Finding<'a> {
+    let mark = match word_at(line, 1) {
+        Some(word) => word.mark,
+        None => first_mark(line),
+    };
+    let what = match stage {
+        Stage::Workqueue { next, .. } => {
+            let hint = Hint::Said("workqueues are numbered from 0, in order");
+            return Finding::marked(mark, out_of_order(next), hint);
+        }
+        Stage::Plan => "a plan has at most 4,096 workqueues",
+        Stage::Chain => "a chain has at most 4,096 groups",
+        Stage::Circle => "a circle has 1 to 4,096 arcs",
+        _ => "the number of a workqueue is at most 4,095",
+    };
+    Finding::marked(mark, What::Said(what), Hint::Nothing)
+}
+
+/// A line that isn't what should stand there.
+fn wrong_line<'a, A: Allocator + Copy>(
+    alloc: A,
+    declaration: &Text<'a>,
+    table: &ItemTable<'a, A>,
+    line: &Line<'a>,
+    stage: Stage,
+) -> Result<Finding<'a>, AllocError> {
+    let word = bytes_at(line, 0);
+    if line.bytes().len() > MAX_LINE {
+        Ok(Finding::too_long(line, MAX_LINE, "the line has more than 524,288 bytes"))
+    } else if !stage.may_begin_with(word) {
+        Ok(other_line(line, stage))
+    } else {
+        wrong_words(alloc, declaration, table, line, stage, stage.shape(word))
+    }
+}
+
+/// A line with another first word, or behind the last one of the text.
+fn other_line<'a>(line: &Line<'a>, stage: Stage) -> Finding<'a> {
+    let word = bytes_at(line, 0);
+    if stage.may_end() {
+        let what = What::Said("the text should end above this line");
+        return Finding::marked(first_mark(line), what, comment_hint(word));
+    }
+    let hint = match text_with(word) {
+        Some(other) => Hint::LooksLike(other),
+        None => comment_hint(word),
+    };
+    Finding::marked(first_mark(line), What::Other(Quoted(word), stage), hint)
+}
+
+/// Why a word is no number.
+fn number_hint(word: &[u8]) -> &'static str {
+    match word {
+        [b'1'..=b'9', ..] if word.iter().all(|byte| byte.is_ascii_digit()) => {
+            "a number is at most 4,294,967,295"
+        }
+        _ => "a number has digits alone, and none of them is a leading 0",
+    }
+}
+
+/// The word of a line where a number should stand, if it is none.
+fn wrong_number<'a>(line: &Line<'a>, shape: Shape) -> Option<Token<'a>> {
+    match word_at(line, 1) {
+        Some(word) if shape.has_number && number(word.bytes).is_none() => Some(word),
+        _ => None,
+    }
+}
+
+/// The first word of a line that is too much.
+fn surplus_word<'a>(line: &Line<'a>, shape: Shape) -> Option<Token<'a>> {
+    match shape.names {
+        Some(_) => word_at(line, shape.fewest()),
+        None => None,
+    }
+}
+
+/// A line that has another number of words than the one that should stand there, or a word that is no number.
+fn wrong_form<'a>(line: &Line<'a>, stage: Stage, shape: Shape) -> Option<Finding<'a>> {
+    if let Some(word) = wrong_number(line, shape) {
+        let hint = Hint::Said(number_hint(word.bytes));
+        return Some(Finding::marked(word.mark, What::NoNumber(word.quoted()), hint));
+    }
+    if word_at(line, shape.fewest().saturating_sub(1)).is_none() {
+        let what = What::Said("a word is missing");
+        return Some(Finding::marked(Mark::behind(line), what, Hint::Line(stage)));
+    }
+    match surplus_word(line, shape) {
+        Some(word) => {
+            let what = What::Said("here is a word too many");
+            Some(Finding::marked(word.mark, what, Hint::Line(stage)))
+        }
+        None => None,
+    }
+}
+
+/// A line whose first word is right.
+fn wrong_words<'a, A: Allocator + Copy>(
+    alloc: A,
+    declaration: &Text<'a>,
+    table: &ItemTable<'a, A>,
+    line: &Line<'a>,
+    stage: Stage,
+    shape: Shape,
+) -> Result<Finding<'a>, AllocError> {
+    if let Some(finding) = wrong_form(line, stage, shape) {
+        return Ok(finding);
+    }
+    match unknown_name(table, line, shape) {
+        Some(word) => no_item(alloc, declaration, word),
+        None => Ok(Finding::whole(What::Said("the line is refused"))),
+    }
+}
+
+/// The first name of a line that is no item.
+fn unknown_name<'a, A: Allocator + Copy>(
+    table: &ItemTable<'_, A>,
+    line: &Line<'a>,
+    shape: Shape,
+) -> Option<Token<'a>> {
+    for word in line.words().skip(shape.first_name()) {
+        if table.find(word.bytes()).is_none() {
+            return Some(Token::of(line, &word));
+        }
+    }
+    None
+}
+
+/// A word that is the name of no item.
+fn no_item<'a, A: Allocator + Copy>(
+    alloc: A,
+    declaration: &Text<'a>,
+    word: Token<'a>,
+) -> Result<Finding<'a>, AllocError> {
+    let hint = match nearest(alloc, declaration, word.bytes)? {
+        Some(near) => Hint::Near(Quoted(near.name)),
+        None => Hint::Nothing,
+    };
+    Ok(Finding::marked(word.mark, What::NoItem(word.quoted()), hint))
+}

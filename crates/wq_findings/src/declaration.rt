@@ -1,0 +1,274 @@
+//! What is wrong on a line of a declaration that is refused, and what was most likely meant.
+//!
+//! The refusals are those of "Refusals" in docs/FORMAT.md. Takes time in the length of the text, and where a name is unknown in
+//! the names of the text times the length of one.
+
+use crate::finding::Finding;
+use crate::guess::{begins_comment, directive_like, text_with};
+use crate::hint::Hint;
+use crate::names::{Names, declared_on, nearest};
+use crate::quoted::Quoted;
+use crate::token::{Mark, Token, bytes_at, first_mark, line_at, stands_before};
+use crate::what::What;
+use std::alloc::{AllocError, Allocator};
+use wq_text::{Line, Text};
+
+/// How many bytes a line may have.
+const MAX_LINE: usize = 4096;
+
+/// How many bytes a name may have.
+const MAX_NAME: usize = 63;
+
+/// What is wrong in a declaration that is refused with this number for this line.
+///
+/// The only error is out of memory (20).
+pub fn in_declaration<'a, A: Allocator + Copy>(
+    alloc: A,
+    text: &Text<'a>,
+    code: u32,
+    no: u32,
+) -> Result<Finding<'a>, AllocError> {
+    match line_at(text, no) {
+        Some(line) => on_line(alloc, text, &line, code),
+        None => Ok(Finding::whole(What::Said("the declaration has more than 1,048,576 bytes"))),
+    }
+}
+
+/// What is wrong on this line of a declaration that is refused with this number for it.
+fn on_line<'a, A: Allocator + Copy>(
+    alloc: A,
+    text: &Text<'a>,
+    line: &Line<'a>,
+    code: u32,
+) -> Result<Finding<'a>, AllocError> {
+    match code {
+        4 => unknown_word(alloc, line),
+        8 => unknown_item(alloc, text, line),
+        11 => grouped_twice(alloc, text, line),
+        _ => Ok(on_this_line(text, line, code)),
+    }
+}
+
+/// The same of a refusal that takes no memory to explain.
+fn on_this_line<'a>(text: &Text<'a>, line: &Line<'a>, code: u32) -> Finding<'a> {
+    match code {
+        2 => Finding::too_long(line, MAX_LINE, "the line has more than 4,096 bytes"),
+        3 => bad_byte(line),
+        5 => missing_name(line),
+        6 => bad_name(line),
+        7 => item_twice(text, line),
+        9 => at_first_word(line, "there are more than 4,096 items"),
+        10 => at_first_word(line, "with this line there are more than 16,384 flushes"),
+        12 => extra_word(line),
+        _ => Finding::whole(What::Said("the line is refused")),
+    }
+}
+
+/// What is said of a line at its first word.
+fn at_first_word<'a>(line: &Line<'a>, what: &'static str) -> Finding<'a> {
+    Finding::marked(first_mark(line), What::Said(what), Hint::Nothing)
+}
+
+/// Whether a byte may stand before a comment.
+fn may_stand(byte: u8) -> bool {
+    matches!(byte, b'\t' | b' '..=b'~')
+}
+
+/// What a byte that may not stand before a comment most likely is.
+fn byte_hint(line: &Line<'_>, at: usize) -> &'static str {
+    match line.bytes().get(at..) {
+        Some([0xEF, 0xBB, 0xBF, ..]) if at == 0 => "a byte order mark: save the file without it",
+        Some([0xFF, 0xFE, ..] | [0xFE, 0xFF, ..]) if at == 0 =>
+            "this is UTF-16: save the file as ASCII",
+        Some([0, ..]) => "a zero byte: is this a text, and not UTF-16?",
+        Some([b'\r', ..]) => "a carriage return may stand only before a line feed",
+        Some([0x80..=0xFF, ..]) => "beyond ASCII there are only comments",
+        _ => "a control character",
+    }
+}
+
+/// The first byte of a line that may not stand before its comment.
+fn bad_byte<'a>(line: &Line<'a>) -> Finding<'a> {
+    for (at, byte) in line.content().iter().enumerate() {
+        if !may_stand(*byte) {
+            let hint = Hint::Said(byte_hint(line, at));
+            return Finding::marked(Mark { at, len: 1 }, What::BadByte(*byte), hint);
+        }
+    }
+    Finding::whole(What::Said("a byte before the comment is neither TAB nor printable ASCII"))
+}
+
+/// A first word that is no directive.
+fn unknown_word<'a, A: Allocator + Copy>(
+    alloc: A,
+    line: &Line<'a>,
+) -> Result<Finding<'a>, AllocError> {
+    let word = bytes_at(line, 0);
+    let hint = directive_hint(alloc, word)?;
+    let what = What::NoDirective(Quoted(word));
+    Ok(Finding::marked(first_mark(line), what, hint))
+}
+
+/// What a word that is no directive was most likely meant to be.
+fn directive_hint<A: Allocator + Copy>(alloc: A, word: &[u8]) -> Result<Hint<'static>, AllocError> {
+    if begins_comment(word) {
+        return Ok(Hint::COMMENT);
+    }
+    if let Some(text) = text_with(word) {
+        return Ok(Hint::LooksLike(text));
+    }
+    Ok(match directive_like(alloc, word)? {
+        Some(directive) => Hint::Directive(directive),
+        None => Hint::Said("a line begins with `item`, `flush` or `ordered`"),
+    })
+}
+
+/// The form of the lines that begin as this one does.
+fn form_of(line: &Line<'_>) -> &'static str {
+    match bytes_at(line, 0) {
+        b"item" => "item NAME",
+        b"ordered" => "ordered NAME..",
+        _ => "flush NAME TARGET..",
+    }
+}
+
+/// A line that ends where a name should stand.
+fn missing_name<'a>(line: &Line<'a>) -> Finding<'a> {
+    let what = What::Said("a name is missing");
+    Finding::marked(Mark::behind(line), what, Hint::Form(form_of(line)))
+}
+
+/// An `item` line with more than a name.
+fn extra_word<'a>(line: &Line<'a>) -> Finding<'a> {
+    let hint = if begins_comment(bytes_at(line, 2)) {
+        Hint::COMMENT
+    } else {
+        Hint::Said("each item has an `item` line of its own")
+    };
+    Finding::at_word(line, 2, What::Said("an `item` line has one name"), hint)
+}
+
+/// Whether a byte may stand in a name.
+fn is_name_byte(byte: u8) -> bool {
+    byte.is_ascii_alphanumeric() || matches!(byte, b'_' | b'-' | b'.')
+}
+
+/// Whether bytes are a name.
+fn is_name(bytes: &[u8]) -> bool {
+    !bytes.is_empty() && bytes.len() <= MAX_NAME && bytes.iter().all(|byte| is_name_byte(*byte))
+}
+
+/// Why a word is no name.
+fn name_hint(word: &[u8]) -> Hint<'static> {
+    if begins_comment(word) {
+        Hint::COMMENT
+    } else if word.len() > MAX_NAME {
+        Hint::Said("a name has at most 63 bytes")
+    } else if matches!(word, [.., b',' | b';']) {
+        Hint::Said("between names there are blanks alone")
+    } else {
+        Hint::Said("a name has letters, digits, `_`, `-` and `.`")
+    }
+}
+
+/// The first word of a line that should be a name and is none.
+fn bad_name<'a>(line: &Line<'a>) -> Finding<'a> {
+    for word in line.words().skip(1) {
+        if !is_name(word.bytes()) {
+            let word = Token::of(line, &word);
+            return Finding::marked(
+                word.mark,
+                What::NoName(word.quoted()),
+                name_hint(word.bytes),
+            );
+        }
+    }
+    Finding::whole(What::Said("a word of the line is no name"))
+}
+
+/// An item that is declared twice.
+fn item_twice<'a>(text: &Text<'a>, line: &Line<'a>) -> Finding<'a> {
+    let name = bytes_at(line, 1);
+    let hint = match declared_on(text, name) {
+        Some(first) => Hint::FirstOn(first),
+        None => Hint::Nothing,
+    };
+    Finding::at_word(line, 1, What::DeclaredTwice(Quoted(name)), hint)
+}
+
+/// A name that no line above declares.
+fn unknown_item<'a, A: Allocator + Copy>(
+    alloc: A,
+    text: &Text<'a>,
+    line: &Line<'a>,
+) -> Result<Finding<'a>, AllocError> {
+    let items = Names::above(alloc, text, b"item", line.no())?;
+    match not_above(&items, line) {
+        Some(word) => undeclared(alloc, text, word),
+        None => Ok(Finding::whole(What::Said("a name of the line is declared by no line above"))),
+    }
+}
+
+/// The first name of a line that isn't among the items above.
+fn not_above<'a, A: Allocator + Copy>(items: &Names<'a, A>, line: &Line<'a>) -> Option<Token<'a>> {
+    for word in line.words().skip(1) {
+        if items.line_of(word.bytes()).is_none() {
+            return Some(Token::of(line, &word));
+        }
+    }
+    None
+}
+
+/// A word that is the name of no item declared above.
+fn undeclared<'a, A: Allocator + Copy>(
+    alloc: A,
+    text: &Text<'a>,
+    word: Token<'a>,
+) -> Result<Finding<'a>, AllocError> {
+    let hint = undeclared_hint(alloc, text, word.bytes)?;
+    let what = What::NotAbove(Quoted(word.bytes));
+    Ok(Finding::marked(word.mark, what, hint))
+}
+
+/// Where such a name is declared, or which one was most likely meant.
+fn undeclared_hint<'a, A: Allocator + Copy>(
+    alloc: A,
+    text: &Text<'a>,
+    word: &'a [u8],
+) -> Result<Hint<'a>, AllocError> {
+    if let Some(below) = declared_on(text, word) {
+        return Ok(Hint::Below(below));
+    }
+    Ok(match nearest(alloc, text, word)? {
+        Some(item) => Hint::NearOn(Quoted(item.name), item.line),
+        None => Hint::Declare(Quoted(word)),
+    })
+}
+
+/// A name that stands on two `ordered` lines, or twice on one.
+fn grouped_twice<'a, A: Allocator + Copy>(
+    alloc: A,
+    text: &Text<'a>,
+    line: &Line<'a>,
+) -> Result<Finding<'a>, AllocError> {
+    let above = Names::above(alloc, text, b"ordered", line.no())?;
+    Ok(ordered_twice(&above, line))
+}
+
+/// The first name of an `ordered` line that stands on one above, or before on the line.
+fn ordered_twice<'a, A: Allocator + Copy>(above: &Names<'a, A>, line: &Line<'a>) -> Finding<'a> {
+    for word in line.words().skip(1) {
+        let word = Token::of(line, &word);
+        if let Some(first) = above.line_of(word.bytes) {
+            return Finding::marked(
+                word.mark,
+                What::OnTwoLines(word.quoted()),
+                Hint::FirstOn(first),
+            );
+        }
+        if stands_before(line, 1, word) {
+            return Finding::twice_on_line(word);
+        }
+    }
+    Finding::whole(What::Said("a name stands on two `ordered` lines"))
+}

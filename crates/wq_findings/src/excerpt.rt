@@ -1,0 +1,118 @@
+//! The part of a line that is shown, and the marks below it.
+//!
+//! One column for each byte: so the marks stand under the bytes that they mean. Takes time in what is shown.
+
+ghost use Rattle.std.specs.Prelude.{None};
+
+use crate::hint::Hint;
+use crate::quoted::Quoted;
+use crate::token::Mark;
+use std::fmt;
+
+/// How many columns of a line are shown at most.
+const MOST_COLUMNS: usize = 100;
+
+/// How many bytes of a line are shown where it is cut at both ends.
+const CUT_BYTES: usize = 94;
+
+/// How many bytes are shown before those that are meant.
+const BEFORE: usize = 40;
+
+/// What stands for the bytes that are cut off at an end.
+const CUT: &str = "...";
+
+/// How many columns the line and its marks are moved to the right.
+const INDENT: &str = "    ";
+
+/// The part of a line that is shown: the bytes from `start` up to but not including `end`.
+#[derive(Clone, Copy)]
+struct Window {
+    start: usize,
+    end: usize,
+}
+
+impl Window {
+    /// What is shown of a line of so many bytes round a mark.
+    fn round(len: usize, mark: Mark) -> Window {
+        if len <= MOST_COLUMNS {
+            return Window { start: 0, end: len };
+        }
+        let start = mark
+            .at
+            .saturating_sub(BEFORE)
+            .min(len.saturating_sub(CUT_BYTES));
+        let end = start.saturating_add(CUT_BYTES).min(len);
+        Window { start, end }
+    }
+}
+
+/// The part of a line that is shown, moved to the right.
+#[derive(Clone, Copy)]
+pub struct Excerpt<'a> {
+    before: &'static str,
+    bytes: &'a [u8],
+    behind: &'static str,
+}
+
+impl<'a> Excerpt<'a> {
+    /// What is shown of a line round a mark.
+    pub fn of(line: &'a [u8], mark: Mark) -> Excerpt<'a> {
+        let Window { start, end } = Window::round(line.len(), mark);
+        Excerpt {
+            before: if start > 0 { CUT } else { "" },
+            bytes: line.get(start..end).unwrap_or(b""),
+            behind: if end < line.len() { CUT } else { "" },
+        }
+    }
+}
+
+impl fmt::Display for Excerpt<'_> {
+    ghost output = { λ _. None };
+
+    fn fmt<W: fmt::Write>(&self, f: &mut fmt::Formatter<W>) -> fmt::Result {
+        f.write_str(INDENT)?;
+        f.write_str(self.before)?;
+        Quoted(self.bytes).fmt(f)?;
+        f.write_str(self.behind)
+    }
+}
+
+/// The marks below such a part of a line, with the hint behind them: so many columns before the marks, and so many marks.
+#[derive(Clone, Copy)]
+pub struct Marks<'a> {
+    columns: usize,
+    width: usize,
+    hint: Hint<'a>,
+}
+
+impl<'a> Marks<'a> {
+    /// The marks below what is shown of a line of so many bytes; at least one.
+    pub fn of(len: usize, mark: Mark, hint: Hint<'a>) -> Marks<'a> {
+        let Window { start, end } = Window::round(len, mark);
+        let cut = if start > 0 { CUT.len() } else { 0 };
+        Marks {
+            columns: mark.at.saturating_sub(start).saturating_add(cut),
+            width: mark.len.min(end.saturating_sub(mark.at)).max(1),
+            hint,
+        }
+    }
+}
+
+impl fmt::Display for Marks<'_> {
+    ghost output = { λ _. None };
+
+    fn fmt<W: fmt::Write>(&self, f: &mut fmt::Formatter<W>) -> fmt::Result {
+        f.write_str(INDENT)?;
+        for _ in 0..self.columns {
+            f.write_char(' ')?;
+        }
+        for _ in 0..self.width {
+            f.write_char('^')?;
+        }
+        if matches!(self.hint, Hint::Nothing) {
+            return Ok(());
+        }
+        f.write_char(' ')?;
+        self.hint.fmt(f)
+    }
+}

@@ -1,0 +1,66 @@
+//! What is found: the bytes that are meant, what is wrong with them, and a hint.
+//!
+//! Takes constant time.
+
+use crate::hint::Hint;
+use crate::token::{Mark, Token, word_at};
+use crate::what::What;
+use wq_text::Line;
+
+/// What is wrong with which bytes of a line, and what was most likely meant.
+#[derive(Clone, Copy)]
+pub struct Finding<'a> {
+    /// The bytes that are meant; none where no place of a line is.
+    pub mark: Option<Mark>,
+    /// What is wrong.
+    pub what: What<'a>,
+    /// What was most likely meant, or how to mend it.
+    pub hint: Hint<'a>,
+}
+
+impl<'a> Finding<'a> {
+    /// What is wrong with a whole text or a whole line.
+    pub fn whole(what: What<'a>) -> Finding<'a> {
+        Finding {
+            mark: None,
+            what,
+            hint: Hint::Nothing,
+        }
+    }
+
+    /// What is wrong with these bytes, and a hint.
+    pub(crate) fn marked(mark: Mark, what: What<'a>, hint: Hint<'a>) -> Finding<'a> {
+        Finding {
+            mark: Some(mark),
+            what,
+            hint,
+        }
+    }
+
+    /// What is wrong with the word at this place of a line, and a hint.
+    pub(crate) fn at_word(
+        line: &Line<'_>,
+        place: usize,
+        what: What<'a>,
+        hint: Hint<'a>,
+    ) -> Finding<'a> {
+        match word_at(line, place) {
+            Some(word) => Finding::marked(word.mark, what, hint),
+            None => Finding::whole(what),
+        }
+    }
+
+    /// A line that is longer than this limit.
+    pub(crate) fn too_long(line: &Line<'a>, limit: usize, what: &'static str) -> Finding<'a> {
+        let mark = Mark {
+            at: limit,
+            len: line.bytes().len().saturating_sub(limit),
+        };
+        Finding::marked(mark, What::Said(what), Hint::Nothing)
+    }
+
+    /// A word that stands twice on a line.
+    pub(crate) fn twice_on_line(word: Token<'a>) -> Finding<'a> {
+        Finding::marked(word.mark, What::TwiceOnLine(word.quoted()), Hint::Nothing)
+    }
+}

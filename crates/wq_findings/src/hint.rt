@@ -1,0 +1,75 @@
+//! What was most likely meant, or how to mend it, as a message says it.
+//!
+//! Takes time in what is said.
+
+ghost use Rattle.std.specs.Prelude.{None};
+
+use crate::quoted::Quoted;
+use crate::stage::Stage;
+use std::fmt;
+
+/// What was most likely meant, or how to mend it.
+#[derive(Clone, Copy)]
+pub enum Hint<'a> {
+    /// Nothing is known.
+    Nothing,
+    /// What is said in these words of any text.
+    Said(&'static str),
+    /// The form that the line should have.
+    Form(&'static str),
+    /// The line that should stand there.
+    Line(Stage),
+    /// The text that this one looks like.
+    LooksLike(&'static str),
+    /// The directive that was most likely meant.
+    Directive(&'static str),
+    /// The name that was most likely meant.
+    Near(Quoted<'a>),
+    /// The name that was most likely meant, and the line that declares it.
+    NearOn(Quoted<'a>, u32),
+    /// The line below that declares a name.
+    Below(u32),
+    /// A name that should be declared.
+    Declare(Quoted<'a>),
+    /// The line on which a name stands first.
+    FirstOn(u32),
+    /// The line on which a name stands, too.
+    On(u32),
+    /// The line on which the other name stands.
+    OtherOn(u32),
+    /// An item, and the workqueue that it is on.
+    OnWorkqueue(Quoted<'a>, Quoted<'a>),
+}
+
+impl Hint<'_> {
+    /// The hint for a word that begins a comment in another language.
+    pub(crate) const COMMENT: Hint<'static> = Hint::Said("a comment begins with `#`");
+}
+
+impl fmt::Display for Hint<'_> {
+    ghost output = { λ _. None };
+
+    fn fmt<W: fmt::Write>(&self, f: &mut fmt::Formatter<W>) -> fmt::Result {
+        match *self {
+            Hint::Nothing => Ok(()),
+            Hint::Said(said) => f.write_str(said),
+            Hint::Form(form) => write!(f, "the line should be `{form}`"),
+            Hint::Line(stage) => write!(f, "the line should be {stage}"),
+            Hint::LooksLike(text) => write!(
+                f,
+                "this looks like {text}: are the files in the right order?"
+            ),
+            Hint::Directive(word) => write!(f, "did you mean `{word}`?"),
+            Hint::Near(name) => write!(f, "did you mean `{name}`?"),
+            Hint::NearOn(name, line) => write!(f, "did you mean `{name}`, line {line}?"),
+            Hint::Below(line) => write!(f, "it is declared below, on line {line}"),
+            Hint::Declare(name) => write!(f, "write `item {name}` above"),
+            Hint::FirstOn(line) => write!(f, "first on line {line}"),
+            Hint::On(line) => write!(f, "on line {line}"),
+            Hint::OtherOn(line) => write!(f, "the other one on line {line}"),
+            Hint::OnWorkqueue(item, workqueue) => {
+                write!(f, "`{item}` is on workqueue {workqueue}")
+            }
+        }
+    }
+}

@@ -1,0 +1,35 @@
+//! What is found in a text that is refused, or to which the checker says no: which bytes are meant, what is wrong with them, and
+//! what was most likely meant.
+//!
+//! A finding is plain: words of the texts, and numbers. Which word is meant and what was most likely meant is sought in the text,
+//! and promised by nobody, so no call has a clause; what the layer above relies on is that each ends, and that its only error is
+//! out of memory. The rows are those of "Diagnoses" in docs/FORMAT.md. A call takes time in the length of the text, and in the
+//! names of the declaration times the length of one where a name is unknown.
+#![tactic(auto)]
+
+mod certificate;
+mod declaration;
+mod excerpt;
+mod finding;
+mod guess;
+mod hint;
+mod lack;
+mod names;
+mod place;
+mod placed;
+mod quoted;
+mod stage;
+mod token;
+mod what;
+
+pub use certificate::in_certificate;
+pub use declaration::in_declaration;
+pub use excerpt::{Excerpt, Marks};
+pub use finding::Finding;
+pub use hint::Hint;
+pub use lack::{Lack, in_answer};
+pub use place::put_place;
+pub use quoted::{Quoted, shown};
+pub use stage::{Kind, Stage};
+pub use token::{Mark, line_at};
+pub use what::{Unplaced, What};

@@ -1,0 +1,124 @@
+//! Names of a declaration, each with the line that it stands on.
+//!
+//! Reading takes time in the length of the text, and memory in the names. A name is found in time of the names; there are at
+//! most 4,096 above a line that is refused.
+
+use crate::guess::{edits_between, letters};
+use crate::token::{begins_with, bytes_at};
+use std::alloc::{AllocError, Allocator};
+use wq_text::{Line, Text};
+
+/// A name on a line.
+#[derive(Clone, Copy)]
+pub(crate) struct Named<'a> {
+    pub(crate) name: &'a [u8],
+    pub(crate) line: u32,
+}
+
+/// Names in the order in which they stand in a text.
+#[derive(Drop)]
+pub(crate) struct Names<'a, A: Allocator> {
+    names: Vec<Named<'a>, A>,
+}
+
+impl<'a, A: Allocator + Copy> Names<'a, A> {
+    /// The names on the lines of a text that begin with this word, above the line of this number.
+    pub(crate) fn above(
+        alloc: A,
+        text: &Text<'a>,
+        directive: &[u8],
+        no: u32,
+    ) -> Result<Self, AllocError> {
+        let mut names = Names {
+            names: Vec::new(alloc),
+        };
+        names.add_lines(text, directive, no)?;
+        Ok(names)
+    }
+
+    /// Adds the names on such lines of a text.
+    fn add_lines(&mut self, text: &Text<'a>, directive: &[u8], no: u32) -> Result<(), AllocError> {
+        for line in text.lines() {
+            if line.no() < no && begins_with(&line, directive) {
+                self.add(&line)?;
+            }
+        }
+        Ok(())
+    }
+
+    /// Adds the names behind the first word of a line.
+    fn add(&mut self, line: &Line<'a>) -> Result<(), AllocError> {
+        let no = line.no();
+        for word in line.words().skip(1) {
+            self.names.push(Named {
+                name: word.bytes(),
+                line: no,
+            })?;
+        }
+        Ok(())
+    }
+
+    /// The line on which a name first stands.
+    pub(crate) fn line_of(&self, name: &[u8]) -> Option<u32> {
+        for known in &self.names {
+            if known.name == name {
+                return Some(known.line);
+            }
+        }
+        None
+    }
+}
+
+/// The name on a line that declares an item.
+fn item_on<'a>(line: &Line<'a>) -> Option<Named<'a>> {
+    if begins_with(line, b"item") {
+        Some(Named {
+            name: bytes_at(line, 1),
+            line: line.no(),
+        })
+    } else {
+        None
+    }
+}
+
+/// The first line of a declaration that declares this item.
+pub(crate) fn declared_on(text: &Text<'_>, name: &[u8]) -> Option<u32> {
+    for line in text.lines() {
+        if let Some(item) = item_on(&line)
+            && item.name == name
+        {
+            return Some(item.line);
+        }
+    }
+    None
+}
+
+/// The item of a declaration whose name is most like a word, if one is like it.
+pub(crate) fn nearest<'a, A: Allocator + Copy>(
+    alloc: A,
+    text: &Text<'a>,
+    word: &[u8],
+) -> Result<Option<Named<'a>>, AllocError> {
+    let word = letters(alloc, word)?;
+    nearest_to(alloc, text, &word)
+}
+
+/// The same of a word that is shown so.
+fn nearest_to<'a, A: Allocator + Copy>(
+    alloc: A,
+    text: &Text<'a>,
+    word: &str,
+) -> Result<Option<Named<'a>>, AllocError> {
+    let mut nearest = None;
+    let mut least = usize::MAX;
+    for line in text.lines() {
+        if let Some(item) = item_on(&line)
+            && let Some(edits) = edits_between(alloc, word, item.name)?
+            && edits < least
+        {
+            least = edits;
+            nearest = Some(item);
+        }
+    }
+    Ok(nearest)
+}

@@ -1,0 +1,36 @@
+//! The place of a finding in a text, as the first line of a diagnosis has it: the numbers of the line and of the column.
+//!
+//! Takes time and memory in the digits.
+
+ghost use Rattle.std.specs.Prelude.{◌≡◌, ◌++◌, ◌∷◌, OnOk, decimal};
+ghost use Rattle.wq_findings.specs.Shown.{place_text};
+
+use std::alloc::{AllocError, Allocator};
+
+/// Adds the numbers of a place, each behind a colon. The only error is out of memory (20).
+pub fn put_place<A: Allocator + Copy>(
+    alloc: A,
+    out: &mut Vec<u8, A>,
+    place: &[u32],
+) -> Result<(), AllocError>
+    ensures { OnOk result (out.new.items ≡ out.old.items ++ place_text place.now) }
+{
+    for number in place {
+        put_part(alloc, out, *number)?;
+    }
+    Ok(())
+}
+
+/// Adds a number behind a colon.
+fn put_part<A: Allocator + Copy>(
+    alloc: A,
+    out: &mut Vec<u8, A>,
+    number: u32,
+) -> Result<(), AllocError>
+    ensures { OnOk result (out.new.items ≡ out.old.items ++ (58 ∷ decimal number)) }
+{
+    let digits = number.to_string(alloc)?;
+    out.push(b':')?;
+    out.extend_from_slice(digits.as_bytes())?;
+    Ok(())
+}

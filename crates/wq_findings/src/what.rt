@@ -1,0 +1,197 @@
+//! What is wrong, as a message says it.
+//!
+//! Takes time in what is said.
+
+ghost use Rattle.std.specs.Prelude.{None};
+
+use crate::quoted::Quoted;
+use crate::stage::Stage;
+use std::fmt;
+
+/// The digits of hexadecimal numbers.
+const HEX_DIGITS: &[u8] = b"0123456789ABCDEF";
+
+/// What is wrong.
+#[derive(Clone, Copy)]
+pub enum What<'a> {
+    /// What is said in these words of any text.
+    Said(&'static str),
+    /// A byte that may not stand before a comment.
+    BadByte(u8),
+    /// A first word that is no directive.
+    NoDirective(Quoted<'a>),
+    /// A word that should be a name and is none.
+    NoName(Quoted<'a>),
+    /// A word that should be a number and is none.
+    NoNumber(Quoted<'a>),
+    /// The name of an item that is declared twice.
+    DeclaredTwice(Quoted<'a>),
+    /// A name that no line above declares.
+    NotAbove(Quoted<'a>),
+    /// A name that no line declares.
+    NoItem(Quoted<'a>),
+    /// A name that stands on two `ordered` lines.
+    OnTwoLines(Quoted<'a>),
+    /// A word that stands twice on a line.
+    TwiceOnLine(Quoted<'a>),
+    /// The line that should stand where a text ends.
+    EndsAt(Stage),
+    /// A first word, and the line that should stand there.
+    Other(Quoted<'a>, Stage),
+    /// The number of the workqueue that should stand there.
+    OutOfOrder(u32),
+    /// Items that stand on no workqueue.
+    OnNoWorkqueue(Unplaced<'a>),
+    /// A name that stands on a workqueue already.
+    PlacedAlready(Quoted<'a>),
+    /// Two names of one `ordered` line that stand on two workqueues.
+    Split(Quoted<'a>, Quoted<'a>),
+    /// An item that should stand above this target.
+    TooLow(Quoted<'a>, Quoted<'a>),
+    /// The item and the target of an arc, and which arc it should follow.
+    WrongArc(Quoted<'a>, Quoted<'a>, &'static str),
+}
+
+impl fmt::Display for What<'_> {
+    ghost output = { λ _. None };
+
+    fn fmt<W: fmt::Write>(&self, f: &mut fmt::Formatter<W>) -> fmt::Result {
+        match *self {
+            What::Said(said) => f.write_str(said),
+            What::BadByte(byte) => bad_byte(f, byte),
+            What::NoDirective(word) => say(f, "", word, " is no directive"),
+            What::NoName(word) => say(f, "", word, " is no name"),
+            What::NoNumber(word) => say(f, "", word, " is no number"),
+            What::DeclaredTwice(name) => say(f, "the item ", name, " is declared twice"),
+            What::NotAbove(name) => say(f, "no item ", name, " is declared above this line"),
+            What::NoItem(name) => say(f, "no item ", name, " is declared"),
+            What::OnTwoLines(name) => say(f, "", name, " stands on two `ordered` lines"),
+            What::TwiceOnLine(word) => say(f, "", word, " stands twice on this line"),
+            What::EndsAt(stage) => write!(f, "the text ends where {stage} should stand"),
+            What::Other(word, stage) => write!(f, "`{word}` stands where {stage} should"),
+            What::OutOfOrder(next) => write!(f, "`wq {next}` should stand here"),
+            What::OnNoWorkqueue(items) => items.fmt(f),
+            What::PlacedAlready(name) => say(f, "", name, " stands on a workqueue already"),
+            What::Split(name, other) => split(f, name, other),
+            What::TooLow(item, target) => too_low(f, item, target),
+            What::WrongArc(item, target, before) => wrong_arc(f, item, target, before),
+        }
+    }
+}
+
+/// Writes a word between what stands before and behind it.
+fn say<W: fmt::Write>(
+    f: &mut fmt::Formatter<W>,
+    before: &str,
+    word: Quoted<'_>,
+    behind: &str,
+) -> fmt::Result {
+    write!(f, "{before}`{word}`{behind}")
+}
+
+/// Writes what is said of a byte.
+fn bad_byte<W: fmt::Write>(f: &mut fmt::Formatter<W>, byte: u8) -> fmt::Result {
+    f.write_str("the byte 0x")?;
+    f.write_char(hex_digit(byte >> 4))?;
+    f.write_char(hex_digit(byte & 15))?;
+    f.write_str(" is neither TAB nor printable ASCII")
+}
+
+/// The hexadecimal digit of a number below 16.
+fn hex_digit(number: u8) -> char {
+    match HEX_DIGITS.get(usize::from(number)) {
+        Some(digit) => char::from(*digit),
+        None => '?',
+    }
+}
+
+/// Writes what is said of a group that is split.
+fn split<W: fmt::Write>(
+    f: &mut fmt::Formatter<W>,
+    name: Quoted<'_>,
+    other: Quoted<'_>,
+) -> fmt::Result {
+    say(f, "", name, " and ")?;
+    say(
+        f,
+        "",
+        other,
+        " are on one `ordered` line, and on two workqueues",
+    )
+}
+
+/// Writes what is said of an item that should stand above its target.
+fn too_low<W: fmt::Write>(
+    f: &mut fmt::Formatter<W>,
+    item: Quoted<'_>,
+    target: Quoted<'_>,
+) -> fmt::Result {
+    say(f, "", item, " flushes ")?;
+    say(f, "", target, ", so it should stand on a higher workqueue")
+}
+
+/// Writes what is said of an arc.
+fn wrong_arc<W: fmt::Write>(
+    f: &mut fmt::Formatter<W>,
+    item: Quoted<'_>,
+    target: Quoted<'_>,
+    before: &str,
+) -> fmt::Result {
+    say(f, "", item, " doesn't flush ")?;
+    say(f, "", target, ", or isn't in the group of the target ")?;
+    f.write_str(before)
+}
+
+/// Items that stand on no workqueue: how many, and the names of the first three.
+#[derive(Clone, Copy)]
+pub struct Unplaced<'a> {
+    count: usize,
+    first: Quoted<'a>,
+    second: Quoted<'a>,
+    third: Quoted<'a>,
+}
+
+impl<'a> Unplaced<'a> {
+    /// No item.
+    pub(crate) fn none() -> Unplaced<'a> {
+        Unplaced {
+            count: 0,
+            first: Quoted(b""),
+            second: Quoted(b""),
+            third: Quoted(b""),
+        }
+    }
+
+    /// Adds an item behind the others.
+    pub(crate) fn add(&mut self, name: Quoted<'a>) {
+        match self.count {
+            0 => self.first = name,
+            1 => self.second = name,
+            2 => self.third = name,
+            _ => {}
+        }
+        self.count = self.count.saturating_add(1);
+    }
+}
+
+impl fmt::Display for Unplaced<'_> {
+    ghost output = { λ _. None };
+
+    fn fmt<W: fmt::Write>(&self, f: &mut fmt::Formatter<W>) -> fmt::Result {
+        say(f, "", self.first, "")?;
+        if self.count > 1 {
+            say(f, ", ", self.second, "")?;
+        }
+        if self.count > 2 {
+            say(f, ", ", self.third, "")?;
+        }
+        if self.count > 3 {
+            write!(f, " and {} more", self.count.saturating_sub(3))?;
+        }
+        f.write_str(if self.count == 1 {
+            " stands on no workqueue"
+        } else {
+            " stand on no workqueue"
+        })
+    }
+}
