@@ -26,10 +26,10 @@ pub struct Lack<'a> {
 
 impl<'a> Lack<'a> {
     /// What a whole certificate lacks.
-    fn whole(what: &'static str) -> Lack<'a> {
+    fn whole(what: What<'a>) -> Lack<'a> {
         Lack {
             line: 0,
-            finding: Finding::whole(What::Said(what)),
+            finding: Finding::whole(what),
         }
     }
 
@@ -121,7 +121,9 @@ fn not_falling<'a, A: Allocator + Copy>(
 ) -> Lack<'a> {
     match (place_of(table, text, item), place_of(table, text, target)) {
         (Some(item), Some(target)) => too_low(item, target),
-        _ => Lack::whole("an item doesn't stand on a higher workqueue than all that it flushes"),
+        _ => Lack::whole(What::Said(
+            "an item doesn't stand on a higher workqueue than all that it flushes",
+        )),
     }
 }
 
@@ -152,7 +154,7 @@ fn nth_line<'a>(text: &Text<'a>, first: &[u8], number: u32) -> Option<Line<'a>> 
 fn counted<'a>(text: &Text<'a>, first: &[u8], what: &'static str) -> Lack<'a> {
     match nth_line(text, first, 1) {
         Some(line) => wrong_number(&line, what),
-        None => Lack::whole(what),
+        None => Lack::whole(What::Said(what)),
     }
 }
 
@@ -160,7 +162,7 @@ fn counted<'a>(text: &Text<'a>, first: &[u8], what: &'static str) -> Lack<'a> {
 fn wrong_number<'a>(line: &Line<'a>, what: &'static str) -> Lack<'a> {
     match word_at(line, 1) {
         Some(word) => Lack::marked(line.no(), word.mark, What::Said(what), Hint::Nothing),
-        None => Lack::whole(what),
+        None => Lack::whole(What::Said(what)),
     }
 }
 
@@ -168,7 +170,7 @@ fn wrong_number<'a>(line: &Line<'a>, what: &'static str) -> Lack<'a> {
 fn broken_arc<'a>(text: &Text<'a>, at: u32, before: &'static str) -> Lack<'a> {
     match nth_line(text, b"arc", at) {
         Some(line) => wrong_arc(&line, before),
-        None => Lack::whole(WRONG_ARC),
+        None => Lack::whole(What::Said(WRONG_ARC)),
     }
 }
 
@@ -179,6 +181,6 @@ fn wrong_arc<'a>(line: &Line<'a>, before: &'static str) -> Lack<'a> {
             let what = What::WrongArc(item.quoted(), target.quoted(), before);
             Lack::marked(line.no(), item.mark, what, Hint::Nothing)
         }
-        _ => Lack::whole(WRONG_ARC),
+        _ => Lack::whole(What::Said(WRONG_ARC)),
     }
 }
