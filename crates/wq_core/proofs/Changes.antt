@@ -7,7 +7,7 @@ use Rattle.std.proofs.lemmas.Option.{slice_get_within, get_or_from_slice_get}
 use Rattle.wq_items.specs.declared.target.Target.{Target}
 use Rattle.wq_core.specs.declared.step.Step.{Step}
 use Rattle.wq_core.specs.declared.step.Step.TheVariants.{Queue, Cancel, Start, Wait, Over, Finish}
-use Rattle.wq_core.specs.Wiring.{IsWiring, Wiring, items, lane_of}
+use Rattle.wq_core.specs.Wiring.{lane_of}
 use Rattle.wq_core.specs.State.{Lane, State, idle_lane, lane_at, with_lane}
 use Rattle.wq_core.specs.Rules.{Lawful, effect, with_queued, with_cancelled, with_started, with_wait, with_over, with_finished}
 use Rattle.wq_core.specs.Held.{HeldLane, Machine, machine_of, HasRoom, IsNumbering, IsRising, IsHeld, IsMachine, IsNumberOf, UsesUp, machine_after, IsDone}

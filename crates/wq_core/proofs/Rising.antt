@@ -1,9 +1,9 @@
 -- Entries of a lane, whose numbers rise: after a step, and where one of them is taken out.
-use Rattle.std.proofs.Common.{◌≡◌, ◌≢◌, ℕ, zero, suc, ◌<◌, ◌≤◌, inl, inr, Bool, true, false, not, eqb, ltb, List, [], ◌∷◌, length, get_or, drop, refl, sym, ap, subst, ◌∙◌, arith}
+use Rattle.std.proofs.Common.{◌≡◌, ◌≢◌, ℕ, zero, suc, ◌<◌, ◌≤◌, inl, inr, true, false, not, eqb, ltb, List, [], ◌∷◌, length, get_or, drop, refl, sym, ap, subst, ◌∙◌, arith}
 use Rattle.std.specs.Prelude.{AllPairs, Contains, remove}
 use Rattle.std.specs.List.{All, filter}
 use Rattle.std.specs.List.Sorted.{IsPartitionPoint, IsNonDecreasingBy}
-use Rattle.std.proofs.lemmas.Bool.{cases_lt, cases_eq, cond-true, cond-false, eq-eqb, ne_eqb}
+use Rattle.std.proofs.lemmas.Bool.{cases_lt, cond-true, cond-false, eq-eqb, ne_eqb}
 use Rattle.std.proofs.lemmas.List.Elements.{All-head, All-tail, Contains-get_or}
 use Rattle.std.proofs.lemmas.List.Quantifiers.{all_pairs_push}
 use Rattle.std.proofs.lemmas.List.Kept.{AllPairs-filter}
@@ -14,7 +14,7 @@ use Rattle.wq_core.specs.declared.step.Step.{Step}
 use Rattle.wq_core.specs.declared.step.Step.TheVariants.{Queue, Cancel, Start, Wait, Over, Finish}
 use Rattle.wq_core.specs.Wiring.{Wiring, lane_of}
 use Rattle.wq_core.specs.State.{Lane, State, lane_at, with_lane}
-use Rattle.wq_core.specs.Rules.{Lawful, effect, with_queued, with_cancelled, with_started, with_wait, with_over, with_finished}
+use Rattle.wq_core.specs.Rules.{effect, with_queued, with_cancelled, with_started, with_wait, with_over, with_finished}
 use Rattle.wq_core.specs.Held.{IsSoundState, IsRising}
 use Rattle.wq_core.proofs.LaneLemmas.{cases_with_lane, AllPairs-nil}
 use Rattle.wq_core.proofs.Sound.{Differ}

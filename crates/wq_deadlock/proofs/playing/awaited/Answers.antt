@@ -1,4 +1,4 @@
-use Rattle.std.proofs.Common.{sym, ◌∙◌}
+use Rattle.std.proofs.Common.{sym}
 use Rattle.wq_core.proofs.LawfulSteps.{waiting-target}
 use Rattle.wq_deadlock.proofs.playing.awaited.Goals as goal
 

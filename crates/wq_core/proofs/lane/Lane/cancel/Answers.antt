@@ -1,4 +1,4 @@
-use Rattle.std.proofs.Common.{◌≡◌, ltb, List, length, sym, subst, ap, ◌∙◌, rules, arith}
+use Rattle.std.proofs.Common.{◌≡◌, ltb, List, sym, subst, ap, ◌∙◌, rules}
 use Rattle.std.specs.Prelude.{AllPairs, Contains, remove}
 use Rattle.std.proofs.lemmas.List.Sorted.{IsPartitionPoint-from_clause, IsPartitionedBy-ltb}
 use Rattle.wq_core.specs.declared.entry.Entry.{Entry}
