@@ -31,6 +31,9 @@ fn answer_new(
     }
 }
 
+/// The seed of the hashes of names. No answer depends on it.
+const SEED: u64 = 0;
+
 /// Answers what is asked of the items of a table, in these groups, under an assignment.
 fn answer_assigned(
     alloc: Global,
@@ -78,7 +81,7 @@ pub(crate) fn answer(
     text: &[u8],
     out: &mut String,
 ) -> Result<u8, AllocError> {
-    match read_declaration(alloc, declared) {
+    match read_declaration(alloc, SEED, declared) {
         Ok(d) => answer_declared(alloc, task, &d.table, &d.groups, assigned, text, out),
         Err(Stop::Refused { code, line }) => refuse(out, code, line),
         Err(Stop::OutOfMemory) => Err(AllocError),

@@ -27,6 +27,7 @@ use wq_meter::{Fault, Metered, read_text};
 /// written, and after the others nothing.
 pub fn circles_cmd<D: Read, S: Read, W: Write, A: Allocator + Copy>(
     alloc: A,
+    seed: u64,
     declaration: &mut Metered<D>,
     assignment: &mut Metered<S>,
     writer: &mut Metered<W>,
@@ -67,7 +68,7 @@ pub fn circles_cmd<D: Read, S: Read, W: Write, A: Allocator + Copy>(
     ensures no_write_failed { result ≢ Err Fault.Write → writer.new.failures ≡ writer.old.failures }
 {
     let (text, lanes) = read_two(alloc, declaration, assignment)?;
-    let answer = circle(alloc, &text, &lanes);
+    let answer = circle(alloc, seed, &text, &lanes);
     write_answer(writer, answer)
 }
 
@@ -79,6 +80,7 @@ pub fn circles_cmd<D: Read, S: Read, W: Write, A: Allocator + Copy>(
 /// written, and after the others nothing.
 pub fn own_circles_cmd<D: Read, W: Write, A: Allocator + Copy>(
     alloc: A,
+    seed: u64,
     declaration: &mut Metered<D>,
     writer: &mut Metered<W>,
 ) -> Result<End, Fault>
@@ -108,6 +110,6 @@ pub fn own_circles_cmd<D: Read, W: Write, A: Allocator + Copy>(
     ensures no_write_failed { result ≢ Err Fault.Write → writer.new.failures ≡ writer.old.failures }
 {
     let text = read_text(alloc, declaration, MAX_DECLARATION)?;
-    let answer = circle_own(alloc, &text);
+    let answer = circle_own(alloc, seed, &text);
     write_answer(writer, answer)
 }

@@ -99,12 +99,13 @@ fn circle_groups<A: Allocator + Copy>(
 /// How a run of the program ends that is given the texts of a declaration and an assignment, and what it prints.
 pub(crate) fn circle<A: Allocator + Copy>(
     alloc: A,
+    seed: u64,
     text: &[u8],
     assigned: &[u8],
 ) -> Result<(End, Vec<u8, A>), AllocError>
     ensures { IfOk result (λ printed. Circles text.now assigned.now printed.0 printed.1.items) }
 {
-    match read_declaration(alloc, text) {
+    match read_declaration(alloc, seed, text) {
         Ok(declared) => {
             let answer = circle_declared(alloc, &declared.table, &declared.groups, assigned);
             drop(declared);
@@ -118,11 +119,12 @@ pub(crate) fn circle<A: Allocator + Copy>(
 /// How a run of the program ends that is given the text of a declaration alone, and what it prints.
 pub(crate) fn circle_own<A: Allocator + Copy>(
     alloc: A,
+    seed: u64,
     text: &[u8],
 ) -> Result<(End, Vec<u8, A>), AllocError>
     ensures { IfOk result (λ printed. OwnCircles text.now printed.0 printed.1.items) }
 {
-    match read_declaration(alloc, text) {
+    match read_declaration(alloc, seed, text) {
         Ok(declared) => {
             let answer = circle_groups(alloc, &declared.table, &declared.groups);
             drop(declared);

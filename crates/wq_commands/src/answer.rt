@@ -117,11 +117,12 @@ fn answer_declared<A: Allocator + Copy>(
 /// How a run ends that is given this text, and what it prints.
 pub(crate) fn answer<A: Allocator + Copy>(
     alloc: A,
+    seed: u64,
     text: &[u8],
 ) -> Result<(End, Vec<u8, A>), AllocError>
     ensures { IfOk result (λ answer. Answers text.now answer.0 answer.1.items) }
 {
-    match read_declaration(alloc, text) {
+    match read_declaration(alloc, seed, text) {
         Ok(declared) => {
             let answer = answer_declared(alloc, &declared.table, &declared.groups);
             // Said as a call, so that the proof has one step for it.

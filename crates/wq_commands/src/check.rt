@@ -28,6 +28,7 @@ use wq_meter::{Fault, Metered};
 /// answer is written, and after the others nothing.
 pub fn check_cmd<D: Read, C: Read, W: Write, A: Allocator + Copy>(
     alloc: A,
+    seed: u64,
     declaration: &mut Metered<D>,
     certificate: &mut Metered<C>,
     writer: &mut Metered<W>,
@@ -69,6 +70,6 @@ pub fn check_cmd<D: Read, C: Read, W: Write, A: Allocator + Copy>(
     ensures no_write_failed { result ≢ Err Fault.Write → writer.new.failures ≡ writer.old.failures }
 {
     let (text, claim) = read_two(alloc, declaration, certificate)?;
-    let answer = check(alloc, &text, &claim);
+    let answer = check(alloc, seed, &text, &claim);
     write_answer(writer, answer)
 }

@@ -178,12 +178,13 @@ fn check_declared<A: Allocator + Copy>(
 /// How a run ends that is given a declaration and a certificate, and what it prints.
 pub(crate) fn check<A: Allocator + Copy>(
     alloc: A,
+    seed: u64,
     text: &[u8],
     certificate: &[u8],
 ) -> Result<(End, Vec<u8, A>), AllocError>
     ensures { IfOk result (λ printed. Checks text.now certificate.now printed.0 printed.1.items) }
 {
-    match read_declaration(alloc, text) {
+    match read_declaration(alloc, seed, text) {
         Ok(declared) => {
             let answer = check_declared(alloc, &declared.table, &declared.groups, certificate);
             drop(declared);

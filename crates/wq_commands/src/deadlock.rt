@@ -28,6 +28,7 @@ use wq_meter::{Fault, Metered};
 /// written, and after the others nothing.
 pub fn deadlock_cmd<D: Read, S: Read, W: Write, A: Allocator + Copy>(
     alloc: A,
+    seed: u64,
     declaration: &mut Metered<D>,
     assignment: &mut Metered<S>,
     writer: &mut Metered<W>,
@@ -61,6 +62,6 @@ pub fn deadlock_cmd<D: Read, S: Read, W: Write, A: Allocator + Copy>(
     ensures no_write_failed { result ≢ Err Fault.Write → writer.new.failures ≡ writer.old.failures }
 {
     let (text, lanes) = read_two(alloc, declaration, assignment)?;
-    let answer = judge(alloc, &text, &lanes);
+    let answer = judge(alloc, seed, &text, &lanes);
     write_answer(writer, answer)
 }

@@ -89,12 +89,13 @@ impl From<GroupError> for Stop {
     }
 }
 
-/// What a text declares.
+/// What a text declares. The names are hashed with this seed, on which no answer depends.
 ///
 /// The answer is the first fault of the first pass that has one, or `OutOfMemory` where a growth was refused before
 /// it: then no earlier pass has a fault.
 pub fn read_declaration<A: Allocator + Copy>(
     alloc: A,
+    seed: u64,
     text: &[u8],
 ) -> Result<Declaration<'_, A>, Stop>
     ensures declaration { IfOk result (λ d. declaration text.now ≡ Ok (record { table = d.table; partition = d.groups })) }
@@ -106,7 +107,7 @@ pub fn read_declaration<A: Allocator + Copy>(
 {
     let text = Text::new(text, MAX_DECLARATION, MAX_DECLARATION_LINE)?;
     let view = DeclView::new(text)?;
-    let table = ItemTable::read(alloc, &view)?;
+    let table = ItemTable::read_seeded(alloc, seed, &view)?;
     let groups = Groups::read(alloc, &view, &table)?;
     Ok(Declaration { table, groups })
 }

@@ -119,12 +119,13 @@ fn judge_declared<A: Allocator + Copy>(
 /// How a run of the program ends that is given the texts of a declaration and an assignment, and what it prints.
 pub(crate) fn judge<A: Allocator + Copy>(
     alloc: A,
+    seed: u64,
     text: &[u8],
     assigned: &[u8],
 ) -> Result<(End, Vec<u8, A>), AllocError>
     ensures { IfOk result (λ printed. Judges text.now assigned.now printed.0 printed.1.items) }
 {
-    match read_declaration(alloc, text) {
+    match read_declaration(alloc, seed, text) {
         Ok(declared) => {
             let answer = judge_declared(alloc, &declared.table, &declared.groups, assigned);
             drop(declared);

@@ -24,6 +24,7 @@ use wq_meter::{Fault, Metered, read_text};
 /// is written, and after the others nothing.
 pub fn plan_cmd<R: Read, W: Write, A: Allocator + Copy>(
     alloc: A,
+    seed: u64,
     reader: &mut Metered<R>,
     writer: &mut Metered<W>,
 ) -> Result<End, Fault>
@@ -56,6 +57,6 @@ pub fn plan_cmd<R: Read, W: Write, A: Allocator + Copy>(
     ensures no_write_failed { result ≢ Err Fault.Write → writer.new.failures ≡ writer.old.failures }
 {
     let text = read_text(alloc, reader, MAX_DECLARATION)?;
-    let answer = answer(alloc, &text);
+    let answer = answer(alloc, seed, &text);
     write_answer(writer, answer)
 }

@@ -29,6 +29,7 @@ use wq_meter::{Fault, Metered};
 /// written, and after the others nothing.
 pub fn replay_cmd<D: Read, S: Read, R: Read, W: Write, A: Allocator + Copy>(
     alloc: A,
+    seed: u64,
     declaration: &mut Metered<D>,
     assignment: &mut Metered<S>,
     run: &mut Metered<R>,
@@ -69,6 +70,6 @@ pub fn replay_cmd<D: Read, S: Read, R: Read, W: Write, A: Allocator + Copy>(
     ensures no_write_failed { result ≢ Err Fault.Write → writer.new.failures ≡ writer.old.failures }
 {
     let (text, lanes, steps) = read_three(alloc, declaration, assignment, run)?;
-    let answer = replay(alloc, &text, &lanes, &steps);
+    let answer = replay(alloc, seed, &text, &lanes, &steps);
     write_answer(writer, answer)
 }

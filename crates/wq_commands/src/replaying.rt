@@ -133,13 +133,14 @@ fn replay_declared<A: Allocator + Copy>(
 /// How a run of the program ends that is given the texts of a declaration, an assignment and a run, and what it prints.
 pub(crate) fn replay<A: Allocator + Copy>(
     alloc: A,
+    seed: u64,
     text: &[u8],
     assigned: &[u8],
     run: &[u8],
 ) -> Result<(End, Vec<u8, A>), AllocError>
     ensures { IfOk result (λ printed. Replays text.now assigned.now run.now printed.0 printed.1.items) }
 {
-    match read_declaration(alloc, text) {
+    match read_declaration(alloc, seed, text) {
         Ok(declared) => {
             let answer = replay_declared(alloc, &declared.table, &declared.groups, assigned, run);
             drop(declared);

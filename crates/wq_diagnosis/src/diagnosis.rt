@@ -287,11 +287,12 @@ fn of_refused<A: Allocator + Copy>(
 /// The only error is out of memory (20).
 pub fn of_declaration<A: Allocator + Copy>(
     alloc: A,
+    seed: u64,
     declaration: Source<'_>,
 ) -> Result<Option<Vec<u8, A>>, AllocError>
     ensures { IfOk result (λ said. Diagnoses declaration.entry.file.now (declaration_refusal declaration.entry.text.now) (option_map (λ text. text.items) said)) }
 {
-    match read_declaration(alloc, declaration.text) {
+    match read_declaration(alloc, seed, declaration.text) {
         Ok(_) => Ok(None),
         Err(Stop::Refused { code, line }) => {
             let said = of_refused(alloc, declaration, Refusal::new(code, line))?;
@@ -381,13 +382,14 @@ fn of_certificate_for<A: Allocator + Copy>(
 /// The only error is out of memory (20).
 pub fn of_certificate<A: Allocator + Copy>(
     alloc: A,
+    seed: u64,
     kind: Kind,
     declaration: &[u8],
     certificate: Source<'_>,
 ) -> Result<Option<Vec<u8, A>>, AllocError>
     ensures { IfOk result (λ said. Diagnoses certificate.entry.file.now (refusal_with kind declaration.now certificate.entry.text.now) (option_map (λ text. text.items) said)) }
 {
-    match read_declaration(alloc, declaration) {
+    match read_declaration(alloc, seed, declaration) {
         Ok(declared) => of_certificate_for(alloc, kind, &declared, declaration, certificate),
         Err(Stop::Refused { .. }) => Ok(None),
         Err(Stop::OutOfMemory) => Err(AllocError),
@@ -474,12 +476,13 @@ fn of_no_for<A: Allocator + Copy>(
 /// The only error is out of memory (20).
 pub fn of_no<A: Allocator + Copy>(
     alloc: A,
+    seed: u64,
     declaration: &[u8],
     certificate: Source<'_>,
 ) -> Result<Option<Vec<u8, A>>, AllocError>
     ensures { IfOk result (λ said. DiagnosesNo certificate.entry.file.now declaration.now certificate.entry.text.now (option_map (λ text. text.items) said)) }
 {
-    match read_declaration(alloc, declaration) {
+    match read_declaration(alloc, seed, declaration) {
         Ok(declared) => of_no_for(alloc, &declared, certificate),
         Err(Stop::Refused { .. }) => Ok(None),
         Err(Stop::OutOfMemory) => Err(AllocError),

@@ -27,6 +27,7 @@ use wq_meter::{Fault, Metered, read_text};
 /// written, and after the others nothing.
 pub fn dot_cmd<D: Read, S: Read, W: Write, A: Allocator + Copy>(
     alloc: A,
+    seed: u64,
     declaration: &mut Metered<D>,
     assignment: &mut Metered<S>,
     writer: &mut Metered<W>,
@@ -60,7 +61,7 @@ pub fn dot_cmd<D: Read, S: Read, W: Write, A: Allocator + Copy>(
     ensures no_write_failed { result ≢ Err Fault.Write → writer.new.failures ≡ writer.old.failures }
 {
     let (text, lanes) = read_two(alloc, declaration, assignment)?;
-    let answer = draw(alloc, &text, &lanes);
+    let answer = draw(alloc, seed, &text, &lanes);
     write_answer(writer, answer)
 }
 
@@ -73,6 +74,7 @@ pub fn dot_cmd<D: Read, S: Read, W: Write, A: Allocator + Copy>(
 /// written, and after the others nothing.
 pub fn own_dot_cmd<D: Read, W: Write, A: Allocator + Copy>(
     alloc: A,
+    seed: u64,
     declaration: &mut Metered<D>,
     writer: &mut Metered<W>,
 ) -> Result<End, Fault>
@@ -98,6 +100,6 @@ pub fn own_dot_cmd<D: Read, W: Write, A: Allocator + Copy>(
     ensures no_write_failed { result ≢ Err Fault.Write → writer.new.failures ≡ writer.old.failures }
 {
     let text = read_text(alloc, declaration, MAX_DECLARATION)?;
-    let answer = draw_own(alloc, &text);
+    let answer = draw_own(alloc, seed, &text);
     write_answer(writer, answer)
 }

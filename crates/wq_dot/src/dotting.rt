@@ -228,12 +228,13 @@ fn draw_declared<A: Allocator + Copy>(
 /// How a run of the program ends that is given the texts of a declaration and an assignment, and what it prints.
 pub(crate) fn draw<A: Allocator + Copy>(
     alloc: A,
+    seed: u64,
     text: &[u8],
     assigned: &[u8],
 ) -> Result<(End, Vec<u8, A>), AllocError>
     ensures { IfOk result (λ printed. Draws text.now assigned.now printed.0 printed.1.items) }
 {
-    match read_declaration(alloc, text) {
+    match read_declaration(alloc, seed, text) {
         Ok(declared) => {
             let answer = draw_declared(alloc, &declared.table, &declared.groups, assigned);
             drop(declared);
@@ -247,11 +248,12 @@ pub(crate) fn draw<A: Allocator + Copy>(
 /// How a run of the program ends that is given the text of a declaration alone, and what it prints.
 pub(crate) fn draw_own<A: Allocator + Copy>(
     alloc: A,
+    seed: u64,
     text: &[u8],
 ) -> Result<(End, Vec<u8, A>), AllocError>
     ensures { IfOk result (λ printed. OwnDraws text.now printed.0 printed.1.items) }
 {
-    match read_declaration(alloc, text) {
+    match read_declaration(alloc, seed, text) {
         Ok(declared) => {
             let answer = draw_unassigned(alloc, &declared.table, &declared.groups);
             drop(declared);

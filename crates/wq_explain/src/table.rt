@@ -464,8 +464,9 @@ const READ: Explanation = (
     "read",
     "read fault\n",
     "\
-`fault read`, with status 3: a file couldn't be opened, or a read of it or of
-standard input failed. Nothing was printed to standard output.
+`fault read`, with status 3: a file couldn't be opened, a read of it or of
+standard input failed, or the system gave no random number. Nothing was printed
+to standard output.
 
 The rule: docs/FORMAT.md, \"Faults and exit statuses\"
 

@@ -39,6 +39,9 @@ flush send log        # rdisk_send: wait_for_completion, ended by rdisk_log
 flush reconnect send  # rdisk_reconnect: flush_work
 ";
 
+/// The seed with which names are hashed. No answer depends on it.
+const SEED: u64 = 0;
+
 /// Room for the history.
 const ROWS: u32 = 4_096;
 
@@ -208,6 +211,8 @@ fn run_declared<R: Threads + Wait + Sync + Print + AllocGlobal>(
 }
 
 fn main(rt: HostRuntime) -> Result<()> {
-    let declared = read_declaration(rt.alloc(), DECLARATION).map_err(|stop| anyhow!("{stop:?}"))?;
+    let declared = read_declaration(rt.alloc(), SEED, DECLARATION).map_err(|stop| anyhow!(
+        "{stop:?}"
+    ))?;
     run_declared(&rt, &declared)
 }

@@ -33,6 +33,7 @@ use wq_commands::{End, MAX_DECLARATION, Metered, read_text};
 pub fn run_cmd<R: Threads + Wait + Sync, D: Read, W: Write, A: Allocator + Copy + Send + Sync>(
     rt: &R,
     alloc: A,
+    seed: u64,
     declaration: &mut Metered<D>,
     writer: &mut Metered<W>,
 ) -> Result<End, CommandFault>
@@ -60,6 +61,6 @@ pub fn run_cmd<R: Threads + Wait + Sync, D: Read, W: Write, A: Allocator + Copy 
     ensures no_write_failed { result ≢ Err (Common WriteFault) → writer.new.failures ≡ writer.old.failures }
 {
     let text = read_text(alloc, declaration, MAX_DECLARATION)?;
-    let answer = answer(rt, alloc, &text);
+    let answer = answer(rt, alloc, seed, &text);
     write_answer(writer, answer)
 }

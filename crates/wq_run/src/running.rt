@@ -177,12 +177,13 @@ fn run_declared<A: Allocator + Copy + Send + Sync, R: Threads + Wait + Sync>(
 pub(crate) fn answer<A: Allocator + Copy + Send + Sync, R: Threads + Wait + Sync>(
     rt: &R,
     alloc: A,
+    seed: u64,
     text: &[u8],
 ) -> Result<(End, Vec<u8, A>), RunStop>
     ensures ran { IfOk result (λ printed. Runs text.now printed.0 printed.1.items) }
     ensures stopped { IfErr result (Stops (IsRunnable text.now)) }
 {
-    match read_declaration(alloc, text) {
+    match read_declaration(alloc, seed, text) {
         Ok(declared) => {
             let answer = run_declared(rt, alloc, &declared.table, &declared.groups);
             // Said as a call, so that the proof has one step for it.

@@ -20,6 +20,9 @@ use wq_commands::{Stop, read_declaration};
 use wq_groups::{Assignment, Groups};
 use wq_items::ItemTable;
 
+/// The seed of the hashes of names. No answer depends on it.
+const SEED: u64 = 0;
+
 /// What is asked of a declaration and an assignment.
 #[derive(Clone, Copy)]
 pub(crate) enum Job<'a> {
@@ -165,7 +168,7 @@ pub(crate) fn answer<R: Threads + Wait + Sync>(
     assigned: &[u8],
     out: &mut String,
 ) -> Result<u8, AllocError> {
-    match read_declaration(alloc, declared) {
+    match read_declaration(alloc, SEED, declared) {
         Ok(d) => answer_declared(rt, alloc, job, rows, &d.table, &d.groups, assigned, out),
         Err(Stop::Refused { code, line }) => refuse_text(out, code, line),
         Err(Stop::OutOfMemory) => Err(AllocError),

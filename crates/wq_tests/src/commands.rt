@@ -3,6 +3,7 @@
 //! Each answer was worked out by hand from docs/FORMAT.md. There are many more cases in tests/rows, for the program. A run
 //! takes time in the length of its texts.
 
+use crate::declared::SEED;
 use std::alloc::Allocator;
 use std::io::{Read, Write};
 use wq_commands::{End, Fault, Metered, check_cmd, deadlock_cmd, plan_cmd, replay_cmd};
@@ -48,11 +49,18 @@ pub(crate) fn run<A: Allocator + Copy, R: Read, W: Write>(
     writer: &mut Metered<W>,
 ) -> Result<End, Fault> {
     match command {
-        Command::Plan => plan_cmd(alloc, &mut readers.first, writer),
-        Command::Check => check_cmd(alloc, &mut readers.first, &mut readers.second, writer),
-        Command::Deadlock => deadlock_cmd(alloc, &mut readers.first, &mut readers.second, writer),
+        Command::Plan => plan_cmd(alloc, SEED, &mut readers.first, writer),
+        Command::Check => check_cmd(alloc, SEED, &mut readers.first, &mut readers.second, writer),
+        Command::Deadlock => deadlock_cmd(
+            alloc,
+            SEED,
+            &mut readers.first,
+            &mut readers.second,
+            writer,
+        ),
         Command::Replay => replay_cmd(
             alloc,
+            SEED,
             &mut readers.first,
             &mut readers.second,
             &mut readers.third,

@@ -8,6 +8,9 @@ use std::alloc::Allocator;
 use std::test::Fail;
 use wq_commands::{Declaration, read_declaration};
 
+/// The seed of the hashes of names where it doesn't matter.
+pub(crate) const SEED: u64 = 0;
+
 /// The items that a text declares, and their groups.
 pub(crate) fn declared<'a, A: Allocator + Copy>(
     alloc: A,
@@ -15,5 +18,5 @@ pub(crate) fn declared<'a, A: Allocator + Copy>(
 ) -> Result<Declaration<'a, A>, Fail>
     ensures { IfOk result (λ d. length d.groups.group_of ≡ length d.table.names) }
 {
-    Ok(read_declaration(alloc, text.as_bytes())?)
+    Ok(read_declaration(alloc, SEED, text.as_bytes())?)
 }

@@ -3,6 +3,7 @@
 //! Takes time in the number of the calls of devices.
 
 use crate::commands::{Case, Command, Readers, cases, run};
+use crate::declared::SEED;
 use crate::fakes::{Endless, Fake};
 use std::alloc::{AllocError, Global};
 use std::io::ErrorKind;
@@ -214,7 +215,7 @@ fn a_reader_without_end_is_left(rt: HostRuntime) -> Result<(), Fail> {
             kind: ErrorKind::Other,
         });
         let mut writer = Metered::new(Vec::new(rt.alloc()));
-        let end = plan_cmd(rt.alloc(), &mut reader, &mut writer);
+        let end = plan_cmd(rt.alloc(), SEED, &mut reader, &mut writer);
         let written = writer.into_inner();
         assert_eq!(rt; (at_most, end, written.as_slice()), (at_most, want, answer));
         assert!(rt; reader.bytes() <= 1_048_577 && reader.calls() <= 1_048_577);
@@ -229,6 +230,7 @@ fn a_writer_that_takes_nothing_is_left(rt: HostRuntime) {
     assert_eq!(rt; (nothing, counts(&writer)), (Ok(()), (0, 0, 0)));
     let end = plan_cmd(
         rt.alloc(),
+        SEED,
         &mut Metered::new(b"item a\n".as_slice()),
         &mut writer,
     );

@@ -28,6 +28,8 @@ mod machine;
 #[cfg(test)]
 mod rounds;
 #[cfg(test)]
+mod seeds;
+#[cfg(test)]
 mod tables;
 #[cfg(test)]
 mod texts;

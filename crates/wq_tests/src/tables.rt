@@ -2,6 +2,7 @@
 
 ghost use Rattle.std.specs.Prelude.{◌<◌, length};
 
+use crate::declared::SEED;
 use std::alloc::Global;
 use std::process::Abort;
 use std::test::Fail;
@@ -60,7 +61,7 @@ fn assert_items(rt: &impl Abort, table: &ItemTable<'_, Global>) {
 
 #[test]
 fn items_and_waits_keep_their_places(rt: HostRuntime) -> Result<(), Fail> {
-    let declared = read_declaration(rt.alloc(), TEXT)?;
+    let declared = read_declaration(rt.alloc(), SEED, TEXT)?;
     assert_items(&rt, &declared.table);
     Ok(())
 }
@@ -72,7 +73,7 @@ fn what_stops_a_reading_has_its_number(rt: HostRuntime) {
         (b"item a\nflush b a", 8, 2),
         (b"item a\n\nordered a a", 11, 3),
     ] {
-        let stop = read_declaration(rt.alloc(), text).err();
+        let stop = read_declaration(rt.alloc(), SEED, text).err();
         assert_eq!(rt; stop, Some(Stop::Refused { code, line }));
     }
     let memory = ItemError::OutOfMemory;

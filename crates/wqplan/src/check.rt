@@ -25,6 +25,7 @@ use wq_diagnosis::{Kind, Source};
 /// that shows nothing, standard error says what is wrong.
 pub(crate) fn check<R: Files + Print + Eprint + AllocGlobal>(
     rt: &R,
+    seed: u64,
     declaration: &str,
     certificate: &str,
 ) -> Result<End, Fault>
@@ -33,14 +34,14 @@ pub(crate) fn check<R: Files + Print + Eprint + AllocGlobal>(
     let declared = open(rt, declaration)?;
     let certified = open(rt, certificate)?;
     let mut writer = Metered::new(io::writer(rt));
-    let (end, text, claim) = check_input(rt.alloc(), declared, certified, &mut writer)?;
+    let (end, text, claim) = check_input(rt.alloc(), seed, declared, certified, &mut writer)?;
     match end {
         End::Good => {}
         End::Bad => {
             let file = certificate;
-            say_of_no(rt, &text, Source { file, text: &claim });
+            say_of_no(rt, seed, &text, Source { file, text: &claim });
         }
-        End::Refused => say_of(rt, declaration, &text, certificate, &claim),
+        End::Refused => say_of(rt, seed, declaration, &text, certificate, &claim),
     }
     Ok(end)
 }
@@ -48,6 +49,7 @@ pub(crate) fn check<R: Files + Print + Eprint + AllocGlobal>(
 /// Says what is wrong with the first text that is refused.
 fn say_of<R: Eprint + AllocGlobal>(
     rt: &R,
+    seed: u64,
     declaration: &str,
     declared: &[u8],
     certificate: &str,
@@ -56,6 +58,7 @@ fn say_of<R: Eprint + AllocGlobal>(
     let file = declaration;
     say_of_declaration(
         rt,
+        seed,
         Source {
             file,
             text: declared,
@@ -64,6 +67,7 @@ fn say_of<R: Eprint + AllocGlobal>(
     let file = certificate;
     say_of_certificate(
         rt,
+        seed,
         Kind::Answer,
         declared,
         Source {
@@ -77,6 +81,7 @@ fn say_of<R: Eprint + AllocGlobal>(
 /// out as far as they were read.
 fn check_input<D: Read + Drop, C: Read + Drop, W: Write>(
     alloc: Global,
+    seed: u64,
     declaration: D,
     certificate: C,
     writer: &mut Metered<W>,
@@ -91,6 +96,6 @@ fn check_input<D: Read + Drop, C: Read + Drop, W: Write>(
     let claim = read_text(alloc, &mut certified, MAX_CERTIFICATE)?;
     let mut kept = Metered::new(text.as_slice());
     let mut kept_claim = Metered::new(claim.as_slice());
-    let end = check_cmd(alloc, &mut kept, &mut kept_claim, writer)?;
+    let end = check_cmd(alloc, seed, &mut kept, &mut kept_claim, writer)?;
     Ok((end, text, claim))
 }

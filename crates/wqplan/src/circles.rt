@@ -26,20 +26,22 @@ use wq_diagnosis::Source;
 /// A file that can't be opened is `Fault::Read`. Of a text that is refused standard error says what is wrong.
 pub(crate) fn circles<R: Files + Print + Eprint + AllocGlobal>(
     rt: &R,
+    seed: u64,
     declaration: &str,
     assignment: Option<&str>,
 ) -> Result<End, Fault>
     ensures { IfOk result (λ end. EndsCircles (option_map (λ s. s.now) assignment.entry) end) }
 {
     match assignment {
-        Some(assignment) => of_assignment(rt, declaration, assignment),
-        None => of_groups(rt, declaration),
+        Some(assignment) => of_assignment(rt, seed, declaration, assignment),
+        None => of_groups(rt, seed, declaration),
     }
 }
 
 /// Answers a declaration and an assignment.
 fn of_assignment<R: Files + Print + Eprint + AllocGlobal>(
     rt: &R,
+    seed: u64,
     declaration: &str,
     assignment: &str,
 ) -> Result<End, Fault>
@@ -48,10 +50,11 @@ fn of_assignment<R: Files + Print + Eprint + AllocGlobal>(
     let declared = open(rt, declaration)?;
     let assigned = open(rt, assignment)?;
     let mut writer = Metered::new(io::writer(rt));
-    let (end, text, lanes) = circles_input(rt.alloc(), declared, assigned, &mut writer)?;
+    let (end, text, lanes) = circles_input(rt.alloc(), seed, declared, assigned, &mut writer)?;
     if end == End::Refused {
         say_of_assignment(
             rt,
+            seed,
             Source {
                 file: declaration,
                 text: &text,
@@ -68,16 +71,17 @@ fn of_assignment<R: Files + Print + Eprint + AllocGlobal>(
 /// Answers a declaration, where each group has a workqueue of its own.
 fn of_groups<R: Files + Print + Eprint + AllocGlobal>(
     rt: &R,
+    seed: u64,
     declaration: &str,
 ) -> Result<End, Fault>
     ensures { IfOk result (λ end. (text out : List ℕ) × OwnCircles text end out) }
 {
     let declared = open(rt, declaration)?;
     let mut writer = Metered::new(io::writer(rt));
-    let (end, text) = own_circles_input(rt.alloc(), declared, &mut writer)?;
+    let (end, text) = own_circles_input(rt.alloc(), seed, declared, &mut writer)?;
     if end == End::Refused {
         let file = declaration;
-        say_of_declaration(rt, Source { file, text: &text });
+        say_of_declaration(rt, seed, Source { file, text: &text });
     }
     Ok(end)
 }
@@ -86,6 +90,7 @@ fn of_groups<R: Files + Print + Eprint + AllocGlobal>(
 /// as far as they were read.
 fn circles_input<D: Read + Drop, A: Read + Drop, W: Write>(
     alloc: Global,
+    seed: u64,
     declaration: D,
     assignment: A,
     writer: &mut Metered<W>,
@@ -100,13 +105,14 @@ fn circles_input<D: Read + Drop, A: Read + Drop, W: Write>(
     let lanes = read_text(alloc, &mut assigned, MAX_CERTIFICATE)?;
     let mut kept = Metered::new(text.as_slice());
     let mut kept_lanes = Metered::new(lanes.as_slice());
-    let end = circles_cmd(alloc, &mut kept, &mut kept_lanes, writer)?;
+    let end = circles_cmd(alloc, seed, &mut kept, &mut kept_lanes, writer)?;
     Ok((end, text, lanes))
 }
 
 /// Writes the components of the declaration that `input` has. The text is handed out as far as it was read.
 fn own_circles_input<I: Read + Drop, W: Write>(
     alloc: Global,
+    seed: u64,
     input: I,
     writer: &mut Metered<W>,
 ) -> Result<(End, Vec<u8>), Fault>
@@ -116,6 +122,6 @@ fn own_circles_input<I: Read + Drop, W: Write>(
     let mut reader = Metered::new(input);
     let text = read_text(alloc, &mut reader, MAX_DECLARATION)?;
     let mut kept = Metered::new(text.as_slice());
-    let end = own_circles_cmd(alloc, &mut kept, writer)?;
+    let end = own_circles_cmd(alloc, seed, &mut kept, writer)?;
     Ok((end, text))
 }

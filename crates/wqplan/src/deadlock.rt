@@ -24,6 +24,7 @@ use wq_diagnosis::Source;
 /// A file that can't be opened is `Fault::Read`. Of a text that is refused standard error says what is wrong.
 pub(crate) fn deadlock<R: Files + Print + Eprint + AllocGlobal>(
     rt: &R,
+    seed: u64,
     declaration: &str,
     assignment: &str,
 ) -> Result<End, Fault>
@@ -32,10 +33,11 @@ pub(crate) fn deadlock<R: Files + Print + Eprint + AllocGlobal>(
     let declared = open(rt, declaration)?;
     let assigned = open(rt, assignment)?;
     let mut writer = Metered::new(io::writer(rt));
-    let (end, text, lanes) = deadlock_input(rt.alloc(), declared, assigned, &mut writer)?;
+    let (end, text, lanes) = deadlock_input(rt.alloc(), seed, declared, assigned, &mut writer)?;
     if end == End::Refused {
         say_of_assignment(
             rt,
+            seed,
             Source {
                 file: declaration,
                 text: &text,
@@ -53,6 +55,7 @@ pub(crate) fn deadlock<R: Files + Print + Eprint + AllocGlobal>(
 /// far as they were read.
 fn deadlock_input<D: Read + Drop, A: Read + Drop, W: Write>(
     alloc: Global,
+    seed: u64,
     declaration: D,
     assignment: A,
     writer: &mut Metered<W>,
@@ -67,6 +70,6 @@ fn deadlock_input<D: Read + Drop, A: Read + Drop, W: Write>(
     let lanes = read_text(alloc, &mut assigned, MAX_CERTIFICATE)?;
     let mut kept = Metered::new(text.as_slice());
     let mut kept_lanes = Metered::new(lanes.as_slice());
-    let end = deadlock_cmd(alloc, &mut kept, &mut kept_lanes, writer)?;
+    let end = deadlock_cmd(alloc, seed, &mut kept, &mut kept_lanes, writer)?;
     Ok((end, text, lanes))
 }

@@ -23,38 +23,44 @@ fn say(rt: &impl Eprint, said: Result<Option<Vec<u8>>, AllocError>) -> bool {
 }
 
 /// Says what is wrong with a declaration.
-pub(crate) fn say_of_declaration<R: Eprint + AllocGlobal>(rt: &R, declaration: Source<'_>) {
-    say(rt, of_declaration(rt.alloc(), declaration));
+pub(crate) fn say_of_declaration<R: Eprint + AllocGlobal>(
+    rt: &R,
+    seed: u64,
+    declaration: Source<'_>,
+) {
+    say(rt, of_declaration(rt.alloc(), seed, declaration));
 }
 
 /// Says what is wrong with a certificate of a declaration, where that isn't refused itself. Gives whether there was anything to
 /// say.
 pub(crate) fn say_of_certificate<R: Eprint + AllocGlobal>(
     rt: &R,
+    seed: u64,
     kind: Kind,
     declaration: &[u8],
     certificate: Source<'_>,
 ) -> bool {
     say(
         rt,
-        of_certificate(rt.alloc(), kind, declaration, certificate),
+        of_certificate(rt.alloc(), seed, kind, declaration, certificate),
     )
 }
 
 /// Says what is wrong with the first of the two that is refused: a declaration, and an assignment of it.
 pub(crate) fn say_of_assignment<R: Eprint + AllocGlobal>(
     rt: &R,
+    seed: u64,
     declaration: Source<'_>,
     assignment: Source<'_>,
 ) {
-    say_of_declaration(rt, declaration);
-    say_of_certificate(rt, Kind::Assignment, declaration.text, assignment);
+    say_of_declaration(rt, seed, declaration);
+    say_of_certificate(rt, seed, Kind::Assignment, declaration.text, assignment);
 }
 
 /// Says what is wrong with a declaration that was not run: it is none, or its plan is too large.
-pub(crate) fn say_of_run<R: Eprint + AllocGlobal>(rt: &R, declaration: Source<'_>) {
+pub(crate) fn say_of_run<R: Eprint + AllocGlobal>(rt: &R, seed: u64, declaration: Source<'_>) {
     let alloc: Global = rt.alloc();
-    let said = match of_declaration(alloc, declaration) {
+    let said = match of_declaration(alloc, seed, declaration) {
         Ok(None) => of_too_many(alloc, declaration).map(Some),
         said => said,
     };
@@ -64,8 +70,9 @@ pub(crate) fn say_of_run<R: Eprint + AllocGlobal>(rt: &R, declaration: Source<'_
 /// Says what a certificate of a declaration lacks to which the answer is no.
 pub(crate) fn say_of_no<R: Eprint + AllocGlobal>(
     rt: &R,
+    seed: u64,
     declaration: &[u8],
     certificate: Source<'_>,
 ) {
-    say(rt, of_no(rt.alloc(), declaration, certificate));
+    say(rt, of_no(rt.alloc(), seed, declaration, certificate));
 }

@@ -27,20 +27,22 @@ use wq_dot::{dot_cmd, own_dot_cmd};
 /// A file that can't be opened is `Fault::Read`. Of a text that is refused standard error says what is wrong.
 pub(crate) fn dot<R: Files + Print + Eprint + AllocGlobal>(
     rt: &R,
+    seed: u64,
     declaration: &str,
     assignment: Option<&str>,
 ) -> Result<End, Fault>
     ensures { IfOk result (λ end. EndsDot (option_map (λ s. s.now) assignment.entry) end) }
 {
     match assignment {
-        Some(assignment) => of_assignment(rt, declaration, assignment),
-        None => of_groups(rt, declaration),
+        Some(assignment) => of_assignment(rt, seed, declaration, assignment),
+        None => of_groups(rt, seed, declaration),
     }
 }
 
 /// Draws a declaration and an assignment.
 fn of_assignment<R: Files + Print + Eprint + AllocGlobal>(
     rt: &R,
+    seed: u64,
     declaration: &str,
     assignment: &str,
 ) -> Result<End, Fault>
@@ -49,10 +51,11 @@ fn of_assignment<R: Files + Print + Eprint + AllocGlobal>(
     let declared = open(rt, declaration)?;
     let assigned = open(rt, assignment)?;
     let mut writer = Metered::new(io::writer(rt));
-    let (end, text, lanes) = dot_input(rt.alloc(), declared, assigned, &mut writer)?;
+    let (end, text, lanes) = dot_input(rt.alloc(), seed, declared, assigned, &mut writer)?;
     if end == End::Refused {
         say_of_assignment(
             rt,
+            seed,
             Source {
                 file: declaration,
                 text: &text,
@@ -69,16 +72,17 @@ fn of_assignment<R: Files + Print + Eprint + AllocGlobal>(
 /// Draws a declaration and its plan, or, where there is none, each group on a workqueue of its own.
 fn of_groups<R: Files + Print + Eprint + AllocGlobal>(
     rt: &R,
+    seed: u64,
     declaration: &str,
 ) -> Result<End, Fault>
     ensures { IfOk result (λ end. (text out : List ℕ) × OwnDraws text end out) }
 {
     let declared = open(rt, declaration)?;
     let mut writer = Metered::new(io::writer(rt));
-    let (end, text) = own_dot_input(rt.alloc(), declared, &mut writer)?;
+    let (end, text) = own_dot_input(rt.alloc(), seed, declared, &mut writer)?;
     if end == End::Refused {
         let file = declaration;
-        say_of_declaration(rt, Source { file, text: &text });
+        say_of_declaration(rt, seed, Source { file, text: &text });
     }
     Ok(end)
 }
@@ -87,6 +91,7 @@ fn of_groups<R: Files + Print + Eprint + AllocGlobal>(
 /// as far as they were read.
 fn dot_input<D: Read + Drop, A: Read + Drop, W: Write>(
     alloc: Global,
+    seed: u64,
     declaration: D,
     assignment: A,
     writer: &mut Metered<W>,
@@ -101,13 +106,14 @@ fn dot_input<D: Read + Drop, A: Read + Drop, W: Write>(
     let lanes = read_text(alloc, &mut assigned, MAX_CERTIFICATE)?;
     let mut kept = Metered::new(text.as_slice());
     let mut kept_lanes = Metered::new(lanes.as_slice());
-    let end = dot_cmd(alloc, &mut kept, &mut kept_lanes, writer)?;
+    let end = dot_cmd(alloc, seed, &mut kept, &mut kept_lanes, writer)?;
     Ok((end, text, lanes))
 }
 
 /// Writes the drawing of the declaration that `input` has. The text is handed out as far as it was read.
 fn own_dot_input<I: Read + Drop, W: Write>(
     alloc: Global,
+    seed: u64,
     input: I,
     writer: &mut Metered<W>,
 ) -> Result<(End, Vec<u8>), Fault>
@@ -117,6 +123,6 @@ fn own_dot_input<I: Read + Drop, W: Write>(
     let mut reader = Metered::new(input);
     let text = read_text(alloc, &mut reader, MAX_DECLARATION)?;
     let mut kept = Metered::new(text.as_slice());
-    let end = own_dot_cmd(alloc, &mut kept, writer)?;
+    let end = own_dot_cmd(alloc, seed, &mut kept, writer)?;
     Ok((end, text))
 }

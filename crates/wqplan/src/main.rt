@@ -25,9 +25,11 @@ pub mod laws;
 mod plan;
 mod replay;
 mod run;
+mod seed;
 
 use command_line::Request;
 use std::process::ExitCode;
+use std::random::RandomSource;
 use std::rt::Files;
 use std::sync::Wait;
 use std::thread::Threads;
@@ -35,36 +37,36 @@ use wq_commands::End;
 use wq_run::CommandFault;
 
 /// Runs the command that is asked for.
-fn perform<R: Files + Input + Print + Eprint + AllocGlobal + Threads + Wait + Sync>(
+fn perform<R: Files + Input + Print + Eprint + AllocGlobal + RandomSource + Threads + Wait + Sync>(
     rt: &R,
     request: Request<'_>,
 ) -> Result<End, CommandFault>
     ensures { IfOk result (λ end. EndsAsAsked (spelled request.entry) end) }
 {
     let end = match request {
-        Request::Plan { file } => plan::plan(rt, file)?,
+        Request::Plan { file } => plan::plan(rt, seed::draw(rt)?, file)?,
         Request::Check {
             declaration,
             certificate,
-        } => check::check(rt, declaration, certificate)?,
+        } => check::check(rt, seed::draw(rt)?, declaration, certificate)?,
         Request::Deadlock {
             declaration,
             assignment,
-        } => deadlock::deadlock(rt, declaration, assignment)?,
+        } => deadlock::deadlock(rt, seed::draw(rt)?, declaration, assignment)?,
         Request::Replay {
             declaration,
             assignment,
             run,
-        } => replay::replay(rt, declaration, assignment, run)?,
+        } => replay::replay(rt, seed::draw(rt)?, declaration, assignment, run)?,
         Request::Circles {
             declaration,
             assignment,
-        } => circles::circles(rt, declaration, assignment)?,
+        } => circles::circles(rt, seed::draw(rt)?, declaration, assignment)?,
         Request::Dot {
             declaration,
             assignment,
-        } => dot::dot(rt, declaration, assignment)?,
-        Request::Run { declaration } => run::run(rt, declaration)?,
+        } => dot::dot(rt, seed::draw(rt)?, declaration, assignment)?,
+        Request::Run { declaration } => run::run(rt, seed::draw(rt)?, declaration)?,
         Request::Explain { code } => explain::explain(rt, code)?,
     };
     Ok(end)

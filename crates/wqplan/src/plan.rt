@@ -23,28 +23,30 @@ use wq_diagnosis::Source;
 /// A file that can't be opened is `Fault::Read`. Of a text that is refused standard error says what is wrong.
 pub(crate) fn plan<R: Files + Input + Print + Eprint + AllocGlobal>(
     rt: &R,
+    seed: u64,
     file: Option<&str>,
 ) -> Result<End, Fault>
     ensures { IfOk result (λ end. (text out : List ℕ) × Answers text end out) }
 {
     match file {
-        Some(path) => answer(rt, path, open(rt, path)?),
-        None => answer(rt, STDIN, rt.reader()),
+        Some(path) => answer(rt, seed, path, open(rt, path)?),
+        None => answer(rt, seed, STDIN, rt.reader()),
     }
 }
 
 /// Answers the declaration that `input` has, which is called `file` where it is refused.
 fn answer<R: Print + Eprint + AllocGlobal, I: Read + Drop>(
     rt: &R,
+    seed: u64,
     file: &str,
     input: I,
 ) -> Result<End, Fault>
     ensures { IfOk result (λ end. (text out : List ℕ) × Answers text end out) }
 {
     let mut writer = Metered::new(io::writer(rt));
-    let (end, text) = plan_input(rt.alloc(), input, &mut writer)?;
+    let (end, text) = plan_input(rt.alloc(), seed, input, &mut writer)?;
     if end == End::Refused {
-        say_of_declaration(rt, Source { file, text: &text });
+        say_of_declaration(rt, seed, Source { file, text: &text });
     }
     Ok(end)
 }
@@ -52,6 +54,7 @@ fn answer<R: Print + Eprint + AllocGlobal, I: Read + Drop>(
 /// Writes the answer to the declaration that `input` has. The text is handed out as far as it was read.
 fn plan_input<I: Read + Drop, W: Write>(
     alloc: Global,
+    seed: u64,
     input: I,
     writer: &mut Metered<W>,
 ) -> Result<(End, Vec<u8>), Fault>
@@ -61,6 +64,6 @@ fn plan_input<I: Read + Drop, W: Write>(
     let mut reader = Metered::new(input);
     let text = read_text(alloc, &mut reader, MAX_DECLARATION)?;
     let mut kept = Metered::new(text.as_slice());
-    let end = plan_cmd(alloc, &mut kept, writer)?;
+    let end = plan_cmd(alloc, seed, &mut kept, writer)?;
     Ok((end, text))
 }

@@ -24,6 +24,7 @@ use wq_diagnosis::{Kind, Source};
 /// A file that can't be opened is `Fault::Read`. Of a text that is refused standard error says what is wrong.
 pub(crate) fn replay<R: Files + Print + Eprint + AllocGlobal>(
     rt: &R,
+    seed: u64,
     declaration: &str,
     assignment: &str,
     run: &str,
@@ -34,9 +35,9 @@ pub(crate) fn replay<R: Files + Print + Eprint + AllocGlobal>(
     let assigned = open(rt, assignment)?;
     let listed = open(rt, run)?;
     let mut writer = Metered::new(io::writer(rt));
-    let (end, texts) = replay_input(rt.alloc(), declared, assigned, listed, &mut writer)?;
+    let (end, texts) = replay_input(rt.alloc(), seed, declared, assigned, listed, &mut writer)?;
     if end == End::Refused {
-        say_of(rt, declaration, assignment, run, &texts);
+        say_of(rt, seed, declaration, assignment, run, &texts);
     }
     Ok(end)
 }
@@ -52,6 +53,7 @@ struct Texts {
 /// Says what is wrong with the first text that is refused.
 fn say_of<R: Eprint + AllocGlobal>(
     rt: &R,
+    seed: u64,
     declaration: &str,
     assignment: &str,
     run: &str,
@@ -61,6 +63,7 @@ fn say_of<R: Eprint + AllocGlobal>(
     let file = declaration;
     say_of_declaration(
         rt,
+        seed,
         Source {
             file,
             text: declared,
@@ -74,8 +77,8 @@ fn say_of<R: Eprint + AllocGlobal>(
         file: run,
         text: &texts.run,
     };
-    if !say_of_certificate(rt, Kind::Assignment, declared, assigned) {
-        say_of_certificate(rt, Kind::Run, declared, listed);
+    if !say_of_certificate(rt, seed, Kind::Assignment, declared, assigned) {
+        say_of_certificate(rt, seed, Kind::Run, declared, listed);
     }
 }
 
@@ -83,6 +86,7 @@ fn say_of<R: Eprint + AllocGlobal>(
 /// they were read.
 fn replay_input<D: Read + Drop, A: Read + Drop, S: Read + Drop, W: Write>(
     alloc: Global,
+    seed: u64,
     declaration: D,
     assignment: A,
     run: S,
@@ -104,6 +108,13 @@ fn replay_input<D: Read + Drop, A: Read + Drop, S: Read + Drop, W: Write>(
     let mut kept = Metered::new(texts.declaration.as_slice());
     let mut kept_lanes = Metered::new(texts.assignment.as_slice());
     let mut kept_steps = Metered::new(texts.run.as_slice());
-    let end = replay_cmd(alloc, &mut kept, &mut kept_lanes, &mut kept_steps, writer)?;
+    let end = replay_cmd(
+        alloc,
+        seed,
+        &mut kept,
+        &mut kept_lanes,
+        &mut kept_steps,
+        writer,
+    )?;
     Ok((end, texts))
 }

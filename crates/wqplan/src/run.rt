@@ -25,16 +25,17 @@ use wq_run::{CommandFault, run_cmd};
 /// A file that can't be opened is `fault read`. Of a text or a plan that is refused standard error says what is wrong.
 pub(crate) fn run<R: Files + Print + Eprint + AllocGlobal + Threads + Wait + Sync>(
     rt: &R,
+    seed: u64,
     declaration: &str,
 ) -> Result<End, CommandFault>
     ensures { IfOk result (λ end. (text out : List ℕ) × Runs text end out) }
 {
     let declared = open(rt, declaration)?;
     let mut writer = Metered::new(io::writer(rt));
-    let (end, text) = run_input(rt, rt.alloc(), declared, &mut writer)?;
+    let (end, text) = run_input(rt, rt.alloc(), seed, declared, &mut writer)?;
     if end == End::Refused {
         let file = declaration;
-        say_of_run(rt, Source { file, text: &text });
+        say_of_run(rt, seed, Source { file, text: &text });
     }
     Ok(end)
 }
@@ -43,6 +44,7 @@ pub(crate) fn run<R: Files + Print + Eprint + AllocGlobal + Threads + Wait + Syn
 fn run_input<R: Threads + Wait + Sync, D: Read + Drop, W: Write>(
     rt: &R,
     alloc: Global,
+    seed: u64,
     declaration: D,
     writer: &mut Metered<W>,
 ) -> Result<(End, Vec<u8>), CommandFault>
@@ -52,6 +54,6 @@ fn run_input<R: Threads + Wait + Sync, D: Read + Drop, W: Write>(
     let mut declared = Metered::new(declaration);
     let text = read_text(alloc, &mut declared, MAX_DECLARATION)?;
     let mut kept = Metered::new(text.as_slice());
-    let end = run_cmd(rt, alloc, &mut kept, writer)?;
+    let end = run_cmd(rt, alloc, seed, &mut kept, writer)?;
     Ok((end, text))
 }
