@@ -2,9 +2,10 @@
 //! what was most likely meant.
 //!
 //! A finding is plain: words of the texts, and numbers. Which word is meant and what was most likely meant is sought in the text,
-//! and promised by nobody, so no call has a clause; what the layer above relies on is that each ends, and that its only error is
-//! out of memory. The rows are those of "Diagnoses" in docs/FORMAT.md. A call takes time in the length of the text, and in the
-//! names of the declaration times the length of one where a name is unknown.
+//! and promised by nobody. What the layer above relies on: each call ends, its only error is out of memory, and a byte and a
+//! place are shown as `shown` and `put_place` say. The rows are those of "Diagnoses" in docs/FORMAT.md. A call takes time in the
+//! length of the text, in the words of a line times the names that it is sought among, and in the names of the declaration times
+//! the length of one where a name is unknown.
 #![tactic(auto)]
 
 mod certificate;
