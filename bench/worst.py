@@ -4,7 +4,9 @@ A case is a name, a command and its texts. `cases(PROGRAM)` gives all of them, t
 belongs to a declaration is what PROGRAM answers to it.
 """
 
+import os
 import random
+import resource
 import subprocess
 
 import collisions
@@ -17,6 +19,8 @@ MOST_CERTIFICATE = 8388608
 MOST_CERTIFICATE_LINE = 524288
 HALF = ITEMS // 2
 LAST = ITEMS - 1
+# A run that takes longer than this many seconds of processor time is ended.
+LIMIT = 60
 
 
 def short(i):
@@ -232,3 +236,36 @@ def cases(program, folder, write):
         yield "replay", name, [write(text), write(assignment), write(run)]
     path, queues = write(declaration(ITEMS, circle())), write(one())
     yield "replay", "what deadlock answers to a circle on one workqueue", [path, queues, write(program.answer("deadlock", folder, path, queues))]
+
+
+# ---- running them
+
+class Folder:
+    def __init__(self, path):
+        self.path = path
+        self.names = {}
+
+    def write(self, text):
+        """Writes a text once, and gives the name of its file."""
+        if text not in self.names:
+            name = f"t{len(self.names)}"
+            with open(os.path.join(self.path, name), "wb") as file:
+                file.write(text.encode("ascii"))
+            self.names[text] = name
+        return self.names[text]
+
+
+def run(program, folder, command, names):
+    """Processor seconds, peak memory in MiB, status, and how many bytes were printed."""
+    out = os.path.join(folder, "out")
+    child = os.fork()
+    if child == 0:
+        os.chdir(folder)
+        to = os.open(out, os.O_WRONLY | os.O_CREAT | os.O_TRUNC)
+        os.dup2(to, 1)
+        os.dup2(os.open(os.devnull, os.O_WRONLY), 2)
+        resource.setrlimit(resource.RLIMIT_CPU, (LIMIT, LIMIT))
+        os.execv(program, [program, command, *names])
+    _, ended, usage = os.wait4(child, 0)
+    status = os.waitstatus_to_exitcode(ended)
+    return usage.ru_utime + usage.ru_stime, usage.ru_maxrss / 1024, status, os.path.getsize(out)

@@ -24,4 +24,5 @@ bash tests/guide.sh
 bash tests/explain.sh
 bash tests/diagnoses.sh
 bash tests/books.sh
+bash tests/worst.sh
 bash tests/model.sh
