@@ -91,7 +91,7 @@ def main(arguments):
             words = ["declaration", "assignment", str(rows), str(seed), str(calls), "counts"]
             begun = time.monotonic()
             run = subprocess.run(
-                [program, "stress", *words], cwd=folder, stdin=subprocess.DEVNULL,
+                [program, *words], cwd=folder, stdin=subprocess.DEVNULL,
                 capture_output=True,
             )
             seconds = time.monotonic() - begun

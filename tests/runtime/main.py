@@ -1,10 +1,10 @@
-# Gives the program the rows of the tables beside this file, and compares what it prints:
+# Gives the programs the rows of the tables beside this file, and compares what they print:
 #
-#     main.py PROGRAM
+#     main.py WQ_CALLS WQ_CREW WQ_STRESS
 #
-# Each row is texts and the answer to them: `PROGRAM calls` and `PROGRAM run` must print just that, with
-# the exit status that goes with it, and nothing to standard error. Then some short loads: of each
-# `PROGRAM stress` must print the eight lines that no schedule changes. It takes some seconds.
+# Each row is texts and the answer to them: `wq_calls` and `wq_crew run` must print just that, with the
+# exit status that goes with it, and nothing to standard error. Then some short loads: of each
+# `wq_stress` must print the eight lines that no schedule changes. It takes some seconds.
 
 import pathlib
 import sys
@@ -15,6 +15,9 @@ import calls  # noqa: E402  (beside this file)
 import crews  # noqa: E402
 from loads import ALWAYS  # noqa: E402
 from tables import Case, run_cases, text_of  # noqa: E402  (in the folder above)
+
+# The places of the programs among the arguments.
+CALLS, CREW, STRESS = range(3)
 
 # A chain of as many items as a runtime may have lanes.
 ITEMS = [f"item i{k}" for k in range(256)]
@@ -42,15 +45,15 @@ LOADS = [
 
 
 def status_of(answer):
-    """The status that goes with an answer to `calls`."""
+    """The status that goes with an answer of `wq_calls`."""
     last = answer.splitlines()[-1].split() if answer else [b""]
     return 2 if last[0] in (b"mistake", b"refused") else 0
 
 
 def one_thread(table, declaration, assignment, rows, lines, answer):
-    """A run of `calls`. Its arguments are numbers of texts, but for the rows."""
+    """A run of `wq_calls`. Its arguments are numbers of texts, but for the rows."""
     texts = [text_of(text) for text in (declaration, assignment, lines)]
-    return Case(table, ["calls", 0, 1, str(rows), 2], texts, answer, status_of(answer))
+    return Case(table, [0, 1, str(rows), 2], texts, answer, status_of(answer), program=CALLS)
 
 
 def handed_back(counts, rows):
@@ -64,10 +67,15 @@ def handed_back(counts, rows):
 
 
 def many_threads(table, declaration, assignment, rows, seed, each, answer, status):
-    """A run of `stress`."""
+    """A run of `wq_stress`."""
     texts = [text_of(declaration), text_of(assignment)]
-    arguments = ["stress", 0, 1, str(rows), str(seed), str(each)]
-    return Case(table, arguments, texts, text_of(answer), status)
+    arguments = [0, 1, str(rows), str(seed), str(each)]
+    return Case(table, arguments, texts, text_of(answer), status, program=STRESS)
+
+
+def crew(*arguments, **others):
+    """A run of `wq_crew`."""
+    return Case(*arguments, **others, program=CREW)
 
 
 def table_cases():
@@ -83,20 +91,20 @@ def table_cases():
         yield one_thread("texts of calls", declaration, assignment, rows, lines, text_of(answer))
     for declaration, assignment, rows, deeds, answer, status in crews.CREWS:
         texts = [text_of(text) for text in (declaration, assignment, deeds)]
-        yield Case("crews", ["run", 0, 1, str(rows), 2], texts, text_of(answer), status)
+        yield crew("crews", ["run", 0, 1, str(rows), 2], texts, text_of(answer), status)
     for declaration, assignment, rows, deeds, answer in crews.MEETINGS:
         texts = [text_of(text) for text in (declaration, assignment, deeds)]
         pattern = answer.replace(" / ", "\n").encode("latin-1")
-        yield Case("meetings", ["run", 0, 1, str(rows), 2], texts, pattern, 0, is_pattern=True)
+        yield crew("meetings", ["run", 0, 1, str(rows), 2], texts, pattern, 0, is_pattern=True)
     for declaration, assignment, rows, pattern in crews.SCRIPTS:
         texts = [text_of(text) for text in (declaration, assignment)]
-        yield Case("scripts", ["script", 0, 1, str(rows)], texts, pattern.encode("latin-1"), 0, is_pattern=True)
+        yield crew("scripts", ["script", 0, 1, str(rows)], texts, pattern.encode("latin-1"), 0, is_pattern=True)
     for declaration, assignment, rows, answer, status in [
         (*crews.ONE, 16_777_217, "refused 68", 2),
         ("item a / flush a a", "wq 0 a", 10, "refused 67", 2),
     ]:
         texts = [text_of(text) for text in (declaration, assignment)]
-        yield Case("scripts", ["script", 0, 1, str(rows)], texts, text_of(answer), status)
+        yield crew("scripts", ["script", 0, 1, str(rows)], texts, text_of(answer), status)
     # Not as many threads can be made as there are lanes and callers. All is handed back but what the first
     # thread took that couldn't be made, and the process ends.
     for deeds, answer in [
@@ -104,7 +112,7 @@ def table_cases():
         (" / ".join(["body"] * 256 + ["caller / queue i0"]), "refused 22 seats 256 bodies 255 callers 1"),
     ]:
         texts = [text_of(text) for text in (*CHAIN, deeds)]
-        yield Case("threads that can't be made", ["run", 0, 1, "1000", 2], texts, text_of(answer), 1,
+        yield crew("threads that can't be made", ["run", 0, 1, "1000", 2], texts, text_of(answer), 1,
                    memory=SOME_THREADS)
     for declaration, assignment, rows, each in LOADS:
         for seed in (1, 4_294_967_295):
@@ -125,26 +133,25 @@ def table_cases():
         table = "loads that don't begin"
         yield many_threads(table, declaration, assignment, rows, 1, 10, answer, status)
     # A wrong command line prints nothing to standard output; a file that isn't there is a fault.
-    for words in [
-        [], ["calls"], ["calls", 0, 0, "1"], ["calls", 0, 0, "x", 0], ["calls", 0, 0, "01", 0],
-        ["calls", 0, 0, "4294967296", 0], ["calls", 0, 0, "1", 0, 0], ["stress", 0, 0, "1", "1"],
-        ["stress", 0, 0, "1", "1", "x"], ["stress", 0, 0, "1", "x", "1"],
-        ["stress", 0, 0, "x", "1", "1"], ["stress", 0, 0, "1", "1", "4294967296"],
-        ["stress", 0, 0, "1", "1", "1", "count"],
-        ["stress", 0, 0, "1", "1", "1", "counts", "counts"], ["run", 0, 0, "1"],
-        ["run", 0, 0, "x", 0], ["run", 0, 0, "1", 0, 0], ["go", 0, 0, "1", 0], ["script", 0, 0],
-        ["script", 0, 0, "1", 0],
+    for program, words in [
+        (CALLS, []), (CALLS, [0, 0, "1"]), (CALLS, [0, 0, "x", 0]), (CALLS, [0, 0, "01", 0]),
+        (CALLS, [0, 0, "4294967296", 0]), (CALLS, [0, 0, "1", 0, 0]),
+        (STRESS, []), (STRESS, [0, 0, "1", "1"]), (STRESS, [0, 0, "1", "1", "x"]), (STRESS, [0, 0, "1", "x", "1"]),
+        (STRESS, [0, 0, "x", "1", "1"]), (STRESS, [0, 0, "1", "1", "4294967296"]),
+        (STRESS, [0, 0, "1", "1", "1", "count"]), (STRESS, [0, 0, "1", "1", "1", "counts", "counts"]),
+        (CREW, []), (CREW, ["run", 0, 0, "1"]), (CREW, ["run", 0, 0, "x", 0]), (CREW, ["run", 0, 0, "1", 0, 0]),
+        (CREW, ["go", 0, 0, "1", 0]), (CREW, ["script", 0, 0]), (CREW, ["script", 0, 0, "1", 0]),
     ]:
-        yield Case("command lines", words, [b""], b"", 2, complains=True)
-    for words in [
-        ["calls", 0, 0, "1", "nowhere"], ["calls", "nowhere", 0, "1", 0],
-        ["stress", 0, "nowhere", "1", "1", "1"], ["run", 0, 0, "1", "nowhere"],
+        yield Case("command lines", words, [b""], b"", 2, complains=True, program=program)
+    for program, words in [
+        (CALLS, [0, 0, "1", "nowhere"]), (CALLS, ["nowhere", 0, "1", 0]),
+        (STRESS, [0, "nowhere", "1", "1", "1"]), (CREW, ["run", 0, 0, "1", "nowhere"]),
     ]:
-        yield Case("faults", words, [b""], b"", 3, complains=True)
+        yield Case("faults", words, [b""], b"", 3, complains=True, program=program)
 
 
 def main(arguments):
-    return run_cases("runtime", arguments, list(table_cases()))
+    return run_cases("runtime", arguments, list(table_cases()), 3)
 
 
 if __name__ == "__main__":

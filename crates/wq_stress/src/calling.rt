@@ -2,6 +2,7 @@
 //!
 //! It takes the time of the calls, some of which wait for what the lanes do.
 
+use crate::tally::Asked;
 use crate::worker::Worker;
 use std::alloc::Global;
 use std::sync::Wait;
@@ -21,7 +22,7 @@ pub(crate) fn queue_somewhere<N: Naming, R: Wait>(
         q = LaneId::new(q.get().wrapping_add(1));
     }
     let answer = runtime.queue_work(rt, &mut worker.seat, q, item);
-    worker.tally.queue(answer);
+    worker.tally.note(Asked::Queue, answer);
 }
 
 /// Cancels an item without waiting.
@@ -32,7 +33,7 @@ pub(crate) fn cancel<N: Naming, R: Wait>(
     item: ItemId,
 ) {
     let answer = runtime.cancel_work(rt, &mut worker.seat, item);
-    worker.tally.cancel(answer);
+    worker.tally.note(Asked::Cancel, answer);
 }
 
 /// Flushes an item. True where it had to wait.
@@ -43,7 +44,7 @@ fn flush<N: Naming, R: Wait>(
     item: ItemId,
 ) -> bool {
     let answer = runtime.flush_work(rt, &mut worker.seat, item);
-    worker.tally.flush(answer);
+    worker.tally.note(Asked::Flush, answer);
     answer == Ok(true)
 }
 
@@ -55,7 +56,7 @@ fn cancel_sync<N: Naming, R: Wait>(
     item: ItemId,
 ) {
     let answer = runtime.cancel_work_sync(rt, &mut worker.seat, item);
-    worker.tally.cancel_sync(answer);
+    worker.tally.note(Asked::CancelSync, answer);
 }
 
 /// Makes so many calls, and hands the worker back. There are so many items.
@@ -90,7 +91,7 @@ pub(crate) fn queue_late<N: Naming, R: Wait>(
     let item = ItemId::new(0);
     let q = runtime.lane_of(rt, item).unwrap_or(LaneId::new(0));
     let answer = runtime.queue_work(rt, &mut worker.seat, q, item);
-    worker.tally.queue(answer);
+    worker.tally.note(Asked::Queue, answer);
     match answer {
         Ok(_) => 0,
         Err(error) => error.code(),

@@ -3,7 +3,7 @@
 ghost use Rattle.std.specs.Prelude.{◌<◌};
 
 /// A generator.
-#[derive(Clone, Copy)]
+#[derive(Drop)]
 pub(crate) struct Random {
     state: u64,
 }

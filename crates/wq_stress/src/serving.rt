@@ -4,6 +4,7 @@
 //! It takes the time of the executions, which may wait for those of other lanes.
 
 use crate::calling::{cancel, queue_somewhere};
+use crate::tally::Asked;
 use crate::worker::Worker;
 use std::alloc::{AllocError, Global};
 use std::sync::Wait;
@@ -29,7 +30,7 @@ fn wait<N: Naming, R: Wait>(
     worker: &mut Worker<N>,
 ) {
     let answer = runtime.wait_for(rt, &mut worker.seat, q, item);
-    worker.tally.wait(answer);
+    worker.tally.note(Asked::Wait, answer);
 }
 
 /// Waits for some of these items, for all of them or for none, in a random order. Those that are left are not waited for.
@@ -76,6 +77,32 @@ fn make_waits<N: Naming, R: Wait>(
     }
 }
 
+/// Now and then queues an item.
+fn queue_at_times<N: Naming, R: Wait>(
+    rt: &R,
+    runtime: &WqRuntime<N, Global>,
+    items: u16,
+    worker: &mut Worker<N>,
+) {
+    if worker.random.once_in(8) {
+        let item = worker.item(items);
+        queue_somewhere(rt, runtime, worker, item);
+    }
+}
+
+/// Now and then cancels an item.
+fn cancel_at_times<N: Naming, R: Wait>(
+    rt: &R,
+    runtime: &WqRuntime<N, Global>,
+    items: u16,
+    worker: &mut Worker<N>,
+) {
+    if worker.random.once_in(8) {
+        let item = worker.item(items);
+        cancel(rt, runtime, worker, item);
+    }
+}
+
 /// The body of an item, which runs on a lane: some of its waits, and now and then a queueing or a cancellation.
 fn run_body<N: Naming, R: Wait>(
     rt: &R,
@@ -86,17 +113,12 @@ fn run_body<N: Naming, R: Wait>(
     item: ItemId,
     worker: &mut Worker<N>,
 ) {
-    if item.get() < table.len() {
+    let items = table.len();
+    if item.get() < items {
         make_waits(rt, alloc, runtime, q, table.waits(item), worker);
     }
-    if worker.random.once_in(8) {
-        let other = worker.item(table.len());
-        queue_somewhere(rt, runtime, worker, other);
-    }
-    if worker.random.once_in(8) {
-        let other = worker.item(table.len());
-        cancel(rt, runtime, worker, other);
-    }
+    queue_at_times(rt, runtime, items, worker);
+    cancel_at_times(rt, runtime, items, worker);
 }
 
 /// Finishes what runs on a lane.
@@ -108,7 +130,11 @@ fn finish<N: Naming, R: Wait>(
     worker: &mut Worker<N>,
 ) {
     let answer = runtime.finish_work(rt, &mut worker.seat, q, item);
-    worker.tally.finish(answer);
+    match answer {
+        Ok(()) => worker.tally.note(Asked::Finish, Ok(true)),
+        // Nobody else drives the lane, so a refusal is a fault.
+        Err(error) => worker.tally.breaks(error),
+    }
 }
 
 /// Serves a lane until the runtime is closed and nothing is pending there, and hands the worker back.

@@ -25,24 +25,37 @@ impl<N: Naming> Worker<N> {
     }
 }
 
-/// So many workers, whose generators are of one seed.
+/// A worker, whose generator is of this seed and this stream.
 pub(crate) fn hire<N: Naming, R: Wait>(
     rt: &R,
     alloc: Global,
     runtime: &WqRuntime<N, Global>,
-    count: u32,
     seed: u32,
-) -> Result<Vec<Worker<N>>, SeatError> {
-    let mut workers = Vec::new(alloc);
+    stream: u32,
+) -> Result<Worker<N>, SeatError> {
+    let seat = runtime.seat(rt, alloc)?;
+    Ok(Worker {
+        seat,
+        random: Random::new(seed, stream),
+        tally: Tally::new(),
+    })
+}
+
+/// Adds so many workers to these, whose generators are of one seed, and of the streams from this one on.
+pub(crate) fn hire_all<N: Naming, R: Wait>(
+    rt: &R,
+    alloc: Global,
+    runtime: &WqRuntime<N, Global>,
+    seed: u32,
+    first: u32,
+    count: u32,
+    workers: &mut Vec<Worker<N>>,
+) -> Result<(), SeatError> {
     for k in 0..count {
-        let worker = Worker {
-            seat: runtime.seat(rt, alloc)?,
-            random: Random::new(seed, k),
-            tally: Tally::default(),
-        };
+        let worker = hire(rt, alloc, runtime, seed, first.wrapping_add(k))?;
         if workers.push(worker).is_err() {
             return Err(SeatError::OutOfMemory);
         }
     }
-    Ok(workers)
+    Ok(())
 }

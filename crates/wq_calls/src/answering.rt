@@ -1,0 +1,67 @@
+//! The answer to a declaration and an assignment: they are judged, and then the calls are made. It takes the time of these.
+
+ghost use Rattle.std.specs.Prelude.{◌≡◌, length};
+
+use crate::session::play;
+use std::alloc::{AllocError, Global};
+use std::sync::Wait;
+use wq_cert::{CertError, read_assignment};
+use wq_commands::{Stop, read_declaration};
+use wq_groups::Groups;
+use wq_items::ItemTable;
+use wq_testbed::{Bed, SEED, Texts, refuse_text};
+
+/// Answers of the items of a table, in these groups, under the assignment in a text. Gives the status.
+fn answer_declared<R: Wait>(
+    rt: &R,
+    alloc: Global,
+    rows: u32,
+    table: &ItemTable<'_, Global>,
+    groups: &Groups<Global>,
+    assigned: &[u8],
+    calls: &[u8],
+    out: &mut String,
+) -> Result<u8, AllocError>
+    requires { length groups.now.group_of ≡ length table.now.names }
+{
+    // What holds of all groups.
+    let _groups = groups.len();
+    match read_assignment(alloc, assigned, table, groups) {
+        Ok(assignment) => {
+            let bed = Bed {
+                table,
+                groups,
+                assignment: &assignment,
+                rows,
+            };
+            play(rt, alloc, &bed, calls, out)
+        }
+        Err(CertError::OutOfMemory) => Err(AllocError),
+        Err(fault) => refuse_text(out, fault.code(), fault.line()),
+    }
+}
+
+/// Answers, or refuses the first text that is to be refused. Gives the status.
+pub(crate) fn answer<R: Wait>(
+    rt: &R,
+    alloc: Global,
+    rows: u32,
+    texts: &Texts,
+    calls: &[u8],
+    out: &mut String,
+) -> Result<u8, AllocError> {
+    match read_declaration(alloc, SEED, &texts.declared) {
+        Ok(d) => answer_declared(
+            rt,
+            alloc,
+            rows,
+            &d.table,
+            &d.groups,
+            &texts.assigned,
+            calls,
+            out,
+        ),
+        Err(Stop::Refused { code, line }) => refuse_text(out, code, line),
+        Err(Stop::OutOfMemory) => Err(AllocError),
+    }
+}

@@ -1,0 +1,122 @@
+//! `wq_crew`: has a rescuer for each lane and callers in threads do what a text says, or what the declaration says, and prints
+//! what they left.
+//!
+//! It is a program of the tests, and never installed. What it reads and prints is said in "The test programs of runtimes" in
+//! docs/FORMAT.md; no contract says it. It takes the time of the bodies and the callers.
+#![tactic(auto)]
+
+mod answering;
+mod crew;
+mod deed;
+mod doer;
+mod meeting;
+mod plot;
+mod ran;
+mod scripted;
+
+use answering::{Task, answer};
+use std::process::ExitCode;
+use std::rt::{Env, Files};
+use std::sync::Wait;
+use std::thread::Threads;
+use wq_commands::Fault;
+use wq_testbed::{
+    MAX_TEXT, Setting, Texts, ended, misused, print_answer, read_file, read_texts, unread, words,
+};
+
+const USAGE: &str = "usage: wq_crew run DECL ASSIGN ROWS DEEDS | wq_crew script DECL ASSIGN ROWS";
+
+/// What the command line asks for.
+#[derive(Drop)]
+enum Request<'a> {
+    /// Rescuers and callers do what the text in this file says.
+    Run(Setting<'a>, &'a str),
+    /// Rescuers make the declared flushes, and callers queue and flush all items.
+    Script(Setting<'a>),
+}
+
+/// The request that this word makes, with those behind its setting.
+fn request_of<'a>(task: &str, setting: Setting<'a>, rest: &'a [String]) -> Option<Request<'a>> {
+    match (task, rest) {
+        ("run", [deeds]) => Some(Request::Run(setting, deeds.as_str())),
+        ("script", []) => Some(Request::Script(setting)),
+        _ => None,
+    }
+}
+
+/// `run DECL ASSIGN ROWS DEEDS` or `script DECL ASSIGN ROWS`, behind the program's name.
+fn parse(words: &[String]) -> Option<Request<'_>> {
+    match words {
+        [_, task, declaration, assignment, rows, rest @ ..] => {
+            let setting = Setting::parse(declaration.as_str(), assignment.as_str(), rows.as_str())?;
+            request_of(task.as_str(), setting, rest)
+        }
+        _ => None,
+    }
+}
+
+/// Does what is asked for of these texts, and prints what came of it. Gives the status.
+fn print_task<R: Print + AllocGlobal + Threads + Wait + Sync>(
+    rt: &R,
+    rows: u32,
+    texts: &Texts,
+    task: Task<'_>,
+) -> Result<u8, Fault> {
+    let mut out = String::new(rt.alloc());
+    let status = answer(rt, rt.alloc(), rows, texts, task, &mut out)?;
+    print_answer(rt, &out, status)
+}
+
+/// Does this in a setting, and prints what came of it. Gives the status.
+fn run_task<R: Files + Print + AllocGlobal + Threads + Wait + Sync>(
+    rt: &R,
+    setting: &Setting<'_>,
+    task: Task<'_>,
+) -> Result<u8, Fault> {
+    let texts = read_texts(rt, setting)?;
+    print_task(rt, setting.rows, &texts, task)
+}
+
+/// Does what the text in a file says, and prints what came of it. Gives the status.
+fn run_deeds<R: Files + Print + AllocGlobal + Threads + Wait + Sync>(
+    rt: &R,
+    setting: &Setting<'_>,
+    path: &str,
+) -> Result<u8, Fault> {
+    let text = read_file(rt, path, MAX_TEXT)?;
+    run_task(rt, setting, Task::Deeds(&text))
+}
+
+/// Does what is asked for, and prints what came of it. Gives the status.
+fn perform<R: Files + Print + AllocGlobal + Threads + Wait + Sync>(
+    rt: &R,
+    request: &Request<'_>,
+) -> Result<u8, Fault> {
+    match request {
+        Request::Run(setting, deeds) => run_deeds(rt, setting, *deeds),
+        Request::Script(setting) => run_task(rt, setting, Task::Script),
+    }
+}
+
+/// Does what these words ask for. Gives the status.
+fn entered<R: Files + Print + Eprint + AllocGlobal + Threads + Wait + Sync>(
+    rt: &R,
+    words: &[String],
+) -> u8 {
+    match parse(words) {
+        Some(request) => ended(rt, perform(rt, &request)),
+        None => misused(rt, USAGE),
+    }
+}
+
+/// Does what the command line asks for. Gives the status.
+fn run<R: Files + Env + Print + Eprint + AllocGlobal + Threads + Wait + Sync>(rt: &R) -> u8 {
+    match words(rt) {
+        Ok(words) => entered(rt, &words),
+        Err(error) => unread(rt, error, USAGE),
+    }
+}
+
+fn main(rt: HostRuntime) -> ExitCode {
+    ExitCode::from(run(&rt))
+}

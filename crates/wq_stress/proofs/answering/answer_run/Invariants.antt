@@ -1,9 +1,0 @@
-use Rattle.wq_groups.specs.Declaration.{declaration_of}
-use Rattle.wq_core.specs.Wiring.{wiring}
-use Rattle.wq_stress.proofs.answering.answer_run.Given as goal
-
-abbrev pub ghosts-run_crew-N-Naming : goal.ghosts-run_crew-N-Naming
-ghosts-run_crew-N-Naming g a = record { wiring = wiring (declaration_of a.table.now a.groups.now) a.assignment.now; rows = a.rows }
-
-abbrev pub ghosts-run_crew-N-Ledger : goal.ghosts-run_crew-N-Ledger
-ghosts-run_crew-N-Ledger g a = record { name = a.blank.name; parts = a.blank.parts }

@@ -1,0 +1,55 @@
+//! A runtime of a declaration and an assignment, or the refusal to make one.
+//!
+//! Making one takes the time of judging the assignment, and of making a book.
+
+ghost use Rattle.std.specs.Prelude.{◌≡◌, length};
+ghost use Rattle.wq_groups.specs.Declaration.{declaration_of};
+ghost use Rattle.wq_core.specs.Wiring.{wiring};
+
+use std::alloc::{AllocError, Global};
+use std::sync::ledger::Blank;
+use wq_api::{Naming, NewError, WqRuntime};
+use wq_groups::{Assignment, Groups};
+use wq_items::ItemTable;
+
+/// What a runtime is made of: items, their groups, a lane for each group, and room for so many rows.
+#[derive(Drop)]
+pub struct Bed<'a> {
+    pub table: &'a ItemTable<'a, Global>,
+    pub groups: &'a Groups<Global>,
+    pub assignment: &'a Assignment<Global>,
+    pub rows: u32,
+    ghost grouped: { length groups.now.group_of ≡ length table.now.names },
+    ghost assigned: { length assignment.now.lane_of_group ≡ groups.now.groups },
+}
+
+/// Makes the runtime of this name, or says why there is none.
+pub fn make<N: Naming>(
+    alloc: Global,
+    blank: Blank,
+    bed: &Bed<'_>,
+    out: &mut String,
+) -> Result<Option<WqRuntime<N, Global>>, AllocError>
+    requires name { blank.name ≡ N.name }
+    requires parts { blank.parts ≡ N.parts }
+    requires all_parts { N.parts ≡ 65536 }
+    requires of_wiring { N.wiring ≡ wiring (declaration_of bed.now.table.now bed.now.groups.now) bed.now.assignment.now }
+    requires of_rows { N.rows ≡ bed.now.rows }
+{
+    let made = WqRuntime::<N, Global>::new(
+        alloc,
+        blank,
+        bed.table,
+        bed.groups,
+        bed.assignment,
+        bed.rows,
+    );
+    match made {
+        Ok(runtime) => Ok(Some(runtime)),
+        Err(NewError::OutOfMemory) => Err(AllocError),
+        Err(error) => {
+            writeln!(out, "refused {}", error.code())?;
+            Ok(None)
+        }
+    }
+}

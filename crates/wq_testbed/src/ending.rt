@@ -1,0 +1,33 @@
+//! How a program ends: its status, and what it says where there is no answer.
+
+use std::io;
+use wq_commands::Fault;
+
+/// Says which fault stopped the program. Gives the status.
+fn faulted(rt: &impl Eprint, fault: Fault) -> u8 {
+    let _ = rt.eprintln(fault.text());
+    3
+}
+
+/// Says that the command line is wrong, and what it should be. Gives the status.
+pub fn misused(rt: &impl Eprint, usage: &str) -> u8 {
+    let _ = rt.eprintln(usage);
+    2
+}
+
+/// Says why the command line can't be read. Gives the status.
+pub fn unread(rt: &impl Eprint, error: io::Error, usage: &str) -> u8 {
+    if error.kind() == io::ErrorKind::OutOfMemory {
+        faulted(rt, Fault::Memory)
+    } else {
+        misused(rt, usage)
+    }
+}
+
+/// The status of a program that ends like this. A fault is said.
+pub fn ended(rt: &impl Eprint, status: Result<u8, Fault>) -> u8 {
+    match status {
+        Ok(status) => status,
+        Err(fault) => faulted(rt, fault),
+    }
+}

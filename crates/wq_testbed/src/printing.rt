@@ -1,0 +1,44 @@
+//! What is printed, piece by piece.
+
+use std::alloc::{AllocError, Global};
+use std::str;
+use wq_api::CallError;
+use wq_items::{ItemId, ItemTable};
+
+/// A mistake on a line. Gives the status.
+pub fn mistake(out: &mut String, line: u32) -> Result<u8, AllocError> {
+    writeln!(out, "mistake line {line}")?;
+    Ok(2)
+}
+
+/// A fault. Gives the status.
+pub fn fault(out: &mut String, what: &str) -> Result<u8, AllocError> {
+    writeln!(out, "fault {what}")?;
+    Ok(1)
+}
+
+/// The refusal of a call.
+pub fn put_code(out: &mut String, code: u32) -> Result<(), AllocError> {
+    write!(out, "refused {code}")
+}
+
+/// The answer of a call that says nothing more.
+pub fn put_done(out: &mut String, done: Result<(), CallError>) -> Result<(), AllocError> {
+    match done {
+        Ok(()) => out.push_str("ok"),
+        Err(error) => put_code(out, error.code()),
+    }
+}
+
+/// The name of an item, `-` where it has none.
+pub fn put_item(
+    out: &mut String,
+    table: &ItemTable<'_, Global>,
+    item: ItemId,
+) -> Result<(), AllocError> {
+    if item.get() < table.len() {
+        out.push_str(str::from_utf8(table.name(item)).unwrap_or("-"))
+    } else {
+        out.push('-')
+    }
+}
