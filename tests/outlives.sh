@@ -9,7 +9,7 @@
 set -euo pipefail
 
 sample=tests/samples/outlives.rt.txt
-libraries=(wq_text wq_decl wq_items wq_groups wq_core wq_rows wq_history)
+libraries=(wq_text wq_buckets wq_decl wq_items wq_groups wq_core wq_rows wq_history)
 
 scratch=$(mktemp -d)
 trap 'rm -rf "$scratch"' EXIT

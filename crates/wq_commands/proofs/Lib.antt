@@ -13,3 +13,4 @@ pub mod Refusals
 pub mod CheckAnswers
 pub mod ReplayAnswers
 pub mod LineLemmas
+mod StopLemmas

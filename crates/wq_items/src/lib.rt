@@ -10,12 +10,13 @@
 
 pub mod chain_laws;
 mod fault;
+mod flush;
 mod hashing;
 pub mod laws;
 mod names;
 mod table;
 mod target;
-mod wait_lists;
+mod waits;
 
 pub use fault::ItemError;
 pub use table::ItemTable;

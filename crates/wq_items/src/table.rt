@@ -4,10 +4,11 @@
 //! it changes nothing in the table.
 //!
 //! Reading takes time in the length of the names and words of the declaration, on average, and memory in the number of
-//! items and flushes: each name is looked up once, on a line that is refused once more. Afterwards each question is
+//! items and flushes: each name is looked up once, on a line that is refused once more. While the lines are read, all flushes
+//! are in one vector, in order of place (`Building`); at the end they are put to their items. Afterwards each question is
 //! answered in constant time, but for `find`, which takes the time to hash a name.
 
-ghost use Rattle.std.specs.Prelude.{◌≡◌, ◌+◌, ◌^◌, ◌<◌, ◌≤◌, ℕ, length, Ok, Err, IfOk, IfErr, IfSome, IfNone, IsOk, slice_get, slice_set, Some, IsTrue, ◌↔◌, ◌∷◌, ◌++◌, option_map};
+ghost use Rattle.std.specs.Prelude.{◌≡◌, ◌+◌, ◌^◌, ◌<◌, ◌≤◌, ℕ, length, Ok, Err, IfOk, IfErr, IfSome, IfNone, OnErr, IsOk, slice_get, slice_set, Some, IsTrue, ◌↔◌, ◌∷◌, ◌++◌, option_map};
 ghost use Rattle.wq_decl.specs.Names.{is_name};
 ghost use Rattle.wq_decl.specs.Reading.{HasNames};
 ghost use Rattle.wq_items.specs.Table.{Table, IsTable, item_named, targets_of, flush_count};
@@ -16,10 +17,11 @@ ghost use Rattle.wq_items.specs.FirstFault.{RanOut, DeclaresMore};
 ghost use Rattle.wq_items.specs.Building.{table_of, declared, item_declared, flushes_declared, items_ordered, items_named, and_item, targets_from, empty_table, IsFaultOf};
 
 use crate::fault::ItemError;
+use crate::flush::Flushes;
 use crate::names::Names;
 use crate::target::{ItemId, Target};
-use crate::wait_lists::WaitLists;
-use std::alloc::Allocator;
+use crate::waits::Waits;
+use std::alloc::{AllocError, Allocator};
 use std::marker::Model;
 use wq_decl::{DeclView, Directive};
 use wq_text::{Span, Word, Words};
@@ -38,11 +40,31 @@ const SEED: u64 = 0;
 pub struct ItemTable<'a, A: Allocator> {
     names: Names<'a, A>,
     spans: Vec<Span, A>,
-    waits: WaitLists<A>,
+    waits: Waits<A>,
     flushes: u32,
 }
 
 impl<'a, A: Allocator> Model for ItemTable<'a, A> {
+    ghost use Rattle.std.specs.Prelude.{◌≡◌};
+    ghost use Rattle.wq_items.specs.Table.{Table, IsTable, flush_count};
+
+    ghost Value = { Table };
+
+    ghost view = { λ t. record { names = t.names; spans = t.spans.items; waits = t.waits } };
+
+    ghost invariant = { λ t. IsTable (record { names = t.names; spans = t.spans.items; waits = t.waits }) × (t.flushes ≡ flush_count t.waits) };
+}
+
+/// A table whose lines are being read. Contracts see what they see of a table.
+#[derive(Drop)]
+struct Building<'a, A: Allocator> {
+    names: Names<'a, A>,
+    spans: Vec<Span, A>,
+    waits: Flushes<A>,
+    flushes: u32,
+}
+
+impl<'a, A: Allocator> Model for Building<'a, A> {
     ghost use Rattle.std.specs.Prelude.{◌≡◌};
     ghost use Rattle.wq_items.specs.Table.{Table, IsTable, flush_count};
 
@@ -70,7 +92,7 @@ fn count_known<'a, A: Allocator + Copy>(names: &Names<'a, A>, words: Words<'a>) 
 /// a name is unknown, where there are too many flushes, or where memory ran out; `refusal` says which it is.
 fn push_targets<'a, A: Allocator + Copy>(
     names: &Names<'a, A>,
-    waits: &mut WaitLists<A>,
+    waits: &mut Flushes<A>,
     item: usize,
     place: u32,
     targets: Words<'a>,
@@ -133,19 +155,128 @@ fn when_full<'a, A: Allocator + Copy>(names: &Names<'a, A>, line: u32, name: Wor
     }
 }
 
-impl<'a, A: Allocator + Copy> ItemTable<'a, A> {
+impl<'a, A: Allocator + Copy> Building<'a, A> {
     /// No item. Names are hashed with this seed.
     fn empty(alloc: A, seed: u64) -> Self
         ensures { result ≡ empty_table }
     {
-        ItemTable {
+        Building {
             names: Names::new(alloc, seed),
             spans: Vec::new(alloc),
-            waits: WaitLists::new(alloc),
+            waits: Flushes::new(alloc),
             flushes: 0,
         }
     }
 
+    /// The table with what one line declares.
+    fn declare(self, line: u32, directive: Directive<'a>) -> Result<Self, ItemError>
+        requires { HasNames directive }
+        ensures table { IfOk result (λ t. declared self.entry line directive.entry ≡ Ok t) }
+        ensures fault { IfErr result (λ e. IsFaultOf e (declared self.entry line directive.entry)) }
+        ensures memory { IfErr result (λ e. e ≡ OutOfMemory → IsOk (declared self.entry line directive.entry)) }
+        ensures grows { IfErr result (λ e. e ≡ OutOfMemory → DeclaresMore (line, directive.entry)) }
+    {
+        match directive {
+            Directive::Item(name) => self.declare_item(line, name),
+            Directive::Flush(name, targets) => self.declare_flushes(line, name, targets),
+            Directive::Ordered(names) => self.declare_order(line, names),
+        }
+    }
+
+    /// The table with one item more.
+    fn declare_item(self, line: u32, name: Word<'a>) -> Result<Self, ItemError>
+        requires { IsTrue (is_name name.bytes) }
+        ensures table { IfOk result (λ t. item_declared self.entry line name.entry ≡ Ok t) }
+        ensures fault { IfErr result (λ e. IsFaultOf e (item_declared self.entry line name.entry)) }
+        ensures memory { IfErr result (λ e. e ≡ OutOfMemory → IsOk (item_declared self.entry line name.entry)) }
+    {
+        let Building {
+            mut names,
+            mut spans,
+            mut waits,
+            flushes,
+        } = self;
+        if names.len() >= MAX_ITEMS {
+            return Err(when_full(&names, line, name));
+        }
+        if !names.add(name.bytes())? {
+            return Err(ItemError::ItemTwice { line });
+        }
+        spans.push(name.span())?;
+        waits.push_item();
+        Ok(Building {
+            names,
+            spans,
+            waits,
+            flushes,
+        })
+    }
+
+    /// The table with the flushes that one item declares.
+    fn declare_flushes(
+        self,
+        line: u32,
+        name: Word<'a>,
+        targets: Words<'a>,
+    ) -> Result<Self, ItemError>
+        ensures table { IfOk result (λ t. flushes_declared self.entry line (items_named self.entry.names (name.entry ∷ targets.entry)) ≡ Ok t) }
+        ensures fault { IfErr result (λ e. IsFaultOf e (flushes_declared self.entry line (items_named self.entry.names (name.entry ∷ targets.entry)))) }
+        ensures memory { IfErr result (λ e. e ≡ OutOfMemory → IsOk (flushes_declared self.entry line (items_named self.entry.names (name.entry ∷ targets.entry)))) }
+        ensures grows { IfErr result (λ e. e ≡ OutOfMemory → 0 < length targets.entry) }
+    {
+        let Some(item) = self.names.find(name.bytes()) else {
+            return Err(ItemError::UnknownItem { line });
+        };
+        let Building {
+            names,
+            spans,
+            mut waits,
+            flushes,
+        } = self;
+        match push_targets(&names, &mut waits, item, flushes, targets.again()) {
+            Some(flushes) => Ok(Building {
+                names,
+                spans,
+                waits,
+                flushes,
+            }),
+            None => Err(refusal(&names, flushes, line, targets)),
+        }
+    }
+
+    /// The table as it is, if each of these words names an item.
+    fn declare_order(self, line: u32, names: Words<'a>) -> Result<Self, ItemError>
+        ensures table { IfOk result (λ t. items_ordered self.entry line (items_named self.entry.names names.entry) ≡ Ok t) }
+        ensures fault { IfErr result (λ e. items_ordered self.entry line (items_named self.entry.names names.entry) ≡ Err e) }
+    {
+        if count_known(&self.names, names.again()).is_none() {
+            return Err(ItemError::UnknownItem { line });
+        }
+        Ok(self)
+    }
+
+    /// The table, with the targets of each item beside each other.
+    fn finish(self, alloc: A) -> Result<ItemTable<'a, A>, AllocError>
+        ensures table { IfOk result (λ t. t ≡ self.entry) }
+        ensures memory { IfErr result (λ _. 0 < length self.entry.names) }
+    {
+        let Building {
+            names,
+            spans,
+            waits,
+            flushes,
+        } = self;
+        let waits = waits.by_item(alloc)?;
+        Ok(ItemTable {
+            names,
+            spans,
+            waits,
+            flushes,
+        })
+    }
+}
+
+impl<'a, A: Allocator + Copy> ItemTable<'a, A> {
     /// The table that the directives of a view declare.
     ///
     /// Each target of a `flush` line is a flush of its own. An `ordered` line adds nothing, but each name on it must be
@@ -171,98 +302,11 @@ impl<'a, A: Allocator + Copy> ItemTable<'a, A> {
         ensures fault { IfErr result (λ e. IsFaultOf e (table_of view.now)) }
         ensures memory { IfErr result (λ e. e ≡ OutOfMemory → RanOut view.now) }
     {
-        let mut table = ItemTable::empty(alloc, seed);
+        let mut table = Building::empty(alloc, seed);
         for (line, directive) in view.directives() {
-            table = table.declare(alloc, line, directive)?;
+            table = table.declare(line, directive)?;
         }
-        Ok(table)
-    }
-
-    /// The table with what one line declares.
-    fn declare(self, alloc: A, line: u32, directive: Directive<'a>) -> Result<Self, ItemError>
-        requires { HasNames directive }
-        ensures table { IfOk result (λ t. declared self.entry line directive.entry ≡ Ok t) }
-        ensures fault { IfErr result (λ e. IsFaultOf e (declared self.entry line directive.entry)) }
-        ensures memory { IfErr result (λ e. e ≡ OutOfMemory → IsOk (declared self.entry line directive.entry)) }
-        ensures grows { IfErr result (λ e. e ≡ OutOfMemory → DeclaresMore (line, directive.entry)) }
-    {
-        match directive {
-            Directive::Item(name) => self.declare_item(alloc, line, name),
-            Directive::Flush(name, targets) => self.declare_flushes(line, name, targets),
-            Directive::Ordered(names) => self.declare_order(line, names),
-        }
-    }
-
-    /// The table with one item more.
-    fn declare_item(self, alloc: A, line: u32, name: Word<'a>) -> Result<Self, ItemError>
-        requires { IsTrue (is_name name.bytes) }
-        ensures table { IfOk result (λ t. item_declared self.entry line name.entry ≡ Ok t) }
-        ensures fault { IfErr result (λ e. IsFaultOf e (item_declared self.entry line name.entry)) }
-        ensures memory { IfErr result (λ e. e ≡ OutOfMemory → IsOk (item_declared self.entry line name.entry)) }
-    {
-        let ItemTable {
-            mut names,
-            mut spans,
-            mut waits,
-            flushes,
-        } = self;
-        if names.len() >= MAX_ITEMS {
-            return Err(when_full(&names, line, name));
-        }
-        if !names.add(name.bytes())? {
-            return Err(ItemError::ItemTwice { line });
-        }
-        spans.push(name.span())?;
-        waits.push_item(alloc)?;
-        Ok(ItemTable {
-            names,
-            spans,
-            waits,
-            flushes,
-        })
-    }
-
-    /// The table with the flushes that one item declares.
-    fn declare_flushes(
-        self,
-        line: u32,
-        name: Word<'a>,
-        targets: Words<'a>,
-    ) -> Result<Self, ItemError>
-        ensures table { IfOk result (λ t. flushes_declared self.entry line (items_named self.entry.names (name.entry ∷ targets.entry)) ≡ Ok t) }
-        ensures fault { IfErr result (λ e. IsFaultOf e (flushes_declared self.entry line (items_named self.entry.names (name.entry ∷ targets.entry)))) }
-        ensures memory { IfErr result (λ e. e ≡ OutOfMemory → IsOk (flushes_declared self.entry line (items_named self.entry.names (name.entry ∷ targets.entry)))) }
-        ensures grows { IfErr result (λ e. e ≡ OutOfMemory → 0 < length targets.entry) }
-    {
-        let Some(item) = self.names.find(name.bytes()) else {
-            return Err(ItemError::UnknownItem { line });
-        };
-        let ItemTable {
-            names,
-            spans,
-            mut waits,
-            flushes,
-        } = self;
-        match push_targets(&names, &mut waits, item, flushes, targets.again()) {
-            Some(flushes) => Ok(ItemTable {
-                names,
-                spans,
-                waits,
-                flushes,
-            }),
-            None => Err(refusal(&names, flushes, line, targets)),
-        }
-    }
-
-    /// The table as it is, if each of these words names an item.
-    fn declare_order(self, line: u32, names: Words<'a>) -> Result<Self, ItemError>
-        ensures table { IfOk result (λ t. items_ordered self.entry line (items_named self.entry.names names.entry) ≡ Ok t) }
-        ensures fault { IfErr result (λ e. items_ordered self.entry line (items_named self.entry.names names.entry) ≡ Err e) }
-    {
-        if count_known(&self.names, names.again()).is_none() {
-            return Err(ItemError::UnknownItem { line });
-        }
-        Ok(self)
+        Ok(table.finish(alloc)?)
     }
 
     /// How many items there are, at most 4,096.
@@ -317,6 +361,6 @@ impl<'a, A: Allocator + Copy> ItemTable<'a, A> {
         requires { i < length self.now.names }
         ensures { result.now ≡ targets_of self.now.waits i }
     {
-        self.waits.get(i.get() as usize)
+        self.waits.get(i)
     }
 }

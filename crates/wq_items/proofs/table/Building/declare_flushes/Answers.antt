@@ -4,7 +4,7 @@ use Rattle.wq_items.specs.Table.{Table, item_named, flush_count, targets_of}
 use Rattle.wq_items.specs.Building.{items_named, targets_from}
 use Rattle.wq_items.proofs.TableLemmas.{item_named-below}
 use Rattle.wq_items.proofs.GrownTables.{IsTable-flushes_added}
-use Rattle.wq_items.proofs.table.ItemTable.declare_flushes.Goals as goal
+use Rattle.wq_items.proofs.table.Building.declare_flushes.Goals as goal
 
 pub invariant_of-result : goal.invariant_of-result
 invariant_of-result g c =

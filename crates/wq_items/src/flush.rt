@@ -1,0 +1,84 @@
+//! The flushes that a declaration declares, in order of place, while its lines are read.
+//!
+//! They are those of "Items and groups" in docs/FORMAT.md. All flushes of all items are in one vector. Each call takes
+//! constant time, a push on average, but for `by_item`, which takes time in the items and the flushes.
+
+ghost use Rattle.std.specs.Prelude.{◌≡◌, ◌<◌, ◌++◌, ◌∷◌, [], length, slice_set, OnOk, OnErr, IfOk, IfErr};
+ghost use Rattle.wq_items.specs.Table.{targets_of, flush_count};
+
+use crate::target::{ItemId, Target};
+use crate::waits::Waits;
+use std::alloc::{AllocError, Allocator};
+use std::marker::Model;
+
+/// One declared flush: the item in whose function it stands, and its target.
+#[derive(Clone, Copy)]
+pub(crate) struct Flush {
+    pub(crate) item: ItemId,
+    pub(crate) target: Target,
+}
+
+/// The flushes of so many items. Contracts see of each item in turn the list of its targets.
+#[derive(Drop)]
+pub(crate) struct Flushes<A: Allocator> {
+    flushes: Vec<Flush, A>,
+    items: u16,
+}
+
+impl<A: Allocator> Model for Flushes<A> {
+    ghost use Rattle.std.specs.Prelude.{◌≡◌, ◌<◌, List, length};
+    ghost use Rattle.std.specs.List.{All};
+    ghost use Rattle.wq_items.specs.declared.target.Target.{Target};
+    ghost use Rattle.wq_items.specs.declared.flush.Flush.{Flush};
+    ghost use Rattle.wq_items.specs.Table.{flush_count};
+    ghost use Rattle.wq_items.specs.Waits.{waits_of};
+
+    ghost Value = { List (List Target) };
+
+    ghost view = { λ f. waits_of f.flushes.items f.items };
+
+    ghost invariant = { λ f. All (λ (x : Flush). x.item < f.items) f.flushes.items × (length f.flushes.items ≡ flush_count (waits_of f.flushes.items f.items)) };
+}
+
+impl<A: Allocator + Copy> Flushes<A> {
+    /// No item.
+    pub(crate) fn new(alloc: A) -> Self
+        ensures { result ≡ [] }
+    {
+        Flushes {
+            flushes: Vec::new(alloc),
+            items: 0,
+        }
+    }
+
+    /// One item more, without a target.
+    pub(crate) fn push_item(&mut self)
+        requires { length self.old < 65535 }
+        ensures { self.new ≡ self.old ++ ([] ∷ []) }
+    {
+        self.items += 1;
+    }
+
+    /// One target more of an item.
+    pub(crate) fn push_target(&mut self, i: usize, target: Target) -> Result<(), AllocError>
+        requires { i < length self.old }
+        ensures ok { OnOk result (self.new ≡ slice_set self.old i (targets_of self.old i ++ (target ∷ []))) }
+        ensures err { OnErr result (self.new ≡ self.old) }
+    {
+        let flushes = &mut self.flushes;
+        flushes.push(Flush {
+            item: ItemId::new(i as u16),
+            target,
+        })?;
+        Ok(())
+    }
+
+    /// The targets, item by item. The only error is that memory ran out; without an item nothing grows.
+    pub(crate) fn by_item(self, alloc: A) -> Result<Waits<A>, AllocError>
+        requires { flush_count self < 4294967296 }
+        ensures waits { IfOk result (λ waits. waits ≡ self) }
+        ensures memory { IfErr result (λ _. 0 < length self) }
+    {
+        Waits::new(alloc, self.flushes.as_slice(), self.items)
+    }
+}

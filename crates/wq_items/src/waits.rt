@@ -1,0 +1,102 @@
+//! The targets of each item, in order of place, in one vector.
+//!
+//! They are the waits of "Items and groups" in docs/FORMAT.md. The targets of item 0 stand first, and of each item it is known
+//! where its targets begin. `wq_buckets` finds of each item its flushes, and nothing is compared. Making them takes time and
+//! memory in the items and the flushes; the targets of an item are found in constant time.
+
+ghost use Rattle.std.specs.Prelude.{◌≡◌, ◌<◌, ◌++◌, length, map, get_or, IfOk, IfErr};
+ghost use Rattle.std.specs.List.{All};
+ghost use Rattle.wq_items.specs.declared.flush.Flush.{Flush};
+ghost use Rattle.wq_items.specs.Table.{targets_of};
+ghost use Rattle.wq_items.specs.Waits.{waits_of};
+
+use crate::flush::Flush;
+use crate::target::{ItemId, Target};
+use std::alloc::{AllocError, Allocator};
+use std::marker::Model;
+use wq_buckets::{Buckets, piece};
+
+/// A list of targets for each item. Contracts see the list of these lists.
+#[derive(Drop)]
+pub(crate) struct Waits<A: Allocator> {
+    targets: Vec<Target, A>,
+    begins: Vec<usize, A>,
+}
+
+impl<A: Allocator> Model for Waits<A> {
+    ghost use Rattle.std.specs.Prelude.{List};
+    ghost use Rattle.wq_buckets.specs.Cuts.{AreCuts, pieces};
+    ghost use Rattle.wq_items.specs.declared.target.Target.{Target};
+
+    ghost Value = { List (List Target) };
+
+    ghost view = { λ w. pieces w.begins.items w.targets.items };
+
+    ghost invariant = { λ w. AreCuts w.begins.items w.targets.items };
+}
+
+/// Of each flush in turn the item that declares it.
+fn items_flushing<A: Allocator + Copy>(
+    alloc: A,
+    flushes: &[Flush],
+) -> Result<Vec<u16, A>, AllocError>
+    ensures { IfOk result (λ items. items.items ≡ map (λ (f : Flush). f.item) flushes.now) }
+{
+    let mut items = Vec::with_capacity(alloc, flushes.len())?;
+    for flush in flushes {
+        items.push(flush.item.get())?;
+    }
+    Ok(items)
+}
+
+/// Adds the targets of the flushes at these places.
+fn add_targets<A: Allocator + Copy>(
+    targets: &mut Vec<Target, A>,
+    flushes: &[Flush],
+    places: &[u32],
+) -> Result<(), AllocError>
+    requires { All (λ p. p < length flushes.now) places.now }
+    ensures { IfOk result (λ _. (d : Flush) → targets.new.items ≡ targets.old.items ++ map (λ p. (get_or flushes.now p d).target) places.now) }
+{
+    for place in places {
+        targets.push(flushes[*place as usize].target)?;
+    }
+    Ok(())
+}
+
+impl<A: Allocator + Copy> Waits<A> {
+    /// The targets of so many items, where these are the flushes in order of place.
+    ///
+    /// The only error is that memory ran out. Without an item nothing grows.
+    pub(crate) fn new(alloc: A, flushes: &[Flush], items: u16) -> Result<Self, AllocError>
+        requires within { All (λ (f : Flush). f.item < items) flushes.now }
+        requires few { length flushes.now < 4294967296 }
+        ensures waits { IfOk result (λ waits. waits ≡ waits_of flushes.now items) }
+        ensures memory { IfErr result (λ _. 0 < items) }
+    {
+        if items == 0 {
+            return Ok(Waits {
+                targets: Vec::new(alloc),
+                begins: Vec::new(alloc),
+            });
+        }
+        let flushing = items_flushing(alloc, flushes)?;
+        let buckets = Buckets::new(alloc, flushing.as_slice(), items)?;
+        let mut targets = Vec::with_capacity(alloc, flushes.len())?;
+        let mut begins = Vec::with_capacity(alloc, usize::from(items) + 1)?;
+        begins.push(0)?;
+        for item in 0..items {
+            add_targets(&mut targets, flushes, buckets.places(item))?;
+            begins.push(targets.len())?;
+        }
+        Ok(Waits { targets, begins })
+    }
+
+    /// The targets of an item.
+    pub(crate) fn get(&self, i: ItemId) -> &[Target]
+        requires { i < length self.now }
+        ensures { result.now ≡ targets_of self.now i }
+    {
+        piece(self.targets.as_slice(), self.begins.as_slice(), i.get())
+    }
+}
