@@ -1,14 +1,32 @@
 -- Words before a comment, as they are cut off one after the other.
-use Rattle.std.proofs.Common.{◌≡◌, ◌≢◌, ℕ, ◌+◌, ◌<◌, Bool, true, false, eqb, not, ◌||◌, List, [], ◌∷◌, ◌++◌, length, Some, None, refl, sym, ap, subst, ◌∙◌, arith, append-nil, one-add, inl, inr, ◌⊎◌}
+use Rattle.std.proofs.Common.{◌≡◌, ◌≢◌, ℕ, ◌+◌, ◌<◌, ◌≤◌, Bool, true, false, eqb, not, ◌||◌, List, [], ◌∷◌, ◌++◌, length, get_or, take, Some, None, refl, sym, ap, subst, ◌∙◌, arith, append-nil, one-add, inl, inr, ◌⊎◌}
 use Rattle.std.specs.List.{prefix_len}
 use Rattle.std.proofs.lemmas.Bool.{or_parts}
 use Rattle.std.proofs.lemmas.Bool.Decides.{nat_tests}
-use Rattle.std.proofs.lemmas.List.Sums.{position_or_len_is}
+use Rattle.std.proofs.lemmas.List.{get_or-take, length-take-le}
+use Rattle.std.proofs.lemmas.List.Sums.{position_or_len_is, prefix_len_is}
 use Rattle.memchr.specs.Find.{IsFirstByte, is_byte3}
 use Rattle.wq_text.specs.Comments.{before_comment}
 use Rattle.wq_text.specs.Words.{words_from, is_blank, begins_word, in_word, AllBlank, NoBlank, EndsAWord, AllInWord, EndsAtOnce}
 use Rattle.wq_text.proofs.PieceLemmas.{is_false}
 use Rattle.wq_text.proofs.WordLemmas.{FailsAtOnce, words_from-blank, words_from-first_word}
+
+-- ---- how many bytes pass a test, where only those near the front are looked at
+
+module _ (p : ℕ → Bool) (n : ℕ) (bs : List ℕ) (within : n ≤ length bs) where
+  near : length (take n bs) ≡ n
+  near = length-take-le n bs within
+
+  near_at : (j : ℕ) → j < length (take n bs) → p (get_or bs j 0) ≡ p (get_or (take n bs) j 0)
+  near_at j lt = ap p (sym (get_or-take n bs j 0 (omega (arith, near))))
+
+  pub prefix_len-near : (k : ℕ) → k < length (take n bs) → ((j : ℕ) → j < k → p (get_or (take n bs) j 0) ≡ true) → p (get_or (take n bs) k 0) ≡ false → k ≡ prefix_len p bs
+  prefix_len-near k lt before stops =
+      sym (prefix_len_is p bs k 0 (omega (arith, near)) (λ j below. near_at j (omega arith) ∙ before j below) (λ _. near_at k lt ∙ stops))
+
+  pub prefix_len-all_near : length bs ≤ length (take n bs) → ((j : ℕ) → j < length bs → p (get_or (take n bs) j 0) ≡ true) → length bs ≡ prefix_len p bs
+  prefix_len-all_near all before =
+      sym (prefix_len_is p bs (length bs) 0 (omega arith) (λ j below. near_at j (omega arith) ∙ before j below) (λ lt. absurd (omega arith)))
 
 -- ---- how many bytes stand before the first that ends a word
 

@@ -2,6 +2,7 @@ pub mod CommentLemmas
 pub mod CutLemmas
 pub mod LimitLaws
 pub mod LineLemmas
+pub mod LongLines
 pub mod NumberLemmas
 pub mod PieceLaws
 pub mod PieceLemmas

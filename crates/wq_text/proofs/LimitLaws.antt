@@ -34,11 +34,14 @@ IsShort-long_fault : (m : ℕ) (lines : List LineView) → long_fault m lines �
 IsShort-long_fault m [] h = All-nil (IsShort m)
 IsShort-long_fault m (x ∷ xs) h = short-step m x xs (ltb m (length x.bytes)) refl (IsShort-long_fault m xs) h
 
-long_fault-IsShort : (m : ℕ) (lines : List LineView) → All (IsShort m) lines → long_fault m lines ≡ None
-long_fault-IsShort m [] h = refl
-long_fault-IsShort m (x ∷ xs) h =
+pub first_long_line-IsShort : (m : ℕ) (lines : List LineView) → All (IsShort m) lines → first_long_line m lines ≡ None
+first_long_line-IsShort m [] h = refl
+first_long_line-IsShort m (x ∷ xs) h =
     let short : ltb m (length x.bytes) ≡ false = le-ltb m (length x.bytes) (All-head (IsShort m) x xs h) in
-    rw short (long_fault-IsShort m xs (All-tail (IsShort m) x xs h))
+    rw short (first_long_line-IsShort m xs (All-tail (IsShort m) x xs h))
+
+long_fault-IsShort : (m : ℕ) (lines : List LineView) → All (IsShort m) lines → long_fault m lines ≡ None
+long_fault-IsShort m lines h = ap (option_map (λ (line : LineView). LineTooLong line.no)) (first_long_line-IsShort m lines h)
 
 -- ---- one is, and no earlier one
 

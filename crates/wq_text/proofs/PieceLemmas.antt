@@ -34,14 +34,17 @@ pub pieces-whole : (bs : List ℕ) → 0 < length bs → NoFeed bs → pieces bs
 pieces-whole [] h f = absurd (omega arith)
 pieces-whole (x ∷ xs) h f = pieces-last x xs f
 
--- the bytes round the first line feed
+-- the bytes round a line feed
+pub split_at_feed : (bs : List ℕ) (k : ℕ) → k < length bs → get_or bs k 0 ≡ 10 → bs ≡ take k bs ++ (10 ∷ drop (k + 1) bs)
+split_at_feed bs k within feed =
+    let tail : drop k bs ≡ 10 ∷ drop (k + 1) bs = drop-cons bs k 0 within ∙ ap (λ (x : ℕ). x ∷ drop (suc k) bs) feed ∙ (let e : suc k ≡ k + 1 = omega arith in ap (λ (j : ℕ). 10 ∷ drop j bs) e) in
+    sym (take-append-drop k bs) ∙ ap (λ (ys : List ℕ). take k bs ++ ys) tail
+
+-- the pieces, where the first line feed stands
 pub pieces-at_feed : (bs : List ℕ) (k : ℕ) → IsFirstByte (is_byte 10) bs (Some k) → pieces bs ≡ record { bytes = take k bs; ended = true } ∷ pieces (drop (k + 1) bs)
 pieces-at_feed bs k h =
     let clear : NoFeed (take k bs) = NoFeed-take bs k (λ j lt len e. h.0.before j (omega arith) lt e) in
-    let within : k < length bs = h.0.high in
-    let feed : get_or bs k 0 ≡ 10 = eqb-true _ _ h.1 in
-    let tail : drop k bs ≡ 10 ∷ drop (k + 1) bs = drop-cons bs k 0 within ∙ ap (λ (x : ℕ). x ∷ drop (suc k) bs) feed ∙ (let e : suc k ≡ k + 1 = omega arith in ap (λ (j : ℕ). 10 ∷ drop j bs) e) in
-    ap pieces (sym (take-append-drop k bs) ∙ ap (λ (ys : List ℕ). take k bs ++ ys) tail) ∙ pieces-feed (take k bs) (drop (k + 1) bs) clear
+    ap pieces (split_at_feed bs k h.0.high (eqb-true _ _ h.1)) ∙ pieces-feed (take k bs) (drop (k + 1) bs) clear
 
 -- no line feed stands in the bytes
 pub pieces-no_feed : (bs : List ℕ) → 0 < length bs → IsFirstByte (is_byte 10) bs None → pieces bs ≡ record { bytes = bs; ended = false } ∷ []

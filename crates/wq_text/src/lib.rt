@@ -7,6 +7,7 @@
 #![tactic(auto)]
 
 pub mod laws;
+mod limits;
 mod line;
 mod numeral;
 mod span;

@@ -85,14 +85,14 @@ impl<'a> Line<'a> {
 
 /// The first piece of some bytes, and what stands behind it.
 #[derive(Clone, Copy)]
-struct Cut<'a> {
-    piece: &'a [u8],
-    ended: bool,
-    rest: &'a [u8],
+pub(crate) struct Cut<'a> {
+    pub(crate) piece: &'a [u8],
+    pub(crate) ended: bool,
+    pub(crate) rest: &'a [u8],
 }
 
 /// Cuts bytes behind their first line feed.
-fn first_cut<'a>(bytes: &'a [u8]) -> Cut<'a>
+pub(crate) fn first_cut<'a>(bytes: &'a [u8]) -> Cut<'a>
     requires { 0 < length bytes.now }
     ensures first { pieces bytes.now ≡ record { bytes = result.piece.now; ended = result.ended } ∷ pieces result.rest.now }
     ensures whole { taken (record { bytes = result.piece.now; ended = result.ended }) + length result.rest.now ≡ length bytes.now }
@@ -113,7 +113,7 @@ fn first_cut<'a>(bytes: &'a [u8]) -> Cut<'a>
 }
 
 /// The bytes of the line that a piece makes: those of the piece, without one CR directly before its line feed.
-fn line_bytes(piece: &[u8], ended: bool) -> &[u8]
+pub(crate) fn line_bytes(piece: &[u8], ended: bool) -> &[u8]
     ensures bytes { result.now ≡ line_bytes (record { bytes = piece.now; ended = ended }) }
     ensures no_longer { length result.now ≤ length piece.now }
 {

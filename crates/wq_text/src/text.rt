@@ -1,13 +1,16 @@
 //! Texts within limits, and what is refused.
 //!
-//! The limits are the caller's: a declaration has others than a certificate (docs/FORMAT.md, "Limits"). Making a
-//! text looks at each byte once; handing it out takes constant time.
+//! The limits are the caller's: a declaration has others than a certificate (docs/FORMAT.md, "Limits"). Making a text
+//! takes time in its length at most, and much less where its lines are short beside their limit. Handing it out, or a part of it,
+//! takes constant time.
 
-ghost use Rattle.std.specs.Prelude.{◌≡◌, List, ℕ, length, IfErr, IfOk, None, Some};
+ghost use Rattle.std.specs.Prelude.{◌≡◌, ◌≤◌, List, ℕ, length, slice_range, IfErr, IfOk, None, Some};
 ghost use Rattle.wq_text.specs.Lines.{lines_of};
 ghost use Rattle.wq_text.specs.Limits.{limit_fault, text_refusal};
 
+use crate::limits::first_long_line;
 use crate::line::Lines;
+use crate::span::Span;
 use std::marker::Model;
 use thiserror::Error;
 
@@ -73,10 +76,9 @@ impl<'a> Text<'a> {
         if text.len() > max_text as usize {
             return Err(TextError::TextTooLong);
         }
-        let whole = Text { bytes: text };
-        match whole.lines().first_longer_than(max_line) {
+        match first_long_line(text, max_line) {
             Some(line) => Err(TextError::LineTooLong { line }),
-            None => Ok(whole),
+            None => Ok(Text { bytes: text }),
         }
     }
 
@@ -92,6 +94,15 @@ impl<'a> Text<'a> {
         ensures { result.now ≡ self.now }
     {
         self.bytes
+    }
+
+    /// The bytes of a span of the text.
+    pub fn at(&self, span: Span) -> &'a [u8]
+        requires in_order { span.start ≤ span.end }
+        requires within { span.end ≤ length self.now }
+        ensures { result.now ≡ slice_range self.now span.start span.end }
+    {
+        &self.bytes[span.start as usize..span.end as usize]
     }
 
     /// The lines, in order.

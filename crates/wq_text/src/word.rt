@@ -1,7 +1,8 @@
 //! Words: the longest runs of bytes other than space and TAB.
 //!
 //! The rule is that of "Lines, words and numbers" in docs/FORMAT.md. A `#` ends the word before it and all words of a line,
-//! so the comment isn't sought before the words are. Each byte before it is looked at once.
+//! so the comment isn't sought before the words are. Each byte before it is looked at once, the first ones of a long word
+//! twice.
 
 ghost use Rattle.std.specs.Prelude.{◌≡◌, ◌+◌, ◌<◌, ◌^◌, ◌⊎◌, true, [], ◌++◌, length};
 ghost use Rattle.std.specs.List.{prefix_len};
@@ -13,8 +14,9 @@ use crate::span::Span;
 use memchr::memchr3;
 use std::marker::Model;
 
-/// From how many bytes on the end of a word is sought many bytes at a time.
-const MANY: usize = 32;
+/// How many bytes of a word are looked at one by one, before its end is sought many bytes at a time. The words that begin a
+/// directive are shorter.
+const MANY: usize = 8;
 
 /// A word of a line. Contracts see its offset in the text and its bytes.
 #[derive(Drop)]
@@ -83,34 +85,40 @@ fn in_word(byte: u8) -> bool
 fn blanks_in_front(bytes: &[u8]) -> usize
     ensures { result ≡ prefix_len is_blank bytes.now }
 {
-    bytes.iter().take_while(|byte| is_blank(**byte)).count()
+    for (len, byte) in bytes.iter().enumerate() {
+        if !is_blank(*byte) {
+            return len;
+        }
+    }
+    bytes.len()
 }
 
-/// How many bytes at the front may stand in a word, one byte after the other.
-fn short_word_in_front(bytes: &[u8]) -> usize
+/// How many bytes at the front may stand in a word. The end of a long word is sought many bytes at a time.
+fn word_in_front(bytes: &[u8]) -> usize
     ensures { result ≡ prefix_len in_word bytes.now }
 {
-    bytes.iter().take_while(|byte| in_word(**byte)).count()
+    let near = &bytes[..bytes.len().min(MANY)];
+    for (len, byte) in near.iter().enumerate() {
+        if !in_word(*byte) {
+            return len;
+        }
+    }
+    if near.len() < bytes.len() {
+        long_word_in_front(bytes)
+    } else {
+        bytes.len()
+    }
 }
 
-/// The same, many bytes at a time.
+/// The same, many bytes at a time. It is kept out of its callers: a search by vectors makes a function save what it overwrites, and
+/// they would do so in each call, for short words too.
+#[inline(never)]
 fn long_word_in_front(bytes: &[u8]) -> usize
     ensures { result ≡ prefix_len in_word bytes.now }
 {
     match memchr3(b' ', b'\t', b'#', bytes) {
         Some(end) => end,
         None => bytes.len(),
-    }
-}
-
-/// How many bytes at the front may stand in a word.
-fn word_in_front(bytes: &[u8]) -> usize
-    ensures { result ≡ prefix_len in_word bytes.now }
-{
-    if bytes.len() < MANY {
-        short_word_in_front(bytes)
-    } else {
-        long_word_in_front(bytes)
     }
 }
 
