@@ -1,17 +1,19 @@
 -- Going over the names of an `ordered` line: what is marked, which item is the first, and whose first it becomes.
-use Rattle.std.proofs.Common.{◌≡◌, ℕ, ◌<◌, ◌≤◌, ◌⊎◌, inl, inr, Bool, true, false, ◌||◌, cond, List, [], ◌∷◌, ◌++◌, length, map, get_or, set, Option, Some, None, refl, sym, ap, ap₂, subst, ◌∙◌, arith, append_assoc, append-nil}
-use Rattle.std.specs.Prelude.{IsSome, Contains, bytes_eq}
-use Rattle.std.proofs.lemmas.Bool.{cases_Bool, cases_eq, both_ways, cond-true, cond-false, false_from_ne_true}
-use Rattle.std.proofs.lemmas.List.{length-map, length-set, get_or-map, get_or-set_same, get_or-set_other, ext_get_or}
+use Rattle.std.proofs.Common.{◌≡◌, ℕ, ◌+◌, ◌<◌, ◌≤◌, ◌⊎◌, inl, inr, Bool, true, false, ◌||◌, cond, eqb, List, [], ◌∷◌, ◌++◌, length, map, get_or, set, Option, Some, None, refl, sym, ap, ap₂, subst, ◌∙◌, arith, append_assoc, append-nil}
+use Rattle.std.specs.Prelude.{IsSome, Contains, bytes_eq, slice_index}
+use Rattle.std.specs.List.{count_by, list_any}
+use Rattle.std.proofs.lemmas.Bool.{cases_Bool, cases_eq, both_ways, cond-true, cond-false, eq-eqb, eqb-true, false_from_ne_true}
+use Rattle.std.proofs.lemmas.List.{length-append, length-map, length-set, get_or-map, get_or-set_same, get_or-set_other, ext_get_or}
 use Rattle.std.proofs.lemmas.List.Folds.{list_any-append}
-use Rattle.std.proofs.lemmas.List.Sums.{fails_before_first, passes_at_first, position_or_len_is}
+use Rattle.std.proofs.lemmas.List.Sums.{fails_before_first, passes_at_first, position_or_len_is, sum_by-set, count_by-le-length}
 use Rattle.std.proofs.lemmas.List.Quantifiers.{position-Some}
 use Rattle.wq_text.specs.Words.{WordView}
 use Rattle.wq_items.specs.Table.{item_named}
 use Rattle.wq_items.specs.Building.{items_named, and_item}
 use Rattle.wq_items.proofs.FlushLemmas.{item_named-is}
-use Rattle.wq_items.proofs.TableLemmas.{item_named-below}
+use Rattle.wq_items.proofs.TableLemmas.{parts, item_named-below}
 use Rattle.wq_groups.specs.Reading.{names_in, marks_of, lowest_of}
+use Rattle.wq_groups.proofs.Together.{same_test}
 use Rattle.wq_groups.proofs.Among.{is_among, same_name, bytes_eq-same, Contains-is_among, is_among-Contains, Differ, Differ-places, Differ-push, Differ-parts}
 
 -- ---- one name of a table
@@ -109,8 +111,21 @@ lowest_of-push names front w i low found le_own le_front one =
 
 -- ---- marking
 
--- `rest` of all the words are left: the items of those in front are marked, and the first of them is `lowest`
-pub record Marked (names : List (List ℕ)) (old new : List Bool) (lowest : ℕ) (rest words : List WordView) : Type 0 where
+-- how many items are marked
+abbrev pub marked_count : List Bool → ℕ
+marked_count marks = count_by (λ (b : Bool). b) marks
+
+abbrev one_if : Bool → ℕ
+one_if b = cond b 1 0
+
+marked_count-set : (marks : List Bool) (i : ℕ) → i < length marks → get_or marks i false ≡ false → marked_count (set marks i true) ≡ marked_count marks + 1
+marked_count-set marks i within fresh =
+    let counted : marked_count (set marks i true) + one_if (get_or marks i false) ≡ marked_count marks + one_if true = sum_by-set one_if marks i true false within in
+    let none : one_if (get_or marks i false) ≡ one_if false = ap one_if fresh in
+    omega (arith, counted, none)
+
+-- `rest` of all the words are left: the items of those in front are listed and marked, and the first of them is `lowest`
+pub record Marked (names : List (List ℕ)) (old new : List Bool) (items : List ℕ) (lowest : ℕ) (rest words : List WordView) : Type 0 where
   pub front : List (List ℕ)
   pub parts : names_in words ≡ front ++ names_in rest
   pub known : IsSome (items_named names rest)
@@ -118,9 +133,12 @@ pub record Marked (names : List (List ℕ)) (old new : List Bool) (lowest : ℕ)
   pub first : lowest ≡ lowest_of names front
   pub marks : (before : List (List ℕ)) → old ≡ marks_of names before → new ≡ marks_of names (before ++ front)
   pub apart : (before : List (List ℕ)) → old ≡ marks_of names before → Differ before → Differ (before ++ front)
+  pub listed : (others : List ℕ) → items_named names rest ≡ Some others → items_named names words ≡ Some (items ++ others)
+  pub few : length items ≤ marked_count new
 
-pub Marked-none : (names : List (List ℕ)) (old : List Bool) (lowest : ℕ) (words : List WordView) → length old ≡ length names → IsSome (items_named names words) → lowest ≡ length names → Marked names old old lowest words words
-Marked-none names old lowest words long known all = record {
+pub Marked-none : (names : List (List ℕ)) (old : List Bool) (items : List ℕ) (lowest : ℕ) (words : List WordView) → length old ≡ length names → items ≡ [] → IsSome (items_named names words) → lowest ≡ length names
+    → Marked names old old items lowest words words
+Marked-none names old items lowest words long empty known all = record {
   front = [];
   parts = refl;
   known = known;
@@ -128,12 +146,21 @@ Marked-none names old lowest words long known all = record {
   first = all ∙ sym (position_or_len_is (λ (name : List ℕ). is_among name []) names (length names) [] (omega arith) (λ k lt. refl) (λ lt. absurd (omega arith)));
   marks = λ before is. is ∙ ap (marks_of names) (sym (append-nil before));
   apart = λ before is differ. subst Differ (sym (append-nil before)) differ;
+  listed = λ others is. is ∙ ap (λ (front : List ℕ). Some (front ++ others)) (sym empty);
+  few = let none : length items ≡ 0 = ap length empty in omega (arith, none);
 }
 
+-- there is room for one item more than are listed where one isn't marked
+pub Marked-room : (names : List (List ℕ)) (old mid : List Bool) (items : List ℕ) (lowest : ℕ) (rest words : List WordView) (i : ℕ) → i < length names → get_or mid i false ≡ false
+    → Marked names old mid items lowest rest words → length items < length names
+Marked-room names old mid items lowest rest words i within fresh m =
+    omega (arith, m.few, m.long, marked_count-set mid i (omega (arith, within, m.long)) fresh, count_by-le-length (λ (b : Bool). b) (set mid i true), length-set mid i true)
+
 -- the next name's item isn't marked
-pub Marked-more : (names : List (List ℕ)) (old mid : List Bool) (lowest low : ℕ) (w : WordView) (rest words : List WordView) (i : ℕ) → Differ names → item_named names w.bytes ≡ Some i → get_or mid i false ≡ false
-    → low ≤ i → low ≤ lowest → (low ≡ i) ⊎ (low ≡ lowest) → Marked names old mid lowest (w ∷ rest) words → Marked names old (set mid i true) low rest words
-Marked-more names old mid lowest low w rest words i differ found fresh le_own le_front one m = record {
+pub Marked-more : (names : List (List ℕ)) (old mid : List Bool) (items more : List ℕ) (lowest low : ℕ) (w : WordView) (rest words : List WordView) (i item : ℕ) → Differ names → item_named names w.bytes ≡ Some i
+    → get_or mid i false ≡ false → item ≡ i → more ≡ items ++ (item ∷ []) → low ≤ i → low ≤ lowest → (low ≡ i) ⊎ (low ≡ lowest) → Marked names old mid items lowest (w ∷ rest) words
+    → Marked names old (set mid i true) more low rest words
+Marked-more names old mid items more lowest low w rest words i item differ found fresh same pushed le_own le_front one m = record {
   front = m.front ++ (w.bytes ∷ []);
   parts = m.parts ∙ sym (append_assoc m.front (w.bytes ∷ []) (names_in rest));
   known = known_rest names w rest m.known;
@@ -146,12 +173,23 @@ Marked-more names old mid lowest low w rest words i differ found fresh le_own le
       (Differ-push (before ++ m.front) w.bytes (m.apart before is apart)
       (λ (again : Contains (before ++ m.front) w.bytes). both_ways (get_or mid i false) fresh
       (ap (λ (marks : List Bool). get_or marks i false) (m.marks before is) ∙ get_or-named (λ (name : List ℕ). is_among name (before ++ m.front)) names w.bytes i false found ∙ is_among-Contains w.bytes (before ++ m.front) again)));
+  listed = λ others is.
+      m.listed (i ∷ others) (ap₂ and_item found is)
+      ∙ ap (λ (l : List ℕ). Some l) (sym (ap (λ (front : List ℕ). front ++ others) (pushed ∙ ap (λ (j : ℕ). items ++ (j ∷ [])) same) ∙ append_assoc items (i ∷ []) others));
+  few =
+      let within : i < length mid = omega (arith, item_named-below names w.bytes i found, m.long) in
+      let long : length more ≡ length items + 1 = ap length pushed ∙ length-append items (item ∷ []) in
+      omega (arith, m.few, long, marked_count-set mid i within fresh);
 }
 
+-- when no words are left, the items of all are listed
+pub Marked-all : (names : List (List ℕ)) (old new : List Bool) (items : List ℕ) (lowest : ℕ) (rest words : List WordView) → rest ≡ [] → Marked names old new items lowest rest words → items_named names words ≡ Some items
+Marked-all names old new items lowest rest words done m = m.listed [] (ap (items_named names) done) ∙ ap (λ (l : List ℕ). Some l) (append-nil items)
+
 -- the next name's item is marked already
-pub Marked-twice : (names : List (List ℕ)) (old mid : List Bool) (lowest : ℕ) (w : WordView) (rest words : List WordView) (i : ℕ) → item_named names w.bytes ≡ Some i → get_or mid i false ≡ true
-    → Marked names old mid lowest (w ∷ rest) words → (before : List (List ℕ)) → old ≡ marks_of names before → Differ (before ++ names_in words) → ⊥
-Marked-twice names old mid lowest w rest words i found marked m before is differ =
+pub Marked-twice : (names : List (List ℕ)) (old mid : List Bool) (items : List ℕ) (lowest : ℕ) (w : WordView) (rest words : List WordView) (i : ℕ) → item_named names w.bytes ≡ Some i → get_or mid i false ≡ true
+    → Marked names old mid items lowest (w ∷ rest) words → (before : List (List ℕ)) → old ≡ marks_of names before → Differ (before ++ names_in words) → ⊥
+Marked-twice names old mid items lowest w rest words i found marked m before is differ =
     let stood : Contains (before ++ m.front) w.bytes =
     Contains-is_among w.bytes (before ++ m.front)
     (sym (get_or-named (λ (name : List ℕ). is_among name (before ++ m.front)) names w.bytes i false found) ∙ ap (λ (marks : List Bool). get_or marks i false) (sym (m.marks before is)) ∙ marked) in
@@ -160,27 +198,30 @@ Marked-twice names old mid lowest w rest words i found marked m before is differ
 
 -- ---- setting the first
 
--- `rest` of all the words are left: the items of those in front have this first
-pub record FirstSet (names : List (List ℕ)) (old new : List ℕ) (lowest : ℕ) (rest words : List WordView) : Type 0 where
-  pub front : List (List ℕ)
-  pub parts : names_in words ≡ front ++ names_in rest
-  pub known : IsSome (items_named names rest)
-  pub long : length new ≡ length names
-  pub firsts : (before : List ℕ → ℕ) → old ≡ map before names → new ≡ map (λ (name : List ℕ). cond (is_among name front) lowest (before name)) names
+-- a name of the table is one of the words where its item is one of theirs
+is_among-items : (names : List (List ℕ)) (words : List WordView) (items : List ℕ) (i : ℕ) → Differ names → items_named names words ≡ Some items → i < length names
+    → is_among (get_or names i []) (names_in words) ≡ list_any (λ (item : ℕ). eqb i item) items
+is_among-items names [] items i differ is within = let none : items ≡ [] = cc in ap (list_any (λ (item : ℕ). eqb i item)) (sym none)
+is_among-items names (w ∷ words) items i differ is within =
+    let p = parts (item_named names w.bytes) (items_named names words) items is in
+    let first : bytes_eq (get_or names i []) w.bytes ≡ eqb i p.item = same_test (bytes_eq (get_or names i []) w.bytes) (eqb i p.item)
+    (λ e. eq-eqb i p.item (Differ-places names i p.item differ within (item_named-below names w.bytes p.item p.first) (same_name (get_or names i []) w.bytes e ∙ sym (item_named-is names w.bytes p.item p.first))))
+    (λ e. bytes_eq-same (get_or names i []) w.bytes (ap (λ k. get_or names k []) (eqb-true i p.item e) ∙ item_named-is names w.bytes p.item p.first)) in
+    ap₂ (λ (a b : Bool). a || b) first (is_among-items names words p.others i differ p.rest within) ∙ ap (list_any (λ (item : ℕ). eqb i item)) (sym p.whole)
 
-pub FirstSet-more : (names : List (List ℕ)) (old mid : List ℕ) (lowest : ℕ) (w : WordView) (rest words : List WordView) (i : ℕ) → Differ names → item_named names w.bytes ≡ Some i
-    → FirstSet names old mid lowest (w ∷ rest) words → FirstSet names old (set mid i lowest) lowest rest words
-FirstSet-more names old mid lowest w rest words i differ found m = record {
-  front = m.front ++ (w.bytes ∷ []);
-  parts = m.parts ∙ sym (append_assoc m.front (w.bytes ∷ []) (names_in rest));
-  known = known_rest names w rest m.known;
-  long = length-set mid i lowest ∙ m.long;
-  firsts = λ before is.
-      ap (λ (firsts : List ℕ). set firsts i lowest) (m.firsts before is) ∙ set-named (λ (name : List ℕ). cond (is_among name m.front) lowest (before name)) names w.bytes i lowest differ found
-      ∙ map-agree (λ (name : List ℕ). cond (bytes_eq name w.bytes) lowest (cond (is_among name m.front) lowest (before name))) (λ (name : List ℕ). cond (is_among name (m.front ++ (w.bytes ∷ []))) lowest (before name))
-      (λ (name : List ℕ). either (before name) (bytes_eq name w.bytes) (is_among name m.front) ∙ ap (λ (b : Bool). cond b lowest (before name)) (sym (is_among-push name m.front w.bytes))) names;
-}
+-- where the items of the words have this first, and no others' was changed
+pub firsts-set : (names : List (List ℕ)) (words : List WordView) (items old new : List ℕ) (lowest : ℕ) (before : List ℕ → ℕ) → Differ names → items_named names words ≡ Some items → old ≡ map before names
+    → length new ≡ length old → ((i : ℕ) → i < length old → slice_index new i ≡ cond (list_any (λ (item : ℕ). eqb i item) items) lowest (slice_index old i))
+    → new ≡ map (λ (name : List ℕ). cond (is_among name (names_in words)) lowest (before name)) names
+firsts-set names words items old new lowest before differ named was long set_to =
+    ext_get_or 0 new (map f names) (long ∙ all ∙ sym (length-map names f))
+    (λ i lt. let within : i < length names = omega (arith, lt, long, all) in
+    set_to i (omega (arith, lt, long))
+    ∙ ap₂ (λ (b : Bool) (n : ℕ). cond b lowest n) (sym (is_among-items names words items i differ named within)) (ap (λ (l : List ℕ). get_or l i 0) was ∙ get_or-map before names i [] 0 within)
+    ∙ sym (get_or-map f names i [] 0 within))
   where
-    either : (first : ℕ) (a b : Bool) → cond a lowest (cond b lowest first) ≡ cond (cond a true b) lowest first
-    either first true b = refl
-    either first false b = refl
+    f : List ℕ → ℕ
+    f name = cond (is_among name (names_in words)) lowest (before name)
+
+    all : length old ≡ length names
+    all = ap length was ∙ length-map names before

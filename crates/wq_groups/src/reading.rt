@@ -1,11 +1,12 @@
 //! Going over the `ordered` lines: of each item the first-declared one of its group.
 //!
 //! The rules are those of "Items and groups" in docs/FORMAT.md. Where there is no `ordered` line, each item has a group of its own,
-//! and the lines aren't gone over: this takes time in the number of the items. Else the words of each line are gone over twice, in
-//! time in the number of the words. What is noted of the items lies on the stack: no memory is taken before all lines are judged.
+//! and the lines aren't gone over: this takes time in the number of the items. Else each name of an `ordered` line is looked up
+//! once: this takes time in the length of the text. What is noted of the items lies on the stack: no memory is taken before all
+//! lines are judged.
 
-ghost use Rattle.std.specs.Prelude.{◌≡◌, ◌≢◌, ◌↔◌, ◌++◌, ◌∷◌, ◌<◌, [], ℕ, List, length, map, Ok, IfOk, IfErr, IfSome, IsSome, OnSome, IsTrue, AllPairs, None, if◌then◌else◌, bytes_eq};
-ghost use Rattle.std.specs.List.{list_any};
+ghost use Rattle.std.specs.Prelude.{◌≡◌, ◌≢◌, ◌↔◌, ◌++◌, ◌∷◌, ◌<◌, ◌==◌, [], ℕ, List, length, map, slice_index, Ok, IfOk, IfErr, IfSome, IsSome, OnSome, IsTrue, AllPairs, None, Some, if◌then◌else◌};
+ghost use Rattle.std.specs.List.{All, list_any};
 ghost use Rattle.wq_decl.specs.declared.directive.Directive.{Directive};
 ghost use Rattle.wq_decl.specs.declared.directive.Directive.TheVariants.{Ordered};
 ghost use Rattle.wq_items.specs.Table.{IsTable};
@@ -24,29 +25,34 @@ use wq_text::Words;
 /// How many items a table has at most.
 const MAX_ITEMS: usize = 4096;
 
-/// Marks the items of these names. The answer is the first-declared of them, or `None` where one is marked already or
-/// stands there twice; those before it are marked then.
+/// Marks the items of these names and lists them in `items`, which is empty. The answer is the first-declared of them, or `None`
+/// where one is marked already or stands there twice; those before it are marked then.
 fn mark<A: Allocator + Copy>(
     table: &ItemTable<'_, A>,
     ordered: &mut [bool],
+    items: &mut ArrayVec<ItemId, MAX_ITEMS>,
     names: Words<'_>,
 ) -> Option<ItemId>
     requires table { IsTable table.now }
     requires marks { length ordered.old ≡ length table.now.names }
+    requires empty { items.old.items ≡ [] }
     requires known { IsSome (items_named table.now.names names) }
     ensures first { IfSome result (λ i. i ≡ lowest_of table.now.names (names_in names.entry)) }
     ensures marked { (before : List (List ℕ)) → ordered.old ≡ marks_of table.now.names before → OnSome result (ordered.new ≡ marks_of table.now.names (before ++ names_in names.entry)) }
     ensures apart { (before : List (List ℕ)) → ordered.old ≡ marks_of table.now.names before → AllPairs (λ (a b : List ℕ). a ≢ b) before → IsSome result ↔ AllPairs (λ (a b : List ℕ). a ≢ b) (before ++ names_in names.entry) }
+    ensures items { OnSome result (items_named table.now.names names.entry ≡ Some items.new.items) }
 {
     let mut lowest = table.len();
     for word in names {
-        let item = table.find(word.bytes()).unwrap().get();
+        let found = table.find(word.bytes()).unwrap();
+        let item = found.get();
         let i = usize::from(item);
         let is_marked = ordered[i];
         if is_marked {
             return None;
         }
         ordered[i] = true;
+        items.push(found);
         if item < lowest {
             lowest = item;
         }
@@ -54,30 +60,25 @@ fn mark<A: Allocator + Copy>(
     Some(ItemId::new(lowest))
 }
 
-/// Sets the first-declared item of the group of the items of these names.
-fn set_first<A: Allocator + Copy>(
-    table: &ItemTable<'_, A>,
-    first: &mut [ItemId],
-    names: Words<'_>,
-    lowest: ItemId,
-)
-    requires table { IsTable table.now }
-    requires items { length first.old ≡ length table.now.names }
-    requires known { IsSome (items_named table.now.names names) }
-    ensures { (before : List ℕ → ℕ) → first.old ≡ map before table.now.names → first.new ≡ map (λ (name : List ℕ). if list_any (bytes_eq name) (names_in names.entry) then lowest else before name) table.now.names }
+/// Sets the first-declared item of the group of these items.
+fn set_first(first: &mut [ItemId], items: &[ItemId], lowest: ItemId)
+    requires within { All (λ i. i < length first.old) items.now }
+    ensures long { length first.new ≡ length first.old }
+    ensures first { (i : ℕ) → i < length first.old → slice_index first.new i ≡ (if list_any (λ item. i == item) items.now then lowest else slice_index first.old i) }
 {
-    for word in names {
-        let item = table.find(word.bytes()).unwrap();
+    for item in items {
         first[usize::from(item.get())] = lowest;
     }
 }
 
 /// Puts the items of these names into one group, if none of them is in one already and none stands there twice. Otherwise
-/// the answer is `false`, and some are marked that are in no group.
+/// the answer is `false`, and some are marked that are in no group. What `items` holds is overwritten: it is handed in so that
+/// it is made once.
 fn put_together<A: Allocator + Copy>(
     table: &ItemTable<'_, A>,
     first: &mut [ItemId],
     ordered: &mut [bool],
+    items: &mut ArrayVec<ItemId, MAX_ITEMS>,
     names: Words<'_>,
 ) -> bool
     requires table { IsTable table.now }
@@ -87,10 +88,11 @@ fn put_together<A: Allocator + Copy>(
     ensures noted { (ds : List (ℕ × Directive)) (n : ℕ) → IsNoted ds table.now.names first.old ordered.old → IsTrue result → IsNoted (ds ++ ((n, Ordered names.entry) ∷ [])) table.now.names first.new ordered.new }
     ensures apart { (ds : List (ℕ × Directive)) → IsNoted ds table.now.names first.old ordered.old → IsTrue result ↔ AllPairs (λ (a b : List ℕ). a ≢ b) (all_ordered ds ++ names_in names.entry) }
 {
-    let Some(lowest) = mark(table, ordered, names.again()) else {
+    items.clear();
+    let Some(lowest) = mark(table, ordered, items, names) else {
         return false;
     };
-    set_first(table, first, names, lowest);
+    set_first(first, items.as_slice(), lowest);
     true
 }
 
@@ -116,9 +118,16 @@ pub(crate) fn first_members<A: Allocator + Copy>(
     if !view.has_ordered() {
         return Ok(first);
     }
+    let mut items = ArrayVec::new();
     for (line, directive) in view.directives() {
         if let Directive::Ordered(names) = directive {
-            if !put_together(table, first.as_mut_slice(), ordered.as_mut_slice(), names) {
+            if !put_together(
+                table,
+                first.as_mut_slice(),
+                ordered.as_mut_slice(),
+                &mut items,
+                names,
+            ) {
                 return Err(GroupError::GroupedTwice { line });
             }
         }

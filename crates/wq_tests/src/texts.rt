@@ -2,7 +2,7 @@
 
 use std::process::Abort;
 use std::test::Fail;
-use wq_text::{Text, TextError, number};
+use wq_text::{Span, Text, TextError, number};
 
 /// The number of a line, where it begins and ends, and its bytes; or so of a word, with the number of its line.
 type Place<'a> = (u32, u32, u32, &'a [u8]);
@@ -116,6 +116,15 @@ fn what_is_within_its_limits_is_a_text(rt: HostRuntime) -> Result<(), Fail> {
         let text = Text::new(bytes, max_text, max_line)?;
         assert_eq!(rt; text.bytes(), bytes);
     }
+    Ok(())
+}
+
+#[test]
+fn spans_hand_out_their_bytes(rt: HostRuntime) -> Result<(), Fail> {
+    let text = Text::new(b"wq a\n", 5, 4)?;
+    assert_eq!(rt; text.at(Span { start: 0, end: 5 }), b"wq a\n".as_slice());
+    assert_eq!(rt; text.at(Span { start: 3, end: 4 }), b"a".as_slice());
+    assert_eq!(rt; text.at(Span { start: 5, end: 5 }), b"".as_slice());
     Ok(())
 }
 
