@@ -17,6 +17,7 @@ bash tests/dot.sh
 bash tests/outlives.sh
 bash tests/program.sh
 bash tests/rows.sh
+bash tests/forged.sh
 bash tests/book.sh
 bash tests/runtime.sh
 bash tests/examples.sh
