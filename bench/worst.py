@@ -21,6 +21,8 @@ HALF = ITEMS // 2
 LAST = ITEMS - 1
 # A run that takes longer than this many seconds of processor time is ended.
 LIMIT = 60
+# Where GNU time is.
+TIME = "/usr/bin/time"
 
 
 def short(i):
@@ -136,8 +138,8 @@ def backwards():
     return workqueues([i] for i in reversed(range(ITEMS)))
 
 
-def run_text(first, again, most=MOST_CERTIFICATE):
-    """The first steps, and then the others again and again, as often as the longest text has room for."""
+def run_text(first, again, most):
+    """The first steps, and then the others again and again, as often as a text of so many bytes has room for."""
     head, body = "".join(first), "".join(again)
     turns = (most - len(head) - len("run 99999999\n")) // len(body)
     return f"run {len(first) + turns * len(again)}\n" + head + body * turns
@@ -147,31 +149,31 @@ def queued(items, name=short):
     return [f"queue {name(i)}\n" for i in items]
 
 
-def runs():
-    """Of each a name, the declaration, the assignment and the run."""
+def runs(most):
+    """Of each a name, the declaration, the assignment and the run, which has at most so many bytes."""
     nothing = declaration(ITEMS, [])
     everything = queued(range(ITEMS))
-    yield "the last of 4,096 entries cancelled and queued", nothing, one(), run_text(everything, ["cancel fff\n", "queue fff\n"])
-    yield "4,096 entries rotated", nothing, one(), run_text(everything, [s for i in range(ITEMS) for s in (f"cancel {i:x}\n", f"queue {i:x}\n")])
-    yield "4,096 entries cancelled from the last one on", nothing, one(), run_text([], everything + [f"cancel {i:x}\n" for i in reversed(range(ITEMS))])
-    yield "an entry queued, started and finished", nothing, one(), run_text([], ["queue 0\n", "start 0 0\n", "finish 0 0\n"])
-    yield "the same on the last of 4,096 workqueues", nothing, own(), run_text([], ["queue fff\n", "start 4095 fff\n", "finish 4095 fff\n"])
+    yield "the last of 4,096 entries cancelled and queued", nothing, one(), run_text(everything, ["cancel fff\n", "queue fff\n"], most)
+    yield "4,096 entries rotated", nothing, one(), run_text(everything, [s for i in range(ITEMS) for s in (f"cancel {i:x}\n", f"queue {i:x}\n")], most)
+    yield "4,096 entries cancelled from the last one on", nothing, one(), run_text([], everything + [f"cancel {i:x}\n" for i in reversed(range(ITEMS))], most)
+    yield "an entry queued, started and finished", nothing, one(), run_text([], ["queue 0\n", "start 0 0\n", "finish 0 0\n"], most)
+    yield "the same on the last of 4,096 workqueues", nothing, own(), run_text([], ["queue fff\n", "start 4095 fff\n", "finish 4095 fff\n"], most)
     targets = [(0, 1)] * (FLUSHES - 1) + [(0, 2)]
     turn = ["queue 0\n", "start 0 0\n"] + ["wait 0 2\n", "over 0 2\n"] * FLUSHES + ["finish 0 0\n"]
-    yield "waits for the last of 16,384 targets", declaration(ITEMS, targets), own(), run_text([], turn)
+    yield "waits for the last of 16,384 targets", declaration(ITEMS, targets), own(), run_text([], turn, most)
     several = [(0, 1 + place % LAST) for place in range(FLUSHES)]
     turn = ["queue 0\n", "start 0 0\n"] + [s for place in reversed(range(FLUSHES)) for s in (f"wait 0 {1 + place % LAST:x}\n", f"over 0 {1 + place % LAST:x}\n")] + ["finish 0 0\n"]
-    yield "waits for 4,095 targets, the last one first", declaration(ITEMS, several), own(), run_text([], turn)
+    yield "waits for 4,095 targets, the last one first", declaration(ITEMS, several), own(), run_text([], turn, most)
     behind = [(0, LAST)] * FLUSHES
     queues = workqueues([[0], range(1, ITEMS)])
     turn = ["queue 0\n", "start 0 0\n"] + ["wait 0 fff\n", "over 0 fff\n"] * FLUSHES + ["finish 0 0\n"]
-    yield "waits for an item behind 4,094 entries", declaration(ITEMS, behind), queues, run_text(queued(range(1, LAST)), turn)
-    yield "4,096 workqueues start and finish", nothing, own(), run_text([], [s for i in range(ITEMS) for s in (f"queue {i:x}\n", f"start {i} {i:x}\n", f"finish {i} {i:x}\n")])
+    yield "waits for an item behind 4,094 entries", declaration(ITEMS, behind), queues, run_text(queued(range(1, LAST)), turn, most)
+    yield "4,096 workqueues start and finish", nothing, own(), run_text([], [s for i in range(ITEMS) for s in (f"queue {i:x}\n", f"start {i} {i:x}\n", f"finish {i} {i:x}\n")], most)
     names = declaration(ITEMS, [], name=long)
-    yield "the longest names", names, workqueues([range(ITEMS)], long), run_text(queued(range(ITEMS), long), [f"cancel {long(LAST)}\n", f"queue {long(LAST)}\n"])
-    yield "the longest text of empty lines", nothing, one(), padded("\n", MOST_CERTIFICATE, MOST_CERTIFICATE - 6) + "run 0\n"
-    yield "the longest lines of comments", nothing, one(), padded("#" * MOST_CERTIFICATE_LINE + "\n", 16, MOST_CERTIFICATE - 6) + "run 0\n"
-    yield "not lawful at the last step", nothing, one(), run_text(everything, ["cancel fff\n", "queue fff\n"], MOST_CERTIFICATE - 16) + "start 1 0\n"
+    yield "the longest names", names, workqueues([range(ITEMS)], long), run_text(queued(range(ITEMS), long), [f"cancel {long(LAST)}\n", f"queue {long(LAST)}\n"], most)
+    yield "the longest text of empty lines", nothing, one(), padded("\n", most, most - 6) + "run 0\n"
+    yield "the longest lines of comments", nothing, one(), padded("#" * MOST_CERTIFICATE_LINE + "\n", 16, most - 6) + "run 0\n"
+    yield "not lawful at the last step", nothing, one(), run_text(everything, ["cancel fff\n", "queue fff\n"], most - 16) + "start 1 0\n"
 
 
 def declarations():
@@ -213,8 +215,9 @@ class Program:
         return run.stdout.decode("ascii")
 
 
-def cases(program, folder, write):
-    """All cases. `write(text)` writes a text into the folder and gives its name there."""
+def cases(program, folder, write, most_run=MOST_CERTIFICATE):
+    """All cases. `write(text)` writes a text into the folder and gives its name there. A run that was made here, and isn't an answer
+    of the program, has at most `most_run` bytes."""
     for name, text in declarations():
         path = write(text)
         yield "plan", name, [path]
@@ -232,7 +235,7 @@ def cases(program, folder, write):
     for name, text in texts():
         path = write(text)
         yield "plan", name, [path]
-    for name, text, assignment, run in runs():
+    for name, text, assignment, run in runs(most_run):
         yield "replay", name, [write(text), write(assignment), write(run)]
     path, queues = write(declaration(ITEMS, circle())), write(one())
     yield "replay", "what deadlock answers to a circle on one workqueue", [path, queues, write(program.answer("deadlock", folder, path, queues))]
@@ -255,8 +258,22 @@ class Folder:
         return self.names[text]
 
 
+def peak(program, folder, command, names):
+    """Peak memory in MiB by GNU time, or None where there is none."""
+    if not os.access(TIME, os.X_OK):
+        return None
+    said = os.path.join(folder, "time")
+    words = [TIME, "-q", "-f", "%M", "-o", said, program, command, *names]
+    subprocess.run(words, cwd=folder, stdin=subprocess.DEVNULL, stdout=subprocess.DEVNULL, stderr=subprocess.DEVNULL)
+    with open(said) as file:
+        return int(file.read()) / 1024
+
+
 def run(program, folder, command, names):
-    """Processor seconds, peak memory in MiB, status, and how many bytes were printed."""
+    """Processor seconds, peak memory in MiB, status, and how many bytes were printed.
+
+    A process that is forked from this one begins with the memory of the interpreter, so less than that is never found.
+    """
     out = os.path.join(folder, "out")
     child = os.fork()
     if child == 0:

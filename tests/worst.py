@@ -1,13 +1,20 @@
-"""Runs inputs that were made to take long (bench/worst.py), and compares the processor time of each with that of `plan` on the
-longest declaration of bench/peers/inputs.py, in the same run.
+"""Runs inputs that were made to take long (bench/worst.py), and compares the processor time and the instructions of each with those
+of `plan` on the longest declaration of bench/peers/inputs.py, in the same run. A run that `replay` reads is as long as that
+declaration may be, an eighth of the longest run, so that like is compared with like; bench/worst takes the longest ones.
 
-Usage: tests/worst.py PROGRAM. The least of some runs counts. Where a case takes too long, it is run again, since other work on the
-machine may have been at fault. Ends with 1 where a case takes more than MOST times as long, or ends as it must not.
+Usage: tests/worst.py PROGRAM. Of the processor time the least of some runs counts. Where a case takes too long, it is run again, since
+other work on the machine may have been at fault. Instructions don't depend on that; they are counted once, by valgrind, where there
+is one. That takes fifty times as long as a run, so no case is begun after SECONDS, and those that are left are named. Ends with 1
+where a case takes more than MOST times as long or as many instructions, or ends as it must not.
 """
 
 import os
+import re
+import shutil
+import subprocess
 import sys
 import tempfile
+import time
 
 sys.dont_write_bytecode = True
 TOP = os.path.dirname(os.path.dirname(os.path.realpath(__file__)))
@@ -18,6 +25,9 @@ import worst  # noqa: E402
 MOST = 20
 RUNS = 3
 TRIES = 4
+# Counting begins no further case after so many seconds, and is given up after so many for one case.
+SECONDS = 60
+SECONDS_FOR_ONE = 120
 # Commands and names of the cases: where the lengths of queues, the targets of an item, waiting workqueues or names that
 # were chosen for their hash once made a run take seconds.
 CASES = {
@@ -53,21 +63,67 @@ def is_quick(program, folder, ordinary, command, names):
     return False, f"{seconds:.3f} s, {seconds / base:.1f} times"
 
 
+def instructions(program, folder, command, names):
+    """All instructions of one run, or None where they aren't counted."""
+    words = ["valgrind", "--tool=cachegrind", "--cache-sim=no", "--cachegrind-out-file=/dev/null", program, command, *names]
+    try:
+        run = subprocess.run(words, cwd=folder, stdin=subprocess.DEVNULL, stdout=subprocess.DEVNULL, stderr=subprocess.PIPE,
+                             timeout=SECONDS_FOR_ONE)
+    except subprocess.TimeoutExpired:
+        return None
+    found = re.search(rb"I +refs: +([0-9,]+)", run.stderr)
+    return int(found[1].replace(b",", b"")) if found else None
+
+
+class Counting:
+    """Counts the instructions of cases, as long as there is time, and remembers which cases it left out."""
+
+    def __init__(self, program, folder, ordinary):
+        self.program, self.folder = program, folder
+        self.begun = time.monotonic()
+        self.base = instructions(program, folder, "plan", [ordinary]) if shutil.which("valgrind") else None
+        self.left_out = []
+
+    def judge(self, command, name, names):
+        """Whether a case takes at most MOST times as many instructions as the ordinary text. One that is left out does."""
+        if self.base is None or time.monotonic() - self.begun > SECONDS:
+            self.left_out.append(f"{command}: {name}")
+            return True, "instructions not counted"
+        count = instructions(self.program, self.folder, command, names)
+        if count is None:
+            return False, f"instructions not counted within {SECONDS_FOR_ONE} s"
+        return count <= MOST * self.base, f"{count / 1e6:.1f} million instructions, {count / self.base:.1f} times"
+
+    def summary(self):
+        """What was counted, in a line."""
+        if not self.left_out:
+            return f"instructions of all cases were counted, in {time.monotonic() - self.begun:.0f} s"
+        if self.base is None:
+            return "no instructions were counted: there is no valgrind, or it doesn't run"
+        return f"instructions were not counted of these, after {SECONDS} s: {'; '.join(self.left_out)}"
+
+
 def main():
     program = os.path.abspath(sys.argv[1])
-    left, failed = set(CASES), 0
+    chosen, failed = [], 0
     with tempfile.TemporaryDirectory() as path:
         folder = worst.Folder(path)
         ordinary = folder.write(inputs.longest_text())
-        for command, name, names in worst.cases(worst.Program(program), path, folder.write):
-            if (command, name) in left:
-                left.discard((command, name))
-                good, said = is_quick(program, path, ordinary, command, names)
-                failed += not good
-                print(f"{'ok      ' if good else 'FAILED  '}{command}: {name}: {said}")
+        for command, name, names in worst.cases(worst.Program(program), path, folder.write, worst.MOST_DECLARATION):
+            if (command, name) in CASES:
+                chosen.append((command, name, names))
+        counting = Counting(program, path, ordinary)
+        for command, name, names in chosen:
+            is_good, said = is_quick(program, path, ordinary, command, names)
+            takes_few, counted = counting.judge(command, name, names)
+            good = is_good and takes_few
+            failed += not good
+            print(f"{'ok      ' if good else 'FAILED  '}{command}: {name}: {said}; {counted}")
+    left = CASES - {(command, name) for command, name, _ in chosen}
     for command, name in sorted(left):
         print(f"FAILED  {command}: {name}: there is no such case")
     failed += len(left)
+    print(counting.summary())
     print(f"worst: {len(CASES) - failed} passed, {failed} failed")
     sys.exit(1 if failed else 0)
 

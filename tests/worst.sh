@@ -1,6 +1,7 @@
 #!/usr/bin/env bash
-# Inputs that were made to take long: none takes more than 20 times the processor time of `plan` on the longest declaration
-# (tests/worst.py). Run it once the gate or `rt run` has built the program. The argument, if there is one, names another program.
+# Inputs that were made to take long: none takes more than 20 times the processor time of `plan` on the longest declaration, or, where
+# there is a valgrind, more than 20 times its instructions (tests/worst.py). Run it once the gate or `rt run` has built the program.
+# The argument, if there is one, names another program.
 set -u
 cd "$(dirname "$0")/.." || exit 1
 program=${1:-crates/wqplan/out/wqplan}
