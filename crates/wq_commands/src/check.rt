@@ -26,6 +26,8 @@ use wq_meter::{Fault, Metered};
 /// certificate is untouched until the declaration has been read to its end. The errors are `Fault::Read`, where a read
 /// failed, `Fault::Memory`, and `Fault::Write`, where a write failed or took no byte; after the last one a prefix of the
 /// answer is written, and after the others nothing.
+///
+/// The names are hashed with `seed`, on which no answer depends.
 pub fn check_cmd<D: Read, C: Read, W: Write, A: Allocator + Copy>(
     alloc: A,
     seed: u64,

@@ -93,6 +93,7 @@ impl From<GroupError> for Stop {
 ///
 /// The answer is the first fault of the first pass that has one, or `OutOfMemory` where a growth was refused before
 /// it: then no earlier pass has a fault.
+#[tactic(auto, using(crate::proofs::StopLemmas::ran_out_of_groups))]
 pub fn read_declaration<A: Allocator + Copy>(
     alloc: A,
     seed: u64,

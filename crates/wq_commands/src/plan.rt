@@ -22,6 +22,8 @@ use wq_meter::{Fault, Metered, read_text};
 /// At most 1,048,577 bytes are read, in at most as many calls. The errors are `Fault::Read`, where a read failed,
 /// `Fault::Memory`, and `Fault::Write`, where a write failed or took no byte; after the last one a prefix of the answer
 /// is written, and after the others nothing.
+///
+/// The names are hashed with `seed`, on which no answer depends.
 pub fn plan_cmd<R: Read, W: Write, A: Allocator + Copy>(
     alloc: A,
     seed: u64,

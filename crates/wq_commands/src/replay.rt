@@ -27,6 +27,8 @@ use wq_meter::{Fault, Metered};
 /// is untouched until those before it have been read to their ends. The errors are `Fault::Read`, where a read failed,
 /// `Fault::Memory`, and `Fault::Write`, where a write failed or took no byte; after the last one a prefix of the answer is
 /// written, and after the others nothing.
+///
+/// The names are hashed with `seed`, on which no answer depends.
 pub fn replay_cmd<D: Read, S: Read, R: Read, W: Write, A: Allocator + Copy>(
     alloc: A,
     seed: u64,

@@ -3,7 +3,7 @@
 //! The form is that of "Diagnoses" in docs/FORMAT.md. A text is read anew to learn its refusal, so a call takes the time and the
 //! memory of reading the texts and of seeking the fault in them.
 
-ghost use Rattle.std.specs.Prelude.{◌≡◌, ◌++◌, ◌∷◌, [], ◌<◌, codes, decimal, length, map, option_map, ℕ, IfOk, OnOk, Option};
+ghost use Rattle.std.specs.Prelude.{◌≡◌, ◌++◌, ◌∷◌, [], ◌<◌, codes, length, map, option_map, ℕ, IfOk, OnOk, Option};
 ghost use Rattle.wq_findings.specs.Shown.{place_text, shown};
 ghost use Rattle.wq_diagnosis.specs.Diagnosis.{head, shown_lines, IsDiagnosis};
 ghost use Rattle.wq_checker.specs.Codes.{no_code};
@@ -285,6 +285,8 @@ fn of_refused<A: Allocator + Copy>(
 /// What is said of a declaration: nothing where it is one, and else the diagnosis of its refusal.
 ///
 /// The only error is out of memory (20).
+///
+/// The names are hashed with `seed`, on which no answer depends.
 pub fn of_declaration<A: Allocator + Copy>(
     alloc: A,
     seed: u64,
@@ -380,6 +382,8 @@ fn of_certificate_for<A: Allocator + Copy>(
 /// else the diagnosis of its refusal.
 ///
 /// The only error is out of memory (20).
+///
+/// The names are hashed with `seed`, on which no answer depends.
 pub fn of_certificate<A: Allocator + Copy>(
     alloc: A,
     seed: u64,
@@ -474,6 +478,8 @@ fn of_no_for<A: Allocator + Copy>(
 /// What is said of a certificate of a declaration to which the checker says no; nothing of another one.
 ///
 /// The only error is out of memory (20).
+///
+/// The names are hashed with `seed`, on which no answer depends.
 pub fn of_no<A: Allocator + Copy>(
     alloc: A,
     seed: u64,

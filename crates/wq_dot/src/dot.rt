@@ -25,6 +25,8 @@ use wq_meter::{Fault, Metered, read_text};
 /// assignment is untouched until the declaration has been read to its end. The errors are `Fault::Read`, where a read failed,
 /// `Fault::Memory`, and `Fault::Write`, where a write failed or took no byte; after the last one a prefix of the answer is
 /// written, and after the others nothing.
+///
+/// The names are hashed with `seed`, on which no answer depends.
 pub fn dot_cmd<D: Read, S: Read, W: Write, A: Allocator + Copy>(
     alloc: A,
     seed: u64,
@@ -72,6 +74,8 @@ pub fn dot_cmd<D: Read, S: Read, W: Write, A: Allocator + Copy>(
 /// At most 1,048,577 bytes are read, in at most as many calls. The errors are `Fault::Read`, where a read failed,
 /// `Fault::Memory`, and `Fault::Write`, where a write failed or took no byte; after the last one a prefix of the answer is
 /// written, and after the others nothing.
+///
+/// The names are hashed with `seed`, on which no answer depends.
 pub fn own_dot_cmd<D: Read, W: Write, A: Allocator + Copy>(
     alloc: A,
     seed: u64,

@@ -30,6 +30,8 @@ use wq_commands::{End, MAX_DECLARATION, Metered, read_text};
 /// memory, or a write failed or took no byte; and `Thread` (22), where a thread couldn't be made, and `Tally`, where the runtime
 /// couldn't be closed with counts that agree. After a write that failed a prefix of the answer is written, and after the
 /// others nothing. Whether the calls of the threads ever return is not promised.
+///
+/// The names are hashed with `seed`, on which no answer depends.
 pub fn run_cmd<R: Threads + Wait + Sync, D: Read, W: Write, A: Allocator + Copy + Send + Sync>(
     rt: &R,
     alloc: A,
