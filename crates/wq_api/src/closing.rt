@@ -1,7 +1,7 @@
 //! What is handed back when a runtime is closed: its history, and the sums of all that its callers counted.
 //!
-//! Where the sums agree with the tallies of the history, all callers together counted, of each item, kind and answer, as
-//! many rows as were written, but for starts. Closing takes time in the number of seats and their counts, and no memory.
+//! Where the sums agree with the tallies of the history, all callers together counted, of each item, kind and answer, as many
+//! rows as were written, except for starts. Closing takes time in the number of seats and their counts, and no memory.
 
 ghost use Rattle.std.specs.Prelude.{◌≡◌, ℕ, ◌+◌, ◌<◌, ◌≤◌, ◌*◌, sum, replicate, vec_len};
 ghost use Rattle.std.specs.List.{sum_by};

@@ -1,8 +1,8 @@
 //! What lies under the lock: the book, its tallies, and the parts of the ledger that no seat holds.
 //!
-//! Each event of a book is one call here, by the same name: it makes the event and, where that writes a counted row, counts
-//! it in the tallies and in the seat of the caller. Whoever calls holds the lock. A call takes the time of the book's own,
-//! and no memory but for a new seat.
+//! Each event of a book is one call here, by the same name: it makes the event and, where that writes a counted row, counts it in
+//! the tallies and in the seat of the caller. Whoever calls holds the lock. A call takes the time of the book's own, and no
+//! memory except for a new seat.
 
 ghost use Rattle.std.specs.Prelude.{◌≡◌, ℕ, ◌+◌, ◌<◌, ◌≤◌, ◌↔◌, [], sum, replicate, ◌*◌, true, false, IsTrue, IfOk, IfErr, OnOk, OnErr, IfSome, IfNone};
 ghost use Rattle.wq_core.specs.Wiring.{items, lane_of};
@@ -56,7 +56,7 @@ impl<N: Naming, A: Allocator> Model for Held<N, A> {
 impl<N: Naming, A: Allocator + Copy> Held<N, A> {
     /// A book on which nothing has happened, of the runtime that this blank ledger is of; no seat is made.
     ///
-    /// The only error is out of memory (20), never where there is no item.
+    /// The only error is out of memory (20), which can't occur where there is no item.
     pub fn new(alloc: A, blank: Blank, book: Book<A>) -> Result<Self, AllocError>
         requires name { blank.name ≡ N.name }
         requires parts { blank.parts ≡ N.parts }
@@ -84,8 +84,8 @@ impl<N: Naming, A: Allocator + Copy> Held<N, A> {
 
     /// A new seat, with no counts.
     ///
-    /// The error is `TooManySeats` (70) exactly where 65,535 were made, else out of memory (20), never where there is no
-    /// item. Then nothing is changed, and the seat isn't one of those that were made.
+    /// The error is `TooManySeats` (70) exactly where 65,535 were made, else out of memory (20), which can't occur where there is
+    /// no item. Then nothing is changed, and the seat isn't one of those that were made.
     pub fn seat(&mut self, alloc: A) -> Result<Seat<N, A>, SeatError>
         ensures seat { IfOk result (λ s. s ≡ replicate (14 * items N.wiring) 0) }
         ensures made { OnOk result ((self.old.seats < 65535) × (self.new ≡ record self.old { seats = self.old.seats + 1 })) }
@@ -410,7 +410,7 @@ impl<N: Naming, A: Allocator> Held<N, A> {
         self.book.close();
     }
 
-    /// Whether the runtime can be closed with so many seats.
+    /// Whether the runtime can be closed with this many seats.
     ///
     /// The error is `NotIdle` (71) exactly where an entry is unfinished or a caller waits, else `SeatsMissing` (72) exactly
     /// where not as many seats were made.

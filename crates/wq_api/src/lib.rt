@@ -1,9 +1,9 @@
 //! The runtime: what `queue_work`, `flush_work`, `cancel_work_sync` and `destroy_workqueue` do, for many threads over one
 //! book, and exact counts of what each thread did.
 //!
-//! What the layer above relies on: whenever the lock is got, the rows are a legal history under the runtime's assignment,
-//! which is safe; each call counts in its caller's seat the rows that it wrote, but for starts; and all seats together count
-//! as many as the history has. Each call that may wait for another thread sleeps without the lock.
+//! What the layer above relies on: whenever the lock is got, the rows are a legal history under the runtime's assignment, which
+//! is safe; each call counts in its caller's seat the rows that it wrote, except for starts; and all seats together count as many
+//! as the history has. Each call that may wait for another thread sleeps without the lock.
 #![tactic(auto)]
 
 mod closing;

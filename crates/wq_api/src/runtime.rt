@@ -5,7 +5,7 @@
 //! does to the book is said by the calls of `Held`, which it makes under the lock; what is said here is what the caller
 //! can know: its answer, and its own counts.
 //!
-//! But for what it waits for, a call takes the time of the book's events; `new` that of the wait graph of the lanes and its
+//! Apart from what it waits for, a call takes the time of the book's events; `new` that of the wait graph of the lanes and its
 //! ranks, and of the rows, for which it takes room; `close` time in the number of seats and their counts.
 
 ghost use Rattle.std.specs.Prelude.{◌≡◌, ℕ, ◌+◌, ◌<◌, ◌≤◌, length, sum, replicate, ◌*◌, true, false, IfOk, IfErr, OnOk, OnErr, IfSome, IfNone};
@@ -44,8 +44,8 @@ pub struct WqRuntime<N: Naming, A: Allocator> {
 }
 
 impl<N: Naming, A: Allocator + Copy> WqRuntime<N, A> {
-    /// The runtime of a table, the groups of its items and a lane for each group, with room for so many rows. The blank
-    /// ledger has 65,536 parts, and the name says of what the runtime is made.
+    /// The runtime of a table, the groups of its items and a lane for each group, with room for this many rows. The blank ledger
+    /// has 65,536 parts, and the name says of what the runtime is made.
     ///
     /// The error is the first of these that holds: `TooManyLanes` (69), more than 256; `TooManyRows` (68), more than
     /// 16,777,216; `NotSafe` (67), some run of the assignment ends stuck. Out of memory (20) may come in place of the last,

@@ -1,8 +1,8 @@
 //! What serves a lane: the calls of a rescuer.
 //!
-//! A rescuer starts the next entry of its lane, runs its body, which may wait for other items, and finishes it
-//! (`rescuer_thread` and `process_one_work` in kernel/workqueue.c). The body runs between these calls, without the lock. But
-//! for what it waits for, a call takes the time of the book's events.
+//! A rescuer starts the next entry of its lane, runs its body, which may wait for other items, and finishes it (`rescuer_thread`
+//! and `process_one_work` in kernel/workqueue.c). The body runs between these calls, without the lock. Apart from what it waits
+//! for, a call takes the time of the book's events.
 
 ghost use Rattle.std.specs.Prelude.{◌≡◌, ◌<◌, sum, true, IfOk, IfErr, OnOk, IfSome};
 ghost use Rattle.wq_core.specs.Wiring.{items};

@@ -42,7 +42,7 @@ impl Client {
         Ok(())
     }
 
-    /// Makes so many rounds with the item of its own.
+    /// Makes this many rounds with the item of its own.
     fn make_rounds<N: Naming, A: Allocator, R: Wait>(
         &self,
         rt: &R,
@@ -65,7 +65,7 @@ impl Client {
         self.random.below(items) as u16
     }
 
-    /// Makes so many rounds with pseudo-random items.
+    /// Makes this many rounds with pseudo-random items.
     fn make_storm<N: Naming, A: Allocator, R: Wait>(
         &mut self,
         rt: &R,

@@ -7,7 +7,7 @@ use wq_api::{CallError, Closed, Counts, Kind, Naming, Seat, WqRuntime};
 use wq_items::ItemId;
 use wq_rescuer::Rescued;
 
-/// How many calls were counted of a kind, with an answer, of so many items together.
+/// How many calls were counted of a kind, with an answer, of this many items together.
 fn count(counts: &Counts<Global>, items: u16, kind: Kind, yes: bool) -> u64 {
     let mut sum = 0u64;
     for i in 0..items {
@@ -21,7 +21,7 @@ fn count_both(counts: &Counts<Global>, items: u16, kind: Kind) -> u64 {
     count(counts, items, kind, true).saturating_add(count(counts, items, kind, false))
 }
 
-/// Whether each entry that was queued was finished or taken off.
+/// Whether each entry that was queued was finished or removed.
 fn are_matched(counts: &Counts<Global>, items: u16) -> bool {
     let finished = count(counts, items, Kind::Finish, true);
     let cancelled = count(counts, items, Kind::Cancel, true);

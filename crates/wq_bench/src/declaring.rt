@@ -18,7 +18,7 @@ pub(crate) struct Declared<'a> {
     pub(crate) groups: Groups<Global>,
 }
 
-/// The text that declares so many items.
+/// The text that declares this many items.
 pub(crate) fn declare(alloc: Global, items: u16) -> Result<String, AllocError> {
     let mut text = String::new(alloc);
     for i in 0..items {
@@ -46,7 +46,7 @@ pub(crate) fn read(alloc: Global, text: &str) -> Result<Declared<'_>, Fault>
     Ok(Declared { table, groups })
 }
 
-/// The lane of an item, where there are so many lanes.
+/// The lane of an item, where there are this many lanes.
 pub(crate) fn lane_of(item: u16, lanes: u16) -> LaneId {
     match item.checked_rem(lanes) {
         Some(q) => LaneId::new(q),
@@ -54,7 +54,7 @@ pub(crate) fn lane_of(item: u16, lanes: u16) -> LaneId {
     }
 }
 
-/// The assignment of so many groups, of one item each, to so many lanes in turn; none where there are too many.
+/// The assignment of this many groups, of one item each, to this many lanes in turn; none where there are too many.
 pub(crate) fn assign(
     alloc: Global,
     groups: u16,

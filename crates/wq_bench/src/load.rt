@@ -1,13 +1,13 @@
-//! What is asked for: so many lanes and callers, and what each caller does. Reading it takes time in its words.
+//! What is asked for: this many lanes and callers, and what each caller does. Reading it takes time in its words.
 
 use wq_text::number;
 
 /// What each caller does.
 #[derive(Clone, Copy, PartialEq, Eq)]
 pub(crate) enum Task {
-    /// So many times it queues its own item and flushes it.
+    /// This many times it queues its own item and flushes it.
     Rounds(u32),
-    /// So many times it queues a pseudo-random item and flushes it.
+    /// This many times it queues a pseudo-random item and flushes it.
     Storm(u32),
     /// It queues its own item and flushes it until the history is full, and fills the last rows.
     Fill,
@@ -26,7 +26,7 @@ pub(crate) struct Load {
 }
 
 impl Load {
-    /// So many rounds of each caller.
+    /// This many rounds of each caller.
     pub(crate) fn rounds(lanes: u16, callers: u16, rounds: u32, rows: u32) -> Self {
         Load {
             task: Task::Rounds(rounds),
@@ -37,7 +37,7 @@ impl Load {
         }
     }
 
-    /// So many rounds of each caller, with pseudo-random items.
+    /// This many rounds of each caller, with pseudo-random items.
     pub(crate) fn storm(lanes: u16, callers: u16, rounds: u32, rows: u32) -> Self {
         Load {
             task: Task::Storm(rounds),
@@ -64,7 +64,7 @@ impl Load {
         self.lanes.max(self.callers)
     }
 
-    /// What `KIND LANES CALLERS COUNT [figures]` asks for, behind the program's name.
+    /// What `KIND LANES CALLERS COUNT [figures]` asks for, after the program's name.
     pub(crate) fn parse(words: &[String]) -> Option<Load> {
         let lanes = short_at(words, 2)?;
         let callers = short_at(words, 3)?;
@@ -90,7 +90,7 @@ impl Load {
     }
 }
 
-/// How many rows so many callers need at most for so many rounds each: a round is a queueing, a start and a finish, and two
+/// How many rows this many callers need at most for this many rounds each: a round is a queueing, a start and a finish, and two
 /// rows of a flush that has to wait.
 fn rows_of(callers: u16, rounds: u32) -> Option<u32> {
     rounds.checked_mul(5)?.checked_mul(u32::from(callers))

@@ -34,7 +34,7 @@ impl Random {
         (self.draw() % limit as u64) as usize
     }
 
-    /// True once in so many times.
+    /// True once in this many times.
     pub(crate) fn once_in(&mut self, times: usize) -> bool
         requires { 0 < times }
     {

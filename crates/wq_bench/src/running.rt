@@ -22,7 +22,7 @@ use wq_groups::{Assignment, Groups};
 use wq_items::ItemTable;
 use wq_rescuer::run_all;
 
-/// So many bodies, each of which can count so many items.
+/// This many bodies, each of which can count this many items.
 fn make_bodies(alloc: Global, lanes: u16, items: u16) -> Result<Vec<EmptyBody>, AllocError>
     ensures width { IfOk result (λ bs. All (λ b. vec_len b.runs ≡ items) bs.items) }
     ensures never_ran { IfOk result (λ bs. All (λ b. NeverRan (slice_index b.runs.items)) bs.items) }

@@ -106,7 +106,7 @@ fn call_of_two(
     Err(Mistake::Input)
 }
 
-/// Makes the call that a line asks for by this word and those behind it, and prints the answer.
+/// Makes the call that a line asks for by this word and those after it, and prints the answer.
 fn call(
     table: &ItemTable<'_, Global>,
     book: &mut Book<Global>,
@@ -177,7 +177,7 @@ fn call_book(
     }
 }
 
-/// Makes a book with so many rows, and the calls of a text. Gives the status.
+/// Makes a book with this many rows, and the calls of a text. Gives the status.
 pub(crate) fn keep_book(
     alloc: Global,
     table: &ItemTable<'_, Global>,

@@ -71,7 +71,7 @@ pub(crate) fn put_item(
     Ok(())
 }
 
-/// The state of a book, behind an answer, and the end of the line.
+/// The state of a book, after an answer, and the end of the line.
 pub(crate) fn put_state(
     out: &mut String,
     table: &ItemTable<'_, Global>,

@@ -1,4 +1,4 @@
-//! What the command line asks for. Takes time in its words.
+//! What the command line asks for. It takes time in its words.
 
 use std::rt::Env;
 use std::{env, io};
@@ -7,7 +7,7 @@ use wq_text::number;
 /// What is to be done.
 #[derive(Clone, Copy)]
 pub(crate) enum Task {
-    /// The calls of a text are made, of a book with so many rows.
+    /// The calls of a text are made, of a book with this many rows.
     Book { rows: u32 },
     /// The rows of a history are judged.
     Check,
@@ -28,7 +28,7 @@ pub(crate) fn words<R: Env + AllocGlobal>(rt: &R) -> io::Result<Vec<String>> {
     Ok(words)
 }
 
-/// `book DECL ASSIGN ROWS EVENTS` or `check DECL ASSIGN HEX`, behind the program's name.
+/// `book DECL ASSIGN ROWS EVENTS` or `check DECL ASSIGN HEX`, after the program's name.
 pub(crate) fn parse(words: &[String]) -> Option<Request<'_>> {
     let task = match words.get(1)?.as_str() {
         "book" if words.len() == 6 => Task::Book {

@@ -22,7 +22,7 @@ pub(crate) enum Call {
     Counted(Counted),
     /// One seat more.
     Seat,
-    /// So many seats more.
+    /// This many seats more.
     Seats(u32),
     /// The calls that follow count in this seat.
     Use(u32),
@@ -32,7 +32,7 @@ pub(crate) enum Call {
     Lanes,
     Lane(ItemId),
     Destroy,
-    /// With so many of the seats.
+    /// With this many of the seats.
     Close(u32),
 }
 
@@ -57,7 +57,7 @@ fn call_alone(word: &[u8]) -> Option<Call> {
     }
 }
 
-/// The call of this word, with one word behind it.
+/// The call of this word, with one word after it.
 fn call_of(table: &ItemTable<'_, Global>, word: &[u8], what: &[u8]) -> Option<Call> {
     let call = match word {
         b"cancel" => Call::Counted(Counted::Cancel(item_of(table, what))),
@@ -85,7 +85,7 @@ fn call_on_lane(word: &[u8], q: LaneId, item: ItemId) -> Option<Call> {
     Some(Call::Counted(call))
 }
 
-/// The call that a line asks for by its first word and those behind it; none where it has the form of none.
+/// The call that a line asks for by its first word and those after it; none where it has the form of none.
 pub(crate) fn read_call(
     table: &ItemTable<'_, Global>,
     word: &[u8],

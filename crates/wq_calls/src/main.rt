@@ -26,7 +26,7 @@ struct Request<'a> {
     calls: &'a str,
 }
 
-/// `DECL ASSIGN ROWS CALLS`, behind the program's name.
+/// `DECL ASSIGN ROWS CALLS`, after the program's name.
 fn parse(words: &[String]) -> Option<Request<'_>> {
     match words {
         [_, declaration, assignment, rows, calls] => Some(Request {

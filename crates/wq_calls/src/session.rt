@@ -50,7 +50,7 @@ fn put_lane(out: &mut String, lane: Option<LaneId>) -> Result<(), AllocError> {
     }
 }
 
-/// The words of a line, each with a space behind it.
+/// The words of a line, each with a space after it.
 fn put_words(out: &mut String, words: Words<'_>) -> Result<(), AllocError> {
     for word in words {
         out.push_str(str::from_utf8(word.bytes()).unwrap_or("-"))?;
@@ -113,7 +113,7 @@ impl<N: Naming> Seats<N> {
         }
     }
 
-    /// So many seats more, and prints how many there are.
+    /// This many seats more, and prints how many there are.
     fn add_all<R: Wait>(
         &mut self,
         rt: &R,

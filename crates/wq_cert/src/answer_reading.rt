@@ -76,10 +76,10 @@ fn read_answer_lines<A: Allocator + Copy>(
 
 /// What the text of an answer says, for the items of a table in these groups. Whether it is true isn't judged.
 ///
-/// Else the answer is the first fault: `BadCertLine` (40) where the text or a line is too long, before all else; then in
-/// the first line that has one `BadCertLine` (40), `NumberOutOfRange` (43), `NotAllItems` (41) or `GroupSplit` (42), in
-/// this order in a line, with line 0 where the text ends too early (40) or an item stands on no workqueue (41); or
-/// `OutOfMemory` (20), where a growth was refused in a text within the limits.
+/// Else the answer is the first fault: `BadCertLine` (40) where the text or a line is too long, before all else; then in the
+/// first line that has one `BadCertLine` (40), `NumberOutOfRange` (43), `NotAllItems` (41) or `GroupSplit` (42), in this order in
+/// a line, with line 0 where the text ends too early (40) or an item is on no workqueue (41); or `OutOfMemory` (20), where a
+/// growth was refused in a text within the limits.
 pub fn read_answer<A: Allocator + Copy>(
     alloc: A,
     text: &[u8],

@@ -1,7 +1,7 @@
-//! Reading arcs: those of a chain behind a plan, and those of a circle with the run behind them.
+//! Reading arcs: those of a chain after a plan, and those of a circle with the run after them.
 //!
-//! The texts are those of "Certificates" in docs/FORMAT.md. Reading takes time in the length of the lines, and memory in
-//! the number of the arcs and steps that stand there.
+//! The texts are those of "Certificates" in docs/FORMAT.md. Reading takes time in the length of the lines, and memory in the
+//! number of the arcs and steps that are there.
 
 ghost use Rattle.std.specs.Prelude.{◌≡◌, Ok, Err, IfOk, IfErr, map, option_map};
 ghost use Rattle.wq_cert.specs.Growth.{ReadsOne, BeginsWell};
@@ -18,7 +18,7 @@ use std::alloc::Allocator;
 use wq_core::Step;
 use wq_items::{ItemId, ItemTable};
 
-/// So many arcs, each on one of the next lines.
+/// This many arcs, each on one of the next lines.
 fn read_arcs<A: Allocator + Copy>(
     alloc: A,
     table: &ItemTable<'_, A>,
@@ -60,7 +60,7 @@ pub(crate) fn read_chain<A: Allocator + Copy>(
     Ok((length, arcs))
 }
 
-/// The circle on these lines: its arcs, and the steps of the run behind it, if there is one.
+/// The circle on these lines: its arcs, and the steps of the run after it, if there is one.
 pub(crate) fn read_circle<A: Allocator + Copy>(
     alloc: A,
     table: &ItemTable<'_, A>,

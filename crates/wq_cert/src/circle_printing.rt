@@ -46,8 +46,8 @@ fn put_circle<A: Allocator + Copy>(
     Ok(())
 }
 
-/// The text of a circle: how many arcs it has, and these, each by an item and its target; and behind them the text of a
-/// run, where there is one.
+/// The text of a circle: how many arcs it has, and these, each by an item and its target; and after them the text of a run, where
+/// there is one.
 ///
 /// There are fewer than 4,294,967,296 arcs, each from an item of the table to one of it, and as many steps, each of an
 /// item of the table. The only error is out of memory (20).

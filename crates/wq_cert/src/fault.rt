@@ -13,14 +13,13 @@ use thiserror::Error;
 /// memory.
 #[derive(Clone, Copy, Debug, PartialEq, Eq, Error)]
 pub enum CertError {
-    /// The line isn't of the form that stands next, or is too long; line 0 where the text is too long or ends too
-    /// early (40).
+    /// The line isn't of the form that comes next, or is too long; line 0 where the text is too long or ends too early (40).
     #[error("line {line}: not what stands here in a certificate")]
     BadCertLine { line: u32 },
-    /// An item stands on a workqueue already; line 0 where one stands on none (41).
+    /// An item is on a workqueue already; line 0 where one is on none (41).
     #[error("line {line}: not each item stands on one workqueue")]
     NotAllItems { line: u32 },
-    /// An item of a group of which another one stands on an earlier workqueue (42).
+    /// An item of a group of which another one is on an earlier workqueue (42).
     #[error("line {line}: a group on two workqueues")]
     GroupSplit { line: u32 },
     /// A number that is out of its range (43).

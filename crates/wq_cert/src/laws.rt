@@ -53,13 +53,13 @@ pub fn a_long_certificate_is_refused_by_its_prefix()
     ensures prefix_of_run { (names : List (List ℕ)) (text : List ℕ) → run_of names (take (max_certificate + 1) text) ≡ run_of names text }
 {}
 
-/// A word is read as a number just where it is the one spelling of it.
+/// A word is read as a number exactly where it is the one spelling of it.
 pub fn a_number_is_read_by_its_spelling()
     ensures { (word : List ℕ) (n : ℕ) → (number_of word ≡ Some n) ↔ Spells word n }
 {}
 
-/// Lines are read just where their words are those of the forms that stand one behind the other, and then as what these
-/// say: a plan, a circle, a run, or the workqueues of an assignment.
+/// Lines are read exactly where their words are those of the forms that follow one another, and then as what these say: a plan, a
+/// circle, a run, or the workqueues of an assignment.
 pub fn lines_are_read_where_they_spell()
     ensures plan { (names : List (List ℕ)) (p : Partition) (lines : List CertLine) (c : PlanCertificate) →
         AllPairs (λ (a b : List ℕ). a ≢ b) names → length names ≡ length p.group_of →
@@ -73,8 +73,8 @@ pub fn lines_are_read_where_they_spell()
         (workqueues_reading names p lines ≡ Ok a) ↔ SpellsWorkqueues names p (words_in lines) a }
 {}
 
-/// A text is read just where it keeps the limits and the words of its lines are those of an answer, of an assignment or of
-/// a run, and then as what these say.
+/// A text is read exactly where it keeps the limits and the words of its lines are those of an answer, of an assignment or of a
+/// run, and then as what these say.
 pub fn texts_are_read_where_they_spell()
     ensures answer { (names : List (List ℕ)) (p : Partition) (text : List ℕ) (c : Certificate) →
         AllPairs (λ (a b : List ℕ). a ≢ b) names → length names ≡ length p.group_of →
@@ -86,8 +86,8 @@ pub fn texts_are_read_where_they_spell()
         (run_of names text ≡ Ok steps) ↔ (KeepsLimits text × SpellsRun names (words_of_text text) steps) }
 {}
 
-/// Where a text within the limits is refused at a line, that is the first line at fault: the text has the line, whatever
-/// stands behind it changes nothing, and a text of fewer of its lines is read, or refused at no line.
+/// Where a text within the limits is refused at a line, that is the first line at fault: the text has the line, whatever is after
+/// it changes nothing, and a text of fewer of its lines is read, or refused at no line.
 pub fn a_refusal_is_of_the_first_line_at_fault()
     ensures answer { (names : List (List ℕ)) (p : Partition) (text : List ℕ) (fault : CertError) → KeepsLimits text →
         answer_of names p text ≡ Err fault → 0 < line_of fault → IsOfTheFirstLine (answer_of names p) text fault }
@@ -98,8 +98,8 @@ pub fn a_refusal_is_of_the_first_line_at_fault()
         run_of names text ≡ Err fault → 0 < line_of fault → IsOfTheFirstLine (run_of names) text fault }
 {}
 
-/// Behind the lines of workqueues a line that isn't that of the next one is refused by the first row that it breaks: its
-/// form (40), its number (43), an item that stands already (41), a group that is split (42), whatever stands behind it.
+/// After the lines of workqueues a line that isn't that of the next one is refused by the first row that it breaks: its form
+/// (40), its number (43), an item that stands already (41), a group that is split (42), whatever is after it.
 pub fn the_line_of_a_workqueue_is_refused_by_its_first_row()
     ensures plan { (names : List (List ℕ)) (p : Partition) (k : ℕ) (workqueues : List (List ℕ)) (before : List CertLine)
         (line : CertLine) (behind : List CertLine) (fault : CertError) → AllPairs (λ (a b : List ℕ). a ≢ b) names →
@@ -113,8 +113,8 @@ pub fn the_line_of_a_workqueue_is_refused_by_its_first_row()
         workqueues_reading names p (before ++ (line ∷ behind)) ≡ Err fault }
 {}
 
-/// Where a `plan`, `chain`, `circle`, `arc` or `run` line stands next, or that of a step, a line is refused by the first row
-/// that it breaks: its form (40), its number (43), whatever stands behind it.
+/// Where a `plan`, `chain`, `circle`, `arc` or `run` line comes next, or that of a step, a line is refused by the first row that
+/// it breaks: its form (40), its number (43), whatever is after it.
 pub fn each_other_line_is_refused_by_its_first_row()
     ensures plan { (names : List (List ℕ)) (p : Partition) (form : LineForm) (before : List CertLine) (line : CertLine)
         (behind : List CertLine) (fault : CertError) → AllPairs (λ (a b : List ℕ). a ≢ b) names → length names ≡ length p.group_of →
@@ -130,7 +130,7 @@ pub fn each_other_line_is_refused_by_its_first_row()
         run_reading names (before ++ (line ∷ behind)) ≡ Err fault }
 {}
 
-/// A line that stands there and breaks no row is no fault: of the lines up to it none is.
+/// A line that is there and breaks no row is no fault: of the lines up to it none is.
 pub fn a_line_that_breaks_no_row_is_no_fault()
     ensures plan { (names : List (List ℕ)) (p : Partition) (form : LineForm) (before : List CertLine) (line : CertLine) →
         AllPairs (λ (a b : List ℕ). a ≢ b) names → length names ≡ length p.group_of →
@@ -144,8 +144,8 @@ pub fn a_line_that_breaks_no_row_is_no_fault()
         KeepsLine names form line → NoLineIsAtFault (run_reading names (before ++ (line ∷ []))) }
 {}
 
-/// Behind the lines of the workqueues an item that stands on none is answered first (41, of no line), whatever stands
-/// there. In an assignment by `wq` lines alone a line with another first word is refused there (40) where no item is missing.
+/// After the lines of the workqueues an item that is on none is answered first (41, of no line), whatever is there. In an
+/// assignment by `wq` lines alone a line with another first word is refused there (40) where no item is missing.
 pub fn missing_items_are_answered_behind_the_workqueues()
     ensures plan { (names : List (List ℕ)) (p : Partition) (workqueues : List (List ℕ)) (lines : List CertLine)
         (behind : List (List (List ℕ))) → AllPairs (λ (a b : List ℕ). a ≢ b) names → length names ≡ length p.group_of →
@@ -164,7 +164,7 @@ pub fn missing_items_are_answered_behind_the_workqueues()
         workqueues_reading names p (before ++ (line ∷ behind)) ≡ Err (BadCertLine line.no) }
 {}
 
-/// A line behind the end of a plan, of a run, or of a circle with a run is refused (40).
+/// A line after the end of a plan, of a run, or of a circle with a run is refused (40).
 pub fn a_line_behind_the_end_is_refused()
     ensures plan { (names : List (List ℕ)) (p : Partition) (lines : List CertLine) (c : PlanCertificate) (line : CertLine)
         (behind : List CertLine) → plan_reading names p lines ≡ Ok c →
@@ -191,8 +191,8 @@ pub fn an_item_is_on_the_workqueue_of_its_line()
         i < length p.group_of → (item_lane (assignment_of p workqueues) p.group_of i ≡ q) ↔ IsOnWorkqueue workqueues q i }
 {}
 
-/// The text of a circle of 1 to 4,096 arcs that isn't too long says these arcs, and the steps of the run behind them if
-/// there is one, whatever the groups.
+/// The text of a circle of 1 to 4,096 arcs that isn't too long says these arcs, and the steps of the run after them if there is
+/// one, whatever the groups.
 pub fn a_circle_text_is_read_back()
     ensures { (t : Table) (p : Partition) (arcs : List (ℕ × ℕ)) (steps : Option (List Step)) → IsTable t →
         0 < length arcs → length arcs ≤ 4096 → All (IsArcOf (length t.names)) arcs → IfSome steps (All (IsStepOf (length t.names))) →

@@ -1,7 +1,7 @@
 //! Reading runs: how many steps there are, and each of them on a line of its own.
 //!
-//! The text is that of "Run texts" and "Certificates" in docs/FORMAT.md. Reading takes time in the length of the text, and
-//! memory in the number of the steps that stand there, whatever number is said.
+//! The text is that of "Run texts" and "Certificates" in docs/FORMAT.md. Reading takes time in the length of the text, and memory
+//! in the number of the steps that are there, whatever number is said.
 
 ghost use Rattle.std.specs.Prelude.{◌≡◌, ◌∷◌, Ok, Err, None, IfOk, IfErr, map, option_map};
 ghost use Rattle.wq_text.specs.Limits.{limit_fault};
@@ -21,7 +21,7 @@ use wq_core::Step;
 use wq_items::ItemTable;
 use wq_text::Line;
 
-/// So many steps, each on one of the next lines.
+/// This many steps, each on one of the next lines.
 fn read_steps<A: Allocator + Copy>(
     alloc: A,
     table: &ItemTable<'_, A>,
@@ -96,10 +96,9 @@ fn read_run_lines<A: Allocator + Copy>(
 
 /// The steps that the text of a run says, for the items of a table. Whether they are lawful isn't judged.
 ///
-/// Else the answer is the first fault: `BadCertLine` (40) where the text or a line is too long, or in the first line that
-/// isn't of the form that stands next, with line 0 where the text ends too early; `NumberOutOfRange` (43) in a line of
-/// that form whose workqueue is above 4,095; or `OutOfMemory` (20), where a growth was refused in a text within the
-/// limits.
+/// Else the answer is the first fault: `BadCertLine` (40) where the text or a line is too long, or in the first line that isn't
+/// of the form that comes next, with line 0 where the text ends too early; `NumberOutOfRange` (43) in a line of that form whose
+/// workqueue is above 4,095; or `OutOfMemory` (20), where a growth was refused in a text within the limits.
 pub fn read_run<A: Allocator + Copy>(
     alloc: A,
     text: &[u8],

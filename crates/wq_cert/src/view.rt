@@ -69,7 +69,7 @@ fn holds_word(line: &Line<'_>) -> bool
     line.words().next().is_some()
 }
 
-/// The first line that holds a word, and the lines behind it.
+/// The first line that holds a word, and the lines after it.
 fn next_filled<'c>(lines: &mut Lines<'c>) -> Option<Line<'c>>
     ensures { YieldsFirst filled lines.old result lines.new }
 {

@@ -1,4 +1,4 @@
-//! Reading the lines of workqueues: so many of them, or all up to the first line with another first word.
+//! Reading the lines of workqueues: this many of them, or all up to the first line with another first word.
 //!
 //! The texts are those of "Certificates" in docs/FORMAT.md. Reading takes time in the length of the lines and the number
 //! of items, and memory in the number of items and in the length of the longest line.
@@ -17,7 +17,7 @@ use std::alloc::Allocator;
 use wq_groups::{Assignment, Groups};
 use wq_items::ItemTable;
 
-/// So many workqueues, each on one of the next lines.
+/// This many workqueues, each on one of the next lines.
 fn read_workqueues<A: Allocator + Copy>(
     alloc: A,
     table: &ItemTable<'_, A>,
@@ -39,7 +39,7 @@ fn read_workqueues<A: Allocator + Copy>(
     Ok(workqueues)
 }
 
-/// So many workqueues, each on one of the next lines, as an assignment.
+/// This many workqueues, each on one of the next lines, as an assignment.
 pub(crate) fn read_counted<A: Allocator + Copy>(
     alloc: A,
     table: &ItemTable<'_, A>,

@@ -1,4 +1,4 @@
-//! The workqueues that are read so far: which items stand on one, and which workqueue serves each group.
+//! The workqueues that are read so far: which items are on one, and which workqueue serves each group.
 //!
 //! The rules are those of "Certificates" in docs/FORMAT.md. Reading a workqueue takes time in the length of its line, and
 //! memory in the number of names on it until it is noted. To begin with none, and to make the assignment, takes time and
@@ -27,13 +27,13 @@ const MAX_LANES: u16 = 4096;
 pub(crate) struct Workqueues<A: Allocator> {
     /// How many there are.
     count: u16,
-    /// Of each item whether it stands on one.
+    /// Of each item whether it is on one.
     stood: Vec<bool, A>,
     /// Of each group the workqueue that holds a member of it.
     lane_of_group: Vec<Option<LaneId>, A>,
 }
 
-/// The items on the next workqueue, by the form and the number of its line, where so many stand before it.
+/// The items on the next workqueue, by the form and the number of its line, where this many are before it.
 fn read_items<A: Allocator + Copy>(
     alloc: A,
     table: &ItemTable<'_, A>,
@@ -125,7 +125,7 @@ fn lanes_of<A: Allocator>(
 }
 
 impl<A: Allocator + Copy> Workqueues<A> {
-    /// No workqueue, for so many items, which stand in these groups.
+    /// No workqueue, for this many items, which stand in these groups.
     pub(crate) fn none(alloc: A, groups: &Groups<A>, items: u16) -> Result<Self, AllocError>
         requires { length groups.now.group_of ≡ items }
         ensures { IfOk result (λ q. AreNoted groups.now [] q.count q.stood.items q.lane_of_group.items) }
@@ -188,7 +188,7 @@ impl<A: Allocator + Copy> Workqueues<A> {
         self.with(line.no(), groups, items.as_slice())
     }
 
-    /// The assignment that these workqueues are, if each item stands on one.
+    /// The assignment that these workqueues are, if each item is on one.
     pub(crate) fn assignment(self, alloc: A, groups: &Groups<A>) -> Result<Assignment<A>, CertError>
         requires { (workqueues : List (List ℕ)) × AreNoted groups.now workqueues self.count self.stood.items self.lane_of_group.items }
         ensures assignment { (workqueues : List (List ℕ)) → AreNoted groups.now workqueues self.count self.stood.items self.lane_of_group.items

@@ -13,7 +13,7 @@ use wq_items::ItemId;
 pub enum Yes {
     /// The assignment is safe, and no fewer workqueues are enough than this number.
     Plan { number: u32 },
-    /// The groups wait in a circle of so many arcs.
+    /// The groups wait in a circle of this many arcs.
     Circle { length: u32 },
 }
 

@@ -53,7 +53,7 @@ fn check_plan<A: Allocator + Copy>(
     }
 }
 
-/// The assignment in which each of so many groups has a workqueue of its own, with its number.
+/// The assignment in which each of this many groups has a workqueue of its own, with its number.
 fn own_lanes<A: Allocator + Copy>(alloc: A, groups: u16) -> Result<Assignment<A>, AllocError>
     requires { groups ≤ 4096 }
     ensures { IfOk result (λ a. a ≡ own_lanes groups) }
@@ -160,12 +160,11 @@ fn check_certificate<A: Allocator + Copy>(
 
 /// What is answered to a certificate: what it shows, or the first reason why it shows nothing.
 ///
-/// It is one of the declaration, as every certificate is that is read: its assignment has a lane for each group, its arcs
-/// are of items, and their number is one less than the length of the chain (none for 0), or from 1 to 4,096 in a circle;
-/// and it has fewer than 4,294,967,295 steps. A yes to a plan implies that it is safe, and that in every assignment to
-/// fewer workqueues these wait in a circle, and some run deadlocks; a yes to a circle, that both are so in every assignment.
-/// The only error is out of memory (20), and it comes only where the arcs of a circle go round and steps stand behind
-/// them.
+/// It is one of the declaration, as every certificate is that is read: its assignment has a lane for each group, its arcs are of
+/// items, and their number is one less than the length of the chain (none for 0), or from 1 to 4,096 in a circle; and it has
+/// fewer than 4,294,967,295 steps. A yes to a plan implies that it is safe, and that in every assignment to fewer workqueues
+/// these wait in a circle, and some run deadlocks; a yes to a circle, that both are so in every assignment. The only error is out
+/// of memory (20), and it comes only where the arcs of a circle go round and steps follow them.
 pub fn check_answer<A: Allocator + Copy>(
     alloc: A,
     table: &ItemTable<'_, A>,

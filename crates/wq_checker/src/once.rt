@@ -29,7 +29,7 @@ fn none_cancels(steps: &[Step]) -> bool
     steps.iter().all(|step| cancels_none(*step))
 }
 
-/// So many counts of none.
+/// This many counts of none.
 fn no_counts<A: Allocator + Copy>(alloc: A, items: usize) -> Result<Vec<u32, A>, AllocError>
     ensures counts { IfOk result (λ counts. counts.items ≡ replicate items 0) }
     ensures memory { OnErr result (0 < items) }
@@ -39,7 +39,7 @@ fn no_counts<A: Allocator + Copy>(alloc: A, items: usize) -> Result<Vec<u32, A>,
     Ok(counts)
 }
 
-/// Of each of so many items in turn how often it is queued.
+/// Of each of this many items in turn how often it is queued.
 fn count_queueings<A: Allocator + Copy>(
     alloc: A,
     items: usize,

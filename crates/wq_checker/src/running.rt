@@ -92,8 +92,8 @@ fn end_of<A: Allocator + Copy>(
     }
 }
 
-/// How a list of fewer than 4,294,967,295 steps ends under an assignment of the groups. The only error is out of memory
-/// (20), never where there is no lane.
+/// How a list of fewer than 4,294,967,295 steps ends under an assignment of the groups. The only error is out of memory (20),
+/// which can't occur where there is no lane.
 pub fn check_run<A: Allocator + Copy>(
     alloc: A,
     table: &ItemTable<'_, A>,

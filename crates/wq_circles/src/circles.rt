@@ -1,8 +1,8 @@
 //! The command `circles`: from the bytes of a declaration, and of an assignment where one is named, to the bytes of the answer.
 //!
 //! The declaration is read first and the assignment next, both before one is judged, and the answer is made whole before the
-//! first byte is written. The rule is that of "The command `circles`" in docs/FORMAT.md. Takes the time of reading the texts, of
-//! the components and of writing the answer.
+//! first byte is written. The rule is that of "The command `circles`" in docs/FORMAT.md. It takes the time of reading the texts,
+//! of the components and of writing the answer.
 
 ghost use Rattle.std.specs.Prelude.{◌≡◌, ◌≢◌, ◌≤◌, ◌+◌, ◌⊎◌, ℕ, List, Err, IfOk};
 ghost use Rattle.wq_meter.specs.Meter.{count_after, LosesPrefix, WritesPrefix, WritesWhole};
@@ -40,8 +40,8 @@ pub fn circles_cmd<D: Read, S: Read, W: Write, A: Allocator + Copy>(
         × WritesWhole W.contents writer.old writer.new out) }
 
     // This answer is true. Of an assignment that is read either no run of queueings, cancellations and rescuer steps ends stuck,
-    // and `safe` is printed; or some run does, and just those flushes are printed whose target's workqueue leads to that of their
-    // item, by components, each once.
+    // and `safe` is printed; or some run does, and exactly those flushes are printed whose target's workqueue leads to that of
+    // their item, by components, each once.
     ensures promised { IfOk result (λ end. (out : List ℕ)
         × KeepsCirclesOfInput D.remaining S.remaining declaration.old declaration.new assignment.old assignment.new end out
         × WritesWhole W.contents writer.old writer.new out) }

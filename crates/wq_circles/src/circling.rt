@@ -1,6 +1,6 @@
 //! The answer to a declaration and an assignment, or to a declaration alone, made whole in memory.
 //!
-//! The rule is that of "The command `circles`" in docs/FORMAT.md. Takes the time and the memory of reading the texts, of the
+//! The rule is that of "The command `circles`" in docs/FORMAT.md. It takes the time and the memory of reading the texts, of the
 //! components and of their text.
 
 ghost use Rattle.std.specs.Prelude.{◌≡◌, IfOk, length, map};

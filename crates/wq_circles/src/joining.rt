@@ -1,9 +1,9 @@
 //! The components of an assignment: the arcs that lie on a circle.
 //!
-//! The rule is that of "The command `circles`" in docs/FORMAT.md: an arc lies on a circle where the workqueue of its target
-//! leads to that of its item, and so where the two are one workqueue or lead to one another. So workqueues that lead to one
-//! another are joined, and what then leads from a workqueue to itself lies on a circle. Takes the time and the memory of two wait
-//! graphs and of the components of the first one (`wq_components`).
+//! The rule is that of "The command `circles`" in docs/FORMAT.md: an arc lies on a circle where the workqueue of its target leads
+//! to that of its item, and so where the two are one workqueue or lead to one another. So workqueues that lead to one another are
+//! joined, and what then leads from a workqueue to itself lies on a circle. It takes the time and the memory of two wait graphs
+//! and of the components of the first one (`wq_components`).
 
 ghost use Rattle.std.specs.Prelude.{◌≡◌, ◌<◌, length, map, IfOk, OnErr};
 ghost use Rattle.std.specs.List.{All};
@@ -94,7 +94,7 @@ fn loops<A: Allocator + Copy>(
 /// The components of an assignment, each as its arcs. The groups are those of this table, and the assignment has a lane for each
 /// of them.
 ///
-/// The only error is out of memory (20), never where there is no lane.
+/// The only error is out of memory (20), which can't occur where there is no lane.
 pub fn components<A: Allocator + Copy>(
     alloc: A,
     table: &ItemTable<'_, A>,

@@ -77,7 +77,7 @@ pub fn circles_have_one_answer()
 {}
 
 /// An answer keeps its promise. Where `safe` is printed no run ends stuck. Where components are, some run deadlocks, and of the
-/// declared flushes just those are printed whose target's workqueue leads to that of their item.
+/// declared flushes exactly those are printed whose target's workqueue leads to that of their item.
 pub fn circles_keep_their_promise()
     ensures assigned { (declared text : List ℕ) (end : End) (out : List ℕ) →
         Circles declared text end out → KeepsCircles declared text end out }

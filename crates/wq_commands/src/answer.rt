@@ -1,6 +1,6 @@
 //! The answer to a declaration text, made whole in memory.
 //!
-//! Takes time in the length of the text, and behind a circle that of its run (`wq_deadlock`); and memory in the length of the
+//! It takes time in the length of the text, and after a circle that of its run (`wq_deadlock`); and memory in the length of the
 //! text.
 
 ghost use Rattle.std.specs.Prelude.{◌≡◌, IfOk, length};

@@ -1,7 +1,7 @@
 //! The command `check`: from the bytes of a declaration and a certificate to the bytes of the checker's answer.
 //!
-//! The declaration is read first and the certificate next, both before one is judged, and the answer is made whole before
-//! the first byte is written. Takes the time of reading the texts, of judging them and of writing the answer.
+//! The declaration is read first and the certificate next, both before one is judged, and the answer is made whole before the
+//! first byte is written. It takes the time of reading the texts, of judging them and of writing the answer.
 
 ghost use Rattle.std.specs.Prelude.{◌≡◌, ◌≢◌, ◌≤◌, ◌+◌, ◌⊎◌, ℕ, List, Err, IfOk};
 ghost use Rattle.wq_meter.specs.Meter.{count_after, LosesPrefix, WritesPrefix, WritesWhole};

@@ -1,6 +1,6 @@
 //! The answer to a declaration and a certificate, made whole in memory.
 //!
-//! Takes the time and the memory of reading both and of checking.
+//! It takes the time and the memory of reading both and of checking.
 
 ghost use Rattle.std.specs.Prelude.{◌≡◌, ◌<◌, ◌++◌, ◌∷◌, [], IfOk, IfErr, OnOk, length, codes, decimal, flat_map};
 ghost use Rattle.wq_groups.specs.Declaration.{declaration_of};

@@ -1,6 +1,6 @@
 //! The four passes over a declaration text, one after the other.
 //!
-//! Takes time in the length of the text, and memory in the items and the flushes.
+//! It takes time in the length of the text, and memory in the items and the flushes.
 
 ghost use Rattle.std.specs.Prelude.{◌≡◌, Ok, Err, None, Result, IfOk, IfErr};
 ghost use Rattle.wq_text.specs.Lines.{lines_of};

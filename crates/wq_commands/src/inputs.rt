@@ -1,6 +1,6 @@
 //! The texts of a command, read one after another: a declaration, and a certificate, or an assignment and a run.
 //!
-//! Takes time and memory in the bytes that come.
+//! It takes time and memory in the bytes that come.
 
 ghost use Rattle.std.specs.Prelude.{◌≡◌, ◌≢◌, ◌≤◌, ◌+◌, ◌⊎◌, Err, IfOk};
 ghost use Rattle.wq_meter.specs.Meter.{LosesPrefix};

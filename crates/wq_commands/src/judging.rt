@@ -1,6 +1,6 @@
 //! The answer to a declaration and an assignment, made whole in memory.
 //!
-//! The rule is that of "Deadlocking runs" in docs/FORMAT.md. Takes the time and the memory of reading the two and of the
+//! The rule is that of "Deadlocking runs" in docs/FORMAT.md. It takes the time and the memory of reading the two and of the
 //! verdict, whose run has 45,056 steps at most.
 
 ghost use Rattle.std.specs.Prelude.{◌≡◌, IfOk, length};

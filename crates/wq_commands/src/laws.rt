@@ -45,7 +45,7 @@ pub fn an_answer_keeps_its_promise()
 {}
 
 /// What is promised of the printed bytes, that they spell a plan or a circle, is so of what is read from them: `read_answer`
-/// reads just this plan or this circle, `read_assignment` the assignment of the plan, and the checker calls it good.
+/// reads exactly this plan or this circle, `read_assignment` the assignment of the plan, and the checker calls it good.
 pub fn what_is_promised_is_read()
     ensures plan { (text out : List ℕ) (s : Declared) → declaration text ≡ Ok s → (kept : KeepsPlan s out) →
         IsReadAsGoodPlan s out kept.plan }

@@ -1,8 +1,8 @@
 //! The command `replay`: from the bytes of a declaration, an assignment and a run to how the run ends.
 //!
-//! The declaration is read first, then the assignment and then the run, all before one is judged, and the answer is made
-//! whole before the first byte is written. Takes the time of reading the texts, of judging them and making the steps, and
-//! of writing the answer.
+//! The declaration is read first, then the assignment and then the run, all before one is judged, and the answer is made whole
+//! before the first byte is written. It takes the time of reading the texts, of judging them and making the steps, and of writing
+//! the answer.
 
 ghost use Rattle.std.specs.Prelude.{◌≡◌, ◌≢◌, ◌≤◌, ◌+◌, ◌⊎◌, ℕ, List, Err, IfOk};
 ghost use Rattle.wq_meter.specs.Meter.{count_after, LosesPrefix, WritesPrefix, WritesWhole};

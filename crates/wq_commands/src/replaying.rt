@@ -1,6 +1,6 @@
 //! The answer to a declaration, an assignment and a run, made whole in memory.
 //!
-//! Takes the time and the memory of reading the three and of making the steps.
+//! It takes the time and the memory of reading the three and of making the steps.
 
 ghost use Rattle.std.specs.Prelude.{◌≡◌, ◌∷◌, [], ◌<◌, IfOk, length, codes, decimal};
 ghost use Rattle.wq_lines.specs.LineText.{line_text};

@@ -1,9 +1,9 @@
 //! Of each vertex the lowest-numbered one that waits for it and that it waits for.
 //!
-//! A depth-first search gives the order in which the vertices are finished. They are then taken in the reverse of that order. Each
-//! that wasn't found yet finds its component by a search against the arcs, and the lowest-numbered vertex found is the answer for
-//! all of them (S. R. Kosaraju; M. Sharir, "A strong-connectivity algorithm and its applications in data flow analysis", Computers
-//! and Mathematics with Applications 7, 1981). Takes time and memory in the vertices and the arcs.
+//! A depth-first search gives the order in which the vertices are finished. They are then taken in the reverse of that order.
+//! Each that wasn't found yet finds its component by a search against the arcs, and the lowest-numbered vertex found is the
+//! answer for all of them (S. R. Kosaraju; M. Sharir, "A strong-connectivity algorithm and its applications in data flow
+//! analysis", Computers and Mathematics with Applications 7, 1981). It takes time and memory in the vertices and the arcs.
 
 ghost use Rattle.std.specs.Prelude.{◌≡◌, ◌<◌, ◌≤◌, length, map, false, MatchOption, IfOk, IfErr};
 ghost use Rattle.std.specs.List.{All};
@@ -87,7 +87,7 @@ fn lowest_of_components<A: Allocator + Copy>(
 /// Of each vertex the lowest-numbered one that is together with it: that is the vertex itself, or each of the two leads to the
 /// other.
 ///
-/// The only error is out of memory (20), never for a graph without vertices.
+/// The only error is out of memory (20), which can't occur for a graph without vertices.
 pub fn lowest<A: Allocator + Copy>(
     alloc: A,
     graph: &WaitGraph<A>,

@@ -35,7 +35,7 @@ pub(crate) fn heads<A: Allocator + Copy>(
     Ok(lists)
 }
 
-/// So many lists without a vertex.
+/// This many lists without a vertex.
 fn empty_lists<A: Allocator + Copy>(alloc: A, count: u16) -> Result<Vec<Vec<u16, A>, A>, AllocError>
     ensures { IfOk result (λ lists. map (λ l. l.items) lists.items ≡ replicate count []) }
 {

@@ -25,7 +25,7 @@ impl<A: Allocator> Model for Progress<A> {
 }
 
 impl<A: Allocator + Copy> Progress<A> {
-    /// Nothing is found yet, of so many vertices.
+    /// Nothing is found yet, of this many vertices.
     pub(crate) fn none(alloc: A, vertices: usize) -> Result<Self, AllocError>
         ensures marks { IfOk result (λ p. p.marks ≡ replicate vertices false) }
         ensures order { IfOk result (λ p. p.order ≡ []) }
@@ -74,7 +74,7 @@ impl<A: Allocator + Copy> Progress<A> {
         self.order.len()
     }
 
-    /// The vertex that was found at this place of the order, if so many were found.
+    /// The vertex that was found at this place of the order, if this many were found.
     pub(crate) fn nth(&self, place: usize) -> Option<u16>
         ensures { result ≡ slice_get self.now.order place }
     {

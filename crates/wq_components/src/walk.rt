@@ -48,7 +48,7 @@ fn next_unvisited(heads: &[u16], visited: &[bool], from: usize) -> usize
 }
 
 impl<A: Allocator + Copy> Walk<A> {
-    /// Nothing is visited yet, of so many vertices.
+    /// Nothing is visited yet, of this many vertices.
     pub(crate) fn none(alloc: A, vertices: usize) -> Result<Self, AllocError>
         ensures visited { IfOk result (λ w. w.visited ≡ replicate vertices false) }
         ensures followed { IfOk result (λ w. w.followed ≡ replicate vertices 0) }

@@ -13,7 +13,7 @@ use std::alloc::{AllocError, Allocator};
 use wq_groups::{Assignment, Groups, LaneId};
 use wq_items::ItemId;
 
-/// The lane of each of so many items.
+/// The lane of each of this many items.
 pub(crate) fn item_lanes<A: Allocator + Copy>(
     alloc: A,
     items: u16,
@@ -34,7 +34,7 @@ pub(crate) fn item_lanes<A: Allocator + Copy>(
     Ok(lanes)
 }
 
-/// So many counts of 0.
+/// This many counts of 0.
 fn zeros<A: Allocator + Copy>(alloc: A, count: u16) -> Result<Vec<usize, A>, AllocError>
     ensures counts { IfOk result (λ counts. counts.items ≡ replicate count 0) }
     ensures memory { OnErr result (0 < count) }
@@ -44,7 +44,7 @@ fn zeros<A: Allocator + Copy>(alloc: A, count: u16) -> Result<Vec<usize, A>, All
     Ok(counts)
 }
 
-/// Of each lane in turn how many items stand on it.
+/// Of each lane in turn how many items are on it.
 pub(crate) fn count_items<A: Allocator + Copy>(
     alloc: A,
     lanes: u16,

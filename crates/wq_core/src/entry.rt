@@ -1,4 +1,4 @@
-//! What stands on a lane: queued entries, and the one that runs.
+//! What is on a lane: queued entries, and the one that runs.
 //!
 //! Nothing is computed here.
 

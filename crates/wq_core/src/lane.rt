@@ -1,8 +1,8 @@
 //! A lane: what is queued on it, and what its context runs.
 //!
-//! It changes as "Rules" in the specs of this crate says, in words of one lane alone. `cancel` finds the entry in time in
-//! the logarithm of the number of pending entries, and then moves those before or behind it, whichever are fewer; each
-//! other call takes constant time. Only `new` takes memory.
+//! It changes as "Rules" in the specs of this crate says, in words of one lane alone. `cancel` finds the entry in time in the
+//! logarithm of the number of pending entries, and then moves those before or after it, whichever are fewer; each other call
+//! takes constant time. Only `new` takes memory.
 
 ghost use Rattle.std.specs.Prelude.{◌≡◌, ◌≢◌, ◌<◌, ◌+◌, ◌^◌, ◌↔◌, length, AllPairs, IfOk, OnErr, IfSome, IsTrue, slice_get};
 ghost use Rattle.std.specs.VecDeque.Iter.{deque_iter_rest};
@@ -35,7 +35,8 @@ impl<A: Allocator> Model for Lane<A> {
 }
 
 impl<A: Allocator> Lane<A> {
-    /// An idle lane with room for so many entries. The only error is out of memory (20), never for no entry.
+    /// An idle lane with room for this many entries. The only error is out of memory (20), which can't occur where there is no
+    /// entry.
     pub fn new(alloc: A, room: usize) -> Result<Self, AllocError>
         ensures idle { IfOk result (λ l. l.lane ≡ idle_lane) }
         ensures room { IfOk result (λ l. l.room ≡ room) }

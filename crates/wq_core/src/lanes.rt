@@ -33,7 +33,8 @@ impl<A: Allocator> Model for Lanes<A> {
 }
 
 impl<A: Allocator + Copy> Lanes<A> {
-    /// Idle lanes, each with room for so many entries. The only error is out of memory (20), never for no lane.
+    /// Idle lanes, each with room for this many entries. The only error is out of memory (20), which can't occur where there is
+    /// no lane.
     pub fn new(alloc: A, rooms: &[usize]) -> Result<Self, AllocError>
         ensures lanes { IfOk result (λ lanes. lanes ≡ map idle_with_room rooms.now) }
         ensures memory { OnErr result (0 < length rooms.now) }

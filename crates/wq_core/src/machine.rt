@@ -1,11 +1,11 @@
 //! The machine: its wiring, its state, and the steps that change it.
 //!
-//! The rules are those of "Rules" in the specs of this crate. The number of an item's pending entry stands beside the lanes,
-//! so a question about an item takes constant time. So does each step, and the question which number it would give, but for
-//! two: a cancellation takes time in the logarithm of the number of entries that are pending on the lane, and moves those
-//! before or behind the one that is taken out, whichever are fewer; and a wait takes time in the logarithm of the number of
-//! the item's targets. Only `new` takes memory; it takes memory in the number of items, flushes and lanes, and time in that
-//! too, times the logarithm of the flushes of one item.
+//! The rules are those of "Rules" in the specs of this crate. The number of an item's pending entry stands beside the lanes, so a
+//! question about an item takes constant time. So does each step, and the question which number it would give, except for two: a
+//! cancellation takes time in the logarithm of the number of entries that are pending on the lane, and moves those before or
+//! after the one that is taken out, whichever are fewer; and a wait takes time in the logarithm of the number of the item's
+//! targets. Only `new` takes memory; it takes memory in the number of items, flushes and lanes, and time in that too, times the
+//! logarithm of the flushes of one item.
 
 ghost use Rattle.std.specs.Prelude.{◌≡◌, ◌<◌, ◌≤◌, length, slice_get, Some, IfSome, IfNone, OnSome, IfOk, OnErr, IfErr, IsTrue, ◌↔◌, take};
 ghost use Rattle.wq_items.specs.Table.{ItemWaits};
@@ -53,7 +53,7 @@ impl<A: Allocator + Copy> Core<A> {
     /// The machine of a declaration and an assignment, before anything is queued: of a table, the groups of its items,
     /// and the lane of each group.
     ///
-    /// The only error is out of memory (20), never where there is no lane; any other machine holds lanes in memory.
+    /// The only error is out of memory (20), which can't occur where there is no lane; any other machine holds lanes in memory.
     pub fn new(
         alloc: A,
         table: &ItemTable<'_, A>,

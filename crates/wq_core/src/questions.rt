@@ -50,7 +50,7 @@ impl<A: Allocator> Core<A> {
         None
     }
 
-    /// The target of the next wait of an item's execution that has made so many; none after the last.
+    /// The target of the next wait of an item's execution that has made this many; none after the last.
     fn next_target(&self, item: ItemId, made: u32) -> Option<Target>
         requires { item < items self.now.wiring }
         ensures { result ≡ slice_get (declared_by self.now.wiring item) made }

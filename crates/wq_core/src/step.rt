@@ -16,7 +16,7 @@ use wq_items::ItemId;
 pub enum Step {
     /// The item is queued on its lane.
     Queue(ItemId),
-    /// The pending entry of the item is taken off its lane.
+    /// The pending entry of the item is removed from its lane.
     Cancel(ItemId),
     /// The lane starts its first pending entry, which is of this item.
     Start(LaneId, ItemId),

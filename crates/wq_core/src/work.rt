@@ -18,7 +18,7 @@ use std::alloc::Allocator;
 use wq_groups::LaneId;
 use wq_items::ItemId;
 
-/// How many waits are over of an entry that has made so many, and waits for this if it does.
+/// How many waits are over of an entry that has made this many, and waits for this if it does.
 fn waits_over(made: u32, waiting: Option<Waiting>) -> u32
     ensures { result ≡ waits_over made waiting }
 {

@@ -54,7 +54,7 @@ fn add_each(counts: &mut [u64], more: &[u64])
 }
 
 impl<A: Allocator> Counts<A> {
-    /// No row of so many items. The only error is out of memory, never where there is no item.
+    /// No row of this many items. The only error is out of memory, which can't occur where there is no item.
     pub fn new(alloc: A, items: usize) -> Result<Self, AllocError>
         ensures counts { IfOk result (λ c. c ≡ replicate (14 * items) 0) }
         ensures memory { OnErr result (0 < items) }
@@ -133,7 +133,7 @@ impl<A: Allocator> Counts<A> {
         self.made(item, Kind::Queue, true)
     }
 
-    /// How many entries of an item were taken off.
+    /// How many entries of an item were removed.
     pub fn cancelled(&self, item: ItemId) -> u64
         ensures { result ≡ made self.now item Cancel true }
     {

@@ -12,7 +12,7 @@ use wq_rows::Event;
 pub enum Kind {
     /// The item was to be queued.
     Queue,
-    /// The pending entry of the item was to be taken off.
+    /// The pending entry of the item was to be removed.
     Cancel,
     /// A lane began to wait for the item.
     Wait,

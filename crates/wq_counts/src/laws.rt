@@ -17,7 +17,7 @@ pub fn one_more_raises_one_count()
         made (raised counts i kind said) j other answer ≡ made counts j other answer }
 {}
 
-/// Counts of so many items are equal exactly where there are as many of each item, kind and answer.
+/// Counts of this many items are equal exactly where there are as many of each item, kind and answer.
 pub fn counts_are_equal_where_each_count_is()
     ensures { (items : ℕ) (a b : List ℕ) → HasCountsOf items a → HasCountsOf items b → (a ≡ b)
         ↔ ((i : ℕ) (kind : Kind) (said : Bool) → i < items → made a i kind said ≡ made b i kind said) }

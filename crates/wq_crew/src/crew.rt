@@ -23,7 +23,7 @@ use wq_items::ItemTable;
 use wq_rescuer::{Ran, run_all};
 use wq_testbed::{Bed, make, mistake};
 
-/// Bodies or callers that do these things, numbered from this number on, which can count so many items.
+/// Bodies or callers that do these things, numbered from this number on, which can count this many items.
 fn make_doers<'a>(
     alloc: Global,
     flags: &'a Flags,
@@ -72,7 +72,7 @@ fn put_ran<N: Naming>(
     printed.and(status)
 }
 
-/// The bodies and the callers of a plot, which can count so many items.
+/// The bodies and the callers of a plot, which can count this many items.
 fn make_crew<'a>(
     alloc: Global,
     flags: &'a Flags,

@@ -49,7 +49,7 @@ fn entry_alone(word: &[u8]) -> Option<Entry> {
     }
 }
 
-/// What this word says with another behind it.
+/// What this word says with another after it.
 fn entry_of(table: &ItemTable<'_, Global>, word: &[u8], what: &[u8]) -> Option<Entry> {
     let deed = match word {
         b"flush" => Deed::Flush(item_of(table, what)),
@@ -62,7 +62,7 @@ fn entry_of(table: &ItemTable<'_, Global>, word: &[u8], what: &[u8]) -> Option<E
     Some(Entry::Deed(deed))
 }
 
-/// What a line says by its first word and those behind it; none where it has the form of none.
+/// What a line says by its first word and those after it; none where it has the form of none.
 pub(crate) fn read_entry(
     table: &ItemTable<'_, Global>,
     word: &[u8],

@@ -27,7 +27,7 @@ pub(crate) struct Doer<'a> {
 }
 
 impl<'a> Doer<'a> {
-    /// One that does these things, and can count so many items.
+    /// One that does these things, and can count this many items.
     pub(crate) fn new(
         alloc: Global,
         flags: &'a Flags,

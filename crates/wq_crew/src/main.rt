@@ -35,7 +35,7 @@ enum Request<'a> {
     Script(Setting<'a>),
 }
 
-/// The request that this word makes, with those behind its setting.
+/// The request that this word makes, with those after its setting.
 fn request_of<'a>(task: &str, setting: Setting<'a>, rest: &'a [String]) -> Option<Request<'a>> {
     match (task, rest) {
         ("run", [deeds]) => Some(Request::Run(setting, deeds.as_str())),
@@ -44,7 +44,7 @@ fn request_of<'a>(task: &str, setting: Setting<'a>, rest: &'a [String]) -> Optio
     }
 }
 
-/// `run DECL ASSIGN ROWS DEEDS` or `script DECL ASSIGN ROWS`, behind the program's name.
+/// `run DECL ASSIGN ROWS DEEDS` or `script DECL ASSIGN ROWS`, after the program's name.
 fn parse(words: &[String]) -> Option<Request<'_>> {
     match words {
         [_, task, declaration, assignment, rows, rest @ ..] => {

@@ -29,7 +29,7 @@ fn look(flag: &AtomicBool) -> bool {
 }
 
 impl Flags {
-    /// Flags for so many, none of them set.
+    /// Flags for this many, none of them set.
     pub(crate) fn new(alloc: Global, count: usize) -> Result<Flags, AllocError> {
         let mut here = Vec::new(alloc);
         for _ in 0..count {

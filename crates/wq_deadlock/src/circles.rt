@@ -17,7 +17,7 @@ use wq_core::Step;
 use wq_groups::{Assignment, Groups, LaneId};
 use wq_items::ItemTable;
 
-/// So many lanes in turn, from 0.
+/// This many lanes in turn, from 0.
 fn lanes_in_turn<A: Allocator + Copy>(alloc: A, count: u16) -> Result<Vec<LaneId, A>, AllocError>
     ensures lanes { IfOk result (λ lanes. lanes.items ≡ range_with_len 0 count) }
     ensures memory { OnErr result (0 < count) }
@@ -31,7 +31,7 @@ fn lanes_in_turn<A: Allocator + Copy>(alloc: A, count: u16) -> Result<Vec<LaneId
 
 /// The assignment in which group g has lane g.
 ///
-/// The only error is out of memory (20), never where there is no group.
+/// The only error is out of memory (20), which can't occur where there is no group.
 pub fn own_lanes<A: Allocator + Copy>(
     alloc: A,
     groups: &Groups<A>,
@@ -46,7 +46,7 @@ pub fn own_lanes<A: Allocator + Copy>(
 /// The run by which the assignment deadlocks in which group g has lane g; `None` exactly where that is safe, and so where
 /// the groups wait in no circle. The groups are those of this table.
 ///
-/// The only error is out of memory (20), never where there is no group.
+/// The only error is out of memory (20), which can't occur where there is no group.
 pub fn circle_run<A: Allocator + Copy>(
     alloc: A,
     table: &ItemTable<'_, A>,

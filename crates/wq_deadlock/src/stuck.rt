@@ -1,9 +1,9 @@
 //! Lanes that are known to be stuck while a machine is played.
 //!
-//! A lane that can't move waits for an item, or has nothing to start. Where nothing is queued, it can move again only once
-//! that item is finished. So it isn't asked again before. Each call takes constant time, but for `new`, in the number of
-//! lanes and items, and `release`, in the number of lanes that are released. Memory is taken for each lane and each item,
-//! and for the lanes that wait.
+//! A lane that can't move waits for an item, or has nothing to start. Where nothing is queued, it can move again only once that
+//! item is finished. So it isn't asked again before. Each call takes constant time, except for `new`, in the number of lanes and
+//! items, and `release`, in the number of lanes that are released. Memory is taken for each lane and each item, and for the lanes
+//! that wait.
 
 ghost use Rattle.std.specs.Prelude.{◌≡◌, ◌<◌, ◌↔◌, ℕ, length, map, replicate, slice_index_or, true, false, [], Contains, IfOk, OnOk, IfSome, IsTrue};
 ghost use Rattle.wq_deadlock.specs.Stuck.{IsKnown, IsReleased, with_stuck};
@@ -29,7 +29,7 @@ impl<A: Allocator> Model for Stuck<A> {
     ghost view = { λ s. record { known = s.known.items; waiting = map (λ l. l.items) s.waiting.items } };
 }
 
-/// So many lists with nothing in them.
+/// This many lists with nothing in them.
 fn empty_lists<A: Allocator + Copy>(
     alloc: A,
     items: u16,
@@ -56,7 +56,7 @@ fn forget<A: Allocator>(known: &mut Vec<bool, A>, lanes: &[LaneId])
 }
 
 impl<A: Allocator + Copy> Stuck<A> {
-    /// So many lanes and items, of which no lane is known to be stuck.
+    /// This many lanes and items, of which no lane is known to be stuck.
     pub(crate) fn new(alloc: A, lanes: u16, items: u16) -> Result<Self, AllocError>
         ensures known { IfOk result (λ stuck. stuck.known ≡ replicate lanes false) }
         ensures waiting { IfOk result (λ stuck. stuck.waiting ≡ replicate items []) }

@@ -1,7 +1,7 @@
 //! The command `dot`: from the bytes of a declaration, and of an assignment where one is named, to the bytes of the answer.
 //!
 //! The declaration is read first and the assignment next, both before one is judged, and the answer is made whole before the
-//! first byte is written. The rule is that of "The command `dot`" in docs/FORMAT.md. Takes the time of reading the texts, of
+//! first byte is written. The rule is that of "The command `dot`" in docs/FORMAT.md. It takes the time of reading the texts, of
 //! the plan or the components, and of drawing and writing.
 
 ghost use Rattle.std.specs.Prelude.{◌≡◌, ◌≢◌, ◌≤◌, ◌+◌, ◌⊎◌, ℕ, List, Err, IfOk};

@@ -1,7 +1,7 @@
 //! How each flush of a drawing looks: those of a chain bold, those of components red, and the others plain.
 //!
-//! The rule is that of "The command `dot`" in docs/FORMAT.md. A flush is told by its place, so one of several with the same
-//! item and target is marked alone. Takes time and memory in the flushes.
+//! The rule is that of "The command `dot`" in docs/FORMAT.md. A flush is told by its place, so one of several with the same item
+//! and target is marked alone. It takes time and memory in the flushes.
 
 ghost use Rattle.std.specs.Prelude.{◌≡◌, ◌<◌, length, map, flat_map, IfOk};
 ghost use Rattle.std.specs.List.{All};

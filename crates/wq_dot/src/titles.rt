@@ -9,7 +9,7 @@ use std::alloc::{AllocError, Allocator};
 use wq_graph::WaitArc;
 use wq_lines::{put, put_number};
 
-/// `plan K`, for so many workqueues.
+/// `plan K`, for this many workqueues.
 pub(crate) fn plan_title<A: Allocator + Copy>(
     alloc: A,
     workqueues: u16,

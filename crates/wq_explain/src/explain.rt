@@ -1,7 +1,7 @@
 //! The command `explain`: from a word to what it means, and the list of all that is explained.
 //!
 //! The rule is that of docs/FORMAT.md, "The command `explain`". The text is made whole before its first byte is written, and
-//! nothing is read. Takes time and memory in the text.
+//! nothing is read. It takes time and memory in the text.
 
 ghost use Rattle.std.specs.Prelude.{◌≡◌, ◌≢◌, ◌++◌, Err, IfOk, map, option_map};
 ghost use Rattle.wq_explain.specs.Explaining.{end_in, explained_end, explained_text, explanation_in, explanation_text, number_in, row_of, text_in, text_or_titles, titles, unknown_text, known_or_not};
@@ -35,7 +35,7 @@ fn explanation_text<A: Allocator + Copy>(
     Ok(text)
 }
 
-/// Writes the titles behind what stands there.
+/// Writes the titles after what is there.
 fn push_titles<A: Allocator + Copy>(
     text: &mut Vec<u8, A>,
     rows: &[Explanation],

@@ -15,7 +15,7 @@ pub fn each_name_has_one_explanation()
     ensures { map (λ row. row.name) explanations ≡ names }
 {}
 
-/// A number is explained by the word of its digits just where it has an explanation.
+/// A number is explained by the word of its digits exactly where it has an explanation.
 pub fn a_number_is_found_by_its_digits()
     ensures { (code : ℕ) → code < 2 ^ 32 → explained_end (Some (decimal code)) ≡ number_end code }
 {}

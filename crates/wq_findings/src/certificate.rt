@@ -1,6 +1,6 @@
 //! What is wrong on a line of a certificate that is refused, and what was most likely meant.
 //!
-//! The refusals are those of "Refusals of certificates" in docs/FORMAT.md. Takes time in the length of the text, and where a
+//! The refusals are those of "Refusals of certificates" in docs/FORMAT.md. It takes time in the length of the text, and where a
 //! name is unknown in the names of the declaration times the length of one.
 
 ghost use Rattle.std.specs.Prelude.{◌≡◌, length};
@@ -119,7 +119,7 @@ fn out_of_range<'a>(line: &Line<'a>, stage: Stage) -> Finding<'a> {
     Finding::marked(mark, What::Said(what), Hint::Nothing)
 }
 
-/// A line that isn't what should stand there.
+/// A line that isn't what should be there.
 fn wrong_line<'a, A: Allocator + Copy>(
     alloc: A,
     declaration: &Text<'a>,
@@ -137,7 +137,7 @@ fn wrong_line<'a, A: Allocator + Copy>(
     }
 }
 
-/// A line with another first word, or behind the last one of the text.
+/// A line with another first word, or after the last one of the text.
 fn other_line<'a>(line: &Line<'a>, stage: Stage) -> Finding<'a> {
     let word = bytes_at(line, 0);
     if stage.may_end() {
@@ -161,7 +161,7 @@ fn number_hint(word: &[u8]) -> &'static str {
     }
 }
 
-/// The word of a line where a number should stand, if it is none.
+/// The word of a line where a number should be, if it is none.
 fn wrong_number<'a>(line: &Line<'a>, shape: Shape) -> Option<Token<'a>> {
     match word_at(line, 1) {
         Some(word) if shape.has_number && number(word.bytes).is_none() => Some(word),
@@ -177,7 +177,7 @@ fn surplus_word<'a>(line: &Line<'a>, shape: Shape) -> Option<Token<'a>> {
     }
 }
 
-/// A line that has another number of words than the one that should stand there, or a word that is no number.
+/// A line that has another number of words than the one that should be there, or a word that is no number.
 fn wrong_form<'a>(line: &Line<'a>, stage: Stage, shape: Shape) -> Option<Finding<'a>> {
     if let Some(word) = wrong_number(line, shape) {
         let hint = Hint::Said(number_hint(word.bytes));

@@ -1,7 +1,7 @@
 //! What is wrong on a line of a declaration that is refused, and what was most likely meant.
 //!
-//! The refusals are those of "Refusals" in docs/FORMAT.md. Takes time in the length of the text, and where a name is unknown in
-//! the names of the text times the length of one.
+//! The refusals are those of "Refusals" in docs/FORMAT.md. It takes time in the length of the text, and where a name is unknown
+//! in the names of the text times the length of one.
 
 use crate::finding::Finding;
 use crate::guess::{begins_comment, directive_like, text_with};
@@ -69,12 +69,12 @@ fn at_first_word<'a>(line: &Line<'a>, what: &'static str) -> Finding<'a> {
     Finding::marked(first_mark(line), What::Said(what), Hint::Nothing)
 }
 
-/// Whether a byte may stand before a comment.
+/// Whether a byte may be before a comment.
 fn may_stand(byte: u8) -> bool {
     matches!(byte, b'\t' | b' '..=b'~')
 }
 
-/// What a byte that may not stand before a comment most likely is.
+/// What a byte that may not be before a comment most likely is.
 fn byte_hint(line: &Line<'_>, at: usize) -> &'static str {
     match line.bytes().get(at..) {
         Some([0xEF, 0xBB, 0xBF, ..]) if at == 0 => "a byte order mark: save the file without it",
@@ -87,7 +87,7 @@ fn byte_hint(line: &Line<'_>, at: usize) -> &'static str {
     }
 }
 
-/// The first byte of a line that may not stand before its comment.
+/// The first byte of a line that may not be before its comment.
 fn bad_byte<'a>(line: &Line<'a>) -> Finding<'a> {
     for (at, byte) in line.content().iter().enumerate() {
         if !may_stand(*byte) {
@@ -132,7 +132,7 @@ fn form_of(line: &Line<'_>) -> &'static str {
     }
 }
 
-/// A line that ends where a name should stand.
+/// A line that ends where a name should be.
 fn missing_name<'a>(line: &Line<'a>) -> Finding<'a> {
     let what = What::Said("a name is missing");
     Finding::marked(Mark::behind(line), what, Hint::Form(form_of(line)))
@@ -148,7 +148,7 @@ fn extra_word<'a>(line: &Line<'a>) -> Finding<'a> {
     Finding::at_word(line, 2, What::Said("an `item` line has one name"), hint)
 }
 
-/// Whether a byte may stand in a name.
+/// Whether a byte may be in a name.
 fn is_name_byte(byte: u8) -> bool {
     byte.is_ascii_alphanumeric() || matches!(byte, b'_' | b'-' | b'.')
 }
@@ -245,7 +245,7 @@ fn undeclared_hint<'a, A: Allocator + Copy>(
     })
 }
 
-/// A name that stands on two `ordered` lines, or twice on one.
+/// A name that is on two `ordered` lines, or twice on one.
 fn grouped_twice<'a, A: Allocator + Copy>(
     alloc: A,
     text: &Text<'a>,
@@ -255,7 +255,7 @@ fn grouped_twice<'a, A: Allocator + Copy>(
     Ok(ordered_twice(&above, line))
 }
 
-/// The first name of an `ordered` line that stands on one above, or before on the line.
+/// The first name of an `ordered` line that is on one above, or before on the line.
 fn ordered_twice<'a, A: Allocator + Copy>(above: &Names<'a, A>, line: &Line<'a>) -> Finding<'a> {
     for word in line.words().skip(1) {
         let word = Token::of(line, &word);

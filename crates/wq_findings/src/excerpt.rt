@@ -1,6 +1,6 @@
 //! The part of a line that is shown, and the marks below it.
 //!
-//! One column for each byte: so the marks stand under the bytes that they mean. Takes time in what is shown.
+//! One column for each byte: so the marks stand under the bytes that they mean. It takes time in what is shown.
 
 ghost use Rattle.std.specs.Prelude.{None};
 
@@ -32,7 +32,7 @@ struct Window {
 }
 
 impl Window {
-    /// What is shown of a line of so many bytes round a mark.
+    /// What is shown of a line of this many bytes round a mark.
     fn round(len: usize, mark: Mark) -> Window {
         if len <= MOST_COLUMNS {
             return Window { start: 0, end: len };
@@ -77,7 +77,7 @@ impl fmt::Display for Excerpt<'_> {
     }
 }
 
-/// The marks below such a part of a line, with the hint behind them: so many columns before the marks, and so many marks.
+/// The marks below such a part of a line, with the hint after them: this many columns before the marks, and this many marks.
 #[derive(Clone, Copy)]
 pub struct Marks<'a> {
     columns: usize,
@@ -86,7 +86,7 @@ pub struct Marks<'a> {
 }
 
 impl<'a> Marks<'a> {
-    /// The marks below what is shown of a line of so many bytes; at least one.
+    /// The marks below what is shown of a line of this many bytes; at least one.
     pub fn of(len: usize, mark: Mark, hint: Hint<'a>) -> Marks<'a> {
         let Window { start, end } = Window::round(len, mark);
         let cut = if start > 0 { CUT.len() } else { 0 };

@@ -1,6 +1,6 @@
 //! What was most likely meant, or how to mend it, as a message says it.
 //!
-//! Takes time in what is said.
+//! It takes time in what is said.
 
 ghost use Rattle.std.specs.Prelude.{None};
 
@@ -17,7 +17,7 @@ pub enum Hint<'a> {
     Said(&'static str),
     /// The form that the line should have.
     Form(&'static str),
-    /// The line that should stand there.
+    /// The line that should be there.
     Line(Stage),
     /// The text that this one looks like.
     LooksLike(&'static str),

@@ -1,6 +1,6 @@
 //! What a certificate lacks to which the checker says no.
 //!
-//! The reasons are those of "The command `check`" in docs/FORMAT.md. Takes time in the length of the text.
+//! The reasons are those of "The command `check`" in docs/FORMAT.md. It takes time in the length of the text.
 
 use crate::finding::Finding;
 use crate::hint::Hint;
@@ -127,7 +127,7 @@ fn not_falling<'a, A: Allocator + Copy>(
     }
 }
 
-/// An item that should stand above its target.
+/// An item that should be above its target.
 fn too_low<'a>(item: Placed<'a>, target: Placed<'a>) -> Lack<'a> {
     let Placed { line, word, .. } = item;
     let flushed = target.word.quoted();

@@ -1,4 +1,4 @@
-//! Names of a declaration, each with the line that it stands on.
+//! Names of a declaration, each with the line that it is on.
 //!
 //! Reading takes time in the length of the text, and memory in the names. A name is found in time of the names; there are at
 //! most 4,096 above a line that is refused.
@@ -46,7 +46,7 @@ impl<'a, A: Allocator + Copy> Names<'a, A> {
         Ok(())
     }
 
-    /// Adds the names behind the first word of a line.
+    /// Adds the names after the first word of a line.
     fn add(&mut self, line: &Line<'a>) -> Result<(), AllocError> {
         let no = line.no();
         for word in line.words().skip(1) {

@@ -1,13 +1,13 @@
 //! The place of a finding in a text, as the first line of a diagnosis has it: the numbers of the line and of the column.
 //!
-//! Takes time and memory in the digits.
+//! It takes time and memory in the digits.
 
 ghost use Rattle.std.specs.Prelude.{◌≡◌, ◌++◌, ◌∷◌, OnOk, decimal};
 ghost use Rattle.wq_findings.specs.Shown.{place_text};
 
 use std::alloc::{AllocError, Allocator};
 
-/// Adds the numbers of a place, each behind a colon. The only error is out of memory (20).
+/// Adds the numbers of a place, each after a colon. The only error is out of memory (20).
 pub fn put_place<A: Allocator + Copy>(
     alloc: A,
     out: &mut Vec<u8, A>,
@@ -21,7 +21,7 @@ pub fn put_place<A: Allocator + Copy>(
     Ok(())
 }
 
-/// Adds a number behind a colon.
+/// Adds a number after a colon.
 fn put_part<A: Allocator + Copy>(
     alloc: A,
     out: &mut Vec<u8, A>,

@@ -1,6 +1,6 @@
-//! Which items stand on which `wq` lines of a certificate that is refused for that.
+//! Which items are on which `wq` lines of a certificate that is refused for that.
 //!
-//! Takes time in the length of the text, and of a group that is split in the items times the names on its line.
+//! It takes time in the length of the text, and of a group that is split in the items times the names on its line.
 
 ghost use Rattle.std.specs.Prelude.{◌≡◌, ◌<◌, length};
 
@@ -15,14 +15,14 @@ use wq_groups::Groups;
 use wq_items::{ItemId, ItemTable};
 use wq_text::{Line, Text};
 
-/// Of each item the number of the `wq` line on which it first stands, 0 where it stands on none.
+/// Of each item the number of the `wq` line on which it first stands, 0 where it is on none.
 #[derive(Drop)]
 struct Places<A: Allocator> {
     lines: Vec<u32, A>,
 }
 
 impl<A: Allocator + Copy> Places<A> {
-    /// The places of so many items on the `wq` lines above a line, or on all where the line is 0.
+    /// The places of this many items on the `wq` lines above a line, or on all where the line is 0.
     fn above(
         alloc: A,
         kind: Kind,
@@ -59,7 +59,7 @@ impl<A: Allocator + Copy> Places<A> {
         }
     }
 
-    /// Adds the items of a `wq` line that stand on none above.
+    /// Adds the items of a `wq` line that are on none above.
     fn add(&mut self, table: &ItemTable<'_, A>, line: &Line<'_>) {
         for word in line.words().skip(2) {
             if let Some(item) = table.find(word.bytes())
@@ -80,7 +80,7 @@ impl<A: Allocator + Copy> Places<A> {
     }
 }
 
-/// The items that stand on no workqueue.
+/// The items that are on no workqueue.
 pub(crate) fn find_unplaced<'a, A: Allocator + Copy>(
     alloc: A,
     kind: Kind,
@@ -103,7 +103,7 @@ fn unplaced<'a, A: Allocator + Copy>(table: &ItemTable<'a, A>, places: &Places<A
     unplaced
 }
 
-/// An item that stands on a second workqueue, or twice on one.
+/// An item that is on a second workqueue, or twice on one.
 pub(crate) fn find_twice<'a, A: Allocator + Copy>(
     alloc: A,
     kind: Kind,
@@ -115,7 +115,7 @@ pub(crate) fn find_twice<'a, A: Allocator + Copy>(
     Ok(placed_twice(table, &places, line))
 }
 
-/// The first item of a line that has a place, or stands before on the line.
+/// The first item of a line that has a place, or is before on the line.
 fn placed_twice<'a, A: Allocator + Copy>(
     table: &ItemTable<'_, A>,
     places: &Places<A>,
@@ -139,7 +139,7 @@ fn placed_twice<'a, A: Allocator + Copy>(
     Finding::whole(What::Said("an item of the line stands on a workqueue already"))
 }
 
-/// A member of the group of an item that stands on a line above.
+/// A member of the group of an item that is on a line above.
 fn placed_member<'a, A: Allocator + Copy>(
     table: &ItemTable<'a, A>,
     groups: &Groups<A>,
@@ -160,7 +160,7 @@ fn placed_member<'a, A: Allocator + Copy>(
     None
 }
 
-/// An item whose group stands on another workqueue already.
+/// An item whose group is on another workqueue already.
 pub(crate) fn find_split<'a, A: Allocator + Copy>(
     alloc: A,
     kind: Kind,

@@ -1,4 +1,4 @@
-//! What should stand next in a certificate, by the lines above.
+//! What should be next in a certificate, by the lines above.
 //!
 //! The forms are those of "Certificates" in docs/FORMAT.md. The lines above are of their forms, since a certificate is judged
 //! line by line. Going through them takes time in the length of the text.
@@ -27,23 +27,23 @@ pub enum Stage {
     Plan,
     /// `circle N`.
     Circle,
-    /// The `wq` line of this number; so many are left, or nothing says how many.
+    /// The `wq` line of this number; this many are left, or nothing says how many.
     Workqueue { next: u32, left: Option<u32> },
     /// `chain N`.
     Chain,
-    /// An arc of a chain; so many are left.
+    /// An arc of a chain; this many are left.
     ChainArc { left: u32 },
-    /// An arc of a circle; so many are left.
+    /// An arc of a circle; this many are left.
     CircleArc { left: u32 },
     /// `run M`.
     Run,
-    /// A step; so many are left.
+    /// A step; this many are left.
     Step { left: u32 },
     /// No line.
     End,
 }
 
-/// The number behind the first word of a line, 0 where there is none.
+/// The number after the first word of a line, 0 where there is none.
 fn count_on(line: &Line<'_>) -> u32 {
     number(bytes_at(line, 1)).unwrap_or(0)
 }
@@ -62,7 +62,7 @@ impl Stage {
         }
     }
 
-    /// The stage with so many `wq` lines to come.
+    /// The stage with this many `wq` lines to come.
     fn workqueues(next: u32, left: u32) -> Stage {
         if left == 0 {
             return Stage::Chain;
@@ -73,7 +73,7 @@ impl Stage {
         }
     }
 
-    /// The stage with so many arcs of a chain to come.
+    /// The stage with this many arcs of a chain to come.
     fn chain_arcs(left: u32) -> Stage {
         if left == 0 {
             return Stage::End;
@@ -81,7 +81,7 @@ impl Stage {
         Stage::ChainArc { left }
     }
 
-    /// The stage with so many arcs of a circle to come.
+    /// The stage with this many arcs of a circle to come.
     fn circle_arcs(left: u32) -> Stage {
         if left == 0 {
             return Stage::Run;
@@ -89,7 +89,7 @@ impl Stage {
         Stage::CircleArc { left }
     }
 
-    /// The stage with so many steps to come.
+    /// The stage with this many steps to come.
     fn steps(left: u32) -> Stage {
         if left == 0 {
             return Stage::End;
@@ -97,7 +97,7 @@ impl Stage {
         Stage::Step { left }
     }
 
-    /// What should stand behind a line that is as it should be.
+    /// What should be after a line that is as it should be.
     pub(crate) fn behind(self, line: &Line<'_>) -> Stage {
         match self {
             Stage::Plan => Stage::workqueues(0, count_on(line)),
@@ -124,7 +124,7 @@ impl Stage {
         matches!(self, Stage::End | Stage::Workqueue { left: None, .. })
     }
 
-    /// Whether a line that should stand here may begin with this word.
+    /// Whether a line that should be here may begin with this word.
     pub(crate) fn may_begin_with(self, word: &[u8]) -> bool {
         let first: &[u8] = match self {
             Stage::Plan => b"plan",
@@ -139,7 +139,7 @@ impl Stage {
         word == first
     }
 
-    /// What stands behind the first word of such a line.
+    /// What is after the first word of such a line.
     pub(crate) fn shape(self, word: &[u8]) -> Shape {
         match self {
             Stage::Plan | Stage::Circle | Stage::Chain | Stage::Run => Shape {
@@ -162,7 +162,7 @@ impl Stage {
     }
 }
 
-/// The line that should stand here, as a message names it.
+/// The line that should be here, as a message names it.
 impl fmt::Display for Stage {
     ghost output = { λ _. None };
 
@@ -180,7 +180,7 @@ impl fmt::Display for Stage {
     }
 }
 
-/// What stands behind the first word of a line: maybe a number, and then so many names, or any number of them.
+/// What is after the first word of a line: maybe a number, and then this many names, or any number of them.
 #[derive(Clone, Copy)]
 pub(crate) struct Shape {
     pub(crate) has_number: bool,
@@ -213,7 +213,7 @@ fn is_step(word: &[u8]) -> bool {
         || word == b"finish".as_slice()
 }
 
-/// What should stand on a line of a text, by the lines above; at the end of the text where the line is 0.
+/// What should be on a line of a text, by the lines above; at the end of the text where the line is 0.
 pub(crate) fn stage_at(kind: Kind, text: &Text<'_>, no: u32) -> Stage {
     let mut stage = None;
     for line in text.lines() {

@@ -15,7 +15,7 @@ pub struct Mark {
 }
 
 impl Mark {
-    /// The place behind the last word of a line, where one more should stand.
+    /// The place after the last word of a line, where one more should be.
     pub(crate) fn behind(line: &Line<'_>) -> Mark {
         let mut at = 0;
         for word in line.words() {
@@ -93,7 +93,7 @@ pub(crate) fn begins_with(line: &Line<'_>, word: &[u8]) -> bool {
     }
 }
 
-/// Whether a word stands on a line before this one, at this place or behind it.
+/// Whether a word is on a line before this one, at this place or after it.
 pub(crate) fn stands_before(line: &Line<'_>, place: usize, word: Token<'_>) -> bool {
     for other in line.words().skip(place) {
         let other = Token::of(line, &other);

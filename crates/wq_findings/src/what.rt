@@ -1,6 +1,6 @@
 //! What is wrong, as a message says it.
 //!
-//! Takes time in what is said.
+//! It takes time in what is said.
 
 ghost use Rattle.std.specs.Prelude.{None};
 
@@ -16,7 +16,7 @@ const HEX_DIGITS: &[u8] = b"0123456789ABCDEF";
 pub enum What<'a> {
     /// What is said in these words of any text.
     Said(&'static str),
-    /// A byte that may not stand before a comment.
+    /// A byte that may not be before a comment.
     BadByte(u8),
     /// A first word that is no directive.
     NoDirective(Quoted<'a>),
@@ -30,23 +30,23 @@ pub enum What<'a> {
     NotAbove(Quoted<'a>),
     /// A name that no line declares.
     NoItem(Quoted<'a>),
-    /// A name that stands on two `ordered` lines.
+    /// A name that is on two `ordered` lines.
     OnTwoLines(Quoted<'a>),
     /// A word that stands twice on a line.
     TwiceOnLine(Quoted<'a>),
-    /// The line that should stand where a text ends.
+    /// The line that should be where a text ends.
     EndsAt(Stage),
-    /// A first word, and the line that should stand there.
+    /// A first word, and the line that should be there.
     Other(Quoted<'a>, Stage),
-    /// The number of the workqueue that should stand there.
+    /// The number of the workqueue that should be there.
     OutOfOrder(u32),
-    /// Items that stand on no workqueue.
+    /// Items that are on no workqueue.
     OnNoWorkqueue(Unplaced<'a>),
-    /// A name that stands on a workqueue already.
+    /// A name that is on a workqueue already.
     PlacedAlready(Quoted<'a>),
-    /// Two names of one `ordered` line that stand on two workqueues.
+    /// Two names of one `ordered` line that are on two workqueues.
     Split(Quoted<'a>, Quoted<'a>),
-    /// An item that should stand above this target.
+    /// An item that should be above this target.
     TooLow(Quoted<'a>, Quoted<'a>),
     /// The item and the target of an arc, and which arc it should follow.
     WrongArc(Quoted<'a>, Quoted<'a>, &'static str),
@@ -79,7 +79,7 @@ impl fmt::Display for What<'_> {
     }
 }
 
-/// Writes a word between what stands before and behind it.
+/// Writes a word between what is before and after it.
 fn say<W: fmt::Write>(
     f: &mut fmt::Formatter<W>,
     before: &str,
@@ -120,7 +120,7 @@ fn split<W: fmt::Write>(
     )
 }
 
-/// Writes what is said of an item that should stand above its target.
+/// Writes what is said of an item that should be above its target.
 fn too_low<W: fmt::Write>(
     f: &mut fmt::Formatter<W>,
     item: Quoted<'_>,
@@ -142,7 +142,7 @@ fn wrong_arc<W: fmt::Write>(
     f.write_str(before)
 }
 
-/// Items that stand on no workqueue: how many, and the names of the first three.
+/// Items that are on no workqueue: how many, and the names of the first three.
 #[derive(Clone, Copy)]
 pub struct Unplaced<'a> {
     count: usize,
@@ -162,7 +162,7 @@ impl<'a> Unplaced<'a> {
         }
     }
 
-    /// Adds an item behind the others.
+    /// Adds an item after the others.
     pub(crate) fn add(&mut self, name: Quoted<'a>) {
         match self.count {
             0 => self.first = name,

@@ -90,7 +90,7 @@ pub(crate) struct RdiskBody<'a> {
 }
 
 impl<'a> RdiskBody<'a> {
-    /// A body that has run nothing, for so many items.
+    /// A body that has run nothing, for this many items.
     pub(crate) fn new(alloc: Global, rdisk: &'a Rdisk, items: u16) -> Result<Self, AllocError>
         ensures width { IfOk result (λ b. vec_len b.runs ≡ items) }
         ensures never_ran { IfOk result (λ b. b.runs.items ≡ replicate items 0) }
@@ -100,7 +100,7 @@ impl<'a> RdiskBody<'a> {
     }
 }
 
-/// A body for each of so many workqueues.
+/// A body for each of this many workqueues.
 pub(crate) fn make_bodies<'a>(
     alloc: Global,
     rdisk: &'a Rdisk,

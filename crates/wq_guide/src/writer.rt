@@ -37,7 +37,7 @@ impl Caller for Writer<'_> {
         }
         for _ in rt.forever() {
             let is_done = rdisk.disk.lock(rt).are_answered(self.first, self.end);
-            // Whoever queues others comes first, so that behind the last answer nothing is left.
+            // Whoever queues others comes first, so that after the last answer nothing is left.
             for item in [rdisk.reconnect, rdisk.send, rdisk.receive] {
                 runtime.flush_work(rt, seat, item)?;
             }

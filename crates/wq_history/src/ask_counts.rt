@@ -27,7 +27,7 @@ impl<A: Allocator> Model for AskCounts<A> {
 }
 
 impl<A: Allocator> AskCounts<A> {
-    /// No ask of so many items. The only error is out of memory (20), never where there is no item.
+    /// No ask of this many items. The only error is out of memory (20), which can't occur where there is no item.
     pub fn new(alloc: A, items: usize) -> Result<Self, AllocError>
         ensures counts { IfOk result (λ c. c ≡ record { counts = replicate items 0; all = 0 }) }
         ensures memory { OnErr result (0 < items) }

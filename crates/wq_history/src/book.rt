@@ -56,8 +56,8 @@ impl<A: Allocator> Model for Book<A> {
 impl<A: Allocator + Copy> Book<A> {
     /// The book of a machine on which nothing has happened, with room for this many rows.
     ///
-    /// The error is `TooManyRows` (68) exactly where there are more than 16,777,216 rows; else out of memory (20), never
-    /// where there are no rows and no items.
+    /// The error is `TooManyRows` (68) exactly where there are more than 16,777,216 rows; else out of memory (20), which can't
+    /// occur where there are no rows and no items.
     pub fn new(alloc: A, core: Core<A>, rows: u32) -> Result<Self, BookError>
         requires { core.state ≡ empty_state core.wiring }
         ensures book { IfOk result (λ b. b ≡ record { wiring = core.wiring; rows = []; room = rows; closed = false }) }

@@ -37,7 +37,7 @@ fn makes<A: Allocator>(core: &Core<A>, step: &Step, number: u32) -> bool
     core.peek(step) == Some(number)
 }
 
-/// Whether a row may follow, where so many asks of its item wait.
+/// Whether a row may follow, where this many asks of its item wait.
 fn may_come<A: Allocator>(core: &Core<A>, waiting: u32, row: &Row) -> bool
     requires { core.now.state.next < 4294967295 }
     ensures { IsTrue result ↔ MayComeIn core.now.wiring core.now.state waiting row.now.event row.now.yes row.now.number }

@@ -1,7 +1,7 @@
-//! A line, word by word: one space between two words, and a line feed behind the last.
+//! A line, word by word: one space between two words, and a line feed after the last.
 //!
-//! So each line of "Plan texts", "Circle texts" and "Run texts" in docs/FORMAT.md is printed, and what the commands answer.
-//! Each call takes time in what it adds, and memory for nothing else; where memory runs out, a part of it may stand there.
+//! So each line of "Plan texts", "Circle texts" and "Run texts" in docs/FORMAT.md is printed, and what the commands answer. Each
+//! call takes time in what it adds, and memory for nothing else; where memory runs out, a part of it may be there.
 
 ghost use Rattle.std.specs.Prelude.{◌≡◌, ◌++◌, ◌∷◌, [], OnOk, decimal};
 ghost use Rattle.wq_lines.specs.LineText.{spaced};

@@ -29,7 +29,7 @@ fn lane_ids<A: Allocator + Copy>(alloc: A, lane: &[u16]) -> Result<Vec<LaneId, A
     Ok(ids)
 }
 
-/// The assignment with so many lanes in which group g is on lane `lane[g]`.
+/// The assignment with this many lanes in which group g is on lane `lane[g]`.
 fn assign<A: Allocator + Copy>(
     alloc: A,
     lane: &[u16],
@@ -47,8 +47,8 @@ fn assign<A: Allocator + Copy>(
 
 /// The plan of the groups of a table's items, or the circle in which they wait. The groups are those of this table.
 ///
-/// No run of a plan ends stuck, and every assignment to fewer workqueues deadlocks. The only error is out of memory (20),
-/// never where there is no group; any other answer is a list that takes memory.
+/// No run of a plan ends stuck, and every assignment to fewer workqueues deadlocks. The only error is out of memory (20), which
+/// can't occur where there is no group; any other answer is a list that takes memory.
 pub fn solve<A: Allocator + Copy>(
     alloc: A,
     table: &ItemTable<'_, A>,

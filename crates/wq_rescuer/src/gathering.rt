@@ -69,7 +69,7 @@ pub(crate) fn gather_lanes<N: Naming, A: Allocator, B: Body + Drop>(
     }
 }
 
-/// Takes back the callers, the last one first, behind the seats of the lanes.
+/// Takes back the callers, the last one first, after the seats of the lanes.
 pub(crate) fn gather_callers<N: Naming, A: Allocator, C: Caller + Drop>(
     mut ends: Vec<CallerEnd<N, A, C>, A>,
     seats: &mut Vec<Seat<N, A>, A>,

@@ -61,7 +61,7 @@ impl<N: Naming, A: Allocator, B: Body + Drop> LaneJob<N, A, B> {
     }
 }
 
-/// Room for the jobs of so many lanes and for what they leave, all of it empty.
+/// Room for the jobs of this many lanes and for what they leave, all of it empty.
 #[derive(Drop)]
 pub(crate) struct LaneRoom<N: Naming, A: Allocator, B: Body + Drop> {
     pub(crate) jobs: Vec<LaneJob<N, A, B>, A>,
@@ -71,7 +71,7 @@ pub(crate) struct LaneRoom<N: Naming, A: Allocator, B: Body + Drop> {
 }
 
 impl<N: Naming, A: Allocator + Copy, B: Body + Drop> LaneRoom<N, A, B> {
-    /// Room for so many lanes. The only error is out of memory (20), never where there is no lane.
+    /// Room for this many lanes. The only error is out of memory (20), which can't occur where there is no lane.
     pub(crate) fn new(alloc: A, lanes: usize) -> Result<Self, AllocError>
         ensures jobs { IfOk result (λ r. (vec_len r.jobs ≡ 0) × (lanes ≤ vec_capacity r.jobs)) }
         ensures ends { IfOk result (λ r. (vec_len r.ends ≡ 0) × (lanes ≤ vec_capacity r.ends)) }

@@ -1,7 +1,7 @@
 //! The loop of a rescuer: start the next entry of its lane, run its body, finish it (`rescuer_thread` and
 //! `process_one_work` in kernel/workqueue.c).
 //!
-//! It ends when the runtime is closed and nothing is pending in the lane. It takes no memory, and but for the bodies and what
+//! It ends when the runtime is closed and nothing is pending in the lane. It takes no memory, and, apart from the bodies and what
 //! it waits for, the time of the runtime's calls.
 
 ghost use Rattle.std.specs.Prelude.{◌≡◌, ℕ, ◌+◌, ◌<◌, ◌≤◌, IfOk, OnOk, OnErr};

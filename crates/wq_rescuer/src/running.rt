@@ -76,11 +76,11 @@ pub struct Ran<N: Naming, A: Allocator, B: Body + Drop, C: Caller + Drop> {
 /// What is handed back where not all was run.
 #[derive(Drop)]
 pub struct RunFault<N: Naming, A: Allocator, B: Body + Drop, C: Caller + Drop> {
-    /// The seats that were made, but for that of a thread that couldn't be made.
+    /// The seats that were made, except for that of a thread that couldn't be made.
     pub seats: Vec<Seat<N, A>, A>,
-    /// The bodies, but for that of a lane whose thread couldn't be made.
+    /// The bodies, except for that of a lane whose thread couldn't be made.
     pub bodies: Vec<B, A>,
-    /// The callers, but for one whose thread couldn't be made.
+    /// The callers, except for one whose thread couldn't be made.
     pub callers: Vec<C, A>,
     /// Why.
     pub why: RunWhy,
@@ -119,12 +119,12 @@ fn make_seats<N: Naming, A: Allocator + Copy, R: Wait>(
 /// Runs all: makes a seat for each lane and each caller, has a thread serve each lane and then a thread make the calls of
 /// each caller, waits for the callers, closes the runtime by `destroy`, and waits for the lanes.
 ///
-/// No body has run anything yet, and each can count all items. The error is the first of these that holds: `BodiesDiffer`
-/// (73), where there isn't one body for each lane; `TooManySeats` (70) or `OutOfMemory` (20), before any thread starts;
-/// `NoThread` (22), where a thread can't be made: then no further one is started, and those that run are ended as above.
-/// All bodies and callers are handed back but for `NoThread`, where those of the thread that couldn't be made are lost. Where
-/// the thread of a lane can't be made on which something is pending already, the runtime can't be closed, and it waits
-/// forever; on a runtime that was just made nothing is.
+/// No body has run anything yet, and each can count all items. The error is the first of these that holds: `BodiesDiffer` (73),
+/// where there isn't one body for each lane; `TooManySeats` (70) or `OutOfMemory` (20), before any thread starts; `NoThread`
+/// (22), where a thread can't be made: then no further one is started, and those that run are ended as above. All bodies and
+/// callers are handed back except for `NoThread`, where those of the thread that couldn't be made are lost. Where the thread of a
+/// lane can't be made on which something is pending already, the runtime can't be closed, and it waits forever; on a runtime that
+/// was just made nothing is.
 pub fn run_all<
     N: Naming + Send + Sync,
     A: Allocator + Copy + Send + Sync,

@@ -2,7 +2,7 @@
 //!
 //! A body runs outside the lock, on the rescuer of its lane, and what it does counts in the seat of that rescuer. Flushes are
 //! those that its item declares, and no more of them (`flush_work` in a work function, Documentation/core-api/workqueue.rst,
-//! "Guidelines"). But for what it waits for, a call takes the time of the runtime's own.
+//! "Guidelines"). Apart from what it waits for, a call takes the time of the runtime's own.
 
 ghost use Rattle.std.specs.Prelude.{◌≡◌, ◌<◌, IfOk, IfErr};
 ghost use Rattle.wq_core.specs.Wiring.{items};

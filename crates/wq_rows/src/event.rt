@@ -15,7 +15,7 @@ use wq_items::ItemId;
 pub enum Event {
     /// The item was to be queued.
     Queue(ItemId),
-    /// The pending entry of the item was to be taken off.
+    /// The pending entry of the item was to be removed.
     Cancel(ItemId),
     /// The lane started its first pending entry, which is of this item.
     Start(LaneId, ItemId),
@@ -36,11 +36,11 @@ pub enum Event {
 pub struct Row {
     /// What happened.
     pub event: Event,
-    /// Of Queue, whether the item was accepted; of Cancel, whether an entry was taken off; of Wait and Ask, whether the
-    /// item had an unfinished entry; of all others true.
+    /// Of Queue, whether the item was accepted; of Cancel, whether an entry was removed; of Wait and Ask, whether the item had an
+    /// unfinished entry; of all others true.
     pub yes: bool,
-    /// The number of the entry that was queued, taken off, started or finished; the mark of a wait or an ask. 0 where
-    /// nothing was queued or taken off.
+    /// The number of the entry that was queued, removed, started or finished; the mark of a wait or an ask. 0 where nothing was
+    /// queued or removed.
     pub number: u32,
 }
 

@@ -1,7 +1,7 @@
 //! Histories: rows, packed one after the other.
 //!
-//! The bytes of a history are the packings of its rows, joined; nothing stands before, between or behind them. A history
-//! takes its memory once, 12 bytes for each row that there is room for, and each call takes constant time.
+//! The bytes of a history are the packings of its rows, joined; nothing is before, between or after them. A history takes its
+//! memory once, 12 bytes for each row that there is room for, and each call takes constant time.
 
 ghost use Rattle.std.specs.Prelude.{◌≡◌, ◌<◌, ◌≤◌, [], ◌∷◌, ◌++◌, length, IfOk, OnErr};
 ghost use Rattle.wq_rows.specs.Packing.{packed_rows, IsPackable};
@@ -35,8 +35,8 @@ impl<A: Allocator> Model for History<A> {
 }
 
 impl<A: Allocator> History<A> {
-    /// A history without rows, with room for this many. It takes 12 bytes for each of them, and nothing else. The only
-    /// error is out of memory, never where there is room for none.
+    /// A history without rows, with room for this many. It takes 12 bytes for each of them, and nothing else. The only error is
+    /// out of memory, which can't occur where there is room for none.
     pub fn new(alloc: A, room: u32) -> Result<Self, AllocError>
         requires { room ≤ max_rows }
         ensures history { IfOk result (λ h. h ≡ record { rows = []; room = room }) }
@@ -46,7 +46,7 @@ impl<A: Allocator> History<A> {
         Ok(History { bytes, room })
     }
 
-    /// Adds a row behind the others. It takes no memory.
+    /// Adds a row after the others. It takes no memory.
     pub fn push(&mut self, row: &Row)
         requires packable { IsPackable row.now }
         requires room { length self.old.rows < self.old.room }

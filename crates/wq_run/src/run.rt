@@ -1,6 +1,6 @@
 //! The command `run`: from the bytes of a declaration to those of what its plan did when it was run.
 //!
-//! The answer is made whole before the first byte is written. Takes the time of reading the text, of planning it, of all
+//! The answer is made whole before the first byte is written. It takes the time of reading the text, of planning it, of all
 //! executions and of writing the answer.
 
 ghost use Rattle.std.specs.Prelude.{◌≡◌, ◌≢◌, ◌≤◌, ◌+◌, ℕ, List, Err, IfOk};

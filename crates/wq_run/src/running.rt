@@ -39,7 +39,7 @@ fn rows_for<A: Allocator + Copy>(table: &ItemTable<'_, A>) -> u32
     5 * u32::from(table.len()) + 2 * table.flushes()
 }
 
-/// Runs what stands on the lanes of a runtime, closes it, and makes the text of what happened.
+/// Runs what is on the lanes of a runtime, closes it, and makes the text of what happened.
 fn serve<N: Naming + Send + Sync, A: Allocator + Copy + Send + Sync, R: Threads + Wait + Sync>(
     rt: &R,
     alloc: A,
@@ -89,7 +89,7 @@ fn refuse_runtime<A: Allocator + Copy>(
     Ok(printed)
 }
 
-/// Runs a plan in the runtime of this name, or refuses it where a runtime can't have so many workqueues.
+/// Runs a plan in the runtime of this name, or refuses it where a runtime can't have this many workqueues.
 fn run_named<N: Naming + Send + Sync, A: Allocator + Copy + Send + Sync, R: Threads + Wait + Sync>(
     rt: &R,
     alloc: A,
@@ -122,7 +122,7 @@ fn run_named<N: Naming + Send + Sync, A: Allocator + Copy + Send + Sync, R: Thre
     }
 }
 
-/// Runs a plan, or refuses it where a runtime can't have so many workqueues.
+/// Runs a plan, or refuses it where a runtime can't have this many workqueues.
 fn run_plan<A: Allocator + Copy + Send + Sync, R: Threads + Wait + Sync>(
     rt: &R,
     alloc: A,

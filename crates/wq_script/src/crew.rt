@@ -15,7 +15,7 @@ use crate::flushing::ScriptBody;
 use std::alloc::{AllocError, Allocator};
 use wq_items::{ItemId, ItemTable};
 
-/// A body for each of so many lanes, none of which has run anything. The only error is out of memory (20).
+/// A body for each of this many lanes, none of which has run anything. The only error is out of memory (20).
 pub fn script_bodies<'t, 'a, A: Allocator + Copy>(
     alloc: A,
     table: &'t ItemTable<'a, A>,
@@ -33,7 +33,7 @@ pub fn script_bodies<'t, 'a, A: Allocator + Copy>(
     Ok(bodies)
 }
 
-/// A caller that queues every second of so many items, from the first one on, and then flushes them.
+/// A caller that queues every second of this many items, from the first one on, and then flushes them.
 fn script_caller<A: Allocator + Copy>(
     alloc: A,
     first: u16,
@@ -55,7 +55,7 @@ fn script_caller<A: Allocator + Copy>(
     Ok(ScriptCaller::new(acts))
 }
 
-/// Two callers that queue so many items and then flush them, the one those with even numbers, the other those with odd ones,
+/// Two callers that queue this many items and then flush them, the one those with even numbers, the other those with odd ones,
 /// each in order. The only error is out of memory (20).
 pub fn script_callers<A: Allocator + Copy>(
     alloc: A,

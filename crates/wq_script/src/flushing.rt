@@ -1,9 +1,9 @@
 //! Scripted bodies: the body of an item flushes what the item declares, in order, and nothing else.
 //!
-//! This is all that a declaration lets a work function wait for: `flush_work` of each target, once for each declared
-//! flush ("Guidelines" in Documentation/core-api/workqueue.rst; `flush_work` in kernel/workqueue.c). But for what it
-//! waits for, a run takes time in the number of its item's flushes. `new` takes time and memory in the number of items,
-//! 4 bytes for each; how often an item ran is answered in constant time.
+//! This is all that a declaration lets a work function wait for: `flush_work` of each target, once for each declared flush
+//! ("Guidelines" in Documentation/core-api/workqueue.rst; `flush_work` in kernel/workqueue.c). Apart from what it waits for, a
+//! run takes time in the number of its item's flushes. `new` takes time and memory in the number of items, 4 bytes for each; how
+//! often an item ran is answered in constant time.
 
 ghost use Rattle.std.specs.Prelude.{◌≡◌, ◌<◌, length, IfOk, IfErr, OnOk, OnErr};
 ghost use Rattle.wq_items.specs.Table.{targets_of};
@@ -37,8 +37,8 @@ impl<'t, 'a, A: Allocator> Model for ScriptBody<'t, 'a, A> {
 }
 
 impl<'t, 'a, A: Allocator + Copy> ScriptBody<'t, 'a, A> {
-    /// The body of the items of a table, none of which has run. The only error is out of memory (20), never where there
-    /// is no item.
+    /// The body of the items of a table, none of which has run. The only error is out of memory (20), which can't occur where
+    /// there is no item.
     pub fn new(alloc: A, table: &'t ItemTable<'a, A>) -> Result<Self, AllocError>
         ensures waits { IfOk result (λ b. b.waits ≡ table.now.waits) }
         ensures width { IfOk result (λ b. length b.runs ≡ length table.now.names) }

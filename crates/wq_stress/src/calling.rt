@@ -59,7 +59,7 @@ fn cancel_sync<N: Naming, R: Wait>(
     worker.tally.note(Asked::CancelSync, answer);
 }
 
-/// Makes so many calls, and hands the worker back. There are so many items.
+/// Makes this many calls, and hands the worker back. There are this many items.
 pub(crate) fn make_calls<N: Naming, R: Wait>(
     rt: &R,
     runtime: &WqRuntime<N, Global>,
@@ -98,7 +98,7 @@ pub(crate) fn queue_late<N: Naming, R: Wait>(
     }
 }
 
-/// Whether there is nothing to wait for in a runtime that was destroyed. There are so many items.
+/// Whether there is nothing to wait for in a runtime that was destroyed. There are this many items.
 pub(crate) fn has_nothing_to_flush<N: Naming, R: Wait>(
     rt: &R,
     runtime: &WqRuntime<N, Global>,

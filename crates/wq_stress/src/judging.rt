@@ -24,7 +24,7 @@ fn is_legal(alloc: Global, bed: &Bed<'_>, packed: &[u8]) -> Result<bool, AllocEr
     }
 }
 
-/// What was counted of a kind, of so many items together.
+/// What was counted of a kind, of this many items together.
 fn count_kind(items: u16, counts: &Counts<Global>, kind: Kind) -> Said {
     let mut said = NOTHING;
     for i in 0..items {

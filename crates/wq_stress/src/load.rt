@@ -38,7 +38,7 @@ pub(crate) struct Load {
 }
 
 impl Load {
-    /// The load of this seed and so many calls, if these words are numbers.
+    /// The load of this seed and this many calls, if these words are numbers.
     pub(crate) fn parse(seed: &str, calls: &str, with_counts: bool) -> Option<Self> {
         Some(Load {
             seed: number(seed.as_bytes())?,

@@ -34,7 +34,7 @@ struct Request<'a> {
     load: Load,
 }
 
-/// `DECL ASSIGN ROWS SEED CALLS [counts]`, behind the program's name.
+/// `DECL ASSIGN ROWS SEED CALLS [counts]`, after the program's name.
 fn parse(words: &[String]) -> Option<Request<'_>> {
     let (first, with_counts) = match words {
         [first @ .., last] if words.len() == 7 && last.as_str() == "counts" => (first, true),

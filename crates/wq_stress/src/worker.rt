@@ -16,7 +16,7 @@ pub(crate) struct Worker<N: Naming> {
 }
 
 impl<N: Naming> Worker<N> {
-    /// A random item; now and then one that doesn't exist. There are so many items.
+    /// A random item; now and then one that doesn't exist. There are this many items.
     pub(crate) fn item(&mut self, items: u16) -> ItemId {
         if items == 0 || self.random.once_in(64) {
             return ItemId::new(items);
@@ -41,7 +41,7 @@ pub(crate) fn hire<N: Naming, R: Wait>(
     })
 }
 
-/// Adds so many workers to these, whose generators are of one seed, and of the streams from this one on.
+/// Adds this many workers to these, whose generators are of one seed, and of the streams from this one on.
 pub(crate) fn hire_all<N: Naming, R: Wait>(
     rt: &R,
     alloc: Global,

@@ -1,4 +1,4 @@
-//! What each command line has: the files of a declaration and an assignment, and a number of rows. Takes time in its words.
+//! What each command line has: the files of a declaration and an assignment, and a number of rows. It takes time in its words.
 
 use std::rt::Env;
 use std::{env, io};

@@ -58,7 +58,7 @@ const HISTORY: &[u8; 108] = &[
     8, 1, 0, 0, 0, 0, 0, 0, 1, 0, 0, 0, // Told a, yes, 1
 ];
 
-/// The book of a declaration and of the lane of each group, with room for so many rows.
+/// The book of a declaration and of the lane of each group, with room for this many rows.
 fn book_of(
     alloc: Global,
     text: &str,
@@ -213,8 +213,8 @@ fn fill<'h>(alloc: Global, heap: &'h LocalHeap) -> Result<Vec<Vec<u8, &'h LocalH
     Ok(taken)
 }
 
-/// Makes a book on a heap of so many bytes, if that is large enough, fills the heap, and asserts that calls take nothing
-/// from it. Says whether the book was made.
+/// Makes a book on a heap of this many bytes, if that is large enough, fills the heap, and asserts that calls take nothing from
+/// it. Says whether the book was made.
 fn makes_in(rt: &impl Abort, alloc: Global, large: &LocalHeap, size: usize) -> Result<bool, Fail> {
     let heap = LocalHeap::new(alloc, size)?;
     let Ok(core) = core_in(large, &heap, PAIR, 2, PAIR_LANES)? else {

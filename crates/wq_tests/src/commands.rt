@@ -189,7 +189,7 @@ const CASES: &[Case] = &[
         end: End::Bad,
         answer: "no 54\n",
     },
-    // Nothing is taken for steps that are said and don't stand there.
+    // Nothing is taken for steps that are said and aren't there.
     Case {
         name: "a circle with a run of four thousand million steps",
         command: Command::Check,

@@ -1,6 +1,6 @@
 //! The items of a declaration and their groups, with what the tests need to know of them.
 //!
-//! Takes time in the length of the text.
+//! It takes time in the length of the text.
 
 ghost use Rattle.std.specs.Prelude.{◌≡◌, length, IfOk};
 

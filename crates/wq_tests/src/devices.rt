@@ -1,6 +1,6 @@
 //! Readers that give little, never end or fail, and writers that take little, nothing or fail.
 //!
-//! Takes time in the number of the calls of devices.
+//! It takes time in the number of the calls of devices.
 
 use crate::commands::{Case, Command, Readers, cases, run};
 use crate::declared::SEED;
@@ -48,7 +48,7 @@ fn run_over(
     }
 }
 
-/// Readers of the texts of a case that give at most so many bytes a call.
+/// Readers of the texts of a case that give at most this many bytes a call.
 fn in_pieces(case: &Case, at_most: usize) -> Readers<Fake<&'static [u8]>> {
     Readers {
         first: Metered::new(Fake::in_pieces(case.text(0), at_most)),
@@ -57,7 +57,7 @@ fn in_pieces(case: &Case, at_most: usize) -> Readers<Fake<&'static [u8]>> {
     }
 }
 
-/// Asserts that a run answers that reads and writes so many bytes a call.
+/// Asserts that a run answers that reads and writes this many bytes a call.
 fn assert_pieces(rt: &impl Abort, alloc: Global, case: &Case, reads: usize, writes: usize) {
     let writer = Fake::in_pieces(Vec::new(alloc), writes);
     let outcome = run_over(case.command, alloc, in_pieces(case, reads), writer);
@@ -88,7 +88,7 @@ fn pieces_change_no_answer(rt: HostRuntime) {
     }
 }
 
-/// A reader of a text, which fails after so many calls if it is the one that does.
+/// A reader of a text, which fails after this many calls if it is the one that does.
 fn reader(
     text: &'static [u8],
     fails: bool,
@@ -102,7 +102,7 @@ fn reader(
     })
 }
 
-/// Asserts how a run ends of which the reader of one text fails after it gave so many bytes one by one.
+/// Asserts how a run ends of which the reader of one text fails after it gave this many bytes one by one.
 fn assert_failed_read(
     rt: &impl Abort,
     alloc: Global,
@@ -159,7 +159,7 @@ fn each_failed_read_is_a_fault(rt: HostRuntime) -> Result<(), Fail> {
     Ok(())
 }
 
-/// Asserts how a run ends whose writer fails after it took so many bytes one by one, and what it took.
+/// Asserts how a run ends whose writer fails after it took this many bytes one by one, and what it took.
 fn assert_failed_write(rt: &impl Abort, alloc: Global, case: &Case, successes: u32, front: &[u8]) {
     let writer = Fake::failing_after(Vec::new(alloc), successes, ErrorKind::Interrupted);
     let outcome = run_over(case.command, alloc, in_pieces(case, 4096), writer);
@@ -204,7 +204,7 @@ fn a_reader_without_end_is_left(rt: HostRuntime) -> Result<(), Fail> {
         ),
         (1000, u32::MAX, Ok(End::Refused), b"refused 1 line 0\n"),
         (2_000_000, u32::MAX, Ok(End::Refused), b"refused 1 line 0\n"),
-        // Whatever follows so many bytes.
+        // Whatever follows this many bytes.
         (1, 1_048_577, Ok(End::Refused), b"refused 1 line 0\n"),
         (1, 1_048_576, Err(Fault::Read), b""),
     ] {

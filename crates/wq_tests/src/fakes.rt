@@ -16,7 +16,7 @@ impl Read for Endless {
     }
 }
 
-/// Moves at most so many bytes a call, and has one call fail after so many that succeed.
+/// Moves at most this many bytes a call, and has one call fail after this many that succeed.
 #[derive(Drop)]
 pub(crate) struct Fake<D> {
     pub(crate) device: D,
@@ -46,7 +46,7 @@ impl<D> Fake<D> {
         }
     }
 
-    /// How many of so many bytes are moved, if this call doesn't fail.
+    /// How many of this many bytes are moved, if this call doesn't fail.
     fn count(&mut self, bytes: usize) -> io::Result<usize>
         ensures { IfOk result (λ count. count ≤ bytes) }
     {

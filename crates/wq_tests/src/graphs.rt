@@ -1,6 +1,6 @@
 //! Wait graphs, and what they come to: ranks or a circle, which answers show only in part.
 //!
-//! Takes time in the lengths of the texts.
+//! It takes time in the lengths of the texts.
 
 use crate::declared::declared;
 use crate::groups::assert_lanes;

@@ -1,6 +1,6 @@
 //! Groups of items, and assignments of workqueues to them, which answers show only in part.
 //!
-//! Takes time in the lengths of the texts.
+//! It takes time in the lengths of the texts.
 
 ghost use Rattle.std.specs.Prelude.{◌≡◌, length};
 
@@ -102,7 +102,7 @@ pub(crate) fn assert_lanes(rt: &impl Abort, assignment: &Assignment<Global>, of_
     }
 }
 
-/// The assignment with so many lanes, the lane of each group in turn given, if there is one.
+/// The assignment with this many lanes, the lane of each group in turn given, if there is one.
 pub(crate) fn assigned(
     alloc: Global,
     lanes: u16,

@@ -1,6 +1,6 @@
 //! Commands with heaps that are too small, at each size up to one that is large enough.
 //!
-//! Takes time in the number of the sizes and the cases.
+//! It takes time in the number of the sizes and the cases.
 
 use crate::commands::{Case, Readers, cases, run};
 use linked_list_allocator::LocalHeap;
@@ -9,7 +9,7 @@ use std::process::Abort;
 use std::test::Fail;
 use wq_commands::{End, Fault, Metered};
 
-/// How a run with a heap of so many bytes ends, what it writes, and how many bytes of the heap it leaves in use.
+/// How a run with a heap of this many bytes ends, what it writes, and how many bytes of the heap it leaves in use.
 fn run_in(
     alloc: Global,
     size: usize,
@@ -26,7 +26,7 @@ fn run_in(
     Ok((end, writer.into_inner(), heap.used()))
 }
 
-/// Asserts that a run with a heap of so many bytes leaves none in use, and answers or is refused memory. Says which.
+/// Asserts that a run with a heap of this many bytes leaves none in use, and answers or is refused memory. Says which.
 fn answers_in(
     rt: &impl Abort,
     alloc: Global,

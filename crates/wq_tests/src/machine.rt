@@ -588,8 +588,8 @@ fn a_machine_says_how_it_stands(rt: HostRuntime) -> Result<(), Fail> {
     Ok(())
 }
 
-/// Makes the machine of two lanes on a heap of so many bytes, if that is large enough, and asserts that its steps take
-/// nothing from it. Says whether the machine was made.
+/// Makes the machine of two lanes on a heap of this many bytes, if that is large enough, and asserts that its steps take nothing
+/// from it. Says whether the machine was made.
 fn makes_in(rt: &impl Abort, alloc: Global, large: &LocalHeap, size: usize) -> Result<bool, Fail> {
     let heap = LocalHeap::new(alloc, size)?;
     let core = core_in(large, &heap, CROSSED, 2, CROSSED_LANES)?;

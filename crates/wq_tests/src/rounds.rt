@@ -1,7 +1,7 @@
 //! The plan of the largest declaration, beside one that is found by rounds: each round gives each item a workqueue above those of
 //! all that it flushes, until a round changes nothing.
 //!
-//! Takes time in the flushes, times the length of the longest chain.
+//! It takes time in the flushes, times the length of the longest chain.
 
 use crate::declared::declared;
 use crate::groups::assert_lanes;

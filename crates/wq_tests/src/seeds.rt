@@ -1,6 +1,6 @@
 //! Seeds of the hashes of names, on which no answer depends.
 //!
-//! The answers were worked out by hand from docs/FORMAT.md. Takes the time of a hundred runs for each text.
+//! The answers were worked out by hand from docs/FORMAT.md. It takes the time of a hundred runs for each text.
 
 use std::test::Fail;
 use wq_commands::{End, Metered, plan_cmd};

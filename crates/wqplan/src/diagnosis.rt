@@ -1,7 +1,7 @@
 //! What is said on standard error of a text that was refused.
 //!
 //! It comes after the refusal is written, and changes neither standard output nor the status: where memory for it is refused, or
-//! standard error can't be written, it is left out. Takes the time and the memory of reading the texts once more.
+//! standard error can't be written, it is left out. It takes the time and the memory of reading the texts once more.
 
 use std::alloc::{AllocError, Global};
 use std::str;

@@ -1,6 +1,6 @@
 //! Files that are read.
 //!
-//! Takes the time of a call of the system.
+//! It takes the time of a call of the system.
 
 use std::fs;
 use std::rt::Files;

@@ -7,7 +7,7 @@ ghost use Rattle.wqplan.specs.Numbers.{IsPrintedByProgram};
 ghost use Rattle.wq_explain.specs.Explaining.{number_end};
 ghost use Rattle.wq_explain.specs.declared.explain.Explained.TheVariants.{Known};
 
-/// `explain` knows just the numbers that a refusal or a `no` can have, that of a plan too large to run among them.
+/// `explain` knows exactly the numbers that a refusal or a `no` can have, that of a plan too large to run among them.
 pub fn each_printed_number_is_explained()
     ensures { (code : ℕ) → IsPrintedByProgram code ↔ (number_end code ≡ Known) }
 {}

@@ -1,7 +1,7 @@
 //! The seed with which the names of a declaration are hashed.
 //!
-//! It is drawn anew for each run of the program, so that who writes a declaration can't know which names have the same hash.
-//! Takes the time of a call of the system.
+//! It is drawn anew for each run of the program, so that who writes a declaration can't know which names have the same hash. It
+//! takes the time of a call of the system.
 
 use std::random::RandomSource;
 use wq_commands::Fault;
