@@ -1,7 +1,7 @@
 //! What is handed back when a runtime is closed: its history, and the sums of all that its callers counted.
 //!
-//! Where the sums agree with the tallies of the history, all callers together counted, of each item, kind and answer, as many
-//! rows as were written, except for starts. Closing takes time in the number of seats and their counts, and no memory.
+//! Where the sums agree with the tallies of the history, all callers together counted, for each item, kind and answer, as many
+//! rows as were written. Starts aren't counted. Closing takes time in the number of seats and their counts, and no memory.
 
 ghost use Rattle.std.specs.Prelude.{◌≡◌, ℕ, ◌+◌, ◌<◌, ◌≤◌, ◌*◌, sum, replicate, vec_len};
 ghost use Rattle.std.specs.List.{sum_by};
@@ -30,7 +30,7 @@ pub struct Closed<N: Naming, A: Allocator> {
     pub book: Book<A>,
     /// The sums of the counts of all its seats.
     pub counts: Counts<A>,
-    /// Whether each sum is the number of the rows that it counts.
+    /// Whether each sum is the number of rows that it counts.
     pub agree: bool,
     of: PhantomData<N>,
 }
@@ -46,8 +46,7 @@ pub struct CloseRefused<N: Naming, A: Allocator> {
     pub why: CloseWhy,
 }
 
-/// Adds the counts of all seats to sums that are empty, and puts their parts of the ledger together with those that are
-/// left.
+/// Adds the counts of all seats to sums that are empty, and joins their parts of the ledger to those that are left.
 fn gather<N: Naming, A: Allocator>(
     sums: &mut Counts<A>,
     ledger: &mut ledger::Book<N>,
@@ -73,7 +72,7 @@ fn gather<N: Naming, A: Allocator>(
 }
 
 impl<N: Naming, A: Allocator> Held<N, A> {
-    /// Closes a runtime that may be closed with these seats.
+    /// Closes a runtime, which may be closed with these seats.
     pub(crate) fn closed(self, seats: Vec<Seat<N, A>, A>) -> Closed<N, A>
         requires { Closes self (vec_len seats) }
         ensures { IsClosed N.wiring N.rows seats.items result.book result.counts result.agree }

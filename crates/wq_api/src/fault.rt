@@ -15,7 +15,7 @@ use wq_history::BookError;
 /// Why no runtime is made: the first cause that holds.
 #[derive(Clone, Copy, Debug, PartialEq, Eq, Error)]
 pub enum NewError {
-    /// More than 256 lanes (69).
+    /// More than 256 workqueues (69).
     #[error("more workqueues than a runtime may have")]
     TooManyLanes,
     /// More than 16,777,216 rows (68).
@@ -97,10 +97,10 @@ pub enum CallError {
     /// The running item has made as many waits as it declares flushes (63).
     #[error("the item has made all its waits")]
     TooManyWaits,
-    /// No such lane, the item belongs to another, or the lane can't make this step (64).
+    /// There is no such workqueue, the item belongs to another, or the workqueue can't make this step (64).
     #[error("the lane can't do this")]
     WrongLane,
-    /// No ask of the item waits (65). A call tells only the ask that it made itself.
+    /// No ask about the item is waiting (65). A call tells only the ask that it made itself.
     #[error("no caller waits for the item")]
     NotAsked,
     /// No such item (66).
@@ -124,7 +124,7 @@ impl CallError {
         }
     }
 
-    /// The refusal of a book's call, where it isn't one of making a book.
+    /// The refusal that an error of a book means, where the error isn't one of making a book.
     pub(crate) fn of(e: BookError) -> CallError
         requires { IsOfCall e }
         ensures { call_error e ≡ Some result }

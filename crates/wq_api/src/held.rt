@@ -1,8 +1,8 @@
-//! What lies under the lock: the book, its tallies, and the parts of the ledger that no seat holds.
+//! What the lock protects: the book, its tallies, and the parts of the ledger that no seat holds.
 //!
-//! Each event of a book is one call here, by the same name: it makes the event and, where that writes a counted row, counts it in
-//! the tallies and in the seat of the caller. Whoever calls holds the lock. A call takes the time of the book's own, and no
-//! memory except for a new seat.
+//! Each event of a book is one call here, with the same name. The call makes the event. Where the event writes a row that is
+//! counted, the call counts it in the tallies and in the caller's seat. Whoever calls holds the lock. A call takes the time of
+//! the book's own call, and no memory except for a new seat.
 
 ghost use Rattle.std.specs.Prelude.{◌≡◌, ℕ, ◌+◌, ◌<◌, ◌≤◌, ◌↔◌, [], sum, replicate, ◌*◌, true, false, IsTrue, IfOk, IfErr, OnOk, OnErr, IfSome, IfNone};
 ghost use Rattle.wq_core.specs.Wiring.{items, lane_of};
@@ -30,10 +30,10 @@ use wq_groups::LaneId;
 use wq_history::{Ask, Asked, Book, Told};
 use wq_items::ItemId;
 
-/// How many seats a runtime makes at most: 65,535. One part of the ledger is never given out.
+/// The most seats that a runtime makes: 65,535. One part of the ledger is never given out.
 pub const MAX_SEATS: u32 = 65_535;
 
-/// What lies under the lock of a runtime. Contracts see its book and how many seats were made.
+/// What the lock of a runtime protects. Contracts see its book and how many seats were made.
 #[derive(Drop)]
 pub struct Held<N: Naming, A: Allocator> {
     pub(crate) book: Book<A>,
@@ -54,7 +54,7 @@ impl<N: Naming, A: Allocator> Model for Held<N, A> {
 }
 
 impl<N: Naming, A: Allocator + Copy> Held<N, A> {
-    /// A book on which nothing has happened, of the runtime that this blank ledger is of; no seat is made.
+    /// Starts with a book in which nothing has happened, of the runtime that this blank ledger belongs to. No seat is made.
     ///
     /// The only error is out of memory (20), which can't occur where there is no item.
     pub fn new(alloc: A, blank: Blank, book: Book<A>) -> Result<Self, AllocError>
@@ -82,10 +82,10 @@ impl<N: Naming, A: Allocator + Copy> Held<N, A> {
         })
     }
 
-    /// A new seat, with no counts.
+    /// Makes a seat, with no counts.
     ///
-    /// The error is `TooManySeats` (70) exactly where 65,535 were made, else out of memory (20), which can't occur where there is
-    /// no item. Then nothing is changed, and the seat isn't one of those that were made.
+    /// The error is `TooManySeats` (70) exactly where 65,535 were made. Otherwise it is out of memory (20), which can't occur
+    /// where there is no item. After an error nothing is changed, and no seat counts as made.
     pub fn seat(&mut self, alloc: A) -> Result<Seat<N, A>, SeatError>
         ensures seat { IfOk result (λ s. s ≡ replicate (14 * items N.wiring) 0) }
         ensures made { OnOk result ((self.old.seats < 65535) × (self.new ≡ record self.old { seats = self.old.seats + 1 })) }
@@ -104,14 +104,14 @@ impl<N: Naming, A: Allocator + Copy> Held<N, A> {
 }
 
 impl<N: Naming, A: Allocator> Held<N, A> {
-    /// What holds whenever the lock is got.
+    /// States what holds whenever the lock is taken.
     pub fn holds(&self)
         ensures { Holds N.wiring N.rows self.now.book }
     {
         self.book.legal();
     }
 
-    /// Looks into the ledger: a seat counts no more rows than the history has. Nothing is changed.
+    /// Shows, by the ledger, that a seat counts no more rows than the history has. Nothing is changed.
     pub fn audit(&mut self, seat: &mut Seat<N, A>)
         ensures bound { sum seat.old ≤ counted_rows self.old.book.rows }
         ensures same { (self.new ≡ self.old) × (seat.new ≡ seat.old) }
@@ -119,7 +119,7 @@ impl<N: Naming, A: Allocator> Held<N, A> {
         self.tallies.audit(seat);
     }
 
-    /// How many lanes there are, at most 256.
+    /// The number of workqueues, at most 256.
     pub fn lanes(&self) -> usize
         ensures lanes { result ≡ N.wiring.lanes }
         ensures few { result ≤ max_runtime_lanes }
@@ -127,14 +127,14 @@ impl<N: Naming, A: Allocator> Held<N, A> {
         self.book.lanes()
     }
 
-    /// How many items there are.
+    /// The number of items.
     pub fn items(&self) -> usize
         ensures { result ≡ items N.wiring }
     {
         self.book.items()
     }
 
-    /// The lane of an item, where there is such an item.
+    /// The workqueue of an item, where there is such an item.
     pub fn lane_of(&self, item: ItemId) -> Option<LaneId>
         ensures some { IfSome result (λ q. IsOnLane N.wiring q item) }
         ensures none { IfNone result (items N.wiring ≤ item) }
@@ -142,7 +142,7 @@ impl<N: Naming, A: Allocator> Held<N, A> {
         self.book.lane_of(item)
     }
 
-    /// How many rows are free.
+    /// The number of free rows.
     pub fn free_rows(&self) -> u32
         ensures { result ≡ free self.now.book }
     {
@@ -165,7 +165,7 @@ impl<N: Naming, A: Allocator> Held<N, A> {
 
     /// Queues an item: true where it is accepted, false where it is pending already.
     ///
-    /// The refusals are those of the book: 66, 61, 60. Then nothing is changed.
+    /// The errors are those of the book: `NoItem` (66), `Closed` (61), `HistoryFull` (60). After an error nothing is changed.
     #[tactic(auto, using(crate::proofs::Refused::of_call_queue))]
     pub fn queue(&mut self, seat: &mut Seat<N, A>, item: ItemId) -> Result<bool, CallError>
         ensures row { IfOk result (λ accepted. AppendsOne self.old.book self.new.book (Queue item) accepted) }
@@ -184,9 +184,9 @@ impl<N: Naming, A: Allocator> Held<N, A> {
         }
     }
 
-    /// Takes the pending entry of an item off: true where there is one.
+    /// Removes the pending entry of an item: true where there is one.
     ///
-    /// The refusals are those of the book: 66, 60. Then nothing is changed.
+    /// The errors are those of the book: `NoItem` (66), `HistoryFull` (60). After an error nothing is changed.
     #[tactic(auto, using(crate::proofs::Refused::of_call_item))]
     pub fn cancel(&mut self, seat: &mut Seat<N, A>, item: ItemId) -> Result<bool, CallError>
         ensures row { IfOk result (λ taken. AppendsOne self.old.book self.new.book (Cancel item) taken) }
@@ -204,9 +204,9 @@ impl<N: Naming, A: Allocator> Held<N, A> {
         }
     }
 
-    /// Asks whether an item has an unfinished entry, to wait for it where it has.
+    /// Asks whether an item has an unfinished entry. Where it has, the caller waits for it.
     ///
-    /// The refusals are those of the book: 66, 60. Then nothing is changed.
+    /// The errors are those of the book: `NoItem` (66), `HistoryFull` (60). After an error nothing is changed.
     #[tactic(auto, using(crate::proofs::Refused::of_call_item))]
     pub fn ask(&mut self, seat: &mut Seat<N, A>, item: ItemId) -> Result<Ask, CallError>
         ensures row { IfOk result (λ answer. AnswersAsk self.old.book self.new.book item answer) }
@@ -229,7 +229,7 @@ impl<N: Naming, A: Allocator> Held<N, A> {
         }
     }
 
-    /// Tells a caller who waits whether its wait is over. Where it isn't, or no ask of its item waits (65), nothing is
+    /// Tells a waiting caller whether its wait is over. Where it isn't, or no ask about its item is waiting (65), nothing is
     /// changed, and the ask is given back.
     pub fn told(&mut self, seat: &mut Seat<N, A>, asked: Asked) -> Told
         ensures row { AnswersTold self.old.book self.new.book asked result }
@@ -248,10 +248,10 @@ impl<N: Naming, A: Allocator> Held<N, A> {
         }
     }
 
-    /// Asks and then cancels: the answer of each.
+    /// Asks and then cancels, and gives both answers.
     ///
-    /// The refusals are `NoItem` (66), and else `HistoryFull` (60) exactly where fewer than 3 rows are free. Then nothing is
-    /// changed.
+    /// The error is `NoItem` (66), or else `HistoryFull` (60), exactly where fewer than 3 rows are free. After an error nothing
+    /// is changed.
     pub fn ask_and_cancel(
         &mut self,
         seat: &mut Seat<N, A>,
@@ -280,10 +280,11 @@ impl<N: Naming, A: Allocator> Held<N, A> {
         Ok((answer, taken))
     }
 
-    /// A lane starts its first pending entry: its item, or nothing where none is pending; then nothing is changed.
+    /// Starts the first pending entry of a workqueue, and gives its item. Where none is pending it gives nothing, and nothing is
+    /// changed.
     ///
-    /// The only refusal is 64, exactly where there is no such lane or it runs an entry. Then nothing is changed. A start
-    /// isn't counted.
+    /// The only error is `WrongLane` (64), exactly where there is no such workqueue or it runs an entry. After an error nothing
+    /// is changed. A start isn't counted.
     #[tactic(auto, using(crate::proofs::Refused::of_call_lane))]
     pub fn start(&mut self, q: LaneId) -> Result<Option<ItemId>, CallError>
         ensures row { IfOk result (λ answer. AnswersStart self.old.book self.new.book q answer) }
@@ -298,9 +299,10 @@ impl<N: Naming, A: Allocator> Held<N, A> {
         Ok(started)
     }
 
-    /// What a lane runs begins to wait for an item: whether that has an unfinished entry.
+    /// Makes what a workqueue runs begin to wait for an item: true where that item has an unfinished entry.
     ///
-    /// The refusals are those of the book: 64, 62, 63. Then nothing is changed.
+    /// The errors are those of the book: `WrongLane` (64), `Undeclared` (62), `TooManyWaits` (63). After an error nothing is
+    /// changed.
     #[tactic(auto, using(crate::proofs::Refused::of_call_wait))]
     pub fn wait(
         &mut self,
@@ -334,10 +336,11 @@ impl<N: Naming, A: Allocator> Held<N, A> {
         }
     }
 
-    /// What a lane runs goes on, where it waits for this item and that wait is over; false where the wait isn't over, and
-    /// then nothing is changed.
+    /// Lets what a workqueue runs go on, where it waits for this item and that wait is over. It gives false where the wait isn't
+    /// over; then nothing is changed.
     ///
-    /// The only refusal is 64, exactly where the lane doesn't wait for this item. Then nothing is changed.
+    /// The only error is `WrongLane` (64), exactly where the workqueue doesn't wait for this item. After an error nothing is
+    /// changed.
     pub fn over(
         &mut self,
         seat: &mut Seat<N, A>,
@@ -373,10 +376,10 @@ impl<N: Naming, A: Allocator> Held<N, A> {
         }
     }
 
-    /// A lane finishes what it runs, an entry of this item.
+    /// Finishes what a workqueue runs, an entry of this item.
     ///
-    /// The only refusal is 64, exactly where the lane doesn't run an entry of this item, or that waits. Then nothing is
-    /// changed.
+    /// The only error is `WrongLane` (64), exactly where the workqueue doesn't run an entry of this item, or that entry waits.
+    /// After an error nothing is changed.
     #[tactic(auto, using(crate::proofs::Refused::of_call_lane))]
     pub fn finish(
         &mut self,
@@ -403,7 +406,7 @@ impl<N: Naming, A: Allocator> Held<N, A> {
         }
     }
 
-    /// Nothing is queued from now on.
+    /// Closes the book: nothing is queued from now on.
     pub fn close(&mut self)
         ensures { self.new ≡ record { book = record self.old.book { closed = true }; seats = self.old.seats } }
     {
@@ -412,8 +415,8 @@ impl<N: Naming, A: Allocator> Held<N, A> {
 
     /// Whether the runtime can be closed with this many seats.
     ///
-    /// The error is `NotIdle` (71) exactly where an entry is unfinished or a caller waits, else `SeatsMissing` (72) exactly
-    /// where not as many seats were made.
+    /// The error is `NotIdle` (71) exactly where an entry is unfinished or a caller waits. Otherwise it is `SeatsMissing` (72),
+    /// exactly where not this many seats were made.
     pub fn closable(&self, seats: usize) -> Result<(), CloseWhy>
         ensures closes { OnOk result (Closes self.now seats) }
         ensures refused { IfErr result (RefusesClose self.now seats) }

@@ -1,8 +1,8 @@
-//! The runtime: what `queue_work`, `flush_work`, `cancel_work_sync` and `destroy_workqueue` do, for many threads over one
-//! book, and exact counts of what each thread did.
+//! The runtime: what `queue_work`, `flush_work`, `cancel_work_sync` and `destroy_workqueue` do, for many threads over one book,
+//! with exact counts of what each thread did. The code calls a workqueue a lane.
 //!
-//! What the layer above relies on: whenever the lock is got, the rows are a legal history under the runtime's assignment, which
-//! is safe; each call counts in its caller's seat the rows that it wrote, except for starts; and all seats together count as many
+//! What the layer above relies on: whenever the lock is taken, the rows are a legal history under the runtime's assignment, which
+//! is safe. Each call counts, in its caller's seat, the rows that it wrote, except for starts. All seats together count as many
 //! as the history has. Each call that may wait for another thread sleeps without the lock.
 #![tactic(auto)]
 

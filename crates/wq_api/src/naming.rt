@@ -1,15 +1,14 @@
 //! Which runtime a value belongs to.
 //!
-//! What lies under a lock is known by its type alone, so the type of a runtime, of its seats and of all that it hands out
-//! names the runtime: what it was made of, and the ledger in which its seats count. The names stand in proofs alone; no
-//! code runs here.
+//! What a lock protects is known by its type alone. So the type of a runtime, of its seats and of all that it hands out names the
+//! runtime: what it was made of, and the ledger in which its seats count. The names occur in proofs only; no code runs here.
 
 use std::marker::Brand;
 use std::sync::ledger::Ledger;
 
 /// The name of one runtime: its ledger, the wiring of its declaration and assignment, and how many rows it has room for.
 ///
-/// A caller writes its code for every `N: Naming`, and names one runtime at one call, by `Brand`.
+/// A caller writes its code for every `N: Naming`. At one call it names one runtime, by `Brand`.
 pub trait Naming: Ledger {
     ghost use Rattle.std.specs.Prelude.{ℕ};
     ghost use Rattle.wq_core.specs.Wiring.{Wiring};

@@ -1,12 +1,12 @@
 //! The runtime: the calls of kernel/workqueue.c, for many threads over one book under one lock.
 //!
-//! A call takes the lock, makes its events, and lets it go; a call that has to wait sleeps on one condition variable, and
-//! each event that changes the state of the machine wakes all that sleep. No caller sleeps with the lock held. What a call
-//! does to the book is said by the calls of `Held`, which it makes under the lock; what is said here is what the caller
-//! can know: its answer, and its own counts.
+//! A call takes the lock, makes its events, and lets the lock go. A call that has to wait sleeps on the one condition variable,
+//! and each event that changes the state of the machine wakes all that sleep. No caller sleeps with the lock held. The calls of
+//! `Held`, which are made under the lock, say what a call does to the book. Here it is said what the caller can know: its answer,
+//! and its own counts.
 //!
-//! Apart from what it waits for, a call takes the time of the book's events; `new` that of the wait graph of the lanes and its
-//! ranks, and of the rows, for which it takes room; `close` time in the number of seats and their counts.
+//! Apart from what it waits for, a call takes the time of the book's events. `new` takes that of the wait graph of the workqueues
+//! and its ranks, and of the rows, for which it takes room. `close` takes time in the number of seats and their counts.
 
 ghost use Rattle.std.specs.Prelude.{◌≡◌, ℕ, ◌+◌, ◌<◌, ◌≤◌, length, sum, replicate, ◌*◌, true, false, IfOk, IfErr, OnOk, OnErr, IfSome, IfNone};
 ghost use Rattle.wq_groups.specs.Declaration.{declaration_of};
@@ -33,7 +33,7 @@ use wq_groups::{Assignment, Groups, LaneId};
 use wq_history::{Ask, Asked, Book, MAX_ROWS, Told};
 use wq_items::{ItemId, ItemTable};
 
-/// How many lanes a runtime has at most: 256.
+/// The most workqueues that a runtime has: 256.
 pub const MAX_LANES: u16 = 256;
 
 /// A runtime: the workqueues of one assignment, which any number of threads share by reference.
@@ -44,12 +44,12 @@ pub struct WqRuntime<N: Naming, A: Allocator> {
 }
 
 impl<N: Naming, A: Allocator + Copy> WqRuntime<N, A> {
-    /// The runtime of a table, the groups of its items and a lane for each group, with room for this many rows. The blank ledger
-    /// has 65,536 parts, and the name says of what the runtime is made.
+    /// Makes the runtime of a table, the groups of its items and a workqueue for each group, with room for `rows` rows. The blank
+    /// ledger has 65,536 parts, and its name says what the runtime is made of.
     ///
-    /// The error is the first of these that holds: `TooManyLanes` (69), more than 256; `TooManyRows` (68), more than
-    /// 16,777,216; `NotSafe` (67), some run of the assignment ends stuck. Out of memory (20) may come in place of the last,
-    /// or where none holds.
+    /// The error is the first of these that holds: `TooManyLanes` (69), more than 256 workqueues; `TooManyRows` (68), more than
+    /// 16,777,216; `NotSafe` (67), some run of the assignment ends stuck. Out of memory (20) may come in place of the last, or
+    /// where none holds.
     #[tactic(auto, using(crate::proofs::CallsRefused::book_refused, crate::proofs::CallsRefused::some_lanes))]
     pub fn new(
         alloc: A,
@@ -90,9 +90,9 @@ impl<N: Naming, A: Allocator + Copy> WqRuntime<N, A> {
         })
     }
 
-    /// A seat for one caller, with no counts.
+    /// Makes a seat for one caller, with no counts.
     ///
-    /// The error is `TooManySeats` (70) where 65,535 were made, else out of memory (20). Then no seat is made.
+    /// The error is `TooManySeats` (70) where 65,535 were made, or else out of memory (20). After an error no seat is made.
     pub fn seat<R: Wait>(&self, rt: &R, alloc: A) -> Result<Seat<N, A>, SeatError>
         ensures seat { IfOk result (λ s. s ≡ replicate (14 * items N.wiring) 0) }
         ensures memory { result ≡ Err SeatOutOfMemory → 0 < items N.wiring }
@@ -102,7 +102,7 @@ impl<N: Naming, A: Allocator + Copy> WqRuntime<N, A> {
 }
 
 impl<N: Naming, A: Allocator> WqRuntime<N, A> {
-    /// How many lanes there are, at most 256.
+    /// The number of workqueues, at most 256.
     pub fn lanes<R: Wait>(&self, rt: &R) -> u16
         ensures lanes { result ≡ N.wiring.lanes }
         ensures few { result ≤ max_runtime_lanes }
@@ -110,7 +110,7 @@ impl<N: Naming, A: Allocator> WqRuntime<N, A> {
         self.held.lock(rt).lanes() as u16
     }
 
-    /// The lane of an item, where there is such an item.
+    /// The workqueue of an item, where there is such an item.
     pub fn lane_of<R: Wait>(&self, rt: &R, item: ItemId) -> Option<LaneId>
         ensures some { IfSome result (λ q. IsOnLane N.wiring q item) }
         ensures none { IfNone result (items N.wiring ≤ item) }
@@ -118,10 +118,11 @@ impl<N: Naming, A: Allocator> WqRuntime<N, A> {
         self.held.lock(rt).lane_of(item)
     }
 
-    /// Queues an item on its lane (`queue_work`): true where it wasn't pending, false where it was.
+    /// Queues an item on its workqueue (`queue_work`): true where it wasn't pending, false where it was.
     ///
-    /// The error is the first of these that holds: `NoItem` (66); `WrongLane` (64), where the item belongs to another lane;
-    /// `HistoryFull` (60), where the seat is full; `Closed` (61); `HistoryFull` (60). Then nothing is changed or counted.
+    /// The error is the first of these that holds: `NoItem` (66); `WrongLane` (64), where the item belongs to another workqueue;
+    /// `HistoryFull` (60), where the seat is full; `Closed` (61); `HistoryFull` (60), where too few rows are free. After an error
+    /// nothing is changed or counted.
     #[tactic(auto, using(crate::proofs::CallsRefused::queue_refused))]
     pub fn queue_work<R: Wait>(
         &self,
@@ -152,9 +153,9 @@ impl<N: Naming, A: Allocator> WqRuntime<N, A> {
         Ok(accepted)
     }
 
-    /// Takes the pending entry of an item off (`cancel_work`): true where one was pending.
+    /// Removes the pending entry of an item (`cancel_work`): true where one was pending.
     ///
-    /// The error is `NoItem` (66), else `HistoryFull` (60). Then nothing is changed or counted.
+    /// The error is `NoItem` (66), or else `HistoryFull` (60). After an error nothing is changed or counted.
     #[tactic(auto, using(crate::proofs::CallsRefused::cancel_refused))]
     pub fn cancel_work<R: Wait>(
         &self,
@@ -181,7 +182,7 @@ impl<N: Naming, A: Allocator> WqRuntime<N, A> {
         Ok(taken)
     }
 
-    /// Waits until an ask is told that its wait is over. It sleeps without the lock.
+    /// Waits until an ask is told that its wait is over. The caller sleeps without the lock.
     fn be_told<'r, R: Wait>(
         &'r self,
         rt: &R,
@@ -208,11 +209,11 @@ impl<N: Naming, A: Allocator> WqRuntime<N, A> {
         unreachable!()
     }
 
-    /// Waits until no entry of an item is unfinished that was queued before the call (`flush_work`): true where it had to
-    /// wait, false where the item was idle.
+    /// Waits until no entry of an item that was queued before the call is unfinished (`flush_work`): true where it had to wait,
+    /// false where the item was idle.
     ///
-    /// The error is `NoItem` (66), else `HistoryFull` (60); then nothing is changed or counted. After its ask it could be
-    /// refused with `NotAsked` (65) alone, and then its ask stays counted.
+    /// The error is `NoItem` (66), or else `HistoryFull` (60). Then nothing is changed or counted. Once it has asked, the only
+    /// error could be `NotAsked` (65); then its ask stays counted.
     #[tactic(auto, using(crate::proofs::CallsRefused::ask_refused, crate::proofs::CallsRefused::ask_not_counted))]
     pub fn flush_work<R: Wait>(
         &self,
@@ -240,12 +241,12 @@ impl<N: Naming, A: Allocator> WqRuntime<N, A> {
         }
     }
 
-    /// Takes the pending entry of an item off, and waits until none of its entries is unfinished that was queued before the
-    /// call (`cancel_work_sync`): true where one was pending.
+    /// Removes the pending entry of an item, and waits until none of its entries that was queued before the call is unfinished
+    /// (`cancel_work_sync`): true where one was pending.
     ///
-    /// The error is `NoItem` (66), else `HistoryFull` (60), where the seat is full or fewer than 3 rows are free; then
-    /// nothing is changed or counted. After its ask it could be refused with `NotAsked` (65) alone, and then its ask and its
-    /// cancellation stay counted.
+    /// The error is `NoItem` (66), or else `HistoryFull` (60), where the seat is full or fewer than 3 rows are free. Then nothing
+    /// is changed or counted. Once it has asked, the only error could be `NotAsked` (65); then its ask and its cancellation stay
+    /// counted.
     #[tactic(auto, using(crate::proofs::CallsRefused::both_refused, crate::proofs::CallsRefused::both_not_counted))]
     pub fn cancel_work_sync<R: Wait>(
         &self,
@@ -275,7 +276,7 @@ impl<N: Naming, A: Allocator> WqRuntime<N, A> {
         Ok(taken)
     }
 
-    /// Refuses queueings from now on, and waits until no entry is unfinished (`destroy_workqueue`, of all workqueues).
+    /// Refuses queueings from now on, and waits until no entry is unfinished (`destroy_workqueue`, for all workqueues).
     pub fn destroy<R: Wait>(&self, rt: &R) {
         let mut held = self.held.lock(rt);
         held.close();
@@ -288,10 +289,10 @@ impl<N: Naming, A: Allocator> WqRuntime<N, A> {
         }
     }
 
-    /// Closes a runtime that is idle, with all of its seats: its book, and the sums of their counts.
+    /// Closes an idle runtime, given all of its seats, and returns its book and the sums of their counts.
     ///
-    /// It is refused with `NotIdle` (71) where an entry is unfinished or a caller waits, else with `SeatsMissing` (72) where
-    /// not all seats are handed in. Then the runtime and the seats are handed back as they were.
+    /// The error is `NotIdle` (71) where an entry is unfinished or a caller waits, or else `SeatsMissing` (72) where not all
+    /// seats are handed in. Then the runtime and the seats are handed back as they were.
     pub fn close(self, seats: Vec<Seat<N, A>, A>) -> Result<Closed<N, A>, CloseRefused<N, A>>
         ensures closed { IfOk result (λ c. IsClosed N.wiring N.rows seats.items c.book c.counts c.agree) }
         ensures refused { IfErr result (λ e. e.seats.items ≡ seats.items) }

@@ -1,11 +1,10 @@
 //! Whether an assignment is safe: no run of it ends stuck.
 //!
-//! The rule is that of Documentation/core-api/workqueue.rst, "Guidelines": work items that are used during reclaim and
-//! depend on one another belong on separate workqueues with WQ_MEM_RECLAIM. Where the lanes have ranks that fall along
-//! every declared flush, a chain of lanes can always move at its end; where lanes wait in a circle, some run ends
-//! stuck. This is asked once, when a runtime is made, and makes no run and no machine. The time is that of the wait
-//! graph of the lanes, in the items, the lanes and the flushes, and that of its ranks, at most the lanes times the
-//! lanes and flushes.
+//! The rule is that of Documentation/core-api/workqueue.rst, "Guidelines": work items that are used during reclaim and depend on
+//! one another belong on separate workqueues with WQ_MEM_RECLAIM. Where the workqueues have ranks that fall along every declared
+//! flush, a chain of workqueues can always move at its end. Where they wait in a circle, some run ends stuck. This is asked once,
+//! when a runtime is made. No run and no machine is made for it. The wait graph of the workqueues takes time in the number of
+//! items, workqueues and flushes. Its ranks take time in the number of workqueues times that of workqueues and flushes, at most.
 
 ghost use Rattle.std.specs.Prelude.{◌≡◌, ◌<◌, ◌↔◌, length, IfOk, OnErr, IsTrue};
 ghost use Rattle.wq_groups.specs.Declaration.{declaration_of};
@@ -18,10 +17,10 @@ use wq_groups::{Assignment, Groups};
 use wq_items::ItemTable;
 use wq_levels::{Ranked, rank};
 
-/// Whether an assignment is safe, of a table's items. The groups are those of this table, and the assignment has a lane
-/// for each of them.
+/// Whether an assignment of a table's items is safe. The groups are those of this table, and the assignment has a workqueue for
+/// each of them.
 ///
-/// The only error is out of memory (20). Without a lane nothing grows.
+/// The only error is out of memory (20), which can't occur where there is no workqueue.
 pub fn is_safe<A: Allocator + Copy>(
     alloc: A,
     table: &ItemTable<'_, A>,

@@ -1,7 +1,7 @@
-//! Seats: what the calls of one thread did, counted.
+//! Seats: the counts of what the calls of one thread did.
 //!
-//! A seat belongs to one caller at a time, who lends it to each of its calls. It holds one part of the runtime's ledger, so
-//! that what all seats count together is known when they come back. Every call takes constant time.
+//! A seat belongs to one caller at a time, who lends it to each of its calls. It holds one part of the runtime's ledger. So what
+//! all seats count together is known when they come back. Every call takes constant time.
 
 ghost use Rattle.std.specs.Prelude.{◌≡◌, ℕ, ◌+◌, ◌*◌, ◌<◌, ◌≤◌, ◌↔◌, sum, replicate, length, true, IsTrue, IfOk, OnErr};
 ghost use Rattle.wq_core.specs.Wiring.{items};
@@ -19,7 +19,7 @@ use wq_items::ItemId;
 /// How many rows a seat counts before calls are refused: 33,554,432.
 pub const SEAT_ROWS: u64 = 33_554_432;
 
-/// The counts of a caller, of one runtime. Contracts see its counts.
+/// The counts of one caller of one runtime. Contracts see its counts.
 ///
 /// It can't be copied. A runtime is closed only when all of its seats come back.
 #[derive(Drop)]
@@ -40,7 +40,7 @@ impl<N: Naming, A: Allocator> Model for Seat<N, A> {
 }
 
 impl<N: Naming, A: Allocator> Seat<N, A> {
-    /// How many rows its holder's calls made of an item and a kind, with this answer; 0 for an item that doesn't exist.
+    /// How many rows of an item and a kind, with this answer, its holder's calls made; 0 for an item that doesn't exist.
     pub fn made(&self, item: ItemId, kind: Kind, yes: bool) -> u64
         ensures { result ≡ made self.now item kind yes }
     {
@@ -61,7 +61,7 @@ impl<N: Naming, A: Allocator> Seat<N, A> {
         self.counts.made(item, Kind::Queue, true)
     }
 
-    /// How many cancellations of an item took an entry off.
+    /// How many cancellations of an item removed an entry.
     pub fn cancelled(&self, item: ItemId) -> u64
         ensures { result ≡ made self.now item Cancel true }
     {
@@ -75,7 +75,7 @@ impl<N: Naming, A: Allocator> Seat<N, A> {
         self.counts.made(item, Kind::Finish, true)
     }
 
-    /// What holds of every seat: it has 14 counts for each item.
+    /// States what holds of every seat: it has 14 counts for each item.
     pub fn holds(&self)
         ensures { HasCountsOf (items N.wiring) self.now }
     {

@@ -1,8 +1,8 @@
-//! What serves a lane: the calls of a rescuer.
+//! Serving a workqueue: the calls of a rescuer.
 //!
-//! A rescuer starts the next entry of its lane, runs its body, which may wait for other items, and finishes it (`rescuer_thread`
-//! and `process_one_work` in kernel/workqueue.c). The body runs between these calls, without the lock. Apart from what it waits
-//! for, a call takes the time of the book's events.
+//! A rescuer starts the next entry of its workqueue, runs the body, which may wait for other items, and finishes the entry
+//! (`rescuer_thread` and `process_one_work` in kernel/workqueue.c). The body runs between these calls, without the lock. Apart
+//! from what it waits for, a call takes the time of the book's events.
 
 ghost use Rattle.std.specs.Prelude.{◌≡◌, ◌<◌, sum, true, IfOk, IfErr, OnOk, IfSome};
 ghost use Rattle.wq_core.specs.Wiring.{items};
@@ -22,10 +22,11 @@ use wq_groups::LaneId;
 use wq_items::ItemId;
 
 impl<N: Naming, A: Allocator> WqRuntime<N, A> {
-    /// The next entry of a lane is started, for whoever serves the lane: its item. It waits where nothing is pending, and
-    /// answers nothing where, besides, the runtime is closed.
+    /// Starts the next entry of a workqueue, for whoever serves it, and gives its item. It waits while nothing is pending and the
+    /// runtime isn't closed. It gives nothing where nothing is pending and the runtime is closed.
     ///
-    /// The only error is `WrongLane` (64), where there is no such lane or it runs an entry. Then nothing is changed.
+    /// The only error is `WrongLane` (64), where there is no such workqueue or it runs an entry. After an error nothing is
+    /// changed.
     #[tactic(auto, using(crate::proofs::CallsRefused::start_refused, crate::proofs::CallsRefused::start_none, crate::proofs::CallsRefused::lane_known))]
     pub fn next<R: Wait>(&self, rt: &R, q: LaneId) -> Result<Option<ItemId>, CallError>
         ensures started { IfOk result (λ next. (q < N.wiring.lanes) × IfSome next (λ item. IsOnLane N.wiring q item)) }
@@ -47,13 +48,13 @@ impl<N: Naming, A: Allocator> WqRuntime<N, A> {
         unreachable!()
     }
 
-    /// What a lane runs begins to wait for an item, and waits until each of its entries is finished that was queued before
-    /// (`flush_work` in a work function): true where there was one.
+    /// Makes what a workqueue runs wait for an item, until each of its entries that was queued before is finished (`flush_work`
+    /// in a work function): true where there was one.
     ///
-    /// The error is the first of these that holds: `WrongLane` (64), where there is no such lane; `HistoryFull` (60), where
-    /// the seat is full; `WrongLane` (64), where the lane runs nothing or waits; `Undeclared` (62); `TooManyWaits` (63). Then
-    /// nothing is changed or counted. Once it waits it could be refused with `WrongLane` alone, where another caller drove
-    /// this lane on, and then the wait stays counted.
+    /// The error is the first of these that holds: `WrongLane` (64), where there is no such workqueue; `HistoryFull` (60), where
+    /// the seat is full; `WrongLane` (64), where the workqueue runs nothing or waits; `Undeclared` (62); `TooManyWaits` (63).
+    /// Then nothing is changed or counted. Once it waits, the only error could be `WrongLane`, where another caller drove this
+    /// workqueue on; then the wait stays counted.
     #[tactic(auto, using(crate::proofs::CallsRefused::wait_refused, crate::proofs::CallsRefused::wait_not_counted, crate::proofs::CallsRefused::over_refused, crate::proofs::CallsRefused::over_counted))]
     pub fn wait_for<R: Wait>(
         &self,
@@ -85,10 +86,10 @@ impl<N: Naming, A: Allocator> WqRuntime<N, A> {
         unreachable!()
     }
 
-    /// A lane finishes what it runs, an entry of this item.
+    /// Finishes what a workqueue runs, an entry of this item.
     ///
-    /// The only error is `WrongLane` (64), where there is no such lane, it runs nothing or an entry of another item, or it
-    /// waits. Then nothing is changed or counted.
+    /// The only error is `WrongLane` (64): there is no such workqueue, it runs nothing or an entry of another item, or it waits.
+    /// After an error nothing is changed or counted.
     pub fn finish_work<R: Wait>(
         &self,
         rt: &R,

@@ -34,7 +34,7 @@ impl<N: Naming, A: Allocator> Model for Tallies<N, A> {
 }
 
 impl<N: Naming, A: Allocator> Tallies<N, A> {
-    /// Looks into the ledger: a seat counts no more than the tallies. Nothing is changed.
+    /// Shows, by the ledger, that a seat counts no more than the tallies. Nothing is changed.
     pub fn audit(&mut self, seat: &mut Seat<N, A>)
         ensures bound { sum seat.old ≤ sum self.old }
         ensures same { (self.new ≡ self.old) × (seat.new ≡ seat.old) }
@@ -42,7 +42,7 @@ impl<N: Naming, A: Allocator> Tallies<N, A> {
         self.ledger.audit(&mut seat.share);
     }
 
-    /// Counts a row of an item and a kind, with this answer: here, and in the seat of the caller who made it.
+    /// Counts a row of an item and a kind, with this answer: here, and in the seat of the caller who made the row.
     pub fn count(&mut self, seat: &mut Seat<N, A>, item: ItemId, kind: Kind, yes: bool)
         requires item { item < items N.wiring }
         requires few { sum self.old < 4294967295 }

@@ -1,4 +1,4 @@
-//! The answer, made whole in memory: the declaration is judged, then the assignment, and then what is asked of them.
+//! The answer, built in full in memory: the declaration is judged, then the assignment, and then what is asked of them.
 
 ghost use Rattle.std.specs.Prelude.{◌≡◌, length};
 ghost use Rattle.wq_core.specs.State.{empty_state};

@@ -1,5 +1,5 @@
-//! Laws of certificates, as contracts of functions with empty bodies: what is read is in range, which fault is answered,
-//! what is printed is read back, and what is printed is within the limits of what is read.
+//! Laws about certificates, as contracts of functions with empty bodies: what is read is in range, which fault is answered, what
+//! is printed is read back, and what is printed is within the limits of what is read.
 //!
 //! They are said of the definitions of what is printed and of what is read, whatever code prints and reads.
 

@@ -1,4 +1,4 @@
-//! Laws of answers and of ends, as contracts of functions with empty bodies.
+//! Laws about answers and of ends, as contracts of functions with empty bodies.
 //!
 //! They are said of declarations, certificates and lists of steps alone, whatever code checks them.
 

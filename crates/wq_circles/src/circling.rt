@@ -1,4 +1,4 @@
-//! The answer to a declaration and an assignment, or to a declaration alone, made whole in memory.
+//! The answer to a declaration and an assignment, or to a declaration alone, built in full in memory.
 //!
 //! The rule is that of "The command `circles`" in docs/FORMAT.md. It takes the time and the memory of reading the texts, of the
 //! components and of their text.
@@ -44,7 +44,7 @@ fn print_components<A: Allocator + Copy>(
     Ok((End::Bad, text))
 }
 
-/// How a run of the program ends that is given an assignment of these groups, and what it prints.
+/// How a run of the program that is given an assignment of these groups ends, and what it prints.
 fn circle_assigned<A: Allocator + Copy>(
     alloc: A,
     table: &ItemTable<'_, A>,
@@ -59,7 +59,7 @@ fn circle_assigned<A: Allocator + Copy>(
     print_components(alloc, table, groups, assignment, &components)
 }
 
-/// How a run of the program ends that is given the text of an assignment of these groups, and what it prints.
+/// How a run of the program that is given the text of an assignment of these groups ends, and what it prints.
 fn circle_declared<A: Allocator + Copy>(
     alloc: A,
     table: &ItemTable<'_, A>,
@@ -74,7 +74,7 @@ fn circle_declared<A: Allocator + Copy>(
     match read_assignment(alloc, text, table, groups) {
         Ok(assignment) => {
             let answer = circle_assigned(alloc, table, groups, &assignment);
-            // Said as a call, so that the proof has one step for it.
+            // Written as a call, so that the proof has one step for it.
             drop(assignment);
             answer
         }
@@ -83,7 +83,7 @@ fn circle_declared<A: Allocator + Copy>(
     }
 }
 
-/// How a run of the program ends that is given no assignment of these groups, and what it prints.
+/// How a run of the program that is given no assignment of these groups ends, and what it prints.
 fn circle_groups<A: Allocator + Copy>(
     alloc: A,
     table: &ItemTable<'_, A>,
@@ -96,7 +96,7 @@ fn circle_groups<A: Allocator + Copy>(
     circle_assigned(alloc, table, groups, &assignment)
 }
 
-/// How a run of the program ends that is given the texts of a declaration and an assignment, and what it prints.
+/// How a run of the program that is given the texts of a declaration and an assignment ends, and what it prints.
 pub(crate) fn circle<A: Allocator + Copy>(
     alloc: A,
     seed: u64,
@@ -116,7 +116,7 @@ pub(crate) fn circle<A: Allocator + Copy>(
     }
 }
 
-/// How a run of the program ends that is given the text of a declaration alone, and what it prints.
+/// How a run of the program that is given the text of a declaration alone ends, and what it prints.
 pub(crate) fn circle_own<A: Allocator + Copy>(
     alloc: A,
     seed: u64,

@@ -1,4 +1,4 @@
-//! Laws of components, as contracts of functions with empty bodies. No code runs here: the clauses are the laws.
+//! Laws about components, as contracts of functions with empty bodies. No code runs here: the clauses are the laws.
 //!
 //! They say in the words of docs/FORMAT.md, "The command `circles`", what components are: of arcs, and of the workqueues that
 //! lead to one another. A workqueue waits for a workqueue by `LaneWaits`, and leads to it by `Leads` of that.

@@ -1,7 +1,7 @@
-//! The answer to a declaration text, made whole in memory.
+//! The answer to a declaration text, built in full in memory.
 //!
-//! It takes time in the length of the text, and after a circle that of its run (`wq_deadlock`); and memory in the length of the
-//! text.
+//! It takes time in the length of the text, and for a circle also the time of its run (`wq_deadlock`). It takes memory in the
+//! length of the text.
 
 ghost use Rattle.std.specs.Prelude.{◌≡◌, IfOk, length};
 ghost use Rattle.wq_groups.specs.Declaration.{declaration_of};
@@ -24,7 +24,7 @@ use wq_groups::{Assignment, Groups};
 use wq_items::ItemTable;
 use wq_plan::{Answer, solve};
 
-/// The text of the plan of a table's items, with the chain that `solve` answered beside it.
+/// The text of the plan of a table's items, with the chain that `solve` gave with it.
 fn text_of_plan<A: Allocator + Copy>(
     alloc: A,
     table: &ItemTable<'_, A>,
@@ -43,7 +43,7 @@ fn text_of_plan<A: Allocator + Copy>(
     plan_text(alloc, table, groups, assignment, &chain)
 }
 
-/// The run by which the items of a table hang though each group has a workqueue of its own. The groups wait in a circle.
+/// The run by which the items of a table hang although each group has a workqueue of its own. The groups wait in a circle.
 fn run_of_groups<A: Allocator + Copy>(
     alloc: A,
     table: &ItemTable<'_, A>,
@@ -78,7 +78,7 @@ pub fn text_of_circle<A: Allocator + Copy>(
     circle_text(alloc, table, &ends, Some(steps.as_slice()))
 }
 
-/// How a run ends that has this answer to these groups, and what it prints.
+/// How a run that has this answer to these groups ends, and what it prints.
 fn print_answer<A: Allocator + Copy>(
     alloc: A,
     table: &ItemTable<'_, A>,
@@ -101,7 +101,7 @@ fn print_answer<A: Allocator + Copy>(
     }
 }
 
-/// How a run ends that is given these items and their groups, and what it prints.
+/// How a run that is given these items and their groups ends, and what it prints.
 fn answer_declared<A: Allocator + Copy>(
     alloc: A,
     table: &ItemTable<'_, A>,
@@ -114,7 +114,7 @@ fn answer_declared<A: Allocator + Copy>(
     print_answer(alloc, table, groups, &answer)
 }
 
-/// How a run ends that is given this text, and what it prints.
+/// How a run that is given this text ends, and what it prints.
 pub(crate) fn answer<A: Allocator + Copy>(
     alloc: A,
     seed: u64,
@@ -125,7 +125,7 @@ pub(crate) fn answer<A: Allocator + Copy>(
     match read_declaration(alloc, seed, text) {
         Ok(declared) => {
             let answer = answer_declared(alloc, &declared.table, &declared.groups);
-            // Said as a call, so that the proof has one step for it.
+            // Written as a call, so that the proof has one step for it.
             drop(declared);
             answer
         }

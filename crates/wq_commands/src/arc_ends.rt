@@ -9,7 +9,7 @@ use std::alloc::{AllocError, Allocator};
 use wq_graph::WaitArc;
 use wq_items::ItemId;
 
-/// Of each arc the item and the target.
+/// The item and the target of each arc.
 pub(crate) fn ends_of<A: Allocator + Copy>(
     alloc: A,
     arcs: &[WaitArc],

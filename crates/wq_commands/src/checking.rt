@@ -1,6 +1,6 @@
-//! The answer to a declaration and a certificate, made whole in memory.
+//! The answer to a declaration and a certificate, built in full in memory.
 //!
-//! It takes the time and the memory of reading both and of checking.
+//! It takes the time and the memory of reading both texts and of checking.
 
 ghost use Rattle.std.specs.Prelude.{◌≡◌, ◌<◌, ◌++◌, ◌∷◌, [], IfOk, IfErr, OnOk, length, codes, decimal, flat_map};
 ghost use Rattle.wq_groups.specs.Declaration.{declaration_of};
@@ -76,7 +76,7 @@ fn put_place<A: Allocator + Copy>(out: &mut Vec<u8, A>, at: u32) -> Result<(), A
     Ok(())
 }
 
-/// Adds what a no speaks of: an item and its target, a place, or nothing.
+/// Adds what a no is about: an item and its target, a place, or nothing.
 fn put_details<A: Allocator + Copy>(
     table: &ItemTable<'_, A>,
     out: &mut Vec<u8, A>,
@@ -111,7 +111,7 @@ fn no_line<A: Allocator + Copy>(
     Ok(out)
 }
 
-/// How a run ends that has this answer, and what it prints.
+/// How a run that has this answer ends, and what it prints.
 fn print_check<A: Allocator + Copy>(
     alloc: A,
     table: &ItemTable<'_, A>,
@@ -132,7 +132,7 @@ fn print_check<A: Allocator + Copy>(
     }
 }
 
-/// How a run ends that is given this claim about these items and their groups, and what it prints.
+/// How a run that is given this claim about these items and their groups ends, and what it prints.
 fn check_certificate<A: Allocator + Copy>(
     alloc: A,
     table: &ItemTable<'_, A>,
@@ -150,7 +150,7 @@ fn check_certificate<A: Allocator + Copy>(
     print_check(alloc, table, answer)
 }
 
-/// How a run ends that is given the text of a certificate of these items and their groups, and what it prints.
+/// How a run that is given the text of a certificate of these items and their groups ends, and what it prints.
 fn check_declared<A: Allocator + Copy>(
     alloc: A,
     table: &ItemTable<'_, A>,
@@ -166,7 +166,7 @@ fn check_declared<A: Allocator + Copy>(
     match read_answer(alloc, text, table, groups) {
         Ok(claim) => {
             let answer = check_certificate(alloc, table, groups, &claim);
-            // Said as a call, so that the proof has one step for it.
+            // Written as a call, so that the proof has one step for it.
             drop(claim);
             answer
         }
@@ -175,7 +175,7 @@ fn check_declared<A: Allocator + Copy>(
     }
 }
 
-/// How a run ends that is given a declaration and a certificate, and what it prints.
+/// How a run that is given a declaration and a certificate ends, and what it prints.
 pub(crate) fn check<A: Allocator + Copy>(
     alloc: A,
     seed: u64,

@@ -1,6 +1,6 @@
 //! The command `deadlock`: from the bytes of a declaration and an assignment to the bytes of the verdict on it.
 //!
-//! The declaration is read first and the assignment next, both before one is judged, and the answer is made whole before the
+//! The declaration is read first and the assignment next, both before either is judged. The answer is built in full before the
 //! first byte is written. It takes the time of reading the texts, of the verdict and of writing the answer.
 
 ghost use Rattle.std.specs.Prelude.{◌≡◌, ◌≢◌, ◌≤◌, ◌+◌, ◌⊎◌, ℕ, List, Err, IfOk};
@@ -19,15 +19,15 @@ use std::alloc::Allocator;
 use std::io::{Read, Write};
 use wq_meter::{Fault, Metered};
 
-/// Reads a declaration and then an assignment to their ends, and writes whether the assignment is safe: `safe`, or else the
-/// text of a run by which it deadlocks, or the refusal of the first of the two that is refused.
+/// Reads a declaration and then an assignment to their ends, and writes whether the assignment is safe: `safe`, or else the text
+/// of a run by which it deadlocks. Where one of the two is refused, it writes the refusal of the first that is.
 ///
-/// At most 1,048,577 bytes of the declaration and 8,388,609 of the assignment are read, in at most as many calls; the
-/// assignment is untouched until the declaration has been read to its end. The errors are `Fault::Read`, where a read failed,
-/// `Fault::Memory`, and `Fault::Write`, where a write failed or took no byte; after the last one a prefix of the answer is
-/// written, and after the others nothing.
+/// At most 1,048,577 bytes of the declaration and 8,388,609 of the assignment are read, in at most as many calls. The assignment
+/// isn't touched until the declaration has been read to its end. The errors are `Fault::Read`, where a read failed,
+/// `Fault::Memory`, where memory ran out, and `Fault::Write`, where a write failed or took no byte. After `Fault::Write` a prefix
+/// of the answer is written, and after the others nothing.
 ///
-/// The names are hashed with `seed`, on which no answer depends.
+/// The names are hashed with `seed`. No answer depends on it.
 pub fn deadlock_cmd<D: Read, S: Read, W: Write, A: Allocator + Copy>(
     alloc: A,
     seed: u64,
@@ -54,7 +54,7 @@ pub fn deadlock_cmd<D: Read, S: Read, W: Write, A: Allocator + Copy>(
     ensures reads { (declaration.new.calls ≤ declaration.old.calls + (max_declaration + 1)) × (assignment.new.calls ≤ assignment.old.calls + (max_certificate + 1)) }
     ensures bytes_read { (declaration.new.bytes ≤ declaration.old.bytes + (max_declaration + 1)) × (assignment.new.bytes ≤ assignment.old.bytes + (max_certificate + 1)) }
 
-    // Which fault it is, and of which reader.
+    // Which fault it is, and which reader's.
     ensures read_failed { result ≡ Err Fault.Read →
         (HasFailed declaration.old declaration.new × (assignment.new ≡ assignment.old))
         ⊎ (HasGiven D.remaining declaration.old declaration.new max_declaration × HasFailed assignment.old assignment.new) }

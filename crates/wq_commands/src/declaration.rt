@@ -1,6 +1,6 @@
 //! The four passes over a declaration text, one after the other.
 //!
-//! It takes time in the length of the text, and memory in the items and the flushes.
+//! They take time in the length of the text, and memory in the number of items and flushes.
 
 ghost use Rattle.std.specs.Prelude.{◌≡◌, Ok, Err, None, Result, IfOk, IfErr};
 ghost use Rattle.wq_text.specs.Lines.{lines_of};
@@ -20,7 +20,7 @@ use wq_text::{Text, TextError};
 /// How many bytes a declaration may have.
 pub const MAX_DECLARATION: u32 = 1_048_576;
 
-/// How many bytes a line of it may have, its line feed and a carriage return before that not counted.
+/// How many bytes a line of it may have, without its line feed and a carriage return before that.
 const MAX_DECLARATION_LINE: u32 = 4096;
 
 /// What a text declares: its items with their flushes, and their groups.
@@ -33,7 +33,7 @@ pub struct Declaration<'a, A: Allocator> {
 /// Why a text declares nothing.
 #[derive(Clone, Copy, Debug, PartialEq, Eq)]
 pub enum Stop {
-    /// The text is refused, for the fault of this number on this line, or on line 0 where no line is meant.
+    /// The text is refused for the fault of this number on this line. The line is 0 where no line is meant.
     Refused { code: u32, line: u32 },
     /// Memory ran out.
     OutOfMemory,
@@ -89,10 +89,10 @@ impl From<GroupError> for Stop {
     }
 }
 
-/// What a text declares. The names are hashed with this seed, on which no answer depends.
+/// Reads what a text declares. The names are hashed with this seed; no answer depends on it.
 ///
-/// The answer is the first fault of the first pass that has one, or `OutOfMemory` where a growth was refused before
-/// it: then no earlier pass has a fault.
+/// The error is the first fault of the first pass that has one, or `OutOfMemory`, where a growth was refused before it: then no
+/// earlier pass has a fault.
 #[tactic(auto, using(crate::proofs::StopLemmas::ran_out_of_groups))]
 pub fn read_declaration<A: Allocator + Copy>(
     alloc: A,

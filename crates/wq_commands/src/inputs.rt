@@ -1,6 +1,6 @@
 //! The texts of a command, read one after another: a declaration, and a certificate, or an assignment and a run.
 //!
-//! It takes time and memory in the bytes that come.
+//! It takes time and memory in the number of bytes that arrive.
 
 ghost use Rattle.std.specs.Prelude.{◌≡◌, ◌≢◌, ◌≤◌, ◌+◌, ◌⊎◌, Err, IfOk};
 ghost use Rattle.wq_meter.specs.Meter.{LosesPrefix};
@@ -13,18 +13,18 @@ use std::alloc::Allocator;
 use std::io::Read;
 use wq_meter::{Fault, Metered, read_text};
 
-/// How many bytes a certificate, an assignment or a run may have.
+/// How many bytes a certificate, an assignment or a run may have: 8 MiB.
 const MAX_CERTIFICATE: u32 = 8_388_608;
 
 /// Reads a declaration and then a certificate, each to its end or to the first byte too many.
 ///
-/// The errors are `Fault::Read`, where a read failed, and `Fault::Memory`.
+/// The errors are `Fault::Read`, where a read failed, and `Fault::Memory`, where memory ran out.
 pub fn read_two<D: Read, C: Read, A: Allocator + Copy>(
     alloc: A,
     declaration: &mut Metered<D>,
     certificate: &mut Metered<C>,
 ) -> Result<(Vec<u8, A>, Vec<u8, A>), Fault>
-    // What comes.
+    // What arrives.
     ensures declared { IfOk result (λ texts. HasGivenBytes D.remaining declaration.old declaration.new max_declaration texts.0.items) }
     ensures certified { IfOk result (λ texts. HasGivenBytes C.remaining certificate.old certificate.new max_certificate texts.1.items) }
 
@@ -35,7 +35,7 @@ pub fn read_two<D: Read, C: Read, A: Allocator + Copy>(
     ensures reads { (declaration.new.calls ≤ declaration.old.calls + (max_declaration + 1)) × (certificate.new.calls ≤ certificate.old.calls + (max_certificate + 1)) }
     ensures bytes_read { (declaration.new.bytes ≤ declaration.old.bytes + (max_declaration + 1)) × (certificate.new.bytes ≤ certificate.old.bytes + (max_certificate + 1)) }
 
-    // Which fault it is, and of which reader.
+    // Which fault it is, and which reader's.
     ensures read_failed { result ≡ Err Fault.Read →
         (HasFailed declaration.old declaration.new × (certificate.new ≡ certificate.old))
         ⊎ (HasGiven D.remaining declaration.old declaration.new max_declaration × HasFailed certificate.old certificate.new) }
@@ -50,14 +50,14 @@ pub fn read_two<D: Read, C: Read, A: Allocator + Copy>(
 
 /// Reads a declaration, then an assignment and then a run, each to its end or to the first byte too many.
 ///
-/// The errors are `Fault::Read`, where a read failed, and `Fault::Memory`.
+/// The errors are `Fault::Read`, where a read failed, and `Fault::Memory`, where memory ran out.
 pub(crate) fn read_three<D: Read, S: Read, R: Read, A: Allocator + Copy>(
     alloc: A,
     declaration: &mut Metered<D>,
     assignment: &mut Metered<S>,
     run: &mut Metered<R>,
 ) -> Result<(Vec<u8, A>, Vec<u8, A>, Vec<u8, A>), Fault>
-    // What comes.
+    // What arrives.
     ensures declared { IfOk result (λ texts. HasGivenBytes D.remaining declaration.old declaration.new max_declaration texts.0.items) }
     ensures assigned { IfOk result (λ texts. HasGivenBytes S.remaining assignment.old assignment.new max_certificate texts.1.items) }
     ensures listed { IfOk result (λ texts. HasGivenBytes R.remaining run.old run.new max_certificate texts.2.items) }
@@ -74,7 +74,7 @@ pub(crate) fn read_three<D: Read, S: Read, R: Read, A: Allocator + Copy>(
     ensures bytes_read { (declaration.new.bytes ≤ declaration.old.bytes + (max_declaration + 1))
         × (assignment.new.bytes ≤ assignment.old.bytes + (max_certificate + 1)) × (run.new.bytes ≤ run.old.bytes + (max_certificate + 1)) }
 
-    // Which fault it is, and of which reader.
+    // Which fault it is, and which reader's.
     ensures read_failed { result ≡ Err Fault.Read →
         (HasFailed declaration.old declaration.new × (assignment.new ≡ assignment.old) × (run.new ≡ run.old))
         ⊎ (HasGiven D.remaining declaration.old declaration.new max_declaration × HasFailed assignment.old assignment.new × (run.new ≡ run.old))

@@ -1,6 +1,6 @@
-//! The answer to a declaration and an assignment, made whole in memory.
+//! The answer to a declaration and an assignment, built in full in memory.
 //!
-//! The rule is that of "Deadlocking runs" in docs/FORMAT.md. It takes the time and the memory of reading the two and of the
+//! The rule is that of "Deadlocking runs" in docs/FORMAT.md. It takes the time and the memory of reading the two texts and of the
 //! verdict, whose run has 45,056 steps at most.
 
 ghost use Rattle.std.specs.Prelude.{◌≡◌, IfOk, length};
@@ -52,7 +52,7 @@ fn deadlock_text<A: Allocator + Copy>(
     run_text(alloc, table, steps)
 }
 
-/// How a run of the program ends that has this verdict on an assignment, and what it prints.
+/// How a run of the program that has this verdict on an assignment ends, and what it prints.
 fn print_verdict<A: Allocator + Copy>(
     alloc: A,
     table: &ItemTable<'_, A>,
@@ -77,7 +77,7 @@ fn print_verdict<A: Allocator + Copy>(
     }
 }
 
-/// How a run of the program ends that is given an assignment of these groups, and what it prints.
+/// How a run of the program that is given an assignment of these groups ends, and what it prints.
 fn judge_assigned<A: Allocator + Copy>(
     alloc: A,
     table: &ItemTable<'_, A>,
@@ -92,7 +92,7 @@ fn judge_assigned<A: Allocator + Copy>(
     print_verdict(alloc, table, groups, assignment, &verdict)
 }
 
-/// How a run of the program ends that is given the text of an assignment of these groups, and what it prints.
+/// How a run of the program that is given the text of an assignment of these groups ends, and what it prints.
 fn judge_declared<A: Allocator + Copy>(
     alloc: A,
     table: &ItemTable<'_, A>,
@@ -107,7 +107,7 @@ fn judge_declared<A: Allocator + Copy>(
     match read_assignment(alloc, text, table, groups) {
         Ok(assignment) => {
             let answer = judge_assigned(alloc, table, groups, &assignment);
-            // Said as a call, so that the proof has one step for it.
+            // Written as a call, so that the proof has one step for it.
             drop(assignment);
             answer
         }
@@ -116,7 +116,7 @@ fn judge_declared<A: Allocator + Copy>(
     }
 }
 
-/// How a run of the program ends that is given the texts of a declaration and an assignment, and what it prints.
+/// How a run of the program that is given the texts of a declaration and an assignment ends, and what it prints.
 pub(crate) fn judge<A: Allocator + Copy>(
     alloc: A,
     seed: u64,

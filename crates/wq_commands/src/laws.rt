@@ -1,6 +1,6 @@
-//! Laws of answers, as contracts of functions with empty bodies, and worked examples.
+//! Laws about answers, as contracts of functions with empty bodies, and worked examples.
 //!
-//! The examples are computed on the definitions, so that a reader can hold these against the format's own.
+//! The examples are computed by the definitions, so that a reader can compare them with those of the format.
 
 ghost use Rattle.std.specs.Prelude.{◌≡◌, ℕ, ◌+◌, ◌<◌, ◌≤◌, List, length, take, codes, Ok, Err};
 ghost use Rattle.wq_items.specs.Table.{IsTable};
@@ -36,16 +36,16 @@ pub fn a_text_has_one_answer()
     ensures out { (text : List ℕ) (end other : End) (out printed : List ℕ) → Answers text end out → Answers text other printed → out ≡ printed }
 {}
 
-/// An answer keeps what it promises. Of a plan text: the assignment that it spells lets no run end stuck, every assignment
-/// to fewer workqueues has a run that ends stuck, with each item queued once and flushing as declared, and the printed arcs
-/// are those of a chain of as many groups as there are workqueues. Of a circle text: its arcs go round groups, the run that
-/// it spells is such a run where each group has a workqueue of its own, and every assignment has such a run.
+/// An answer keeps what it promises. For a plan text: the assignment that it spells lets no run end stuck; every assignment to
+/// fewer workqueues has a run that ends stuck, with each item queued once and flushing as declared; and the printed arcs are
+/// those of a chain of as many groups as there are workqueues. For a circle text: its arcs go round groups; the run that it
+/// spells is such a run where each group has a workqueue of its own; and every assignment has such a run.
 pub fn an_answer_keeps_its_promise()
     ensures { (text : List ℕ) (end : End) (out : List ℕ) → Answers text end out → KeepsPromise text end out }
 {}
 
-/// What is promised of the printed bytes, that they spell a plan or a circle, is so of what is read from them: `read_answer`
-/// reads exactly this plan or this circle, `read_assignment` the assignment of the plan, and the checker calls it good.
+/// The promise that the printed bytes spell a plan or a circle holds for what is read from them: `read_answer` reads exactly this
+/// plan or this circle, `read_assignment` the assignment of the plan, and the checker calls it good.
 pub fn what_is_promised_is_read()
     ensures plan { (text out : List ℕ) (s : Declared) → declaration text ≡ Ok s → (kept : KeepsPlan s out) →
         IsReadAsGoodPlan s out kept.plan }
@@ -53,16 +53,16 @@ pub fn what_is_promised_is_read()
         IsReadAsGoodCircle s out kept.circle }
 {}
 
-/// What `plan` prints is answered with yes: of a plan of K workqueues `check` prints `yes K`, and of a circle of N arcs with
+/// What `plan` prints is answered with yes: for a plan of K workqueues `check` prints `yes K`, and for a circle of N arcs with
 /// its run `yes circle N`.
 pub fn a_printed_answer_is_checked_with_yes()
     ensures { (text out : List ℕ) (end : End) → Answers text end out → ChecksYes text out end }
 {}
 
-/// A yes that `check` prints is true. To a plan it is `yes K`, with K the workqueues of the assignment that is read from the
-/// certificate: no run of this one ends stuck, and every assignment to fewer workqueues has a run that ends stuck, with each
-/// item queued once and flushing as declared. To a circle it is `yes circle N`, with N the arcs that are read: they go round
-/// groups, and every assignment has such a run.
+/// A yes that `check` prints is true. For a plan it is `yes K`, where K is the number of workqueues of the assignment that is
+/// read from the certificate: no run of this assignment ends stuck, and every assignment to fewer workqueues has a run that ends
+/// stuck, with each item queued once and flushing as declared. For a circle it is `yes circle N`, where N is the number of arcs
+/// that are read: they go round groups, and every assignment has such a run.
 pub fn a_printed_yes_is_true()
     ensures { (text claim out : List ℕ) → Checks text claim Good out → YesIsTrue text claim out }
 {}
@@ -72,7 +72,7 @@ pub fn a_text_has_an_answer()
     ensures { (text : List ℕ) → (end : End) × (out : List ℕ) × Answers text end out }
 {}
 
-/// Texts that are too long are all refused alike, and the bytes up to the first one too many show it: what comes after
+/// Texts that are too long are all refused in the same way, and the bytes up to the first one too many show it. What comes after
 /// them changes no answer.
 pub fn a_long_text_is_refused_by_its_prefix()
     ensures refused { (text : List ℕ) → max_declaration < length text → declaration text ≡ Err (record { code = 1; line = 0 }) }
@@ -104,17 +104,18 @@ pub fn a_circle_text_is_within_the_limits()
         All (λ (line : LineView). length line.bytes ≤ 524288) (lines_of (text_of_circle s circle steps)) }
 {}
 
-/// Of two items the one that flushes the other is on the workqueue above it.
+/// Of two items, the one that flushes the other is on the workqueue above.
 pub fn two_items_take_two_workqueues()
     ensures { Answers (codes "item a\nitem b\nflush a b\n") Good (codes "plan 2\nwq 0 b\nwq 1 a\nchain 2\narc a b\n") }
 {}
 
-/// A name is known from the line on that declares it.
+/// A name is known from the line that declares it on.
 pub fn a_use_before_its_declaration_is_refused()
     ensures { Answers (codes "item a\nflush a b\nitem b\n") Refused (codes "refused 8 line 2\n") }
 {}
 
-/// Blanks, comments and a carriage return before a line feed change no answer, nor does a last line feed that is missing.
+/// Blanks, comments and a carriage return before a line feed change no answer. Nor does it matter if the last line feed is
+/// missing.
 pub fn blanks_comments_and_carriage_returns_change_no_answer()
     ensures { Answers (codes "item a # x\r\n\titem\tb\r\nflush a b") Good (codes "plan 2\nwq 0 b\nwq 1 a\nchain 2\narc a b\n") }
 {}
@@ -130,21 +131,20 @@ pub fn an_item_that_flushes_itself_is_a_circle()
         (codes "circle 1\narc a a\nrun 3\nqueue a\nstart 0 a\nwait 0 a\n") }
 {}
 
-/// So has a group in which one item flushes another: an ordered workqueue executes one item at a time.
+/// A group in which one item flushes another is a circle too: an ordered workqueue executes one item at a time.
 pub fn a_flush_within_an_ordered_line_is_a_circle()
     ensures { Answers (codes "item a\nitem b\nordered a b\nflush a b\n") Bad
         (codes "circle 1\narc a b\nrun 4\nqueue a\nqueue b\nstart 0 a\nwait 0 b\n") }
 {}
 
-/// A declaration and an assignment have one verdict, and no other: one end, and one text that is printed.
+/// A declaration and an assignment have only one verdict: one end, and one text that is printed.
 pub fn an_assignment_has_one_verdict()
     ensures one { (declared text : List ℕ) → (end : End) × (out : List ℕ) × Judges declared text end out }
     ensures end { (declared text : List ℕ) (end other : End) (out printed : List ℕ) → Judges declared text end out → Judges declared text other printed → end ≡ other }
     ensures out { (declared text : List ℕ) (end other : End) (out printed : List ℕ) → Judges declared text end out → Judges declared text other printed → out ≡ printed }
 {}
 
-/// The run that `deadlock` prints is read back: of the same declaration and the same assignment `replay` answers `deadlock`
-/// to it.
+/// The run that `deadlock` prints is read back: given the same declaration and assignment, `replay` answers `deadlock` to it.
 pub fn a_printed_run_is_replayed_to_a_deadlock()
     ensures { (declared text out : List ℕ) → Judges declared text Bad out → Replays declared text out Bad (line_text (replay_words Deadlock)) }
 {}
@@ -157,7 +157,7 @@ pub fn a_check_has_one_answer()
         Checks text claim end out → Checks text claim other printed → out ≡ printed }
 {}
 
-/// They have an answer.
+/// A declaration and a certificate have an answer of `check`.
 pub fn a_check_has_an_answer()
     ensures { (text claim : List ℕ) → (end : End) × (out : List ℕ) × Checks text claim end out }
 {}
@@ -170,14 +170,14 @@ pub fn a_replay_has_one_answer()
         Replays text lanes steps end out → Replays text lanes steps other printed → out ≡ printed }
 {}
 
-/// They have an answer.
+/// A declaration, an assignment and a run have an answer of `replay`.
 pub fn a_replay_has_an_answer()
     ensures { (text lanes steps : List ℕ) → (end : End) × (out : List ℕ) × Replays text lanes steps end out }
 {}
 
-/// What a text declares is a declaration: one list of flushes and one group for each item, and at most 16,384 flushes, each
-/// of an item and at a place of its own. Its table and its groups are what the laws on tables and groups ask for, with a group
-/// for each item of the table.
+/// What a text declares is a declaration: it has one list of flushes and one group for each item, and at most 16,384 flushes,
+/// each of an item and at a place of its own. Its table and its groups meet the preconditions of the laws about tables and
+/// groups, with a group for each item of the table.
 pub fn what_a_text_declares_is_a_declaration()
     ensures declared { (text : List ℕ) (s : Declared) → declaration text ≡ Ok s → IsDeclaration (declared_waits s) }
     ensures table { (text : List ℕ) (s : Declared) → declaration text ≡ Ok s → IsTable s.table }

@@ -1,8 +1,8 @@
 //! The commands of the program, over any reader and any writer.
 //!
-//! What the program relies on: the bytes written are the answer text of the bytes read. The commands are those of
-//! docs/FORMAT.md; what a run reads and writes is bounded and counted. A command takes the time of reading its texts, of
-//! answering them and of writing the answer.
+//! What the program relies on: the bytes written are the answer text to the bytes read. The commands are those of docs/FORMAT.md.
+//! What a run reads and writes is bounded and counted. A command takes the time of reading its texts, of answering them and of
+//! writing the answer.
 #![tactic(auto)]
 
 mod answer;

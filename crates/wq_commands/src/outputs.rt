@@ -1,6 +1,6 @@
-//! An answer that was made whole in memory, written.
+//! Writing an answer that was built in full in memory.
 //!
-//! It takes time in the bytes that are written.
+//! It takes time in the number of bytes that are written.
 
 ghost use Rattle.std.specs.Prelude.{◌≡◌, ◌≢◌, Err, IfOk, IsOkAnd};
 ghost use Rattle.wq_meter.specs.Meter.{count_after, WritesPrefix, WritesWhole};

@@ -1,6 +1,6 @@
 //! The command `plan`: from the bytes of a declaration to the bytes of its answer.
 //!
-//! The answer is made whole before the first byte is written.
+//! The answer is built in full before the first byte is written.
 
 ghost use Rattle.std.specs.Prelude.{◌≡◌, ◌≢◌, ◌≤◌, ◌+◌, ℕ, List, Err, IfOk};
 ghost use Rattle.wq_commands.specs.Declaration.{max_declaration};
@@ -16,14 +16,14 @@ use std::alloc::Allocator;
 use std::io::{Read, Write};
 use wq_meter::{Fault, Metered, read_text};
 
-/// Reads a declaration to its end and writes its answer: the text of its plan, that of the circle in which its groups
-/// wait, with a run that shows it, or its refusal.
+/// Reads a declaration to its end and writes its answer: the text of its plan, or that of the circle in which its groups wait,
+/// with a run that shows it, or the refusal.
 ///
 /// At most 1,048,577 bytes are read, in at most as many calls. The errors are `Fault::Read`, where a read failed,
-/// `Fault::Memory`, and `Fault::Write`, where a write failed or took no byte; after the last one a prefix of the answer
-/// is written, and after the others nothing.
+/// `Fault::Memory`, where memory ran out, and `Fault::Write`, where a write failed or took no byte. After `Fault::Write` a prefix
+/// of the answer is written, and after the others nothing.
 ///
-/// The names are hashed with `seed`, on which no answer depends.
+/// The names are hashed with `seed`. No answer depends on it.
 pub fn plan_cmd<R: Read, W: Write, A: Allocator + Copy>(
     alloc: A,
     seed: u64,

@@ -1,6 +1,6 @@
-//! What is printed for a text that is refused.
+//! What is printed where a text is refused.
 //!
-//! Takes constant time.
+//! It takes constant time.
 
 ghost use Rattle.std.specs.Prelude.{◌≡◌, IfOk};
 ghost use Rattle.wq_commands.specs.Answer.{refusal_text, IsRefused};
@@ -26,7 +26,7 @@ pub(crate) fn refusal_text<A: Allocator + Copy>(
     Ok(out)
 }
 
-/// How a run ends whose text is refused, and what it prints. The only error is out of memory (20).
+/// How a run whose text is refused ends, and what it prints. The only error is out of memory (20).
 pub fn refuse<A: Allocator + Copy>(
     alloc: A,
     code: u32,

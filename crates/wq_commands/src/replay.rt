@@ -1,6 +1,6 @@
 //! The command `replay`: from the bytes of a declaration, an assignment and a run to how the run ends.
 //!
-//! The declaration is read first, then the assignment and then the run, all before one is judged, and the answer is made whole
+//! The declaration is read first, then the assignment and then the run, all before any is judged. The answer is built in full
 //! before the first byte is written. It takes the time of reading the texts, of judging them and making the steps, and of writing
 //! the answer.
 
@@ -20,15 +20,15 @@ use std::alloc::Allocator;
 use std::io::{Read, Write};
 use wq_meter::{Fault, Metered};
 
-/// Reads a declaration, an assignment and a run to their ends, makes the steps of the run, and writes how that ends:
-/// `open`, `deadlock`, `stuck` or `not lawful N`, or the refusal of the first of the three that is refused.
+/// Reads a declaration, an assignment and a run to their ends, makes the steps of the run, and writes how it ends: `open`,
+/// `deadlock`, `stuck` or `not lawful N`. Where one of the three is refused, it writes the refusal of the first that is.
 ///
-/// At most 1,048,577 bytes of the declaration and 8,388,609 of each of the others are read, in at most as many calls; each
-/// is untouched until those before it have been read to their ends. The errors are `Fault::Read`, where a read failed,
-/// `Fault::Memory`, and `Fault::Write`, where a write failed or took no byte; after the last one a prefix of the answer is
-/// written, and after the others nothing.
+/// At most 1,048,577 bytes of the declaration and 8,388,609 of each of the others are read, in at most as many calls. Each isn't
+/// touched until those before it have been read to their ends. The errors are `Fault::Read`, where a read failed,
+/// `Fault::Memory`, where memory ran out, and `Fault::Write`, where a write failed or took no byte. After `Fault::Write` a prefix
+/// of the answer is written, and after the others nothing.
 ///
-/// The names are hashed with `seed`, on which no answer depends.
+/// The names are hashed with `seed`. No answer depends on it.
 pub fn replay_cmd<D: Read, S: Read, R: Read, W: Write, A: Allocator + Copy>(
     alloc: A,
     seed: u64,
@@ -61,7 +61,7 @@ pub fn replay_cmd<D: Read, S: Read, R: Read, W: Write, A: Allocator + Copy>(
     ensures bytes_read { (declaration.new.bytes ≤ declaration.old.bytes + (max_declaration + 1))
         × (assignment.new.bytes ≤ assignment.old.bytes + (max_certificate + 1)) × (run.new.bytes ≤ run.old.bytes + (max_certificate + 1)) }
 
-    // Which fault it is, and of which reader.
+    // Which fault it is, and which reader's.
     ensures read_failed { result ≡ Err Fault.Read →
         (HasFailed declaration.old declaration.new × (assignment.new ≡ assignment.old) × (run.new ≡ run.old))
         ⊎ (HasGiven D.remaining declaration.old declaration.new max_declaration × HasFailed assignment.old assignment.new × (run.new ≡ run.old))

@@ -1,6 +1,6 @@
-//! The answer to a declaration, an assignment and a run, made whole in memory.
+//! The answer to a declaration, an assignment and a run, built in full in memory.
 //!
-//! It takes the time and the memory of reading the three and of making the steps.
+//! It takes the time and the memory of reading the three texts and of making the steps.
 
 ghost use Rattle.std.specs.Prelude.{◌≡◌, ◌∷◌, [], ◌<◌, IfOk, length, codes, decimal};
 ghost use Rattle.wq_lines.specs.LineText.{line_text};
@@ -50,7 +50,7 @@ fn replay_text<A: Allocator + Copy>(alloc: A, end: RunEnd) -> Result<Vec<u8, A>,
     }
 }
 
-/// What a run's end is for the program: good where it isn't stuck.
+/// Which end of the program a run's end is: good where the run isn't stuck.
 fn replay_end(end: RunEnd) -> End
     ensures { result ≡ replay_end end }
 {
@@ -60,7 +60,7 @@ fn replay_end(end: RunEnd) -> End
     }
 }
 
-/// How a run of the program ends that makes these steps, and what it prints.
+/// How a run of the program that makes these steps ends, and what it prints.
 fn replay_steps<A: Allocator + Copy>(
     alloc: A,
     table: &ItemTable<'_, A>,
@@ -78,7 +78,7 @@ fn replay_steps<A: Allocator + Copy>(
     Ok((replay_end(end), text))
 }
 
-/// How a run of the program ends that is given an assignment of these groups and the text of a run, and what it prints.
+/// How a run of the program that is given an assignment of these groups and the text of a run ends, and what it prints.
 fn replay_assigned<A: Allocator + Copy>(
     alloc: A,
     table: &ItemTable<'_, A>,
@@ -96,7 +96,7 @@ fn replay_assigned<A: Allocator + Copy>(
     match read_run(alloc, text, table) {
         Ok(steps) => {
             let answer = replay_steps(alloc, table, groups, assignment, steps.as_slice());
-            // Said as a call, so that the proof has one step for it.
+            // Written as a call, so that the proof has one step for it.
             drop(steps);
             answer
         }
@@ -105,7 +105,7 @@ fn replay_assigned<A: Allocator + Copy>(
     }
 }
 
-/// How a run of the program ends that is given the texts of an assignment of these groups and of a run, and what it prints.
+/// How a run of the program that is given the texts of an assignment of these groups and of a run ends, and what it prints.
 fn replay_declared<A: Allocator + Copy>(
     alloc: A,
     table: &ItemTable<'_, A>,
@@ -130,7 +130,7 @@ fn replay_declared<A: Allocator + Copy>(
     }
 }
 
-/// How a run of the program ends that is given the texts of a declaration, an assignment and a run, and what it prints.
+/// How a run of the program that is given the texts of a declaration, an assignment and a run ends, and what it prints.
 pub(crate) fn replay<A: Allocator + Copy>(
     alloc: A,
     seed: u64,

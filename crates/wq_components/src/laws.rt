@@ -1,4 +1,4 @@
-//! Laws of the lowest-numbered vertices. No code runs here: the clauses are the laws.
+//! Laws about the lowest-numbered vertices. No code runs here: the clauses are the laws.
 
 ghost use Rattle.std.specs.Prelude.{◌≡◌, ◌≤◌, ◌↔◌, ℕ, ◌<◌, List, length, slice_index};
 ghost use Rattle.wq_graph.specs.declared.arc.WaitArc.{WaitArc};

@@ -1,4 +1,4 @@
-//! Laws of the machine, as contracts of functions with empty bodies.
+//! Laws about the machine, as contracts of functions with empty bodies.
 //!
 //! They are said of wirings, runs and states alone, whatever code makes the steps.
 

@@ -1,4 +1,4 @@
-//! Laws of counts, as contracts of functions with empty bodies.
+//! Laws about counts, as contracts of functions with empty bodies.
 //!
 //! They are said of lists of counts and of rows alone, whatever code counts them.
 

@@ -1,4 +1,4 @@
-//! Laws of verdicts, as contracts of functions with empty bodies. No code runs here: the clauses are the laws.
+//! Laws about verdicts, as contracts of functions with empty bodies. No code runs here: the clauses are the laws.
 ghost use Rattle.std.specs.Prelude.{◌≡◌, ℕ, ◌+◌, ◌*◌, ◌≤◌, ◌↔◌, ◌⊎◌, List, length};
 ghost use Rattle.std.specs.List.{All};
 ghost use Rattle.wq_items.specs.Table.{flush_count};

@@ -286,7 +286,7 @@ fn of_refused<A: Allocator + Copy>(
 ///
 /// The only error is out of memory (20).
 ///
-/// The names are hashed with `seed`, on which no answer depends.
+/// The names are hashed with `seed`. No answer depends on it.
 pub fn of_declaration<A: Allocator + Copy>(
     alloc: A,
     seed: u64,
@@ -383,7 +383,7 @@ fn of_certificate_for<A: Allocator + Copy>(
 ///
 /// The only error is out of memory (20).
 ///
-/// The names are hashed with `seed`, on which no answer depends.
+/// The names are hashed with `seed`. No answer depends on it.
 pub fn of_certificate<A: Allocator + Copy>(
     alloc: A,
     seed: u64,
@@ -479,7 +479,7 @@ fn of_no_for<A: Allocator + Copy>(
 ///
 /// The only error is out of memory (20).
 ///
-/// The names are hashed with `seed`, on which no answer depends.
+/// The names are hashed with `seed`. No answer depends on it.
 pub fn of_no<A: Allocator + Copy>(
     alloc: A,
     seed: u64,

@@ -1,4 +1,4 @@
-//! The answer to a declaration and an assignment, or to a declaration alone, made whole in memory.
+//! The answer to a declaration and an assignment, or to a declaration alone, built in full in memory.
 //!
 //! The rule is that of "The command `dot`" in docs/FORMAT.md. It takes the time and the memory of reading the texts, of the plan,
 //! of the components and of the drawing.
@@ -172,7 +172,7 @@ fn draw_groups<A: Allocator + Copy>(
     draw_answer(alloc, table, groups, &answer)
 }
 
-/// How a run of the program ends that is given an assignment of these groups, and what it prints.
+/// How a run of the program that is given an assignment of these groups ends, and what it prints.
 fn draw_assigned<A: Allocator + Copy>(
     alloc: A,
     table: &ItemTable<'_, A>,
@@ -188,7 +188,7 @@ fn draw_assigned<A: Allocator + Copy>(
     Ok((End::Good, text))
 }
 
-/// How a run of the program ends that is given no assignment of these groups, and what it prints.
+/// How a run of the program that is given no assignment of these groups ends, and what it prints.
 fn draw_unassigned<A: Allocator + Copy>(
     alloc: A,
     table: &ItemTable<'_, A>,
@@ -201,7 +201,7 @@ fn draw_unassigned<A: Allocator + Copy>(
     Ok((End::Good, text))
 }
 
-/// How a run of the program ends that is given the text of an assignment of these groups, and what it prints.
+/// How a run of the program that is given the text of an assignment of these groups ends, and what it prints.
 fn draw_declared<A: Allocator + Copy>(
     alloc: A,
     table: &ItemTable<'_, A>,
@@ -216,7 +216,7 @@ fn draw_declared<A: Allocator + Copy>(
     match read_assignment(alloc, text, table, groups) {
         Ok(assignment) => {
             let answer = draw_assigned(alloc, table, groups, &assignment);
-            // Said as a call, so that the proof has one step for it.
+            // Written as a call, so that the proof has one step for it.
             drop(assignment);
             answer
         }
@@ -225,7 +225,7 @@ fn draw_declared<A: Allocator + Copy>(
     }
 }
 
-/// How a run of the program ends that is given the texts of a declaration and an assignment, and what it prints.
+/// How a run of the program that is given the texts of a declaration and an assignment ends, and what it prints.
 pub(crate) fn draw<A: Allocator + Copy>(
     alloc: A,
     seed: u64,
@@ -245,7 +245,7 @@ pub(crate) fn draw<A: Allocator + Copy>(
     }
 }
 
-/// How a run of the program ends that is given the text of a declaration alone, and what it prints.
+/// How a run of the program that is given the text of a declaration alone ends, and what it prints.
 pub(crate) fn draw_own<A: Allocator + Copy>(
     alloc: A,
     seed: u64,

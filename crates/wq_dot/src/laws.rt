@@ -1,4 +1,4 @@
-//! Laws of drawings, as contracts of functions with empty bodies. No code runs here: the clauses are the laws.
+//! Laws about drawings, as contracts of functions with empty bodies. No code runs here: the clauses are the laws.
 
 ghost use Rattle.std.specs.Prelude.{◌≡◌, ℕ, List};
 ghost use Rattle.wq_commands.specs.declared.end.End.{End};

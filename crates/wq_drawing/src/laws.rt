@@ -1,4 +1,4 @@
-//! Laws of drawings, as contracts of functions with empty bodies.
+//! Laws about drawings, as contracts of functions with empty bodies.
 //!
 //! `Drawing` puts the lines one after the other. Here is what that comes to for an item and for a flush, as "The command
 //! `dot`" in docs/FORMAT.md says it.

@@ -1,6 +1,6 @@
 //! The command `explain`: from a word to what it means, and the list of all that is explained.
 //!
-//! The rule is that of docs/FORMAT.md, "The command `explain`". The text is made whole before its first byte is written, and
+//! The rule is that of docs/FORMAT.md, "The command `explain`". The text is built in full before its first byte is written, and
 //! nothing is read. It takes time and memory in the text.
 
 ghost use Rattle.std.specs.Prelude.{◌≡◌, ◌≢◌, ◌++◌, Err, IfOk, map, option_map};

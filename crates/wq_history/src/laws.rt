@@ -1,4 +1,4 @@
-//! Laws of histories, as contracts of functions with empty bodies.
+//! Laws about histories, as contracts of functions with empty bodies.
 //!
 //! They are said of rows alone, whatever code wrote them.
 

@@ -1,4 +1,4 @@
-//! Laws of plans, as contracts of functions with empty bodies; those of chains and circles are in `wq_items`.
+//! Laws about plans, as contracts of functions with empty bodies; those of chains and circles are in `wq_items`.
 //!
 //! No code runs here.
 

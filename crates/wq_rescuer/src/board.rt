@@ -1,6 +1,6 @@
 //! The jobs of all threads, and what the threads hand back.
 //!
-//! Making the jobs takes time in the number of lanes and callers, and no memory, since their room was made before.
+//! Making the jobs takes time in the number of lanes and callers. It takes no memory, since room for them was made before.
 
 ghost use Rattle.std.specs.Prelude.{◌≡◌, ℕ, ◌+◌, ◌*◌, ◌<◌, ◌≤◌, replicate, [], vec_len, vec_capacity};
 ghost use Rattle.std.specs.List.{All};
@@ -14,7 +14,7 @@ use std::alloc::Allocator;
 use wq_api::{Naming, Seat};
 use wq_groups::LaneId;
 
-/// The jobs that no thread has taken yet, the next one last, and what came back, the latest last.
+/// The jobs that no thread has taken yet (the next one is last), and what came back (the latest is last).
 #[derive(Drop)]
 pub(crate) struct Board<N: Naming, A: Allocator, B: Body + Drop, C: Caller + Drop> {
     pub(crate) lane_jobs: Vec<LaneJob<N, A, B>, A>,
@@ -25,7 +25,7 @@ pub(crate) struct Board<N: Naming, A: Allocator, B: Body + Drop, C: Caller + Dro
     ghost caller_room: { vec_len caller_jobs + vec_len caller_ends ≤ vec_capacity caller_ends },
 }
 
-/// The jobs of lanes, the first lane's last. Each takes the last seat that is left.
+/// Adds the jobs of the lanes, that of the first lane last. Each job takes the last seat that is left.
 pub(crate) fn add_lanes<N: Naming, A: Allocator, B: Body + Drop>(
     jobs: &mut Vec<LaneJob<N, A, B>, A>,
     seats: &mut Vec<Seat<N, A>, A>,
@@ -51,7 +51,7 @@ pub(crate) fn add_lanes<N: Naming, A: Allocator, B: Body + Drop>(
     }
 }
 
-/// The jobs of callers, the first caller's last. Each takes the last seat that is left.
+/// Adds the jobs of the callers, that of the first caller last. Each job takes the last seat that is left.
 pub(crate) fn add_callers<N: Naming, A: Allocator, C: Caller + Drop>(
     jobs: &mut Vec<CallerJob<N, A, C>, A>,
     seats: &mut Vec<Seat<N, A>, A>,

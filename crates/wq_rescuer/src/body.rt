@@ -1,7 +1,7 @@
 //! What runs when an item is executed, and who calls the runtime.
 //!
-//! A body belongs to one rescuer, which calls it for each execution of an item of its lane (`work_func_t` in
-//! include/linux/workqueue.h). It counts its runs, and the rescuer's seat is compared with them.
+//! A body belongs to one rescuer, which calls it for each execution of an item of its workqueue (`work_func_t` in
+//! include/linux/workqueue.h). The body counts its runs, and the rescuer's seat is compared with these counts.
 
 ghost use Rattle.std.specs.Prelude.{◌≡◌, ◌<◌};
 ghost use Rattle.wq_rescuer.specs.Executing.{RanOnce, SameFinished};
@@ -25,15 +25,15 @@ pub struct BodyFault {
 pub trait Body {
     ghost use Rattle.std.specs.Prelude.{ℕ};
 
-    // of how many items it can count the runs
+    // for how many items it can count the runs
     ghost width: { Self → ℕ };
 
     // how often an item ran
     ghost runs: { Self → ℕ → ℕ };
 
-    /// Runs an item once. It may take its time, and wait by the calls of `Work`.
+    /// Runs an item once. It may take any time, and wait by the calls of `Work`.
     ///
-    /// It counts one run of this item, whether it answers or gives up, and leaves what its seat counts as finished.
+    /// It counts one run of this item, whether it succeeds or gives up. What its seat counts as finished it leaves as it is.
     fn run<N: Naming, A: Allocator, R: Wait>(
         &mut self,
         rt: &R,
@@ -54,7 +54,7 @@ pub trait Body {
 
 /// Who calls a runtime, in a thread of its own.
 pub trait Caller {
-    /// Makes its calls. The first refusal that it doesn't handle is its answer.
+    /// Makes the calls. The error is the first refusal that the caller doesn't handle.
     fn call<N: Naming, A: Allocator, R: Wait>(
         &mut self,
         rt: &R,

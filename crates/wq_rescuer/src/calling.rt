@@ -1,4 +1,4 @@
-//! What the thread of a caller takes along and hands back.
+//! What the thread of a caller is given, and what it hands back.
 
 ghost use Rattle.std.specs.Prelude.{◌≡◌, ◌<◌, ◌≤◌, vec_len, vec_capacity, IfOk, OnErr};
 
@@ -42,7 +42,7 @@ impl<N: Naming, A: Allocator, C: Caller + Drop> CallerJob<N, A, C> {
     }
 }
 
-/// Room for the jobs of this many callers and for what they leave, all of it empty.
+/// Room for the jobs of this many callers, and for what they leave. All of it is empty.
 #[derive(Drop)]
 pub(crate) struct CallerRoom<N: Naming, A: Allocator, C: Caller + Drop> {
     pub(crate) jobs: Vec<CallerJob<N, A, C>, A>,
@@ -52,7 +52,7 @@ pub(crate) struct CallerRoom<N: Naming, A: Allocator, C: Caller + Drop> {
 }
 
 impl<N: Naming, A: Allocator + Copy, C: Caller + Drop> CallerRoom<N, A, C> {
-    /// Room for this many callers. The only error is out of memory (20), which can't occur where there is no caller.
+    /// Makes room for this many callers. The only error is out of memory (20), which can't occur where there is no caller.
     pub(crate) fn new(alloc: A, callers: usize) -> Result<Self, AllocError>
         ensures jobs { IfOk result (λ r. (vec_len r.jobs ≡ 0) × (callers ≤ vec_capacity r.jobs)) }
         ensures ends { IfOk result (λ r. (vec_len r.ends ≡ 0) × (callers ≤ vec_capacity r.ends)) }

@@ -1,6 +1,6 @@
-//! What the threads leave, put together: seats, bodies and answers in the order of the lanes and callers, and the sums.
+//! Puts together what the threads leave: seats, bodies and answers in the order of the lanes and callers, and the sums.
 //!
-//! It takes time in the number of lanes and callers, and no memory, since room for all was made before any thread started.
+//! It takes time in the number of lanes and callers. It takes no memory, since room for all was made before any thread started.
 
 ghost use Rattle.std.specs.Prelude.{◌≡◌, ℕ, ◌+◌, ◌≤◌, [], map, take, vec_len, vec_capacity};
 ghost use Rattle.std.specs.List.{sum_by};
@@ -27,7 +27,7 @@ pub(crate) struct Served<N: Naming, A: Allocator, B: Body + Drop> {
     pub(crate) faults: u64,
 }
 
-/// Takes back the lanes that were served, the last one first, into what is empty and has room for them.
+/// Takes back the lanes that were served, the last one first. The lists are empty and have room for them.
 pub(crate) fn gather_lanes<N: Naming, A: Allocator, B: Body + Drop>(
     mut ends: Vec<LaneEnd<N, A, B>, A>,
     mut seats: Vec<Seat<N, A>, A>,
@@ -69,7 +69,7 @@ pub(crate) fn gather_lanes<N: Naming, A: Allocator, B: Body + Drop>(
     }
 }
 
-/// Takes back the callers, the last one first, after the seats of the lanes.
+/// Takes back the callers, the last one first. Their seats come after those of the lanes.
 pub(crate) fn gather_callers<N: Naming, A: Allocator, C: Caller + Drop>(
     mut ends: Vec<CallerEnd<N, A, C>, A>,
     seats: &mut Vec<Seat<N, A>, A>,
@@ -101,7 +101,7 @@ fn keep<T: Drop, A: Allocator>(list: &mut Vec<T, A>, value: T) {
     let _kept = list.push(value);
 }
 
-/// Hands back what came back and the jobs that no thread took, where a thread couldn't be made. There is room for all of it.
+/// Hands back, where a thread couldn't be made, what came back and the jobs that no thread took. There is room for all of it.
 pub(crate) fn hand_back<N: Naming, A: Allocator, B: Body + Drop, C: Caller + Drop>(
     board: Board<N, A, B, C>,
     mut seats: Vec<Seat<N, A>, A>,

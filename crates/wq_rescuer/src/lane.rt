@@ -1,7 +1,7 @@
-//! What the thread of a lane takes along and hands back.
+//! What the thread of a lane is given, and what it hands back.
 //!
-//! What another thread hands back is known by its type alone, so the type says what the rescuer promised of its seat and of
-//! its body.
+//! What another thread hands back is known by its type alone. So the type says what the rescuer promised of its seat and its
+//! body.
 
 ghost use Rattle.std.specs.Prelude.{◌≡◌, ℕ, ◌<◌, ◌≤◌, ◌*◌, [], replicate, vec_len, vec_capacity, IfOk, OnErr};
 ghost use Rattle.wq_core.specs.Wiring.{items};
@@ -61,7 +61,7 @@ impl<N: Naming, A: Allocator, B: Body + Drop> LaneJob<N, A, B> {
     }
 }
 
-/// Room for the jobs of this many lanes and for what they leave, all of it empty.
+/// Room for the jobs of this many lanes, and for what they leave. All of it is empty.
 #[derive(Drop)]
 pub(crate) struct LaneRoom<N: Naming, A: Allocator, B: Body + Drop> {
     pub(crate) jobs: Vec<LaneJob<N, A, B>, A>,
@@ -71,7 +71,7 @@ pub(crate) struct LaneRoom<N: Naming, A: Allocator, B: Body + Drop> {
 }
 
 impl<N: Naming, A: Allocator + Copy, B: Body + Drop> LaneRoom<N, A, B> {
-    /// Room for this many lanes. The only error is out of memory (20), which can't occur where there is no lane.
+    /// Makes room for this many lanes. The only error is out of memory (20), which can't occur where there is no lane.
     pub(crate) fn new(alloc: A, lanes: usize) -> Result<Self, AllocError>
         ensures jobs { IfOk result (λ r. (vec_len r.jobs ≡ 0) × (lanes ≤ vec_capacity r.jobs)) }
         ensures ends { IfOk result (λ r. (vec_len r.ends ≡ 0) × (lanes ≤ vec_capacity r.ends)) }

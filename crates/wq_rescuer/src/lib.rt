@@ -1,6 +1,7 @@
-//! Rescuers: a thread for each workqueue, which runs the bodies of its items, and threads that call the runtime meanwhile.
+//! Rescuers: a thread for each workqueue, which runs the bodies of its items, and threads that meanwhile call the runtime. The
+//! code calls a workqueue a lane.
 //!
-//! What the layer above relies on: a rescuer's seat counts as finished what its body ran, item by item.
+//! What the layer above relies on: for each item, a rescuer's seat counts as finished what its body ran.
 #![tactic(auto)]
 
 mod board;

@@ -1,8 +1,8 @@
-//! The loop of a rescuer: start the next entry of its lane, run its body, finish it (`rescuer_thread` and
+//! The loop of a rescuer: it starts the next entry of its workqueue, runs the body, and finishes the entry (`rescuer_thread` and
 //! `process_one_work` in kernel/workqueue.c).
 //!
-//! It ends when the runtime is closed and nothing is pending in the lane. It takes no memory, and, apart from the bodies and what
-//! it waits for, the time of the runtime's calls.
+//! The loop ends when the runtime is closed and nothing is pending on the workqueue. It takes no memory. Apart from the bodies
+//! and what it waits for, it takes the time of the runtime's calls.
 
 ghost use Rattle.std.specs.Prelude.{◌≡◌, ℕ, ◌+◌, ◌<◌, ◌≤◌, IfOk, OnOk, OnErr};
 ghost use Rattle.wq_core.specs.Wiring.{items};
@@ -26,7 +26,7 @@ pub struct Rescued {
     pub faults: u32,
 }
 
-/// How many executions a rescuer finished, none where it was refused.
+/// How many executions a rescuer finished: none where it was refused.
 pub(crate) fn count_finished(answer: &Result<Rescued, CallError>) -> u64
     ensures count { result ≡ finished_by answer.now }
     ensures few { result < 4294967296 }
@@ -37,7 +37,7 @@ pub(crate) fn count_finished(answer: &Result<Rescued, CallError>) -> u64
     }
 }
 
-/// How many of them ended with a fault.
+/// How many of these executions ended with a fault.
 pub(crate) fn count_faults(answer: &Result<Rescued, CallError>) -> u64
     ensures count { result ≡ faults_by answer.now }
     ensures few { result < 4294967296 }
@@ -67,12 +67,12 @@ fn execute<N: Naming, A: Allocator, R: Wait, B: Body>(
     body.run(rt, item, &mut work)
 }
 
-/// Serves a lane until the runtime is closed and nothing is pending in it: of each item, what the seat counts as finished
-/// rose by what the body ran.
+/// Serves a workqueue until the runtime is closed and nothing is pending on it. For each item, what the seat counts as finished
+/// has risen by what the body ran.
 ///
-/// The body has run nothing before, and can count each item. The error is `WrongLane` (64), where there is no such lane or
-/// another caller drove the same one, or `HistoryFull` (60), where the seat is full; then what the seat counts as finished
-/// rose by no more than what the body ran.
+/// The body has run nothing before, and can count each item. The error is `WrongLane` (64), where there is no such workqueue or
+/// another caller drove the same one, or `HistoryFull` (60), where the seat is full. Then what the seat counts as finished has
+/// risen by no more than what the body ran.
 pub fn rescue<N: Naming, A: Allocator, R: Wait, B: Body>(
     rt: &R,
     runtime: &WqRuntime<N, A>,

@@ -1,5 +1,5 @@
-//! Running all: a rescuer for each lane and a thread for each caller, until the callers have made their calls and all work
-//! is done.
+//! Running everything: a rescuer for each workqueue and a thread for each caller, until the callers have made their calls and all
+//! work is done.
 //!
 //! All memory is taken, and all seats are made, before any thread starts.
 
@@ -23,10 +23,10 @@ use std::thread::Threads;
 use thiserror::Error;
 use wq_api::{CallError, Naming, Seat, SeatError, WqRuntime};
 
-/// Why not all was run.
+/// Why not everything was run.
 #[derive(Clone, Copy, Debug, PartialEq, Eq, Error)]
 pub enum RunWhy {
-    /// There isn't one body for each lane (73).
+    /// There isn't one body for each workqueue (73).
     #[error("as many bodies as workqueues are wanted")]
     BodiesDiffer,
     /// The runtime has made 65,535 seats (70).
@@ -67,18 +67,18 @@ pub struct Ran<N: Naming, A: Allocator, B: Body + Drop, C: Caller + Drop> {
     pub results: Vec<Result<(), CallError>, A>,
     /// What the rescuers answered, lane by lane.
     pub rescued: Vec<Result<Rescued, CallError>, A>,
-    /// How many executions were finished in all.
+    /// How many executions were finished in total.
     pub finished: u64,
-    /// How many of them ended with a fault.
+    /// How many of these executions ended with a fault.
     pub faults: u64,
 }
 
-/// What is handed back where not all was run.
+/// What is handed back where not everything was run.
 #[derive(Drop)]
 pub struct RunFault<N: Naming, A: Allocator, B: Body + Drop, C: Caller + Drop> {
     /// The seats that were made, except for that of a thread that couldn't be made.
     pub seats: Vec<Seat<N, A>, A>,
-    /// The bodies, except for that of a lane whose thread couldn't be made.
+    /// The bodies, except for that of a workqueue whose thread couldn't be made.
     pub bodies: Vec<B, A>,
     /// The callers, except for one whose thread couldn't be made.
     pub callers: Vec<C, A>,
@@ -116,15 +116,16 @@ fn make_seats<N: Naming, A: Allocator + Copy, R: Wait>(
     Ok(seats)
 }
 
-/// Runs all: makes a seat for each lane and each caller, has a thread serve each lane and then a thread make the calls of
-/// each caller, waits for the callers, closes the runtime by `destroy`, and waits for the lanes.
+/// Runs everything: makes a seat for each workqueue and each caller, starts a thread that serves each workqueue and then a thread
+/// that makes the calls of each caller, waits for the callers, closes the runtime by `destroy`, and waits for the threads of the
+/// workqueues.
 ///
 /// No body has run anything yet, and each can count all items. The error is the first of these that holds: `BodiesDiffer` (73),
-/// where there isn't one body for each lane; `TooManySeats` (70) or `OutOfMemory` (20), before any thread starts; `NoThread`
-/// (22), where a thread can't be made: then no further one is started, and those that run are ended as above. All bodies and
-/// callers are handed back except for `NoThread`, where those of the thread that couldn't be made are lost. Where the thread of a
-/// lane can't be made on which something is pending already, the runtime can't be closed, and it waits forever; on a runtime that
-/// was just made nothing is.
+/// where there isn't one body for each workqueue; `TooManySeats` (70) or `OutOfMemory` (20), before any thread starts; `NoThread`
+/// (22), where a thread can't be made. Then no further thread is started, and those that run are ended as above. All bodies and
+/// callers are handed back, except that after `NoThread` those of the thread that couldn't be made are lost. If that is the
+/// thread of a workqueue on which something is pending already, the runtime can't be closed, and the call waits forever. On a
+/// runtime that was just made nothing is pending.
 pub fn run_all<
     N: Naming + Send + Sync,
     A: Allocator + Copy + Send + Sync,

@@ -1,7 +1,7 @@
 //! Threads: one for each lane, and then one for each caller.
 //!
-//! Each is started one level deeper than the one before, and joined on the way back: the callers first, and after `destroy`
-//! the lanes. Where a thread can't be made, no further one is started.
+//! Each thread is started one level deeper than the one before, and joined on the way back: the callers first, and after
+//! `destroy` the lanes. Where a thread can't be made, no further one is started.
 
 ghost use Rattle.std.specs.Prelude.{◌≡◌, ℕ, ◌+◌, ◌≤◌, vec_len, vec_capacity};
 
@@ -13,7 +13,7 @@ use std::thread;
 use std::thread::{Scope, Threads};
 use wq_api::{Naming, WqRuntime};
 
-/// Starts the callers that no thread has taken yet, and waits until all have made their calls.
+/// Starts the callers that no thread has taken yet, and waits until all of them have made their calls.
 fn run_callers<
     's,
     E,
@@ -37,8 +37,8 @@ fn run_callers<
     }
 }
 
-/// Starts the lanes that no thread has taken yet and then the callers, and waits until the callers have made their calls and
-/// the lanes have nothing left to do.
+/// Starts the lanes that no thread has taken yet, and then the callers. It waits until the callers have made their calls and the
+/// lanes have nothing left to do.
 pub(crate) fn run_lanes<
     's,
     E,

@@ -1,8 +1,8 @@
 //! What the body of a work item may do while it runs: queue, cancel and flush.
 //!
-//! A body runs outside the lock, on the rescuer of its lane, and what it does counts in the seat of that rescuer. Flushes are
-//! those that its item declares, and no more of them (`flush_work` in a work function, Documentation/core-api/workqueue.rst,
-//! "Guidelines"). Apart from what it waits for, a call takes the time of the runtime's own.
+//! A body runs outside the lock, on the rescuer of its workqueue. What it does counts in the seat of that rescuer. It may flush
+//! only what its item declares, and no more often (`flush_work` in a work function, Documentation/core-api/workqueue.rst,
+//! "Guidelines"). Apart from what it waits for, a call takes the time of the runtime's own call.
 
 ghost use Rattle.std.specs.Prelude.{◌≡◌, ◌<◌, IfOk, IfErr};
 ghost use Rattle.wq_core.specs.Wiring.{items};
@@ -28,7 +28,7 @@ pub struct Work<'a, N: Naming, A: Allocator> {
 }
 
 impl<'a, N: Naming, A: Allocator> Work<'a, N, A> {
-    /// An execution of an item that a lane has started, which counts in this seat.
+    /// An execution of an item that a workqueue has started. It counts in this seat.
     pub(crate) fn new(
         runtime: &'a WqRuntime<N, A>,
         seat: &'a mut Seat<N, A>,
@@ -48,14 +48,14 @@ impl<'a, N: Naming, A: Allocator> Work<'a, N, A> {
         }
     }
 
-    /// What holds of the counts of its seat: there are 14 for each item.
+    /// States what holds of the counts of its seat: there are 14 for each item.
     pub fn holds(&self)
         ensures { HasCountsOf (items N.wiring) self.now.seat.now }
     {
         self.seat.holds();
     }
 
-    /// The item that runs.
+    /// The item that is running.
     pub fn item(&self) -> ItemId
         ensures { result ≡ self.now.item }
     {
@@ -65,7 +65,7 @@ impl<'a, N: Naming, A: Allocator> Work<'a, N, A> {
     /// Queues an item: true where it wasn't pending, false where it was.
     ///
     /// The error is the first of these that holds: `NoItem` (66); `HistoryFull` (60), where the seat is full; `Closed` (61);
-    /// `HistoryFull` (60). Then nothing is changed or counted.
+    /// `HistoryFull` (60), where too few rows are free. After an error nothing is changed or counted.
     pub fn queue<R: Wait>(&mut self, rt: &R, item: ItemId) -> Result<bool, CallError>
         ensures counted { IfOk result (λ accepted. (item < items N.wiring) × HasRoom self.old.seat.now × (self.new.seat.now ≡ raised self.old.seat.now item Queue accepted)) }
         ensures refused { IfErr result (λ e. RefusesQueueByBody N.wiring self.old.seat.now item e × (self.new.seat.now ≡ self.old.seat.now)) }
@@ -80,9 +80,9 @@ impl<'a, N: Naming, A: Allocator> Work<'a, N, A> {
         self.runtime.queue_work(rt, self.seat, lane, item)
     }
 
-    /// Takes the pending entry of an item off: true where one was pending.
+    /// Removes the pending entry of an item: true where one was pending.
     ///
-    /// The error is `NoItem` (66), else `HistoryFull` (60). Then nothing is changed or counted.
+    /// The error is `NoItem` (66), or else `HistoryFull` (60). After an error nothing is changed or counted.
     pub fn cancel<R: Wait>(&mut self, rt: &R, item: ItemId) -> Result<bool, CallError>
         ensures counted { IfOk result (λ taken. (item < items N.wiring) × HasRoom self.old.seat.now × (self.new.seat.now ≡ raised self.old.seat.now item Cancel taken)) }
         ensures refused { IfErr result (λ e. RefusesCancelWork N.wiring item e × (self.new.seat.now ≡ self.old.seat.now)) }
@@ -94,12 +94,12 @@ impl<'a, N: Naming, A: Allocator> Work<'a, N, A> {
         self.runtime.cancel_work(rt, self.seat, item)
     }
 
-    /// Waits until each entry of an item is finished that was queued before: true where there was one.
+    /// Waits until each entry of an item that was queued before is finished: true where there was one.
     ///
     /// The error is the first of these that holds: `HistoryFull` (60), where the seat is full; `Undeclared` (62), where the
-    /// running item declares no flush of this one; `TooManyWaits` (63), where it has made as many as it declares. Then
-    /// nothing is changed or counted. `WrongLane` (64) comes only where another caller drives the same lane; where that
-    /// happens during the wait, the wait stays counted.
+    /// running item declares no flush of this one; `TooManyWaits` (63), where it has made as many as it declares. Then nothing is
+    /// changed or counted. `WrongLane` (64) comes only where another caller drives the same workqueue. If that happens during the
+    /// wait, the wait stays counted.
     pub fn flush<R: Wait>(&mut self, rt: &R, target: ItemId) -> Result<bool, CallError>
         ensures counted { IfOk result (λ unfinished. (self.old.lane < N.wiring.lanes) × (target < items N.wiring) × HasRoom self.old.seat.now × (self.new.seat.now ≡ waited_for self.old.seat.now target unfinished)) }
         ensures refused { IfErr result (λ e. RefusesWaitFor N.wiring self.old.seat.now self.old.lane e × RefusedWaitFor N.wiring self.old.seat.now self.new.seat.now self.old.lane target e) }

@@ -1,4 +1,4 @@
-//! Laws of packed rows, as contracts of functions with empty bodies.
+//! Laws about packed rows, as contracts of functions with empty bodies.
 //!
 //! They are said of rows and bytes alone, whatever code packs them.
 

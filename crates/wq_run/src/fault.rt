@@ -1,4 +1,4 @@
-//! What can go wrong outside the program: what stops any command, and what stops `run` alone. The texts are the program's own.
+//! What can go wrong outside the program: what stops any command, and what stops only `run`. The texts are the program's own.
 //! Every call takes constant time.
 
 ghost use Rattle.std.specs.Prelude.{◌≡◌, Some};
@@ -54,7 +54,7 @@ impl From<Fault> for CommandFault {
     }
 }
 
-/// Why there is no answer of `run`, where the text isn't refused.
+/// Why `run` has no answer, where the text isn't refused.
 #[derive(Clone, Copy, Debug, PartialEq, Eq)]
 pub enum RunStop {
     /// Memory ran out (20).
@@ -76,8 +76,8 @@ impl From<AllocError> for RunStop {
 impl From<RunWhy> for RunStop {
     ghost from_gives = { λ why stop. stop ≡ stop_of_run why };
 
-    /// Why there is no answer where not all was run. Each lane is given a body, and there are seats for 256 lanes and two callers,
-    /// so `BodiesDiffer` and `TooManySeats` are never met.
+    /// Why there is no answer where not everything was run. Each workqueue is given a body, and there are seats for 256
+    /// workqueues and two callers, so `BodiesDiffer` and `TooManySeats` never occur.
     fn from(why: RunWhy) -> RunStop {
         match why {
             RunWhy::OutOfMemory => RunStop::OutOfMemory,

@@ -1,4 +1,4 @@
-//! Laws of the answers of `run`, as contracts of functions with empty bodies.
+//! Laws about the answers of `run`, as contracts of functions with empty bodies.
 
 ghost use Rattle.std.specs.Prelude.{◌≡◌, ◌≢◌, ◌↔◌, ℕ, List};
 ghost use Rattle.wq_commands.specs.declared.end.End.{End};
@@ -6,7 +6,7 @@ ghost use Rattle.wq_commands.specs.declared.end.End.TheVariants.{Good, Bad, Refu
 ghost use Rattle.wq_commands.specs.Answer.{Answers};
 ghost use Rattle.wq_run.specs.Running.{IsRunnable, Runs};
 
-/// A text has one end of `run`; and where that isn't a plan that was run, one text that is printed.
+/// A text has one end of `run`. Unless that is a plan that was run, one text is printed for it.
 pub fn a_text_has_one_end()
     ensures end { (text : List ℕ) (end other : End) (out printed : List ℕ) → Runs text end out → Runs text other printed → end ≡ other }
     ensures out { (text : List ℕ) (end : End) (out printed : List ℕ) → end ≢ Good → Runs text end out → Runs text end printed → out ≡ printed }
@@ -17,7 +17,7 @@ pub fn a_circle_is_printed_as_by_plan()
     ensures { (text out : List ℕ) → Runs text Bad out ↔ Answers text Bad out }
 {}
 
-/// What `plan` refuses is refused alike.
+/// What `plan` refuses, `run` refuses with the same text.
 pub fn a_refusal_is_printed_as_by_plan()
     ensures { (text out : List ℕ) → Answers text Refused out → Runs text Refused out }
 {}

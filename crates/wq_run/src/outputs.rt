@@ -1,6 +1,6 @@
-//! An answer that was made whole in memory, written.
+//! Writing an answer that was built in full in memory.
 //!
-//! It takes time in the bytes that are written.
+//! It takes time in the number of bytes that are written.
 
 ghost use Rattle.std.specs.Prelude.{◌≡◌, ◌≢◌, Err, IfOk, IsOkAnd};
 ghost use Rattle.wq_meter.specs.Meter.{count_after, WritesPrefix, WritesWhole};
@@ -15,7 +15,7 @@ use wq_commands::{End, Metered, write_text};
 
 /// Writes an answer, and says how the run ends.
 ///
-/// The errors are why there is no answer, and `Fault::Write`, where a write failed or took no byte.
+/// The error is the reason why there is no answer, or `Fault::Write`, where a write failed or took no byte.
 pub(crate) fn write_answer<W: Write, A: Allocator + Copy>(
     writer: &mut Metered<W>,
     answer: Result<(End, Vec<u8, A>), RunStop>,

@@ -1,4 +1,4 @@
-//! What is printed of a plan that was run.
+//! What is printed about a plan that was run.
 //!
 //! The format is that of "`run`" in docs/FORMAT.md. It takes time and memory in the number of items and the length of their
 //! names.
@@ -78,8 +78,8 @@ fn put_faults_line<A: Allocator + Copy>(out: &mut Vec<u8, A>, faults: u64) -> Re
     put_end(out)
 }
 
-/// The text of a plan that was run: its workqueues, and of each item its workqueue and what the closed runtime counts of it,
-/// which agrees with the history. The only error is out of memory (20).
+/// The text about a plan that was run: its workqueues, and for each item its workqueue and the counts of the closed runtime,
+/// which agree with the history. The only error is out of memory (20).
 pub(crate) fn report_text<N: Naming, A: Allocator + Copy>(
     alloc: A,
     table: &ItemTable<'_, A>,

@@ -1,6 +1,6 @@
 //! The command `run`: from the bytes of a declaration to those of what its plan did when it was run.
 //!
-//! The answer is made whole before the first byte is written. It takes the time of reading the text, of planning it, of all
+//! The answer is built in full before the first byte is written. It takes the time of reading the text, of planning it, of all
 //! executions and of writing the answer.
 
 ghost use Rattle.std.specs.Prelude.{◌≡◌, ◌≢◌, ◌≤◌, ◌+◌, ℕ, List, Err, IfOk};
@@ -20,18 +20,19 @@ use std::sync::Wait;
 use std::thread::Threads;
 use wq_commands::{End, MAX_DECLARATION, Metered, read_text};
 
-/// Reads a declaration to its end, runs its plan, and writes how often each item was queued, cancelled and finished; or the
-/// text of the circle in which its groups wait, with a run that shows it; or its refusal.
+/// Reads a declaration to its end, runs its plan, and writes how often each item was queued, cancelled and finished. Where there
+/// is no plan, it writes the text of the circle in which the groups wait, with a run that shows it; where the text is refused,
+/// the refusal.
 ///
 /// The plan has a rescuer thread for each workqueue, whose bodies make the declared flushes, and two callers, which queue all
 /// items once and then flush them. A plan of more than 256 workqueues is refused (69).
 ///
-/// At most 1,048,577 bytes are read, in at most as many calls. The errors are those of `plan_cmd`: a read failed, out of
-/// memory, or a write failed or took no byte; and `Thread` (22), where a thread couldn't be made, and `Tally`, where the runtime
-/// couldn't be closed with counts that agree. After a write that failed a prefix of the answer is written, and after the
-/// others nothing. Whether the calls of the threads ever return is not promised.
+/// At most 1,048,577 bytes are read, in at most as many calls. The errors are those of `plan_cmd`: a read failed, out of memory,
+/// or a write failed or took no byte; and `Thread` (22), where a thread couldn't be made, and `Tally`, where the runtime couldn't
+/// be closed with counts that agree. After a write that failed, a prefix of the answer is written, and after the other errors
+/// nothing. It isn't promised that the calls of the threads ever return.
 ///
-/// The names are hashed with `seed`, on which no answer depends.
+/// The names are hashed with `seed`. No answer depends on it. The names are hashed with `seed`. No answer depends on it.
 pub fn run_cmd<R: Threads + Wait + Sync, D: Read, W: Write, A: Allocator + Copy + Send + Sync>(
     rt: &R,
     alloc: A,

@@ -1,7 +1,7 @@
-//! The answer of `run` to a declaration text, made whole in memory: the declaration is planned, and its plan is run.
+//! The answer of `run` to a declaration text, built in full in memory: the declaration is planned, and its plan is run.
 //!
-//! The runtime is named here, at the call of the function that makes it and works with it. It takes the time of planning and of
-//! all executions, and memory in the rows of the history.
+//! The runtime is named here, in the call of the function that makes it and works with it. It takes the time of planning and of
+//! all executions, and memory in the number of rows of the history.
 
 ghost use Rattle.std.specs.Prelude.{◌≡◌, ◌≢◌, ◌≤◌, ◌+◌, ◌*◌, IfOk, IfErr, length};
 ghost use Rattle.wq_groups.specs.Declaration.{declaration_of};
@@ -32,14 +32,14 @@ use wq_plan::{Answer, solve};
 use wq_rescuer::{Ran, run_all};
 use wq_script::{script_bodies, script_callers};
 
-/// How many rows a history needs in which each item is queued, flushed by a caller and executed once.
+/// How many rows a history needs where each item is queued, flushed by a caller and executed once.
 fn rows_for<A: Allocator + Copy>(table: &ItemTable<'_, A>) -> u32
     ensures { result ≡ 5 * length table.now.names + 2 * flush_count table.now.waits }
 {
     5 * u32::from(table.len()) + 2 * table.flushes()
 }
 
-/// Runs what is on the lanes of a runtime, closes it, and makes the text of what happened.
+/// Runs what is on the lanes of a runtime, closes the runtime, and makes the text of what happened.
 fn serve<N: Naming + Send + Sync, A: Allocator + Copy + Send + Sync, R: Threads + Wait + Sync>(
     rt: &R,
     alloc: A,
@@ -156,7 +156,7 @@ fn print_circle<A: Allocator + Copy>(
     Ok((End::Bad, text))
 }
 
-/// How a run ends that is given these items and their groups, and what it prints.
+/// How a run that is given these items and their groups ends, and what it prints.
 fn run_declared<A: Allocator + Copy + Send + Sync, R: Threads + Wait + Sync>(
     rt: &R,
     alloc: A,
@@ -173,7 +173,7 @@ fn run_declared<A: Allocator + Copy + Send + Sync, R: Threads + Wait + Sync>(
     }
 }
 
-/// How a run ends that is given this text, and what it prints.
+/// How a run that is given this text ends, and what it prints.
 pub(crate) fn answer<A: Allocator + Copy + Send + Sync, R: Threads + Wait + Sync>(
     rt: &R,
     alloc: A,
@@ -186,7 +186,7 @@ pub(crate) fn answer<A: Allocator + Copy + Send + Sync, R: Threads + Wait + Sync
     match read_declaration(alloc, seed, text) {
         Ok(declared) => {
             let answer = run_declared(rt, alloc, &declared.table, &declared.groups);
-            // Said as a call, so that the proof has one step for it.
+            // Written as a call, so that the proof has one step for it.
             drop(declared);
             answer
         }

@@ -1,7 +1,7 @@
-//! Acts: the calls that a scripted caller makes, each with the item that it speaks of.
+//! Acts: the calls that a scripted caller makes, each with its item.
 //!
-//! They are those of kernel/workqueue.c that a driver makes outside its work functions. Each takes the time of the
-//! runtime's call, with what that waits for.
+//! They are the calls of kernel/workqueue.c that a driver makes outside its work functions. Each takes the time of the runtime's
+//! call, including what that waits for.
 
 ghost use Rattle.std.specs.Prelude.{◌≡◌, ◌<◌, IfOk, IfErr, OnOk};
 ghost use Rattle.wq_core.specs.Wiring.{items};
@@ -18,20 +18,20 @@ use wq_items::ItemId;
 /// One call of a scripted caller.
 #[derive(Clone, Copy, Debug, PartialEq, Eq)]
 pub enum Act {
-    /// Queues the item on its own lane (`queue_work`).
+    /// Queues the item on its own workqueue (`queue_work`).
     Queue(ItemId),
     /// Waits for the item (`flush_work`).
     Flush(ItemId),
-    /// Takes the pending entry of the item off (`cancel_work`).
+    /// Removes the pending entry of the item (`cancel_work`).
     Cancel(ItemId),
-    /// Takes the pending entry of the item off, and waits for the item (`cancel_work_sync`).
+    /// Removes the pending entry of the item, and waits for the item (`cancel_work_sync`).
     CancelSync(ItemId),
 }
 
-/// Queues an item on its own lane: true where it wasn't pending, false where it was.
+/// Queues an item on its own workqueue: true where it wasn't pending, false where it was.
 ///
-/// The error is the first of these that holds: `NoItem` (66); `HistoryFull` (60), where the seat is full; `Closed`
-/// (61); `HistoryFull` (60). Then nothing is changed or counted.
+/// The error is the first of these that holds: `NoItem` (66); `HistoryFull` (60), where the seat is full; `Closed` (61);
+/// `HistoryFull` (60), where too few rows are free. After an error nothing is changed or counted.
 fn queue<N: Naming, A: Allocator, R: Wait>(
     rt: &R,
     runtime: &WqRuntime<N, A>,

@@ -1,6 +1,6 @@
-//! Scripted callers: the calls of a list, one after the other, up to the first that is refused.
+//! Scripted callers: they make the calls of a list, one after the other, up to the first that is refused.
 //!
-//! A caller takes the time of its calls, with what they wait for, and no memory.
+//! A caller takes the time of its calls, including what they wait for, and no memory.
 
 ghost use Rattle.std.specs.Prelude.{◌≡◌, IfErr, OnOk};
 ghost use Rattle.wq_script.specs.Acts.{CountsActs, RefusedActs};
@@ -28,7 +28,7 @@ impl<A: Allocator> Model for ScriptCaller<A> {
 }
 
 impl<A: Allocator> ScriptCaller<A> {
-    /// The caller that makes these calls, in order.
+    /// Makes the caller that makes these calls, in order.
     pub fn new(acts: Vec<Act, A>) -> Self
         ensures { result ≡ acts.items }
     {
@@ -60,10 +60,10 @@ fn make_each<N: Naming, S: Allocator, R: Wait>(
 }
 
 impl<A: Allocator> Caller for ScriptCaller<A> {
-    /// Makes its calls in order, each as the runtime makes it; an item is queued on its own lane.
+    /// Makes its calls in order, each as the runtime makes it. An item is queued on its own workqueue.
     ///
-    /// The error is the first refusal: `HistoryFull` (60), `Closed` (61), `NotAsked` (65) or `NoItem` (66). The calls
-    /// before it are made, and those after it are not.
+    /// The error is the first refusal: `HistoryFull` (60), `Closed` (61), `NotAsked` (65) or `NoItem` (66). The calls before it
+    /// are made, and those after it aren't.
     fn call<N: Naming, S: Allocator, R: Wait>(
         &mut self,
         rt: &R,

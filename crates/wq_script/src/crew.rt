@@ -1,7 +1,7 @@
-//! Who runs a plan: a scripted body for each lane, and two scripted callers that share the items.
+//! Who runs a plan: a scripted body for each workqueue, and two scripted callers that share the items.
 //!
-//! The bodies make the flushes that their items declare. Each takes time and memory in the number of items, and the bodies that
-//! of the lanes.
+//! The bodies make the flushes that their items declare. A body or a caller takes time and memory in the number of items; the
+//! bodies together also in that of the workqueues.
 
 ghost use Rattle.std.specs.Prelude.{◌≡◌, length, vec_len, IfOk};
 ghost use Rattle.std.specs.List.{All};
@@ -15,7 +15,7 @@ use crate::flushing::ScriptBody;
 use std::alloc::{AllocError, Allocator};
 use wq_items::{ItemId, ItemTable};
 
-/// A body for each of this many lanes, none of which has run anything. The only error is out of memory (20).
+/// Makes a body for each of this many workqueues. None has run anything. The only error is out of memory (20).
 pub fn script_bodies<'t, 'a, A: Allocator + Copy>(
     alloc: A,
     table: &'t ItemTable<'a, A>,
@@ -33,7 +33,7 @@ pub fn script_bodies<'t, 'a, A: Allocator + Copy>(
     Ok(bodies)
 }
 
-/// A caller that queues every second of this many items, from the first one on, and then flushes them.
+/// A caller that queues every second one of this many items, from the first one on, and then flushes them.
 fn script_caller<A: Allocator + Copy>(
     alloc: A,
     first: u16,
@@ -55,8 +55,8 @@ fn script_caller<A: Allocator + Copy>(
     Ok(ScriptCaller::new(acts))
 }
 
-/// Two callers that queue this many items and then flush them, the one those with even numbers, the other those with odd ones,
-/// each in order. The only error is out of memory (20).
+/// Makes two callers that queue this many items and then flush them, in order: one the items with even numbers, the other those
+/// with odd numbers. The only error is out of memory (20).
 pub fn script_callers<A: Allocator + Copy>(
     alloc: A,
     count: u16,

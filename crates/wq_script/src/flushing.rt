@@ -2,7 +2,7 @@
 //!
 //! This is all that a declaration lets a work function wait for: `flush_work` of each target, once for each declared flush
 //! ("Guidelines" in Documentation/core-api/workqueue.rst; `flush_work` in kernel/workqueue.c). Apart from what it waits for, a
-//! run takes time in the number of its item's flushes. `new` takes time and memory in the number of items, 4 bytes for each; how
+//! run takes time in the number of its item's flushes. `new` takes time and memory in the number of items, 4 bytes for each. How
 //! often an item ran is answered in constant time.
 
 ghost use Rattle.std.specs.Prelude.{◌≡◌, ◌<◌, length, IfOk, IfErr, OnOk, OnErr};
@@ -37,8 +37,8 @@ impl<'t, 'a, A: Allocator> Model for ScriptBody<'t, 'a, A> {
 }
 
 impl<'t, 'a, A: Allocator + Copy> ScriptBody<'t, 'a, A> {
-    /// The body of the items of a table, none of which has run. The only error is out of memory (20), which can't occur where
-    /// there is no item.
+    /// Makes the body of the items of a table. None of them has run. The only error is out of memory (20), which can't occur
+    /// where there is no item.
     pub fn new(alloc: A, table: &'t ItemTable<'a, A>) -> Result<Self, AllocError>
         ensures waits { IfOk result (λ b. b.waits ≡ table.now.waits) }
         ensures width { IfOk result (λ b. length b.runs ≡ length table.now.names) }
@@ -52,7 +52,7 @@ impl<'t, 'a, A: Allocator + Copy> ScriptBody<'t, 'a, A> {
     }
 }
 
-/// Flushes the items of the targets, in order, until one is refused, whose number is the code of the fault.
+/// Flushes the items of the targets, in order, until one is refused. The number of the refusal is the code of the fault.
 fn flush_each<N: Naming, S: Allocator, R: Wait>(
     rt: &R,
     targets: &[Target],
@@ -80,9 +80,9 @@ impl<'t, 'a, A: Allocator + Copy> Body for ScriptBody<'t, 'a, A> {
 
     /// Counts a run of the item, and flushes what it declares, in order and each as often as it is declared.
     ///
-    /// The error is the first refusal of a flush, its number the code of the fault: `HistoryFull` (60), where the seat
-    /// is full; `Undeclared` (62) or `TooManyWaits` (63), where the runtime isn't of this table; `WrongLane` (64),
-    /// where another caller drives the same lane. The flushes before it are made, and those after it are not.
+    /// The error is the first refusal of a flush, and its number is the code of the fault: `HistoryFull` (60), where the seat is
+    /// full; `Undeclared` (62) or `TooManyWaits` (63), where the runtime isn't of this table; `WrongLane` (64), where another
+    /// caller drives the same workqueue. The flushes before it are made, and those after it aren't.
     fn run<N: Naming, S: Allocator, R: Wait>(
         &mut self,
         rt: &R,

@@ -1,7 +1,6 @@
-//! The command `check` over two files and standard output.
+//! The command `check`: it reads two files and writes to standard output.
 //!
-//! The files are opened in the order of the arguments, before either is read. Standard output has no buffer, as in
-//! `plan`.
+//! Both files are opened, in the order of the arguments, before either is read. Standard output has no buffer, as in `plan`.
 
 ghost use Rattle.std.specs.Prelude.{ℕ, List, IfOk};
 ghost use Rattle.wq_commands.specs.Checking.{Checks};
@@ -19,10 +18,10 @@ use std::rt::Files;
 use wq_commands::{End, Fault, MAX_DECLARATION, Metered, check_cmd, read_text};
 use wq_diagnosis::{Kind, Source};
 
-/// Answers the declaration in the file of the first path and the certificate in that of the second.
+/// Checks the certificate in the file at the second path against the declaration in that at the first, and prints the answer.
 ///
-/// A file that can't be opened is `Fault::Read`. Of a text that is refused, and of a certificate
-/// that shows nothing, standard error says what is wrong.
+/// A file that can't be opened is `Fault::Read`. Where a text is refused, or the certificate shows nothing, standard error says
+/// what is wrong.
 pub(crate) fn check<R: Files + Print + Eprint + AllocGlobal>(
     rt: &R,
     seed: u64,
@@ -46,7 +45,7 @@ pub(crate) fn check<R: Files + Print + Eprint + AllocGlobal>(
     Ok(end)
 }
 
-/// Says what is wrong with the first text that is refused.
+/// Says on standard error what is wrong with the first text that is refused.
 fn say_of<R: Eprint + AllocGlobal>(
     rt: &R,
     seed: u64,
@@ -77,8 +76,8 @@ fn say_of<R: Eprint + AllocGlobal>(
     );
 }
 
-/// Writes the answer to the declaration that the first input has and the certificate that the second has. Both are handed
-/// out as far as they were read.
+/// Writes the answer to the declaration in the first input and the certificate in the second. It also hands back both texts, as
+/// far as they were read.
 fn check_input<D: Read + Drop, C: Read + Drop, W: Write>(
     alloc: Global,
     seed: u64,

@@ -1,7 +1,6 @@
-//! The command `circles` over one file or two and standard output.
+//! The command `circles`: it reads one file or two, and writes to standard output.
 //!
-//! The files are opened in the order of the arguments, before either is read. Standard output has no buffer, as in
-//! `plan`.
+//! The files are opened in the order of the arguments, before either is read. Standard output has no buffer, as in `plan`.
 
 ghost use Rattle.std.specs.Prelude.{ℕ, List, IfOk, option_map};
 ghost use Rattle.wq_cert.specs.Texts.{max_certificate};
@@ -21,9 +20,10 @@ use wq_circles::{circles_cmd, own_circles_cmd};
 use wq_commands::{End, Fault, MAX_DECLARATION, Metered, read_text};
 use wq_diagnosis::Source;
 
-/// Answers the declaration in the file of the first path, and the assignment in that of the second, where there is one.
+/// Prints the flushes on circles of the declaration in the file at the first path, under the assignment in that at the second, if
+/// there is one.
 ///
-/// A file that can't be opened is `Fault::Read`. Of a text that is refused standard error says what is wrong.
+/// A file that can't be opened is `Fault::Read`. Where a text is refused, standard error says what is wrong.
 pub(crate) fn circles<R: Files + Print + Eprint + AllocGlobal>(
     rt: &R,
     seed: u64,
@@ -38,7 +38,7 @@ pub(crate) fn circles<R: Files + Print + Eprint + AllocGlobal>(
     }
 }
 
-/// Answers a declaration and an assignment.
+/// Answers for a declaration and an assignment.
 fn of_assignment<R: Files + Print + Eprint + AllocGlobal>(
     rt: &R,
     seed: u64,
@@ -68,7 +68,7 @@ fn of_assignment<R: Files + Print + Eprint + AllocGlobal>(
     Ok(end)
 }
 
-/// Answers a declaration, where each group has a workqueue of its own.
+/// Answers for a declaration alone: each group has a workqueue of its own.
 fn of_groups<R: Files + Print + Eprint + AllocGlobal>(
     rt: &R,
     seed: u64,
@@ -86,7 +86,7 @@ fn of_groups<R: Files + Print + Eprint + AllocGlobal>(
     Ok(end)
 }
 
-/// Writes the components of the declaration that the first input has and the assignment that the second has. Both are handed out
+/// Writes the components of the declaration in the first input under the assignment in the second. It also hands back both texts,
 /// as far as they were read.
 fn circles_input<D: Read + Drop, A: Read + Drop, W: Write>(
     alloc: Global,
@@ -109,7 +109,7 @@ fn circles_input<D: Read + Drop, A: Read + Drop, W: Write>(
     Ok((end, text, lanes))
 }
 
-/// Writes the components of the declaration that `input` has. The text is handed out as far as it was read.
+/// Writes the components of the declaration in `input`. It also hands back the text, as far as it was read.
 fn own_circles_input<I: Read + Drop, W: Write>(
     alloc: Global,
     seed: u64,

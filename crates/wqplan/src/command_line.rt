@@ -22,29 +22,29 @@ pub(crate) enum Request<'a> {
     Plan {
         file: Option<&'a str>,
     },
-    /// The checker's answer to the certificate in the second file, which is one of the declaration in the first.
+    /// The checker's answer to the certificate in the second file, for the declaration in the first.
     Check {
         declaration: &'a str,
         certificate: &'a str,
     },
-    /// The verdict on the assignment in the second file, of the declaration in the first.
+    /// The verdict on the assignment in the second file, for the declaration in the first.
     Deadlock {
         declaration: &'a str,
         assignment: &'a str,
     },
-    /// How the run in the third file ends, under the assignment in the second one, of the declaration in the first.
+    /// How the run in the third file ends under the assignment in the second, for the declaration in the first.
     Replay {
         declaration: &'a str,
         assignment: &'a str,
         run: &'a str,
     },
-    /// The flushes that lie on a circle under the assignment in the second file, or where each group has a workqueue of its own,
-    /// of the declaration in the first.
+    /// The flushes of the declaration in the first file that lie on a circle: under the assignment in the second file, or where
+    /// each group has a workqueue of its own.
     Circles {
         declaration: &'a str,
         assignment: Option<&'a str>,
     },
-    /// A drawing of the declaration in the first file, on the workqueues of the assignment in the second or of its plan.
+    /// A drawing of the declaration in the first file, on the workqueues of the assignment in the second, or else of its plan.
     Dot {
         declaration: &'a str,
         assignment: Option<&'a str>,
@@ -53,7 +53,7 @@ pub(crate) enum Request<'a> {
     Run {
         declaration: &'a str,
     },
-    /// What this number or name means, or the list of all that have an explanation.
+    /// The explanation of this number or name, or the list of all that have one.
     Explain {
         code: Option<&'a str>,
     },
@@ -65,7 +65,7 @@ pub(crate) fn words<R: Env + AllocGlobal>(rt: &R) -> io::Result<Vec<String>> {
     Ok(words)
 }
 
-/// A file that a command has to be given.
+/// A required argument that names a file.
 fn file<'a>(alloc: Global, name: &'a str, help: &'a str) -> Arg<'a>
     ensures rule { rule_of result ≡ needed name.entry.now }
     ensures own { result.global ≡ false }
@@ -173,7 +173,7 @@ fn explain<'a>(alloc: Global) -> Result<Command<'a>, AllocError>
         .arg(code)
 }
 
-/// The program without its commands. One of them has to be given.
+/// The program without its commands. One of them is required.
 fn bare<'a>(alloc: Global) -> Command<'a>
     ensures { app_of result ≡ bare }
 {
@@ -199,7 +199,7 @@ fn program<'a>(alloc: Global) -> Result<Command<'a>, AllocError>
         .subcommand(explain(alloc)?)
 }
 
-/// What `check` is asked for. Its two files are there in all matches that a parse gives.
+/// The request for `check`. Its two files are in all matches that a parse gives.
 fn check_request<'a>(given: &ArgMatches<'a>) -> Option<Request<'a>>
     ensures asked { IfSome result (λ request. AsksFor (Some (codes "check", rows_of (found_of given.now))) (spelled request)) }
     ensures all { (declaration certificate : List ℕ) → GivesArguments (rows_of (found_of given.now)) (checks declaration certificate) → IsSome result }
@@ -212,7 +212,7 @@ fn check_request<'a>(given: &ArgMatches<'a>) -> Option<Request<'a>>
     })
 }
 
-/// What `deadlock` is asked for. Its two files are there in all matches that a parse gives.
+/// The request for `deadlock`. Its two files are in all matches that a parse gives.
 fn deadlock_request<'a>(given: &ArgMatches<'a>) -> Option<Request<'a>>
     ensures asked { IfSome result (λ request. AsksFor (Some (codes "deadlock", rows_of (found_of given.now))) (spelled request)) }
     ensures all { (declaration assignment : List ℕ) → GivesArguments (rows_of (found_of given.now)) (judges declaration assignment) → IsSome result }
@@ -225,7 +225,7 @@ fn deadlock_request<'a>(given: &ArgMatches<'a>) -> Option<Request<'a>>
     })
 }
 
-/// What `replay` is asked for. Its three files are there in all matches that a parse gives.
+/// The request for `replay`. Its three files are in all matches that a parse gives.
 fn replay_request<'a>(given: &ArgMatches<'a>) -> Option<Request<'a>>
     ensures asked { IfSome result (λ request. AsksFor (Some (codes "replay", rows_of (found_of given.now))) (spelled request)) }
     ensures all { (declaration assignment run : List ℕ) → GivesArguments (rows_of (found_of given.now)) (replays declaration assignment run) → IsSome result }
@@ -240,7 +240,7 @@ fn replay_request<'a>(given: &ArgMatches<'a>) -> Option<Request<'a>>
     })
 }
 
-/// What `circles` is asked for. Its first file is there in all matches that a parse gives.
+/// The request for `circles`. Its first file is in all matches that a parse gives.
 fn circles_request<'a>(given: &ArgMatches<'a>) -> Option<Request<'a>>
     ensures asked { IfSome result (λ request. AsksFor (Some (codes "circles", rows_of (found_of given.now))) (spelled request)) }
     ensures all { (declaration : List ℕ) (assignment : Option (List ℕ)) → GivesArguments (rows_of (found_of given.now)) (finds declaration assignment) → IsSome result }
@@ -253,7 +253,7 @@ fn circles_request<'a>(given: &ArgMatches<'a>) -> Option<Request<'a>>
     })
 }
 
-/// What `dot` is asked for. Its first file is there in all matches that a parse gives.
+/// The request for `dot`. Its first file is in all matches that a parse gives.
 fn dot_request<'a>(given: &ArgMatches<'a>) -> Option<Request<'a>>
     ensures asked { IfSome result (λ request. AsksFor (Some (codes "dot", rows_of (found_of given.now))) (spelled request)) }
     ensures all { (declaration : List ℕ) (assignment : Option (List ℕ)) → GivesArguments (rows_of (found_of given.now)) (draws declaration assignment) → IsSome result }
@@ -266,7 +266,7 @@ fn dot_request<'a>(given: &ArgMatches<'a>) -> Option<Request<'a>>
     })
 }
 
-/// What `run` is asked for. Its file is there in all matches that a parse gives.
+/// The request for `run`. Its file is in all matches that a parse gives.
 fn run_request<'a>(given: &ArgMatches<'a>) -> Option<Request<'a>>
     ensures asked { IfSome result (λ request. AsksFor (Some (codes "run", rows_of (found_of given.now))) (spelled request)) }
     ensures all { (declaration : List ℕ) → GivesArguments (rows_of (found_of given.now)) (runs declaration) → IsSome result }
@@ -275,7 +275,7 @@ fn run_request<'a>(given: &ArgMatches<'a>) -> Option<Request<'a>>
     Some(Request::Run { declaration })
 }
 
-/// What the command that a parse entered is asked for. There is none where `help` was entered.
+/// The request of the command that a parse has entered. There is none where that is `help`.
 fn entered<'a>(matches: &ArgMatches<'a>) -> Option<Request<'a>>
     ensures asked { IfSome result (λ request. AsksFor (subcommand_rows_of matches.now) (spelled request)) }
     ensures all { (wanted : Asked) → AsksFor (subcommand_rows_of matches.now) wanted → IsSome result }
@@ -309,7 +309,7 @@ fn entered<'a>(matches: &ArgMatches<'a>) -> Option<Request<'a>>
     })
 }
 
-/// What these words ask for.
+/// Parses the words of a command line.
 ///
 /// The error is a mistake in the words, a request for help or the version, or out of memory.
 pub(crate) fn parse<'a, S: AsStr>(alloc: Global, words: &'a [S]) -> Result<Request<'a>, Error>

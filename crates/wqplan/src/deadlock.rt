@@ -1,7 +1,6 @@
-//! The command `deadlock` over two files and standard output.
+//! The command `deadlock`: it reads two files and writes to standard output.
 //!
-//! The files are opened in the order of the arguments, before either is read. Standard output has no buffer, as in
-//! `plan`.
+//! Both files are opened, in the order of the arguments, before either is read. Standard output has no buffer, as in `plan`.
 
 ghost use Rattle.std.specs.Prelude.{ℕ, List, IfOk};
 ghost use Rattle.wq_commands.specs.Deadlocking.{Judges};
@@ -19,9 +18,9 @@ use std::rt::Files;
 use wq_commands::{End, Fault, MAX_DECLARATION, Metered, deadlock_cmd, read_text};
 use wq_diagnosis::Source;
 
-/// Answers the declaration in the file of the first path and the assignment in that of the second.
+/// Prints the verdict on the assignment in the file at the second path, for the declaration in that at the first.
 ///
-/// A file that can't be opened is `Fault::Read`. Of a text that is refused standard error says what is wrong.
+/// A file that can't be opened is `Fault::Read`. Where a text is refused, standard error says what is wrong.
 pub(crate) fn deadlock<R: Files + Print + Eprint + AllocGlobal>(
     rt: &R,
     seed: u64,
@@ -51,7 +50,7 @@ pub(crate) fn deadlock<R: Files + Print + Eprint + AllocGlobal>(
     Ok(end)
 }
 
-/// Writes the verdict on the declaration that the first input has and the assignment that the second has. Both are handed out as
+/// Writes the verdict on the declaration in the first input and the assignment in the second. It also hands back both texts, as
 /// far as they were read.
 fn deadlock_input<D: Read + Drop, A: Read + Drop, W: Write>(
     alloc: Global,

@@ -1,7 +1,7 @@
-//! What is said on standard error of a text that was refused.
+//! What standard error says of a text that was refused.
 //!
-//! It comes after the refusal is written, and changes neither standard output nor the status: where memory for it is refused, or
-//! standard error can't be written, it is left out. It takes the time and the memory of reading the texts once more.
+//! It is written after the refusal, and changes neither standard output nor the status. Where memory for it runs out, or standard
+//! error can't be written, it is left out. It takes the time and the memory of reading the texts once more.
 
 use std::alloc::{AllocError, Global};
 use std::str;
@@ -10,7 +10,7 @@ use wq_diagnosis::{Kind, Source, of_certificate, of_declaration, of_no, of_too_m
 /// The name of standard input in a diagnosis.
 pub(crate) const STDIN: &str = "<stdin>";
 
-/// Says what is wrong, where anything is. Gives whether there was anything to say.
+/// Prints what is wrong, if anything is. It returns whether there was anything to say, and true where memory ran out.
 fn say(rt: &impl Eprint, said: Result<Option<Vec<u8>>, AllocError>) -> bool {
     match said {
         Ok(Some(text)) => {
@@ -31,8 +31,8 @@ pub(crate) fn say_of_declaration<R: Eprint + AllocGlobal>(
     say(rt, of_declaration(rt.alloc(), seed, declaration));
 }
 
-/// Says what is wrong with a certificate of a declaration, where that isn't refused itself. Gives whether there was anything to
-/// say.
+/// Says what is wrong with a certificate of a declaration, unless the declaration itself is refused. It returns whether there was
+/// anything to say.
 pub(crate) fn say_of_certificate<R: Eprint + AllocGlobal>(
     rt: &R,
     seed: u64,
@@ -46,7 +46,7 @@ pub(crate) fn say_of_certificate<R: Eprint + AllocGlobal>(
     )
 }
 
-/// Says what is wrong with the first of the two that is refused: a declaration, and an assignment of it.
+/// Says what is wrong with the first of two texts that is refused: a declaration, and an assignment of it.
 pub(crate) fn say_of_assignment<R: Eprint + AllocGlobal>(
     rt: &R,
     seed: u64,
@@ -57,7 +57,7 @@ pub(crate) fn say_of_assignment<R: Eprint + AllocGlobal>(
     say_of_certificate(rt, seed, Kind::Assignment, declaration.text, assignment);
 }
 
-/// Says what is wrong with a declaration that was not run: it is none, or its plan is too large.
+/// Says why a declaration wasn't run: the text isn't a declaration, or its plan is too large.
 pub(crate) fn say_of_run<R: Eprint + AllocGlobal>(rt: &R, seed: u64, declaration: Source<'_>) {
     let alloc: Global = rt.alloc();
     let said = match of_declaration(alloc, seed, declaration) {
@@ -67,7 +67,7 @@ pub(crate) fn say_of_run<R: Eprint + AllocGlobal>(rt: &R, seed: u64, declaration
     say(rt, said);
 }
 
-/// Says what a certificate of a declaration lacks to which the answer is no.
+/// Says what a certificate of a declaration lacks, where the answer to it is no.
 pub(crate) fn say_of_no<R: Eprint + AllocGlobal>(
     rt: &R,
     seed: u64,

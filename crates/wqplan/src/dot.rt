@@ -1,7 +1,6 @@
-//! The command `dot` over one file or two and standard output.
+//! The command `dot`: it reads one file or two, and writes to standard output.
 //!
-//! The files are opened in the order of the arguments, before either is read. Standard output has no buffer, as in
-//! `plan`.
+//! The files are opened in the order of the arguments, before either is read. Standard output has no buffer, as in `plan`.
 
 ghost use Rattle.std.specs.Prelude.{ℕ, List, IfOk, option_map};
 ghost use Rattle.wq_cert.specs.Texts.{max_certificate};
@@ -21,10 +20,10 @@ use wq_commands::{End, Fault, MAX_DECLARATION, Metered, read_text};
 use wq_diagnosis::Source;
 use wq_dot::{dot_cmd, own_dot_cmd};
 
-/// Draws the declaration in the file of the first path, on the workqueues of the assignment in that of the second, where there is
-/// one, or else on those of its plan.
+/// Draws the declaration in the file at the first path, on the workqueues of the assignment in that at the second, or, if there
+/// is none, on those of its plan.
 ///
-/// A file that can't be opened is `Fault::Read`. Of a text that is refused standard error says what is wrong.
+/// A file that can't be opened is `Fault::Read`. Where a text is refused, standard error says what is wrong.
 pub(crate) fn dot<R: Files + Print + Eprint + AllocGlobal>(
     rt: &R,
     seed: u64,
@@ -69,7 +68,7 @@ fn of_assignment<R: Files + Print + Eprint + AllocGlobal>(
     Ok(end)
 }
 
-/// Draws a declaration and its plan, or, where there is none, each group on a workqueue of its own.
+/// Draws a declaration and its plan. Where there is no plan, each group is on a workqueue of its own.
 fn of_groups<R: Files + Print + Eprint + AllocGlobal>(
     rt: &R,
     seed: u64,
@@ -87,8 +86,8 @@ fn of_groups<R: Files + Print + Eprint + AllocGlobal>(
     Ok(end)
 }
 
-/// Writes the drawing of the declaration that the first input has and the assignment that the second has. Both are handed out
-/// as far as they were read.
+/// Writes the drawing of the declaration in the first input and the assignment in the second. It also hands back both texts, as
+/// far as they were read.
 fn dot_input<D: Read + Drop, A: Read + Drop, W: Write>(
     alloc: Global,
     seed: u64,
@@ -110,7 +109,7 @@ fn dot_input<D: Read + Drop, A: Read + Drop, W: Write>(
     Ok((end, text, lanes))
 }
 
-/// Writes the drawing of the declaration that `input` has. The text is handed out as far as it was read.
+/// Writes the drawing of the declaration in `input`. It also hands back the text, as far as it was read.
 fn own_dot_input<I: Read + Drop, W: Write>(
     alloc: Global,
     seed: u64,

@@ -1,7 +1,7 @@
-//! How the process ends: its exit status, and what it says of a run that has no answer.
+//! How the process ends: its exit status, and what it prints where a run has no answer.
 //!
-//! The statuses are those of docs/FORMAT.md: 0 to 2 as `End` has them, 2 for a wrong command line too, and 3 for a
-//! fault. A line that can't be written to standard error is lost: the status says the same.
+//! The statuses are those of docs/FORMAT.md: 0 to 2 as `End` has them, 2 for a wrong command line too, and 3 for a fault. A line
+//! that can't be written to standard error is lost, but the status says the same.
 
 ghost use Rattle.std.specs.Prelude.{◌≡◌, ◌≢◌, ◌⊎◌, OnOk, OnErr};
 ghost use Rattle.std.specs.IoError.{error_kind};
@@ -25,7 +25,7 @@ const MISUSED: u8 = 2;
 /// The status of a fault.
 const FAULTED: u8 = 3;
 
-/// Says which fault stopped the run.
+/// Prints which fault stopped the run. The status is 3.
 fn faulted(rt: &impl Eprint, fault: CommandFault) -> u8
     ensures { result ≡ 3 }
 {
@@ -55,7 +55,7 @@ pub(crate) fn unread(rt: &impl Eprint, error: &io::Error) -> u8
     MISUSED
 }
 
-/// The status where the words ask for no command: help or the version is shown, or the mistake is said.
+/// The status where the words ask for no command. Help or the version is printed, or else the mistake.
 pub(crate) fn unasked<R: Print + Eprint>(rt: &R, error: &Error) -> u8
     ensures memory { kind_of error.now ≡ ErrorKind.OutOfMemory → result ≡ 3 }
     ensures shown { (kind_of error.now ≡ ErrorKind.DisplayHelp) ⊎ (kind_of error.now ≡ ErrorKind.DisplayVersion)
@@ -73,7 +73,7 @@ pub(crate) fn unasked<R: Print + Eprint>(rt: &R, error: &Error) -> u8
     shown(rt, &printed)
 }
 
-/// The status where help or the version was to be printed.
+/// The status after the attempt to print help or the version.
 fn shown(rt: &impl Eprint, printed: &io::Result<()>) -> u8
     ensures worked { OnOk printed.now (result ≡ 0) }
     ensures failed { OnErr printed.now (result ≡ 3) }

@@ -10,8 +10,8 @@ use std::io;
 use wq_commands::{End, Fault, Metered};
 use wq_explain::{Explained, explain_cmd};
 
-/// Prints what a number or a name means, or the list of all that have an explanation, where there is no word. A word without an
-/// explanation ends as a text that is refused.
+/// Prints what a number or a name means, or, without a word, the list of all that have an explanation. A word without an
+/// explanation ends the command as a refused text does.
 pub(crate) fn explain<R: Print + AllocGlobal>(rt: &R, code: Option<&str>) -> Result<End, Fault>
     ensures { IfOk result (λ end. end ≡ explain_end (explained_end (option_map (λ s. s.now) code.entry))) }
 {

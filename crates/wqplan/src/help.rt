@@ -1,4 +1,4 @@
-//! What help says of the program and its commands.
+//! The texts of help: for the program, its commands and their arguments.
 
 /// What the program is for.
 pub(crate) const PROGRAM: &str = "\
@@ -45,11 +45,11 @@ pub(crate) const CERT: &str = "A plan or a circle, in the form in which `plan` p
 /// What ASSIGN is.
 pub(crate) const ASSIGN: &str = "Which item is on which workqueue: `wq` lines alone, or a plan";
 
-/// What ASSIGN is of a command that can do without it.
+/// What ASSIGN is for a command that works without it too.
 pub(crate) const ANY_ASSIGN: &str =
     "As for `deadlock`. Without it each group has its own workqueue";
 
-/// What ASSIGN is of a command that draws the plan without it.
+/// What ASSIGN is for a command that, without it, draws the plan.
 pub(crate) const DRAWN_ASSIGN: &str =
     "As for `deadlock`. Without it the plan's workqueues are drawn";
 

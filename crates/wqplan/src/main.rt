@@ -1,10 +1,9 @@
 //! `wqplan`: the commands of `wq_commands`, `wq_circles`, `wq_dot`, `wq_run` and `wq_explain`, over the files, the standard
 //! streams and the threads of a process.
 //!
-//! What this crate adds is the command line, the files and the exit status; what is read and what is answered stand
-//! in those crates. The formats and the statuses are those of docs/FORMAT.md. The status is returned from `main` as
-//! a number and never as an error, since the status of an error is 1, which means an answer that is bad. The time is that
-//! of the command.
+//! This crate adds the command line, the files and the exit status. What is read and what is answered is defined in those crates.
+//! The formats and the statuses are those of docs/FORMAT.md. `main` returns the status as a number and never as an error: an
+//! error would give the status 1, which means a bad answer. The running time is that of the command.
 #![tactic(auto)]
 
 ghost use Rattle.std.specs.Prelude.{IfOk};

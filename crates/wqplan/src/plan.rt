@@ -1,7 +1,6 @@
-//! The command `plan` over a file or standard input, and standard output.
+//! The command `plan`: it reads a file or standard input, and writes to standard output.
 //!
-//! Standard output has no buffer, so what was written has left the process, and a write that the system refuses is
-//! seen.
+//! Standard output has no buffer. So what was written has left the process, and a write that the system refuses is noticed.
 
 ghost use Rattle.std.specs.Prelude.{ℕ, List, IfOk};
 ghost use Rattle.wq_meter.specs.Meter.{WritesWhole};
@@ -18,9 +17,9 @@ use std::rt::Files;
 use wq_commands::{End, Fault, MAX_DECLARATION, Metered, plan_cmd, read_text};
 use wq_diagnosis::Source;
 
-/// Answers the declaration in the file of this path, or in standard input where there is none.
+/// Answers the declaration in the file at this path, or, without a path, in standard input.
 ///
-/// A file that can't be opened is `Fault::Read`. Of a text that is refused standard error says what is wrong.
+/// A file that can't be opened is `Fault::Read`. Where a text is refused, standard error says what is wrong.
 pub(crate) fn plan<R: Files + Input + Print + Eprint + AllocGlobal>(
     rt: &R,
     seed: u64,
@@ -34,7 +33,7 @@ pub(crate) fn plan<R: Files + Input + Print + Eprint + AllocGlobal>(
     }
 }
 
-/// Answers the declaration that `input` has, which is called `file` where it is refused.
+/// Answers the declaration in `input`. A diagnosis calls it `file`.
 fn answer<R: Print + Eprint + AllocGlobal, I: Read + Drop>(
     rt: &R,
     seed: u64,
@@ -51,7 +50,7 @@ fn answer<R: Print + Eprint + AllocGlobal, I: Read + Drop>(
     Ok(end)
 }
 
-/// Writes the answer to the declaration that `input` has. The text is handed out as far as it was read.
+/// Writes the answer to the declaration in `input`. It also hands back the text, as far as it was read.
 fn plan_input<I: Read + Drop, W: Write>(
     alloc: Global,
     seed: u64,

@@ -1,7 +1,6 @@
-//! The command `replay` over three files and standard output.
+//! The command `replay`: it reads three files and writes to standard output.
 //!
-//! The files are opened in the order of the arguments, before any is read. Standard output has no buffer, as in
-//! `plan`.
+//! The files are opened in the order of the arguments, before any of them is read. Standard output has no buffer, as in `plan`.
 
 ghost use Rattle.std.specs.Prelude.{ℕ, List, IfOk};
 ghost use Rattle.wq_cert.specs.Texts.{max_certificate};
@@ -19,9 +18,9 @@ use std::rt::Files;
 use wq_commands::{End, Fault, MAX_DECLARATION, Metered, read_text, replay_cmd};
 use wq_diagnosis::{Kind, Source};
 
-/// Answers the declaration, the assignment and the run in the files of these paths.
+/// Answers for the declaration, the assignment and the run in the files at these paths.
 ///
-/// A file that can't be opened is `Fault::Read`. Of a text that is refused standard error says what is wrong.
+/// A file that can't be opened is `Fault::Read`. Where a text is refused, standard error says what is wrong.
 pub(crate) fn replay<R: Files + Print + Eprint + AllocGlobal>(
     rt: &R,
     seed: u64,
@@ -50,7 +49,7 @@ struct Texts {
     run: Vec<u8>,
 }
 
-/// Says what is wrong with the first text that is refused.
+/// Says on standard error what is wrong with the first text that is refused.
 fn say_of<R: Eprint + AllocGlobal>(
     rt: &R,
     seed: u64,
@@ -82,8 +81,8 @@ fn say_of<R: Eprint + AllocGlobal>(
     }
 }
 
-/// Writes the answer to the declaration, the assignment and the run that these inputs have. The texts are handed out as far as
-/// they were read.
+/// Writes the answer to the declaration, the assignment and the run in these inputs. It also hands back the texts, as far as they
+/// were read.
 fn replay_input<D: Read + Drop, A: Read + Drop, S: Read + Drop, W: Write>(
     alloc: Global,
     seed: u64,

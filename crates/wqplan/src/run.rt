@@ -1,4 +1,4 @@
-//! The command `run` over a file and standard output.
+//! The command `run`: it reads a file and writes to standard output.
 //!
 //! The file is read to its end before a thread is started. Standard output has no buffer, as in `plan`.
 
@@ -20,9 +20,9 @@ use wq_commands::{End, MAX_DECLARATION, Metered, read_text};
 use wq_diagnosis::Source;
 use wq_run::{CommandFault, run_cmd};
 
-/// Plans the declaration in the file of this path, and runs its plan.
+/// Plans the declaration in the file at this path, and runs the plan.
 ///
-/// A file that can't be opened is `fault read`. Of a text or a plan that is refused standard error says what is wrong.
+/// A file that can't be opened is `fault read`. Where a text or a plan is refused, standard error says what is wrong.
 pub(crate) fn run<R: Files + Print + Eprint + AllocGlobal + Threads + Wait + Sync>(
     rt: &R,
     seed: u64,
@@ -40,7 +40,8 @@ pub(crate) fn run<R: Files + Print + Eprint + AllocGlobal + Threads + Wait + Syn
     Ok(end)
 }
 
-/// Writes what came of the plan of the declaration that the input has. The text is handed out as far as it was read.
+/// Writes what happened when the plan of the declaration in the input was run. It also hands back the text, as far as it was
+/// read.
 fn run_input<R: Threads + Wait + Sync, D: Read + Drop, W: Write>(
     rt: &R,
     alloc: Global,
