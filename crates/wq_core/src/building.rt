@@ -1,7 +1,6 @@
-//! The parts of a machine, made of a declaration and an assignment.
+//! The parts of a machine, made from a declaration and an assignment.
 //!
-//! Each part takes time and memory in the number of what it lists: the items, or the lanes. A list of nothing takes no
-//! memory.
+//! Each part takes time and memory in the number of what it lists: the items, or the lanes. An empty list takes no memory.
 
 ghost use Rattle.std.specs.Prelude.{◌≡◌, ◌<◌, ◌≤◌, ℕ, length, replicate, slice_index, IfOk, OnErr};
 ghost use Rattle.std.specs.List.{All};
@@ -44,7 +43,7 @@ fn zeros<A: Allocator + Copy>(alloc: A, count: u16) -> Result<Vec<usize, A>, All
     Ok(counts)
 }
 
-/// Of each lane in turn how many items are on it.
+/// How many items are on each lane, in turn.
 pub(crate) fn count_items<A: Allocator + Copy>(
     alloc: A,
     lanes: u16,

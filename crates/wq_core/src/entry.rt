@@ -1,4 +1,4 @@
-//! What is on a lane: queued entries, and the one that runs.
+//! What is on a lane: queued entries, and the one that is running.
 //!
 //! Nothing is computed here.
 
@@ -7,7 +7,7 @@ use wq_items::ItemId;
 /// An accepted queueing of an item, by its number.
 #[derive(Clone, Copy, Debug, PartialEq, Eq)]
 pub struct Entry {
-    /// How many queueings were accepted before it, over all lanes.
+    /// How many queueings were accepted before it, on all lanes.
     pub number: u32,
     /// The item that was queued.
     pub item: ItemId,
@@ -18,17 +18,17 @@ pub struct Entry {
 pub struct Waiting {
     /// The item.
     pub target: ItemId,
-    /// The number that the next queueing would have got when the wait began: entries below it are waited for.
+    /// The number that the next queueing would have got when the wait began. Entries with lower numbers are waited for.
     pub mark: u32,
 }
 
-/// An entry that runs.
+/// An entry that is running.
 #[derive(Clone, Copy, Debug, PartialEq, Eq)]
 pub struct Running {
     /// The entry.
     pub entry: Entry,
     /// How many waits it has made.
     pub made: u32,
-    /// What it waits for, while it does.
+    /// What it waits for, while it waits.
     pub waiting: Option<Waiting>,
 }

@@ -1,7 +1,7 @@
 //! A lane: what is queued on it, and what its context runs.
 //!
-//! It changes as "Rules" in the specs of this crate says, in words of one lane alone. `cancel` finds the entry in time in the
-//! logarithm of the number of pending entries, and then moves those before or after it, whichever are fewer; each other call
+//! It changes as "Rules" in the specs of this crate says, in terms of one lane alone. `cancel` finds the entry in time in the
+//! logarithm of the number of pending entries, and then moves those before or after it, whichever are fewer. Each other call
 //! takes constant time. Only `new` takes memory.
 
 ghost use Rattle.std.specs.Prelude.{◌≡◌, ◌≢◌, ◌<◌, ◌+◌, ◌^◌, ◌↔◌, length, AllPairs, IfOk, OnErr, IfSome, IsTrue, slice_get};
@@ -35,8 +35,8 @@ impl<A: Allocator> Model for Lane<A> {
 }
 
 impl<A: Allocator> Lane<A> {
-    /// An idle lane with room for this many entries. The only error is out of memory (20), which can't occur where there is no
-    /// entry.
+    /// An idle lane with room for this many entries. The only error is out of memory (20), which can't occur where there is room
+    /// for none.
     pub fn new(alloc: A, room: usize) -> Result<Self, AllocError>
         ensures idle { IfOk result (λ l. l.lane ≡ idle_lane) }
         ensures room { IfOk result (λ l. l.room ≡ room) }
@@ -77,7 +77,7 @@ impl<A: Allocator> Lane<A> {
         self.pending.iter()
     }
 
-    /// Whether the entry that runs is of an item and has a number below the mark.
+    /// Whether the running entry is of an item and has a number below the mark.
     pub(crate) fn runs_below(&self, item: ItemId, mark: u32) -> bool
         ensures { result ≡ runs_below item mark self.now.lane.running }
     {
@@ -87,7 +87,7 @@ impl<A: Allocator> Lane<A> {
         }
     }
 
-    /// An entry is queued, last.
+    /// Queues an entry, as the last one.
     pub fn queue(&mut self, entry: Entry)
         requires { length self.old.lane.pending < self.old.room }
         ensures lane { self.new.lane ≡ with_queued entry self.old.lane }
@@ -96,7 +96,7 @@ impl<A: Allocator> Lane<A> {
         self.pending.push_back_reserved(entry);
     }
 
-    /// A pending entry is taken out, the only one of its item. It is found by its number, since numbers rise.
+    /// Removes a pending entry, the only one of its item. It is found by its number, since numbers rise.
     pub(crate) fn cancel(&mut self, entry: Entry)
         requires pending { IsPendingOn self.old.lane entry }
         requires once { AllPairs (λ (e f : Entry). e.item ≢ f.item) self.old.lane.pending }
@@ -108,7 +108,7 @@ impl<A: Allocator> Lane<A> {
         self.pending.remove(at);
     }
 
-    /// The first pending entry runs.
+    /// Starts the first pending entry.
     pub fn start(&mut self)
         ensures lane { self.new.lane ≡ with_started self.old.lane }
         ensures room { self.new.room ≡ self.old.room }
@@ -120,7 +120,7 @@ impl<A: Allocator> Lane<A> {
         });
     }
 
-    /// What runs begins to wait for an item.
+    /// Makes what runs begin to wait for an item.
     pub fn wait(&mut self, target: ItemId, mark: u32)
         requires { IfSome self.old.lane.running (λ r. r.made + 1 < 2 ^ 32) }
         ensures lane { self.new.lane ≡ with_wait target mark self.old.lane }
@@ -133,7 +133,7 @@ impl<A: Allocator> Lane<A> {
         });
     }
 
-    /// What runs no longer waits.
+    /// Ends the wait of what runs.
     pub fn over(&mut self)
         ensures lane { self.new.lane ≡ with_over self.old.lane }
         ensures room { self.new.room ≡ self.old.room }
@@ -145,7 +145,7 @@ impl<A: Allocator> Lane<A> {
         });
     }
 
-    /// Nothing runs any more.
+    /// Finishes what runs.
     pub fn finish(&mut self)
         ensures lane { self.new.lane ≡ with_finished self.old.lane }
         ensures room { self.new.room ≡ self.old.room }

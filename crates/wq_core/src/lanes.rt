@@ -1,8 +1,7 @@
-//! All lanes, which are changed one at a time.
+//! All lanes. They are changed one at a time.
 //!
-//! The machine holds its lanes here and nowhere else, so that a change of one lane is seen to leave the others as they
-//! are. `new` and `are_idle` take time in the number of lanes, each other call takes constant time. Only `new` takes
-//! memory.
+//! The machine holds its lanes only here, so that a change of one lane is seen to leave the others as they are. `new` and
+//! `are_idle` take time in the number of lanes. Each other call takes constant time. Only `new` takes memory.
 
 ghost use Rattle.std.specs.Prelude.{◌≡◌, ◌<◌, ◌↔◌, length, map, slice_get, Some, IfOk, OnErr, IsTrue};
 ghost use Rattle.std.specs.List.{All};
@@ -62,7 +61,7 @@ impl<A: Allocator> Lanes<A> {
         self.lanes.iter().all(|lane| lane.is_idle())
     }
 
-    /// A lane below `len()`.
+    /// The lane with a number below `len()`.
     pub fn lane(&self, q: LaneId) -> &Lane<A>
         requires { q < length self.now }
         ensures { slice_get self.now q ≡ Some result.now }
@@ -70,7 +69,7 @@ impl<A: Allocator> Lanes<A> {
         &self.lanes[usize::from(q.get())]
     }
 
-    /// A lane below `len()`, for writing: what is written changes this lane and no other.
+    /// The lane with a number below `len()`, for writing. What is written changes this lane and no other.
     pub fn lane_mut(&mut self, q: LaneId) -> &mut Lane<A>
         requires { q < length self.old }
         ensures* writes_back { sem 𝓛 (LendsLane A.row A.Allocator self.entry q result) }

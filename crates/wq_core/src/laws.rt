@@ -1,6 +1,6 @@
 //! Laws about the machine, as contracts of functions with empty bodies.
 //!
-//! They are said of wirings, runs and states alone, whatever code makes the steps.
+//! They are about wirings, runs and states alone, whatever code makes the steps.
 
 ghost use Rattle.std.specs.Prelude.{◌≡◌, ℕ, ◌<◌, ◌≤◌, ◌⊎◌, List, ◌++◌, length};
 ghost use Rattle.std.specs.List.{All, count_by};
@@ -18,13 +18,13 @@ ghost use Rattle.wq_core.specs.Played.{CanMove, IsDeclaredStep, IsPlayedFrom, qu
 ghost use Rattle.wq_core.specs.Knot.{IsKnot};
 ghost use Rattle.wq_core.specs.Work.{work_left};
 
-/// What holds of every wiring holds of that of a declaration and an assignment of its groups: each item has one of the
-/// lanes, and each target is an item.
+/// A declaration and an assignment of its groups have a wiring, and what holds of every wiring holds of it: each item has one of
+/// the lanes, and each target is an item.
 pub fn wirings_are_sound()
     ensures { (d : Declaration) (a : Assignment) → IsDeclaration d → IsAssignment d.groups a → IsWiring (wiring d a) }
 {}
 
-/// After a run a step gives one number at most, lawful or not.
+/// After a run, a step gives at most one number, whether it is lawful or not.
 pub fn a_step_gives_one_number()
     ensures { (w : Wiring) (steps : List Step) (step : Step) (n m : ℕ) → IsRun w steps →
         Gives (end_of w steps) step n → Gives (end_of w steps) step m → n ≡ m }
@@ -35,8 +35,8 @@ pub fn a_step_gives_a_number()
     ensures { (w : Wiring) (s : State) (step : Step) → Lawful w s step → (n : ℕ) × Gives s step n }
 {}
 
-/// Where nothing more is queued, the rescuers make at most as many steps as there is work left, whatever the order and
-/// whatever is cancelled between.
+/// Where nothing more is queued, the rescuers make at most as many steps as there is work left, whatever the order, and whatever
+/// is cancelled in between.
 pub fn rescuer_steps_are_bounded()
     ensures { (w : Wiring) (steps more : List Step) → IsRun w steps →
         All (λ (step : Step). IsRescuerStep step ⊎ IsCancel step) more → IsRunFrom w (end_of w steps) more →
@@ -50,18 +50,18 @@ pub fn falling_numbers_are_safe()
         ((i j : ℕ) → ItemWaits w.waits i j → number (lane_of w j) < number (lane_of w i)) → IsSafe w }
 {}
 
-/// A lane has one step at most that flushes as declared.
+/// A lane has at most one step that flushes as declared.
 pub fn a_lane_has_one_declared_step()
     ensures { (w : Wiring) (s : State) (q : ℕ) (a b : Step) → IsDeclaredStep w s q a → IsDeclaredStep w s q b → a ≡ b }
 {}
 
-/// After a run each lane that can move has such a step, whatever was flushed before.
+/// After a run, each lane that can move has such a step, whatever was flushed before.
 pub fn a_lane_that_can_move_has_a_declared_step()
     ensures { (w : Wiring) (steps : List Step) (q : ℕ) → IsRun w steps → CanMove w (end_of w steps) q →
         (step : Step) × IsDeclaredStep w (end_of w steps) q step }
 {}
 
-/// Where no run ends stuck, nothing is unfinished in a state that a run leaves and in which no rescuer can make a step.
+/// Where no run ends stuck: if a run leaves a state in which no rescuer can make a step, nothing is unfinished in that state.
 pub fn at_rest_nothing_is_unfinished()
     ensures { (w : Wiring) (steps : List Step) → IsSafe w → IsRun w steps →
         ((step : Step) → IsRescuerStep step → ¬ Lawful w (end_of w steps) step) → ¬ HasUnfinished (end_of w steps) }
@@ -76,7 +76,7 @@ pub fn lanes_come_to_wait_in_a_circle()
     ensures of_a_circle { (d : Declaration) (a : Assignment) → Circle (GroupWaits d) → Circle (LaneWaits (wiring d a)) }
 {}
 
-/// Where items hold one another up, the run that queues them before all others, and is then played to its end, deadlocks.
+/// Where items hold one another up, the run that queues them before all others and is then played to its end deadlocks.
 pub fn a_knot_deadlocks()
     ensures { (w : Wiring) (knot : List ℕ) (steps : List Step) → IsWiring w → IsKnot w knot →
         IsPlayedFrom w (end_of w (queue_order w knot)) steps → DeadlocksBy w (queue_order w knot ++ steps) }
@@ -87,8 +87,8 @@ pub fn lanes_that_wait_in_a_circle_deadlock()
     ensures { (w : Wiring) → IsWiring w → Circle (LaneWaits w) → Deadlocks w }
 {}
 
-/// Where groups wait for one another in a chain of as many as there are lanes, an assignment whose lanes fall along all
-/// that groups wait for is least.
+/// Where as many groups as there are lanes wait for one another in a chain, an assignment whose lanes fall along all waits of
+/// groups is least.
 pub fn a_chain_as_long_shows_the_least()
     ensures { (d : Declaration) (a : Assignment) (groups : List ℕ) → IsDeclaration d → IsAssignment d.groups a →
         ((g h : ℕ) → GroupWaits d g h → group_lane a h < group_lane a g) →

@@ -1,10 +1,10 @@
 //! The core machine: what may happen while memory is short, and what it does.
 //!
-//! What the layer above relies on: a step is done exactly where it is lawful, with its effect. Each lane is a workqueue
-//! with WQ_MEM_RECLAIM and one execution context, its rescuer (Documentation/core-api/workqueue.rst, "WQ_MEM_RECLAIM").
-//! The machine knows lists of steps only: no graph, no rank and no chain. A step takes time in the logarithm of the number
-//! of entries that are pending on a lane, or of the flushes of an item, and a cancellation moves entries; questions about
-//! all lanes take time in these.
+//! What the layer above relies on: a step is made exactly where it is lawful, with its effect. Each lane is a workqueue with
+//! WQ_MEM_RECLAIM and one execution context, its rescuer (Documentation/core-api/workqueue.rst, "WQ_MEM_RECLAIM"). The machine
+//! knows only lists of steps: no graph, no rank and no chain. A step takes time in the logarithm of the number of entries that
+//! are pending on a lane, or of the flushes of an item, and a cancellation moves entries. Questions about all lanes take time in
+//! the number of these.
 #![tactic(auto)]
 
 mod building;

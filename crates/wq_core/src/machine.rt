@@ -1,10 +1,10 @@
 //! The machine: its wiring, its state, and the steps that change it.
 //!
-//! The rules are those of "Rules" in the specs of this crate. The number of an item's pending entry stands beside the lanes, so a
-//! question about an item takes constant time. So does each step, and the question which number it would give, except for two: a
-//! cancellation takes time in the logarithm of the number of entries that are pending on the lane, and moves those before or
-//! after the one that is taken out, whichever are fewer; and a wait takes time in the logarithm of the number of the item's
-//! targets. Only `new` takes memory; it takes memory in the number of items, flushes and lanes, and time in that too, times the
+//! The rules are those of "Rules" in the specs of this crate. The number of an item's pending entry is kept beside the lanes, so
+//! a question about an item takes constant time. So does each step, and the question which number it would give, with two
+//! exceptions. A cancellation takes time in the logarithm of the number of entries that are pending on the lane, and moves those
+//! before or after the one that is removed, whichever are fewer. A wait takes time in the logarithm of the number of the item's
+//! targets. Only `new` takes memory. It takes memory in the number of items, flushes and lanes; its time is that times the
 //! logarithm of the flushes of one item.
 
 ghost use Rattle.std.specs.Prelude.{◌≡◌, ◌<◌, ◌≤◌, length, slice_get, Some, IfSome, IfNone, OnSome, IfOk, OnErr, IfErr, IsTrue, ◌↔◌, take};
@@ -50,8 +50,8 @@ impl<A: Allocator> Model for Core<A> {
 }
 
 impl<A: Allocator + Copy> Core<A> {
-    /// The machine of a declaration and an assignment, before anything is queued: of a table, the groups of its items,
-    /// and the lane of each group.
+    /// Makes the machine of a declaration and an assignment, before anything is queued: of a table, the groups of its items, and
+    /// the lane of each group.
     ///
     /// The only error is out of memory (20), which can't occur where there is no lane; any other machine holds lanes in memory.
     pub fn new(
@@ -98,7 +98,7 @@ impl<A: Allocator> Core<A> {
         self.lanes.len()
     }
 
-    /// A lane, if there is such a lane.
+    /// A lane, where there is such a lane.
     pub(crate) fn lane(&self, q: LaneId) -> &Lane<A>
         requires { q < self.now.wiring.lanes }
         ensures { result.now.lane ≡ lane_at self.now.state q }
@@ -119,8 +119,8 @@ impl<A: Allocator> Core<A> {
         }
     }
 
-    /// The entry that a lane starts next, the first of its pending ones; none where nothing is pending on it, or where
-    /// there is no such lane.
+    /// The entry that a lane starts next, the first of its pending ones; none where nothing is pending on it, or there is no such
+    /// lane.
     pub fn first_on(&self, q: LaneId) -> Option<Entry>
         ensures first { result ≡ slice_get (lane_at self.now.state q).pending 0 }
         ensures machine { IsMachine self.now }
@@ -132,7 +132,7 @@ impl<A: Allocator> Core<A> {
         }
     }
 
-    /// The lane on which an item is queued, runs and is waited for: that of its group.
+    /// The lane on which an item is queued, run and waited for: that of its group.
     pub fn lane_of(&self, item: ItemId) -> LaneId
         requires { item < items self.now.wiring }
         ensures lane { result ≡ lane_of self.now.wiring item }
@@ -141,7 +141,7 @@ impl<A: Allocator> Core<A> {
         self.lane_of_item[usize::from(item.get())]
     }
 
-    /// The pending entry of an item, if there is such an item.
+    /// The pending entry of an item, where there is one.
     fn pending_entry(&self, item: ItemId) -> Option<Entry>
         ensures some { IfSome result (λ e. IsPendingOn (lane_at self.now.state (lane_of self.now.wiring item)) e × (e.item ≡ item)) }
         ensures item { OnSome result (item < items self.now.wiring) }
@@ -173,22 +173,22 @@ impl<A: Allocator> Core<A> {
         }
     }
 
-    /// Whether an unfinished entry of an item, pending or running, has a number below the mark; none is of an item that
-    /// doesn't exist.
+    /// Whether an unfinished entry of an item, pending or running, has a number below the mark. An item that doesn't exist has
+    /// none.
     pub fn unfinished_below(&self, item: ItemId, mark: u32) -> bool
         ensures { IsTrue result ↔ HasUnfinishedBelow self.now.state item mark }
     {
         self.has_pending_below(item, mark) || self.runs_below(item, mark)
     }
 
-    /// Whether an entry of an item is unfinished, pending or running; none is of an item that doesn't exist.
+    /// Whether an item has an unfinished entry, pending or running. An item that doesn't exist has none.
     pub fn has_unfinished(&self, item: ItemId) -> bool
         ensures { IsTrue result ↔ HasUnfinishedOf self.now.state item }
     {
         self.unfinished_below(item, self.next_number())
     }
 
-    /// The number that the next accepted queueing is given: how many were accepted so far.
+    /// The number that the next accepted queueing gets: how many were accepted so far.
     pub fn next_number(&self) -> u32
         ensures number { result ≡ self.now.state.next }
         ensures machine { IsMachine self.now }
@@ -196,7 +196,7 @@ impl<A: Allocator> Core<A> {
         self.next
     }
 
-    /// The targets that an item declares, in order: what its execution waits for, where it flushes as declared.
+    /// The targets that an item declares, in order: what its execution waits for where it flushes as declared.
     pub fn waits(&self, item: ItemId) -> &[Target]
         requires { item < items self.now.wiring }
         ensures { result.now ≡ declared_by self.now.wiring item }
@@ -285,7 +285,7 @@ impl<A: Allocator> Core<A> {
         }
     }
 
-    /// An item is queued; gives the number of its entry.
+    /// Queues an item, and gives the number of its entry.
     fn queue(&mut self, item: ItemId) -> Result<u32, StepError>
         ensures done { IfOk result (λ n. IsDone self.old (Queue item) n self.new) }
         ensures refused { IfErr result (λ e. IsRefusal self.old (Queue item) e × (self.new ≡ self.old)) }
@@ -303,7 +303,7 @@ impl<A: Allocator> Core<A> {
         Ok(number)
     }
 
-    /// The pending entry of an item is taken out; gives its number.
+    /// Removes the pending entry of an item, and gives its number.
     fn cancel(&mut self, item: ItemId) -> Result<u32, StepError>
         ensures done { IfOk result (λ n. IsDone self.old (Cancel item) n self.new) }
         ensures refused { IfErr result (λ e. IsRefusal self.old (Cancel item) e × (self.new ≡ self.old)) }
@@ -317,7 +317,7 @@ impl<A: Allocator> Core<A> {
         Ok(number)
     }
 
-    /// A lane starts its first pending entry; gives its number.
+    /// Starts the first pending entry of a lane, and gives its number.
     fn start(&mut self, q: LaneId, item: ItemId) -> Result<u32, StepError>
         ensures done { IfOk result (λ n. IsDone self.old (Start q item) n self.new) }
         ensures refused { IfErr result (λ e. IsRefusal self.old (Start q item) e × (self.new ≡ self.old)) }
@@ -330,7 +330,7 @@ impl<A: Allocator> Core<A> {
         Ok(number)
     }
 
-    /// What a lane runs begins to wait; gives the mark.
+    /// Makes what a lane runs begin to wait, and gives the mark.
     fn wait(&mut self, q: LaneId, target: ItemId) -> Result<u32, StepError>
         ensures done { IfOk result (λ n. IsDone self.old (Wait q target) n self.new) }
         ensures refused { IfErr result (λ e. IsRefusal self.old (Wait q target) e × (self.new ≡ self.old)) }
@@ -342,7 +342,7 @@ impl<A: Allocator> Core<A> {
         Ok(number)
     }
 
-    /// What a lane runs has waited; gives the mark.
+    /// Ends the wait of what a lane runs, and gives the mark.
     fn over(&mut self, q: LaneId, target: ItemId) -> Result<u32, StepError>
         ensures done { IfOk result (λ n. IsDone self.old (Over q target) n self.new) }
         ensures refused { IfErr result (λ e. IsRefusal self.old (Over q target) e × (self.new ≡ self.old)) }
@@ -354,7 +354,7 @@ impl<A: Allocator> Core<A> {
         Ok(number)
     }
 
-    /// A lane finishes what it runs; gives the number of its entry.
+    /// Finishes what a lane runs, and gives the number of its entry.
     fn finish(&mut self, q: LaneId, item: ItemId) -> Result<u32, StepError>
         ensures done { IfOk result (λ n. IsDone self.old (Finish q item) n self.new) }
         ensures refused { IfErr result (λ e. IsRefusal self.old (Finish q item) e × (self.new ≡ self.old)) }
@@ -366,7 +366,7 @@ impl<A: Allocator> Core<A> {
         Ok(number)
     }
 
-    /// The number that a step would give; none where it wouldn't be made, as it isn't lawful (30) or the numbers are used up
+    /// The number that a step would give; none where it wouldn't be made, because it isn't lawful (30) or the numbers are used up
     /// (31).
     pub fn peek(&self, step: &Step) -> Option<u32>
         ensures some { IfSome result (λ n. IsDone self.now step.now n (machine_after self.now step.now)) }
@@ -385,11 +385,11 @@ impl<A: Allocator> Core<A> {
         }
     }
 
-    /// A step is made, and gives the number of the entry that is queued, taken out, started or finished, or the mark of the
-    /// wait that begins or is over.
+    /// Makes a step, and gives the number of the entry that is queued, removed, started or finished, or the mark of the wait that
+    /// begins or is over.
     ///
-    /// The error is `NotLawful` (30) exactly where the step isn't lawful, or `NumbersUsedUp` (31) exactly for a lawful
-    /// queueing that would be given the number 4,294,967,295. Then nothing is changed.
+    /// The error is `NotLawful` (30) exactly where the step isn't lawful, or `NumbersUsedUp` (31) exactly where a lawful queueing
+    /// would get the number 4,294,967,295. After an error nothing is changed.
     pub fn step(&mut self, step: Step) -> Result<u32, StepError>
         ensures done { IfOk result (λ n. IsDone self.old step n self.new) }
         ensures refused { IfErr result (λ e. IsRefusal self.old step e × (self.new ≡ self.old)) }
@@ -404,10 +404,9 @@ impl<A: Allocator> Core<A> {
         }
     }
 
-    /// All steps of a list are made in order, up to one that isn't made.
+    /// Makes the steps of a list in order, up to the first that isn't made.
     ///
-    /// The error has the place of that step, from 0, and why it isn't made; those before it are made, and those after it
-    /// are not.
+    /// The error has the index of that step, from 0, and the cause. The steps before it are made, and those after it aren't.
     pub fn run(&mut self, steps: &[Step]) -> Result<(), RunError>
         requires { length steps.now < 4294967295 }
         ensures done { IfOk result (λ _. AreDone self.old steps.now self.new) }
@@ -431,7 +430,7 @@ impl<A: Allocator> Core<A> {
         self.lanes.are_idle()
     }
 
-    /// Whether an entry of an item is pending; none is of an item that doesn't exist.
+    /// Whether an entry of an item is pending. An item that doesn't exist has none.
     pub fn is_pending(&self, item: ItemId) -> bool
         ensures { IsTrue result ↔ HasPending self.now.state item }
     {

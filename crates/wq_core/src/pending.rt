@@ -1,6 +1,6 @@
-//! Of each item the number of its pending entry.
+//! The number of each item's pending entry.
 //!
-//! The entries are on the lanes. Here the entry of an item is found without a look at its lane: each call takes constant time,
+//! The entries are on the lanes. Here the entry of an item is found without a look at its lane. Each call takes constant time,
 //! except for `new`, which takes time and memory in the number of items.
 
 ghost use Rattle.std.specs.Prelude.{◌≡◌, ◌<◌, length, replicate, slice_index_or, slice_set, Some, None, IfOk, OnErr};
@@ -9,7 +9,7 @@ use std::alloc::{AllocError, Allocator};
 use std::marker::Model;
 use wq_items::ItemId;
 
-/// The numbers, item by item; none where no entry of the item is pending.
+/// The numbers of the items' pending entries; none where no entry of the item is pending.
 #[derive(Drop)]
 pub(crate) struct PendingNumbers<A: Allocator> {
     numbers: Vec<Option<u32>, A>,
@@ -24,8 +24,8 @@ impl<A: Allocator> Model for PendingNumbers<A> {
 }
 
 impl<A: Allocator> PendingNumbers<A> {
-    /// This many items of which no entry is pending. The only error is out of memory (20), which can't occur where there is no
-    /// item.
+    /// Numbers for this many items, none of which has a pending entry. The only error is out of memory (20), which can't occur
+    /// where there is no item.
     pub(crate) fn new(alloc: A, items: u16) -> Result<Self, AllocError>
         ensures numbers { IfOk result (λ p. p ≡ replicate items None) }
         ensures memory { OnErr result (0 < items) }
@@ -35,14 +35,14 @@ impl<A: Allocator> PendingNumbers<A> {
         Ok(PendingNumbers { numbers })
     }
 
-    /// The number of an item's pending entry; none where no entry is pending, or where there is no such item.
+    /// The number of an item's pending entry; none where no entry is pending, or there is no such item.
     pub(crate) fn of(&self, item: ItemId) -> Option<u32>
         ensures { result ≡ slice_index_or self.now item None }
     {
         *self.numbers.get(usize::from(item.get()))?
     }
 
-    /// An entry of an item is pending now, with this number.
+    /// Notes that an entry of an item is now pending, with this number.
     pub(crate) fn note(&mut self, item: ItemId, number: u32)
         requires { item < length self.old }
         ensures { self.new ≡ slice_set self.old item (Some number) }
@@ -50,7 +50,7 @@ impl<A: Allocator> PendingNumbers<A> {
         self.numbers[usize::from(item.get())] = Some(number);
     }
 
-    /// No entry of an item is pending any more.
+    /// Notes that no entry of an item is pending any more.
     pub(crate) fn forget(&mut self, item: ItemId)
         requires { item < length self.old }
         ensures { self.new ≡ slice_set self.old item None }

@@ -1,9 +1,9 @@
 //! Questions about a lane: whether it can move, and its next step where what runs flushes as declared.
 //!
-//! A lane moves by the steps of its rescuer, by the rules of "Rules" in the specs of this crate: an idle lane starts what
-//! is queued, what waits goes on once its wait is over, and anything else that runs can finish. What flushes as declared
-//! waits for the targets of its item in their order, and finishes after the last. `declared` takes time in the number of
-//! entries that are pending on one lane, `enabled` that much for each lane. Nothing takes memory.
+//! A lane moves by the steps of its rescuer, by the rules of "Rules" in the specs of this crate: an idle lane starts what is
+//! queued, what waits goes on once its wait is over, and anything else that runs can finish. What flushes as declared waits for
+//! the targets of its item in their order, and finishes after the last one. `declared` takes time in the number of entries that
+//! are pending on one lane; `enabled` takes that much for each lane. Nothing takes memory.
 
 ghost use Rattle.std.specs.Prelude.{◌≡◌, ◌<◌, ◌↔◌, ℕ, IsTrue, IfSome, IfNone, None, slice_get};
 ghost use Rattle.wq_core.specs.declared.step.Step.{Step};
@@ -50,7 +50,7 @@ impl<A: Allocator> Core<A> {
         None
     }
 
-    /// The target of the next wait of an item's execution that has made this many; none after the last.
+    /// The target of the next wait of an item's execution that has made this many waits; none after the last.
     fn next_target(&self, item: ItemId, made: u32) -> Option<Target>
         requires { item < items self.now.wiring }
         ensures { result ≡ slice_get (declared_by self.now.wiring item) made }
@@ -68,8 +68,8 @@ impl<A: Allocator> Core<A> {
         Some(Step::Start(q, first.item))
     }
 
-    /// The step of a lane that runs something: the end of its wait, if that is over; and where it doesn't wait, the next
-    /// wait, or after the last the finish.
+    /// The step of a lane that runs something. Where it waits, that is the end of the wait, if the wait is over. Otherwise it is
+    /// the next wait, or, after the last one, the finish.
     fn declared_running(&self, q: LaneId, running: Running) -> Option<Step>
         requires machine { IsMachine self.now }
         requires runs { Runs (lane_at self.now.state q) running }
@@ -91,9 +91,9 @@ impl<A: Allocator> Core<A> {
         }
     }
 
-    /// The step that a lane can make where what it runs flushes as declared: each execution waits for the targets of its
-    /// item in their order, and finishes after the last. None only where it can make no such step, as where there is no
-    /// such lane.
+    /// The step that a lane can make where what it runs flushes as declared: each execution waits for the targets of its item in
+    /// their order, and finishes after the last one. None only where it can make no such step, for example where there is no such
+    /// lane.
     pub fn declared(&self, q: LaneId) -> Option<Step>
         ensures some { IfSome result (λ step. IsDeclaredStep self.now.wiring self.now.state q step) }
         ensures none { IfNone result (HasNoDeclaredStep self.now.wiring self.now.state q) }

@@ -1,7 +1,7 @@
-//! Steps of the machine, and why one isn't made.
+//! Steps of the machine, and why a step isn't made.
 //!
-//! Queue and Cancel are `queue_work` and `cancel_work`; Start, Wait, Over and Finish are what the rescuer of a workqueue
-//! does: it takes the next work, whose function may call `flush_work`, which returns once it is over, and then ends
+//! Queue and Cancel are `queue_work` and `cancel_work`. Start, Wait, Over and Finish are what the rescuer of a workqueue does: it
+//! takes the next work, whose function may call `flush_work`, which returns once the wait is over; and then the function ends
 //! (kernel/workqueue.c). Nothing is computed here.
 
 ghost use Rattle.std.specs.Prelude.{◌≡◌};
@@ -22,7 +22,7 @@ pub enum Step {
     Start(LaneId, ItemId),
     /// What the lane runs begins to wait for this item.
     Wait(LaneId, ItemId),
-    /// What the lane runs has waited for this item.
+    /// The wait of what the lane runs for this item is over.
     Over(LaneId, ItemId),
     /// The lane finishes what it runs, an entry of this item.
     Finish(LaneId, ItemId),

@@ -1,8 +1,8 @@
-//! Work left: how many rescuer steps can still come at most, where nothing more is queued.
+//! The work left: how many rescuer steps can still come at most, where nothing more is queued.
 //!
-//! It is that of "Work" in the specs of this crate: of each unfinished entry a start, a finish, and a wait and its end for
-//! each declared flush, less the steps that were made of it. `work_left` takes time in the number of lanes and of pending
-//! entries; `work_after`, which goes on from an earlier answer, takes constant time. Nothing takes memory.
+//! It is that of "Work" in the specs of this crate: for each unfinished entry a start, a finish, and a wait and its end for each
+//! declared flush, less the steps that were made for it. `work_left` takes time in the number of lanes and of pending entries.
+//! `work_after`, which goes on from an earlier answer, takes constant time. Nothing takes memory.
 
 ghost use Rattle.std.specs.Prelude.{◌≡◌, ◌<◌, ◌≤◌, ◌*◌, sum_by};
 ghost use Rattle.wq_core.specs.declared.entry.Entry.{Entry};
@@ -18,7 +18,7 @@ use std::alloc::Allocator;
 use wq_groups::LaneId;
 use wq_items::ItemId;
 
-/// How many waits are over of an entry that has made this many, and waits for this if it does.
+/// How many waits of an entry are over that has made this many, and that waits for this, if it waits.
 fn waits_over(made: u32, waiting: Option<Waiting>) -> u32
     ensures { result ≡ waits_over made waiting }
 {
@@ -75,8 +75,8 @@ impl<A: Allocator> Core<A> {
         self.pending_work(q) + self.running_work(q)
     }
 
-    /// How many starts, waits, ends of waits and finishes can still be made at most, where nothing more is queued: those of
-    /// an execution of 32,770 steps for each of 4,096 items that are queued and 4,096 that run, at most.
+    /// The number of starts, waits, ends of waits and finishes that can still be made at most, where nothing more is queued. It
+    /// is at most that of an execution of 32,770 steps for each of 4,096 items that are queued and 4,096 that run.
     pub fn work_left(&self) -> u64
         ensures work { result ≡ work_left self.now.wiring self.now.state }
         ensures few { result ≤ 8192 * 32770 }
@@ -88,9 +88,9 @@ impl<A: Allocator> Core<A> {
         work
     }
 
-    /// The work that is left after a lawful step, from that before it: a queueing adds all steps of an execution, a
-    /// cancellation takes them off, a start, a wait and the end of a wait take off one, and a finish takes off itself and
-    /// the waits that weren't made, with their ends.
+    /// The work that is left after a lawful step, from the work before it. A queueing adds all steps of an execution, and a
+    /// cancellation subtracts them. A start, a wait and the end of a wait subtract one. A finish subtracts itself and the waits
+    /// that weren't made, with their ends.
     pub fn work_after(&self, step: &Step, work: u64) -> u64
         requires lawful { Lawful self.now.wiring self.now.state step.now }
         requires work { work ≡ work_left self.now.wiring self.now.state }

@@ -1,7 +1,7 @@
-//! How many rows there are, item by item, kind by kind and answer by answer, and in all.
+//! How many rows there are, for each item, kind and answer, and in total.
 //!
-//! 14 counts stand for each item in turn, two for each of the 7 kinds: no before yes. `new`, `add` and `is_same` take
-//! time in the number of items, each other call constant time. Only `new` takes memory: 8 bytes for each count.
+//! There are 14 counts for each item in turn, two for each of the 7 kinds: no before yes. `new`, `add` and `is_same` take time in
+//! the number of items. Each other call takes constant time. Only `new` takes memory: 8 bytes for each count.
 
 ghost use Rattle.std.specs.Prelude.{◌≡◌, ℕ, ◌+◌, ◌*◌, ◌<◌, ◌≤◌, ◌↔◌, IsTrue, length, replicate, sum, slice_index, if◌then◌else◌, IfOk, OnErr, true};
 ghost use Rattle.wq_rows.specs.Packing.{item_in};
@@ -14,7 +14,7 @@ use std::marker::Model;
 use wq_items::ItemId;
 use wq_rows::Row;
 
-/// How many counts stand for an item: one for each kind and answer.
+/// How many counts an item has: one for each kind and answer.
 const PER_ITEM: usize = 14;
 
 /// The counts. Contracts see them as a list, 14 for each item in turn.
@@ -34,7 +34,7 @@ impl<A: Allocator> Model for Counts<A> {
     ghost invariant = { λ c. sum c.counts.items ≡ c.total };
 }
 
-/// Where the count of an item, a kind and an answer stands.
+/// The index of the count of an item, a kind and an answer.
 fn place(item: ItemId, kind: Kind, yes: bool) -> usize
     ensures { result ≡ place_of item kind yes }
 {
@@ -54,7 +54,7 @@ fn add_each(counts: &mut [u64], more: &[u64])
 }
 
 impl<A: Allocator> Counts<A> {
-    /// No row of this many items. The only error is out of memory, which can't occur where there is no item.
+    /// Counts of this many items, all 0. The only error is out of memory, which can't occur where there is no item.
     pub fn new(alloc: A, items: usize) -> Result<Self, AllocError>
         ensures counts { IfOk result (λ c. c ≡ replicate (14 * items) 0) }
         ensures memory { OnErr result (0 < items) }
@@ -65,7 +65,7 @@ impl<A: Allocator> Counts<A> {
         Ok(Counts { counts, total: 0 })
     }
 
-    /// How many rows there are of an item and a kind, with an answer; none of an item that doesn't exist.
+    /// How many rows of an item and a kind there are, with an answer; 0 for an item that doesn't exist.
     pub fn made(&self, item: ItemId, kind: Kind, yes: bool) -> u64
         ensures { result ≡ made self.now item kind yes }
     {
@@ -75,14 +75,14 @@ impl<A: Allocator> Counts<A> {
         }
     }
 
-    /// How many rows there are in all.
+    /// How many rows there are in total.
     pub fn total(&self) -> u64
         ensures { result ≡ sum self.now }
     {
         self.total
     }
 
-    /// One row more of an item and a kind, with an answer.
+    /// Counts another row of an item and a kind, with an answer.
     pub fn raise(&mut self, item: ItemId, kind: Kind, yes: bool)
         requires item { 14 * item + 14 ≤ length self.old }
         requires few { sum self.old < 18446744073709551615 }
@@ -94,7 +94,7 @@ impl<A: Allocator> Counts<A> {
         self.total += 1;
     }
 
-    /// One row more: that of a start raises no count.
+    /// Counts another row. That of a start raises no count.
     pub fn note(&mut self, row: &Row)
         requires item { 14 * item_in row.now.event + 14 ≤ length self.old }
         requires few { sum self.old < 18446744073709551615 }
@@ -107,7 +107,7 @@ impl<A: Allocator> Counts<A> {
         }
     }
 
-    /// Those of other rows of the same items are added.
+    /// Adds the counts of other rows of the same items.
     pub fn add(&mut self, other: &Self)
         requires items { length self.old ≡ length other.now }
         requires few { sum self.old + sum other.now < 18446744073709551616 }
@@ -119,7 +119,7 @@ impl<A: Allocator> Counts<A> {
         self.total += other.total;
     }
 
-    /// Whether all counts are the same, of as many items.
+    /// Whether there are as many items in both, and all counts are the same.
     pub fn is_same(&self, other: &Self) -> bool
         ensures { IsTrue result ↔ (self.now ≡ other.now) }
     {

@@ -1,4 +1,4 @@
-//! Kinds of rows that are counted: those of all events but starts, which no seat counts.
+//! Kinds of rows that are counted: those of all events except starts, which no seat counts.
 //!
 //! The events are those of wq_rows. Each answer takes constant time.
 
@@ -38,7 +38,7 @@ impl Kind {
         Kind::Finish,
     ];
 
-    /// The kind of an event; none of a start.
+    /// The kind of an event; none for a start.
     pub fn of(event: &Event) -> Option<Self>
         ensures { result ≡ kind_in event.now }
     {

@@ -1,6 +1,6 @@
-//! How many asks wait, item by item and in all.
+//! How many asks are waiting, for each item and in total.
 //!
-//! Every call takes constant time, and only `new` takes memory: a count for each item.
+//! Every call takes constant time. Only `new` takes memory: a count for each item.
 
 ghost use Rattle.std.specs.Prelude.{◌≡◌, ℕ, ◌+◌, ◌-◌, ◌<◌, ◌≤◌, length, replicate, slice_index, slice_set, IfOk, OnErr};
 ghost use Rattle.wq_history.specs.Counts.{AskView, CountsAll};
@@ -27,7 +27,8 @@ impl<A: Allocator> Model for AskCounts<A> {
 }
 
 impl<A: Allocator> AskCounts<A> {
-    /// No ask of this many items. The only error is out of memory (20), which can't occur where there is no item.
+    /// Counts of this many items; no ask is waiting. The only error is out of memory (20), which can't occur where there is no
+    /// item.
     pub fn new(alloc: A, items: usize) -> Result<Self, AllocError>
         ensures counts { IfOk result (λ c. c ≡ record { counts = replicate items 0; all = 0 }) }
         ensures memory { OnErr result (0 < items) }
@@ -37,7 +38,7 @@ impl<A: Allocator> AskCounts<A> {
         Ok(AskCounts { counts, all: 0 })
     }
 
-    /// How many wait for an item; none for one that doesn't exist.
+    /// How many asks wait for an item; 0 for an item that doesn't exist.
     pub fn of(&self, item: ItemId) -> u32
         ensures count { result ≡ slice_index self.now.counts item }
         ensures part { result ≤ self.now.all }
@@ -48,7 +49,7 @@ impl<A: Allocator> AskCounts<A> {
         }
     }
 
-    /// How many wait in all.
+    /// How many asks wait in total.
     pub fn all(&self) -> u32
         ensures all { result ≡ self.now.all }
         ensures sum { CountsAll self.now }
@@ -56,7 +57,7 @@ impl<A: Allocator> AskCounts<A> {
         self.all
     }
 
-    /// One more waits for an item.
+    /// Counts another ask that waits for an item.
     pub fn add(&mut self, item: ItemId)
         requires item { item < length self.old.counts }
         requires few { self.old.all < 4294967295 }
@@ -67,7 +68,7 @@ impl<A: Allocator> AskCounts<A> {
         self.all += 1;
     }
 
-    /// One of those that wait for an item waits no longer.
+    /// Counts that one of the asks for an item waits no longer.
     pub fn take_off(&mut self, item: ItemId)
         requires { 0 < slice_index self.old.counts item }
         ensures counts { self.new.counts ≡ slice_set self.old.counts item (slice_index self.old.counts item - 1) }

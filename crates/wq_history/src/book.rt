@@ -1,9 +1,8 @@
-//! The book: events are answered here, each by one row or none.
+//! The book: it answers events, and writes one row or none for each.
 //!
-//! A book holds a machine and the history of all that happened to it. Its rules are those of "Histories" in the specs of
-//! this crate; the rows that it keeps free are those of "Reserve". An event takes the time of the step that it makes and
-//! nothing that grows with the number of rows, of lanes or of asks. Only `new` takes memory: 12 bytes for each row and a
-//! count for each item.
+//! A book holds a machine and the history of all that happened to it. Its rules are those of "Histories" in the specs of this
+//! crate; the rows that it keeps free are those of "Reserve". An event takes the time of the step that it makes, and nothing that
+//! grows with the number of rows, of lanes or of asks. Only `new` takes memory: 12 bytes for each row and a count for each item.
 
 ghost use Rattle.std.specs.Prelude.{◌≡◌, ℕ, ◌+◌, ◌<◌, ◌≤◌, ◌↔◌, [], length, Some, None, true, false, IfOk, IfErr, OnOk, IfSome, IfNone, IsTrue, MatchBool, slice_get};
 ghost use Rattle.std.specs.List.{count_by};
@@ -31,7 +30,7 @@ use wq_groups::LaneId;
 use wq_items::ItemId;
 use wq_rows::{Event, History, MAX_ROWS, Row, Rows};
 
-/// The book. Contracts see whose machine it is of, its rows, how many there is room for, and whether it is closed; its
+/// The book. Contracts see the wiring of its machine, its rows, how many rows there is room for, and whether it is closed. Its
 /// state is the replay of its rows.
 #[derive(Drop)]
 pub struct Book<A: Allocator> {
@@ -54,10 +53,10 @@ impl<A: Allocator> Model for Book<A> {
 }
 
 impl<A: Allocator + Copy> Book<A> {
-    /// The book of a machine on which nothing has happened, with room for this many rows.
+    /// Makes the book of a machine on which nothing has happened, with room for this many rows.
     ///
-    /// The error is `TooManyRows` (68) exactly where there are more than 16,777,216 rows; else out of memory (20), which can't
-    /// occur where there are no rows and no items.
+    /// The error is `TooManyRows` (68) exactly where there are more than 16,777,216 rows. Otherwise it is out of memory (20),
+    /// which can't occur where there are no rows and no items.
     pub fn new(alloc: A, core: Core<A>, rows: u32) -> Result<Self, BookError>
         requires { core.state ≡ empty_state core.wiring }
         ensures book { IfOk result (λ b. b ≡ record { wiring = core.wiring; rows = []; room = rows; closed = false }) }
@@ -80,14 +79,14 @@ impl<A: Allocator + Copy> Book<A> {
 }
 
 impl<A: Allocator> Book<A> {
-    /// What holds of every book: its rows are a legal history, and rows are kept free for what is to come.
+    /// States what holds of every book: its rows are a legal history, and rows are kept free for what is to come.
     pub fn legal(&self)
         ensures { IsBook self.now }
     {
         let _ = &self.core;
     }
 
-    /// Makes a step, and appends the row of its event. Gives the number of the row.
+    /// Makes a step, and appends the row of its event. Returns the number of the row.
     fn make(&mut self, step: &Step, event: Event, yes: bool) -> u32
         requires lawful { Lawful self.old.wiring (state self.old) step.now }
         requires event { step_of event yes ≡ Some step.now }
@@ -104,7 +103,7 @@ impl<A: Allocator> Book<A> {
         number
     }
 
-    /// Appends the row of an event that comes to nothing: it makes no step, and no caller waits.
+    /// Appends the row of an event without effect: it makes no step, and no caller waits.
     fn note(&mut self, event: Event, number: u32)
         requires event { step_of event false ≡ None }
         requires may { MayCome self.old.wiring self.old.rows event false number }
@@ -119,7 +118,7 @@ impl<A: Allocator> Book<A> {
         });
     }
 
-    /// Appends the row of an ask of an item that has an unfinished entry.
+    /// Appends the row of an ask about an item that has an unfinished entry.
     fn begin_to_wait(&mut self, item: ItemId, mark: u32)
         requires may { MayCome self.old.wiring self.old.rows (AskEvent item) true mark }
         requires room { 2 ≤ free self.old }
@@ -134,7 +133,7 @@ impl<A: Allocator> Book<A> {
         });
     }
 
-    /// Appends the row of a caller who waited for an item, and is told that its wait is over.
+    /// Appends the row of a caller who waited for an item and is told that its wait is over.
     fn end_a_wait(&mut self, item: ItemId, mark: u32)
         requires { MayCome self.old.wiring self.old.rows (ToldEvent item) true mark }
         ensures { Appends self.old self.new (ToldEvent item) true mark }
@@ -147,7 +146,7 @@ impl<A: Allocator> Book<A> {
         });
     }
 
-    /// Whether fewer rows are free than these.
+    /// Whether fewer than this many rows are free.
     fn lacks(&self, rows: u32) -> bool
         ensures { IsTrue result ↔ (free self.now < rows) }
     {
@@ -161,7 +160,7 @@ impl<A: Allocator> Book<A> {
         usize::from(item.get()) < self.core.items()
     }
 
-    /// How many asks of an item wait.
+    /// How many asks about an item are waiting.
     fn asks_waiting(&self, item: ItemId) -> u32
         ensures { result ≡ asks_waiting item self.now.rows }
     {
@@ -175,7 +174,7 @@ impl<A: Allocator> Book<A> {
         self.core.unfinished_below(item, mark)
     }
 
-    /// What a lane runs; nothing, where there is no such lane.
+    /// What a lane runs; nothing where there is no such lane.
     fn running_on(&self, q: LaneId) -> Option<Running>
         ensures running { result ≡ (lane_at (state self.now) q).running }
         ensures known { IfSome result (λ r. (r.entry.item < items self.now.wiring) × (lane_of self.now.wiring r.entry.item ≡ q)) }
@@ -183,7 +182,7 @@ impl<A: Allocator> Book<A> {
         self.core.running_on(q)
     }
 
-    /// The entry that a lane starts next; none, where there is no such lane. It is of an item of this lane.
+    /// The entry that a lane starts next; none where there is no such lane. It is of an item of this lane.
     fn first_on(&self, q: LaneId) -> Option<Entry>
         ensures first { result ≡ slice_get (lane_at (state self.now) q).pending 0 }
         ensures known { IfSome result (λ e. (e.item < items self.now.wiring) × (lane_of self.now.wiring e.item ≡ q)) }
@@ -211,7 +210,7 @@ impl<A: Allocator> Book<A> {
         Some(running)
     }
 
-    /// What the entry waits for that a lane runs.
+    /// What the entry that a lane runs waits for.
     fn wait_on(&self, q: LaneId) -> Option<Waiting>
         ensures some { IfSome result (λ f. IsWaiting self.now q f) }
         ensures none { IfNone result (IsNotWaiting self.now q) }
@@ -220,7 +219,7 @@ impl<A: Allocator> Book<A> {
         running.waiting
     }
 
-    /// How many rows are free: neither written nor kept for steps and callers that are to come.
+    /// How many rows are free: neither written, nor kept for steps and callers that are still to come.
     pub fn free_rows(&self) -> u32
         ensures { result ≡ free self.now }
     {
@@ -230,7 +229,7 @@ impl<A: Allocator> Book<A> {
 
     /// Queues an item: true where it is accepted, false where it is pending already.
     ///
-    /// The error is the first of these that holds: `NoItem` (66), `Closed` (61), `HistoryFull` (60). Then nothing is
+    /// The error is the first of these that holds: `NoItem` (66), `Closed` (61), `HistoryFull` (60). After an error nothing is
     /// changed.
     pub fn queue(&mut self, item: ItemId) -> Result<bool, BookError>
         ensures row { IfOk result (λ accepted. AppendsOne self.old self.new (Queue item) accepted) }
@@ -258,9 +257,9 @@ impl<A: Allocator> Book<A> {
         Ok(true)
     }
 
-    /// Takes the pending entry of an item off: true where there is one.
+    /// Removes the pending entry of an item: true where there is one.
     ///
-    /// The error is `NoItem` (66), or else `HistoryFull` (60), which comes only where none is pending. Then nothing is
+    /// The error is `NoItem` (66), or else `HistoryFull` (60), which occurs only where none is pending. After an error nothing is
     /// changed.
     pub fn cancel(&mut self, item: ItemId) -> Result<bool, BookError>
         ensures row { IfOk result (λ taken. AppendsOne self.old self.new (Cancel item) taken) }
@@ -280,9 +279,10 @@ impl<A: Allocator> Book<A> {
         Ok(false)
     }
 
-    /// Asks whether an item has an unfinished entry, to wait for it where it has. It takes two of the free rows at most.
+    /// Asks whether an item has an unfinished entry. Where it has, the caller waits for it. This takes two of the free rows at
+    /// most.
     ///
-    /// The error is `NoItem` (66), or else `HistoryFull` (60). Then nothing is changed.
+    /// The error is `NoItem` (66), or else `HistoryFull` (60). After an error nothing is changed.
     pub fn ask(&mut self, item: ItemId) -> Result<Ask, BookError>
         ensures row { IfOk result (λ answer. AnswersAsk self.old self.new item answer) }
         ensures left { OnOk result (free self.old ≤ free self.new + 2) }
@@ -306,9 +306,9 @@ impl<A: Allocator> Book<A> {
         Ok(Ask::Idle)
     }
 
-    /// Tells a caller who waits whether its wait is over: `NotAsked` (65) exactly where no ask of its item waits, else
-    /// `NotYet` exactly where an unfinished entry of the item has a number below the mark. Then nothing is changed, and
-    /// the ask is given back.
+    /// Tells a waiting caller whether its wait is over. The answer is `NotAsked` (65) exactly where no ask about its item waits,
+    /// and otherwise `NotYet` exactly where an unfinished entry of the item has a number below the mark. In both cases nothing is
+    /// changed, and the ask is given back.
     pub fn told(&mut self, asked: Asked) -> Told
         ensures { AnswersTold self.old self.new asked result }
     {
@@ -325,10 +325,10 @@ impl<A: Allocator> Book<A> {
         Told::Done
     }
 
-    /// A lane starts its first pending entry: its item, which is one of this lane, or nothing where none is pending; then
-    /// nothing is changed.
+    /// Starts the first pending entry of a lane, and gives its item, which is one of this lane. Where none is pending it gives
+    /// nothing, and nothing is changed.
     ///
-    /// The error is `WrongLane` (64), exactly where there is no such lane or it runs an entry. Then nothing is changed.
+    /// The error is `WrongLane` (64), exactly where there is no such lane or it runs an entry. After an error nothing is changed.
     pub fn start(&mut self, q: LaneId) -> Result<Option<ItemId>, BookError>
         ensures row { IfOk result (λ answer. AnswersStart self.old self.new q answer) }
         ensures known { IfOk result (λ answer. IfSome answer (λ item. (item < items self.old.wiring) × (lane_of self.old.wiring item ≡ q))) }
@@ -345,10 +345,10 @@ impl<A: Allocator> Book<A> {
         Ok(Some(item))
     }
 
-    /// What a lane runs begins to wait for an item: whether that has an unfinished entry.
+    /// Makes what a lane runs begin to wait for an item: true where that item has an unfinished entry.
     ///
-    /// The error is the first of these that holds: `WrongLane` (64), where there is no such lane, it runs nothing, or its
-    /// entry waits; `Undeclared` (62); `TooManyWaits` (63). Then nothing is changed.
+    /// The error is the first of these that holds: `WrongLane` (64), where there is no such lane, it runs nothing, or its entry
+    /// waits; `Undeclared` (62); `TooManyWaits` (63). After an error nothing is changed.
     pub fn wait(&mut self, q: LaneId, target: ItemId) -> Result<bool, BookError>
         ensures row { IfOk result (λ unfinished. AppendsOne self.old self.new (Wait q target) unfinished) }
         ensures refused { IfErr result (λ e. RefusesWait self.old q target e × (self.new ≡ self.old)) }
@@ -369,10 +369,10 @@ impl<A: Allocator> Book<A> {
         Ok(unfinished)
     }
 
-    /// What a lane runs goes on, where its wait is over; false where it isn't, and then nothing is changed.
+    /// Lets what a lane runs go on, where its wait is over. It gives false where the wait isn't over; then nothing is changed.
     ///
-    /// The error is `WrongLane` (64), exactly where there is no such lane, it runs nothing, or its entry doesn't wait.
-    /// Then nothing is changed.
+    /// The error is `WrongLane` (64), exactly where there is no such lane, it runs nothing, or its entry doesn't wait. After an
+    /// error nothing is changed.
     pub fn over(&mut self, q: LaneId) -> Result<bool, BookError>
         ensures row { IfOk result (λ answer. AnswersOver self.old self.new q answer) }
         ensures refused { IfErr result (λ e. RefusesLane (IsNotWaiting self.old q) e × (self.new ≡ self.old)) }
@@ -388,9 +388,9 @@ impl<A: Allocator> Book<A> {
         Ok(true)
     }
 
-    /// A lane finishes what it runs.
+    /// Finishes what a lane runs.
     ///
-    /// The error is `WrongLane` (64), exactly where there is no such lane, it runs nothing, or its entry waits. Then
+    /// The error is `WrongLane` (64), exactly where there is no such lane, it runs nothing, or its entry waits. After an error
     /// nothing is changed.
     pub fn finish(&mut self, q: LaneId) -> Result<(), BookError>
         ensures row { IfOk result (λ _. (r : Running) × LaneRuns self.old q r × AppendsOne self.old self.new (Finish q r.entry.item) true) }
@@ -404,7 +404,7 @@ impl<A: Allocator> Book<A> {
         Ok(())
     }
 
-    /// Nothing is queued from now on. It writes no row, and closing twice is as closing once.
+    /// Closes the book: nothing is queued from now on. It writes no row, and closing twice is the same as closing once.
     pub fn close(&mut self)
         ensures { self.new ≡ record self.old { closed = true } }
     {
@@ -425,7 +425,7 @@ impl<A: Allocator> Book<A> {
         self.core.is_idle()
     }
 
-    /// Whether some ask waits. Where none does, as many callers were told of each item as asked for it with `yes`.
+    /// Whether some ask is waiting. Where none is, for each item as many callers were told as asked about it with `yes`.
     pub fn has_waiting_asks(&self) -> bool
         ensures some { IsTrue result ↔ (0 < all_asks_waiting self.now.rows) }
         ensures none { result ≡ false → (i : ℕ) → count_by (ends_a_wait i) self.now.rows ≡ count_by (begins_to_wait i) self.now.rows }
@@ -433,7 +433,7 @@ impl<A: Allocator> Book<A> {
         self.asks.all() > 0
     }
 
-    /// Whether an entry of an item is pending; none is of an item that doesn't exist.
+    /// Whether an entry of an item is pending; false for an item that doesn't exist.
     pub fn is_pending(&self, item: ItemId) -> bool
         ensures { IsTrue result ↔ HasPending (state self.now) item }
     {

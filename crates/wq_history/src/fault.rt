@@ -9,7 +9,7 @@ ghost use Rattle.wq_history.specs.declared.fault.BookError.TheVariants.{OutOfMem
 use std::alloc::AllocError;
 use thiserror::Error;
 
-/// The first cause of a refusal that holds.
+/// Why a call is refused: the first of these causes that holds.
 #[derive(Clone, Copy, Debug, PartialEq, Eq, Error)]
 pub enum BookError {
     /// Fewer rows are free than the event needs (60).
@@ -24,10 +24,10 @@ pub enum BookError {
     /// The running item has made as many waits as it declares flushes (63).
     #[error("the item has made all its waits")]
     TooManyWaits,
-    /// No such lane, or it can't make this step (64).
+    /// There is no such lane, or it can't make this step (64).
     #[error("the lane can't do this")]
     WrongLane,
-    /// No such item (66).
+    /// There is no such item (66).
     #[error("no such item")]
     NoItem,
     /// More than 16,777,216 rows (68).

@@ -1,7 +1,7 @@
-//! Judging a history, row by row, by nothing but its bytes and a machine on which nothing has happened.
+//! Judging a history, row by row, from nothing but its bytes and a machine on which nothing has happened.
 //!
-//! A row may follow those before it by the rules of "History" in the specs of this crate. Each row takes the time of the
-//! step that it records. Memory is taken for a count for each item, before any row.
+//! A row may follow those before it by the rules of "History" in the specs of this crate. Each row takes the time of the step
+//! that it records. Memory is taken before any row: a count for each item.
 
 ghost use Rattle.std.specs.Prelude.{◌≡◌, ℕ, ◌<◌, ◌≤◌, ◌*◌, ◌↔◌, List, length, slice_index, IfOk, IfErr, IfSome, IsTrue};
 ghost use Rattle.wq_core.specs.Rules.{Lawful};
@@ -37,7 +37,7 @@ fn makes<A: Allocator>(core: &Core<A>, step: &Step, number: u32) -> bool
     core.peek(step) == Some(number)
 }
 
-/// Whether a row may follow, where this many asks of its item wait.
+/// Whether a row may come next, where this many asks about its item are waiting.
 fn may_come<A: Allocator>(core: &Core<A>, waiting: u32, row: &Row) -> bool
     requires { core.now.state.next < 4294967295 }
     ensures { IsTrue result ↔ MayComeIn core.now.wiring core.now.state waiting row.now.event row.now.yes row.now.number }
@@ -117,12 +117,12 @@ fn count<A: Allocator>(asks: &mut AskCounts<A>, event: &Event, yes: bool)
     }
 }
 
-/// Judges the rows that bytes hold, on a machine on which nothing has happened: how many there are, where they are a legal
-/// history; the machine is then their replay.
+/// Judges the rows that bytes hold, on a machine on which nothing has happened. Where they are a legal history, it gives how many
+/// rows there are, and the machine is then their replay.
 ///
-/// The error has the place of the lowest row at fault, from 1, and why: `BadRow` (75) where the bytes there are fewer than
-/// 12 or hold no row, `NotLegal` (76) where the row may not follow those before it; the machine is then the replay of
-/// these. Or it is `OutOfMemory` (20) at 0, which comes before any row, and never where there are no items.
+/// The error has the place of the lowest row at fault, from 1, and the cause: `BadRow` (75), where the bytes there are fewer than
+/// 12 or hold no row, or `NotLegal` (76), where the row may not follow those before it. The machine is then the replay of the
+/// rows before it. Or the error is `OutOfMemory` (20) at 0, which comes before any row and can't occur where there are no items.
 pub fn check_rows<A: Allocator + Copy>(
     alloc: A,
     core: &mut Core<A>,

@@ -1,6 +1,6 @@
 //! Laws about histories, as contracts of functions with empty bodies.
 //!
-//! They are said of rows alone, whatever code wrote them.
+//! They are about rows alone, whatever code wrote these.
 
 ghost use Rattle.std.specs.Prelude.{◌≡◌, ℕ, ◌<◌, ◌≤◌, ◌↔◌, List, [], ◌∷◌, ◌++◌, length, Bool, true, false, ◌&&◌};
 ghost use Rattle.std.specs.List.{All, count_by};
@@ -16,7 +16,7 @@ ghost use Rattle.wq_history.specs.Events.{steps_of, begins_to_wait, ends_a_wait,
 ghost use Rattle.wq_history.specs.History.{state_after, asks_waiting, MayCome, MayFollow, IsLegal};
 ghost use Rattle.wq_history.specs.Reserve.{reserved, rows_needed};
 
-/// A history is legal exactly where it is without its last row, and that may follow the others.
+/// A history is legal exactly where it is legal without its last row, and that row may follow the others.
 pub fn a_history_is_legal_row_by_row()
     ensures last { (w : Wiring) (rows : List Row) (row : Row) →
         IsLegal w (rows ++ (row ∷ [])) ↔ (IsLegal w rows × MayFollow w rows row) }
@@ -33,21 +33,21 @@ pub fn a_legal_history_under_a_safe_assignment_is_not_stuck()
     ensures { (w : Wiring) (rows : List Row) → IsSafe w → IsLegal w rows → ¬ IsStuck w (state_after w rows) }
 {}
 
-/// Where a history goes on by rows that need none free, which are those of rescuers, of cancellations that take an entry
-/// off, and of callers who are told, these are no more than are kept.
+/// Some rows need no free row: those of rescuers, of cancellations that remove an entry, and of callers who are told. Where a
+/// history goes on with such rows, there are no more of them than rows are kept.
 pub fn rows_are_kept_for_all_that_needs_none()
     ensures { (w : Wiring) (rows more : List Row) → IsLegal w (rows ++ more) →
         All (λ (row : Row). rows_needed w row.event row.yes ≡ 0) more → length more ≤ reserved w rows }
 {}
 
-/// Of each event but Told, one `yes` and one number at most may come at a place of a history.
+/// For each event except Told, at most one `yes` and one number may come at a place of a history.
 pub fn an_event_but_told_has_one_answer()
     ensures { (w : Wiring) (rows : List Row) (event : Event) (said other : Bool) (n m : ℕ) → IsLegal w rows →
         is_told event ≡ false → MayCome w rows event said n → MayCome w rows event other m → (said ≡ other) × (n ≡ m) }
 {}
 
-/// A caller is told with `yes`, while an ask of the item waits, and with exactly those numbers below which no entry of the
-/// item is unfinished.
+/// A caller is told with `yes` while an ask about the item waits, and with exactly those numbers below which no entry of the item
+/// is unfinished.
 pub fn a_caller_is_told_where_nothing_below_is_unfinished()
     ensures { (w : Wiring) (rows : List Row) (i n : ℕ) (said : Bool) → MayCome w rows (Told i) said n
         ↔ ((said ≡ true) × (0 < asks_waiting i rows) × (¬ HasUnfinishedBelow (state_after w rows) i n)) }
@@ -59,7 +59,7 @@ pub fn items_and_lanes_of_legal_rows_exist()
         MayCome w rows event said n → (item_in event < items w) × (lane_in event < w.lanes) }
 {}
 
-/// No more callers are told than asked with `yes`: of each item, and in all.
+/// No more callers are told than asked with `yes`, for each item and in total.
 pub fn no_more_are_told_than_asked()
     ensures of_an_item { (w : Wiring) (rows : List Row) (i : ℕ) → IsLegal w rows →
         count_by (ends_a_wait i) rows ≤ count_by (begins_to_wait i) rows }

@@ -1,9 +1,9 @@
-//! The book: what happened to the items of a machine, each event one row.
+//! The book: what happened to the items of a machine, one row for each event.
 //!
-//! What the layer above relies on: the rows of a book are a legal history, whose replay is the state that the book holds;
-//! each event that is answered appends exactly one row; and neither a rescuer nor a caller who waits ever lacks a row for
-//! what comes next, since rows are kept free for them. A history can be judged by itself, row by row, by whoever has its
-//! bytes and the machine that it is of.
+//! What the layer above relies on: the rows of a book are a legal history, and its replay is the state that the book holds. Each
+//! event that is answered appends exactly one row. Neither a rescuer nor a waiting caller ever lacks a row for what comes next,
+//! since rows are kept free for them. Whoever has the bytes of a history and its machine can judge the history, row by row, from
+//! these alone.
 #![tactic(auto)]
 
 mod ask_counts;

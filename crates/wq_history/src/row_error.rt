@@ -1,4 +1,4 @@
-//! Why bytes are no legal history.
+//! Why bytes aren't a legal history.
 //!
 //! The numbers are those of "Histories" in docs/FORMAT.md. Every call takes constant time.
 

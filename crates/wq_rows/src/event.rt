@@ -1,8 +1,8 @@
 //! Events, and the rows that record them.
 //!
-//! Queue, Cancel, Start, Wait, Over and Finish record steps of the machine, or that one wasn't due. Ask and Told record a
-//! flush from outside a workqueue: a caller asks whether an item has an unfinished entry, and is told once each entry that
-//! it waits for is finished (`flush_work` in kernel/workqueue.c). Nothing is computed here.
+//! Queue, Cancel, Start, Wait, Over and Finish record steps of the machine, or that no step was due. Ask and Told record a flush
+//! from outside a workqueue: a caller asks whether an item has an unfinished entry, and is told once each entry that it waits for
+//! is finished (`flush_work` in kernel/workqueue.c). Nothing is computed here.
 
 ghost use Rattle.std.specs.Prelude.{◌≡◌};
 ghost use Rattle.wq_rows.specs.Packing.{kind_of, item_in, lane_in};
@@ -31,13 +31,13 @@ pub enum Event {
     Told(ItemId),
 }
 
-/// A row of a history: what happened, and what came of it.
+/// A row of a history: what happened, and the outcome.
 #[derive(Clone, Copy, Debug, PartialEq, Eq)]
 pub struct Row {
     /// What happened.
     pub event: Event,
-    /// Of Queue, whether the item was accepted; of Cancel, whether an entry was removed; of Wait and Ask, whether the item had an
-    /// unfinished entry; of all others true.
+    /// For Queue, whether the item was accepted; for Cancel, whether an entry was removed; for Wait and Ask, whether the item had
+    /// an unfinished entry; for all others true.
     pub yes: bool,
     /// The number of the entry that was queued, removed, started or finished; the mark of a wait or an ask. 0 where nothing was
     /// queued or removed.
@@ -61,7 +61,7 @@ impl Event {
         }
     }
 
-    /// Its item: of Wait and Over, the one that is waited for.
+    /// Its item. For Wait and Over that is the item that is waited for.
     pub fn item(&self) -> ItemId
         ensures { result ≡ item_in self.now }
     {
@@ -77,7 +77,7 @@ impl Event {
         }
     }
 
-    /// The number of its lane, 0 where it has none.
+    /// The number of its lane; 0 where it has none.
     pub(crate) fn lane(&self) -> u16
         ensures { result ≡ lane_in self.now }
     {

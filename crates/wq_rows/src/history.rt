@@ -1,7 +1,7 @@
 //! Histories: rows, packed one after the other.
 //!
-//! The bytes of a history are the packings of its rows, joined; nothing is before, between or after them. A history takes its
-//! memory once, 12 bytes for each row that there is room for, and each call takes constant time.
+//! The bytes of a history are the packings of its rows, joined. Nothing comes before, between or after them. A history takes its
+//! memory once, 12 bytes for each row that there is room for. Each call takes constant time.
 
 ghost use Rattle.std.specs.Prelude.{◌≡◌, ◌<◌, ◌≤◌, [], ◌∷◌, ◌++◌, length, IfOk, OnErr};
 ghost use Rattle.wq_rows.specs.Packing.{packed_rows, IsPackable};
@@ -65,7 +65,7 @@ impl<A: Allocator> History<A> {
         (self.bytes.len() / ROW_LEN) as u32
     }
 
-    /// How many rows there is room for, those that are there counted.
+    /// How many rows there is room for, including those that are there.
     pub fn room(&self) -> u32
         ensures room { result ≡ self.now.room }
         ensures history { IsHistory self.now }

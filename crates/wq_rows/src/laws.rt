@@ -1,6 +1,6 @@
 //! Laws about packed rows, as contracts of functions with empty bodies.
 //!
-//! They are said of rows and bytes alone, whatever code packs them.
+//! They are about rows and bytes alone, whatever code packs them.
 
 ghost use Rattle.std.specs.Prelude.{◌≡◌, ℕ, List};
 ghost use Rattle.std.specs.List.{All};

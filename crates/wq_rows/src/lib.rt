@@ -1,8 +1,7 @@
 //! Rows: what happened, event by event, and the 12 bytes that hold each.
 //!
-//! What the layers above rely on: a row is packed into 12 bytes and unpacked again, and no two slices of bytes unpack to
-//! one row. A run of rows is packed one after the other, and is read one row at a time. Which histories are legal isn't
-//! said here.
+//! What the layers above rely on: a row is packed into 12 bytes and unpacked again, and no two slices of bytes unpack to the same
+//! row. Rows are packed one after the other, and read one at a time. Which histories are legal isn't defined here.
 #![tactic(auto)]
 
 mod event;

@@ -9,9 +9,9 @@
 //! | 6, 7 | 0 |
 //! | 8 to 11 | the number of the row |
 //!
-//! The least byte of a number stands first. A wait on lane 1 for item 1 that was answered by no, with the mark 1, is
-//! 040001000100000001000000 in hexadecimal digits. Each row is held by one run of 12 bytes, and each run of bytes holds
-//! one row at most. Both calls take constant time.
+//! The least significant byte of a number comes first. A wait on lane 1 for item 1 that was answered by no, with the mark 1, is
+//! 040001000100000001000000 in hexadecimal digits. Each row is held by one run of 12 bytes, and each run of bytes holds one row
+//! at most. Both calls take constant time.
 
 ghost use Rattle.std.specs.Prelude.{◌≡◌, ◌<◌, ◌^◌, ℕ, IfSome, IfNone, Some, None, Bool};
 ghost use Rattle.wq_rows.specs.declared.event.Event.{Event as EventValue};
@@ -50,7 +50,7 @@ pub fn pack(row: &Row) -> [u8; ROW_LEN]
     ]
 }
 
-/// What a byte says was the answer.
+/// The answer that a byte stands for.
 fn answer_of(byte: u8) -> Option<bool>
     ensures some { IfSome result (λ said. answer_byte said ≡ byte) }
     ensures none { IfNone result ((said : Bool) → ¬ (answer_byte said ≡ byte)) }
@@ -84,7 +84,7 @@ fn event_of(kind: u8, item: ItemId, lane: u16, yes: bool) -> Option<Event>
     }
 }
 
-/// The row that these bytes hold; none exactly where they hold no row.
+/// Unpacks the row that these bytes hold; none exactly where they hold no row.
 pub fn unpack(bytes: &[u8]) -> Option<Row>
     ensures some { IfSome result (λ row. IsPackedRow bytes.now row) }
     ensures none { IfNone result ((row : RowValue) → ¬ IsPackedRow bytes.now row) }

@@ -43,7 +43,7 @@ fn rows_have_their_bytes(rt: HostRuntime) {
     assert_packed(&rt, over, [5, 1, 1, 0, 1, 0, 0, 0, 1, 0, 0, 0]);
     let finished = row(Event::Finish(lane(1), item(0)), true, 0);
     assert_packed(&rt, finished, [6, 1, 0, 0, 1, 0, 0, 0, 0, 0, 0, 0]);
-    // The least byte of a number stands first.
+    // The least significant byte of a number comes first.
     let told = row(Event::Told(item(0x0102)), true, 0x0102_0304);
     assert_packed(&rt, told, [8, 1, 2, 1, 0, 0, 0, 0, 4, 3, 2, 1]);
 }
