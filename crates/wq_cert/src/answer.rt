@@ -7,7 +7,7 @@ use wq_core::Step;
 use wq_groups::Assignment;
 use wq_items::ItemId;
 
-/// What the text of a plan or of a circle says. Whether it is true is for a checker to find out.
+/// What the text of a plan or of a circle says. A checker finds out whether it is true.
 #[derive(Drop)]
 pub enum CertAnswer<A: Allocator> {
     /// An assignment, and a chain that shows that no fewer workqueues are enough.
@@ -16,12 +16,12 @@ pub enum CertAnswer<A: Allocator> {
         assignment: Assignment<A>,
         /// How many groups the chain has, at most 4,096.
         length: u32,
-        /// The arcs of the chain, each an item and a target of it: one fewer than groups, none where there is no group.
+        /// The arcs of the chain, each as an item and a target of it: one fewer than groups; none where there is no group.
         arcs: Vec<(ItemId, ItemId), A>,
     },
     /// A circle in which groups wait.
     Circle {
-        /// The arcs of the circle, each an item and a target of it: from 1 to 4,096.
+        /// The arcs of the circle, each as an item and a target of it: from 1 to 4,096.
         arcs: Vec<(ItemId, ItemId), A>,
         /// The steps of a run, where there is one.
         steps: Option<Vec<Step, A>>,

@@ -1,7 +1,7 @@
-//! Reading answers: the text of a plan or of a circle, by its first word.
+//! Reading answers: the text of a plan or of a circle. Its first word tells which.
 //!
-//! The texts are those of "Certificates" in docs/FORMAT.md. Reading takes time in the length of the text and the number
-//! of items, and memory in the number of the items, arcs and steps and in the length of the longest line.
+//! The texts are those of "Certificates" in docs/FORMAT.md. Reading takes time in the length of the text and the number of items.
+//! It takes memory in the number of items, arcs and steps, and in the length of the longest line.
 
 ghost use Rattle.std.specs.Prelude.{◌≡◌, length, map, Ok, Err, None, IfOk, IfErr};
 ghost use Rattle.wq_text.specs.Limits.{limit_fault};
@@ -25,7 +25,7 @@ use std::alloc::Allocator;
 use wq_groups::{Assignment, Groups};
 use wq_items::{ItemId, ItemTable};
 
-/// The plan on these lines: its assignment, how many groups its chain is said to have, and the arcs of the chain.
+/// Reads the plan on these lines: its assignment, how many groups its chain is said to have, and the arcs of the chain.
 pub(crate) fn read_plan<A: Allocator + Copy>(
     alloc: A,
     table: &ItemTable<'_, A>,
@@ -46,7 +46,7 @@ pub(crate) fn read_plan<A: Allocator + Copy>(
     Ok((assignment, length, arcs))
 }
 
-/// The answer on the lines of a view.
+/// Reads the answer on the lines of a view.
 fn read_answer_lines<A: Allocator + Copy>(
     alloc: A,
     table: &ItemTable<'_, A>,
@@ -74,12 +74,12 @@ fn read_answer_lines<A: Allocator + Copy>(
     }
 }
 
-/// What the text of an answer says, for the items of a table in these groups. Whether it is true isn't judged.
+/// Reads the text of an answer, for the items of a table in these groups. Whether it is true isn't judged.
 ///
-/// Else the answer is the first fault: `BadCertLine` (40) where the text or a line is too long, before all else; then in the
-/// first line that has one `BadCertLine` (40), `NumberOutOfRange` (43), `NotAllItems` (41) or `GroupSplit` (42), in this order in
-/// a line, with line 0 where the text ends too early (40) or an item is on no workqueue (41); or `OutOfMemory` (20), where a
-/// growth was refused in a text within the limits.
+/// The error is the first fault. `BadCertLine` (40) comes before all else where the text or a line is too long. Then it is that
+/// of the first line that has one: `BadCertLine` (40), `NumberOutOfRange` (43), `NotAllItems` (41) or `GroupSplit` (42), in this
+/// order in a line. The line is 0 where the text ends too early (40) or an item is on no workqueue (41). Or the error is
+/// `OutOfMemory` (20), where a growth was refused in a text within the limits.
 pub fn read_answer<A: Allocator + Copy>(
     alloc: A,
     text: &[u8],

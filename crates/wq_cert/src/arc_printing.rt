@@ -1,7 +1,7 @@
-//! Arcs as they are printed, in plan texts and in circle texts.
+//! Printing arcs, in plan texts and in circle texts.
 //!
-//! The format is that of "Plan texts" and "Circle texts" in docs/FORMAT.md. Printing takes time and memory in what is
-//! printed.
+//! The format is that of "Plan texts" and "Circle texts" in docs/FORMAT.md. Printing takes time and memory in the length of what
+//! is printed.
 
 ghost use Rattle.std.specs.Prelude.{◌≡◌, ◌<◌, ◌++◌, ℕ, length, OnOk};
 ghost use Rattle.wq_lines.specs.LineText.{line_text};

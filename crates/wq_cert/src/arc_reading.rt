@@ -18,7 +18,7 @@ use std::alloc::Allocator;
 use wq_core::Step;
 use wq_items::{ItemId, ItemTable};
 
-/// This many arcs, each on one of the next lines.
+/// Reads this many arcs, each on one of the next lines.
 fn read_arcs<A: Allocator + Copy>(
     alloc: A,
     table: &ItemTable<'_, A>,
@@ -40,7 +40,7 @@ fn read_arcs<A: Allocator + Copy>(
     Ok(arcs)
 }
 
-/// The chain on these lines: how many groups it is said to have, and its arcs.
+/// Reads the chain on these lines: how many groups it is said to have, and its arcs.
 pub(crate) fn read_chain<A: Allocator + Copy>(
     alloc: A,
     table: &ItemTable<'_, A>,
@@ -60,7 +60,7 @@ pub(crate) fn read_chain<A: Allocator + Copy>(
     Ok((length, arcs))
 }
 
-/// The circle on these lines: its arcs, and the steps of the run after it, if there is one.
+/// Reads the circle on these lines: its arcs, and the steps of the run after it, if there is one.
 pub(crate) fn read_circle<A: Allocator + Copy>(
     alloc: A,
     table: &ItemTable<'_, A>,

@@ -1,7 +1,7 @@
 //! Reading assignments: a whole plan text, or the lines of workqueues alone.
 //!
-//! The texts are those of "Certificates" in docs/FORMAT.md. Reading takes time in the length of the text and the number
-//! of items, and memory in the number of the items and arcs and in the length of the longest line.
+//! The texts are those of "Certificates" in docs/FORMAT.md. Reading takes time in the length of the text and the number of items.
+//! It takes memory in the number of items and arcs, and in the length of the longest line.
 
 ghost use Rattle.std.specs.Prelude.{◌≡◌, true, length, map, Ok, Err, None, IfOk, IfErr};
 ghost use Rattle.wq_text.specs.Limits.{limit_fault};
@@ -32,7 +32,7 @@ fn begins_plan(view: &CertView<'_>) -> bool
     }
 }
 
-/// The assignment on the lines of a view.
+/// Reads the assignment on the lines of a view.
 fn read_assignment_lines<A: Allocator + Copy>(
     alloc: A,
     table: &ItemTable<'_, A>,
@@ -53,8 +53,8 @@ fn read_assignment_lines<A: Allocator + Copy>(
     }
 }
 
-/// The assignment that a text says, for the items of a table in these groups: a whole plan text, of whose chain only the
-/// form is judged, or the lines of workqueues alone.
+/// Reads the assignment in a text, for the items of a table in these groups. The text is a whole plan text, of whose chain only
+/// the form is judged, or the lines of workqueues alone.
 ///
 /// The errors are those of `read_answer`.
 pub fn read_assignment<A: Allocator + Copy>(

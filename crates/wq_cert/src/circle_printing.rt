@@ -46,11 +46,11 @@ fn put_circle<A: Allocator + Copy>(
     Ok(())
 }
 
-/// The text of a circle: how many arcs it has, and these, each by an item and its target; and after them the text of a run, where
+/// The text of a circle: the number of its arcs, then the arcs, each as an item and its target, and then the text of a run, where
 /// there is one.
 ///
-/// There are fewer than 4,294,967,296 arcs, each from an item of the table to one of it, and as many steps, each of an
-/// item of the table. The only error is out of memory (20).
+/// There are fewer than 4,294,967,296 arcs, each from an item of the table to one of it, and fewer than 4,294,967,296 steps, each
+/// of an item of the table. The only error is out of memory (20).
 pub fn circle_text<A: Allocator + Copy>(
     alloc: A,
     table: &ItemTable<'_, A>,

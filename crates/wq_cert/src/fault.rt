@@ -1,4 +1,4 @@
-//! Why a text is no certificate.
+//! Why a text isn't a certificate.
 //!
 //! The faults are those of "Refusals of certificates" in docs/FORMAT.md. Each answer takes constant time.
 
@@ -9,17 +9,18 @@ ghost use Rattle.wq_cert.specs.declared.fault.CertError.TheVariants.{OutOfMemory
 use std::alloc::{AllocError, AllocFailed};
 use thiserror::Error;
 
-/// The first fault of a certificate, in a line by the rows of "Refusals of certificates" in docs/FORMAT.md, or out of
-/// memory.
+/// The first fault of a certificate, or out of memory. The rows of "Refusals of certificates" in docs/FORMAT.md say which fault
+/// of a line is the first.
 #[derive(Clone, Copy, Debug, PartialEq, Eq, Error)]
 pub enum CertError {
-    /// The line isn't of the form that comes next, or is too long; line 0 where the text is too long or ends too early (40).
+    /// The line isn't of the form that comes next, or is too long (40). It is line 0 where the text is too long or ends too
+    /// early.
     #[error("line {line}: not what stands here in a certificate")]
     BadCertLine { line: u32 },
-    /// An item is on a workqueue already; line 0 where one is on none (41).
+    /// An item is on a workqueue already (41). It is line 0 where an item is on none.
     #[error("line {line}: not each item stands on one workqueue")]
     NotAllItems { line: u32 },
-    /// An item of a group of which another one is on an earlier workqueue (42).
+    /// Another item of the same group is on an earlier workqueue (42).
     #[error("line {line}: a group on two workqueues")]
     GroupSplit { line: u32 },
     /// A number that is out of its range (43).

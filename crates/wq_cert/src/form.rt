@@ -1,8 +1,8 @@
-//! What the words of one line say, if they have the form that is asked for.
+//! What the words of one line say, where they have the form that is asked for.
 //!
-//! The forms are those of "Certificates" and "Run texts" in docs/FORMAT.md. A byte that no line may hold stands in no
-//! keyword, number or name, so a line with such a byte before its comment has no form. Each function takes time in the
-//! length of the words, and `items_of` and `wq_form` take memory in the number of the items.
+//! The forms are those of "Certificates" and "Run texts" in docs/FORMAT.md. No keyword, number or name has a byte that no line
+//! may hold, so a line with such a byte before its comment has no form. Each function takes time in the length of the words.
+//! `items_of` and `wq_form` take memory in the number of items.
 
 ghost use Rattle.std.specs.Prelude.{◌≡◌, IfOk, option_map};
 ghost use Rattle.wq_cert.specs.Forms.{number_of, items_of, begins_with, count_form, wq_form, arc_form};
@@ -12,7 +12,7 @@ use std::alloc::{AllocError, Allocator};
 use wq_items::{ItemId, ItemTable};
 use wq_text::{Line, Words, number};
 
-/// The number whose one spelling a word is.
+/// The number that a word spells, where the word is its one spelling.
 pub(crate) fn number_of(word: &[u8]) -> Option<u32>
     ensures { result ≡ number_of word.now }
 {
@@ -41,7 +41,7 @@ pub(crate) fn count_form(keyword: &[u8], mut words: Words<'_>) -> Option<u32>
     number_of(count.bytes())
 }
 
-/// The items of these names, if each is declared. The only error is out of memory.
+/// The items with these names, where each is declared. The only error is out of memory.
 pub(crate) fn items_of<A: Allocator + Copy>(
     alloc: A,
     table: &ItemTable<'_, A>,

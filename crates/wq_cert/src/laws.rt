@@ -1,7 +1,7 @@
-//! Laws about certificates, as contracts of functions with empty bodies: what is read is in range, which fault is answered, what
-//! is printed is read back, and what is printed is within the limits of what is read.
+//! Laws about certificates, as contracts of functions with empty bodies: what is read is in range; which fault is answered; what
+//! is printed is read back; and what is printed is within the limits of what is read.
 //!
-//! They are said of the definitions of what is printed and of what is read, whatever code prints and reads.
+//! They are about the definitions of what is printed and of what is read, whatever code prints and reads.
 
 ghost use Rattle.std.specs.Prelude.{◌≡◌, ℕ, ◌+◌, ◌<◌, ◌≤◌, ◌==◌, if◌then◌else◌, List, [], ◌∷◌, ◌++◌, length, Option, IfSome, Ok, ◌≢◌, ◌↔◌, take, AllPairs, Some, None, Err, codes, true, false};
 ghost use Rattle.std.specs.List.{All};
@@ -27,8 +27,8 @@ ghost use Rattle.wq_cert.specs.Reading.{assignment_of, plan_reading, circle_read
 ghost use Rattle.wq_cert.specs.WorkqueueRows.{AreFirstWorkqueues, BreaksRow, AllStand, begins_workqueue};
 ghost use Rattle.wq_cert.specs.Spelled.{words_in, words_of_text, workqueue_lines, IsOnWorkqueue, AreWorkqueues, SpellsPlan, SpellsCircle, SpellsRun, SpellsWorkqueues, SpellsCertificate, SpellsAssignment, KeepsLimits};
 
-/// What is read is in range: items that are declared, groups on at most 4,096 workqueues, as many arcs as the text says,
-/// and fewer steps than there are numbers.
+/// What is read is in range: items that are declared, groups on at most 4,096 workqueues, as many arcs as the text says, and
+/// fewer steps than there are numbers.
 pub fn what_is_read_is_in_range()
     ensures answer { (names : List (List ℕ)) (p : Partition) (text : List ℕ) (c : Certificate) → IsPartition p →
         length names ≡ length p.group_of → answer_of names p text ≡ Ok c → IsCertificateOf (length names) p.groups c }
@@ -38,7 +38,7 @@ pub fn what_is_read_is_in_range()
         IsRunOf (length names) steps }
 {}
 
-/// Certificates that are too long are all refused alike, and the bytes up to the first one too many show it: what comes
+/// Certificates that are too long are all refused in the same way, and the bytes up to the first one too many show it. What comes
 /// after them changes nothing that is read.
 pub fn a_long_certificate_is_refused_by_its_prefix()
     ensures answer { (names : List (List ℕ)) (p : Partition) (text : List ℕ) → max_certificate < length text →
@@ -53,13 +53,13 @@ pub fn a_long_certificate_is_refused_by_its_prefix()
     ensures prefix_of_run { (names : List (List ℕ)) (text : List ℕ) → run_of names (take (max_certificate + 1) text) ≡ run_of names text }
 {}
 
-/// A word is read as a number exactly where it is the one spelling of it.
+/// A word is read as a number exactly where it is the one spelling of that number.
 pub fn a_number_is_read_by_its_spelling()
     ensures { (word : List ℕ) (n : ℕ) → (number_of word ≡ Some n) ↔ Spells word n }
 {}
 
-/// Lines are read exactly where their words are those of the forms that follow one another, and then as what these say: a plan, a
-/// circle, a run, or the workqueues of an assignment.
+/// Lines are read exactly where their words are those of the forms that follow one another, and then as what these forms say: a
+/// plan, a circle, a run, or the workqueues of an assignment.
 pub fn lines_are_read_where_they_spell()
     ensures plan { (names : List (List ℕ)) (p : Partition) (lines : List CertLine) (c : PlanCertificate) →
         AllPairs (λ (a b : List ℕ). a ≢ b) names → length names ≡ length p.group_of →
@@ -86,8 +86,8 @@ pub fn texts_are_read_where_they_spell()
         (run_of names text ≡ Ok steps) ↔ (KeepsLimits text × SpellsRun names (words_of_text text) steps) }
 {}
 
-/// Where a text within the limits is refused at a line, that is the first line at fault: the text has the line, whatever is after
-/// it changes nothing, and a text of fewer of its lines is read, or refused at no line.
+/// Where a text within the limits is refused at a line, that line is the first at fault. The text has the line; whatever comes
+/// after it changes nothing; and a text of fewer of its lines is read, or refused at no line.
 pub fn a_refusal_is_of_the_first_line_at_fault()
     ensures answer { (names : List (List ℕ)) (p : Partition) (text : List ℕ) (fault : CertError) → KeepsLimits text →
         answer_of names p text ≡ Err fault → 0 < line_of fault → IsOfTheFirstLine (answer_of names p) text fault }
@@ -98,8 +98,8 @@ pub fn a_refusal_is_of_the_first_line_at_fault()
         run_of names text ≡ Err fault → 0 < line_of fault → IsOfTheFirstLine (run_of names) text fault }
 {}
 
-/// After the lines of workqueues a line that isn't that of the next one is refused by the first row that it breaks: its form
-/// (40), its number (43), an item that stands already (41), a group that is split (42), whatever is after it.
+/// After the lines of workqueues, a line that isn't that of the next one is refused by the first row that it breaks, whatever
+/// comes after it: its form (40), its number (43), an item that is already on a workqueue (41), a group that is split (42).
 pub fn the_line_of_a_workqueue_is_refused_by_its_first_row()
     ensures plan { (names : List (List ℕ)) (p : Partition) (k : ℕ) (workqueues : List (List ℕ)) (before : List CertLine)
         (line : CertLine) (behind : List CertLine) (fault : CertError) → AllPairs (λ (a b : List ℕ). a ≢ b) names →
@@ -114,7 +114,7 @@ pub fn the_line_of_a_workqueue_is_refused_by_its_first_row()
 {}
 
 /// Where a `plan`, `chain`, `circle`, `arc` or `run` line comes next, or that of a step, a line is refused by the first row that
-/// it breaks: its form (40), its number (43), whatever is after it.
+/// it breaks, whatever comes after it: its form (40), its number (43).
 pub fn each_other_line_is_refused_by_its_first_row()
     ensures plan { (names : List (List ℕ)) (p : Partition) (form : LineForm) (before : List CertLine) (line : CertLine)
         (behind : List CertLine) (fault : CertError) → AllPairs (λ (a b : List ℕ). a ≢ b) names → length names ≡ length p.group_of →
@@ -130,7 +130,7 @@ pub fn each_other_line_is_refused_by_its_first_row()
         run_reading names (before ++ (line ∷ behind)) ≡ Err fault }
 {}
 
-/// A line that is there and breaks no row is no fault: of the lines up to it none is.
+/// A line that is there and breaks no row isn't at fault, nor is any line before it.
 pub fn a_line_that_breaks_no_row_is_no_fault()
     ensures plan { (names : List (List ℕ)) (p : Partition) (form : LineForm) (before : List CertLine) (line : CertLine) →
         AllPairs (λ (a b : List ℕ). a ≢ b) names → length names ≡ length p.group_of →
@@ -144,8 +144,8 @@ pub fn a_line_that_breaks_no_row_is_no_fault()
         KeepsLine names form line → NoLineIsAtFault (run_reading names (before ++ (line ∷ []))) }
 {}
 
-/// After the lines of the workqueues an item that is on none is answered first (41, of no line), whatever is there. In an
-/// assignment by `wq` lines alone a line with another first word is refused there (40) where no item is missing.
+/// After the lines of the workqueues, an item that is on none is answered first (41, of no line), whatever comes there. In an
+/// assignment by `wq` lines alone, a line with another first word is refused there (40), where no item is missing.
 pub fn missing_items_are_answered_behind_the_workqueues()
     ensures plan { (names : List (List ℕ)) (p : Partition) (workqueues : List (List ℕ)) (lines : List CertLine)
         (behind : List (List (List ℕ))) → AllPairs (λ (a b : List ℕ). a ≢ b) names → length names ≡ length p.group_of →
@@ -185,14 +185,14 @@ pub fn a_certificate_cut_short_ends_too_early()
         run_reading names (lines ++ cut) ≡ Ok steps → run_reading names lines ≡ Err (BadCertLine 0) }
 {}
 
-/// The workqueue of an item is the one on whose line it stands.
+/// The workqueue of an item is the one on whose line the item is.
 pub fn an_item_is_on_the_workqueue_of_its_line()
     ensures { (p : Partition) (workqueues : List (List ℕ)) (i q : ℕ) → IsPartition p → AreWorkqueues (length p.group_of) p.group_of workqueues →
         i < length p.group_of → (item_lane (assignment_of p workqueues) p.group_of i ≡ q) ↔ IsOnWorkqueue workqueues q i }
 {}
 
-/// The text of a circle of 1 to 4,096 arcs that isn't too long says these arcs, and the steps of the run after them if there is
-/// one, whatever the groups.
+/// The text of a circle of 1 to 4,096 arcs that isn't too long says these arcs and, if there is a run after them, its steps,
+/// whatever the groups are.
 pub fn a_circle_text_is_read_back()
     ensures { (t : Table) (p : Partition) (arcs : List (ℕ × ℕ)) (steps : Option (List Step)) → IsTable t →
         0 < length arcs → length arcs ≤ 4096 → All (IsArcOf (length t.names)) arcs → IfSome steps (All (IsStepOf (length t.names))) →
@@ -212,8 +212,8 @@ pub fn a_circle_text_is_within_the_limits()
         All (λ (line : LineView). length line.bytes ≤ max_certificate_line) (lines_of (circle_text t.names arcs steps)) }
 {}
 
-/// The text of a plan of up to 4,096 workqueues and 4,095 arcs says its assignment and its chain, of one group more than
-/// arcs, or of none where there is no workqueue. Read as an assignment it says the same assignment.
+/// The text of a plan of up to 4,096 workqueues and 4,095 arcs says its assignment and its chain. The chain has one group more
+/// than arcs, or none where there is no workqueue. Read as an assignment, the text says the same assignment.
 pub fn a_plan_text_is_read_back()
     ensures answer { (t : Table) (p : Partition) (a : Assignment) (chain : List (ℕ × ℕ)) → IsTable t → IsPartition p →
         length p.group_of ≡ length t.names → IsAssignment p.groups a → a.lanes ≤ 4096 →
@@ -244,7 +244,7 @@ pub fn a_run_text_is_read_back()
         length (run_text t.names steps) ≤ max_certificate → run_of t.names (run_text t.names steps) ≡ Ok steps }
 {}
 
-/// The text of a run of up to 65,536 steps isn't too long either.
+/// Nor is the text of a run of up to 65,536 steps too long.
 pub fn a_run_text_is_within_the_limits()
     ensures { (t : Table) (steps : List Step) → IsTable t → All (IsStepOf (length t.names)) steps → length steps ≤ 65536 →
         length (run_text t.names steps) ≤ max_certificate }

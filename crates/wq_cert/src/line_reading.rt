@@ -20,7 +20,7 @@ use wq_text::{Line, Words};
 /// How many workqueues, groups or arcs there may be.
 const MAX_COUNT: u32 = 4096;
 
-/// `run M`: the number, which may be any.
+/// `run M`: the number, which may be any number.
 pub(crate) fn read_any_count(line: &Line<'_>) -> Result<u32, CertError>
     ensures { result ≡ ok_or (count_form (codes "run") (cert_line line.now).words) (BadCertLine line.now.no) }
 {
@@ -106,7 +106,7 @@ fn read_lane_step(line: u32, word: &[u8], lane: u32, item: ItemId) -> Result<Ste
     }
 }
 
-/// The step that these words of a line say.
+/// The step that these words of a line name.
 fn read_step_words<A: Allocator + Copy>(
     table: &ItemTable<'_, A>,
     line: u32,
@@ -139,7 +139,7 @@ fn read_step_words<A: Allocator + Copy>(
     read_lane_step(line, word.bytes(), lane, item)
 }
 
-/// A step of a run.
+/// Reads a step of a run.
 pub(crate) fn read_step<A: Allocator + Copy>(
     table: &ItemTable<'_, A>,
     line: &Line<'_>,

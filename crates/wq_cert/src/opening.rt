@@ -1,7 +1,6 @@
-//! Opening a text: its limits, which are judged before all else.
+//! Opening a text: its limits, which are judged before everything else.
 //!
-//! The limits are those of "Certificates" in docs/FORMAT.md. Opening looks at each byte of the text once, and takes no
-//! memory.
+//! The limits are those of "Certificates" in docs/FORMAT.md. Opening looks at each byte of the text once, and takes no memory.
 
 ghost use Rattle.std.specs.Prelude.{◌≡◌, ◌≢◌, Ok, Err, None, IfOk, IfErr, map};
 ghost use Rattle.wq_text.specs.Limits.{limit_fault};
@@ -19,8 +18,8 @@ const MAX_CERTIFICATE: u32 = 8_388_608;
 /// How many bytes a line of it may have.
 const MAX_CERTIFICATE_LINE: u32 = 524_288;
 
-/// The text as its lines that hold a word. The error is `BadCertLine` (40): line 0 for a text that is too long, or else
-/// the first line that is.
+/// Opens a text as its lines that hold a word. The error is `BadCertLine` (40), with line 0 for a text that is too long, or else
+/// with the first line that is too long.
 pub(crate) fn open(text: &[u8]) -> Result<CertView<'_>, CertError>
     ensures lines { IfOk result (λ view. text_reading (λ lines. Ok lines) text.now ≡ Ok (map cert_line view)) }
     ensures fault { IfErr result (λ e. text_reading (λ lines. Ok lines) text.now ≡ Err e) }

@@ -64,7 +64,7 @@ fn put_chain_line<A: Allocator + Copy>(
     put_end(out)
 }
 
-/// Of each item in turn the workqueue of its group.
+/// The workqueue of each item's group, in turn.
 fn item_lanes<A: Allocator + Copy>(
     alloc: A,
     items: u16,
@@ -83,10 +83,10 @@ fn item_lanes<A: Allocator + Copy>(
     Ok(lane)
 }
 
-/// The text of a plan: the number of the workqueues, the items of each, and the arcs of a waiting chain.
+/// The text of a plan: the number of workqueues, the items of each, and the arcs of a waiting chain.
 ///
-/// The groups are those of the table's items, and each has a workqueue. The chain has fewer than 4,294,967,295 arcs, each from
-/// an item of the table to one of it. The only error is out of memory (20).
+/// The groups are those of the table's items, and each has a workqueue. The chain has fewer than 4,294,967,295 arcs, each from an
+/// item of the table to one of it. The only error is out of memory (20).
 pub fn plan_text<A: Allocator + Copy>(
     alloc: A,
     table: &ItemTable<'_, A>,

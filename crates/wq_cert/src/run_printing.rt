@@ -94,7 +94,7 @@ pub(crate) fn put_run<A: Allocator + Copy>(
     Ok(())
 }
 
-/// The text of a run: how many steps it has, and these.
+/// The text of a run: the number of steps, and then the steps.
 ///
 /// There are fewer than 4,294,967,296 steps, each of an item of the table. The only error is out of memory (20).
 pub fn run_text<A: Allocator + Copy>(

@@ -1,7 +1,7 @@
 //! Reading runs: how many steps there are, and each of them on a line of its own.
 //!
 //! The text is that of "Run texts" and "Certificates" in docs/FORMAT.md. Reading takes time in the length of the text, and memory
-//! in the number of the steps that are there, whatever number is said.
+//! in the number of steps that are there, whatever number the text says.
 
 ghost use Rattle.std.specs.Prelude.{◌≡◌, ◌∷◌, Ok, Err, None, IfOk, IfErr, map, option_map};
 ghost use Rattle.wq_text.specs.Limits.{limit_fault};
@@ -21,7 +21,7 @@ use wq_core::Step;
 use wq_items::ItemTable;
 use wq_text::Line;
 
-/// This many steps, each on one of the next lines.
+/// Reads this many steps, each on one of the next lines.
 fn read_steps<A: Allocator + Copy>(
     alloc: A,
     table: &ItemTable<'_, A>,
@@ -43,7 +43,7 @@ fn read_steps<A: Allocator + Copy>(
     Ok(steps)
 }
 
-/// The run that begins on this line and ends with the last of these.
+/// Reads the run that begins on this line and ends with the last of these.
 fn read_run_from<A: Allocator + Copy>(
     alloc: A,
     table: &ItemTable<'_, A>,
@@ -62,7 +62,7 @@ fn read_run_from<A: Allocator + Copy>(
     Ok(steps)
 }
 
-/// The run on these lines, if there is a line.
+/// Reads the run on these lines, if there is a line.
 pub(crate) fn read_run_behind<A: Allocator + Copy>(
     alloc: A,
     table: &ItemTable<'_, A>,
@@ -78,7 +78,7 @@ pub(crate) fn read_run_behind<A: Allocator + Copy>(
     Ok(Some(steps))
 }
 
-/// The run on these lines.
+/// Reads the run on these lines.
 fn read_run_lines<A: Allocator + Copy>(
     alloc: A,
     table: &ItemTable<'_, A>,
@@ -94,11 +94,11 @@ fn read_run_lines<A: Allocator + Copy>(
     read_run_from(alloc, table, &first, lines)
 }
 
-/// The steps that the text of a run says, for the items of a table. Whether they are lawful isn't judged.
+/// Reads the steps in the text of a run, for the items of a table. Whether they are lawful isn't judged.
 ///
-/// Else the answer is the first fault: `BadCertLine` (40) where the text or a line is too long, or in the first line that isn't
-/// of the form that comes next, with line 0 where the text ends too early; `NumberOutOfRange` (43) in a line of that form whose
-/// workqueue is above 4,095; or `OutOfMemory` (20), where a growth was refused in a text within the limits.
+/// The error is the first fault: `BadCertLine` (40), where the text or a line is too long, or in the first line that isn't of the
+/// form that comes next, with line 0 where the text ends too early; or `NumberOutOfRange` (43), in a line of that form whose
+/// workqueue is above 4,095. Or it is `OutOfMemory` (20), where a growth was refused in a text within the limits.
 pub fn read_run<A: Allocator + Copy>(
     alloc: A,
     text: &[u8],

@@ -1,7 +1,7 @@
 //! The lines of a text that hold a word.
 //!
-//! All others are skipped, by "Certificates" in docs/FORMAT.md. Going over the lines looks at each byte of the text a fixed
-//! number of times, and takes no memory.
+//! All other lines are skipped, by "Certificates" in docs/FORMAT.md. Passing through the lines looks at each byte of the text a
+//! fixed number of times, and takes no memory.
 
 ghost use Rattle.std.specs.Prelude.{◌≡◌};
 ghost use Rattle.std.specs.Iterator.{YieldsFirst, item_count};
@@ -11,8 +11,8 @@ ghost use Rattle.wq_cert.specs.Lines.{holds_word, filled};
 use std::marker::Model;
 use wq_text::{Line, Lines, Text};
 
-/// A text as the lines of it that hold a word: lines with nothing but blanks and a comment are skipped. Contracts see the
-/// list of these lines.
+/// A text as those of its lines that hold a word. Lines with nothing but blanks and a comment are skipped. Contracts see the list
+/// of these lines.
 #[derive(Drop)]
 pub struct CertView<'c> {
     text: Text<'c>,

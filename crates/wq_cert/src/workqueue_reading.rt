@@ -1,7 +1,7 @@
-//! Reading the lines of workqueues: this many of them, or all up to the first line with another first word.
+//! Reading the lines of workqueues: a given number of them, or all up to the first line with another first word.
 //!
-//! The texts are those of "Certificates" in docs/FORMAT.md. Reading takes time in the length of the lines and the number
-//! of items, and memory in the number of items and in the length of the longest line.
+//! The texts are those of "Certificates" in docs/FORMAT.md. Reading takes time in the length of the lines and the number of
+//! items, and memory in the number of items and in the length of the longest line.
 
 ghost use Rattle.std.specs.Prelude.{◌≡◌, [], length, map, Ok, IfOk, IfErr};
 ghost use Rattle.wq_cert.specs.Lines.{cert_line};
@@ -17,7 +17,7 @@ use std::alloc::Allocator;
 use wq_groups::{Assignment, Groups};
 use wq_items::ItemTable;
 
-/// This many workqueues, each on one of the next lines.
+/// Reads this many workqueues, each on one of the next lines.
 fn read_workqueues<A: Allocator + Copy>(
     alloc: A,
     table: &ItemTable<'_, A>,
@@ -39,7 +39,7 @@ fn read_workqueues<A: Allocator + Copy>(
     Ok(workqueues)
 }
 
-/// This many workqueues, each on one of the next lines, as an assignment.
+/// Reads this many workqueues, each on one of the next lines, as an assignment.
 pub(crate) fn read_counted<A: Allocator + Copy>(
     alloc: A,
     table: &ItemTable<'_, A>,
@@ -55,7 +55,7 @@ pub(crate) fn read_counted<A: Allocator + Copy>(
     workqueues.assignment(alloc, groups)
 }
 
-/// The workqueues on these lines up to the first line with another first word, and the number of that line.
+/// Reads the workqueues on these lines, up to the first line with another first word, and the number of that line.
 fn read_all_workqueues<A: Allocator + Copy>(
     alloc: A,
     table: &ItemTable<'_, A>,
@@ -76,7 +76,7 @@ fn read_all_workqueues<A: Allocator + Copy>(
     Ok((workqueues, None))
 }
 
-/// The assignment on these lines, each of which is that of a workqueue.
+/// Reads the assignment on these lines. Each must be the line of a workqueue.
 pub(crate) fn read_workqueue_lines<A: Allocator + Copy>(
     alloc: A,
     table: &ItemTable<'_, A>,

@@ -1,7 +1,7 @@
-//! The workqueues that are read so far: which items are on one, and which workqueue serves each group.
+//! The workqueues that were read so far: which items are on one, and which workqueue serves each group.
 //!
-//! The rules are those of "Certificates" in docs/FORMAT.md. Reading a workqueue takes time in the length of its line, and
-//! memory in the number of names on it until it is noted. To begin with none, and to make the assignment, takes time and
+//! The rules are those of "Certificates" in docs/FORMAT.md. Reading a workqueue takes time in the length of its line, and memory
+//! in the number of names on it until they are noted. Starting with no workqueue, and making the assignment, takes time and
 //! memory in the number of items.
 
 ghost use Rattle.std.specs.Prelude.{◌≡◌, ◌<◌, ℕ, ◌∷◌, ◌++◌, [], true, false, not, List, length, map, Ok, Err, IfOk, IfErr, Option, Some, None, MatchOption, unwrap_or};
@@ -22,18 +22,18 @@ use wq_text::Line;
 /// How many workqueues there may be.
 const MAX_LANES: u16 = 4096;
 
-/// What is noted of the workqueues that are read so far.
+/// What is known of the workqueues that were read so far.
 #[derive(Drop)]
 pub(crate) struct Workqueues<A: Allocator> {
     /// How many there are.
     count: u16,
-    /// Of each item whether it is on one.
+    /// For each item, whether it is on one.
     stood: Vec<bool, A>,
-    /// Of each group the workqueue that holds a member of it.
+    /// For each group, the workqueue that holds a member of it.
     lane_of_group: Vec<Option<LaneId>, A>,
 }
 
-/// The items on the next workqueue, by the form and the number of its line, where this many are before it.
+/// The items on the next workqueue, from the form and the number of its line, where this many workqueues are before it.
 fn read_items<A: Allocator + Copy>(
     alloc: A,
     table: &ItemTable<'_, A>,
@@ -69,7 +69,7 @@ fn mark<A: Allocator>(mut stood: Vec<bool, A>, items: &[ItemId]) -> Option<Vec<b
     Some(stood)
 }
 
-/// Whether a group is served by another workqueue than this one.
+/// Whether a group is served by a workqueue other than this one.
 fn is_other(held: Option<LaneId>, lane: LaneId) -> bool
     ensures { result ≡ is_other held lane }
 {
@@ -125,7 +125,7 @@ fn lanes_of<A: Allocator>(
 }
 
 impl<A: Allocator + Copy> Workqueues<A> {
-    /// No workqueue, for this many items, which stand in these groups.
+    /// No workqueue yet, for this many items in these groups.
     pub(crate) fn none(alloc: A, groups: &Groups<A>, items: u16) -> Result<Self, AllocError>
         requires { length groups.now.group_of ≡ items }
         ensures { IfOk result (λ q. AreNoted groups.now [] q.count q.stood.items q.lane_of_group.items) }
@@ -139,7 +139,7 @@ impl<A: Allocator + Copy> Workqueues<A> {
         })
     }
 
-    /// These workqueues and one more with these items, by a line of this number.
+    /// Adds a workqueue with these items, from a line of this number.
     fn with(self, line: u32, groups: &Groups<A>, items: &[ItemId]) -> Result<Self, CertError>
         requires noted { (workqueues : List (List ℕ)) × AreNoted groups.now workqueues self.count self.stood.items self.lane_of_group.items }
         requires room { self.count < 4096 }
@@ -169,7 +169,7 @@ impl<A: Allocator + Copy> Workqueues<A> {
         })
     }
 
-    /// These workqueues and the next, by its line.
+    /// Adds the next workqueue, from its line.
     pub(crate) fn read(
         self,
         alloc: A,
@@ -188,7 +188,7 @@ impl<A: Allocator + Copy> Workqueues<A> {
         self.with(line.no(), groups, items.as_slice())
     }
 
-    /// The assignment that these workqueues are, if each item is on one.
+    /// The assignment to these workqueues, if each item is on one.
     pub(crate) fn assignment(self, alloc: A, groups: &Groups<A>) -> Result<Assignment<A>, CertError>
         requires { (workqueues : List (List ℕ)) × AreNoted groups.now workqueues self.count self.stood.items self.lane_of_group.items }
         ensures assignment { (workqueues : List (List ℕ)) → AreNoted groups.now workqueues self.count self.stood.items self.lane_of_group.items

@@ -1,7 +1,7 @@
-//! What is answered to a certificate.
+//! The answer to a certificate.
 //!
-//! The answers are those of "The command `check`" in docs/FORMAT.md. Nothing is computed here but the numbers of the
-//! reasons, in constant time.
+//! The answers are those of "The command `check`" in docs/FORMAT.md. Nothing is computed here but the numbers of the reasons, in
+//! constant time.
 
 ghost use Rattle.std.specs.Prelude.{◌≡◌};
 ghost use Rattle.wq_checker.specs.Codes.{no_code};
@@ -11,25 +11,25 @@ use wq_items::ItemId;
 /// What a certificate shows.
 #[derive(Clone, Copy, Debug, PartialEq, Eq)]
 pub enum Yes {
-    /// The assignment is safe, and no fewer workqueues are enough than this number.
+    /// The assignment is safe, and fewer workqueues than this number aren't enough.
     Plan { number: u32 },
     /// The groups wait in a circle of this many arcs.
     Circle { length: u32 },
 }
 
-/// Why a certificate shows nothing: the first of these that stands.
+/// Why a certificate shows nothing: the first of these reasons that holds.
 #[derive(Clone, Copy, Debug, PartialEq, Eq)]
 pub enum No {
     /// The first flush, by place, that doesn't fall: the workqueue of its item isn't above that of its target (50).
     NotFalling { item: ItemId, target: ItemId },
-    /// The chain hasn't as many groups as there are workqueues (52).
+    /// The number of groups of the chain isn't the number of workqueues (52).
     LengthDiffers,
-    /// Arc `at` of the chain, counted from 1, is no declared flush, or its item isn't in the group of the target of the arc
-    /// before it; 0 where a chain of one group lacks its group (51).
+    /// Arc `at` of the chain, counted from 1, isn't a declared flush, or its item isn't in the group of the target of the arc
+    /// before it; 0 where the group of a chain of one group is missing (51).
     ChainBroken { at: u32 },
-    /// The same for the arcs of a circle, where the first joins the last (53).
+    /// The same for the arcs of a circle, where the first arc joins the last (53).
     CircleBroken { at: u32 },
-    /// The steps are no deadlocking run of the assignment in which each group has a workqueue of its own (54).
+    /// The steps aren't a deadlocking run of the assignment in which each group has a workqueue of its own (54).
     RunBroken,
 }
 

@@ -50,7 +50,7 @@ fn joins<A: Allocator + Copy>(
         }
 }
 
-/// The place, counted from 1, of the first arc that doesn't join the one before it; before the first stands this one.
+/// The number, counted from 1, of the first arc that doesn't join the one before it. The one before the first arc is `first`.
 pub(crate) fn first_break<A: Allocator + Copy>(
     table: &ItemTable<'_, A>,
     groups: &Groups<A>,

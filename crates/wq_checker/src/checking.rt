@@ -1,9 +1,9 @@
 //! Whether a certificate shows what it says.
 //!
-//! Of a plan: each declared flush goes to a workqueue with a lower number, so it is safe; and a chain of as many groups as
-//! there are workqueues shows that fewer wait in a circle, and so deadlock. Of a circle: its arcs go round groups, and its
-//! run, where there is one, ends in a deadlock. The rules are those of "The command `check`" in docs/FORMAT.md. A plan
-//! takes time in the number of items and flushes, and for each arc of its chain in the flushes that the arc's item
+//! For a plan: each declared flush goes to a workqueue with a lower number, so the plan is safe; and a chain of as many groups as
+//! there are workqueues shows that fewer workqueues wait in a circle, and so deadlock. For a circle: its arcs go round groups,
+//! and its run, where there is one, ends in a deadlock. The rules are those of "The command `check`" in docs/FORMAT.md. A plan
+//! takes time in the number of items and flushes, and for each arc of its chain in the number of flushes that the arc's item
 //! declares, and no memory. A circle takes that for its arcs, and for its run that of `check_run`.
 
 ghost use Rattle.std.specs.Prelude.{◌≡◌, ◌<◌, ◌≤◌, ◌↔◌, IsTrue, IsSome, IfOk, OnErr, IfSome, option_map, length};
@@ -26,7 +26,7 @@ use wq_core::Step;
 use wq_groups::{Assignment, Groups, LaneId};
 use wq_items::{ItemId, ItemTable};
 
-/// What is answered to the text of a plan.
+/// The answer to the text of a plan.
 fn check_plan<A: Allocator + Copy>(
     table: &ItemTable<'_, A>,
     groups: &Groups<A>,
@@ -109,7 +109,7 @@ fn show_deadlock<A: Allocator + Copy>(
     }
 }
 
-/// What is answered to the text of a circle.
+/// The answer to the text of a circle.
 fn check_circle<A: Allocator + Copy>(
     alloc: A,
     table: &ItemTable<'_, A>,
@@ -134,7 +134,7 @@ fn check_circle<A: Allocator + Copy>(
     }
 }
 
-/// What is answered to a certificate.
+/// The answer to a certificate.
 fn check_certificate<A: Allocator + Copy>(
     alloc: A,
     table: &ItemTable<'_, A>,
@@ -158,13 +158,13 @@ fn check_certificate<A: Allocator + Copy>(
     }
 }
 
-/// What is answered to a certificate: what it shows, or the first reason why it shows nothing.
+/// Checks a certificate: what it shows, or the first reason why it shows nothing.
 ///
-/// It is one of the declaration, as every certificate is that is read: its assignment has a lane for each group, its arcs are of
-/// items, and their number is one less than the length of the chain (none for 0), or from 1 to 4,096 in a circle; and it has
-/// fewer than 4,294,967,295 steps. A yes to a plan implies that it is safe, and that in every assignment to fewer workqueues
-/// these wait in a circle, and some run deadlocks; a yes to a circle, that both are so in every assignment. The only error is out
-/// of memory (20), and it comes only where the arcs of a circle go round and steps follow them.
+/// The certificate is one of the declaration, as every certificate is that is read: its assignment has a lane for each group; its
+/// arcs are of items, and their number is one less than the length of the chain (none for 0), or from 1 to 4,096 in a circle; and
+/// it has fewer than 4,294,967,295 steps. A yes to a plan implies that it is safe, and that in every assignment to fewer
+/// workqueues these wait in a circle, and some run deadlocks. A yes to a circle implies that both hold for every assignment. The
+/// only error is out of memory (20), which comes only where the arcs of a circle go round and steps follow them.
 pub fn check_answer<A: Allocator + Copy>(
     alloc: A,
     table: &ItemTable<'_, A>,

@@ -58,7 +58,7 @@ fn first_of_item<A: Allocator + Copy>(
     None
 }
 
-/// The flush of lower place, where there are two.
+/// The flush with the lower place, where there are two.
 fn earlier(one: Option<DeclaredFlush>, other: Option<DeclaredFlush>) -> Option<DeclaredFlush>
     ensures { result ≡ earlier one other }
 {

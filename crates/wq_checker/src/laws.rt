@@ -1,6 +1,6 @@
-//! Laws about answers and of ends, as contracts of functions with empty bodies.
+//! Laws about answers and about ends, as contracts of functions with empty bodies.
 //!
-//! They are said of declarations, certificates and lists of steps alone, whatever code checks them.
+//! They are about declarations, certificates and lists of steps alone, whatever code checks them.
 
 ghost use Rattle.std.specs.Prelude.{◌≡◌, ℕ, ◌<◌, List, length, Result};
 ghost use Rattle.wq_items.specs.Chain.{Circle};
@@ -29,8 +29,8 @@ pub fn a_good_plan_is_least()
     ensures { (d : Declaration) (c : PlanCertificate) → IsDeclaration d → IsPlanAsked d c → IsGoodPlan d c → IsLeast d c.assignment }
 {}
 
-/// The chain of a good plan is one of groups: as many as there are workqueues, each of which waits for the next, and the arcs
-/// lead from each to the next.
+/// The chain of a good plan is one of groups: as many as there are workqueues, each of which waits for the next. The arcs lead
+/// from each group to the next.
 pub fn a_good_plan_has_a_chain_of_groups()
     ensures { (d : Declaration) (c : PlanCertificate) → IsDeclaration d → IsPlanAsked d c → IsGoodPlan d c →
         (groups : List ℕ) × IsChainAlong d c.arcs groups × (length groups ≡ c.assignment.lanes) }
@@ -53,14 +53,14 @@ pub fn a_good_circle_deadlocks_every_assignment()
         IsAssignment d.groups b → Deadlocks (wiring d b) }
 {}
 
-/// A certificate has one answer, and no other.
+/// A certificate has only one answer.
 pub fn a_certificate_has_one_answer()
     ensures one { (d : Declaration) (c : Certificate) → IsDeclaration d → (r : Result Yes No) × AnswersCertificate d c r }
     ensures at_most_one { (d : Declaration) (c : Certificate) (r s : Result Yes No) → IsDeclaration d → IsAsked d c →
         AnswersCertificate d c r → AnswersCertificate d c s → r ≡ s }
 {}
 
-/// A list of steps has one end, and no other.
+/// A list of steps has only one end.
 pub fn steps_have_one_end()
     ensures one { (w : Wiring) (steps : List Step) → (end : RunEnd) × EndsAs w steps end }
     ensures at_most_one { (w : Wiring) (steps : List Step) (r s : RunEnd) → EndsAs w steps r → EndsAs w steps s → r ≡ s }

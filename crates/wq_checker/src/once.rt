@@ -1,7 +1,7 @@
-//! Whether each item is queued once, and none cancelled.
+//! Whether each item is queued once, and none is cancelled.
 //!
-//! That is asked of a run that deadlocks, by "Steps" in docs/FORMAT.md. The queueings of all items are counted in one pass.
-//! It takes time in the number of steps and of items, and memory in the number of items.
+//! A run that deadlocks must be like that, by "Steps" in docs/FORMAT.md. The queueings of all items are counted in one pass. It
+//! takes time in the number of steps and of items, and memory in the number of items.
 
 ghost use Rattle.std.specs.Prelude.{◌≡◌, ◌<◌, ◌↔◌, ℕ, IsTrue, IfOk, OnErr, length, replicate, slice_index};
 ghost use Rattle.std.specs.List.{All, count_by};
@@ -11,7 +11,7 @@ ghost use Rattle.wq_core.specs.Runs.{queues, IsCancel, IsOnce};
 use std::alloc::{AllocError, Allocator};
 use wq_core::{Core, Step};
 
-/// Whether a step is no cancellation.
+/// Whether a step isn't a cancellation.
 fn cancels_none(step: Step) -> bool
     ensures { IsTrue result ↔ (¬ IsCancel step) }
 {
@@ -29,7 +29,7 @@ fn none_cancels(steps: &[Step]) -> bool
     steps.iter().all(|step| cancels_none(*step))
 }
 
-/// This many counts of none.
+/// This many counts of 0.
 fn no_counts<A: Allocator + Copy>(alloc: A, items: usize) -> Result<Vec<u32, A>, AllocError>
     ensures counts { IfOk result (λ counts. counts.items ≡ replicate items 0) }
     ensures memory { OnErr result (0 < items) }
@@ -39,7 +39,7 @@ fn no_counts<A: Allocator + Copy>(alloc: A, items: usize) -> Result<Vec<u32, A>,
     Ok(counts)
 }
 
-/// Of each of this many items in turn how often it is queued.
+/// How often each of this many items is queued, in turn.
 fn count_queueings<A: Allocator + Copy>(
     alloc: A,
     items: usize,

@@ -1,8 +1,8 @@
 //! How a list of steps ends.
 //!
-//! The ends are those of "The command `replay`" in docs/FORMAT.md. The steps are made on the core machine, from the empty
-//! state on, by the rules of "Steps". It takes time in the number of steps, and for each of them in the entries that are
-//! pending on a workqueue or the flushes of an item, and time and memory in the number of items, flushes and workqueues.
+//! The ends are those of "The command `replay`" in docs/FORMAT.md. The steps are made on the core machine, from the empty state
+//! on, by the rules of "Steps". This takes time in the number of steps, and for each step in that of the entries that are pending
+//! on a workqueue or of the flushes of an item. It also takes time and memory in the number of items, flushes and workqueues.
 
 ghost use Rattle.std.specs.Prelude.{◌≡◌, ◌<◌, ◌↔◌, IsTrue, IfOk, OnErr, IfErr, length};
 ghost use Rattle.wq_groups.specs.Declaration.{declaration_of};
@@ -42,7 +42,7 @@ fn keeps_order<A: Allocator>(core: &Core<A>, step: Step) -> bool
     }
 }
 
-/// Makes the steps on a machine on which nothing was queued yet: whether what ran flushed as declared. The error is the
+/// Makes the steps on a machine on which nothing was queued yet, and tells whether what ran flushed as declared. The error is the
 /// number, counted from 1, of the first step that isn't lawful.
 fn play<A: Allocator>(core: &mut Core<A>, steps: &[Step]) -> Result<bool, u32>
     requires empty { core.old.state ≡ empty_state core.old.wiring }
@@ -70,7 +70,7 @@ fn is_stuck<A: Allocator>(core: &Core<A>) -> bool
     core.enabled().is_none() && !core.is_idle()
 }
 
-/// How a run ends that leaves this machine.
+/// How a run that leaves this machine ends.
 fn end_of<A: Allocator + Copy>(
     alloc: A,
     core: &Core<A>,

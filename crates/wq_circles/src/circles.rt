@@ -1,6 +1,6 @@
 //! The command `circles`: from the bytes of a declaration, and of an assignment where one is named, to the bytes of the answer.
 //!
-//! The declaration is read first and the assignment next, both before one is judged, and the answer is built in full before the
+//! The declaration is read first and the assignment next, both before either is judged. The answer is built in full before the
 //! first byte is written. The rule is that of "The command `circles`" in docs/FORMAT.md. It takes the time of reading the texts,
 //! of the components and of writing the answer.
 
@@ -19,7 +19,7 @@ use wq_commands::{End, MAX_DECLARATION, read_two, write_answer};
 use wq_meter::{Fault, Metered, read_text};
 
 /// Reads a declaration and then an assignment to their ends, and writes the flushes that lie on a circle of its workqueues, by
-/// components, or `safe` where there is none, or the refusal of the first of the two that is refused.
+/// components, or `safe` where there is none. Where one of the two is refused, it writes the refusal of the first that is.
 ///
 /// At most 1,048,577 bytes of the declaration and 8,388,609 of the assignment are read, in at most as many calls; the assignment
 /// isn't touched until the declaration has been read to its end. The errors are `Fault::Read`, where a read failed,
@@ -39,9 +39,9 @@ pub fn circles_cmd<D: Read, S: Read, W: Write, A: Allocator + Copy>(
         × CirclesInput D.remaining S.remaining declaration.old declaration.new assignment.old assignment.new end out
         × WritesWhole W.contents writer.old writer.new out) }
 
-    // This answer is true. Of an assignment that is read either no run of queueings, cancellations and rescuer steps ends stuck,
-    // and `safe` is printed; or some run does, and exactly those flushes are printed whose target's workqueue leads to that of
-    // their item, by components, each once.
+    // This answer is true. Under an assignment that is read, either no run of queueings, cancellations and rescuer steps ends
+    // stuck, and `safe` is printed; or some run does, and exactly those flushes are printed whose target's workqueue leads to
+    // that of their item, by components, each once.
     ensures promised { IfOk result (λ end. (out : List ℕ)
         × KeepsCirclesOfInput D.remaining S.remaining declaration.old declaration.new assignment.old assignment.new end out
         × WritesWhole W.contents writer.old writer.new out) }
@@ -74,8 +74,8 @@ pub fn circles_cmd<D: Read, S: Read, W: Write, A: Allocator + Copy>(
     write_answer(writer, answer)
 }
 
-/// Reads a declaration to its end, and writes the flushes that lie on a circle where each group has a workqueue of its own,
-/// by components, or `safe` where there is none, or its refusal.
+/// Reads a declaration to its end, and writes the flushes that lie on a circle where each group has a workqueue of its own, by
+/// components, or `safe` where there is none. Where the declaration is refused, it writes the refusal.
 ///
 /// At most 1,048,577 bytes are read, in at most as many calls. The errors are `Fault::Read`, where a read failed,
 /// `Fault::Memory`, where memory ran out, and `Fault::Write`, where a write failed or took no byte. After `Fault::Write` a prefix
@@ -92,7 +92,7 @@ pub fn own_circles_cmd<D: Read, W: Write, A: Allocator + Copy>(
     ensures answered { IfOk result (λ end. (out : List ℕ) × OwnCirclesInput D.remaining declaration.old declaration.new end out
         × WritesWhole W.contents writer.old writer.new out) }
 
-    // This answer is true, as that of `circles_cmd` is, of the assignment that gives each group a workqueue of its own.
+    // This answer is true like that of `circles_cmd`, for the assignment that gives each group a workqueue of its own.
     ensures promised { IfOk result (λ end. (out : List ℕ) × KeepsOwnCirclesOfInput D.remaining declaration.old declaration.new end out
         × WritesWhole W.contents writer.old writer.new out) }
 

@@ -19,7 +19,7 @@ use wq_graph::WaitArc;
 use wq_groups::{Assignment, Groups};
 use wq_items::ItemTable;
 
-/// How a run of the program ends that finds these components, and what it prints.
+/// How a run of the program that finds these components ends, and what it prints.
 fn print_components<A: Allocator + Copy>(
     alloc: A,
     table: &ItemTable<'_, A>,

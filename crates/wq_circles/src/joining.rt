@@ -1,9 +1,9 @@
 //! The components of an assignment: the arcs that lie on a circle.
 //!
 //! The rule is that of "The command `circles`" in docs/FORMAT.md: an arc lies on a circle where the workqueue of its target leads
-//! to that of its item, and so where the two are one workqueue or lead to one another. So workqueues that lead to one another are
-//! joined, and what then leads from a workqueue to itself lies on a circle. It takes the time and the memory of two wait graphs
-//! and of the components of the first one (`wq_components`).
+//! to that of its item. That is so where the two are one workqueue or lead to one another. So workqueues that lead to one another
+//! are joined, and what then leads from a workqueue to itself lies on a circle. It takes the time and the memory of two wait
+//! graphs and of the components of the first one (`wq_components`).
 
 ghost use Rattle.std.specs.Prelude.{◌≡◌, ◌<◌, length, map, IfOk, OnErr};
 ghost use Rattle.std.specs.List.{All};
@@ -16,7 +16,7 @@ use wq_graph::{WaitArc, WaitGraph};
 use wq_groups::{Assignment, GroupId, Groups, LaneId};
 use wq_items::ItemTable;
 
-/// Of each group in turn the lane that stands for its own.
+/// For each group in turn, the lane that represents its own.
 fn joined_lanes<A: Allocator + Copy>(
     alloc: A,
     groups: &Groups<A>,
@@ -38,7 +38,7 @@ fn joined_lanes<A: Allocator + Copy>(
     Ok(lanes)
 }
 
-/// The assignment in which each group is on the lane that stands for its own.
+/// The assignment in which each group is on the lane that represents its own.
 fn join<A: Allocator + Copy>(
     alloc: A,
     groups: &Groups<A>,
@@ -73,7 +73,7 @@ fn loops_at<A: Allocator + Copy>(
     Ok(arcs)
 }
 
-/// Of each vertex in turn its loops, and nothing of a vertex without one.
+/// The loops of each vertex in turn. A vertex without a loop has no entry.
 fn loops<A: Allocator + Copy>(
     alloc: A,
     graph: &WaitGraph<A>,

@@ -1,7 +1,7 @@
 //! Laws about components, as contracts of functions with empty bodies. No code runs here: the clauses are the laws.
 //!
-//! They say in the words of docs/FORMAT.md, "The command `circles`", what components are: of arcs, and of the workqueues that
-//! lead to one another. A workqueue waits for a workqueue by `LaneWaits`, and leads to it by `Leads` of that.
+//! They say, in the words of docs/FORMAT.md, "The command `circles`", what components are: of arcs, and of the workqueues that
+//! lead to one another. `LaneWaits` says which workqueue waits for which, and `Leads` of it which leads to which.
 
 ghost use Rattle.std.specs.Prelude.{◌≡◌, ◌≢◌, ◌≤◌, ◌↔◌, ℕ, List, [], map, AllPairs};
 ghost use Rattle.std.specs.List.{All};
@@ -20,8 +20,8 @@ ghost use Rattle.wq_circles.specs.CirclesPromise.{KeepsCircles, KeepsOwnCircles}
 ghost use Rattle.wq_circles.specs.Components.{AreComponents};
 ghost use Rattle.wq_circles.specs.Flushes.{IsInComponents, AreInOneComponent, IsDeclaredFlush, IsBefore};
 
-/// A flush is in a component exactly where the workqueue of its target leads to that of its item; and nothing is in a component
-/// but declared flushes.
+/// A flush is in a component exactly where the workqueue of its target leads to that of its item. Nothing but declared flushes is
+/// in a component.
 pub fn what_lies_on_a_circle_is_in_a_component()
     ensures same { (d : Declaration) (a : Assignment) (components : List (List WaitArc)) (b : WaitArc) → IsDeclaration d →
         IsAssignment d.groups a → AreComponents d a components → IsDeclaredFlush d.waits b →
@@ -41,7 +41,7 @@ pub fn a_component_is_of_workqueues_that_lead_to_one_another()
         All (λ (arcs : List WaitArc). arcs ≢ []) components }
 {}
 
-/// The arcs of a component are in order of place, and the components in the order of their lowest-numbered workqueues. So no
+/// The arcs of a component are in order of place, and the components are in the order of their lowest-numbered workqueues. So no
 /// flush is in two components, or twice in one.
 pub fn components_are_in_order()
     ensures places { (d : Declaration) (a : Assignment) (components : List (List WaitArc)) → IsDeclaration d →
@@ -58,13 +58,13 @@ pub fn no_component_is_safe()
         a.lanes ≤ 4096 → AreComponents d a components → ((components ≡ []) ↔ IsSafe (wiring d a)) }
 {}
 
-/// An assignment has one list of components.
+/// An assignment has only one list of components.
 pub fn components_are_the_only_ones()
     ensures { (d : Declaration) (a : Assignment) (one other : List (List WaitArc)) →
         AreComponents d a one → AreComponents d a other → one ≡ other }
 {}
 
-/// A declaration and an assignment, or a declaration alone, have one answer at most: one end, and one text that is printed.
+/// A declaration and an assignment, or a declaration alone, have at most one answer: one end, and one text that is printed.
 pub fn circles_have_one_answer()
     ensures end { (declared text : List ℕ) (end other : End) (out printed : List ℕ) →
         Circles declared text end out → Circles declared text other printed → end ≡ other }
@@ -76,16 +76,16 @@ pub fn circles_have_one_answer()
         OwnCircles declared end out → OwnCircles declared other printed → out ≡ printed }
 {}
 
-/// An answer keeps its promise. Where `safe` is printed no run ends stuck. Where components are, some run deadlocks, and of the
-/// declared flushes exactly those are printed whose target's workqueue leads to that of their item.
+/// An answer keeps its promise. Where `safe` is printed, no run ends stuck. Where components are printed, some run deadlocks, and
+/// exactly those declared flushes are printed whose target's workqueue leads to that of their item.
 pub fn circles_keep_their_promise()
     ensures assigned { (declared text : List ℕ) (end : End) (out : List ℕ) →
         Circles declared text end out → KeepsCircles declared text end out }
     ensures own { (declared : List ℕ) (end : End) (out : List ℕ) → OwnCircles declared end out → KeepsOwnCircles declared end out }
 {}
 
-/// A run of `circles` ends as one of `deadlock` does that is given the same texts, and where no assignment is named, as one of
-/// `plan` does: so `safe` is printed exactly where `deadlock` prints it, or where `plan` prints a plan text.
+/// A run of `circles` ends like a run of `deadlock` that is given the same texts or, where no assignment is named, like one of
+/// `plan`. So `safe` is printed exactly where `deadlock` prints it, or where `plan` prints a plan text.
 pub fn the_end_is_that_of_the_other_commands()
     ensures deadlock { (declared text : List ℕ) (end other : End) (out printed : List ℕ) →
         Circles declared text end out → Judges declared text other printed → end ≡ other }

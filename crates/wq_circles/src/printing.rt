@@ -1,4 +1,4 @@
-//! Components texts: how many components there are, and of each its arcs.
+//! Components texts: how many components there are, and the arcs of each.
 //!
 //! The format is that of "The command `circles`" in docs/FORMAT.md. Printing takes time and memory in the length of the text.
 
@@ -55,10 +55,10 @@ fn put_components_line<A: Allocator + Copy>(
     put_end(out)
 }
 
-/// The text of components: how many there are, and of each its arcs, each by an item and its target.
+/// The text of components: how many there are, and the arcs of each, each arc as an item and its target.
 ///
-/// There are fewer than 4,294,967,296 components, and each has fewer arcs than that, from items of the table to items of it.
-/// The only error is out of memory (20).
+/// There are fewer than 4,294,967,296 components, and each has fewer than 4,294,967,296 arcs, from items of the table to items of
+/// it. The only error is out of memory (20).
 pub fn components_text<A: Allocator + Copy>(
     alloc: A,
     table: &ItemTable<'_, A>,

@@ -1,9 +1,9 @@
-//! Of each vertex the lowest-numbered one that waits for it and that it waits for.
+//! For each vertex the lowest-numbered one that waits for it and that it waits for.
 //!
 //! A depth-first search gives the order in which the vertices are finished. They are then taken in the reverse of that order.
-//! Each that wasn't found yet finds its component by a search against the arcs, and the lowest-numbered vertex found is the
-//! answer for all of them (S. R. Kosaraju; M. Sharir, "A strong-connectivity algorithm and its applications in data flow
-//! analysis", Computers and Mathematics with Applications 7, 1981). It takes time and memory in the vertices and the arcs.
+//! Each vertex that wasn't found yet finds its component by a search against the arcs, and the lowest-numbered vertex found is
+//! the answer for all of them (S. R. Kosaraju; M. Sharir, "A strong-connectivity algorithm and its applications in data flow
+//! analysis", Computers and Mathematics with Applications 7, 1981). It takes time and memory in the number of vertices and arcs.
 
 ghost use Rattle.std.specs.Prelude.{◌≡◌, ◌<◌, ◌≤◌, length, map, false, MatchOption, IfOk, IfErr};
 ghost use Rattle.std.specs.List.{All};
@@ -19,7 +19,7 @@ use crate::progress::Progress;
 use std::alloc::{AllocError, Allocator};
 use wq_graph::WaitGraph;
 
-/// Finds a vertex that wasn't found, and all that it leads to, from list to list, over vertices that weren't found.
+/// Finds a vertex that wasn't found yet, and all that it leads to, from list to list, over vertices that weren't found.
 fn spread<A: Allocator + Copy>(
     found: &mut Progress<A>,
     lists: &[Vec<u16, A>],
@@ -60,7 +60,7 @@ fn settle(lowest: &mut [u16], vertices: &[u16])
     }
 }
 
-/// Of each vertex the lowest-numbered one of its component. The lists hold the tails of arcs, and the vertices are given in the
+/// For each vertex the lowest-numbered one of its component. The lists hold the tails of arcs. The vertices are given in the
 /// order in which a depth-first search along the arcs finishes them.
 fn lowest_of_components<A: Allocator + Copy>(
     alloc: A,
@@ -84,8 +84,8 @@ fn lowest_of_components<A: Allocator + Copy>(
     Ok(lowest)
 }
 
-/// Of each vertex the lowest-numbered one that is together with it: that is the vertex itself, or each of the two leads to the
-/// other.
+/// For each vertex the lowest-numbered one that is together with it. Two vertices are together where they are the same, or where
+/// each leads to the other.
 ///
 /// The only error is out of memory (20), which can't occur for a graph without vertices.
 pub fn lowest<A: Allocator + Copy>(

@@ -11,7 +11,7 @@ pub fn the_lowest_tells_who_are_together()
         w < length graph → (slice_index lowest v ≡ slice_index lowest w) ↔ AreTogether (HasArc graph) v w }
 {}
 
-/// The answer is never above the vertex, and there is one list of answers at most.
+/// The answer for a vertex is never above it. There is at most one list of answers.
 pub fn the_list_is_the_only_one()
     ensures below { (graph : List (List WaitArc)) (lowest : List ℕ) (v : ℕ) → AreLowest (HasArc graph) (length graph) lowest →
         v < length graph → slice_index lowest v ≤ v }

@@ -1,6 +1,6 @@
-//! Of each vertex the heads of its arcs, and the vertices whose arcs lead to it.
+//! For each vertex the heads of its arcs, and the vertices whose arcs lead to it.
 //!
-//! Both take time and memory in the vertices and the arcs.
+//! Both take time and memory in the number of vertices and arcs.
 
 ghost use Rattle.std.specs.Prelude.{◌≡◌, ◌<◌, length, map, replicate, [], IfOk};
 ghost use Rattle.std.specs.List.{All};
@@ -20,7 +20,7 @@ fn arc_heads<A: Allocator + Copy>(alloc: A, arcs: &[WaitArc]) -> Result<Vec<u16,
     Ok(heads)
 }
 
-/// Of each vertex in turn the heads of its arcs.
+/// The heads of each vertex's arcs, in turn.
 pub(crate) fn heads<A: Allocator + Copy>(
     alloc: A,
     graph: &WaitGraph<A>,
@@ -35,7 +35,7 @@ pub(crate) fn heads<A: Allocator + Copy>(
     Ok(lists)
 }
 
-/// This many lists without a vertex.
+/// This many empty lists.
 fn empty_lists<A: Allocator + Copy>(alloc: A, count: u16) -> Result<Vec<Vec<u16, A>, A>, AllocError>
     ensures { IfOk result (λ lists. map (λ l. l.items) lists.items ≡ replicate count []) }
 {
@@ -62,7 +62,7 @@ fn add_tail<A: Allocator + Copy>(
     Ok(())
 }
 
-/// Of each vertex in turn those that have it in their lists.
+/// For each vertex in turn, those that have it in their lists.
 pub(crate) fn tails<A: Allocator + Copy>(
     alloc: A,
     heads: &[Vec<u16, A>],

@@ -1,6 +1,6 @@
-//! What a search has found so far: a mark for each vertex, and those that are marked in the order in which they were found.
+//! What a search has found so far: a mark for each vertex, and the marked vertices in the order in which they were found.
 //!
-//! Coming to a vertex takes constant time, making the marks time and memory in the vertices.
+//! Noting a vertex takes constant time. Making the marks takes time and memory in the number of vertices.
 
 ghost use Rattle.std.specs.Prelude.{◌≡◌, ◌<◌, ◌≤◌, length, drop, replicate, false, [], slice_get, IfOk};
 ghost use Rattle.std.specs.List.{All};
@@ -9,7 +9,7 @@ ghost use Rattle.wq_components.specs.Searching.{is_marked, with_found, with_all_
 use std::alloc::{AllocError, Allocator};
 use std::marker::Model;
 
-/// A search under way.
+/// A search in progress.
 #[derive(Drop)]
 pub(crate) struct Progress<A: Allocator> {
     marks: Vec<bool, A>,
@@ -25,7 +25,7 @@ impl<A: Allocator> Model for Progress<A> {
 }
 
 impl<A: Allocator + Copy> Progress<A> {
-    /// Nothing is found yet, of this many vertices.
+    /// Nothing found yet, for this many vertices.
     pub(crate) fn none(alloc: A, vertices: usize) -> Result<Self, AllocError>
         ensures marks { IfOk result (λ p. p.marks ≡ replicate vertices false) }
         ensures order { IfOk result (λ p. p.order ≡ []) }
@@ -43,7 +43,7 @@ impl<A: Allocator + Copy> Progress<A> {
         self.marks[usize::from(vertex)]
     }
 
-    /// Comes to a vertex.
+    /// Notes that a vertex was found.
     pub(crate) fn note(&mut self, vertex: u16) -> Result<(), AllocError>
         requires { vertex < length self.old.marks }
         ensures { IfOk result (λ _. self.new ≡ with_found self.old vertex) }
@@ -56,7 +56,7 @@ impl<A: Allocator + Copy> Progress<A> {
         Ok(())
     }
 
-    /// Comes to each of these vertices.
+    /// Notes that each of these vertices was found.
     pub(crate) fn note_all(&mut self, vertices: &[u16]) -> Result<(), AllocError>
         requires { All (λ w. w < length self.old.marks) vertices.now }
         ensures { IfOk result (λ _. self.new ≡ with_all_found self.old vertices.now) }
@@ -74,14 +74,14 @@ impl<A: Allocator + Copy> Progress<A> {
         self.order.len()
     }
 
-    /// The vertex that was found at this place of the order, if this many were found.
+    /// The vertex that was found at this index of the order, where that many were found.
     pub(crate) fn nth(&self, place: usize) -> Option<u16>
         ensures { result ≡ slice_get self.now.order place }
     {
         self.order.get(place).copied()
     }
 
-    /// The vertices that were found from this place of the order on.
+    /// The vertices that were found from this index of the order on.
     pub(crate) fn since(&self, place: usize) -> &[u16]
         requires { place ≤ length self.now.order }
         ensures { result.now ≡ drop place self.now.order }

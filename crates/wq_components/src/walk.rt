@@ -1,7 +1,7 @@
-//! A depth-first search under way: its steps.
+//! A depth-first search in progress: its steps.
 //!
-//! Each vertex is visited once and finished once, and each place of its list is passed once. A step takes constant time beside
-//! the places that it passes.
+//! Each vertex is visited once and finished once, and each place of its list is passed once. Apart from the places that it
+//! passes, a step takes constant time.
 
 ghost use Rattle.std.specs.Prelude.{◌≡◌, ℕ, ◌+◌, ◌-◌, ◌<◌, ◌≤◌, length, map, replicate, true, false, [], slice_get, slice_index, Some, IfOk};
 ghost use Rattle.std.specs.List.{All};
@@ -11,7 +11,7 @@ ghost use Rattle.wq_components.specs.Finishing.{Follows, IsWalk, WentOn, steps_t
 use std::alloc::{AllocError, Allocator};
 use std::marker::Model;
 
-/// A depth-first search under way.
+/// A depth-first search in progress.
 #[derive(Drop)]
 pub(crate) struct Walk<A: Allocator> {
     visited: Vec<bool, A>,
@@ -33,7 +33,7 @@ impl<A: Allocator> Model for Walk<A> {
     } };
 }
 
-/// The first place of this list, from `from` on, of a vertex that wasn't visited, or the length of the list.
+/// The first index of this list, from `from` on, with a vertex that wasn't visited, or the length of the list.
 fn next_unvisited(heads: &[u16], visited: &[bool], from: usize) -> usize
     requires { All (λ w. w < length visited.now) heads.now }
     ensures passed { (k : ℕ) → from ≤ k → k < result → k < length heads.now → is_marked visited.now (slice_index heads.now k) ≡ true }
@@ -48,7 +48,7 @@ fn next_unvisited(heads: &[u16], visited: &[bool], from: usize) -> usize
 }
 
 impl<A: Allocator + Copy> Walk<A> {
-    /// Nothing is visited yet, of this many vertices.
+    /// Nothing visited yet, for this many vertices.
     pub(crate) fn none(alloc: A, vertices: usize) -> Result<Self, AllocError>
         ensures visited { IfOk result (λ w. w.visited ≡ replicate vertices false) }
         ensures followed { IfOk result (λ w. w.followed ≡ replicate vertices 0) }
@@ -92,7 +92,7 @@ impl<A: Allocator + Copy> Walk<A> {
         Ok(())
     }
 
-    /// Goes back from the vertex where it is.
+    /// Goes back from the vertex where the search is.
     fn finish(&mut self, vertex: u16) -> Result<(), AllocError>
         ensures { IfOk result (λ _. self.new ≡ with_finished self.old vertex) }
     {
@@ -101,7 +101,7 @@ impl<A: Allocator + Copy> Walk<A> {
         Ok(())
     }
 
-    /// Passes the places of the list that hold visited vertices, and tells the first vertex that wasn't visited.
+    /// Passes the places of the list that hold visited vertices, and gives the first vertex that wasn't visited.
     fn follow(&mut self, heads: &[u16], vertex: u16) -> Option<u16>
         requires vertex { vertex < length self.old.followed }
         requires within { All (λ w. w < length self.old.visited) heads.now }

@@ -1,10 +1,9 @@
-//! A machine that is played to its end: again and again the lowest lane that can move does, and flushes as declared.
+//! A machine that is played to its end: again and again the lowest lane that can move moves, and flushes as declared.
 //!
-//! It is "Played" in the specs of `wq_core`. A start, a wait or the end of a wait makes no lower lane movable, since
-//! nothing is finished by it. So the search for the lowest lane goes on from the lane that moved, and begins again at
-//! lane 0 only after a finish. A lane that was found to be stuck is passed over until the item is finished that it waits
-//! for. So each lane is asked twice for each of its own steps and once more, at most; what is left of the search is to pass
-//! over stuck lanes after each finish.
+//! It is "Played" in the specs of `wq_core`. A start, a wait or the end of a wait makes no lower lane movable, since it finishes
+//! nothing. So the search for the lowest lane goes on from the lane that moved, and begins again at lane 0 only after a finish. A
+//! lane that was found to be stuck is skipped until the item that it waits for is finished. So each lane is asked at most twice
+//! for each of its own steps, and once more. The rest of the search skips stuck lanes after each finish.
 
 ghost use Rattle.std.specs.Prelude.{◌≡◌, ◌<◌, ℕ, length, Some, IfOk, IfSome, OnOk, [], ◌∷◌, ◌++◌};
 ghost use Rattle.wq_core.specs.declared.step.Step.TheVariants.{Finish};
@@ -32,7 +31,7 @@ fn search_from(q: u16, step: Step) -> u16
     }
 }
 
-/// The machine makes a step of a rescuer, which it can make, and the step is noted.
+/// Has the machine make a step of a rescuer, which it can make, and notes the step.
 fn make<A: Allocator + Copy>(
     core: &mut Core<A>,
     steps: &mut Vec<Step, A>,
@@ -58,7 +57,7 @@ fn awaited<A: Allocator>(core: &Core<A>, q: LaneId) -> Option<ItemId>
     Some(flush.target)
 }
 
-/// Lanes that are known to be stuck are asked again after a step, where it may let them move.
+/// Has lanes that are known to be stuck asked again after a step that may let them move.
 fn release_after<A: Allocator + Copy>(stuck: &mut Stuck<A>, step: &Step)
     requires { (q i : ℕ) → step.now ≡ Finish q i → i < length stuck.old.waiting }
     ensures after { IsAfter stuck.old step.now stuck.new }

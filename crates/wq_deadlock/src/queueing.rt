@@ -55,7 +55,7 @@ pub(crate) fn queueings<A: Allocator + Copy>(
     Ok(steps)
 }
 
-/// The machine makes the steps, all of which it can make.
+/// Has the machine make the steps. It can make all of them.
 pub(crate) fn make_all<A: Allocator>(core: &mut Core<A>, steps: &[Step])
     requires run { IsRunFrom core.old.wiring core.old.state steps.now }
     requires numbers { core.old.state.next + length steps.now < 4294967295 }

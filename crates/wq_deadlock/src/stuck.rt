@@ -1,9 +1,9 @@
 //! Lanes that are known to be stuck while a machine is played.
 //!
 //! A lane that can't move waits for an item, or has nothing to start. Where nothing is queued, it can move again only once that
-//! item is finished. So it isn't asked again before. Each call takes constant time, except for `new`, in the number of lanes and
-//! items, and `release`, in the number of lanes that are released. Memory is taken for each lane and each item, and for the lanes
-//! that wait.
+//! item is finished. So it isn't asked again before. Each call takes constant time, except for two: `new` takes time in the
+//! number of lanes and items, and `release` in the number of lanes that are released. Memory is taken for each lane and each
+//! item, and for the lanes that wait.
 
 ghost use Rattle.std.specs.Prelude.{◌≡◌, ◌<◌, ◌↔◌, ℕ, length, map, replicate, slice_index_or, true, false, [], Contains, IfOk, OnOk, IfSome, IsTrue};
 ghost use Rattle.wq_deadlock.specs.Stuck.{IsKnown, IsReleased, with_stuck};
@@ -13,7 +13,7 @@ use std::marker::Model;
 use wq_groups::LaneId;
 use wq_items::ItemId;
 
-/// Of each lane whether it is known to be stuck, and of each item the lanes that were found to wait for it.
+/// For each lane whether it is known to be stuck, and for each item the lanes that were found to wait for it.
 #[derive(Drop)]
 pub(crate) struct Stuck<A: Allocator> {
     known: Vec<bool, A>,
@@ -29,7 +29,7 @@ impl<A: Allocator> Model for Stuck<A> {
     ghost view = { λ s. record { known = s.known.items; waiting = map (λ l. l.items) s.waiting.items } };
 }
 
-/// This many lists with nothing in them.
+/// This many empty lists.
 fn empty_lists<A: Allocator + Copy>(
     alloc: A,
     items: u16,
@@ -43,7 +43,7 @@ fn empty_lists<A: Allocator + Copy>(
     Ok(lists)
 }
 
-/// None of these lanes is known to be stuck any more.
+/// Forgets that any of these lanes was known to be stuck.
 fn forget<A: Allocator>(known: &mut Vec<bool, A>, lanes: &[LaneId])
     ensures known { (q : ℕ) → slice_index_or known.new.items q false ≡ true → (slice_index_or known.old.items q false ≡ true) × (¬ Contains lanes.now q) }
     ensures len { length known.new.items ≡ length known.old.items }
@@ -56,7 +56,7 @@ fn forget<A: Allocator>(known: &mut Vec<bool, A>, lanes: &[LaneId])
 }
 
 impl<A: Allocator + Copy> Stuck<A> {
-    /// This many lanes and items, of which no lane is known to be stuck.
+    /// For this many lanes and items. No lane is known to be stuck.
     pub(crate) fn new(alloc: A, lanes: u16, items: u16) -> Result<Self, AllocError>
         ensures known { IfOk result (λ stuck. stuck.known ≡ replicate lanes false) }
         ensures waiting { IfOk result (λ stuck. stuck.waiting ≡ replicate items []) }
@@ -75,7 +75,7 @@ impl<A: Allocator + Copy> Stuck<A> {
         self.known[usize::from(q.get())]
     }
 
-    /// A lane is found to be stuck, and to wait for this item, or for none.
+    /// Notes that a lane was found to be stuck, and waits for this item, or for none.
     pub(crate) fn note(&mut self, q: LaneId, awaited: Option<ItemId>) -> Result<(), AllocError>
         requires lane { q < length self.old.known }
         requires item { IfSome awaited (λ i. i < length self.old.waiting) }
@@ -88,7 +88,7 @@ impl<A: Allocator + Copy> Stuck<A> {
         Ok(())
     }
 
-    /// An item is finished: the lanes that wait for it are asked again.
+    /// Notes that an item is finished: the lanes that wait for it are asked again.
     pub(crate) fn release(&mut self, item: ItemId)
         requires { item < length self.old.waiting }
         ensures released { IsReleased self.old item self.new }

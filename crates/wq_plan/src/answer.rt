@@ -1,4 +1,4 @@
-//! What a declaration gives.
+//! The answer to a declaration.
 //!
 //! Nothing is computed here.
 
@@ -6,15 +6,15 @@ use std::alloc::Allocator;
 use wq_graph::WaitArc;
 use wq_groups::Assignment;
 
-/// A plan, or why there is none.
+/// A plan, or the reason why there is none.
 #[derive(Drop)]
 pub enum Answer<A: Allocator> {
-    /// The lane of each group, and the arcs of a longest chain from its first group on.
+    /// The lane of each group, and the arcs of a longest chain, from its first group on.
     Plan {
         assignment: Assignment<A>,
         chain: Vec<WaitArc, A>,
     },
-    /// The groups wait in a circle, of which these are the arcs, so no assignment is safe.
+    /// The groups wait in a circle, so no assignment is safe. These are the arcs of the circle.
     Circle {
         arcs: Vec<WaitArc, A>,
     },

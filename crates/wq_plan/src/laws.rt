@@ -1,4 +1,4 @@
-//! Laws about plans, as contracts of functions with empty bodies; those of chains and circles are in `wq_items`.
+//! Laws about plans, as contracts of functions with empty bodies. Those about chains and circles are in `wq_items`.
 //!
 //! No code runs here.
 
@@ -16,7 +16,7 @@ ghost use Rattle.wq_plan.specs.Plan.{IsPlan, lanes_of, chain_of};
 ghost use Rattle.wq_plan.specs.LongestChain.{IsLongestChain};
 ghost use Rattle.wq_plan.specs.CircleOfGroups.{IsCircleOfGroups};
 
-/// The number of lanes is the greatest lane plus one, and 0 where there is no group.
+/// The number of lanes is the greatest lane plus one, or 0 where there is no group.
 pub fn lanes_are_counted()
     ensures above { (lane : List ℕ) → All (λ l. l < lanes_of lane) lane }
     ensures last { (lane : List ℕ) → 0 < length lane → SomeIndex lane (λ g. slice_index lane g + 1 ≡ lanes_of lane) }
@@ -39,8 +39,8 @@ pub fn a_plan_is_safe()
     ensures { (d : Declaration) (a : Assignment) → IsDeclaration d → IsPlan d a → IsSafe (wiring d a) }
 {}
 
-/// Every assignment of the groups to fewer workqueues than a plan has deadlocks: it has a run that ends stuck, with each
-/// item queued once and flushing as declared.
+/// Every assignment of the groups to fewer workqueues than a plan has deadlocks: it has a run that ends stuck, with each item
+/// queued once and flushing as declared.
 pub fn a_plan_is_least()
     ensures { (d : Declaration) (a : Assignment) → IsDeclaration d → IsPlan d a → IsLeast d a }
 {}
@@ -56,36 +56,36 @@ pub fn a_circle_has_no_plan()
     ensures { (d : Declaration) (a : Assignment) → HasCircle (GroupWaits d) d.groups → ¬ IsPlan d a }
 {}
 
-/// A declaration has one plan at most.
+/// A declaration has at most one plan.
 pub fn plan_is_unique()
     ensures { (d : Declaration) (a b : Assignment) → IsPlan d a → IsPlan d b → a ≡ b }
 {}
 
-/// No chain of groups has more of them than there are lanes.
+/// No chain has more groups than there are lanes.
 pub fn no_chain_is_longer()
     ensures { (d : Declaration) (a : Assignment) (vs : List ℕ) →
         IsPlan d a → IsChain (GroupWaits d) vs → All (λ g. g < d.groups) vs → length vs ≤ a.lanes }
 {}
 
-/// What is printed of a plan is a longest chain.
+/// The chain that is printed for a plan is a longest one.
 pub fn printed_chain_is_longest()
     ensures { (d : Declaration) (a : Assignment) →
         IsDeclaration d → IsPlan d a → IsLongestChain d a (chain_of (group_graph d) a.lane_of_group) }
 {}
 
-/// A plan has one such chain.
+/// A plan has only one such chain.
 pub fn longest_chain_is_unique()
     ensures { (d : Declaration) (a : Assignment) (one other : List WaitArc) →
         IsDeclaration d → IsLongestChain d a one → IsLongestChain d a other → one ≡ other }
 {}
 
-/// What is printed of a circle goes round groups, each of which waits for the next.
+/// The circle that is printed goes round groups, each of which waits for the next.
 pub fn printed_circle_goes_round_groups()
     ensures { (d : Declaration) (circle : List WaitArc) →
         IsDeclaration d → IsWalkedCircle (group_graph d) circle → IsCircleOfGroups d circle }
 {}
 
-/// A declaration has one such circle at most.
+/// A declaration has at most one such circle.
 pub fn printed_circle_is_unique()
     ensures { (d : Declaration) (one other : List WaitArc) → IsDeclaration d →
         IsWalkedCircle (group_graph d) one → IsWalkedCircle (group_graph d) other → one ≡ other }
