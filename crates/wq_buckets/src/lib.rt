@@ -1,7 +1,7 @@
-//! Places by their keys: of each key the places where it is in a list, in rising order.
+//! Places by their keys: for each key its places in a list, in rising order.
 //!
 //! What the layers above rely on: the buckets are `buckets_of` the list, one for each key. They know nothing of declarations.
-//! Making them takes time and memory in the list and the keys, and nothing is compared.
+//! Making them takes time and memory in the length of the list and the number of keys, and nothing is compared.
 #![tactic(auto)]
 
 mod buckets;

@@ -1,7 +1,7 @@
 //! The text of a diagnosis, and the diagnoses of the texts of a command.
 //!
-//! The form is that of "Diagnoses" in docs/FORMAT.md. A text is read anew to learn its refusal, so a call takes the time and the
-//! memory of reading the texts and of seeking the fault in them.
+//! The form is that of "Diagnoses" in docs/FORMAT.md. A text is read again to find its refusal. So a call takes the time and the
+//! memory of reading the texts and of searching them for the fault.
 
 ghost use Rattle.std.specs.Prelude.{◌≡◌, ◌++◌, ◌∷◌, [], ◌<◌, codes, length, map, option_map, ℕ, IfOk, OnOk, Option};
 ghost use Rattle.wq_findings.specs.Shown.{place_text, shown};
@@ -21,10 +21,10 @@ use wq_findings::{
 use wq_lines::put;
 use wq_text::{Line, Text};
 
-/// The number of a plan that has too many workqueues to run.
+/// The number of the refusal of a plan that has too many workqueues to run.
 const TOO_MANY: u32 = 69;
 
-/// A text of a command, and the file that it is from.
+/// A text of a command, and the file that it comes from.
 #[derive(Clone, Copy, Debug, PartialEq, Eq)]
 pub struct Source<'a> {
     /// The path of the file, as it was given.
@@ -33,7 +33,7 @@ pub struct Source<'a> {
     pub text: &'a [u8],
 }
 
-/// A refusal, or a `no`: the word, its number, and the line, or 0 where no line is meant.
+/// A refusal, or a `no`: the word, its number, and the line; the line is 0 where none is meant.
 #[derive(Clone, Copy)]
 struct Refusal {
     word: &'static str,
@@ -42,7 +42,7 @@ struct Refusal {
 }
 
 impl Refusal {
-    /// The refusal of this number for this line.
+    /// The refusal with this number, for this line.
     fn new(code: u32, line: u32) -> Refusal
         ensures word { result.word.now ≡ codes "refused" }
         ensures code { result.code ≡ code }
@@ -55,7 +55,7 @@ impl Refusal {
         }
     }
 
-    /// The `no` of this number, which is shown on this line.
+    /// The `no` with this number, shown on this line.
     fn no(code: u32, line: u32) -> Refusal
         ensures word { result.word.now ≡ codes "no" }
         ensures code { result.code ≡ code }
@@ -94,7 +94,7 @@ fn put_line<A: Allocator + Copy>(
     Ok(())
 }
 
-/// Adds the word of an answer with its number, and the command that says more of it.
+/// Adds the word of an answer with its number, and the command that explains it.
 fn put_answer<A: Allocator + Copy>(
     out: &mut Vec<u8, A>,
     word: &str,
@@ -147,7 +147,7 @@ fn head<A: Allocator + Copy>(
     Ok(line)
 }
 
-/// Adds the line that is meant and its marks, where bytes of it are.
+/// Adds the line that is meant and its marks, where bytes of it are meant.
 fn add_details<A: Allocator + Copy>(
     alloc: A,
     details: &mut Vec<Vec<u8, A>, A>,
@@ -163,7 +163,7 @@ fn add_details<A: Allocator + Copy>(
     Ok(())
 }
 
-/// The lines below the first one: the line and its marks, where bytes of it are meant; else none.
+/// The lines below the first one: the line and its marks, where bytes of it are meant, or else none.
 fn details<A: Allocator + Copy>(
     alloc: A,
     line: Option<Line<'_>>,
@@ -212,7 +212,7 @@ fn column(mark: Mark) -> u32 {
     u32::try_from(mark.at).unwrap_or(u32::MAX).saturating_add(1)
 }
 
-/// The diagnosis of a refusal, by the bytes that are meant, what is wrong, and the lines below the first one.
+/// The diagnosis of a refusal, from the bytes that are meant, what is wrong, and the lines below the first one.
 fn diagnosis_at<A: Allocator + Copy>(
     alloc: A,
     file: &str,
@@ -241,7 +241,7 @@ fn diagnosis_at<A: Allocator + Copy>(
     }
 }
 
-/// The diagnosis of a refusal of a text, by what was found in it.
+/// The diagnosis of a text's refusal, from what was found in the text.
 fn diagnosis<A: Allocator + Copy>(
     alloc: A,
     file: &str,
@@ -256,7 +256,7 @@ fn diagnosis<A: Allocator + Copy>(
     diagnosis_at(alloc, file, refusal, finding.mark, &what, &details)
 }
 
-/// The lines of a text, however long they are. Longer texts than 4,294,967,295 bytes, which no command reads, have none.
+/// The lines of a text, however long they are. A text of more than 4,294,967,295 bytes, which no command reads, has none.
 fn lines_of(text: &[u8]) -> Text<'_> {
     match Text::new(text, u32::MAX, u32::MAX) {
         Ok(text) => text,
@@ -269,7 +269,7 @@ fn no_text<'a>() -> Text<'a> {
     Text::new(b"", 0, 0).unwrap()
 }
 
-/// What is said of a declaration that is refused so.
+/// The diagnosis of a declaration that is refused like this.
 fn of_refused<A: Allocator + Copy>(
     alloc: A,
     declaration: Source<'_>,
@@ -282,7 +282,7 @@ fn of_refused<A: Allocator + Copy>(
     diagnosis(alloc, declaration.file, &text, refusal, finding)
 }
 
-/// What is said of a declaration: nothing where it is one, and else the diagnosis of its refusal.
+/// Diagnoses a declaration: nothing where it is one, or else the diagnosis of its refusal.
 ///
 /// The only error is out of memory (20).
 ///
@@ -304,7 +304,7 @@ pub fn of_declaration<A: Allocator + Copy>(
     }
 }
 
-/// What a certificate of a declaration is refused for; none where it is of its form.
+/// Why a certificate of a declaration is refused; none where it has its form.
 fn fault_of<A: Allocator + Copy>(
     alloc: A,
     kind: Kind,
@@ -322,7 +322,7 @@ fn fault_of<A: Allocator + Copy>(
     }
 }
 
-/// What is wrong in a certificate that is refused so.
+/// Finds what is wrong in a certificate that is refused like this.
 fn find_fault<'a, A: Allocator + Copy>(
     alloc: A,
     kind: Kind,
@@ -339,7 +339,7 @@ fn find_fault<'a, A: Allocator + Copy>(
     in_certificate(alloc, kind, &declaration, table, groups, text, code, line)
 }
 
-/// What is said of a certificate that is refused so.
+/// The diagnosis of a certificate that is refused like this.
 fn of_fault<A: Allocator + Copy>(
     alloc: A,
     kind: Kind,
@@ -356,7 +356,7 @@ fn of_fault<A: Allocator + Copy>(
     diagnosis(alloc, certificate.file, &text, refusal, finding)
 }
 
-/// What is said of a certificate of this declaration: nothing where it is of its form, and else the diagnosis of its refusal.
+/// Diagnoses a certificate of this declaration: nothing where it has its form, or else the diagnosis of its refusal.
 fn of_certificate_for<A: Allocator + Copy>(
     alloc: A,
     kind: Kind,
@@ -378,8 +378,8 @@ fn of_certificate_for<A: Allocator + Copy>(
     }
 }
 
-/// What is said of a certificate of a declaration: nothing where it is of its form, or where the declaration is refused, and
-/// else the diagnosis of its refusal.
+/// Diagnoses a certificate of a declaration: nothing where it has its form, or where the declaration is refused, or else the
+/// diagnosis of its refusal.
 ///
 /// The only error is out of memory (20).
 ///
@@ -400,7 +400,7 @@ pub fn of_certificate<A: Allocator + Copy>(
     }
 }
 
-/// What is said of a declaration whose plan has too many workqueues to run.
+/// The diagnosis of a declaration whose plan has too many workqueues to run.
 ///
 /// The only error is out of memory (20).
 pub fn of_too_many<A: Allocator + Copy>(
@@ -442,7 +442,7 @@ fn no_to<A: Allocator + Copy>(
     }
 }
 
-/// What is said of a certificate to which this is answered.
+/// The diagnosis of a certificate with this answer.
 fn of_lack<A: Allocator + Copy>(
     alloc: A,
     declared: &Declaration<'_, A>,
@@ -457,7 +457,7 @@ fn of_lack<A: Allocator + Copy>(
     diagnosis(alloc, certificate.file, &text, refusal, lack.finding)
 }
 
-/// What is said of a certificate of this declaration to which the checker says no; nothing of another one.
+/// Diagnoses a certificate of this declaration to which the checker says no. For any other it gives nothing.
 fn of_no_for<A: Allocator + Copy>(
     alloc: A,
     declared: &Declaration<'_, A>,
@@ -475,7 +475,7 @@ fn of_no_for<A: Allocator + Copy>(
     }
 }
 
-/// What is said of a certificate of a declaration to which the checker says no; nothing of another one.
+/// Diagnoses a certificate of a declaration to which the checker says no. For any other it gives nothing.
 ///
 /// The only error is out of memory (20).
 ///

@@ -1,9 +1,9 @@
-//! Diagnoses: what is said on standard error of a text that is refused, beside the refusal.
+//! Diagnoses: what standard error says of a text that is refused, in addition to the refusal.
 //!
-//! What the program relies on: a diagnosis begins with the file and the line of the refusal, has its number on the first
-//! line, and is printable ASCII and line feeds, whatever the text holds. Which word is meant and what was most likely meant is
-//! the affair of wq_findings. The form is that of "Diagnoses" in docs/FORMAT.md. Each call takes time in the length of the texts,
-//! and in the names of the declaration times the length of one where a name is unknown.
+//! What the program relies on: a diagnosis begins with the file and the line of the refusal, has the number of the refusal on its
+//! first line, and is printable ASCII and line feeds, whatever the text holds. wq_findings decides which word is meant, and what
+//! was most likely meant. The form is that of "Diagnoses" in docs/FORMAT.md. Each call takes time in the length of the texts and,
+//! where a name is unknown, in the names of the declaration times the length of one.
 #![tactic(auto)]
 
 mod diagnosis;

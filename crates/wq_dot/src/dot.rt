@@ -1,6 +1,6 @@
 //! The command `dot`: from the bytes of a declaration, and of an assignment where one is named, to the bytes of the answer.
 //!
-//! The declaration is read first and the assignment next, both before one is judged, and the answer is built in full before the
+//! The declaration is read first and the assignment next, both before either is judged. The answer is built in full before the
 //! first byte is written. The rule is that of "The command `dot`" in docs/FORMAT.md. It takes the time of reading the texts, of
 //! the plan or the components, and of drawing and writing.
 
@@ -18,8 +18,8 @@ use std::io::{Read, Write};
 use wq_commands::{End, MAX_DECLARATION, read_two, write_answer};
 use wq_meter::{Fault, Metered, read_text};
 
-/// Reads a declaration and then an assignment to their ends, and writes the drawing of the assignment, in which the flushes that
-/// lie on a circle of its workqueues are red, or the refusal of the first of the two that is refused.
+/// Reads a declaration and then an assignment to their ends, and writes the drawing of the assignment. The flushes that lie on a
+/// circle of its workqueues are red. Where one of the two is refused, it writes the refusal of the first that is.
 ///
 /// At most 1,048,577 bytes of the declaration and 8,388,609 of the assignment are read, in at most as many calls; the assignment
 /// isn't touched until the declaration has been read to its end. The errors are `Fault::Read`, where a read failed,
@@ -67,9 +67,9 @@ pub fn dot_cmd<D: Read, S: Read, W: Write, A: Allocator + Copy>(
     write_answer(writer, answer)
 }
 
-/// Reads a declaration to its end, and writes the drawing of its plan, in which the flushes of the plan's chain are bold. Where
-/// the groups wait in a circle each has a workqueue of its own, and the flushes that lie on a circle are red. Or the refusal of
-/// the declaration is written.
+/// Reads a declaration to its end, and writes the drawing of its plan. The flushes of the plan's chain are bold. Where the groups
+/// wait in a circle, each has a workqueue of its own, and the flushes that lie on a circle are red. Where the declaration is
+/// refused, it writes the refusal.
 ///
 /// At most 1,048,577 bytes are read, in at most as many calls. The errors are `Fault::Read`, where a read failed,
 /// `Fault::Memory`, where memory ran out, and `Fault::Write`, where a write failed or took no byte. After `Fault::Write` a prefix

@@ -66,7 +66,7 @@ fn draw_red<A: Allocator + Copy>(
     drawing_text(alloc, table, groups, assignment, title, looks.as_slice())
 }
 
-/// The drawing of the plan of a table's items, with the chain that `solve` answered beside it.
+/// The drawing of the plan of a table's items, with the chain that `solve` gave with it.
 fn draw_plan<A: Allocator + Copy>(
     alloc: A,
     table: &ItemTable<'_, A>,
@@ -85,7 +85,7 @@ fn draw_plan<A: Allocator + Copy>(
     draw_bold(alloc, table, groups, assignment, title.as_slice(), chain)
 }
 
-/// The drawing of an assignment that has these components.
+/// The drawing of an assignment with these components.
 fn draw_components<A: Allocator + Copy>(
     alloc: A,
     table: &ItemTable<'_, A>,
@@ -113,7 +113,7 @@ fn draw_components<A: Allocator + Copy>(
     )
 }
 
-/// The drawing of an assignment, with its flushes that lie on a circle.
+/// The drawing of an assignment, with those flushes marked that lie on a circle.
 fn draw_circles<A: Allocator + Copy>(
     alloc: A,
     table: &ItemTable<'_, A>,
@@ -128,7 +128,7 @@ fn draw_circles<A: Allocator + Copy>(
     draw_components(alloc, table, groups, assignment, &components)
 }
 
-/// The drawing of groups each of which has a workqueue of its own.
+/// The drawing of groups, each of which has a workqueue of its own.
 fn draw_own_lanes<A: Allocator + Copy>(
     alloc: A,
     table: &ItemTable<'_, A>,
@@ -142,7 +142,7 @@ fn draw_own_lanes<A: Allocator + Copy>(
     draw_circles(alloc, table, groups, &assignment)
 }
 
-/// The drawing of groups that have this answer.
+/// The drawing of groups with this answer.
 fn draw_answer<A: Allocator + Copy>(
     alloc: A,
     table: &ItemTable<'_, A>,

@@ -1,7 +1,7 @@
-//! How each flush of a drawing looks: those of a chain bold, those of components red, and the others plain.
+//! How each flush of a drawing looks: those of a chain are bold, those of components red, and the others plain.
 //!
-//! The rule is that of "The command `dot`" in docs/FORMAT.md. A flush is told by its place, so one of several with the same item
-//! and target is marked alone. It takes time and memory in the flushes.
+//! The rule is that of "The command `dot`" in docs/FORMAT.md. A flush is identified by its place. So if several have the same
+//! item and target, only the one that is meant is marked. It takes time and memory in the number of flushes.
 
 ghost use Rattle.std.specs.Prelude.{◌≡◌, ◌<◌, length, map, flat_map, IfOk};
 ghost use Rattle.std.specs.List.{All};
@@ -24,7 +24,7 @@ fn mark(looks: &mut [FlushLook], arcs: &[WaitArc], look: FlushLook)
     }
 }
 
-/// How each flush of a table's items looks, in order of place: those of this chain are bold.
+/// How each flush of a table's items looks, in order of place. Those of this chain are bold.
 pub(crate) fn bold_flushes<A: Allocator + Copy>(
     alloc: A,
     table: &ItemTable<'_, A>,
@@ -38,7 +38,7 @@ pub(crate) fn bold_flushes<A: Allocator + Copy>(
     Ok(looks)
 }
 
-/// How each flush of a table's items looks, in order of place: those of these components are red.
+/// How each flush of a table's items looks, in order of place. Those of these components are red.
 pub(crate) fn red_flushes<A: Allocator + Copy>(
     alloc: A,
     table: &ItemTable<'_, A>,

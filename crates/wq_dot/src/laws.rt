@@ -4,7 +4,7 @@ ghost use Rattle.std.specs.Prelude.{◌≡◌, ℕ, List};
 ghost use Rattle.wq_commands.specs.declared.end.End.{End};
 ghost use Rattle.wq_dot.specs.Dotting.{Draws, OwnDraws};
 
-/// A declaration and an assignment, or a declaration alone, have one answer at most: one end, and one text that is printed.
+/// A declaration and an assignment, or a declaration alone, have at most one answer: one end, and one text that is printed.
 pub fn drawings_have_one_answer()
     ensures end { (declared text : List ℕ) (end other : End) (out printed : List ℕ) →
         Draws declared text end out → Draws declared text other printed → end ≡ other }

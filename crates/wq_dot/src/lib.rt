@@ -3,7 +3,7 @@
 //! What the layer above relies on: the bytes written are the drawing of the bytes read, or their refusal. A drawing is that of
 //! the plan, with the flushes that the chain of its plan text follows, or of an assignment, with those that lie on a circle. The
 //! rule is that of "The command `dot`" in docs/FORMAT.md. It takes the time of reading the texts, of the plan, of the components,
-//! of the drawing and of writing it.
+//! of the drawing, and of writing it.
 #![tactic(auto)]
 
 mod dot;

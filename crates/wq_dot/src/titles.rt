@@ -1,4 +1,4 @@
-//! The titles of drawings: the first line of what is printed of a plan, or of components.
+//! The titles of drawings: the first line of what is printed for a plan, or for components.
 //!
 //! They are those of "The command `dot`" in docs/FORMAT.md. Making one takes constant time.
 
@@ -22,7 +22,7 @@ pub(crate) fn plan_title<A: Allocator + Copy>(
     Ok(title)
 }
 
-/// `safe`, or `components N` where there are some.
+/// `safe`, or `components N` where there are any.
 pub(crate) fn components_title<A: Allocator + Copy>(
     alloc: A,
     components: &[Vec<WaitArc, A>],

@@ -1,7 +1,7 @@
 //! The text of a drawing: its head, its workqueues, its flushes and its end.
 //!
-//! The format is that of "The command `dot`" in docs/FORMAT.md. Drawing takes time and memory in the items, the groups, the
-//! workqueues, the flushes and the length of the text.
+//! The format is that of "The command `dot`" in docs/FORMAT.md. Drawing takes time and memory in the number of items, groups,
+//! workqueues and flushes, and in the length of the text.
 
 ghost use Rattle.std.specs.Prelude.{◌≡◌, length, IfOk};
 ghost use Rattle.wq_items.specs.Table.{flush_count};
@@ -19,8 +19,8 @@ use wq_groups::{Assignment, Groups};
 use wq_items::ItemTable;
 use wq_lines::put;
 
-/// The drawing of a table's items on the workqueues of an assignment, with this title. `looks` has of each flush, in order of
-/// place, how it looks.
+/// The drawing of a table's items on the workqueues of an assignment, with this title. `looks` says how each flush looks, in
+/// order of place.
 ///
 /// The groups are those of the table's items, and each has a workqueue. The only error is out of memory (20).
 pub fn drawing_text<A: Allocator + Copy>(

@@ -1,6 +1,6 @@
 //! A flush: an arrow from the item to the target.
 //!
-//! The line is that of "The command `dot`" in docs/FORMAT.md. Printing takes time and memory in what is printed.
+//! The line is that of "The command `dot`" in docs/FORMAT.md. Printing takes time and memory in the length of what is printed.
 
 ghost use Rattle.std.specs.Prelude.{◌≡◌, ◌<◌, ◌++◌, length, OnOk};
 ghost use Rattle.wq_drawing.specs.Drawing.{arrow_line, ended, look_text};
@@ -11,7 +11,7 @@ use wq_graph::WaitArc;
 use wq_items::ItemTable;
 use wq_lines::put;
 
-/// What an arrow is marked with.
+/// How an arrow is marked.
 fn look_text(look: FlushLook) -> &'static [u8]
     ensures { result.now ≡ look_text look }
 {
@@ -22,7 +22,7 @@ fn look_text(look: FlushLook) -> &'static [u8]
     }
 }
 
-/// Adds the line of a flush that looks so.
+/// Adds the line of a flush with this look.
 pub(crate) fn put_flush<A: Allocator + Copy>(
     out: &mut Vec<u8, A>,
     table: &ItemTable<'_, A>,

@@ -1,6 +1,6 @@
 //! A group: its item, or a box with its items.
 //!
-//! The lines are those of "The command `dot`" in docs/FORMAT.md. Printing takes time and memory in what is printed.
+//! The lines are those of "The command `dot`" in docs/FORMAT.md. Printing takes time and memory in the length of what is printed.
 
 ghost use Rattle.std.specs.Prelude.{◌≡◌, ◌<◌, ◌++◌, flat_map, length, OnOk};
 ghost use Rattle.std.specs.List.{All};
@@ -24,7 +24,7 @@ fn put_single<A: Allocator + Copy>(
     put(out, b"\";\n")
 }
 
-/// Adds the line of an item of a group of several.
+/// Adds the line of one item of a group of several.
 fn put_member<A: Allocator + Copy>(
     out: &mut Vec<u8, A>,
     table: &ItemTable<'_, A>,
@@ -38,7 +38,7 @@ fn put_member<A: Allocator + Copy>(
     put(out, b"\";\n")
 }
 
-/// Adds the box of a group of several items, of which this one is the first.
+/// Adds the box of a group of several items. This one is the first of them.
 fn put_ordered<A: Allocator + Copy>(
     out: &mut Vec<u8, A>,
     table: &ItemTable<'_, A>,

@@ -1,13 +1,13 @@
-//! Of each group the number of its workqueue.
+//! The number of each group's workqueue.
 //!
-//! It takes time and memory in the groups.
+//! It takes time and memory in the number of groups.
 
 ghost use Rattle.std.specs.Prelude.{◌≡◌, length, IfOk};
 
 use std::alloc::{AllocError, Allocator};
 use wq_groups::{Assignment, GroupId};
 
-/// Of each group in turn the number of its workqueue, where the assignment has this many groups.
+/// The number of each group's workqueue in turn, where the assignment has this many groups.
 pub(crate) fn lanes_of_groups<A: Allocator + Copy>(
     alloc: A,
     assignment: &Assignment<A>,

@@ -1,7 +1,7 @@
 //! Laws about drawings, as contracts of functions with empty bodies.
 //!
-//! `Drawing` puts the lines one after the other. Here is what that comes to for an item and for a flush, as "The command
-//! `dot`" in docs/FORMAT.md says it.
+//! `Drawing` puts the lines one after the other. The laws say what that means for an item and for a flush, as in "The command
+//! `dot`" in docs/FORMAT.md.
 
 ghost use Rattle.std.specs.Prelude.{◌≡◌, ◌<◌, ℕ, List, length, map};
 ghost use Rattle.std.specs.List.{All, count_by, range_with_len};
@@ -14,15 +14,15 @@ ghost use Rattle.wq_drawing.specs.declared.look.FlushLook.{FlushLook};
 ghost use Rattle.wq_drawing.specs.Drawing.{drawing_lines};
 ghost use Rattle.wq_drawing.specs.Laws.{is_arrow, is_line_of};
 
-/// Each item has exactly one line, whatever the title and the looks are.
+/// Each item has exactly one line, whatever the title and the looks.
 pub fn each_item_has_one_line()
     ensures { (t : Table) (p : Partition) (a : Assignment) (title : List ℕ) (looks : List FlushLook) (i : ℕ) →
         IsTable t → IsPartition p → length p.group_of ≡ length t.names → IsAssignment p.groups a → i < length t.names →
         count_by (is_line_of t.names i) (drawing_lines t p a title looks) ≡ 1 }
 {}
 
-/// Each flush has exactly one arrow: there are as many as flushes, each of a declared flush, and their places are 0, 1, 2 and so
-/// on.
+/// Each flush has exactly one arrow: there are as many arrows as flushes, each of a declared flush, and their places are 0, 1, 2
+/// and so on.
 pub fn each_flush_has_one_arrow()
     ensures arrows { (t : Table) (p : Partition) (a : Assignment) (title : List ℕ) (looks : List FlushLook) →
         IsTable t → IsPartition p → IsAssignment p.groups a →

@@ -1,6 +1,6 @@
 //! A workqueue: a box with its groups.
 //!
-//! The lines are those of "The command `dot`" in docs/FORMAT.md. Printing takes time and memory in what is printed.
+//! The lines are those of "The command `dot`" in docs/FORMAT.md. Printing takes time and memory in the length of what is printed.
 
 ghost use Rattle.std.specs.Prelude.{◌≡◌, ◌<◌, ◌++◌, flat_map, length, OnOk};
 ghost use Rattle.std.specs.List.{All};

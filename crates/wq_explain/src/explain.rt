@@ -1,7 +1,7 @@
 //! The command `explain`: from a word to what it means, and the list of all that is explained.
 //!
 //! The rule is that of docs/FORMAT.md, "The command `explain`". The text is built in full before its first byte is written, and
-//! nothing is read. It takes time and memory in the text.
+//! nothing is read. It takes time and memory in the length of the text.
 
 ghost use Rattle.std.specs.Prelude.{◌≡◌, ◌≢◌, ◌++◌, Err, IfOk, map, option_map};
 ghost use Rattle.wq_explain.specs.Explaining.{end_in, explained_end, explained_text, explanation_in, explanation_text, number_in, row_of, text_in, text_or_titles, titles, unknown_text, known_or_not};
@@ -12,12 +12,12 @@ use std::alloc::{AllocError, Allocator};
 use std::io::Write;
 use wq_meter::{Fault, Metered, write_text};
 
-/// Whether there is an explanation of a word, or none was asked for.
+/// Whether a word has an explanation, or no word was given.
 #[derive(Clone, Copy, Debug, PartialEq, Eq)]
 pub enum Explained {
-    /// It has one, or all were listed.
+    /// The word has one, or all were listed.
     Known,
-    /// It has none.
+    /// The word has none.
     Unknown,
 }
 
@@ -35,7 +35,7 @@ fn explanation_text<A: Allocator + Copy>(
     Ok(text)
 }
 
-/// Writes the titles after what is there.
+/// Appends the titles.
 fn push_titles<A: Allocator + Copy>(
     text: &mut Vec<u8, A>,
     rows: &[Explanation],
@@ -48,7 +48,7 @@ fn push_titles<A: Allocator + Copy>(
     Ok(())
 }
 
-/// The titles of all.
+/// The titles of all explanations.
 fn titles<A: Allocator + Copy>(alloc: A, rows: &[Explanation]) -> Result<Vec<u8, A>, AllocError>
     ensures { IfOk result (λ text. text.items ≡ titles (map row_of rows.now)) }
 {
@@ -57,7 +57,7 @@ fn titles<A: Allocator + Copy>(alloc: A, rows: &[Explanation]) -> Result<Vec<u8,
     Ok(text)
 }
 
-/// The titles of all, below a line that says that a word has no explanation.
+/// The titles of all explanations, below a line that says that a word has none.
 fn unknown_text<A: Allocator + Copy>(
     alloc: A,
     rows: &[Explanation],
@@ -70,7 +70,7 @@ fn unknown_text<A: Allocator + Copy>(
     Ok(text)
 }
 
-/// The number of 32 bits that a word spells.
+/// The 32-bit number that a word spells.
 fn number_in(word: &str) -> Option<u32>
     ensures { result ≡ number_in word.now }
 {
@@ -87,7 +87,7 @@ fn named<'a>(rows: &'a [Explanation], word: &str) -> Option<&'a Explanation>
     }
 }
 
-/// What is printed for a word, and whether it has an explanation among these.
+/// What is printed for a word, and whether one of these explanations is for it.
 fn explain_word<A: Allocator + Copy>(
     alloc: A,
     rows: &[Explanation],
@@ -103,7 +103,7 @@ fn explain_word<A: Allocator + Copy>(
     }
 }
 
-/// What is printed for a word, or without one, and whether it has an explanation among these.
+/// What is printed for a word, or without a word, and whether one of these explanations is for it.
 fn explain<A: Allocator + Copy>(
     alloc: A,
     rows: &[Explanation],
@@ -118,11 +118,11 @@ fn explain<A: Allocator + Copy>(
     }
 }
 
-/// Writes the explanation that a word names, by number or by name; without a word, the list of all explanations; for a word
-/// without an explanation, that list below a line that says so.
+/// Writes the explanation that a word names, by its number or its name. Without a word it writes the list of all explanations.
+/// For a word without an explanation it writes that list below a line that says so.
 ///
-/// The errors are `Fault::Memory`, and `Fault::Write`, where a write failed or took no byte; after the last one a
-/// prefix of the text is written, and after the other nothing.
+/// The errors are `Fault::Memory`, where memory ran out, and `Fault::Write`, where a write failed or took no byte. After
+/// `Fault::Write` a prefix of the text is written, and after `Fault::Memory` nothing.
 pub fn explain_cmd<W: Write, A: Allocator + Copy>(
     alloc: A,
     word: Option<&str>,
@@ -146,7 +146,7 @@ pub fn explain_cmd<W: Write, A: Allocator + Copy>(
     Ok(end)
 }
 
-/// What is printed for a word, or without one, and whether it has an explanation.
+/// What is printed for a word, or without a word, and whether there is an explanation for it.
 fn explain_known<A: Allocator + Copy>(
     alloc: A,
     word: Option<&str>,

@@ -1,6 +1,6 @@
-//! What holds of the table.
+//! Laws about the table.
 //!
-//! Each law is a function without effect, whose contract is the law.
+//! Each law is a function that does nothing. Its contract is the law.
 
 ghost use Rattle.std.specs.Prelude.{◌≡◌, ◌<◌, ◌^◌, ℕ, Some, decimal, map, filter_map};
 ghost use Rattle.wq_explain.specs.Explaining.{explained_end, explanations, names, number_end, numbers};

@@ -1,13 +1,15 @@
 //! The explanations: one for each number that the program prints in a refusal or in a `no`, and one for each fault.
 //!
-//! docs/FORMAT.md has the rules. tests/explain.sh runs each example. A search takes time in the number of rows and in the word.
+//! docs/FORMAT.md has the rules. tests/explain.sh runs each example. A search takes time in the number of rows and the length of
+//! the word.
 
 ghost use Rattle.std.specs.Prelude.{◌≡◌, find, option_map};
 ghost use Rattle.std.specs.Str.{bytes_eq};
 ghost use Rattle.wq_explain.specs.Explaining.{numbered};
 
-/// A number that the program prints, where it is one that is explained, and none of a fault; its name, or that of the fault;
-/// the line of a list; and what it means. That is what was found, the section of docs/FORMAT.md in which the rule stands, shell
+/// An explanation: the number that the program prints, or none for a fault; its name, or that of the fault; its line in a list;
+/// and what it means. This last part says what was found, in which section of docs/FORMAT.md the rule is, shell commands, the
+/// last of which is answered like this, and how to mend it.
 /// commands of which the last one is answered so, and how to mend it.
 pub type Explanation = (Option<u32>, &'static str, &'static str, &'static str);
 
@@ -590,7 +592,7 @@ pub static EXPLANATIONS: [Explanation; 27] = [
     WRITE,
 ];
 
-/// Whether an explanation is that of this number.
+/// Whether an explanation is for this number.
 fn is_numbered(row: &Explanation, code: u32) -> bool
     ensures { result ≡ numbered row.now.0 code }
 {
@@ -600,14 +602,14 @@ fn is_numbered(row: &Explanation, code: u32) -> bool
     }
 }
 
-/// The first of these explanations that has this number, if there is one.
+/// The first of these explanations with this number, if there is one.
 pub(crate) fn with_number(rows: &[Explanation], code: u32) -> Option<&Explanation>
     ensures { option_map (λ row. row.now) result ≡ find (λ row. numbered row.0 code) rows.now }
 {
     rows.iter().find(|row| is_numbered(row, code))
 }
 
-/// The first of these explanations that has this name, if there is one.
+/// The first of these explanations with this name, if there is one.
 pub(crate) fn with_name<'a>(rows: &'a [Explanation], name: &str) -> Option<&'a Explanation>
     ensures { option_map (λ row. row.now) result ≡ find (λ row. bytes_eq row.1.now name.now) rows.now }
 {

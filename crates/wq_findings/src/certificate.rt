@@ -1,7 +1,7 @@
 //! What is wrong on a line of a certificate that is refused, and what was most likely meant.
 //!
-//! The refusals are those of "Refusals of certificates" in docs/FORMAT.md. It takes time in the length of the text, and where a
-//! name is unknown in the names of the declaration times the length of one.
+//! The refusals are those of "Refusals of certificates" in docs/FORMAT.md. It takes time in the length of the text and, where a
+//! name is unknown, in the names of the declaration times the length of one.
 
 ghost use Rattle.std.specs.Prelude.{◌≡◌, length};
 
@@ -83,7 +83,7 @@ fn on_line<'a, A: Allocator + Copy>(
     }
 }
 
-/// A text that is too long, or ends too early.
+/// Finds that a text is too long, or ends too early.
 fn cut_short<'a>(text: &Text<'_>, stage: Stage) -> Finding<'a> {
     if text.bytes().len() > MAX_TEXT {
         return Finding::whole(What::Said("the text has more than 8,388,608 bytes"));
@@ -91,7 +91,7 @@ fn cut_short<'a>(text: &Text<'_>, stage: Stage) -> Finding<'a> {
     Finding::whole(What::EndsAt(stage))
 }
 
-/// What is said of the number of a `wq` line that is not the next one.
+/// What is wrong with a `wq` line whose number isn't the next one.
 fn out_of_order<'a>(next: u32) -> What<'a> {
     if next < MAX_WORKQUEUES {
         What::OutOfOrder(next)
@@ -119,7 +119,7 @@ fn out_of_range<'a>(line: &Line<'a>, stage: Stage) -> Finding<'a> {
     Finding::marked(mark, What::Said(what), Hint::Nothing)
 }
 
-/// A line that isn't what should be there.
+/// A line that isn't the one that should be there.
 fn wrong_line<'a, A: Allocator + Copy>(
     alloc: A,
     declaration: &Text<'a>,
@@ -137,7 +137,7 @@ fn wrong_line<'a, A: Allocator + Copy>(
     }
 }
 
-/// A line with another first word, or after the last one of the text.
+/// A line with another first word, or after the last line of the text.
 fn other_line<'a>(line: &Line<'a>, stage: Stage) -> Finding<'a> {
     let word = bytes_at(line, 0);
     if stage.may_end() {
@@ -151,7 +151,7 @@ fn other_line<'a>(line: &Line<'a>, stage: Stage) -> Finding<'a> {
     Finding::marked(first_mark(line), What::Other(Quoted(word), stage), hint)
 }
 
-/// Why a word is no number.
+/// Why a word isn't a number.
 fn number_hint(word: &[u8]) -> &'static str {
     match word {
         [b'1'..=b'9', ..] if word.iter().all(|byte| byte.is_ascii_digit()) => {
@@ -161,7 +161,7 @@ fn number_hint(word: &[u8]) -> &'static str {
     }
 }
 
-/// The word of a line where a number should be, if it is none.
+/// The word of a line where a number should be, if it isn't one.
 fn wrong_number<'a>(line: &Line<'a>, shape: Shape) -> Option<Token<'a>> {
     match word_at(line, 1) {
         Some(word) if shape.has_number && number(word.bytes).is_none() => Some(word),
@@ -169,7 +169,7 @@ fn wrong_number<'a>(line: &Line<'a>, shape: Shape) -> Option<Token<'a>> {
     }
 }
 
-/// The first word of a line that is too much.
+/// The first surplus word of a line.
 fn surplus_word<'a>(line: &Line<'a>, shape: Shape) -> Option<Token<'a>> {
     match shape.names {
         Some(_) => word_at(line, shape.fewest()),
@@ -177,7 +177,7 @@ fn surplus_word<'a>(line: &Line<'a>, shape: Shape) -> Option<Token<'a>> {
     }
 }
 
-/// A line that has another number of words than the one that should be there, or a word that is no number.
+/// A line with the wrong number of words, or with a word that isn't a number.
 fn wrong_form<'a>(line: &Line<'a>, stage: Stage, shape: Shape) -> Option<Finding<'a>> {
     if let Some(word) = wrong_number(line, shape) {
         let hint = Hint::Said(number_hint(word.bytes));
@@ -214,7 +214,7 @@ fn wrong_words<'a, A: Allocator + Copy>(
     }
 }
 
-/// The first name of a line that is no item.
+/// The first name of a line that isn't an item's.
 fn unknown_name<'a, A: Allocator + Copy>(
     table: &ItemTable<'_, A>,
     line: &Line<'a>,
@@ -228,7 +228,7 @@ fn unknown_name<'a, A: Allocator + Copy>(
     None
 }
 
-/// A word that is the name of no item.
+/// A word that isn't the name of an item.
 fn no_item<'a, A: Allocator + Copy>(
     alloc: A,
     declaration: &Text<'a>,

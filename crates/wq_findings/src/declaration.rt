@@ -1,6 +1,6 @@
 //! What is wrong on a line of a declaration that is refused, and what was most likely meant.
 //!
-//! The refusals are those of "Refusals" in docs/FORMAT.md. It takes time in the length of the text, and where a name is unknown
+//! The refusals are those of "Refusals" in docs/FORMAT.md. It takes time in the length of the text and, where a name is unknown,
 //! in the names of the text times the length of one.
 
 use crate::finding::Finding;
@@ -49,7 +49,7 @@ fn on_line<'a, A: Allocator + Copy>(
     }
 }
 
-/// The same of a refusal that takes no memory to explain.
+/// The same for a refusal whose explanation takes no memory.
 fn on_this_line<'a>(text: &Text<'a>, line: &Line<'a>, code: u32) -> Finding<'a> {
     match code {
         2 => Finding::too_long(line, MAX_LINE, "the line has more than 4,096 bytes"),
@@ -64,7 +64,7 @@ fn on_this_line<'a>(text: &Text<'a>, line: &Line<'a>, code: u32) -> Finding<'a> 
     }
 }
 
-/// What is said of a line at its first word.
+/// What is wrong with a line, marked at its first word.
 fn at_first_word<'a>(line: &Line<'a>, what: &'static str) -> Finding<'a> {
     Finding::marked(first_mark(line), What::Said(what), Hint::Nothing)
 }
@@ -98,7 +98,7 @@ fn bad_byte<'a>(line: &Line<'a>) -> Finding<'a> {
     Finding::whole(What::Said("a byte before the comment is neither TAB nor printable ASCII"))
 }
 
-/// A first word that is no directive.
+/// A first word that isn't a directive.
 fn unknown_word<'a, A: Allocator + Copy>(
     alloc: A,
     line: &Line<'a>,
@@ -109,7 +109,7 @@ fn unknown_word<'a, A: Allocator + Copy>(
     Ok(Finding::marked(first_mark(line), what, hint))
 }
 
-/// What a word that is no directive was most likely meant to be.
+/// What a word that isn't a directive was most likely meant to be.
 fn directive_hint<A: Allocator + Copy>(alloc: A, word: &[u8]) -> Result<Hint<'static>, AllocError> {
     if begins_comment(word) {
         return Ok(Hint::COMMENT);
@@ -123,7 +123,7 @@ fn directive_hint<A: Allocator + Copy>(alloc: A, word: &[u8]) -> Result<Hint<'st
     })
 }
 
-/// The form of the lines that begin as this one does.
+/// The form of the lines that begin like this one.
 fn form_of(line: &Line<'_>) -> &'static str {
     match bytes_at(line, 0) {
         b"item" => "item NAME",
@@ -138,7 +138,7 @@ fn missing_name<'a>(line: &Line<'a>) -> Finding<'a> {
     Finding::marked(Mark::behind(line), what, Hint::Form(form_of(line)))
 }
 
-/// An `item` line with more than a name.
+/// An `item` line with more than one name.
 fn extra_word<'a>(line: &Line<'a>) -> Finding<'a> {
     let hint = if begins_comment(bytes_at(line, 2)) {
         Hint::COMMENT
@@ -158,7 +158,7 @@ fn is_name(bytes: &[u8]) -> bool {
     !bytes.is_empty() && bytes.len() <= MAX_NAME && bytes.iter().all(|byte| is_name_byte(*byte))
 }
 
-/// Why a word is no name.
+/// Why a word isn't a name.
 fn name_hint(word: &[u8]) -> Hint<'static> {
     if begins_comment(word) {
         Hint::COMMENT
@@ -171,7 +171,7 @@ fn name_hint(word: &[u8]) -> Hint<'static> {
     }
 }
 
-/// The first word of a line that should be a name and is none.
+/// The first word of a line that should be a name and isn't one.
 fn bad_name<'a>(line: &Line<'a>) -> Finding<'a> {
     for word in line.words().skip(1) {
         if !is_name(word.bytes()) {
@@ -219,7 +219,7 @@ fn not_above<'a, A: Allocator + Copy>(items: &Names<'a, A>, line: &Line<'a>) -> 
     None
 }
 
-/// A word that is the name of no item declared above.
+/// A word that isn't the name of an item declared above.
 fn undeclared<'a, A: Allocator + Copy>(
     alloc: A,
     text: &Text<'a>,
@@ -230,7 +230,7 @@ fn undeclared<'a, A: Allocator + Copy>(
     Ok(Finding::marked(word.mark, what, hint))
 }
 
-/// Where such a name is declared, or which one was most likely meant.
+/// Where such a name is declared, or which name was most likely meant.
 fn undeclared_hint<'a, A: Allocator + Copy>(
     alloc: A,
     text: &Text<'a>,
@@ -245,7 +245,7 @@ fn undeclared_hint<'a, A: Allocator + Copy>(
     })
 }
 
-/// A name that is on two `ordered` lines, or twice on one.
+/// A name on two `ordered` lines, or twice on one.
 fn grouped_twice<'a, A: Allocator + Copy>(
     alloc: A,
     text: &Text<'a>,
@@ -255,7 +255,7 @@ fn grouped_twice<'a, A: Allocator + Copy>(
     Ok(ordered_twice(&above, line))
 }
 
-/// The first name of an `ordered` line that is on one above, or before on the line.
+/// The first name of an `ordered` line that is also on a line above, or earlier on the same line.
 fn ordered_twice<'a, A: Allocator + Copy>(above: &Names<'a, A>, line: &Line<'a>) -> Finding<'a> {
     for word in line.words().skip(1) {
         let word = Token::of(line, &word);

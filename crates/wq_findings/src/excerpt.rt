@@ -1,6 +1,6 @@
 //! The part of a line that is shown, and the marks below it.
 //!
-//! One column for each byte: so the marks stand under the bytes that they mean. It takes time in what is shown.
+//! Each byte has one column, so the marks are below the bytes that they mean. It takes time in the length of what is shown.
 
 ghost use Rattle.std.specs.Prelude.{None};
 
@@ -9,7 +9,7 @@ use crate::quoted::Quoted;
 use crate::token::Mark;
 use std::fmt;
 
-/// How many columns of a line are shown at most.
+/// How many columns of a line are shown, at most.
 const MOST_COLUMNS: usize = 100;
 
 /// How many bytes of a line are shown where it is cut at both ends.
@@ -18,10 +18,10 @@ const CUT_BYTES: usize = 94;
 /// How many bytes are shown before those that are meant.
 const BEFORE: usize = 40;
 
-/// What stands for the bytes that are cut off at an end.
+/// What is shown in place of the bytes that are cut off at an end.
 const CUT: &str = "...";
 
-/// How many columns the line and its marks are moved to the right.
+/// What moves the line and its marks to the right.
 const INDENT: &str = "    ";
 
 /// The part of a line that is shown: the bytes from `start` up to but not including `end`.
@@ -32,7 +32,7 @@ struct Window {
 }
 
 impl Window {
-    /// What is shown of a line of this many bytes round a mark.
+    /// The part that is shown of a line of this many bytes, around a mark.
     fn round(len: usize, mark: Mark) -> Window {
         if len <= MOST_COLUMNS {
             return Window { start: 0, end: len };
@@ -55,7 +55,7 @@ pub struct Excerpt<'a> {
 }
 
 impl<'a> Excerpt<'a> {
-    /// What is shown of a line round a mark.
+    /// The part of a line that is shown around a mark.
     pub fn of(line: &'a [u8], mark: Mark) -> Excerpt<'a> {
         let Window { start, end } = Window::round(line.len(), mark);
         Excerpt {
@@ -77,7 +77,7 @@ impl fmt::Display for Excerpt<'_> {
     }
 }
 
-/// The marks below such a part of a line, with the hint after them: this many columns before the marks, and this many marks.
+/// The marks below such a part of a line, with the hint after them: some columns before the marks, and some marks.
 #[derive(Clone, Copy)]
 pub struct Marks<'a> {
     columns: usize,
@@ -86,7 +86,7 @@ pub struct Marks<'a> {
 }
 
 impl<'a> Marks<'a> {
-    /// The marks below what is shown of a line of this many bytes; at least one.
+    /// The marks below the part that is shown of a line of this many bytes. There is at least one mark.
     pub fn of(len: usize, mark: Mark, hint: Hint<'a>) -> Marks<'a> {
         let Window { start, end } = Window::round(len, mark);
         let cut = if start > 0 { CUT.len() } else { 0 };

@@ -1,16 +1,16 @@
 //! What is found: the bytes that are meant, what is wrong with them, and a hint.
 //!
-//! Takes constant time.
+//! It takes constant time.
 
 use crate::hint::Hint;
 use crate::token::{Mark, Token, word_at};
 use crate::what::What;
 use wq_text::Line;
 
-/// What is wrong with which bytes of a line, and what was most likely meant.
+/// What is wrong, with which bytes of a line, and what was most likely meant.
 #[derive(Clone, Copy)]
 pub struct Finding<'a> {
-    /// The bytes that are meant; none where no place of a line is.
+    /// The bytes that are meant; none where no part of a line is meant.
     pub mark: Option<Mark>,
     /// What is wrong.
     pub what: What<'a>,
@@ -28,7 +28,7 @@ impl<'a> Finding<'a> {
         }
     }
 
-    /// What is wrong with these bytes, and a hint.
+    /// What is wrong with these bytes, with a hint.
     pub(crate) fn marked(mark: Mark, what: What<'a>, hint: Hint<'a>) -> Finding<'a> {
         Finding {
             mark: Some(mark),
@@ -37,7 +37,7 @@ impl<'a> Finding<'a> {
         }
     }
 
-    /// What is wrong with the word at this place of a line, and a hint.
+    /// What is wrong with the word at this place of a line, with a hint.
     pub(crate) fn at_word(
         line: &Line<'_>,
         place: usize,
@@ -59,7 +59,7 @@ impl<'a> Finding<'a> {
         Finding::marked(mark, What::Said(what), Hint::Nothing)
     }
 
-    /// A word that stands twice on a line.
+    /// A word that is twice on a line.
     pub(crate) fn twice_on_line(word: Token<'a>) -> Finding<'a> {
         Finding::marked(word.mark, What::TwiceOnLine(word.quoted()), Hint::Nothing)
     }

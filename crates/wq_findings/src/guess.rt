@@ -1,7 +1,7 @@
 //! What a word was most likely meant to be.
 //!
-//! How alike two words are is `strsim`'s affair, in time of the product of their lengths. Else a call takes time in the length
-//! of the word.
+//! `strsim` says how alike two words are, in time of the product of their lengths. Apart from that, a call takes time in the
+//! length of the word.
 
 use crate::hint::Hint;
 use crate::quoted::Quoted;
@@ -9,13 +9,13 @@ use std::alloc::{AllocError, Allocator};
 use std::str;
 use strsim::osa_distance;
 
-/// A word as it is shown, a letter for each byte.
+/// A word as it is shown, with one letter for each byte.
 pub(crate) fn letters<A: Allocator + Copy>(alloc: A, word: &[u8]) -> Result<String<A>, AllocError> {
     Quoted(word).to_string(alloc)
 }
 
-/// How many letters have to be put in, left out, replaced or swapped with the next to come from one word to another, if these are
-/// few: at most one of three and fewer than there are, or one in a short word. None where the words aren't alike.
+/// How many letters have to be inserted, deleted, replaced or swapped with the next one to get from one word to another, if these
+/// are few: at most one in three and fewer than there are, or one in a short word. None where the words aren't alike.
 pub(crate) fn edits_between<A: Allocator + Copy>(
     alloc: A,
     word: &str,
@@ -47,7 +47,7 @@ pub(crate) fn begins_comment(word: &[u8]) -> bool {
     )
 }
 
-/// The hint for a word that begins a comment in another language, if it does.
+/// The hint for a word that begins a comment in another language, or else none.
 pub(crate) fn comment_hint(word: &[u8]) -> Hint<'static> {
     if begins_comment(word) {
         Hint::COMMENT
@@ -56,7 +56,7 @@ pub(crate) fn comment_hint(word: &[u8]) -> Hint<'static> {
     }
 }
 
-/// Which text has lines that begin with this word.
+/// Which kind of text has lines that begin with this word.
 pub(crate) fn text_with(word: &[u8]) -> Option<&'static str> {
     let Ok(word) = str::from_utf8(word) else {
         return None;
@@ -80,7 +80,7 @@ pub(crate) fn directive_like<A: Allocator + Copy>(
     like_directive(alloc, &word)
 }
 
-/// The same of a word that is shown so.
+/// The same for a word as it is shown.
 fn like_directive<A: Allocator + Copy>(
     alloc: A,
     word: &str,

@@ -1,6 +1,6 @@
-//! What was most likely meant, or how to mend it, as a message says it.
+//! What was most likely meant, or how to mend it, in the words of a message.
 //!
-//! It takes time in what is said.
+//! It takes time in the length of the message.
 
 ghost use Rattle.std.specs.Prelude.{None};
 
@@ -13,7 +13,7 @@ use std::fmt;
 pub enum Hint<'a> {
     /// Nothing is known.
     Nothing,
-    /// What is said in these words of any text.
+    /// A hint in these words, the same for any text.
     Said(&'static str),
     /// The form that the line should have.
     Form(&'static str),
@@ -31,11 +31,11 @@ pub enum Hint<'a> {
     Below(u32),
     /// A name that should be declared.
     Declare(Quoted<'a>),
-    /// The line on which a name stands first.
+    /// The first line that a name is on.
     FirstOn(u32),
-    /// The line on which a name stands, too.
+    /// Another line that a name is on.
     On(u32),
-    /// The line on which the other name stands.
+    /// The line that the other name is on.
     OtherOn(u32),
     /// An item, and the workqueue that it is on.
     OnWorkqueue(Quoted<'a>, Quoted<'a>),

@@ -12,10 +12,10 @@ use wq_checker::No;
 use wq_items::{ItemId, ItemTable};
 use wq_text::{Line, Text};
 
-/// What is said of an arc where its names aren't known.
+/// What is wrong with an arc whose names aren't known.
 const WRONG_ARC: &str = "an arc is no flush, or doesn't begin where the one before it ends";
 
-/// What is found, and the number of its line, 0 where no line is meant.
+/// What is found, and the number of its line; the number is 0 where no line is meant.
 #[derive(Clone, Copy)]
 pub struct Lack<'a> {
     /// The number of the line.
@@ -33,7 +33,7 @@ impl<'a> Lack<'a> {
         }
     }
 
-    /// What is wrong with these bytes of a line, and a hint.
+    /// What is wrong with these bytes of a line, with a hint.
     fn marked(line: u32, mark: Mark, what: What<'a>, hint: Hint<'a>) -> Lack<'a> {
         Lack {
             line,
@@ -50,7 +50,7 @@ struct Placed<'a> {
     word: Token<'a>,
 }
 
-/// What a certificate of these items lacks to which this is answered.
+/// What a certificate of these items lacks, from the answer to it.
 pub fn in_answer<'a, A: Allocator + Copy>(
     table: &ItemTable<'_, A>,
     text: &Text<'a>,
@@ -92,7 +92,7 @@ fn word_of<'a, A: Allocator + Copy>(
     None
 }
 
-/// Where an item stands.
+/// Where an item is.
 fn place_of<'a, A: Allocator + Copy>(
     table: &ItemTable<'_, A>,
     text: &Text<'a>,
@@ -112,7 +112,7 @@ fn place_of<'a, A: Allocator + Copy>(
     None
 }
 
-/// An item that doesn't stand above what it flushes.
+/// An item that isn't above what it flushes.
 fn not_falling<'a, A: Allocator + Copy>(
     table: &ItemTable<'_, A>,
     text: &Text<'a>,
@@ -166,7 +166,7 @@ fn wrong_number<'a>(line: &Line<'a>, what: &'static str) -> Lack<'a> {
     }
 }
 
-/// An arc that is no flush, or doesn't begin where the one before it ends.
+/// An arc that isn't a flush, or doesn't begin where the one before it ends.
 fn broken_arc<'a>(text: &Text<'a>, at: u32, before: &'static str) -> Lack<'a> {
     match nth_line(text, b"arc", at) {
         Some(line) => wrong_arc(&line, before),

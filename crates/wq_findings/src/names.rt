@@ -1,7 +1,7 @@
 //! Names of a declaration, each with the line that it is on.
 //!
-//! Reading takes time in the length of the text, and memory in the names. A name is found in time of the names; there are at
-//! most 4,096 above a line that is refused.
+//! Reading takes time in the length of the text, and memory in the number of names. Finding a name takes time in the number of
+//! names; there are at most 4,096 above a line that is refused.
 
 use crate::guess::{edits_between, letters};
 use crate::token::{begins_with, bytes_at};
@@ -15,14 +15,14 @@ pub(crate) struct Named<'a> {
     pub(crate) line: u32,
 }
 
-/// Names in the order in which they stand in a text.
+/// Names, in the order of a text.
 #[derive(Drop)]
 pub(crate) struct Names<'a, A: Allocator> {
     names: Vec<Named<'a>, A>,
 }
 
 impl<'a, A: Allocator + Copy> Names<'a, A> {
-    /// The names on the lines of a text that begin with this word, above the line of this number.
+    /// The names above the line with this number, on those lines of a text that begin with this word.
     pub(crate) fn above(
         alloc: A,
         text: &Text<'a>,
@@ -58,7 +58,7 @@ impl<'a, A: Allocator + Copy> Names<'a, A> {
         Ok(())
     }
 
-    /// The line on which a name first stands.
+    /// The first line that a name is on.
     pub(crate) fn line_of(&self, name: &[u8]) -> Option<u32> {
         for known in &self.names {
             if known.name == name {
@@ -103,7 +103,7 @@ pub(crate) fn nearest<'a, A: Allocator + Copy>(
     nearest_to(alloc, text, &word)
 }
 
-/// The same of a word that is shown so.
+/// The same for a word as it is shown.
 fn nearest_to<'a, A: Allocator + Copy>(
     alloc: A,
     text: &Text<'a>,

@@ -1,6 +1,6 @@
-//! The place of a finding in a text, as the first line of a diagnosis has it: the numbers of the line and of the column.
+//! The place of a finding in a text, as in the first line of a diagnosis: the numbers of the line and of the column.
 //!
-//! It takes time and memory in the digits.
+//! It takes time and memory in the number of digits.
 
 ghost use Rattle.std.specs.Prelude.{◌≡◌, ◌++◌, ◌∷◌, OnOk, decimal};
 ghost use Rattle.wq_findings.specs.Shown.{place_text};

@@ -1,6 +1,6 @@
-//! Which items are on which `wq` lines of a certificate that is refused for that.
+//! Which items are on which `wq` lines of a certificate that is refused because of that.
 //!
-//! It takes time in the length of the text, and of a group that is split in the items times the names on its line.
+//! It takes time in the length of the text, and, for a group that is split, in the number of items times the names on its line.
 
 ghost use Rattle.std.specs.Prelude.{◌≡◌, ◌<◌, length};
 
@@ -15,7 +15,7 @@ use wq_groups::Groups;
 use wq_items::{ItemId, ItemTable};
 use wq_text::{Line, Text};
 
-/// Of each item the number of the `wq` line on which it first stands, 0 where it is on none.
+/// For each item, the number of the first `wq` line that it is on; 0 where it is on none.
 #[derive(Drop)]
 struct Places<A: Allocator> {
     lines: Vec<u32, A>,
@@ -71,7 +71,7 @@ impl<A: Allocator + Copy> Places<A> {
         }
     }
 
-    /// The line on which an item stands.
+    /// The line that an item is on.
     fn line_of(&self, item: ItemId) -> Option<u32> {
         match self.lines.get(usize::from(item.get())) {
             Some(0) | None => None,
@@ -115,7 +115,7 @@ pub(crate) fn find_twice<'a, A: Allocator + Copy>(
     Ok(placed_twice(table, &places, line))
 }
 
-/// The first item of a line that has a place, or is before on the line.
+/// The first item of a line that has a place already, or is also earlier on the line.
 fn placed_twice<'a, A: Allocator + Copy>(
     table: &ItemTable<'_, A>,
     places: &Places<A>,
@@ -139,7 +139,7 @@ fn placed_twice<'a, A: Allocator + Copy>(
     Finding::whole(What::Said("an item of the line stands on a workqueue already"))
 }
 
-/// A member of the group of an item that is on a line above.
+/// A member of an item's group that is on a line above.
 fn placed_member<'a, A: Allocator + Copy>(
     table: &ItemTable<'a, A>,
     groups: &Groups<A>,
@@ -175,7 +175,7 @@ pub(crate) fn find_split<'a, A: Allocator + Copy>(
     Ok(split(table, groups, &places, line))
 }
 
-/// The first item of a line whose group has a place.
+/// The first item of a line whose group has a place already.
 fn split<'a, A: Allocator + Copy>(
     table: &ItemTable<'a, A>,
     groups: &Groups<A>,

@@ -1,6 +1,6 @@
 //! Bytes of a text in a message, and how a byte is shown.
 //!
-//! It takes time in their number.
+//! It takes time in the number of bytes.
 
 ghost use Rattle.std.specs.Prelude.{◌≡◌, None};
 ghost use Rattle.wq_findings.specs.Shown.{shown};

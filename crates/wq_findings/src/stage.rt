@@ -1,7 +1,7 @@
-//! What should be next in a certificate, by the lines above.
+//! What should come next in a certificate, judging by the lines above.
 //!
-//! The forms are those of "Certificates" in docs/FORMAT.md. The lines above are of their forms, since a certificate is judged
-//! line by line. Going through them takes time in the length of the text.
+//! The forms are those of "Certificates" in docs/FORMAT.md. The lines above have their forms, since a certificate is judged line
+//! by line. Going through them takes time in the length of the text.
 
 ghost use Rattle.std.specs.Prelude.{None};
 
@@ -31,25 +31,25 @@ pub enum Stage {
     Workqueue { next: u32, left: Option<u32> },
     /// `chain N`.
     Chain,
-    /// An arc of a chain; this many are left.
+    /// An arc of a chain; this many are left to come.
     ChainArc { left: u32 },
-    /// An arc of a circle; this many are left.
+    /// An arc of a circle; this many are left to come.
     CircleArc { left: u32 },
     /// `run M`.
     Run,
-    /// A step; this many are left.
+    /// A step; this many are left to come.
     Step { left: u32 },
     /// No line.
     End,
 }
 
-/// The number after the first word of a line, 0 where there is none.
+/// The number after the first word of a line; 0 where there is none.
 fn count_on(line: &Line<'_>) -> u32 {
     number(bytes_at(line, 1)).unwrap_or(0)
 }
 
 impl Stage {
-    /// What the first line should be, by its first word.
+    /// What the first line should be, judging by its first word.
     pub(crate) fn first(kind: Kind, word: &[u8]) -> Stage {
         match kind {
             Kind::Run => Stage::Run,
@@ -97,7 +97,7 @@ impl Stage {
         Stage::Step { left }
     }
 
-    /// What should be after a line that is as it should be.
+    /// What should come after a line that is right.
     pub(crate) fn behind(self, line: &Line<'_>) -> Stage {
         match self {
             Stage::Plan => Stage::workqueues(0, count_on(line)),
@@ -162,7 +162,7 @@ impl Stage {
     }
 }
 
-/// The line that should be here, as a message names it.
+/// The line that should be here, in the words of a message.
 impl fmt::Display for Stage {
     ghost output = { λ _. None };
 
@@ -180,7 +180,7 @@ impl fmt::Display for Stage {
     }
 }
 
-/// What is after the first word of a line: maybe a number, and then this many names, or any number of them.
+/// What comes after the first word of a line: a number or none, and then a fixed number of names, or any number of them.
 #[derive(Clone, Copy)]
 pub(crate) struct Shape {
     pub(crate) has_number: bool,
@@ -188,12 +188,12 @@ pub(crate) struct Shape {
 }
 
 impl Shape {
-    /// At which place the names begin, the first word of the line being at 0.
+    /// The place at which the names begin, where the first word of the line is at 0.
     pub(crate) fn first_name(self) -> usize {
         if self.has_number { 2 } else { 1 }
     }
 
-    /// How many words such a line has at least.
+    /// How many words such a line has, at least.
     pub(crate) fn fewest(self) -> usize {
         self.first_name().saturating_add(self.names.unwrap_or(0))
     }
@@ -213,7 +213,7 @@ fn is_step(word: &[u8]) -> bool {
         || word == b"finish".as_slice()
 }
 
-/// What should be on a line of a text, by the lines above; at the end of the text where the line is 0.
+/// What should be on a line of a text, judging by the lines above. The line 0 means the end of the text.
 pub(crate) fn stage_at(kind: Kind, text: &Text<'_>, no: u32) -> Stage {
     let mut stage = None;
     for line in text.lines() {

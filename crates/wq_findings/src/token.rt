@@ -1,6 +1,6 @@
-//! Lines and words of a text, and which bytes of its line a word has.
+//! Lines and words of a text, and which bytes of its line a word is made of.
 //!
-//! Each call takes time in the length of the line, or of the text where a line is sought.
+//! Each call takes time in the length of the line or, where it looks for a line, of the text.
 
 use crate::quoted::Quoted;
 use wq_text::{Line, Text, Word};
@@ -15,7 +15,7 @@ pub struct Mark {
 }
 
 impl Mark {
-    /// The place after the last word of a line, where one more should be.
+    /// The place after the last word of a line, where another one should be.
     pub(crate) fn behind(line: &Line<'_>) -> Mark {
         let mut at = 0;
         for word in line.words() {
@@ -25,7 +25,7 @@ impl Mark {
     }
 }
 
-/// A word of a line: which bytes of the line it has, and the bytes.
+/// A word of a line: which bytes of the line it is made of, and these bytes.
 #[derive(Clone, Copy)]
 pub(crate) struct Token<'a> {
     pub(crate) mark: Mark,
@@ -45,7 +45,7 @@ impl<'a> Token<'a> {
         }
     }
 
-    /// The word as a message has it.
+    /// The word as it is in a message.
     pub(crate) fn quoted(self) -> Quoted<'a> {
         Quoted(self.bytes)
     }
@@ -69,7 +69,7 @@ pub(crate) fn word_at<'a>(line: &Line<'a>, place: usize) -> Option<Token<'a>> {
     }
 }
 
-/// The bytes of the word of a line at this place, none where there is no such word.
+/// The bytes of the word at this place of a line; none where there is no such word.
 pub(crate) fn bytes_at<'a>(line: &Line<'a>, place: usize) -> &'a [u8] {
     match line.words().nth(place) {
         Some(word) => word.bytes(),
@@ -77,7 +77,7 @@ pub(crate) fn bytes_at<'a>(line: &Line<'a>, place: usize) -> &'a [u8] {
     }
 }
 
-/// Where the first word of a line stands.
+/// The place of the first word of a line.
 pub(crate) fn first_mark(line: &Line<'_>) -> Mark {
     match word_at(line, 0) {
         Some(word) => word.mark,
@@ -93,7 +93,7 @@ pub(crate) fn begins_with(line: &Line<'_>, word: &[u8]) -> bool {
     }
 }
 
-/// Whether a word is on a line before this one, at this place or after it.
+/// Whether the same word comes earlier on the line, at this place or after it.
 pub(crate) fn stands_before(line: &Line<'_>, place: usize, word: Token<'_>) -> bool {
     for other in line.words().skip(place) {
         let other = Token::of(line, &other);

@@ -1,6 +1,6 @@
-//! What is wrong, as a message says it.
+//! What is wrong, in the words of a message.
 //!
-//! It takes time in what is said.
+//! It takes time in the length of the message.
 
 ghost use Rattle.std.specs.Prelude.{None};
 
@@ -14,15 +14,15 @@ const HEX_DIGITS: &[u8] = b"0123456789ABCDEF";
 /// What is wrong.
 #[derive(Clone, Copy)]
 pub enum What<'a> {
-    /// What is said in these words of any text.
+    /// A fault in these words, the same for any text.
     Said(&'static str),
     /// A byte that may not be before a comment.
     BadByte(u8),
-    /// A first word that is no directive.
+    /// A first word that isn't a directive.
     NoDirective(Quoted<'a>),
-    /// A word that should be a name and is none.
+    /// A word that should be a name and isn't one.
     NoName(Quoted<'a>),
-    /// A word that should be a number and is none.
+    /// A word that should be a number and isn't one.
     NoNumber(Quoted<'a>),
     /// The name of an item that is declared twice.
     DeclaredTwice(Quoted<'a>),
@@ -32,7 +32,7 @@ pub enum What<'a> {
     NoItem(Quoted<'a>),
     /// A name that is on two `ordered` lines.
     OnTwoLines(Quoted<'a>),
-    /// A word that stands twice on a line.
+    /// A word that is twice on a line.
     TwiceOnLine(Quoted<'a>),
     /// The line that should be where a text ends.
     EndsAt(Stage),
@@ -89,7 +89,7 @@ fn say<W: fmt::Write>(
     write!(f, "{before}`{word}`{behind}")
 }
 
-/// Writes what is said of a byte.
+/// Writes what is wrong with a byte.
 fn bad_byte<W: fmt::Write>(f: &mut fmt::Formatter<W>, byte: u8) -> fmt::Result {
     f.write_str("the byte 0x")?;
     f.write_char(hex_digit(byte >> 4))?;
@@ -105,7 +105,7 @@ fn hex_digit(number: u8) -> char {
     }
 }
 
-/// Writes what is said of a group that is split.
+/// Writes what is wrong with a group that is split.
 fn split<W: fmt::Write>(
     f: &mut fmt::Formatter<W>,
     name: Quoted<'_>,
@@ -120,7 +120,7 @@ fn split<W: fmt::Write>(
     )
 }
 
-/// Writes what is said of an item that should be above its target.
+/// Writes what is wrong with an item that should be above its target.
 fn too_low<W: fmt::Write>(
     f: &mut fmt::Formatter<W>,
     item: Quoted<'_>,
@@ -130,7 +130,7 @@ fn too_low<W: fmt::Write>(
     say(f, "", target, ", so it should stand on a higher workqueue")
 }
 
-/// Writes what is said of an arc.
+/// Writes what is wrong with an arc.
 fn wrong_arc<W: fmt::Write>(
     f: &mut fmt::Formatter<W>,
     item: Quoted<'_>,
@@ -142,7 +142,7 @@ fn wrong_arc<W: fmt::Write>(
     f.write_str(before)
 }
 
-/// Items that are on no workqueue: how many, and the names of the first three.
+/// The items that are on no workqueue: how many there are, and the names of the first three.
 #[derive(Clone, Copy)]
 pub struct Unplaced<'a> {
     count: usize,

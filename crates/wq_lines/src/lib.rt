@@ -1,7 +1,7 @@
 //! Lines of words, as they are printed.
 //!
-//! What the layers above rely on: what each call adds is the text of these words, byte by byte. Certificates are printed by these
-//! calls, and what the commands answer. A word is any bytes: what may be in it is the caller's affair.
+//! What the layers above rely on: what each call adds is the text of these words, byte by byte. Certificates and the answers of
+//! the commands are printed by these calls. A word is any bytes. The caller decides what may be in it.
 #![tactic(auto)]
 
 mod printing;

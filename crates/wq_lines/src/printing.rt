@@ -1,7 +1,8 @@
 //! A line, word by word: one space between two words, and a line feed after the last.
 //!
-//! So each line of "Plan texts", "Circle texts" and "Run texts" in docs/FORMAT.md is printed, and what the commands answer. Each
-//! call takes time in what it adds, and memory for nothing else; where memory runs out, a part of it may be there.
+//! This is how each line of "Plan texts", "Circle texts" and "Run texts" in docs/FORMAT.md is printed, and each answer of the
+//! commands. Each call takes time in the length of what it adds, and memory for nothing else. Where memory runs out, a part of it
+//! may have been added.
 
 ghost use Rattle.std.specs.Prelude.{◌≡◌, ◌++◌, ◌∷◌, [], OnOk, decimal};
 ghost use Rattle.wq_lines.specs.LineText.{spaced};

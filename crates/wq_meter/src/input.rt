@@ -1,6 +1,6 @@
-//! Reading a text to its end, or to one byte past a limit: the extra byte shows that the text is too
-//! long, and the limit stops a reader without end. The time and the memory are linear in the bytes
-//! that come. Each call of the reader but the last brings at least one of them.
+//! Reading a text to its end, or to one byte past a limit. The extra byte shows that the text is too long, and the limit stops a
+//! reader without an end. The time and the memory are linear in the bytes that arrive. Each call of the reader, except the last,
+//! brings at least one of them.
 ghost use Rattle.std.specs.Prelude.{◌≡◌, ◌≢◌, ◌+◌, ◌<◌, ◌≤◌, length, take, min, Err, IfOk, OnOk, OnErr, IsOkUnless};
 ghost use Rattle.std.specs.Result.{result_unwrap_or};
 ghost use Rattle.std.specs.Io.KnownBytes.{Consumes, IsAtEnd, Keeps};
@@ -12,19 +12,19 @@ use crate::metered::Metered;
 use std::alloc::Allocator;
 use std::io::Read;
 
-/// How many bytes one call of the reader is asked for at most.
+/// How many bytes one call of the reader asks for, at most.
 const CHUNK_SIZE: usize = 4096;
 
-/// Reads to the end of the input, but no more than `limit + 1` bytes, in no more calls than that.
-/// A longer result than `limit` says that the input is longer too.
+/// Reads to the end of the input, but at most `limit + 1` bytes, in at most as many calls. A result that is longer than `limit`
+/// means that the input is too long.
 ///
-/// The errors are `Fault::Read`, where a read failed, and `Fault::Memory`. What was read before is lost.
+/// The errors are `Fault::Read`, where a read failed, and `Fault::Memory`, where memory ran out. What was read before is lost.
 pub fn read_text<R: Read, A: Allocator + Copy>(
     alloc: A,
     reader: &mut Metered<R>,
     limit: u32,
 ) -> Result<Vec<u8, A>, Fault>
-    // What comes, and what is left.
+    // What arrives, and what is left.
     ensures given { IfOk result (λ text. HasGivenBytes R.remaining reader.old reader.new limit text.items) }
     ensures lost { LosesPrefix R.remaining reader.old reader.new (limit + 1) }
 
@@ -51,7 +51,7 @@ pub fn read_text<R: Read, A: Allocator + Copy>(
     Ok(text)
 }
 
-/// Reads once, at most `most` bytes, into the front of `chunk`.
+/// Reads once, at most `most` bytes, to the front of `chunk`.
 fn read_chunk<R: Read>(
     reader: &mut Metered<R>,
     chunk: &mut [u8],
