@@ -1,4 +1,4 @@
-//! What a load needs is declared, and a runtime is named for it. It takes the time of running the load.
+//! Declares what a load needs, and names a runtime for it. It takes the time of running the load.
 
 ghost use Rattle.std.specs.Prelude.{◌≡◌, length};
 
@@ -15,7 +15,7 @@ use std::time::Clock;
 use wq_groups::{Assignment, Groups};
 use wq_items::ItemTable;
 
-/// Names a runtime, and runs a load on it. Gives the status.
+/// Names a runtime, and runs a load on it. Returns the status.
 fn answer_assigned<R: Threads + Wait + Clock + Sync>(
     rt: &R,
     alloc: Global,
@@ -32,7 +32,7 @@ fn answer_assigned<R: Threads + Wait + Clock + Sync>(
     run_load::<Brand, R>(rt, alloc, blank, table, groups, assignment, load, out)
 }
 
-/// Declares the items of a load, and runs it. Gives the status.
+/// Declares the items of a load, and runs it. Returns the status.
 pub(crate) fn answer<R: Threads + Wait + Clock + Sync>(
     rt: &R,
     alloc: Global,

@@ -15,7 +15,7 @@ pub(crate) struct EmptyBody {
 }
 
 impl EmptyBody {
-    /// One that can count the runs of this many items.
+    /// Makes a body that can count the runs of this many items.
     pub(crate) fn new(alloc: Global, items: u16) -> Result<Self, AllocError>
         ensures width { IfOk result (λ b. vec_len b.runs ≡ items) }
         ensures never_ran { IfOk result (λ b. b.runs.items ≡ replicate items 0) }

@@ -1,4 +1,4 @@
-//! A caller that queues items and flushes them. It takes the time of its calls, with what they wait for, and no memory.
+//! A caller that queues items and flushes them. It takes the time of its calls, including what they wait for, and no memory.
 
 use crate::declaring::lane_of;
 use crate::load::{Load, Task};
@@ -10,7 +10,7 @@ use wq_history::MAX_ROWS;
 use wq_items::ItemId;
 use wq_rescuer::Caller;
 
-/// The caller, and the number of the item of its own.
+/// The caller, and the number of its own item.
 #[derive(Drop)]
 pub(crate) struct Client {
     load: Load,
@@ -19,7 +19,7 @@ pub(crate) struct Client {
 }
 
 impl Client {
-    /// The caller of this number, from 0.
+    /// Makes the caller with this number, from 0.
     pub(crate) fn new(load: Load, number: u16) -> Self {
         Client {
             load,
@@ -42,7 +42,7 @@ impl Client {
         Ok(())
     }
 
-    /// Makes this many rounds with the item of its own.
+    /// Makes this many rounds with its own item.
     fn make_rounds<N: Naming, A: Allocator, R: Wait>(
         &self,
         rt: &R,
@@ -80,8 +80,8 @@ impl Client {
         Ok(())
     }
 
-    /// Makes rounds until the history is full, and then cancellations of what isn't pending, of one row each, until no row
-    /// is free.
+    /// Makes rounds until the history is full, and then cancellations of items that aren't pending, which take one row each,
+    /// until no row is free.
     fn fill<N: Naming, A: Allocator, R: Wait>(
         &self,
         rt: &R,
@@ -103,7 +103,7 @@ impl Client {
     }
 }
 
-/// Whether a call was refused because the history is full. The error is another refusal.
+/// Whether a call was refused because the history is full. Any other refusal is the error.
 fn is_full<T: Drop>(answer: Result<T, CallError>) -> Result<bool, CallError> {
     match answer {
         Ok(_) => Ok(false),

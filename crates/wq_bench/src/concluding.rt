@@ -7,7 +7,7 @@ use wq_api::{CallError, Closed, Counts, Kind, Naming, Seat, WqRuntime};
 use wq_items::ItemId;
 use wq_rescuer::Rescued;
 
-/// How many calls were counted of a kind, with an answer, of this many items together.
+/// How many calls of a kind were counted with an answer, for this many items together.
 fn count(counts: &Counts<Global>, items: u16, kind: Kind, yes: bool) -> u64 {
     let mut sum = 0u64;
     for i in 0..items {
@@ -28,7 +28,7 @@ fn are_matched(counts: &Counts<Global>, items: u16) -> bool {
     count(counts, items, Kind::Queue, true) == finished.saturating_add(cancelled)
 }
 
-/// The number of the first refusal of a caller or a rescuer, if there is one.
+/// The number of the first refusal that a caller or a rescuer met, if there is one.
 pub(crate) fn first_refusal(
     results: &[Result<(), CallError>],
     rescued: &[Result<Rescued, CallError>],
@@ -83,7 +83,7 @@ fn put_figures<N: Naming>(
     writeln!(out, "nanoseconds {}", took.as_nanos())
 }
 
-/// Closes a runtime, and prints what was counted. Gives the status, 0 where all is as it must be.
+/// Closes a runtime, and prints what was counted. Returns the status, which is 0 where everything is as it must be.
 pub(crate) fn conclude<N: Naming>(
     out: &mut String,
     load: Load,

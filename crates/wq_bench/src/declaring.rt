@@ -54,7 +54,7 @@ pub(crate) fn lane_of(item: u16, lanes: u16) -> LaneId {
     }
 }
 
-/// The assignment of this many groups, of one item each, to this many lanes in turn; none where there are too many.
+/// The assignment of this many groups, of one item each, to this many lanes in turn; none where there are too many lanes.
 pub(crate) fn assign(
     alloc: Global,
     groups: u16,

@@ -7,7 +7,7 @@ use std::alloc::AllocError;
 pub(crate) enum Fault {
     /// Memory ran out.
     Memory,
-    /// The items can't be declared, or not be given lanes.
+    /// The items can't be declared, or can't be given lanes.
     Declaration,
     /// The clock can't be read.
     Clock,
@@ -16,7 +16,7 @@ pub(crate) enum Fault {
 }
 
 impl Fault {
-    /// What is said of it.
+    /// The fault in words.
     pub(crate) fn text(self) -> &'static str {
         match self {
             Fault::Memory => "out of memory",

@@ -1,19 +1,19 @@
-//! What is asked for: this many lanes and callers, and what each caller does. Reading it takes time in its words.
+//! What is asked for: how many lanes and callers, and what each caller does. Reading it takes time in the number of words.
 
 use wq_text::number;
 
 /// What each caller does.
 #[derive(Clone, Copy, PartialEq, Eq)]
 pub(crate) enum Task {
-    /// This many times it queues its own item and flushes it.
+    /// It queues its own item and flushes it, this many times.
     Rounds(u32),
-    /// This many times it queues a pseudo-random item and flushes it.
+    /// It queues a pseudo-random item and flushes it, this many times.
     Storm(u32),
-    /// It queues its own item and flushes it until the history is full, and fills the last rows.
+    /// It queues its own item and flushes it until the history is full, and then fills the last rows.
     Fill,
 }
 
-/// A load of a runtime.
+/// A load for a runtime.
 #[derive(Clone, Copy)]
 pub(crate) struct Load {
     pub(crate) task: Task,
@@ -21,12 +21,12 @@ pub(crate) struct Load {
     pub(crate) callers: u16,
     /// How many rows the history has room for.
     pub(crate) rows: u32,
-    /// Whether it is printed what depends on the schedule of the threads, and the time.
+    /// Whether to print what depends on the schedule of the threads, and the time.
     pub(crate) with_figures: bool,
 }
 
 impl Load {
-    /// This many rounds of each caller.
+    /// The load in which each caller makes this many rounds.
     pub(crate) fn rounds(lanes: u16, callers: u16, rounds: u32, rows: u32) -> Self {
         Load {
             task: Task::Rounds(rounds),
@@ -37,7 +37,7 @@ impl Load {
         }
     }
 
-    /// This many rounds of each caller, with pseudo-random items.
+    /// The load in which each caller makes this many rounds, with pseudo-random items.
     pub(crate) fn storm(lanes: u16, callers: u16, rounds: u32, rows: u32) -> Self {
         Load {
             task: Task::Storm(rounds),
@@ -48,7 +48,7 @@ impl Load {
         }
     }
 
-    /// As many rounds as there are rows for.
+    /// The load in which callers make as many rounds as there are rows for.
     pub(crate) fn fill(lanes: u16, callers: u16, rows: u32) -> Self {
         Load {
             task: Task::Fill,
@@ -59,12 +59,12 @@ impl Load {
         }
     }
 
-    /// How many items there are: one at least for each lane, and one for each caller.
+    /// How many items there are: at least one for each lane and one for each caller.
     pub(crate) fn items(&self) -> u16 {
         self.lanes.max(self.callers)
     }
 
-    /// What `KIND LANES CALLERS COUNT [figures]` asks for, after the program's name.
+    /// The load that `KIND LANES CALLERS COUNT [figures]` asks for, which follows the program's name.
     pub(crate) fn parse(words: &[String]) -> Option<Load> {
         let lanes = short_at(words, 2)?;
         let callers = short_at(words, 3)?;
@@ -90,8 +90,8 @@ impl Load {
     }
 }
 
-/// How many rows this many callers need at most for this many rounds each: a round is a queueing, a start and a finish, and two
-/// rows of a flush that has to wait.
+/// How many rows this many callers need at most, for this many rounds each. A round takes the rows of a queueing, a start and a
+/// finish, and two rows of a flush that has to wait.
 fn rows_of(callers: u16, rounds: u32) -> Option<u32> {
     rounds.checked_mul(5)?.checked_mul(u32::from(callers))
 }

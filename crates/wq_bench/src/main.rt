@@ -1,8 +1,8 @@
 //! `wq_bench`: has many threads queue and flush the items of a runtime, closes it, and prints what was counted.
 //!
 //! It is a program of the measurements (bench/README.md), and never installed. Without arguments it runs a small load of each
-//! kind. What it prints of them is the same each time; times are printed only where the word `figures` asks for them. It takes
-//! the time of the calls.
+//! kind. What it prints of them is the same each time. Times are printed only if the word `figures` asks for them. It takes the
+//! time of the calls.
 #![tactic(auto)]
 
 mod answering;
@@ -24,7 +24,7 @@ use std::thread::Threads;
 use std::time::Clock;
 use std::{env, io};
 
-/// What is run where nothing is asked for: a small load of each kind.
+/// The loads that run where nothing is asked for: a small one of each kind.
 fn samples() -> [Load; 3] {
     [
         Load::rounds(4, 4, 200, 4_000),
@@ -33,7 +33,7 @@ fn samples() -> [Load; 3] {
     ]
 }
 
-/// Runs loads one after the other, up to one that fails, and prints what was counted. Gives the status.
+/// Runs loads one after the other, up to one that fails, and prints what was counted. Returns the status.
 fn run_loads<R: Print + AllocGlobal + Threads + Wait + Clock + Sync>(
     rt: &R,
     loads: &[Load],

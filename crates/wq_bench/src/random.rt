@@ -9,7 +9,7 @@ pub(crate) struct Random {
 }
 
 impl Random {
-    /// The generator of a seed, and of one of the streams that have this seed.
+    /// The generator for a seed, and for one of the streams of this seed.
     pub(crate) fn new(seed: u32, stream: u32) -> Self {
         let mut random = Random {
             state: (u64::from(seed) << 32) | u64::from(stream),
@@ -34,7 +34,7 @@ impl Random {
         (self.draw() % limit as u64) as usize
     }
 
-    /// True once in this many times.
+    /// True once in `times` times.
     pub(crate) fn once_in(&mut self, times: usize) -> bool
         requires { 0 < times }
     {

@@ -1,4 +1,4 @@
-//! A runtime is made, a rescuer serves each lane, and callers call. It takes the time of the calls.
+//! Makes a runtime, in which a rescuer serves each lane and callers call. It takes the time of the calls.
 
 ghost use Rattle.std.specs.Prelude.{◌≡◌, length, IfOk};
 ghost use Rattle.std.specs.List.{All};
@@ -22,7 +22,7 @@ use wq_groups::{Assignment, Groups};
 use wq_items::ItemTable;
 use wq_rescuer::run_all;
 
-/// This many bodies, each of which can count this many items.
+/// Makes a body for each of the lanes. Each can count all items.
 fn make_bodies(alloc: Global, lanes: u16, items: u16) -> Result<Vec<EmptyBody>, AllocError>
     ensures width { IfOk result (λ bs. All (λ b. vec_len b.runs ≡ items) bs.items) }
     ensures never_ran { IfOk result (λ bs. All (λ b. NeverRan (slice_index b.runs.items)) bs.items) }
@@ -44,7 +44,7 @@ fn make_clients(alloc: Global, load: Load) -> Result<Vec<Client>, AllocError> {
     Ok(clients)
 }
 
-/// Runs a load on a runtime, closes this, and prints what was counted. Gives the status.
+/// Runs a load on a runtime, closes the runtime, and prints what was counted. Returns the status.
 fn run_on<N: Naming + Send + Sync, R: Threads + Wait + Clock + Sync>(
     rt: &R,
     alloc: Global,
@@ -77,7 +77,7 @@ fn run_on<N: Naming + Send + Sync, R: Threads + Wait + Clock + Sync>(
     Ok(conclude(out, load, runtime, ran.seats, took)?)
 }
 
-/// Makes a runtime and runs a load on it. Gives the status.
+/// Makes a runtime and runs a load on it. Returns the status.
 pub(crate) fn run_load<N: Naming + Send + Sync, R: Threads + Wait + Clock + Sync>(
     rt: &R,
     alloc: Global,

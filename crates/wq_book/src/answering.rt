@@ -1,4 +1,4 @@
-//! The answer, built in full in memory: the declaration is judged, then the assignment, and then what is asked of them.
+//! The answer, built in full in memory: the declaration is judged, then the assignment, and then what is asked about them.
 
 ghost use Rattle.std.specs.Prelude.{◌≡◌, length};
 ghost use Rattle.wq_core.specs.State.{empty_state};
@@ -14,7 +14,7 @@ use wq_core::Core;
 use wq_groups::{Assignment, Groups};
 use wq_items::ItemTable;
 
-/// Answers what is asked of a machine on which nothing has happened.
+/// Answers what is asked about a machine on which nothing has happened.
 fn answer_new(
     alloc: Global,
     task: Task,
@@ -34,7 +34,7 @@ fn answer_new(
 /// The seed of the hashes of names. No answer depends on it.
 const SEED: u64 = 0;
 
-/// Answers what is asked of the items of a table, in these groups, under an assignment.
+/// Answers what is asked about the items of a table, in these groups, under an assignment.
 fn answer_assigned(
     alloc: Global,
     task: Task,
@@ -51,7 +51,7 @@ fn answer_assigned(
     answer_new(alloc, task, table, core, text, out)
 }
 
-/// Answers what is asked of the items of a table, in these groups, under the assignment in a text.
+/// Answers what is asked about the items of a table, in these groups, under the assignment in a text.
 fn answer_declared(
     alloc: Global,
     task: Task,
@@ -72,7 +72,7 @@ fn answer_declared(
     }
 }
 
-/// Answers what is asked, or with the refusal of the first text that has one. Gives the status.
+/// Answers what is asked, or refuses the first text that has to be refused. Returns the status.
 pub(crate) fn answer(
     alloc: Global,
     task: Task,

@@ -5,7 +5,7 @@ use std::alloc::{AllocError, Global};
 use wq_history::{Ask, Asked, Book, Told};
 use wq_items::ItemId;
 
-/// Asks for an item, and keeps what is handed out.
+/// Asks about an item, and keeps what is handed out.
 pub(crate) fn ask(
     book: &mut Book<Global>,
     asks: &mut Vec<Option<Asked>>,
@@ -24,7 +24,7 @@ pub(crate) fn ask(
     }
 }
 
-/// Keeps an ask again.
+/// Puts an ask back.
 fn put_back(slot: &mut Option<Asked>, asked: Asked) {
     match slot.replace(asked) {
         Some(other) => other.give_up(),
@@ -32,7 +32,7 @@ fn put_back(slot: &mut Option<Asked>, asked: Asked) {
     }
 }
 
-/// Hands the ask of this number in. It is a mistake where it isn't there.
+/// Hands in the ask with this number. If it isn't there, that is a mistake.
 pub(crate) fn tell(
     book: &mut Book<Global>,
     asks: &mut [Option<Asked>],
@@ -55,7 +55,7 @@ pub(crate) fn tell(
     Ok(())
 }
 
-/// Ends those that are left.
+/// Gives up those that are left.
 pub(crate) fn give_up_all(mut asks: Vec<Option<Asked>>) {
     while let Some(slot) = asks.pop() {
         match slot {

@@ -17,7 +17,7 @@ use wq_text::{Text, Words, number};
 /// Why a line isn't answered.
 #[derive(Clone, Copy)]
 pub(crate) enum Mistake {
-    /// It isn't of the form of a call, or hands in an ask that isn't there.
+    /// The line doesn't have the form of a call, or hands in an ask that isn't there.
     Input,
     /// Memory ran out.
     Memory,
@@ -39,13 +39,13 @@ fn number_of(digits: &[u8]) -> Result<u32, Mistake> {
     number(digits).ok_or(Mistake::Input)
 }
 
-/// The lane of the number in these digits, which is at most 65,535.
+/// The lane with the number in these digits, which is at most 65,535.
 fn lane_of(digits: &[u8]) -> Result<LaneId, Mistake> {
     let q = u16::try_from(number_of(digits)?).map_err(|_| Mistake::Input)?;
     Ok(LaneId::new(q))
 }
 
-/// `queue a`, `cancel a` or `ask a`. False where it is none of these.
+/// `queue a`, `cancel a` or `ask a`. It returns false where the line is none of these.
 fn call_item(
     book: &mut Book<Global>,
     asks: &mut Vec<Option<Asked>>,
@@ -65,7 +65,7 @@ fn call_item(
     Ok(true)
 }
 
-/// `start Q`, `over Q` or `finish Q`. False where it is none of these.
+/// `start Q`, `over Q` or `finish Q`. It returns false where the line is none of these.
 fn call_lane(
     table: &ItemTable<'_, Global>,
     book: &mut Book<Global>,
@@ -106,7 +106,7 @@ fn call_of_two(
     Err(Mistake::Input)
 }
 
-/// Makes the call that a line asks for by this word and those after it, and prints the answer.
+/// Makes the call that a line asks for by this word and the words after it, and prints the answer.
 fn call(
     table: &ItemTable<'_, Global>,
     book: &mut Book<Global>,
@@ -134,7 +134,7 @@ fn call(
     Ok(())
 }
 
-/// Makes the calls of a text, and prints a line for each. Gives the number of the first line that is a mistake.
+/// Makes the calls of a text, and prints a line for each. Returns the number of the first line that is a mistake.
 fn call_all(
     table: &ItemTable<'_, Global>,
     book: &mut Book<Global>,
@@ -156,7 +156,7 @@ fn call_all(
     Ok(None)
 }
 
-/// Makes the calls of a text of a book, and then prints its rows. Gives the status.
+/// Makes the calls of a text on a book, and then prints its rows. Returns the status.
 fn call_book(
     alloc: Global,
     table: &ItemTable<'_, Global>,
@@ -177,7 +177,7 @@ fn call_book(
     }
 }
 
-/// Makes a book with this many rows, and the calls of a text. Gives the status.
+/// Makes a book with this many rows, and the calls of a text. Returns the status.
 pub(crate) fn keep_book(
     alloc: Global,
     table: &ItemTable<'_, Global>,

@@ -22,7 +22,7 @@ fn without_blanks(alloc: Global, text: &[u8]) -> Result<Vec<u8>, AllocError> {
     Ok(digits)
 }
 
-/// The bytes that a text of hexadecimal digits says; none where it is no such text, or too long.
+/// The bytes that a text of hexadecimal digits stands for; none where it isn't such a text, or is too long.
 fn bytes_of(alloc: Global, text: &[u8]) -> Result<Option<Vec<u8>>, AllocError> {
     let digits = without_blanks(alloc, text)?;
     match hex::decode(alloc, digits) {
@@ -32,7 +32,7 @@ fn bytes_of(alloc: Global, text: &[u8]) -> Result<Option<Vec<u8>>, AllocError> {
     }
 }
 
-/// The state of a lane.
+/// Adds the state of a lane.
 fn put_lane(
     out: &mut String,
     table: &ItemTable<'_, Global>,
@@ -56,7 +56,7 @@ fn put_lane(
     out.push('\n')
 }
 
-/// The state of a machine.
+/// Adds the state of a machine.
 fn put_replay(
     out: &mut String,
     table: &ItemTable<'_, Global>,
@@ -69,7 +69,7 @@ fn put_replay(
     Ok(())
 }
 
-/// Prints a judgement, and gives the status.
+/// Prints a judgement, and returns the status.
 fn put_judgement(out: &mut String, judgement: Result<u32, RowError>) -> Result<u8, AllocError> {
     match judgement {
         Ok(rows) => {
@@ -84,7 +84,7 @@ fn put_judgement(out: &mut String, judgement: Result<u32, RowError>) -> Result<u
     }
 }
 
-/// Judges the rows in a text, and prints the judgement and the state that they leave. Gives the status.
+/// Judges the rows in a text, and prints the judgement and the state that they leave. Returns the status.
 pub(crate) fn judge(
     alloc: Global,
     table: &ItemTable<'_, Global>,

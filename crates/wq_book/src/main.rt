@@ -1,7 +1,7 @@
-//! `wq_book`: makes the calls of a book that a text asks for, or judges the rows of a history, and prints what came of it.
+//! `wq_book`: makes the calls of a book that a text asks for, or judges the rows of a history, and prints what happened.
 //!
-//! It is a program of the tests, and never installed. What it reads and prints is said in "The test program `wq_book`" in
-//! docs/FORMAT.md; no contract says it. It takes the time of the calls or of the replay, and that of printing each lane.
+//! It is a program of the tests, and never installed. "The test program `wq_book`" in docs/FORMAT.md says what it reads and
+//! prints; no contract does. It takes the time of the calls or of the replay, and that of printing each lane.
 #![tactic(auto)]
 
 mod answering;
@@ -17,13 +17,13 @@ use std::rt::{Env, Files};
 use std::{fs, io};
 use wq_commands::{Fault, Metered, read_text, write_text};
 
-/// The bytes in the file of this path, or one more than the limit where it has more.
+/// Reads the bytes of the file at this path, or the first `limit + 1` where it has more than `limit`.
 fn read_file<R: Files + AllocGlobal>(rt: &R, path: &str, limit: u32) -> Result<Vec<u8>, Fault> {
     let file = fs::open(rt, path).map_err(|_| Fault::Read)?;
     read_text(rt.alloc(), &mut Metered::new(file), limit)
 }
 
-/// Prints the answer to what is asked for, and gives the status.
+/// Prints the answer to what is asked for, and returns the status.
 fn perform<R: Files + Print + AllocGlobal>(rt: &R, request: &Request<'_>) -> Result<u8, Fault> {
     let declared = read_file(rt, request.declaration, 1_048_576)?;
     let assigned = read_file(rt, request.assignment, 8_388_608)?;
@@ -55,7 +55,7 @@ fn misused(rt: &impl Eprint) -> u8 {
     2
 }
 
-/// Does what the command line asks for, and gives the status.
+/// Does what the command line asks for, and returns the status.
 fn run<R: Files + Env + Print + Eprint + AllocGlobal>(rt: &R) -> u8 {
     let words = match request::words(rt) {
         Ok(words) => words,

@@ -6,24 +6,24 @@ use wq_groups::LaneId;
 use wq_history::{Book, BookError};
 use wq_items::{ItemId, ItemTable};
 
-/// The refusal of a text. Gives the status.
+/// Adds the refusal of a text. Returns the status.
 pub(crate) fn refuse(out: &mut String, code: u32, line: u32) -> Result<u8, AllocError> {
     writeln!(out, "refused {code} line {line}")?;
     Ok(2)
 }
 
-/// A mistake on a line. Gives the status.
+/// Adds that there is a mistake on a line. Returns the status.
 pub(crate) fn mistake(out: &mut String, line: u32) -> Result<u8, AllocError> {
     writeln!(out, "mistake line {line}")?;
     Ok(2)
 }
 
-/// The refusal of a call.
+/// Adds the refusal of a call.
 pub(crate) fn put_code(out: &mut String, error: BookError) -> Result<(), AllocError> {
     write!(out, "refused {}", error.code())
 }
 
-/// The answer of `queue`, `cancel`, `wait` and `over`.
+/// Adds the answer of `queue`, `cancel`, `wait` or `over`.
 pub(crate) fn put_said(out: &mut String, said: Result<bool, BookError>) -> Result<(), AllocError> {
     match said {
         Ok(true) => out.push_str("true"),
@@ -32,7 +32,7 @@ pub(crate) fn put_said(out: &mut String, said: Result<bool, BookError>) -> Resul
     }
 }
 
-/// The answer of `finish`.
+/// Adds the answer of `finish`.
 pub(crate) fn put_finished(
     out: &mut String,
     finished: Result<(), BookError>,
@@ -43,7 +43,7 @@ pub(crate) fn put_finished(
     }
 }
 
-/// The answer of `start`.
+/// Adds the answer of `start`.
 pub(crate) fn put_started(
     out: &mut String,
     table: &ItemTable<'_, Global>,
@@ -56,7 +56,7 @@ pub(crate) fn put_started(
     }
 }
 
-/// The name of an item, `-` where there is none.
+/// Adds the name of an item, or `-` where there is none.
 pub(crate) fn put_item(
     out: &mut String,
     table: &ItemTable<'_, Global>,
@@ -71,7 +71,7 @@ pub(crate) fn put_item(
     Ok(())
 }
 
-/// The state of a book, after an answer, and the end of the line.
+/// Adds the state of a book, after an answer, and the end of the line.
 pub(crate) fn put_state(
     out: &mut String,
     table: &ItemTable<'_, Global>,
@@ -89,7 +89,7 @@ pub(crate) fn put_state(
     out.push('\n')
 }
 
-/// The number of rows, and each of them in hexadecimal digits. Gives the status.
+/// Adds the number of rows, and each of them in hexadecimal digits. Returns the status.
 pub(crate) fn put_rows(out: &mut String, packed: &[u8]) -> Result<u8, AllocError> {
     writeln!(out, "rows {}", packed.len() / 12)?;
     for row in packed.chunks(12) {

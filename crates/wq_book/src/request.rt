@@ -1,4 +1,4 @@
-//! What the command line asks for. It takes time in its words.
+//! What the command line asks for. It takes time in the number of words.
 
 use std::rt::Env;
 use std::{env, io};
@@ -7,13 +7,13 @@ use wq_text::number;
 /// What is to be done.
 #[derive(Clone, Copy)]
 pub(crate) enum Task {
-    /// The calls of a text are made, of a book with this many rows.
+    /// Make the calls of a text, on a book with this many rows.
     Book { rows: u32 },
-    /// The rows of a history are judged.
+    /// Judge the rows of a history.
     Check,
 }
 
-/// What is to be done, and the files that say of what.
+/// What is to be done, and the files that it is to be done with.
 #[derive(Clone, Copy)]
 pub(crate) struct Request<'a> {
     pub(crate) task: Task,

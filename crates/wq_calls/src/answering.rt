@@ -11,7 +11,7 @@ use wq_groups::Groups;
 use wq_items::ItemTable;
 use wq_testbed::{Bed, SEED, Texts, refuse_text};
 
-/// Answers of the items of a table, in these groups, under the assignment in a text. Gives the status.
+/// Answers for the items of a table, in these groups, under the assignment in a text. Returns the status.
 fn answer_declared<R: Wait>(
     rt: &R,
     alloc: Global,
@@ -41,7 +41,7 @@ fn answer_declared<R: Wait>(
     }
 }
 
-/// Answers, or refuses the first text that is to be refused. Gives the status.
+/// Answers, or refuses the first text that has to be refused. Returns the status.
 pub(crate) fn answer<R: Wait>(
     rt: &R,
     alloc: Global,

@@ -1,4 +1,4 @@
-//! The calls that a text asks for, read line by line. Reading a line takes time in its length.
+//! The calls that a text asks for, line by line. Reading a line takes time in its length.
 
 use std::alloc::Global;
 use wq_groups::LaneId;
@@ -20,19 +20,19 @@ pub(crate) enum Counted {
 #[derive(Clone, Copy)]
 pub(crate) enum Call {
     Counted(Counted),
-    /// One seat more.
+    /// Another seat.
     Seat,
-    /// This many seats more.
+    /// This many more seats.
     Seats(u32),
-    /// The calls that follow count in this seat.
+    /// The calls that follow count in the seat with this number.
     Use(u32),
-    /// What the seat in use has counted of an item.
+    /// What the seat that is in use has counted of an item.
     Tell(ItemId),
     Next(LaneId),
     Lanes,
     Lane(ItemId),
     Destroy,
-    /// With this many of the seats.
+    /// Closes with this many of the seats.
     Close(u32),
 }
 
@@ -41,13 +41,13 @@ fn item_of(table: &ItemTable<'_, Global>, name: &[u8]) -> ItemId {
     table.find(name).unwrap_or(ItemId::new(table.len()))
 }
 
-/// The lane of the number in these digits, which is at most 65,535.
+/// The lane with the number in these digits, which is at most 65,535.
 fn lane_of(digits: &[u8]) -> Option<LaneId> {
     let q = u16::try_from(number(digits)?).ok()?;
     Some(LaneId::new(q))
 }
 
-/// The call of this word alone.
+/// The call that this word alone asks for.
 fn call_alone(word: &[u8]) -> Option<Call> {
     match word {
         b"seat" => Some(Call::Seat),
@@ -57,7 +57,7 @@ fn call_alone(word: &[u8]) -> Option<Call> {
     }
 }
 
-/// The call of this word, with one word after it.
+/// The call that this word asks for, with one word after it.
 fn call_of(table: &ItemTable<'_, Global>, word: &[u8], what: &[u8]) -> Option<Call> {
     let call = match word {
         b"cancel" => Call::Counted(Counted::Cancel(item_of(table, what))),
@@ -74,7 +74,7 @@ fn call_of(table: &ItemTable<'_, Global>, word: &[u8], what: &[u8]) -> Option<Ca
     Some(call)
 }
 
-/// The call of this word, of an item on a lane.
+/// The call that this word asks for, of an item on a lane.
 fn call_on_lane(word: &[u8], q: LaneId, item: ItemId) -> Option<Call> {
     let call = match word {
         b"queue" => Counted::Queue(q, item),
@@ -85,7 +85,7 @@ fn call_on_lane(word: &[u8], q: LaneId, item: ItemId) -> Option<Call> {
     Some(Call::Counted(call))
 }
 
-/// The call that a line asks for by its first word and those after it; none where it has the form of none.
+/// The call that a line asks for by its first word and the words after it; none where it has the form of no call.
 pub(crate) fn read_call(
     table: &ItemTable<'_, Global>,
     word: &[u8],

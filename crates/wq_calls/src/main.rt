@@ -1,7 +1,7 @@
-//! `wq_calls`: makes the calls of a runtime that a text asks for, in one thread, and prints what each answers.
+//! `wq_calls`: makes the calls of a runtime that a text asks for, in one thread, and prints the answer to each.
 //!
-//! It is a program of the tests, and never installed. What it reads and prints is said in "The test programs of runtimes" in
-//! docs/FORMAT.md; no contract says it. It takes the time of the calls.
+//! It is a program of the tests, and never installed. "The test programs of runtimes" in docs/FORMAT.md says what it reads and
+//! prints; no contract does. It takes the time of the calls.
 #![tactic(auto)]
 
 mod answering;
@@ -37,7 +37,7 @@ fn parse(words: &[String]) -> Option<Request<'_>> {
     }
 }
 
-/// Makes the calls of a text, and prints the answers. Gives the status.
+/// Makes the calls of a text, and prints the answers. Returns the status.
 fn print_calls<R: Print + AllocGlobal + Wait>(
     rt: &R,
     rows: u32,
@@ -49,7 +49,7 @@ fn print_calls<R: Print + AllocGlobal + Wait>(
     print_answer(rt, &out, status)
 }
 
-/// Makes the calls, and prints the answers. Gives the status.
+/// Makes the calls, and prints the answers. Returns the status.
 fn perform<R: Files + Print + AllocGlobal + Wait>(
     rt: &R,
     request: &Request<'_>,
@@ -59,7 +59,7 @@ fn perform<R: Files + Print + AllocGlobal + Wait>(
     print_calls(rt, request.setting.rows, &texts, &calls)
 }
 
-/// Does what these words ask for. Gives the status.
+/// Does what these words ask for. Returns the status.
 fn entered<R: Files + Print + Eprint + AllocGlobal + Wait>(rt: &R, words: &[String]) -> u8 {
     match parse(words) {
         Some(request) => ended(rt, perform(rt, &request)),
@@ -67,7 +67,7 @@ fn entered<R: Files + Print + Eprint + AllocGlobal + Wait>(rt: &R, words: &[Stri
     }
 }
 
-/// Does what the command line asks for. Gives the status.
+/// Does what the command line asks for. Returns the status.
 fn run<R: Files + Env + Print + Eprint + AllocGlobal + Wait>(rt: &R) -> u8 {
     match words(rt) {
         Ok(words) => entered(rt, &words),

@@ -59,7 +59,7 @@ fn put_words(out: &mut String, words: Words<'_>) -> Result<(), AllocError> {
     Ok(())
 }
 
-/// What a runtime that is closed hands back.
+/// Adds what a closed runtime hands back.
 fn put_closed<N: Naming>(
     out: &mut String,
     table: &ItemTable<'_, Global>,
@@ -96,7 +96,7 @@ fn make_counted<N: Naming, R: Wait>(
 }
 
 impl<N: Naming> Seats<N> {
-    /// One seat more. False where the runtime makes no more.
+    /// Makes another seat. It returns false where the runtime makes no more.
     fn add<R: Wait>(
         &mut self,
         rt: &R,
@@ -113,7 +113,7 @@ impl<N: Naming> Seats<N> {
         }
     }
 
-    /// This many seats more, and prints how many there are.
+    /// Makes this many more seats, and prints how many there are.
     fn add_all<R: Wait>(
         &mut self,
         rt: &R,
@@ -130,7 +130,7 @@ impl<N: Naming> Seats<N> {
         write!(out, "{}", self.made.len())
     }
 
-    /// One seat more, and prints its number.
+    /// Makes another seat, and prints its number.
     fn add_one<R: Wait>(
         &mut self,
         rt: &R,
@@ -146,7 +146,7 @@ impl<N: Naming> Seats<N> {
         }
     }
 
-    /// The calls that follow count in this seat, if there is one.
+    /// Has the calls that follow count in this seat, if there is one.
     fn choose(&mut self, seat: u32, out: &mut String) -> Result<(), AllocError> {
         if seat as usize >= self.made.len() {
             return out.push_str("none");
@@ -155,7 +155,7 @@ impl<N: Naming> Seats<N> {
         out.push_str("ok")
     }
 
-    /// Makes a call that counts in the seat in use.
+    /// Makes a call that counts in the seat that is in use.
     fn count<R: Wait>(
         &mut self,
         rt: &R,
@@ -169,7 +169,7 @@ impl<N: Naming> Seats<N> {
         }
     }
 
-    /// Prints what the seat in use has counted of an item.
+    /// Prints what the seat that is in use has counted of an item.
     fn tell(&self, item: ItemId, out: &mut String) -> Result<(), AllocError> {
         match self.made.get(self.used) {
             Some(seat) => write!(
@@ -212,7 +212,7 @@ impl<N: Naming> Seats<N> {
     }
 }
 
-/// A runtime that is not closed yet, if there is one, and its seats.
+/// A runtime that isn't closed yet, if there is one, and its seats.
 #[derive(Drop)]
 struct Session<N: Naming> {
     runtime: Option<WqRuntime<N, Global>>,
@@ -220,7 +220,7 @@ struct Session<N: Naming> {
 }
 
 impl<N: Naming> Session<N> {
-    /// Goes on with a runtime that isn't closed, with the seats that were tried before the others.
+    /// Goes on with a runtime that isn't closed. The seats that were tried come before the others.
     fn reopen(
         &mut self,
         runtime: WqRuntime<N, Global>,
@@ -309,7 +309,7 @@ impl<N: Naming> Session<N> {
         Ok(())
     }
 
-    /// Makes the calls of a text, and prints a line for each. Gives the status.
+    /// Makes the calls of a text, and prints a line for each. Returns the status.
     fn make_all<R: Wait>(
         &mut self,
         rt: &R,
@@ -337,7 +337,7 @@ impl<N: Naming> Session<N> {
     }
 }
 
-/// Makes the calls of a text on a runtime. Gives the status.
+/// Makes the calls of a text on a runtime. Returns the status.
 fn play_on<N: Naming, R: Wait>(
     rt: &R,
     alloc: Global,
@@ -360,7 +360,7 @@ fn play_on<N: Naming, R: Wait>(
     }
 }
 
-/// Makes the runtime of this name and the calls of a text. Gives the status.
+/// Makes the runtime of this name and the calls of a text. Returns the status.
 fn play_named<N: Naming, R: Wait>(
     rt: &R,
     alloc: Global,
@@ -381,7 +381,7 @@ fn play_named<N: Naming, R: Wait>(
     }
 }
 
-/// Makes a runtime and the calls of a text, and prints a line for each call. Gives the status.
+/// Makes a runtime and the calls of a text, and prints a line for each call. Returns the status.
 pub(crate) fn play<R: Wait>(
     rt: &R,
     alloc: Global,

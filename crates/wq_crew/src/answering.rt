@@ -22,7 +22,7 @@ pub(crate) enum Task<'a> {
     Script,
 }
 
-/// Has rescuers and callers do what is asked. Gives the status.
+/// Has rescuers and callers do what is asked. Returns the status.
 fn play<R: Threads + Wait + Sync>(
     rt: &R,
     alloc: Global,
@@ -36,7 +36,7 @@ fn play<R: Threads + Wait + Sync>(
     }
 }
 
-/// Answers of the items of a table, in these groups, under the assignment in a text. Gives the status.
+/// Answers for the items of a table, in these groups, under the assignment in a text. Returns the status.
 fn answer_declared<R: Threads + Wait + Sync>(
     rt: &R,
     alloc: Global,
@@ -66,7 +66,7 @@ fn answer_declared<R: Threads + Wait + Sync>(
     }
 }
 
-/// Answers, or refuses the first text that is to be refused. Gives the status.
+/// Answers, or refuses the first text that has to be refused. Returns the status.
 pub(crate) fn answer<R: Threads + Wait + Sync>(
     rt: &R,
     alloc: Global,

@@ -1,4 +1,4 @@
-//! A rescuer for each lane and a thread for each caller, whose bodies and callers do what a text says.
+//! A rescuer for each lane and a thread for each caller. Their bodies and callers do what a text says.
 //!
 //! It takes the time of the bodies and the callers, and then that of printing the history that they leave.
 
@@ -23,7 +23,7 @@ use wq_items::ItemTable;
 use wq_rescuer::{Ran, run_all};
 use wq_testbed::{Bed, make, mistake};
 
-/// Bodies or callers that do these things, numbered from this number on, which can count this many items.
+/// Bodies or callers that do these things, and can count this many items. Their numbers begin with this one.
 fn make_doers<'a>(
     alloc: Global,
     flags: &'a Flags,
@@ -60,7 +60,7 @@ fn put_left<N: Naming>(
     Ok(())
 }
 
-/// Prints what all threads left, and closes the runtime. Gives the status.
+/// Prints what all threads left, and closes the runtime. Returns the status.
 fn put_ran<N: Naming>(
     out: &mut String,
     table: &ItemTable<'_, Global>,
@@ -93,7 +93,7 @@ fn make_crew<'a>(
     Ok((bodies, callers))
 }
 
-/// Runs a plot on a runtime, with these flags. Gives the status.
+/// Runs a plot on a runtime, with these flags. Returns the status.
 fn run_flagged<N: Naming + Send + Sync, R: Threads + Wait + Sync>(
     rt: &R,
     alloc: Global,
@@ -112,7 +112,7 @@ fn run_flagged<N: Naming + Send + Sync, R: Threads + Wait + Sync>(
     }
 }
 
-/// Runs a plot on a runtime. Gives the status.
+/// Runs a plot on a runtime. Returns the status.
 fn run_plot<N: Naming + Send + Sync, R: Threads + Wait + Sync>(
     rt: &R,
     alloc: Global,
@@ -127,7 +127,7 @@ fn run_plot<N: Naming + Send + Sync, R: Threads + Wait + Sync>(
     run_flagged(rt, alloc, runtime, bed, &flags, plot, out)
 }
 
-/// Reads what a text says, and has it done on a runtime. Gives the status.
+/// Reads what a text says, and has it done on a runtime. Returns the status.
 fn play_on<N: Naming + Send + Sync, R: Threads + Wait + Sync>(
     rt: &R,
     alloc: Global,
@@ -145,7 +145,7 @@ fn play_on<N: Naming + Send + Sync, R: Threads + Wait + Sync>(
     }
 }
 
-/// Makes the runtime of this name, and has it run as a text says. Gives the status.
+/// Makes the runtime of this name, and has it run as a text says. Returns the status.
 fn play_named<N: Naming + Send + Sync, R: Threads + Wait + Sync>(
     rt: &R,
     alloc: Global,
@@ -166,7 +166,7 @@ fn play_named<N: Naming + Send + Sync, R: Threads + Wait + Sync>(
     }
 }
 
-/// Has rescuers and callers do what a text says. Gives the status.
+/// Has rescuers and callers do what a text says. Returns the status.
 pub(crate) fn play<R: Threads + Wait + Sync>(
     rt: &R,
     alloc: Global,

@@ -1,4 +1,4 @@
-//! What bodies and callers are to do, read from a text line by line. Reading takes time in the text's length.
+//! What bodies and callers are to do, line by line of a text. Reading takes time in the length of the text.
 
 use std::alloc::Global;
 use wq_items::{ItemId, ItemTable};
@@ -10,23 +10,23 @@ pub(crate) enum Deed {
     Flush(ItemId),
     Queue(ItemId),
     Cancel(ItemId),
-    /// A body leaves this out.
+    /// A body skips this.
     CancelSync(ItemId),
-    /// A body gives up with this code. A caller leaves this out.
+    /// A body gives up with this code. A caller skips this.
     GiveUp(u32),
     /// Says that it is here, and looks for all others.
     Meet,
     /// Looks for the end, and goes on for a while.
     Linger,
-    /// A caller says that the end has come, destroys the runtime, and looks whether what lingered has ended. A body leaves
-    /// this out.
+    /// A caller says that the end has come, destroys the runtime, and looks whether those that lingered have ended. A body skips
+    /// this.
     Destroy,
 }
 
 /// What a line says.
 #[derive(Clone, Copy)]
 pub(crate) enum Entry {
-    /// A body begins, that of the next lane, or a caller.
+    /// A body begins, that of the next lane, or else a caller.
     Begin(bool),
     /// A deed of the body or caller that has begun.
     Deed(Deed),
@@ -49,7 +49,7 @@ fn entry_alone(word: &[u8]) -> Option<Entry> {
     }
 }
 
-/// What this word says with another after it.
+/// What this word says with one word after it.
 fn entry_of(table: &ItemTable<'_, Global>, word: &[u8], what: &[u8]) -> Option<Entry> {
     let deed = match word {
         b"flush" => Deed::Flush(item_of(table, what)),
@@ -62,7 +62,7 @@ fn entry_of(table: &ItemTable<'_, Global>, word: &[u8], what: &[u8]) -> Option<E
     Some(Entry::Deed(deed))
 }
 
-/// What a line says by its first word and those after it; none where it has the form of none.
+/// What a line says by its first word and the words after it; none where it doesn't have the form of any.
 pub(crate) fn read_entry(
     table: &ItemTable<'_, Global>,
     word: &[u8],

@@ -20,14 +20,14 @@ pub(crate) struct Doer<'a> {
     number: usize,
     deeds: Vec<Deed>,
     runs: Vec<u32>,
-    /// The code of its last fault, 0 where there was none.
+    /// The code of its last fault; 0 where there was none.
     pub(crate) code: u32,
     /// Whether it has seen all that it looked for.
     pub(crate) has_seen: bool,
 }
 
 impl<'a> Doer<'a> {
-    /// One that does these things, and can count this many items.
+    /// Makes one that does these things, and can count this many items.
     pub(crate) fn new(
         alloc: Global,
         flags: &'a Flags,
@@ -51,7 +51,7 @@ impl<'a> Doer<'a> {
     }
 }
 
-/// Does a thing in a body. Whether it has seen what it looked for.
+/// Does one thing in a body, and tells whether it has seen what it looked for.
 fn do_in_body<N: Naming, A: Allocator, R: Wait>(
     rt: &R,
     flags: &Flags,
@@ -77,7 +77,7 @@ fn do_in_body<N: Naming, A: Allocator, R: Wait>(
     }
 }
 
-/// Does all things in a body, up to the first that is refused. What it looked for and hasn't seen is noted.
+/// Does all things in a body, up to the first that is refused. Where it looked for something that it didn't see, this is noted.
 fn do_all_in_body<N: Naming, A: Allocator, R: Wait>(
     rt: &R,
     flags: &Flags,
@@ -140,7 +140,7 @@ fn queue<N: Naming, A: Allocator, R: Wait>(
     runtime.queue_work(rt, seat, q, item)
 }
 
-/// Does a thing in a caller. Whether it has seen what it looked for.
+/// Does one thing in a caller, and tells whether it has seen what it looked for.
 fn do_in_caller<N: Naming, A: Allocator, R: Wait>(
     rt: &R,
     flags: &Flags,

@@ -1,8 +1,8 @@
-//! `wq_crew`: has a rescuer for each lane and callers in threads do what a text says, or what the declaration says, and prints
-//! what they left.
+//! `wq_crew`: has a rescuer for each lane, and callers in threads, do what a text or the declaration says, and prints what they
+//! left.
 //!
-//! It is a program of the tests, and never installed. What it reads and prints is said in "The test programs of runtimes" in
-//! docs/FORMAT.md; no contract says it. It takes the time of the bodies and the callers.
+//! It is a program of the tests, and never installed. "The test programs of runtimes" in docs/FORMAT.md says what it reads and
+//! prints; no contract does. It takes the time of the bodies and the callers.
 #![tactic(auto)]
 
 mod answering;
@@ -55,7 +55,7 @@ fn parse(words: &[String]) -> Option<Request<'_>> {
     }
 }
 
-/// Does what is asked for of these texts, and prints what came of it. Gives the status.
+/// Does what is asked for with these texts, and prints what happened. Returns the status.
 fn print_task<R: Print + AllocGlobal + Threads + Wait + Sync>(
     rt: &R,
     rows: u32,
@@ -67,7 +67,7 @@ fn print_task<R: Print + AllocGlobal + Threads + Wait + Sync>(
     print_answer(rt, &out, status)
 }
 
-/// Does this in a setting, and prints what came of it. Gives the status.
+/// Does this in a setting, and prints what happened. Returns the status.
 fn run_task<R: Files + Print + AllocGlobal + Threads + Wait + Sync>(
     rt: &R,
     setting: &Setting<'_>,
@@ -77,7 +77,7 @@ fn run_task<R: Files + Print + AllocGlobal + Threads + Wait + Sync>(
     print_task(rt, setting.rows, &texts, task)
 }
 
-/// Does what the text in a file says, and prints what came of it. Gives the status.
+/// Does what the text in a file says, and prints what happened. Returns the status.
 fn run_deeds<R: Files + Print + AllocGlobal + Threads + Wait + Sync>(
     rt: &R,
     setting: &Setting<'_>,
@@ -87,7 +87,7 @@ fn run_deeds<R: Files + Print + AllocGlobal + Threads + Wait + Sync>(
     run_task(rt, setting, Task::Deeds(&text))
 }
 
-/// Does what is asked for, and prints what came of it. Gives the status.
+/// Does what is asked for, and prints what happened. Returns the status.
 fn perform<R: Files + Print + AllocGlobal + Threads + Wait + Sync>(
     rt: &R,
     request: &Request<'_>,
@@ -98,7 +98,7 @@ fn perform<R: Files + Print + AllocGlobal + Threads + Wait + Sync>(
     }
 }
 
-/// Does what these words ask for. Gives the status.
+/// Does what these words ask for. Returns the status.
 fn entered<R: Files + Print + Eprint + AllocGlobal + Threads + Wait + Sync>(
     rt: &R,
     words: &[String],
@@ -109,7 +109,7 @@ fn entered<R: Files + Print + Eprint + AllocGlobal + Threads + Wait + Sync>(
     }
 }
 
-/// Does what the command line asks for. Gives the status.
+/// Does what the command line asks for. Returns the status.
 fn run<R: Files + Env + Print + Eprint + AllocGlobal + Threads + Wait + Sync>(rt: &R) -> u8 {
     match words(rt) {
         Ok(words) => entered(rt, &words),

@@ -1,13 +1,13 @@
-//! How threads see each other: a flag for each, and one for the end. Looking takes as long as the others let it wait, and at
-//! most 1,000,000,000 looks for each.
+//! How threads see each other: a flag for each, and one for the end. Looking takes as long as the others let it wait, but at most
+//! 1,000,000,000 looks for each.
 
 use std::alloc::{AllocError, Global};
 use std::sync::atomic::{AtomicBool, Ordering};
 
-/// How often one looks for another.
+/// How often a thread looks for another.
 const LOOKS: u32 = 1_000_000_000;
 
-/// How often one looks once the end has come, before it goes on.
+/// How often a thread looks, once the end has come, before it goes on.
 const MORE_LOOKS: u32 = 1_000_000;
 
 /// The flags.
@@ -29,7 +29,7 @@ fn look(flag: &AtomicBool) -> bool {
 }
 
 impl Flags {
-    /// Flags for this many, none of them set.
+    /// Flags for this many threads. None of them is set.
     pub(crate) fn new(alloc: Global, count: usize) -> Result<Flags, AllocError> {
         let mut here = Vec::new(alloc);
         for _ in 0..count {
@@ -42,7 +42,7 @@ impl Flags {
         })
     }
 
-    /// Says that this one is here, and looks for all others. Whether it has seen all.
+    /// Says that this thread is here, and looks for all others. It returns whether it has seen all of them.
     pub(crate) fn meet(&self, own: usize) -> bool {
         if let Some(flag) = self.here.get(own) {
             flag.store(true, Ordering::SeqCst);
@@ -54,7 +54,7 @@ impl Flags {
         all
     }
 
-    /// Looks for the end, goes on for a while, and says that it has. Whether it has seen the end.
+    /// Looks for the end, goes on for a while, and says that it has. It returns whether it has seen the end.
     pub(crate) fn linger(&self) -> bool {
         let has_seen = look(&self.is_ending);
         let mut seen = 0u32;
@@ -72,7 +72,7 @@ impl Flags {
         self.is_ending.store(true, Ordering::SeqCst);
     }
 
-    /// Whether one has lingered.
+    /// Whether a thread has lingered.
     pub(crate) fn has_lingered(&self) -> bool {
         self.has_lingered.load(Ordering::SeqCst)
     }

@@ -1,4 +1,4 @@
-//! What the bodies and the callers of a text do. Reading takes time and memory in the text's length.
+//! What the bodies and the callers of a text do. Reading takes time and memory in the length of the text.
 
 use crate::deed::{Deed, Entry, read_entry};
 use std::alloc::{AllocError, Global};
@@ -11,12 +11,12 @@ use wq_text::Text;
 pub(crate) struct Plot {
     pub(crate) bodies: Vec<Vec<Deed>>,
     pub(crate) callers: Vec<Vec<Deed>>,
-    /// Whether a body was begun last.
+    /// Whether the last one that was begun is a body.
     is_body: bool,
 }
 
 impl Plot {
-    /// One in which nobody has begun.
+    /// A plot in which nobody has begun.
     pub(crate) fn new(alloc: Global) -> Self {
         Plot {
             bodies: Vec::new(alloc),
@@ -30,7 +30,7 @@ impl Plot {
         self.bodies.len().saturating_add(self.callers.len())
     }
 
-    /// Those of whom the last one was begun last.
+    /// The bodies or the callers, whichever the last one belongs to that was begun.
     fn begun(&mut self) -> &mut Vec<Vec<Deed>> {
         if self.is_body {
             &mut self.bodies
@@ -39,7 +39,7 @@ impl Plot {
         }
     }
 
-    /// Adds what a line says. False where it is a deed and nobody has begun.
+    /// Adds what a line says. It returns false where the line is a deed and nobody has begun.
     fn add(&mut self, alloc: Global, entry: Entry) -> Result<bool, AllocError> {
         match entry {
             Entry::Begin(is_body) => {
@@ -57,7 +57,7 @@ impl Plot {
         }
     }
 
-    /// Adds what the lines of a text say. Gives the number of the first that says nothing, if there is one.
+    /// Adds what the lines of a text say. Returns the number of the first line that says nothing, if there is one.
     fn read_lines(
         &mut self,
         alloc: Global,
@@ -79,7 +79,7 @@ impl Plot {
         Ok(None)
     }
 
-    /// Adds what a text says. Gives the number of the line that is a mistake, if there is one.
+    /// Adds what a text says. Returns the number of the line that is a mistake, if there is one.
     pub(crate) fn read(
         &mut self,
         alloc: Global,

@@ -1,4 +1,4 @@
-//! What is printed once all rescuers and callers have ended. It takes time in what is printed.
+//! What is printed once all rescuers and callers have ended. It takes time in the length of what is printed.
 
 use std::alloc::{AllocError, Global};
 use wq_api::{CallError, Closed, Naming, Seat, WqRuntime};
@@ -49,7 +49,7 @@ pub(crate) fn put_results(
     Ok(())
 }
 
-/// Prints that not all was run, and how much is handed back. Gives the status.
+/// Prints that not everything was run, and how much is handed back. Returns the status.
 pub(crate) fn put_unrun<N: Naming, B: Body + Drop, C: Caller + Drop>(
     out: &mut String,
     refused: &RunFault<N, Global, B, C>,
@@ -73,7 +73,7 @@ pub(crate) fn seats_of<N: Naming, B: Body + Drop, C: Caller + Drop>(
     seats
 }
 
-/// Prints what a runtime that is closed hands back. Gives the status.
+/// Prints what a closed runtime hands back. Returns the status.
 fn put_closed<N: Naming>(
     out: &mut String,
     table: &ItemTable<'_, Global>,
@@ -85,7 +85,7 @@ fn put_closed<N: Naming>(
     Ok(0)
 }
 
-/// Closes a runtime, and prints what is handed back. Gives the status.
+/// Closes a runtime, and prints what is handed back. Returns the status.
 pub(crate) fn close<N: Naming>(
     out: &mut String,
     table: &ItemTable<'_, Global>,

@@ -28,7 +28,7 @@ fn put_left<N: Naming>(
     put_results(out, &ran.results)
 }
 
-/// Prints what all threads left, and closes the runtime. Gives the status.
+/// Prints what all threads left, and closes the runtime. Returns the status.
 fn put_ran<N: Naming>(
     out: &mut String,
     table: &ItemTable<'_, Global>,
@@ -40,7 +40,7 @@ fn put_ran<N: Naming>(
     printed.and(status)
 }
 
-/// Has a runtime run by scripts. Gives the status.
+/// Has a runtime run by scripts. Returns the status.
 fn play_on<N: Naming + Send + Sync, R: Threads + Wait + Sync>(
     rt: &R,
     alloc: Global,
@@ -58,7 +58,7 @@ fn play_on<N: Naming + Send + Sync, R: Threads + Wait + Sync>(
     }
 }
 
-/// Makes the runtime of this name, and has it run by scripts. Gives the status.
+/// Makes the runtime of this name, and has it run by scripts. Returns the status.
 fn play_named<N: Naming + Send + Sync, R: Threads + Wait + Sync>(
     rt: &R,
     alloc: Global,
@@ -78,7 +78,7 @@ fn play_named<N: Naming + Send + Sync, R: Threads + Wait + Sync>(
     }
 }
 
-/// Has rescuers make the declared flushes, and callers queue and flush all items. Gives the status.
+/// Has rescuers make the declared flushes, and callers queue and flush all items. Returns the status.
 pub(crate) fn play<R: Threads + Wait + Sync>(
     rt: &R,
     alloc: Global,

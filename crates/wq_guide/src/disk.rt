@@ -1,13 +1,13 @@
 //! The disk and its server: what `rdisk.c` keeps in `struct rdisk`, and what its hardware does.
 //!
-//! It lies under one lock, and nothing here waits. Each call takes time in the number of requests, and no memory.
+//! One lock protects it, and nothing here waits. Each call takes time in the number of requests, and no memory.
 
 use wq_api::CallError;
 
 /// How many requests there are.
 pub(crate) const REQUESTS: usize = 40;
 
-/// The request under which the connection breaks, when it is sent for the first time.
+/// The request at which the connection breaks, when it is sent for the first time.
 const BREAKS_AT: usize = 10;
 
 /// How far a request has come.
@@ -36,9 +36,9 @@ pub(crate) struct Disk {
     link: Link,
     /// How many records the log has.
     pub(crate) noted: u32,
-    /// How many requests were sent, the lost one among them.
+    /// How many requests were sent, including the one that was lost.
     pub(crate) sent: u32,
-    /// What a work function was refused, and went on without.
+    /// The refusal that a work function met and went on after.
     pub(crate) warning: Option<CallError>,
 }
 
@@ -54,7 +54,7 @@ impl Disk {
         }
     }
 
-    /// A request has come in.
+    /// Adds a request that has come in.
     pub(crate) fn submit(&mut self, request: usize) {
         if let Some(stage) = self.stages.get_mut(request) {
             *stage = Stage::Waiting;
@@ -71,7 +71,7 @@ impl Disk {
         }
     }
 
-    /// Sends the requests that are noted, as long as there is a connection.
+    /// Sends the requests that have a record, as long as there is a connection.
     pub(crate) fn transmit(&mut self) {
         for (request, stage) in self.stages.iter_mut().enumerate() {
             let is_up = matches!(self.link, Link::Fresh | Link::Mended);
@@ -87,7 +87,8 @@ impl Disk {
         }
     }
 
-    /// Ends the requests that the server has answered, which are all that it got. True where the connection is found lost.
+    /// Ends the requests that the server has answered, which are all that it received. True where the connection turns out to be
+    /// lost.
     pub(crate) fn end_requests(&mut self) -> bool {
         for stage in self.stages.iter_mut() {
             if *stage == Stage::Sent {

@@ -1,8 +1,8 @@
 //! `wq_guide`: the driver of docs/GUIDE.md, run by its plan.
 //!
-//! It plans the declaration, makes a runtime under the plan, has a rescuer for each workqueue and two callers run, closes
-//! the runtime, and prints what doesn't depend on the order in which the threads ran. docs/GUIDE.md, "Running work by a
-//! plan", goes through it.
+//! It plans the declaration, makes a runtime under the plan, has a rescuer for each workqueue and two callers run, and closes the
+//! runtime. It prints what doesn't depend on the order in which the threads ran. docs/GUIDE.md, "Running work by a plan",
+//! explains it.
 #![tactic(auto)]
 
 mod disk;
@@ -58,7 +58,7 @@ fn put_disk<R: Wait + Print>(rt: &R, rdisk: &Rdisk, faults: u64) -> Result<()> {
     Ok(())
 }
 
-/// Prints what the closed book counts of an item, as far as no order of the threads changes it.
+/// Prints what the closed book counts of an item, where the order of the threads doesn't change it.
 fn put_item(
     rt: &impl Print,
     name: &str,
@@ -97,7 +97,7 @@ fn put_closed(
     Ok(())
 }
 
-/// Prints what two calls answer once `destroy` has been called.
+/// Prints what two calls answer after `destroy` was called.
 fn put_destroyed<N: Naming, R: Wait + Print>(
     rt: &R,
     runtime: &WqRuntime<N, Global>,
@@ -115,7 +115,7 @@ fn put_destroyed<N: Naming, R: Wait + Print>(
     Ok(())
 }
 
-/// Prints what came of the calls and of the requests, and what is answered after `destroy`.
+/// Prints what came of the calls and of the requests, and the answers after `destroy`.
 fn put_ran<N: Naming, R: Wait + Print>(
     rt: &R,
     runtime: &WqRuntime<N, Global>,

@@ -23,11 +23,11 @@ pub(crate) struct Rdisk {
     pub(crate) disk: Mutex<Disk>,
 }
 
-/// What a work function answers.
+/// The answer of a work function.
 type Done = Result<(), CallError>;
 
 impl Rdisk {
-    /// A driver whose items have these names in the declaration.
+    /// The driver whose items have these names in the declaration.
     pub(crate) fn new(table: &ItemTable<'_, Global>) -> Option<Rdisk> {
         Some(Rdisk {
             send: table.find(b"send")?,
@@ -56,7 +56,7 @@ impl Rdisk {
         ensures finished { SameFinished work.old.seat.now work.new.seat.now }
         ensures same_seat { work.new.seat.ghost_name ≡ work.old.seat.ghost_name }
     {
-        // A mistake, to show what comes of it: no line says `flush receive send`.
+        // A mistake, to show what happens: no line says `flush receive send`.
         if let Err(error) = work.flush(rt, self.send) {
             self.disk.lock(rt).warning = Some(error);
         }
@@ -72,7 +72,7 @@ impl Rdisk {
         ensures finished { SameFinished work.old.seat.now work.new.seat.now }
         ensures same_seat { work.new.seat.ghost_name ≡ work.old.seat.ghost_name }
     {
-        // Runs again should this run give up. While it runs, the next entry can't start.
+        // Runs again if this run gives up. While it runs, the next entry can't start.
         work.queue(rt, self.reconnect)?;
         work.flush(rt, self.send)?;
         self.disk.lock(rt).connect();
@@ -100,7 +100,7 @@ impl<'a> RdiskBody<'a> {
     }
 }
 
-/// A body for each of this many workqueues.
+/// Makes a body for each of this many workqueues.
 pub(crate) fn make_bodies<'a>(
     alloc: Global,
     rdisk: &'a Rdisk,

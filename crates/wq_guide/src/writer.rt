@@ -8,7 +8,7 @@ use std::sync::Wait;
 use wq_api::{CallError, Naming, Seat, WqRuntime};
 use wq_rescuer::Caller;
 
-/// Who makes the requests from `first` on, up to `end`.
+/// A caller that makes the requests from `first` on, up to `end`.
 #[derive(Drop)]
 pub(crate) struct Writer<'a> {
     rdisk: &'a Rdisk,

@@ -17,7 +17,7 @@ use wq_groups::LaneId;
 use wq_items::ItemId;
 use wq_testbed::{Bed, fault, make};
 
-/// Queues the first item. Whether it wasn't refused.
+/// Queues the first item, and tells whether that wasn't refused.
 fn queue<N: Naming, R: Wait>(
     rt: &R,
     runtime: &WqRuntime<N, Global>,
@@ -28,7 +28,7 @@ fn queue<N: Naming, R: Wait>(
     runtime.queue_work(rt, seat, q, item) == Ok(true)
 }
 
-/// Queues the first item, and keeps the seat in which that counts. Gives what was refused, if anything was.
+/// Queues the first item, and keeps the seat in which that counts. Returns what was refused, if anything was.
 fn queue_first<N: Naming, R: Wait>(
     rt: &R,
     alloc: Global,
@@ -46,13 +46,14 @@ fn queue_first<N: Naming, R: Wait>(
     }
 }
 
-/// Prints why a runtime isn't closed. Gives the status, 0 where work is unfinished.
+/// Prints why a runtime isn't closed. Returns the status, which is 0 where work is unfinished.
 fn put_busy(out: &mut String, why: CloseWhy) -> Result<u8, AllocError> {
     writeln!(out, "busy {}", why.code())?;
     Ok(u8::from(why != CloseWhy::NotIdle))
 }
 
-/// Queues the first item of a runtime, and tries to close it. Gives the status, 0 where that is refused as it must be.
+/// Queues the first item of a runtime, and tries to close the runtime. Returns the status, which is 0 where that is refused as it
+/// must be.
 fn close_busy<N: Naming, R: Wait>(
     rt: &R,
     alloc: Global,
@@ -69,7 +70,7 @@ fn close_busy<N: Naming, R: Wait>(
     }
 }
 
-/// Makes the runtime of this name, and tries to close it. Gives the status.
+/// Makes the runtime of this name, and tries to close it. Returns the status.
 fn check_busy<N: Naming, R: Wait>(
     rt: &R,
     alloc: Global,
@@ -89,7 +90,7 @@ fn check_busy<N: Naming, R: Wait>(
     }
 }
 
-/// Tries to close a runtime, and puts the load on another one. Gives the status.
+/// Tries to close a runtime, and puts the load on another one. Returns the status.
 pub(crate) fn play<R: Threads + Wait + Sync>(
     rt: &R,
     alloc: Global,

@@ -36,7 +36,7 @@ pub(crate) fn cancel<N: Naming, R: Wait>(
     worker.tally.note(Asked::Cancel, answer);
 }
 
-/// Flushes an item. True where it had to wait.
+/// Flushes an item. It returns true where it had to wait.
 fn flush<N: Naming, R: Wait>(
     rt: &R,
     runtime: &WqRuntime<N, Global>,

@@ -1,6 +1,6 @@
 //! What comes of the threads' work: the runtime is closed, and what it hands back is judged.
 //!
-//! It takes time in the rows of the history, and in the items.
+//! It takes time in the number of rows of the history and of items.
 
 use crate::judging::judge;
 use crate::load::Left;
@@ -8,7 +8,7 @@ use std::alloc::{AllocError, Global};
 use wq_api::{CloseRefused, Closed, Naming, Seat, WqRuntime};
 use wq_testbed::{Bed, fault};
 
-/// Closes a runtime that was refused for the seat that was kept back, with that seat too.
+/// Closes a runtime again, whose closing was refused because of the seat that was kept back, with that seat too.
 fn close_again<N: Naming>(
     refused: CloseRefused<N, Global>,
     kept: Option<Seat<N, Global>>,
@@ -24,7 +24,8 @@ fn close_again<N: Naming>(
     Ok(runtime.close(seats).ok())
 }
 
-/// Closes a runtime with all seats but one, which must be refused, and then with all. Nothing where that isn't so.
+/// Closes a runtime with all seats but one, which must be refused, and then with all of them. It returns nothing where that isn't
+/// so.
 fn close_twice<N: Naming>(
     runtime: WqRuntime<N, Global>,
     mut seats: Vec<Seat<N, Global>>,
@@ -40,7 +41,7 @@ fn close_twice<N: Naming>(
     }
 }
 
-/// Closes a runtime with the seats that are left, and prints what holds of it. Gives the status.
+/// Closes a runtime with the seats that are left, and prints what holds of it. Returns the status.
 fn close_and_judge<N: Naming>(
     alloc: Global,
     runtime: WqRuntime<N, Global>,
@@ -57,7 +58,7 @@ fn close_and_judge<N: Naming>(
     }
 }
 
-/// Prints what the threads met after `destroy`, or that not all were started.
+/// Prints what the threads met after `destroy`, or that not all of them were started.
 fn put_left<N: Naming>(left: &Left<N>, out: &mut String) -> Result<(), AllocError> {
     if left.all_started {
         writeln!(out, "late {}\ndone {}", left.late, left.is_done)
@@ -66,7 +67,7 @@ fn put_left<N: Naming>(left: &Left<N>, out: &mut String) -> Result<(), AllocErro
     }
 }
 
-/// What may not be, if it is so.
+/// What is the case though it may not be, if anything is.
 fn fault_of<N: Naming>(left: &Left<N>) -> Option<&'static str> {
     if !left.all_started {
         Some("thread")
@@ -79,7 +80,7 @@ fn fault_of<N: Naming>(left: &Left<N>) -> Option<&'static str> {
     }
 }
 
-/// Closes a runtime that no thread uses any more, and prints what holds of it. Gives the status.
+/// Closes a runtime that no thread uses any more, and prints what holds of it. Returns the status.
 pub(crate) fn conclude<N: Naming>(
     alloc: Global,
     runtime: WqRuntime<N, Global>,

@@ -1,7 +1,7 @@
-//! What holds of a runtime that is closed: its history and its counts are held against each other and against what the threads
-//! were answered.
+//! What holds of a closed runtime: its history and its counts are compared with each other and with what the threads were
+//! answered.
 //!
-//! It takes time in the rows of the history, and in the items.
+//! It takes time in the number of rows of the history and of items.
 
 use crate::tally::{Asked, NOTHING, Said, Tally};
 use std::alloc::{AllocError, Global};
@@ -24,7 +24,7 @@ fn is_legal(alloc: Global, bed: &Bed<'_>, packed: &[u8]) -> Result<bool, AllocEr
     }
 }
 
-/// What was counted of a kind, of this many items together.
+/// What was counted of a kind, for this many items together.
 fn count_kind(items: u16, counts: &Counts<Global>, kind: Kind) -> Said {
     let mut said = NOTHING;
     for i in 0..items {
@@ -78,7 +78,7 @@ fn put_rows(out: &mut String, rows: usize, free: u32) -> Result<(), AllocError> 
     writeln!(out, "free {free}")
 }
 
-/// Prints how often everything happened, each refusal too.
+/// Prints how often everything happened, and each refusal too.
 fn put_all<N: Naming>(
     out: &mut String,
     items: u16,
@@ -91,8 +91,8 @@ fn put_all<N: Naming>(
     put_rows(out, rows, closed.book.free_rows())
 }
 
-/// Prints what holds of a runtime that is closed, with its counts if these are wanted. Gives the status, 0 where all is as it
-/// must be, and was until now.
+/// Prints what holds of a closed runtime, with its counts if these are wanted. Returns the status, which is 0 where everything is
+/// as it must be, and was so before.
 pub(crate) fn judge<N: Naming>(
     alloc: Global,
     closed: &Closed<N, Global>,

@@ -1,4 +1,4 @@
-//! A load: many threads on one runtime, a thread for each lane, which serves it, and four callers.
+//! A load: many threads on one runtime. A thread serves each lane, and there are four callers.
 //!
 //! It takes the time of the calls of all threads, and then that of judging the history that they leave.
 
@@ -26,10 +26,10 @@ use wq_text::number;
 /// How many callers there are.
 const CALLERS: u32 = 4;
 
-/// How much many threads are to do.
+/// How much many threads have to do.
 #[derive(Drop)]
 pub(crate) struct Load {
-    /// What their pseudo-random numbers begin with.
+    /// The seed of their pseudo-random numbers.
     pub(crate) seed: u32,
     /// How many calls each caller makes.
     pub(crate) calls: u32,
@@ -82,7 +82,7 @@ impl<N: Naming> Left<N> {
     }
 }
 
-/// Has workers serve the lanes, in their order, and others call, and waits for all of them. One more looks at what `destroy`
+/// Has workers serve the lanes, in their order, and others call, and waits for all of them. Another one looks at what `destroy`
 /// did.
 fn work<N: Naming + Send + Sync, R: Threads + Wait + Sync>(
     rt: &R,
@@ -134,7 +134,7 @@ fn work<N: Naming + Send + Sync, R: Threads + Wait + Sync>(
     })
 }
 
-/// Hires those that serve the lanes, the callers, and one more, who is handed back.
+/// Hires those that serve the lanes, the callers, and another one, which is handed back.
 fn hire_crew<N: Naming, R: Wait>(
     rt: &R,
     alloc: Global,
@@ -149,7 +149,7 @@ fn hire_crew<N: Naming, R: Wait>(
     hire(rt, alloc, runtime, seed, lanes + CALLERS)
 }
 
-/// Has threads work on a runtime, and closes it. Gives the status.
+/// Has threads work on a runtime, and closes it. Returns the status.
 fn play_on<N: Naming + Send + Sync, R: Threads + Wait + Sync>(
     rt: &R,
     alloc: Global,
@@ -172,7 +172,7 @@ fn play_on<N: Naming + Send + Sync, R: Threads + Wait + Sync>(
     }
 }
 
-/// Makes the runtime of this name, has threads work on it, and closes it. Gives the status.
+/// Makes the runtime of this name, has threads work on it, and closes it. Returns the status.
 fn play_named<N: Naming + Send + Sync, R: Threads + Wait + Sync>(
     rt: &R,
     alloc: Global,
@@ -193,7 +193,7 @@ fn play_named<N: Naming + Send + Sync, R: Threads + Wait + Sync>(
     }
 }
 
-/// Has threads work on a runtime, and closes it. Gives the status.
+/// Has threads work on a runtime, and closes it. Returns the status.
 pub(crate) fn play<R: Threads + Wait + Sync>(
     rt: &R,
     alloc: Global,

@@ -1,8 +1,8 @@
-//! `wq_stress`: has a thread for each lane and four callers make random calls of one runtime, and prints whether all is as it must
-//! be.
+//! `wq_stress`: has a thread for each lane and four callers make random calls of one runtime, and prints whether everything is as
+//! it must be.
 //!
-//! It is a program of the tests, and never installed. What it reads and prints is said in "The test programs of runtimes" in
-//! docs/FORMAT.md; no contract says it. It takes the time of the calls, and that of judging the history that they leave.
+//! It is a program of the tests, and never installed. "The test programs of runtimes" in docs/FORMAT.md says what it reads and
+//! prints; no contract does. It takes the time of the calls, and that of judging the history that they leave.
 #![tactic(auto)]
 
 mod answering;
@@ -50,7 +50,7 @@ fn parse(words: &[String]) -> Option<Request<'_>> {
     }
 }
 
-/// Has threads work on a runtime of these texts, and prints what came of it. Gives the status.
+/// Has threads work on a runtime of these texts, and prints what happened. Returns the status.
 fn print_load<R: Print + AllocGlobal + Threads + Wait + Sync>(
     rt: &R,
     rows: u32,
@@ -62,7 +62,7 @@ fn print_load<R: Print + AllocGlobal + Threads + Wait + Sync>(
     print_answer(rt, &out, status)
 }
 
-/// Does what is asked for, and prints what came of it. Gives the status.
+/// Does what is asked for, and prints what happened. Returns the status.
 fn perform<R: Files + Print + AllocGlobal + Threads + Wait + Sync>(
     rt: &R,
     request: &Request<'_>,
@@ -71,7 +71,7 @@ fn perform<R: Files + Print + AllocGlobal + Threads + Wait + Sync>(
     print_load(rt, request.setting.rows, &texts, &request.load)
 }
 
-/// Does what these words ask for. Gives the status.
+/// Does what these words ask for. Returns the status.
 fn entered<R: Files + Print + Eprint + AllocGlobal + Threads + Wait + Sync>(
     rt: &R,
     words: &[String],
@@ -82,7 +82,7 @@ fn entered<R: Files + Print + Eprint + AllocGlobal + Threads + Wait + Sync>(
     }
 }
 
-/// Does what the command line asks for. Gives the status.
+/// Does what the command line asks for. Returns the status.
 fn run<R: Files + Env + Print + Eprint + AllocGlobal + Threads + Wait + Sync>(rt: &R) -> u8 {
     match words(rt) {
         Ok(words) => entered(rt, &words),

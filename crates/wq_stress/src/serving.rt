@@ -33,7 +33,7 @@ fn wait<N: Naming, R: Wait>(
     worker.tally.note(Asked::Wait, answer);
 }
 
-/// Waits for some of these items, for all of them or for none, in a random order. Those that are left are not waited for.
+/// Waits for some of these items, for all of them or for none, in a random order. It doesn't wait for those that are left.
 fn wait_for_some<N: Naming, R: Wait>(
     rt: &R,
     runtime: &WqRuntime<N, Global>,
@@ -64,14 +64,14 @@ fn make_waits<N: Naming, R: Wait>(
         return;
     };
     wait_for_some(rt, runtime, q, &mut left, worker);
-    // One wait more than is declared.
+    // One more wait than is declared.
     if left.is_empty()
         && worker.random.once_in(16)
         && let Some(target) = targets.first()
     {
         wait(rt, runtime, q, target.item, worker);
     }
-    // One that isn't declared, since there is no such item.
+    // A wait that isn't declared, since there is no such item.
     if worker.random.once_in(16) {
         wait(rt, runtime, q, ItemId::new(u16::MAX), worker);
     }

@@ -1,9 +1,9 @@
-//! What calls were answered, counted by the threads that made them. A count takes constant time.
+//! The answers to calls, counted by the threads that made them. A count takes constant time.
 
 use std::alloc::AllocError;
 use wq_api::CallError;
 
-/// The calls that are answered by yes or no.
+/// The calls that answer yes or no.
 #[derive(Clone, Copy)]
 pub(crate) enum Asked {
     Queue,
@@ -39,14 +39,14 @@ impl Said {
     }
 }
 
-/// What the calls of a thread, or of many, were answered.
+/// The answers to the calls of a thread, or of many.
 #[derive(Drop)]
 pub(crate) struct Tally {
     /// The answers, call by call.
     said: [Said; 6],
     /// How often each refusal was met, from 60 to 66.
     refused: [u64; 7],
-    /// Whether a lane couldn't be served on.
+    /// Whether some lane couldn't be served any further.
     pub(crate) is_broken: bool,
 }
 
@@ -82,7 +82,7 @@ impl Tally {
         }
     }
 
-    /// Counts a refusal with which a lane can't be served on.
+    /// Counts a refusal after which a lane can't be served any further.
     pub(crate) fn breaks(&mut self, error: CallError) {
         self.refuse(error);
         self.is_broken = true;
@@ -99,7 +99,7 @@ impl Tally {
         self.is_broken |= other.is_broken;
     }
 
-    /// What the calls of a kind were answered.
+    /// The answers to the calls of a kind.
     pub(crate) fn said(&self, call: Asked) -> Said {
         self.said[call as usize]
     }

@@ -7,7 +7,7 @@ use std::sync::Wait;
 use wq_api::{Naming, Seat, SeatError, WqRuntime};
 use wq_items::ItemId;
 
-/// What a thread takes along, and hands back when it ends.
+/// What a thread is given, and what it hands back when it ends.
 #[derive(Drop)]
 pub(crate) struct Worker<N: Naming> {
     pub(crate) seat: Seat<N, Global>,
@@ -25,7 +25,7 @@ impl<N: Naming> Worker<N> {
     }
 }
 
-/// A worker, whose generator is of this seed and this stream.
+/// Hires a worker, whose generator is for this seed and this stream.
 pub(crate) fn hire<N: Naming, R: Wait>(
     rt: &R,
     alloc: Global,
@@ -41,7 +41,7 @@ pub(crate) fn hire<N: Naming, R: Wait>(
     })
 }
 
-/// Adds this many workers to these, whose generators are of one seed, and of the streams from this one on.
+/// Adds this many workers to these. Their generators are for one seed, and for the streams from this one on.
 pub(crate) fn hire_all<N: Naming, R: Wait>(
     rt: &R,
     alloc: Global,

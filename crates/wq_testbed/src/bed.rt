@@ -12,7 +12,7 @@ use wq_api::{Naming, NewError, WqRuntime};
 use wq_groups::{Assignment, Groups};
 use wq_items::ItemTable;
 
-/// What a runtime is made of: items, their groups, a lane for each group, and room for this many rows.
+/// What a runtime is made from: items, their groups, a lane for each group, and room for this many rows.
 #[derive(Drop)]
 pub struct Bed<'a> {
     pub table: &'a ItemTable<'a, Global>,

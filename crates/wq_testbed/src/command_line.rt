@@ -1,4 +1,5 @@
-//! What each command line has: the files of a declaration and an assignment, and a number of rows. It takes time in its words.
+//! What every command line has: the files of a declaration and an assignment, and a number of rows. It takes time in the number
+//! of words.
 
 use std::rt::Env;
 use std::{env, io};
@@ -19,7 +20,7 @@ pub fn words<R: Env + AllocGlobal>(rt: &R) -> io::Result<Vec<String>> {
 }
 
 impl<'a> Setting<'a> {
-    /// The files of these paths, and as many rows as a word says, if it is a number.
+    /// The files at these paths, and as many rows as a word says, if the word is a number.
     pub fn parse(declaration: &'a str, assignment: &'a str, rows: &str) -> Option<Self> {
         Some(Setting {
             declaration,

@@ -1,4 +1,4 @@
-//! What is printed of a runtime that is closed: its counts and its rows. It takes time in the items and in the rows.
+//! What is printed of a closed runtime: its counts and its rows. It takes time in the number of items and rows.
 
 use crate::printing::put_item;
 use std::alloc::{AllocError, Global};
@@ -18,7 +18,7 @@ pub fn kind_word(kind: Kind) -> &'static str {
     }
 }
 
-/// What was counted of an item and a kind with an answer, if anything was.
+/// Adds what was counted of an item and a kind with an answer, if anything was.
 fn put_count(
     out: &mut String,
     table: &ItemTable<'_, Global>,
@@ -35,7 +35,7 @@ fn put_count(
     writeln!(out, " {} {answer} {count}", kind_word(kind))
 }
 
-/// All that was counted of an item, kind by kind.
+/// Adds all that was counted of an item, kind by kind.
 fn put_made_of(
     out: &mut String,
     table: &ItemTable<'_, Global>,
@@ -49,7 +49,7 @@ fn put_made_of(
     Ok(())
 }
 
-/// All that was counted, item by item.
+/// Adds all that was counted, item by item.
 pub fn put_made(
     out: &mut String,
     table: &ItemTable<'_, Global>,
@@ -61,7 +61,7 @@ pub fn put_made(
     writeln!(out, "total {}", counts.total())
 }
 
-/// The number of rows, and each of them in hexadecimal digits.
+/// Adds the number of rows, and each of them in hexadecimal digits.
 pub fn put_rows(out: &mut String, packed: &[u8]) -> Result<(), AllocError> {
     writeln!(out, "rows {}", packed.len() / 12)?;
     for row in packed.chunks(12) {

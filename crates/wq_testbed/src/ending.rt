@@ -3,19 +3,19 @@
 use std::io;
 use wq_commands::Fault;
 
-/// Says which fault stopped the program. Gives the status.
+/// Says which fault stopped the program. Returns the status.
 fn faulted(rt: &impl Eprint, fault: Fault) -> u8 {
     let _ = rt.eprintln(fault.text());
     3
 }
 
-/// Says that the command line is wrong, and what it should be. Gives the status.
+/// Says that the command line is wrong, and what it should be. Returns the status.
 pub fn misused(rt: &impl Eprint, usage: &str) -> u8 {
     let _ = rt.eprintln(usage);
     2
 }
 
-/// Says why the command line can't be read. Gives the status.
+/// Says why the command line can't be read. Returns the status.
 pub fn unread(rt: &impl Eprint, error: io::Error, usage: &str) -> u8 {
     if error.kind() == io::ErrorKind::OutOfMemory {
         faulted(rt, Fault::Memory)
@@ -24,7 +24,7 @@ pub fn unread(rt: &impl Eprint, error: io::Error, usage: &str) -> u8 {
     }
 }
 
-/// The status of a program that ends like this. A fault is said.
+/// The status of a program that ends like this. A fault is also printed.
 pub fn ended(rt: &impl Eprint, status: Result<u8, Fault>) -> u8 {
     match status {
         Ok(status) => status,

@@ -1,7 +1,7 @@
-//! What the programs of the tests that drive a runtime have in common: `wq_calls`, `wq_crew` and `wq_stress`.
+//! What the test programs that drive a runtime have in common: `wq_calls`, `wq_crew` and `wq_stress`.
 //!
-//! Each reads a declaration, an assignment and how many rows there are, makes a runtime of them, and prints what came of it.
-//! What the programs read and print is said in "The test programs of runtimes" in docs/FORMAT.md; no contract says it.
+//! Each reads a declaration, an assignment and a number of rows, makes a runtime from them, and prints what happened. "The test
+//! programs of runtimes" in docs/FORMAT.md says what the programs read and print; no contract does.
 #![tactic(auto)]
 
 mod answering;

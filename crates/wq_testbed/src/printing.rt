@@ -5,24 +5,24 @@ use std::str;
 use wq_api::CallError;
 use wq_items::{ItemId, ItemTable};
 
-/// A mistake on a line. Gives the status.
+/// Adds that there is a mistake on a line. Returns the status.
 pub fn mistake(out: &mut String, line: u32) -> Result<u8, AllocError> {
     writeln!(out, "mistake line {line}")?;
     Ok(2)
 }
 
-/// A fault. Gives the status.
+/// Adds that there was a fault. Returns the status.
 pub fn fault(out: &mut String, what: &str) -> Result<u8, AllocError> {
     writeln!(out, "fault {what}")?;
     Ok(1)
 }
 
-/// The refusal of a call.
+/// Adds the refusal of a call.
 pub fn put_code(out: &mut String, code: u32) -> Result<(), AllocError> {
     write!(out, "refused {code}")
 }
 
-/// The answer of a call that says nothing more.
+/// Adds the answer of a call that says nothing more.
 pub fn put_done(out: &mut String, done: Result<(), CallError>) -> Result<(), AllocError> {
     match done {
         Ok(()) => out.push_str("ok"),
@@ -30,7 +30,7 @@ pub fn put_done(out: &mut String, done: Result<(), CallError>) -> Result<(), All
     }
 }
 
-/// The name of an item, `-` where it has none.
+/// Adds the name of an item, or `-` where it has none.
 pub fn put_item(
     out: &mut String,
     table: &ItemTable<'_, Global>,

@@ -1,8 +1,8 @@
 //! Books: each call once, an ask of another book, and memory.
 //!
-//! What each call answers in which state, what it writes, and what is said of a history, is in tests/book, for the test
-//! program `wq_book`. The rules are those of "Histories" in docs/FORMAT.md, from which each answer, each row and each number
-//! of free rows was worked out by hand. They take time in the number of calls, beside that of making a book for each test.
+//! What each call answers in which state, what it writes, and the judgement of a history are tested in tests/book, for the test
+//! program `wq_book`. The rules are those of "Histories" in docs/FORMAT.md, from which each answer, each row and each number of
+//! free rows was worked out by hand. The tests take time in the number of calls, apart from that of making a book for each test.
 
 ghost use Rattle.std.specs.Prelude.{◌≡◌, IfOk};
 ghost use Rattle.wq_core.specs.State.{empty_state};
@@ -26,18 +26,18 @@ const PAIR: &str = "item a\nitem b\nflush a b\n";
 
 const PAIR_LANES: &[u16] = &[1, 0];
 
-/// How a book of the pair stands: its free rows, whether no entry is unfinished, whether one of the first item is pending,
-/// and the items that lane 1 runs and waits for.
+/// The state of a book of the pair: its free rows, whether no entry is unfinished, whether one of the first item is pending, and
+/// the items that lane 1 runs and waits for.
 type Standing = (u32, bool, bool, Option<u16>, Option<u16>);
 
-/// Calls of a book of the pair with 9 rows, each with its answer, and how the book stands then. Those that come first.
+/// The first calls of a book of the pair with 9 rows, each with its answer and the state of the book after it.
 const FIRST: &[(Made, bool, Standing)] = &[
     (Cancel(1), false, (8, true, false, None, None)),
     (Queue(0), true, (3, false, true, None, None)),
     (Queue(0), false, (2, false, true, None, None)),
 ];
 
-/// Those that come once a caller has asked for the first item.
+/// The calls that follow once a caller has asked about the first item.
 const THEN: &[(Made, bool, Standing)] = &[
     (Start(1, 0), true, (0, false, false, Some(0), None)),
     (Wait(1, 1), false, (0, false, false, Some(0), Some(1))),
@@ -70,7 +70,7 @@ fn book_of(
     Ok(Book::new(alloc, core, rows)?)
 }
 
-/// The ask that waits.
+/// The ask that is waiting.
 fn waits(rt: &impl Abort, answer: Result<Ask, BookError>) -> Asked {
     match answer {
         Ok(Ask::Waiting(asked)) => asked,
@@ -78,7 +78,7 @@ fn waits(rt: &impl Abort, answer: Result<Ask, BookError>) -> Asked {
     }
 }
 
-/// The ask that is given back, since none of its item waits in this book.
+/// The ask that is given back, since no ask about its item waits in this book.
 fn not_asked(rt: &impl Abort, told: Told) -> Asked {
     match told {
         Told::NotAsked(asked) => asked,
@@ -101,7 +101,7 @@ fn assert_done(rt: &impl Abort, told: Told) {
     }
 }
 
-/// Makes a call. Says what it answers, `start` whether that is the item.
+/// Makes a call, and gives its answer. For `start` that is whether it is the item.
 fn call<A: Allocator>(book: &mut Book<A>, made: Made) -> Result<bool, BookError> {
     match made {
         Queue(i) => book.queue(ItemId::new(i)),
@@ -116,7 +116,7 @@ fn call<A: Allocator>(book: &mut Book<A>, made: Made) -> Result<bool, BookError>
     }
 }
 
-/// How a book of the pair stands.
+/// The state of a book of the pair.
 fn standing<A: Allocator>(book: &Book<A>) -> Standing {
     let (a, q) = (ItemId::new(0), LaneId::new(1));
     let runs = book.running(q).map(|i| i.get());
@@ -130,7 +130,7 @@ fn standing<A: Allocator>(book: &Book<A>) -> Standing {
     )
 }
 
-/// Makes calls, and asserts what each answers, and how the book stands then.
+/// Makes calls, and asserts what each answers, and the state of the book after it.
 fn make_calls<A: Allocator>(rt: &impl Abort, book: &mut Book<A>, calls: &[(Made, bool, Standing)]) {
     for (at, (made, yes, stands)) in calls.iter().enumerate() {
         let answer = call(book, *made);
@@ -202,7 +202,7 @@ fn a_book_has_room_for_so_many_rows_at_most(rt: HostRuntime) -> Result<(), Fail>
     Ok(())
 }
 
-/// Takes what is left of a heap.
+/// Takes everything that is left of a heap.
 fn fill<'h>(alloc: Global, heap: &'h LocalHeap) -> Result<Vec<Vec<u8, &'h LocalHeap>>, AllocError> {
     let mut taken = Vec::new(alloc);
     for _ in 0..heap.size() {
@@ -213,8 +213,8 @@ fn fill<'h>(alloc: Global, heap: &'h LocalHeap) -> Result<Vec<Vec<u8, &'h LocalH
     Ok(taken)
 }
 
-/// Makes a book on a heap of this many bytes, if that is large enough, fills the heap, and asserts that calls take nothing from
-/// it. Says whether the book was made.
+/// Makes a book on a heap of this many bytes, if the heap is large enough, fills the heap, and asserts that calls take nothing
+/// from it. Returns whether the book was made.
 fn makes_in(rt: &impl Abort, alloc: Global, large: &LocalHeap, size: usize) -> Result<bool, Fail> {
     let heap = LocalHeap::new(alloc, size)?;
     let Ok(core) = core_in(large, &heap, PAIR, 2, PAIR_LANES)? else {
@@ -250,8 +250,8 @@ fn books_take_memory_only_when_they_are_made(rt: HostRuntime) -> Result<(), Fail
     Ok(())
 }
 
-/// What the judge says of the rows on the machine of the pair: how many they are, or the place of the row at fault and the
-/// number of the fault; and the work that is left on the machine then.
+/// The judgement of the rows on the machine of the pair: the number of rows, or the place of the row at fault and the number of
+/// the fault; and the work that is left on the machine after it.
 fn judged<A: Allocator + Copy>(heap: A, mut core: Core<A>) -> (Result<u32, (u32, u32)>, u64)
     requires { core.state ≡ empty_state core.wiring }
 {

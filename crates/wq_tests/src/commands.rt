@@ -1,7 +1,7 @@
 //! The commands, each on a few texts, for devices and heaps of the tests' own.
 //!
-//! Each answer was worked out by hand from docs/FORMAT.md. There are many more cases in tests/rows, for the program. A run
-//! takes time in the length of its texts.
+//! Each answer was worked out by hand from docs/FORMAT.md. There are many more cases in tests/rows, for the program. A run takes
+//! time in the length of its texts.
 
 use crate::declared::SEED;
 use std::alloc::Allocator;
@@ -27,7 +27,7 @@ pub(crate) struct Case {
 }
 
 impl Case {
-    /// A text of the command, or none.
+    /// The text of the command at this index, or an empty one.
     pub(crate) fn text(&self, at: usize) -> &'static [u8] {
         self.texts.get(at).copied().unwrap_or_default().as_bytes()
     }
@@ -189,7 +189,7 @@ const CASES: &[Case] = &[
         end: End::Bad,
         answer: "no 54\n",
     },
-    // Nothing is taken for steps that are said and aren't there.
+    // No memory is taken for steps that a text announces and that aren't there.
     Case {
         name: "a circle with a run of four thousand million steps",
         command: Command::Check,
@@ -312,7 +312,7 @@ const CASES: &[Case] = &[
     },
 ];
 
-/// The cases. Each is to answer so over any devices and with any heap that is large enough.
+/// The cases. Each must be answered like this over any devices, and with any heap that is large enough.
 pub(crate) fn cases() -> &'static [Case] {
     CASES
 }

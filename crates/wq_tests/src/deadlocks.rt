@@ -1,6 +1,6 @@
 //! Verdicts on assignments, with the ranks of safe lanes, which no answer shows; and the runs of circles.
 //!
-//! The rules are those of "Deadlocking runs" in docs/FORMAT.md, from which each run was worked out by hand. They take time
+//! The rules are those of "Deadlocking runs" in docs/FORMAT.md, from which each run was worked out by hand. The tests take time
 //! in the lengths of the texts and the runs.
 
 use crate::declared::declared;
@@ -72,7 +72,7 @@ fn assert_verdict(
     }
 }
 
-/// The verdict on lanes of what a text declares.
+/// The verdict on this assignment to lanes, for what a text declares.
 fn verdict_of(
     alloc: Global,
     text: &str,
@@ -97,7 +97,7 @@ fn assignments_have_their_verdicts(rt: HostRuntime) -> Result<(), Fail> {
 const CIRCLES: &[(&str, &[Made])] = &[
     ("", &[]),
     (CROSSED, &[]),
-    // a waits for b and d for c, where b and c, and a and d, are one group.
+    // a waits for b, and d for c. Here b and c are one group, and so are a and d.
     (
         "item a\nitem b\nitem c\nitem d\nordered a d\nordered b c\nflush a b\nflush c d\n",
         STUCK,

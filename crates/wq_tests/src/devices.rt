@@ -1,6 +1,6 @@
-//! Readers that give little, never end or fail, and writers that take little, nothing or fail.
+//! Readers that give little, never end, or fail; and writers that take little, take nothing, or fail.
 //!
-//! It takes time in the number of the calls of devices.
+//! It takes time in the number of calls of the devices.
 
 use crate::commands::{Case, Command, Readers, cases, run};
 use crate::declared::SEED;
@@ -57,7 +57,7 @@ fn in_pieces(case: &Case, at_most: usize) -> Readers<Fake<&'static [u8]>> {
     }
 }
 
-/// Asserts that a run answers that reads and writes this many bytes a call.
+/// Asserts the answer of a run that reads and writes this many bytes a call.
 fn assert_pieces(rt: &impl Abort, alloc: Global, case: &Case, reads: usize, writes: usize) {
     let writer = Fake::in_pieces(Vec::new(alloc), writes);
     let outcome = run_over(case.command, alloc, in_pieces(case, reads), writer);
@@ -88,7 +88,7 @@ fn pieces_change_no_answer(rt: HostRuntime) {
     }
 }
 
-/// A reader of a text, which fails after this many calls if it is the one that does.
+/// A reader of a text. It fails after this many calls, if it is the one that fails.
 fn reader(
     text: &'static [u8],
     fails: bool,
@@ -102,7 +102,7 @@ fn reader(
     })
 }
 
-/// Asserts how a run ends of which the reader of one text fails after it gave this many bytes one by one.
+/// Asserts how a run ends where the reader of one text fails after it gave this many bytes, one by one.
 fn assert_failed_read(
     rt: &impl Abort,
     alloc: Global,
@@ -132,7 +132,7 @@ fn assert_failed_read(
     );
 }
 
-/// Asserts so of each read of one text of a case: a call for each byte, and one that finds the end.
+/// Asserts this for each read of one text of a case: a call for each byte, and one that finds the end.
 fn assert_failed_reads(
     rt: &impl Abort,
     alloc: Global,
@@ -159,7 +159,7 @@ fn each_failed_read_is_a_fault(rt: HostRuntime) -> Result<(), Fail> {
     Ok(())
 }
 
-/// Asserts how a run ends whose writer fails after it took this many bytes one by one, and what it took.
+/// Asserts how a run ends where the writer fails after it took this many bytes, one by one, and what the writer took.
 fn assert_failed_write(rt: &impl Abort, alloc: Global, case: &Case, successes: u32, front: &[u8]) {
     let writer = Fake::failing_after(Vec::new(alloc), successes, ErrorKind::Interrupted);
     let outcome = run_over(case.command, alloc, in_pieces(case, 4096), writer);
@@ -175,7 +175,7 @@ fn assert_failed_write(rt: &impl Abort, alloc: Global, case: &Case, successes: u
     );
 }
 
-/// Asserts so of each write of a case: the answer is taken byte by byte.
+/// Asserts this for each write of a case: the answer is taken byte by byte.
 fn assert_failed_writes(rt: &impl Abort, alloc: Global, case: &Case) -> Result<(), Fail> {
     let answer = case.answer.as_bytes();
     for taken in 0..answer.len() {
@@ -267,7 +267,7 @@ fn one_byte_past_the_limit_is_read(rt: HostRuntime) -> Result<(), Fail> {
     Ok(())
 }
 
-/// Asserts how a fault is called, and how it is printed.
+/// Asserts the name of a fault, and how it is printed.
 fn assert_words(
     rt: &impl Abort,
     alloc: Global,

@@ -1,4 +1,5 @@
-//! Readers and writers that misbehave, which no clause of `std` describes. Each call takes time in the bytes it moves.
+//! Readers and writers that misbehave, which no clause of `std` describes. Each call takes time in the number of bytes that it
+//! moves.
 
 ghost use Rattle.std.specs.Prelude.{◌≤◌, IfOk};
 
@@ -36,7 +37,7 @@ impl<D> Fake<D> {
         }
     }
 
-    /// Each call but the one that fails moves one byte.
+    /// Each call except the one that fails moves one byte.
     pub(crate) fn failing_after(device: D, successes: u32, kind: ErrorKind) -> Fake<D> {
         Fake {
             device,

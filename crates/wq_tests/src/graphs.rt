@@ -1,4 +1,4 @@
-//! Wait graphs, and what they come to: ranks or a circle, which answers show only in part.
+//! Wait graphs and their results: ranks or a circle, which answers show only in part.
 //!
 //! It takes time in the lengths of the texts.
 
@@ -14,7 +14,7 @@ use wq_plan::{Answer, solve};
 /// An arc in numbers: its item, its target, the group of the target, and its place.
 type Numbers = (u16, u16, u16, u32);
 
-/// Asserts what arcs are in numbers.
+/// Asserts the numbers of arcs.
 fn assert_arcs(rt: &impl Abort, text: &str, arcs: &[WaitArc], want: &[Numbers]) {
     assert_eq!(rt; (text, arcs.len()), (text, want.len()));
     for (arc, numbers) in arcs.iter().zip(want) {
@@ -23,7 +23,7 @@ fn assert_arcs(rt: &impl Abort, text: &str, arcs: &[WaitArc], want: &[Numbers]) 
     }
 }
 
-/// Texts, and of each of their groups in turn the arcs that leave it.
+/// Texts, and the arcs that leave each of their groups, in turn.
 const GRAPHS: &[(&str, &[&[Numbers]])] = &[
     ("", &[]),
     ("item a\nitem b\n", &[&[], &[]]),
@@ -35,7 +35,7 @@ const GRAPHS: &[(&str, &[&[Numbers]])] = &[
             &[],
         ],
     ),
-    // Of a group the arcs of all members, in order of place.
+    // The arcs of all members of a group, in order of place.
     (
         "item a\nitem b\nitem c\nitem d\nflush d b\nflush b d\nflush a c d\nordered c a\nflush c a\n",
         &[
@@ -50,7 +50,7 @@ const GRAPHS: &[(&str, &[&[Numbers]])] = &[
     ),
 ];
 
-/// Asserts of each group in turn the arcs that leave it.
+/// Asserts the arcs that leave each group, in turn.
 fn assert_graph(rt: &impl Abort, text: &str, graph: &WaitGraph<Global>, want: &[&[Numbers]]) {
     assert_eq!(rt; (text, usize::from(graph.vertices())), (text, want.len()));
     for vertex in 0..graph.vertices() {
@@ -74,8 +74,8 @@ fn graphs_have_their_arcs(rt: HostRuntime) -> Result<(), Fail> {
     Ok(())
 }
 
-/// What a graph comes to, in numbers: the ranks of its groups and the arcs of a longest chain, or no ranks and the arcs
-/// of a circle.
+/// The result of a graph, in numbers: the ranks of its groups and the arcs of a longest chain; or no ranks, and the arcs of a
+/// circle.
 const SOLVED: &[(&str, &[u16], &[Numbers])] = &[
     ("", &[], &[]),
     ("item a\nitem b\n", &[0, 0], &[]),

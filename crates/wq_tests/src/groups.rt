@@ -102,7 +102,7 @@ pub(crate) fn assert_lanes(rt: &impl Abort, assignment: &Assignment<Global>, of_
     }
 }
 
-/// The assignment with this many lanes, the lane of each group in turn given, if there is one.
+/// The assignment with this many lanes, from the lane of each group in turn, if there is one.
 pub(crate) fn assigned(
     alloc: Global,
     lanes: u16,

@@ -1,6 +1,6 @@
 //! Commands with heaps that are too small, at each size up to one that is large enough.
 //!
-//! It takes time in the number of the sizes and the cases.
+//! It takes time in the number of sizes and cases.
 
 use crate::commands::{Case, Readers, cases, run};
 use linked_list_allocator::LocalHeap;
@@ -26,7 +26,7 @@ fn run_in(
     Ok((end, writer.into_inner(), heap.used()))
 }
 
-/// Asserts that a run with a heap of this many bytes leaves none in use, and answers or is refused memory. Says which.
+/// Asserts that a run with a heap of this many bytes leaves none in use, and answers or runs out of memory. Returns which.
 fn answers_in(
     rt: &impl Abort,
     alloc: Global,
@@ -47,7 +47,7 @@ fn answers_in(
     Ok(answers)
 }
 
-/// Asserts that a run is refused memory up to some size of the heap, and answers from there on.
+/// Asserts that a run runs out of memory up to some size of the heap, and answers from there on.
 fn assert_sizes(rt: &impl Abort, alloc: Global, case: &Case) -> Result<(), AllocError> {
     let mut refused = false;
     let mut answered = false;

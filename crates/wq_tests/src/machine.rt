@@ -1,7 +1,7 @@
 //! The core machine: steps one by one and in lists, with what each gives and how much work it leaves.
 //!
-//! The rules are those of "The machine" in docs/DEFINITIONS.md, from which each number and each refusal was worked out by
-//! hand. They take time in the number of steps, beside that of making a machine for each case.
+//! The rules are those of "The machine" in docs/DEFINITIONS.md, from which each number and each refusal was worked out by hand.
+//! The tests take time in the number of steps, apart from that of making a machine for each case.
 
 ghost use Rattle.std.specs.Prelude.{◌≡◌, length, IfOk};
 ghost use Rattle.wq_core.specs.State.{empty_state};
@@ -30,7 +30,7 @@ use Made::{Cancel, Finish, Over, Queue, Start, Wait};
 use StepError::NotLawful;
 
 /// A declaration, its number of lanes and the lane of each group; steps in turn, each with the number that it gives or its
-/// refusal, and the work that is left then; and the items that are pending at the end.
+/// refusal, and the work that is left after it; and the items that are pending at the end.
 struct Case {
     text: &'static str,
     lanes: u16,
@@ -40,7 +40,7 @@ struct Case {
 }
 
 const CASES: &[Case] = &[
-    // An item that runs is queued again, and only what is pending is cancelled.
+    // A running item is queued again, and only what is pending is cancelled.
     Case {
         text: "item a\n",
         lanes: 1,
@@ -112,7 +112,7 @@ const CASES: &[Case] = &[
         ],
         pending: &[1],
     },
-    // A cancellation ends a wait, also one on the lane of what waits.
+    // A cancellation ends a wait, even one on the lane of what waits.
     Case {
         text: "item a\nitem b\nflush a b\n",
         lanes: 1,
@@ -131,7 +131,7 @@ const CASES: &[Case] = &[
         ],
         pending: &[],
     },
-    // Two waits of one entry, in another order than declared, and the second one of an item that is idle.
+    // Two waits of one entry, not in the declared order, and the second one for an item that is idle.
     Case {
         text: "item a\nitem b\nitem c\nflush a b c\n",
         lanes: 3,
@@ -178,7 +178,7 @@ const CASES: &[Case] = &[
         ],
         pending: &[],
     },
-    // An execution may finish early, and waits for nothing that its own item doesn't declare.
+    // An execution may finish early. It waits for nothing that its own item doesn't declare.
     Case {
         text: "item a\nitem b\nitem c\nflush a b b\nflush c a\n",
         lanes: 3,
@@ -198,7 +198,7 @@ const CASES: &[Case] = &[
         ],
         pending: &[],
     },
-    // Lanes and items that aren't there, and others than those that run, wait or are waited for.
+    // Lanes and items that don't exist, or aren't the ones that run, wait or are waited for.
     Case {
         text: "item a\nitem b\nflush a b\n",
         lanes: 2,
@@ -281,7 +281,7 @@ const CASES: &[Case] = &[
         ],
         pending: &[0],
     },
-    // Two lanes wait for each other. Either wait began at the same mark, and neither is over.
+    // Two lanes wait for each other. Both waits began at the same mark, and neither is over.
     Case {
         text: CROSSED,
         lanes: 2,
@@ -346,7 +346,7 @@ pub(crate) fn assigned<A: Allocator + Copy>(
     Ok(assignment)
 }
 
-/// The machine on a heap, of a declaration and of the lane of each group, which are on another.
+/// The machine, on a heap, of a declaration and the lane of each group, which are on another heap.
 pub(crate) fn core_in<A: Allocator + Copy>(
     parts: A,
     heap: A,
@@ -387,7 +387,8 @@ fn run_of<A: Allocator>(
     Ok(core.run(&steps))
 }
 
-/// The number that a step would give, and the work that would be left then; that which is left now, where it gives none.
+/// The number that a step would give, and the work that would be left after it; or, where it gives none, the work that is left
+/// now.
 fn looked_ahead(core: &Core<Global>, step: &Step) -> (Option<u32>, u64) {
     let left = core.work_left();
     match core.peek(step) {
@@ -396,7 +397,7 @@ fn looked_ahead(core: &Core<Global>, step: &Step) -> (Option<u32>, u64) {
     }
 }
 
-/// Asserts what a case gives step by step, and would give, and what is pending at its end.
+/// Asserts what each step of a case gives, and what it would give, and what is pending at the end of the case.
 fn assert_case(rt: &impl Abort, mut core: Core<Global>, case: &Case) {
     let text = case.text;
     assert_eq!(rt; (text, core.lanes()), (text, usize::from(case.lanes)));
@@ -423,12 +424,12 @@ fn steps_give_their_numbers(rt: HostRuntime) -> Result<(), Fail> {
     Ok(())
 }
 
-/// Two items that flush two others, each on the lane of the other's target.
+/// Two items that flush two others. Each is on the lane of the other's target.
 pub(crate) const CROSSED: &str = "item a\nitem b\nitem c\nitem d\nflush a b\nflush c d\n";
 
 pub(crate) const CROSSED_LANES: &[u16] = &[0, 1, 1, 0];
 
-/// A run of them that ends stuck.
+/// A run of these items that ends stuck.
 pub(crate) const STUCK: &[Made] = &[
     Queue(0),
     Queue(2),
@@ -440,7 +441,7 @@ pub(crate) const STUCK: &[Made] = &[
     Wait(1, 3),
 ];
 
-/// Asserts that this run can be made, and that no lane can move then.
+/// Asserts that this run can be made, and that no lane can move after it.
 fn assert_stuck<A: Allocator>(
     rt: &impl Abort,
     alloc: Global,
@@ -463,8 +464,8 @@ fn two_lanes_that_wait_for_each_other_are_stuck(rt: HostRuntime) -> Result<(), F
     assert_stuck(&rt, rt.alloc(), &mut core)
 }
 
-/// Steps over the declaration of two items of which the first flushes the second, the first on lane 1 and the second on
-/// lane 0. After each: the lowest lane that can move, and the steps that lanes 0 and 1 make as declared.
+/// Steps over the declaration of two items, of which the first flushes the second; the first is on lane 1 and the second on lane
+/// 0. After each step: the lowest lane that can move, and the steps that lanes 0 and 1 make as declared.
 const PLAYED: &[(Made, Option<u16>, Option<Made>, Option<Made>)] = &[
     (Queue(0), Some(1), None, Some(Start(1, 0))),
     (Start(1, 0), Some(1), None, Some(Wait(1, 1))),
@@ -492,7 +493,7 @@ fn lanes_move_as_declared(rt: HostRuntime) -> Result<(), Fail> {
     Ok(())
 }
 
-/// Steps over `CROSSED`, how many of them are made, and the work that is left then.
+/// Steps over `CROSSED`, how many of them are made, and the work that is left after them.
 const REFUSED: &[(&[Made], u32, u64)] = &[
     (&[Start(0, 0)], 0, 0),
     (&[Queue(0), Queue(0), Queue(1)], 1, 4),
@@ -588,8 +589,8 @@ fn a_machine_says_how_it_stands(rt: HostRuntime) -> Result<(), Fail> {
     Ok(())
 }
 
-/// Makes the machine of two lanes on a heap of this many bytes, if that is large enough, and asserts that its steps take nothing
-/// from it. Says whether the machine was made.
+/// Makes the machine of two lanes on a heap of this many bytes, if the heap is large enough, and asserts that its steps take
+/// nothing from it. Returns whether the machine was made.
 fn makes_in(rt: &impl Abort, alloc: Global, large: &LocalHeap, size: usize) -> Result<bool, Fail> {
     let heap = LocalHeap::new(alloc, size)?;
     let core = core_in(large, &heap, CROSSED, 2, CROSSED_LANES)?;

@@ -1,7 +1,7 @@
-//! The plan of the largest declaration, beside one that is found by rounds: each round gives each item a workqueue above those of
-//! all that it flushes, until a round changes nothing.
+//! The plan of the largest declaration, compared with one that is found by rounds: each round gives each item a workqueue above
+//! those of all that it flushes, until a round changes nothing.
 //!
-//! It takes time in the flushes, times the length of the longest chain.
+//! It takes time in the number of flushes times the length of the longest chain.
 
 use crate::declared::declared;
 use crate::groups::assert_lanes;
@@ -18,7 +18,7 @@ const FLUSHES: u16 = 16384;
 /// A flush: the item that declares it, and the one that is flushed.
 type Flush = (u16, u16);
 
-/// As many flushes as may be declared, each by an item of another one with a higher number.
+/// As many flushes as may be declared, each by an item, of another item with a higher number.
 ///
 /// The numbers are those of a linear congruential generator, so each run has the same ones.
 fn flushes(alloc: Global) -> Result<Vec<Flush>, AllocError> {
@@ -51,7 +51,7 @@ fn lane(rt: &impl Abort, lanes: &[u16], item: u16) -> u16 {
     *lanes.get(usize::from(item)).expect(rt, "no such item")
 }
 
-/// One round: an item that flushes another one comes above it. Says whether that changed anything.
+/// Makes one round: an item that flushes another one moves above it. Returns whether that changed anything.
 fn raise(rt: &impl Abort, lanes: &mut [u16], flushes: &[Flush]) -> bool {
     let mut changed = false;
     for (item, target) in flushes {

@@ -1,4 +1,4 @@
-//! Seeds of the hashes of names, on which no answer depends.
+//! Seeds of the hashes of names. No answer depends on them.
 //!
 //! The answers were worked out by hand from docs/FORMAT.md. It takes the time of a hundred runs for each text.
 

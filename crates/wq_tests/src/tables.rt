@@ -1,4 +1,4 @@
-//! Tables of items: names, where they stand, and what they wait for, which answers don't print.
+//! Tables of items: names, where they are, and what they wait for, which answers don't print.
 
 ghost use Rattle.std.specs.Prelude.{◌<◌, length};
 
@@ -13,14 +13,14 @@ use wq_items::{ItemError, ItemId, ItemTable};
 /// A declaration of three items.
 const TEXT: &[u8] = b"item c\nitem  a\n\nflush c a c\nitem b\nordered b a\nflush b a\nflush c a";
 
-/// The name of each item of it in turn, where it stands, and the target and the place of each of its flushes.
+/// For each item in turn: its name, where it is, and the target and the place of each of its flushes.
 const ITEMS: &[(&[u8], (u32, u32), &[(u16, u32)])] = &[
     (b"c", (5, 6), &[(1, 0), (0, 1), (1, 3)]),
     (b"a", (13, 14), &[]),
     (b"b", (33, 34), &[(1, 2)]),
 ];
 
-/// Asserts the name of an item, where it stands, and its flushes.
+/// Asserts the name of an item, where it is, and its flushes.
 fn assert_item(
     rt: &impl Abort,
     table: &ItemTable<'_, Global>,

@@ -1,13 +1,13 @@
-//! Where lines and words stand, what is refused of a text, and which bytes are a number.
+//! Where lines and words are, how a text is refused, and which bytes are a number.
 
 use std::process::Abort;
 use std::test::Fail;
 use wq_text::{Span, Text, TextError, number};
 
-/// The number of a line, where it begins and ends, and its bytes; or so of a word, with the number of its line.
+/// The number of a line, where it begins and ends, and its bytes; or the same for a word, with the number of its line.
 type Place<'a> = (u32, u32, u32, &'a [u8]);
 
-/// The place of a line, and what of it stands in no comment.
+/// The place of a line, and the part of it that isn't in a comment.
 type LinePlace<'a> = (Place<'a>, &'a [u8]);
 
 /// Asserts that a text has these lines, that each of these has those words in turn, and that there are no others.
@@ -52,7 +52,7 @@ const TEXTS: &[(&[u8], &[LinePlace], &[Place])] = &[
             (3, 13, 14, b"x"),
         ],
     ),
-    // No word stands in a comment.
+    // No word is in a comment.
     (
         b"wq a # b\r\n\tx#y\r\r\nz\r",
         &[
@@ -78,7 +78,7 @@ fn lines_and_words_stand_in_their_text(rt: HostRuntime) -> Result<(), Fail> {
     Ok(())
 }
 
-/// Texts, their limits, the first fault of each, and the number and the line of that.
+/// Texts, their limits, the first fault of each, and the number and the line of this fault.
 const FAULTS: &[(&[u8], u32, u32, TextError, u32, u32)] = &[
     (LONG, 13, 5, TextError::TextTooLong, 1, 0),
     (LONG, 13, 4, TextError::TextTooLong, 1, 0),
@@ -128,7 +128,7 @@ fn spans_hand_out_their_bytes(rt: HostRuntime) -> Result<(), Fail> {
     Ok(())
 }
 
-/// Bytes, and the number that they are.
+/// Bytes, and the number that they spell.
 const NUMBERS: &[(&[u8], Option<u32>)] = &[
     (b"0", Some(0)),
     (b"7", Some(7)),
