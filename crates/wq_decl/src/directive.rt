@@ -7,14 +7,14 @@ ghost use Rattle.wq_decl.specs.Reading.{is_ordered};
 
 use wq_text::{Word, Words};
 
-/// A directive of a declaration, its words borrowed from the text.
+/// A directive of a declaration. Its words are borrowed from the text.
 #[derive(Drop)]
 pub enum Directive<'a> {
     /// `item NAME`: declares an item.
     Item(Word<'a>),
-    /// `flush NAME TARGET..`: the item of this name may flush each of the targets each time that it runs.
+    /// `flush NAME TARGET..`: the item with this name may flush each of the targets each time that it runs.
     Flush(Word<'a>, Words<'a>),
-    /// `ordered NAME..`: the items of these names share one ordered workqueue.
+    /// `ordered NAME..`: the items with these names share one ordered workqueue.
     Ordered(Words<'a>),
 }
 

@@ -1,4 +1,4 @@
-//! Why a line is no directive.
+//! Why a line isn't a directive.
 //!
 //! The faults are those of the second pass in "Refusals" of docs/FORMAT.md. Each call takes constant time.
 
@@ -13,7 +13,7 @@ pub enum DeclError {
     /// A byte before the comment that is neither TAB nor a printable ASCII character (3).
     #[error("line {line}: a byte that a declaration can't hold")]
     BadByte { line: u32 },
-    /// The first word is no directive (4).
+    /// The first word isn't a directive (4).
     #[error("line {line}: no such directive")]
     UnknownWord { line: u32 },
     /// There are fewer words than the directive needs (5).
@@ -22,7 +22,7 @@ pub enum DeclError {
     /// There are more words than the directive takes (12).
     #[error("line {line}: a word too many")]
     ExtraWord { line: u32 },
-    /// A word after the first is no name (6).
+    /// A word after the first isn't a name (6).
     #[error("line {line}: a word that is no name")]
     BadName { line: u32 },
 }

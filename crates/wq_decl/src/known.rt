@@ -1,7 +1,7 @@
 //! One line that has no fault, as a directive.
 //!
-//! Nothing is judged again: the length of its first word tells which directive a line without a fault holds, and the
-//! words behind it are names. So of a line only the first two words are looked at, each byte once.
+//! Nothing is judged again: the length of its first word tells which directive a line without a fault holds, and the words after
+//! it are names. So only the first two words of a line are looked at, each byte once.
 
 ghost use Rattle.std.specs.Prelude.{◌≡◌, ℕ, Ok, IsOk};
 ghost use Rattle.wq_decl.specs.Reading.{words_reading, reading};
@@ -31,7 +31,7 @@ fn read_known_words<'a>(mut words: Words<'a>) -> Option<Directive<'a>>
     }
 }
 
-/// What a line says, if it has no fault: nothing where no word stands before its comment, else a directive.
+/// What a line says, if it has no fault: nothing where there is no word before its comment, or else a directive.
 pub(crate) fn read_known_line<'a>(line: &Line<'a>) -> Option<Directive<'a>>
     requires { IsOk (reading line.now) }
     ensures { reading line.now ≡ Ok result }

@@ -1,6 +1,6 @@
 //! One line as a directive.
 //!
-//! Looks at each byte of the line a fixed number of times: as words are cut, as names are judged, and where there is a fault.
+//! It looks at each byte of the line a fixed number of times: as words are cut, as names are judged, and where there is a fault.
 
 ghost use Rattle.std.specs.Prelude.{◌≡◌};
 ghost use Rattle.std.specs.List.{list_all};
@@ -18,7 +18,7 @@ fn is_name_byte(byte: u8) -> bool
     byte.is_ascii_alphanumeric() || byte == b'_' || byte == b'-' || byte == b'.'
 }
 
-/// Whether each byte may stand in a name.
+/// Whether each byte may be in a name.
 fn are_name_bytes(word: &[u8]) -> bool
     ensures { result ≡ list_all is_name_byte word.now }
 {
@@ -63,7 +63,7 @@ fn are_text_bytes(content: &[u8]) -> bool
     content.iter().all(|byte| is_text_byte(*byte))
 }
 
-/// The words behind `item` on this line.
+/// The words after `item` on this line.
 fn read_item<'a>(line: u32, mut words: Words<'a>) -> Result<Option<Directive<'a>>, DeclError>
     ensures { result ≡ item_reading line words.entry }
 {
@@ -79,7 +79,7 @@ fn read_item<'a>(line: u32, mut words: Words<'a>) -> Result<Option<Directive<'a>
     Ok(Some(Directive::Item(name)))
 }
 
-/// The words behind `flush` on this line.
+/// The words after `flush` on this line.
 fn read_flush<'a>(line: u32, mut words: Words<'a>) -> Result<Option<Directive<'a>>, DeclError>
     ensures { result ≡ flush_reading line words.entry }
 {
@@ -97,7 +97,7 @@ fn read_flush<'a>(line: u32, mut words: Words<'a>) -> Result<Option<Directive<'a
     }
 }
 
-/// The words behind `ordered` on this line.
+/// The words after `ordered` on this line.
 fn read_ordered<'a>(line: u32, mut words: Words<'a>) -> Result<Option<Directive<'a>>, DeclError>
     ensures { result ≡ ordered_reading line words.entry }
 {
@@ -112,7 +112,7 @@ fn read_ordered<'a>(line: u32, mut words: Words<'a>) -> Result<Option<Directive<
     }
 }
 
-/// What the words of this line say: nothing where there is none, else a directive, or their first fault.
+/// What the words of this line say: nothing where there are none, or else a directive or their first fault.
 fn read_words<'a>(line: u32, mut words: Words<'a>) -> Result<Option<Directive<'a>>, DeclError>
     ensures { result ≡ words_reading line words.entry }
 {
@@ -130,10 +130,9 @@ fn read_words<'a>(line: u32, mut words: Words<'a>) -> Result<Option<Directive<'a
     }
 }
 
-/// What a line says: nothing where no word stands before its comment, else a directive, or its first fault.
+/// What a line says: nothing where there is no word before its comment, or else a directive or its first fault.
 ///
-/// A line whose words have no fault holds no bad byte, since these words hold none, so its bytes are judged only where
-/// there is a fault.
+/// Words that have no fault hold no bad byte. So the bytes of a line are judged only where there is a fault.
 pub(crate) fn read_line<'a>(line: &Line<'a>) -> Result<Option<Directive<'a>>, DeclError>
     ensures { result ≡ reading line.now }
 {

@@ -1,6 +1,6 @@
 //! A declaration as the list of its directives.
 //!
-//! Making a view looks at each line once, and so does going over its directives again. It takes no memory.
+//! Making a view looks at each line once, and so does going through its directives again. It takes no memory.
 
 ghost use Rattle.std.specs.Prelude.{◌≡◌, ℕ, None, Some, IfErr, IfOk};
 ghost use Rattle.std.specs.Iterator.{YieldsFirst, item_count};
@@ -40,10 +40,10 @@ impl<'a> Model for DeclView<'a> {
 }
 
 impl<'a> DeclView<'a> {
-    /// The directives of a text.
+    /// Reads the directives of a text.
     ///
-    /// The answer is the first fault, of the lowest line that has one: `BadByte` (3), `UnknownWord` (4),
-    /// `MissingName` (5), `ExtraWord` (12) or `BadName` (6), in this order in a line.
+    /// The error is the first fault, of the lowest line that has one: `BadByte` (3), `UnknownWord` (4), `MissingName` (5),
+    /// `ExtraWord` (12) or `BadName` (6), in this order in a line.
     pub fn new(text: Text<'a>) -> Result<DeclView<'a>, DeclError>
         ensures directives { IfOk result (λ view. (view ≡ directives (lines_of text.entry)) × (first_fault (lines_of text.entry) ≡ None)) }
         ensures fault { IfErr result (λ e. first_fault (lines_of text.entry) ≡ Some e) }
@@ -94,7 +94,7 @@ impl<'a> Model for Directives<'a> {
     ghost invariant = { λ d. first_fault d.lines ≡ None };
 }
 
-/// The first directive of some lines, and the lines behind it.
+/// The first directive of some lines, and the lines after it.
 fn next_directive<'a>(lines: &mut Lines<'a>) -> Option<(u32, Directive<'a>)>
     requires { first_fault lines.old ≡ None }
     ensures steps { YieldsFirst directives lines.old result lines.new }

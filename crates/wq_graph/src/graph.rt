@@ -1,8 +1,8 @@
-//! Who waits for whom: of each vertex the declared flushes that leave it.
+//! Who waits for whom: for each vertex the declared flushes that leave it.
 //!
-//! The vertices are the groups of the items, or their lanes, so an arc leaves a group or a lane whichever of its items
-//! declares the flush. All arcs are in one vector, those of vertex 0 first, and of each vertex it is known where its arcs begin.
-//! Making a graph takes time and memory in the items, the vertices and the flushes; each other call takes constant time.
+//! The vertices are the groups of the items, or their lanes. So an arc leaves a group or a lane whichever of its items declares
+//! the flush. All arcs are in one vector, those of vertex 0 first, and for each vertex it is known where its arcs begin. Making a
+//! graph takes time and memory in the number of items, vertices and flushes. Each other call takes constant time.
 
 ghost use Rattle.std.specs.Prelude.{◌≡◌, ◌<◌, ◌≤◌, length, flat_map, IfOk, IfErr};
 ghost use Rattle.std.specs.List.{All};
@@ -17,7 +17,7 @@ use wq_buckets::piece;
 use wq_groups::{Assignment, Groups};
 use wq_items::ItemTable;
 
-/// A wait graph. Contracts see of each vertex the list of its arcs.
+/// A wait graph. Contracts see the list of the arcs of each vertex.
 #[derive(Drop)]
 pub struct WaitGraph<A: Allocator> {
     arcs: Vec<WaitArc, A>,
@@ -38,7 +38,7 @@ impl<A: Allocator> Model for WaitGraph<A> {
 }
 
 impl<A: Allocator + Copy> WaitGraph<A> {
-    /// The wait graph of a table's items, where `vertex_of` has of each its vertex, of so many.
+    /// The wait graph of a table's items, where `vertex_of` has the vertex of each item. There are this many vertices.
     fn of_vertices(
         alloc: A,
         table: &ItemTable<'_, A>,
@@ -58,7 +58,7 @@ impl<A: Allocator + Copy> WaitGraph<A> {
 
     /// The wait graph of the groups of a table's items. The groups are those of this table.
     ///
-    /// The only error is that memory ran out (20). Without a group nothing grows.
+    /// The only error is out of memory (20), which can't occur where there is no group.
     pub fn of_groups(
         alloc: A,
         table: &ItemTable<'_, A>,
@@ -72,10 +72,10 @@ impl<A: Allocator + Copy> WaitGraph<A> {
         Self::of_vertices(alloc, table, vertex_of.as_slice(), groups.len())
     }
 
-    /// The wait graph of the lanes of an assignment. The groups are those of this table, and the assignment has a lane for
-    /// each of them. A lane that serves no group has no arc.
+    /// The wait graph of the lanes of an assignment. The groups are those of this table, and the assignment has a lane for each
+    /// of them. A lane that serves no group has no arc.
     ///
-    /// The only error is that memory ran out (20). Without a lane nothing grows.
+    /// The only error is out of memory (20), which can't occur where there is no lane.
     pub fn of_lanes(
         alloc: A,
         table: &ItemTable<'_, A>,

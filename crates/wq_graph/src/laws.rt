@@ -1,6 +1,6 @@
-//! Laws of wait graphs, as contracts of functions with empty bodies.
+//! Laws about wait graphs, as contracts of functions with empty bodies.
 //!
-//! `Graph` makes the arcs of a vertex from a list of all arcs. Here is what that comes to, said of the declared flushes.
+//! `Graph` makes the arcs of a vertex from a list of all arcs. The laws say what that means for the declared flushes.
 
 ghost use Rattle.std.specs.Prelude.{◌≡◌, ◌≤◌, ◌↔◌, ℕ, List};
 ghost use Rattle.wq_items.specs.declared.target.Target.{Target};
@@ -10,8 +10,8 @@ ghost use Rattle.wq_graph.specs.declared.arc.WaitArc.{WaitArc};
 ghost use Rattle.wq_items.specs.Table.{VertexWaits};
 ghost use Rattle.wq_graph.specs.Graph.{arcs_from, arcs_at, group_graph, lane_graph, AreArcsFrom, HasArc, IsGraph};
 
-/// The arcs that leave a vertex are the declared flushes that do, one for each, in order of place: whatever the vertices
-/// of the items are, and so in the graphs of the groups and of the lanes.
+/// The arcs that leave a vertex are the declared flushes that leave it, one for each, in order of place. That holds whatever the
+/// vertices of the items are, and so for the graphs of the groups and of the lanes.
 pub fn arcs_are_the_declared_flushes()
     ensures from { (d : Declaration) (vertex_of : List ℕ) (v : ℕ) →
         IsDeclaration d → AreArcsFrom d.waits vertex_of v (arcs_from d.waits vertex_of v) }
@@ -27,7 +27,7 @@ pub fn arcs_are_the_only_ones()
         AreArcsFrom waits vertex_of v arcs → AreArcsFrom waits vertex_of v others → arcs ≡ others }
 {}
 
-/// A group waits for a group exactly where an arc leaves the one for the other.
+/// A group waits for another group exactly where an arc leaves the one for the other.
 pub fn groups_wait_along_arcs()
     ensures { (d : Declaration) (g h : ℕ) →
         IsDeclaration d → (GroupWaits d g h ↔ HasArc (group_graph d) g h) }

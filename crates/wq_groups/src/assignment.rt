@@ -15,7 +15,7 @@ use std::marker::Model;
 /// How many lanes an assignment may have.
 const MAX_LANES: u16 = 4096;
 
-/// A number of lanes, and the lane of each group. A lane may serve no group. Contracts see just these.
+/// A number of lanes, and the lane of each group. A lane may serve no group. Contracts see only these.
 #[derive(Drop)]
 pub struct Assignment<A: Allocator> {
     lanes: u16,
@@ -42,9 +42,9 @@ fn are_below(of_group: &[LaneId], lanes: u16) -> bool
 }
 
 impl<A: Allocator> Assignment<A> {
-    /// The assignment with so many lanes, in which group g is on lane `of_group[g]`.
+    /// The assignment with this many lanes, in which group g is on lane `of_group[g]`.
     ///
-    /// `None` where a number isn't below `lanes`, or `lanes` is above 4,096; the list is then dropped.
+    /// It is `None` where a number isn't below `lanes`, or `lanes` is above 4,096. The list is then dropped.
     pub fn new(lanes: u16, of_group: Vec<LaneId, A>) -> Option<Self>
         ensures some { IfSome result (λ a. (a.lanes ≡ lanes) × (a.lane_of_group ≡ of_group.items)) }
         ensures exactly { IsSome result ↔ ((lanes ≤ 4096) × All (λ l. l < lanes) of_group.items) }

@@ -1,4 +1,4 @@
-//! Why directives make no groups.
+//! Why directives don't make groups.
 //!
 //! The fault is that of the last pass in "Refusals" of docs/FORMAT.md. Every call takes constant time.
 
@@ -12,7 +12,7 @@ use thiserror::Error;
 /// The first fault of the `ordered` lines, or out of memory.
 #[derive(Clone, Copy, Debug, PartialEq, Eq, Error)]
 pub enum GroupError {
-    /// A name that already stands on this or an earlier `ordered` line (11).
+    /// A name that is already on this or an earlier `ordered` line (11).
     #[error("line {line}: the item is already in a group")]
     GroupedTwice { line: u32 },
     /// Memory ran out (20, without a line).

@@ -1,9 +1,9 @@
-//! Going over the `ordered` lines: of each item the first-declared one of its group.
+//! Reading the `ordered` lines: for each item, the first-declared item of its group.
 //!
-//! The rules are those of "Items and groups" in docs/FORMAT.md. Where there is no `ordered` line, each item has a group of its own,
-//! and the lines aren't gone over: this takes time in the number of the items. Else each name of an `ordered` line is looked up
-//! once: this takes time in the length of the text. What is noted of the items lies on the stack: no memory is taken before all
-//! lines are judged.
+//! The rules are those of "Items and groups" in docs/FORMAT.md. Where there is no `ordered` line, each item has a group of its
+//! own, and the lines aren't scanned. This takes time in the number of items. Otherwise each name of an `ordered` line is looked
+//! up once. This takes time in the length of the text. The notes about the items are on the stack, so no memory is taken before
+//! all lines are judged.
 
 ghost use Rattle.std.specs.Prelude.{◌≡◌, ◌≢◌, ◌↔◌, ◌++◌, ◌∷◌, ◌<◌, ◌==◌, [], ℕ, List, length, map, slice_index, Ok, IfOk, IfErr, IfSome, IsSome, OnSome, IsTrue, AllPairs, None, Some, if◌then◌else◌};
 ghost use Rattle.std.specs.List.{All, list_any};
@@ -22,11 +22,11 @@ use wq_decl::{DeclView, Directive};
 use wq_items::{ItemId, ItemTable};
 use wq_text::Words;
 
-/// How many items a table has at most.
+/// How many items a table has, at most.
 const MAX_ITEMS: usize = 4096;
 
-/// Marks the items of these names and lists them in `items`, which is empty. The answer is the first-declared of them, or `None`
-/// where one is marked already or stands there twice; those before it are marked then.
+/// Marks the items with these names and lists them in `items`, which is empty. It returns the first-declared of them, or `None`
+/// where one is marked already or is there twice. In that case those before it are marked.
 fn mark<A: Allocator + Copy>(
     table: &ItemTable<'_, A>,
     ordered: &mut [bool],
@@ -71,9 +71,9 @@ fn set_first(first: &mut [ItemId], items: &[ItemId], lowest: ItemId)
     }
 }
 
-/// Puts the items of these names into one group, if none of them is in one already and none stands there twice. Otherwise
-/// the answer is `false`, and some are marked that are in no group. What `items` holds is overwritten: it is handed in so that
-/// it is made once.
+/// Puts the items with these names into one group, if none of them is in one already and none is there twice. Otherwise it
+/// returns `false`, and some items are marked that are in no group. What `items` holds is overwritten. It is handed in so that it
+/// is made only once.
 fn put_together<A: Allocator + Copy>(
     table: &ItemTable<'_, A>,
     first: &mut [ItemId],
@@ -96,7 +96,7 @@ fn put_together<A: Allocator + Copy>(
     true
 }
 
-/// Of each item of a table the first-declared item of its group. The table was read from this view.
+/// For each item of a table, the first-declared item of its group. The table was read from this view.
 ///
 /// The error is the `GroupedTwice` of `Groups::read`.
 pub(crate) fn first_members<A: Allocator + Copy>(

@@ -1,18 +1,18 @@
-//! Laws of chains and circles, as contracts of functions with empty bodies.
+//! Laws about chains and circles, as contracts of functions with empty bodies.
 //!
-//! They hold of any relation, whatever waits for what: items by their flushes, groups or lanes by their items.
+//! They hold for any relation, whatever waits for what: items by their flushes, groups or lanes by their items.
 
 ghost use Rattle.std.specs.Prelude.{◌≡◌, ℕ, ◌+◌, ◌<◌, ◌≤◌, ◌∷◌, List, length};
 ghost use Rattle.std.specs.List.{All};
 ghost use Rattle.wq_items.specs.Chain.{IsChain, Circle, HasCircle, BeginsChain, IsRank, Repeats};
 
-/// A relation of numbers, by which one waits for another. No code runs by it.
+/// A relation of numbers, by which one waits for another. No code uses it.
 pub trait Relation {
     /// `waits v w` says that v waits for w.
     ghost waits: { ℕ → ℕ → Type 0 };
 }
 
-/// At each vertex of a circle chains of every length begin, so none of them has a rank.
+/// At each vertex of a circle, chains of every length begin. So none of its vertices has a rank.
 pub fn circle_has_no_rank<R: Relation>()
     ensures lengths { (circle : Circle R.waits) →
         All (λ v. (n : ℕ) → BeginsChain R.waits v (n + 1)) (circle.first ∷ circle.others) }
@@ -26,7 +26,7 @@ pub fn ranks_rule_out_circles<R: Relation>()
         ((v : ℕ) → v < n → (r : ℕ) × IsRank R.waits v r) → ¬ HasCircle R.waits n }
 {}
 
-/// A vertex has one rank at most.
+/// A vertex has at most one rank.
 pub fn rank_is_unique<R: Relation>()
     ensures { (v r s : ℕ) → IsRank R.waits v r → IsRank R.waits v s → r ≡ s }
 {}

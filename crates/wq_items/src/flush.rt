@@ -1,7 +1,7 @@
 //! The flushes that a declaration declares, in order of place, while its lines are read.
 //!
-//! They are those of "Items and groups" in docs/FORMAT.md. All flushes of all items are in one vector. Each call takes
-//! constant time, a push on average, but for `by_item`, which takes time in the items and the flushes.
+//! They are those of "Items and groups" in docs/FORMAT.md. All flushes of all items are in one vector. Each call takes constant
+//! time, on average for a push, except for `by_item`, which takes time in the number of items and flushes.
 
 ghost use Rattle.std.specs.Prelude.{◌≡◌, ◌<◌, ◌++◌, ◌∷◌, [], length, slice_set, OnOk, OnErr, IfOk, IfErr};
 ghost use Rattle.wq_items.specs.Table.{targets_of, flush_count};
@@ -11,14 +11,14 @@ use crate::waits::Waits;
 use std::alloc::{AllocError, Allocator};
 use std::marker::Model;
 
-/// One declared flush: the item in whose function it stands, and its target.
+/// One declared flush: the item whose function has it, and its target.
 #[derive(Clone, Copy)]
 pub(crate) struct Flush {
     pub(crate) item: ItemId,
     pub(crate) target: Target,
 }
 
-/// The flushes of so many items. Contracts see of each item in turn the list of its targets.
+/// The flushes of the items. Contracts see the list of each item's targets, in turn.
 #[derive(Drop)]
 pub(crate) struct Flushes<A: Allocator> {
     flushes: Vec<Flush, A>,
@@ -51,7 +51,7 @@ impl<A: Allocator + Copy> Flushes<A> {
         }
     }
 
-    /// One item more, without a target.
+    /// Adds an item, without a target.
     pub(crate) fn push_item(&mut self)
         requires { length self.old < 65535 }
         ensures { self.new ≡ self.old ++ ([] ∷ []) }
@@ -59,7 +59,7 @@ impl<A: Allocator + Copy> Flushes<A> {
         self.items += 1;
     }
 
-    /// One target more of an item.
+    /// Adds a target to an item.
     pub(crate) fn push_target(&mut self, i: usize, target: Target) -> Result<(), AllocError>
         requires { i < length self.old }
         ensures ok { OnOk result (self.new ≡ slice_set self.old i (targets_of self.old i ++ (target ∷ []))) }
@@ -73,7 +73,7 @@ impl<A: Allocator + Copy> Flushes<A> {
         Ok(())
     }
 
-    /// The targets, item by item. The only error is that memory ran out; without an item nothing grows.
+    /// The targets, item by item. The only error is out of memory, which can't occur where there is no item.
     pub(crate) fn by_item(self, alloc: A) -> Result<Waits<A>, AllocError>
         requires { flush_count self < 4294967296 }
         ensures waits { IfOk result (λ waits. waits ≡ self) }

@@ -1,8 +1,8 @@
 //! Names as keys of a map, and how they are hashed.
 //!
-//! Names come from a stranger's text. Who knows how they are hashed can choose thousands that have the same hash, and
-//! each of them is then found only after all the others. So a hash goes by a seed, which the program chooses. No answer
-//! depends on it: what a map finds is said without its hashes.
+//! Names come from a stranger's text. Whoever knows how they are hashed can choose thousands that have the same hash, and each of
+//! them is then found only after all the others. So a hash depends on a seed, which the program chooses. No answer depends on the
+//! seed: what a map finds is defined without its hashes.
 //!
 //! A name is hashed in time in its length, in one pass.
 

@@ -1,7 +1,6 @@
-//! Laws of tables, as contracts of functions with empty bodies.
+//! Laws about tables, as contracts of functions with empty bodies.
 //!
-//! `Building` makes the table of a declaration line by line. Here is what that comes to, said of the whole list of
-//! lines.
+//! `Building` makes the table of a declaration line by line. The laws say what that means for the whole list of lines.
 
 ghost use Rattle.std.specs.Prelude.{◌≡◌, ◌↔◌, ℕ, List, length, map, Ok, Err, IsOk, slice_get, slice_range, filter_map, Some};
 ghost use Rattle.std.specs.List.{AllByRecursion, enumerate_from};
@@ -15,20 +14,19 @@ ghost use Rattle.wq_items.specs.Building.{table_of};
 ghost use Rattle.wq_items.specs.Flushes.{item_name, item_span, flushes, flushes_of, named_targets};
 ghost use Rattle.wq_items.specs.FirstFault.{IsFaultless, IsLowestItemFault};
 
-/// The items of a table are those of the `item` lines, in order: their names, and where these stand.
+/// The items of a table are those of the `item` lines, in order: their names, and where these are.
 pub fn items_are_those_of_the_item_lines()
     ensures names { (ds : List (ℕ × Directive)) (t : Table) → table_of ds ≡ Ok t → t.names ≡ filter_map item_name ds }
     ensures spans { (ds : List (ℕ × Directive)) (t : Table) → table_of ds ≡ Ok t → t.spans ≡ filter_map item_span ds }
 {}
 
-/// The names of a text's table are slices of the text: each stands where its span says.
+/// The names of a text's table are slices of the text: each is where its span says.
 pub fn names_are_slices_of_the_text()
     ensures each { (text : List ℕ) (t : Table) (i : ℕ) (name : List ℕ) (span : Span) → table_of (directives (lines_of text)) ≡ Ok t → slice_get t.names i ≡ Some name → slice_get t.spans i ≡ Some span → slice_range text span.start span.end ≡ name }
     ensures all { (text : List ℕ) (t : Table) → table_of (directives (lines_of text)) ≡ Ok t → t.names ≡ map (λ (span : Span). slice_range text span.start span.end) t.spans }
 {}
 
-/// Directives make a table exactly where they are faultless, and else the fault is that of the first one behind
-/// faultless ones.
+/// Directives make a table exactly where they are faultless. Otherwise the fault is that of the first one after faultless ones.
 pub fn faults_without_tables()
     ensures none { (ds : List (ℕ × Directive)) → IsOk (table_of ds) ↔ IsFaultless ds }
     ensures lowest { (ds : List (ℕ × Directive)) (e : ItemError) → (table_of ds ≡ Err e) ↔ IsLowestItemFault ds e }

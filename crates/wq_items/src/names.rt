@@ -1,7 +1,7 @@
 //! Names, each with its number.
 //!
-//! No name is declared twice, by "Items and groups" in docs/FORMAT.md. A name is found in constant time on average, by
-//! its hash, which goes by a seed; the names themselves stay in the text. Each call hashes its name once.
+//! No name is declared twice, by "Items and groups" in docs/FORMAT.md. A name is found in constant time on average, by its hash,
+//! which depends on a seed. The names themselves stay in the text. Each call hashes its name once.
 
 ghost use Rattle.std.specs.Prelude.{◌≡◌, ◌<◌, ◌+◌, ◌++◌, ◌∷◌, [], List, ℕ, length, is_some, not, false, Some, slice_get, IfOk, OnErr, if◌then◌else◌};
 ghost use Rattle.wq_items.specs.Table.{item_named};
@@ -26,7 +26,7 @@ impl<'a, A: Allocator> Model for Names<'a, A> {
 }
 
 impl<'a, A: Allocator + Copy> Names<'a, A> {
-    /// No name. Names are hashed with this seed.
+    /// No names. They will be hashed with this seed.
     pub(crate) fn new(alloc: A, seed: u64) -> Self
         ensures { result ≡ [] }
     {
@@ -49,7 +49,7 @@ impl<'a, A: Allocator + Copy> Names<'a, A> {
         self.set.get_index_of(&Name { bytes: name })
     }
 
-    /// The name of this number.
+    /// The name with this number.
     pub(crate) fn get(&self, i: usize) -> &'a [u8]
         requires { i < length self.now }
         ensures { slice_get self.now i ≡ Some result.now }
@@ -57,7 +57,7 @@ impl<'a, A: Allocator + Copy> Names<'a, A> {
         self.set.as_slice()[i].bytes
     }
 
-    /// Adds a name where it isn't there, and answers whether it did.
+    /// Adds a name where it isn't there yet, and returns whether it did.
     pub(crate) fn add(&mut self, name: &'a [u8]) -> Result<bool, AllocError>
         ensures added { IfOk result (λ added. added ≡ not (is_some (item_named self.old name.now))) }
         ensures names { IfOk result (λ added. self.new ≡ (if added then self.old ++ (name.now ∷ []) else self.old)) }

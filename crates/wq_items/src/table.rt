@@ -1,12 +1,12 @@
-//! The table of items: names, where they stand, and what each item flushes.
+//! The table of items: names, where they are, and what each item flushes.
 //!
-//! The rules are those of "Items and groups" in docs/FORMAT.md. Of an `ordered` line only the names are looked up here;
-//! it changes nothing in the table.
+//! The rules are those of "Items and groups" in docs/FORMAT.md. Of an `ordered` line only the names are looked up here; it
+//! changes nothing in the table.
 //!
-//! Reading takes time in the length of the names and words of the declaration, on average, and memory in the number of
-//! items and flushes: each name is looked up once, on a line that is refused once more. While the lines are read, all flushes
-//! are in one vector, in order of place (`Building`); at the end they are put to their items. Afterwards each question is
-//! answered in constant time, but for `find`, which takes the time to hash a name.
+//! Reading takes time in the length of the names and words of the declaration, on average, and memory in the number of items and
+//! flushes. Each name is looked up once, and once more on a line that is refused. While the lines are read, all flushes are in
+//! one vector, in order of place (`Building`). At the end they are sorted by their items. Afterwards each question is answered in
+//! constant time, except for `find`, which takes the time to hash a name.
 
 ghost use Rattle.std.specs.Prelude.{◌≡◌, ◌+◌, ◌^◌, ◌<◌, ◌≤◌, ℕ, length, Ok, Err, IfOk, IfErr, IfSome, IfNone, OnErr, IsOk, slice_get, slice_set, Some, IsTrue, ◌↔◌, ◌∷◌, ◌++◌, option_map};
 ghost use Rattle.wq_decl.specs.Names.{is_name};
@@ -88,8 +88,8 @@ fn count_known<'a, A: Allocator + Copy>(names: &Names<'a, A>, words: Words<'a>) 
     Some(count)
 }
 
-/// Adds targets of one item, at the places from `place` on, and answers the place behind them. There is no answer where
-/// a name is unknown, where there are too many flushes, or where memory ran out; `refusal` says which it is.
+/// Adds targets of one item, at the places from `place` on, and returns the place after them. It returns nothing where a name is
+/// unknown, where there are too many flushes, or where memory ran out; `refusal` says which it is.
 fn push_targets<'a, A: Allocator + Copy>(
     names: &Names<'a, A>,
     waits: &mut Flushes<A>,
@@ -156,7 +156,7 @@ fn when_full<'a, A: Allocator + Copy>(names: &Names<'a, A>, line: u32, name: Wor
 }
 
 impl<'a, A: Allocator + Copy> Building<'a, A> {
-    /// No item. Names are hashed with this seed.
+    /// A table without items. Names are hashed with this seed.
     fn empty(alloc: A, seed: u64) -> Self
         ensures { result ≡ empty_table }
     {
@@ -183,7 +183,7 @@ impl<'a, A: Allocator + Copy> Building<'a, A> {
         }
     }
 
-    /// The table with one item more.
+    /// The table with another item.
     fn declare_item(self, line: u32, name: Word<'a>) -> Result<Self, ItemError>
         requires { IsTrue (is_name name.bytes) }
         ensures table { IfOk result (λ t. item_declared self.entry line name.entry ≡ Ok t) }
@@ -255,7 +255,7 @@ impl<'a, A: Allocator + Copy> Building<'a, A> {
         Ok(self)
     }
 
-    /// The table, with the targets of each item beside each other.
+    /// The table, with the targets of each item next to each other.
     fn finish(self, alloc: A) -> Result<ItemTable<'a, A>, AllocError>
         ensures table { IfOk result (λ t. t ≡ self.entry) }
         ensures memory { IfErr result (λ _. 0 < length self.entry.names) }
@@ -277,14 +277,14 @@ impl<'a, A: Allocator + Copy> Building<'a, A> {
 }
 
 impl<'a, A: Allocator + Copy> ItemTable<'a, A> {
-    /// The table that the directives of a view declare.
+    /// Reads the table that the directives of a view declare.
     ///
-    /// Each target of a `flush` line is a flush of its own. An `ordered` line adds nothing, but each name on it must be
-    /// declared by an earlier `item` line, as each name on a `flush` line.
+    /// Each target of a `flush` line is a flush of its own. An `ordered` line adds nothing, but each name on it must be declared
+    /// by an earlier `item` line, like each name on a `flush` line.
     ///
-    /// Else the answer is the first fault, of the lowest line that has one: `ItemTwice` (7), `TooManyItems` (9),
-    /// `UnknownItem` (8) or `TooManyFlushes` (10), in this order in a line; or `OutOfMemory` (20) where a growth was
-    /// refused before it, at a line that declares an item or a flush.
+    /// The error is the first fault, of the lowest line that has one: `ItemTwice` (7), `TooManyItems` (9), `UnknownItem` (8) or
+    /// `TooManyFlushes` (10), in this order in a line; or `OutOfMemory` (20), where a growth was refused before it, at a line
+    /// that declares an item or a flush.
     pub fn read(alloc: A, view: &DeclView<'a>) -> Result<Self, ItemError>
         ensures table { IfOk result (λ t. table_of view.now ≡ Ok t) }
         ensures fault { IfErr result (λ e. IsFaultOf e (table_of view.now)) }
@@ -293,10 +293,10 @@ impl<'a, A: Allocator + Copy> ItemTable<'a, A> {
         ItemTable::read_seeded(alloc, SEED, view)
     }
 
-    /// The same table, made with a seed for the hashes of names.
+    /// Reads the same table, with a seed for the hashes of names.
     ///
-    /// The answer doesn't depend on it, but the time does that reading takes: with a seed that is chosen at random, who
-    /// wrote the text can't know which names have the same hash.
+    /// The answer doesn't depend on the seed, but the time of reading does. With a seed that is chosen at random, whoever wrote
+    /// the text can't know which names have the same hash.
     pub fn read_seeded(alloc: A, seed: u64, view: &DeclView<'a>) -> Result<Self, ItemError>
         ensures table { IfOk result (λ t. table_of view.now ≡ Ok t) }
         ensures fault { IfErr result (λ e. IsFaultOf e (table_of view.now)) }
@@ -324,7 +324,7 @@ impl<'a, A: Allocator + Copy> ItemTable<'a, A> {
         self.names.len() == 0
     }
 
-    /// How many flushes are declared, all items together, at most 16,384.
+    /// How many flushes all items declare together, at most 16,384.
     pub fn flushes(&self) -> u32
         ensures count { result ≡ flush_count self.now.waits }
         ensures limit { result ≤ 16384 }
@@ -340,7 +340,7 @@ impl<'a, A: Allocator + Copy> ItemTable<'a, A> {
         self.names.get(i.get() as usize)
     }
 
-    /// Where the name of an item below `len()` stands in the text, on its `item` line.
+    /// Where the name of an item below `len()` is in the text, on its `item` line.
     pub fn span(&self, i: ItemId) -> Span
         requires { i < length self.now.names }
         ensures { slice_get self.now.spans i ≡ Some result }
@@ -348,7 +348,7 @@ impl<'a, A: Allocator + Copy> ItemTable<'a, A> {
         self.spans[i.get() as usize]
     }
 
-    /// The item of this name, if there is one.
+    /// The item with this name, if there is one.
     pub fn find(&self, name: &[u8]) -> Option<ItemId>
         ensures { result ≡ item_named self.now.names name.now }
     {

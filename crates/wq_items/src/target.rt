@@ -20,7 +20,7 @@ impl Model for ItemId {
 }
 
 impl ItemId {
-    /// The item of this number.
+    /// The item with this number.
     pub fn new(number: u16) -> Self
         ensures { result ≡ number }
     {

@@ -1,8 +1,8 @@
 //! The targets of each item, in order of place, in one vector.
 //!
-//! They are the waits of "Items and groups" in docs/FORMAT.md. The targets of item 0 stand first, and of each item it is known
-//! where its targets begin. `wq_buckets` finds of each item its flushes, and nothing is compared. Making them takes time and
-//! memory in the items and the flushes; the targets of an item are found in constant time.
+//! They are the waits of "Items and groups" in docs/FORMAT.md. The targets of item 0 come first, and for each item it is known
+//! where its targets begin. `wq_buckets` finds the flushes of each item, and nothing is compared. Making them takes time and
+//! memory in the number of items and flushes. The targets of an item are found in constant time.
 
 ghost use Rattle.std.specs.Prelude.{◌≡◌, ◌<◌, ◌++◌, length, map, get_or, IfOk, IfErr};
 ghost use Rattle.std.specs.List.{All};
@@ -35,7 +35,7 @@ impl<A: Allocator> Model for Waits<A> {
     ghost invariant = { λ w. AreCuts w.begins.items w.targets.items };
 }
 
-/// Of each flush in turn the item that declares it.
+/// The item that declares each flush, in turn.
 fn items_flushing<A: Allocator + Copy>(
     alloc: A,
     flushes: &[Flush],
@@ -65,9 +65,9 @@ fn add_targets<A: Allocator + Copy>(
 }
 
 impl<A: Allocator + Copy> Waits<A> {
-    /// The targets of so many items, where these are the flushes in order of place.
+    /// Makes the targets of this many items, where these are the flushes in order of place.
     ///
-    /// The only error is that memory ran out. Without an item nothing grows.
+    /// The only error is out of memory, which can't occur where there is no item.
     pub(crate) fn new(alloc: A, flushes: &[Flush], items: u16) -> Result<Self, AllocError>
         requires within { All (λ (f : Flush). f.item < items) flushes.now }
         requires few { length flushes.now < 4294967296 }

@@ -1,6 +1,6 @@
-//! Of each vertex the vertices whose arcs lead to it.
+//! For each vertex, the vertices whose arcs lead to it.
 //!
-//! Takes time and memory in the vertices and the arcs.
+//! It takes time and memory in the number of vertices and arcs.
 
 ghost use Rattle.std.specs.Prelude.{◌≡◌, ◌<◌, length, map, replicate, [], IfOk};
 ghost use Rattle.std.specs.List.{All};
@@ -9,7 +9,7 @@ ghost use Rattle.wq_levels.specs.Taking.{HasTails, AreTails};
 use std::alloc::{AllocError, Allocator};
 use wq_graph::{WaitArc, WaitGraph};
 
-/// So many lists without a vertex.
+/// This many empty lists.
 fn empty_lists<A: Allocator + Copy>(alloc: A, count: u16) -> Result<Vec<Vec<u16, A>, A>, AllocError>
     ensures { IfOk result (λ lists. map (λ l. l.items) lists.items ≡ replicate count []) }
 {
@@ -36,7 +36,7 @@ fn add_tail<A: Allocator + Copy>(
     Ok(())
 }
 
-/// Of each vertex in turn the vertices that the arcs to it leave, once for each arc.
+/// For each vertex in turn, the vertices that the arcs to it leave, once for each arc.
 pub(crate) fn tails<A: Allocator + Copy>(
     alloc: A,
     graph: &WaitGraph<A>,

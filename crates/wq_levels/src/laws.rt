@@ -1,4 +1,4 @@
-//! Laws of ranks, of what remains, and of the circle of the walk. No code runs here: the clauses are the laws.
+//! Laws about ranks, about what remains, and about the circle of the walk. No code runs here: the clauses are the laws.
 ghost use Rattle.std.specs.Prelude.{◌≡◌, ℕ, ◌+◌, ◌<◌, ◌≤◌, ◌⊎◌, List, length, slice_index, Contains};
 ghost use Rattle.std.specs.List.{All, Any};
 ghost use Rattle.wq_items.specs.Chain.{HasCircle};
@@ -13,7 +13,7 @@ pub fn a_graph_has_ranks_or_a_circle()
         ((ranks : List ℕ) × AreRanks graph ranks) ⊎ ((circle : List WaitArc) × IsWalkedCircle graph circle) }
 {}
 
-/// It has not both: where the vertices have ranks there is no circle.
+/// It doesn't have both: where the vertices have ranks, there is no circle.
 pub fn ranks_rule_out_the_circle()
     ensures walked { (graph : List (List WaitArc)) (ranks : List ℕ) (circle : List WaitArc) →
         IsGraph graph → AreRanks graph ranks → ¬ IsWalkedCircle graph circle }
@@ -27,7 +27,7 @@ pub fn the_ranks_are_the_only_ones()
         AreRanks graph one → AreRanks graph other → one ≡ other }
 {}
 
-/// A vertex ranks one above the highest of those that its arcs lead to, at 0 where it has no arc, and below the number
+/// The rank of a vertex is one above the highest of those that its arcs lead to, or 0 where it has no arc. It is below the number
 /// of vertices.
 pub fn ranks_fall_along_arcs()
     ensures fall { (graph : List (List WaitArc)) (ranks : List ℕ) (v w : ℕ) → IsGraph graph → AreRanks graph ranks →
@@ -61,7 +61,7 @@ pub fn the_walk_finds_a_circle()
         (circle : List WaitArc) × IsWalkedCircle graph circle }
 {}
 
-/// Each vertex that remains has an arc to one that remains, and no more vertices than these hold each other so.
+/// Each vertex that remains has an arc to one that remains, and all vertices that hold one another up like this remain.
 pub fn what_remains_is_what_holds_each_other()
     ensures held { (graph : List (List WaitArc)) (v : ℕ) →
         IsGraph graph → Remains graph v → Any (λ (a : WaitArc). Remains graph a.head) (arcs_at graph v) }

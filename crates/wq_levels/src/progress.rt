@@ -1,7 +1,7 @@
-//! How far taking off the vertices has come: of each vertex its arcs that haven't gone and its rank so far, and the vertices
-//! that wait to be taken off.
+//! How far the removal of the vertices has come: for each vertex, its arcs that haven't gone and its rank so far; and the
+//! vertices that wait to be removed.
 //!
-//! An arc goes in constant time. Making it takes time and memory in the vertices.
+//! Removing an arc takes constant time. Making the record takes time and memory in the number of vertices.
 
 ghost use Rattle.std.specs.Prelude.{◌≡◌, ◌<◌, ◌≤◌, ℕ, length, map, replicate, slice_index, slice_get, IfOk};
 ghost use Rattle.wq_levels.specs.Taking.{AreFree, times, with_arc_gone, with_arcs_gone};
@@ -10,7 +10,7 @@ use std::alloc::{AllocError, Allocator};
 use std::marker::Model;
 use wq_graph::WaitGraph;
 
-/// Vertices being taken off.
+/// The removal of vertices, in progress.
 #[derive(Drop)]
 pub(crate) struct Progress<A: Allocator> {
     remaining: Vec<usize, A>,
@@ -26,7 +26,7 @@ impl<A: Allocator> Model for Progress<A> {
     ghost view = { λ p. record { remaining = p.remaining.items; ranks = p.ranks.items; order = p.order.items } };
 }
 
-/// Of each vertex in turn how many arcs it has.
+/// How many arcs each vertex has, in turn.
 fn arc_counts<A: Allocator + Copy>(
     alloc: A,
     graph: &WaitGraph<A>,
@@ -41,7 +41,7 @@ fn arc_counts<A: Allocator + Copy>(
     Ok(counts)
 }
 
-/// Of so many vertices those of which no arc remains. There is room for all of them.
+/// Those of this many vertices of which no arc remains. There is room for all of them.
 fn free<A: Allocator + Copy>(
     alloc: A,
     remaining: &[usize],
@@ -77,14 +77,14 @@ impl<A: Allocator + Copy> Progress<A> {
         })
     }
 
-    /// The vertex at this place of the order, if the order has come so far.
+    /// The vertex at this index of the order, if the order has come so far.
     pub(crate) fn nth(&self, place: usize) -> Option<u16>
         ensures { result ≡ slice_get self.now.order place }
     {
         self.order.get(place).copied()
     }
 
-    /// An arc of a vertex goes, to one of this rank.
+    /// Removes an arc of a vertex, to one of this rank.
     fn lose_arc(&mut self, vertex: u16, rank: u16) -> Result<(), AllocError>
         requires one_each { length self.old.ranks ≡ length self.old.remaining }
         requires some { 0 < slice_index self.old.remaining vertex }
@@ -100,7 +100,7 @@ impl<A: Allocator + Copy> Progress<A> {
         Ok(())
     }
 
-    /// Takes off a vertex: an arc of each of these vertices goes.
+    /// Removes a vertex: an arc of each of these vertices goes.
     pub(crate) fn take_off(&mut self, vertex: u16, tails: &[u16]) -> Result<(), AllocError>
         requires one_each { length self.old.ranks ≡ length self.old.remaining }
         requires vertex { vertex < length self.old.ranks }
@@ -115,7 +115,7 @@ impl<A: Allocator + Copy> Progress<A> {
         Ok(())
     }
 
-    /// Of each vertex how many of its arcs remain, and its rank.
+    /// For each vertex, how many of its arcs remain, and its rank.
     pub(crate) fn into_parts(self) -> (Vec<usize, A>, Vec<u16, A>)
         ensures remaining { result.0.items ≡ self.remaining }
         ensures ranks { result.1.items ≡ self.ranks }

@@ -1,7 +1,7 @@
 //! The limit of lines: whether some line has more bytes, and which one is the first.
 //!
-//! Texts whose lines keep the limit aren't cut for that. From where a line begins the search jumps behind the last line feed of
-//! as many bytes as a line may have, and one more: no line that it jumps over is too long. So it looks at about one line for each
+//! Texts whose lines keep the limit aren't cut for that. From where a line begins, the search jumps past the last line feed among
+//! as many bytes as a line may have, and one more. No line that it jumps over is too long. So it looks at about one line for each
 //! jump, and at no byte more than three times. Where a line is too long, the lines are cut up to that one, to count them.
 
 ghost use Rattle.std.specs.Prelude.{◌≡◌, ◌<◌, ◌^◌, length, is_some, option_map};
@@ -11,7 +11,7 @@ ghost use Rattle.wq_text.specs.Limits.{first_long_line};
 use crate::line::{Lines, first_cut, line_bytes};
 use memchr::memrchr;
 
-/// Whether some line has more bytes than the limit, its comment counted.
+/// Whether some line has more bytes than the limit, including its comment.
 fn has_long_line(text: &[u8], limit: u32) -> bool
     ensures { result ≡ is_some (first_long_line limit (lines_of text.now)) }
 {
@@ -33,7 +33,7 @@ fn has_long_line(text: &[u8], limit: u32) -> bool
     false
 }
 
-/// The number of the first line that has more bytes than the limit, its comment counted.
+/// The number of the first line that has more bytes than the limit, including its comment.
 pub(crate) fn first_long_line(text: &[u8], limit: u32) -> Option<u32>
     requires { length text.now < 2 ^ 32 }
     ensures { result ≡ option_map (λ (line : LineView). line.no) (first_long_line limit (lines_of text.now)) }

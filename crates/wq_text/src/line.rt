@@ -1,8 +1,8 @@
-//! Lines: what stands between line feeds, and what of a line stands before its comment.
+//! Lines: what is between line feeds, and which part of a line comes before its comment.
 //!
-//! A line feed (LF, the byte 10) ends a line, and what stands after the last one is a line if it isn't empty. One
-//! carriage return (CR, the byte 13) directly before a line feed is no part of the line. A comment begins at the first
-//! `#` of a line and reaches to the line's end. The rules are those of "Lines, words and numbers" in docs/FORMAT.md.
+//! A line feed (LF, the byte 10) ends a line, and what comes after the last one is a line if it isn't empty. One carriage return
+//! (CR, the byte 13) directly before a line feed isn't part of the line. A comment begins at the first `#` of a line and reaches
+//! to the line's end. The rules are those of "Lines, words and numbers" in docs/FORMAT.md.
 //!
 //! Going through the lines looks at each byte of the text once, by `memchr`, and so does looking for the comment of a line.
 
@@ -46,7 +46,7 @@ impl<'a> Line<'a> {
         self.no
     }
 
-    /// Where the line stands in the text, its line feed and one CR directly before that left out.
+    /// Where the line is in the text, without its line feed and one CR directly before that.
     pub fn span(&self) -> Span
         ensures start { result.start ≡ self.now.start }
         ensures end { result.end ≡ self.now.start + length self.now.bytes }
@@ -64,8 +64,8 @@ impl<'a> Line<'a> {
         self.bytes
     }
 
-    /// The bytes of the line before its comment, which begins at the first `#` and reaches to the line's end: all
-    /// bytes where there is no `#`.
+    /// The bytes of the line before its comment, which begins at the first `#` and reaches to the line's end. They are all bytes
+    /// where there is no `#`.
     pub fn content(&self) -> &'a [u8]
         ensures { result.now ≡ before_comment self.now.bytes }
     {
@@ -83,7 +83,7 @@ impl<'a> Line<'a> {
     }
 }
 
-/// The first piece of some bytes, and what stands behind it.
+/// The first piece of some bytes, and what comes after it.
 #[derive(Clone, Copy)]
 pub(crate) struct Cut<'a> {
     pub(crate) piece: &'a [u8],
@@ -91,7 +91,7 @@ pub(crate) struct Cut<'a> {
     pub(crate) rest: &'a [u8],
 }
 
-/// Cuts bytes behind their first line feed.
+/// Cuts bytes after their first line feed.
 pub(crate) fn first_cut<'a>(bytes: &'a [u8]) -> Cut<'a>
     requires { 0 < length bytes.now }
     ensures first { pieces bytes.now ≡ record { bytes = result.piece.now; ended = result.ended } ∷ pieces result.rest.now }
@@ -156,7 +156,7 @@ impl<'a> Lines<'a> {
         }
     }
 
-    /// The number of the first line that has more bytes than the limit, its comment counted.
+    /// The number of the first line that has more bytes than the limit, including its comment.
     pub(crate) fn first_longer_than(self, limit: u32) -> Option<u32>
         ensures { result ≡ option_map (λ (line : LineView). line.no) (first_long_line limit self.entry) }
     {

@@ -8,7 +8,7 @@ ghost use Rattle.wq_text.specs.Numbers.{Spells};
 
 use std::str;
 
-/// Whether bytes begin as a number does: with a digit, which is no `0` in front of others.
+/// Whether bytes begin like a number: with a digit, which isn't a `0` before other digits.
 fn begins_number(bytes: &[u8]) -> bool
     ensures { IsTrue result
         ↔ ((0 < length bytes.now) × IsInRange 48 57 (slice_index bytes.now 0)
@@ -19,7 +19,7 @@ fn begins_number(bytes: &[u8]) -> bool
 
 /// The number that the bytes spell: `0`, or a digit from 1 to 9 and digits after it, at most 4,294,967,295.
 ///
-/// `None` for all other bytes: none at all, a leading zero, a sign, a byte that is no digit, a larger number.
+/// `None` for all other bytes: no byte, a leading zero, a sign, a byte that isn't a digit, a larger number.
 pub fn number(bytes: &[u8]) -> Option<u32>
     ensures some { IfSome result (λ n. Spells bytes.now n) }
     ensures none { IfNone result ((n : ℕ) → Spells bytes.now n → ⊥) }

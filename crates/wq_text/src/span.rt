@@ -1,13 +1,13 @@
-//! Spans: where something stands in a text.
+//! Spans: where something is in a text.
 //!
-//! The offsets are those of the bytes of the text, from 0, as in "Lines, words and numbers" in docs/FORMAT.md. Making
-//! and reading a span takes constant time.
+//! The offsets are those of the bytes of the text, from 0, as in "Lines, words and numbers" in docs/FORMAT.md. Making and reading
+//! a span takes constant time.
 
 /// A range of bytes of a text, from `start` up to but not including `end`.
 #[derive(Clone, Copy, Debug, PartialEq, Eq)]
 pub struct Span {
     /// The offset of the first byte.
     pub start: u32,
-    /// The offset behind the last byte.
+    /// The offset after the last byte.
     pub end: u32,
 }

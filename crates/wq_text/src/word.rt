@@ -1,8 +1,8 @@
 //! Words: the longest runs of bytes other than space and TAB.
 //!
-//! The rule is that of "Lines, words and numbers" in docs/FORMAT.md. A `#` ends the word before it and all words of a line,
-//! so the comment isn't sought before the words are. Each byte before it is looked at once, the first ones of a long word
-//! twice.
+//! The rule is that of "Lines, words and numbers" in docs/FORMAT.md. A `#` ends the word before it and all words of a line, so
+//! there is no search for the comment before the words are cut. Each byte before it is looked at once, the first ones of a long
+//! word twice.
 
 ghost use Rattle.std.specs.Prelude.{◌≡◌, ◌+◌, ◌<◌, ◌^◌, ◌⊎◌, true, [], ◌++◌, length};
 ghost use Rattle.std.specs.List.{prefix_len};
@@ -14,8 +14,8 @@ use crate::span::Span;
 use memchr::memchr3;
 use std::marker::Model;
 
-/// How many bytes of a word are looked at one by one, before its end is sought many bytes at a time. The words that begin a
-/// directive are shorter.
+/// How many bytes of a word are looked at one by one, before the search for its end looks at many bytes at a time. The words that
+/// begin a directive are shorter.
 const MANY: usize = 8;
 
 /// A word of a line. Contracts see its offset in the text and its bytes.
@@ -44,7 +44,7 @@ impl<'a> Word<'a> {
         self.bytes
     }
 
-    /// Where the word stands in the text.
+    /// Where the word is in the text.
     pub fn span(&self) -> Span
         ensures start { result.start ≡ self.now.start }
         ensures end { result.end ≡ self.now.start + length self.now.bytes }
@@ -55,7 +55,7 @@ impl<'a> Word<'a> {
         }
     }
 
-    /// The same word once more.
+    /// The same word again.
     pub fn again(&self) -> Word<'a>
         ensures { result ≡ self.now }
     {
@@ -66,14 +66,14 @@ impl<'a> Word<'a> {
     }
 }
 
-/// Whether a byte parts words: a space or a TAB. Most bytes of a line are greater, which one comparison tells.
+/// Whether a byte separates words: a space or a TAB. Most bytes of a line are greater, which one comparison tells.
 fn is_blank(byte: u8) -> bool
     ensures { result ≡ is_blank byte }
 {
     byte <= b' ' && (byte == b' ' || byte == b'\t')
 }
 
-/// Whether a byte may stand in a word: neither a blank nor the `#` of a comment. Most bytes of a line are greater than these,
+/// Whether a byte may be in a word: it is neither a blank nor the `#` of a comment. Most bytes of a line are greater than these,
 /// which one comparison tells.
 fn in_word(byte: u8) -> bool
     ensures { result ≡ in_word byte }
@@ -93,7 +93,7 @@ fn blanks_in_front(bytes: &[u8]) -> usize
     bytes.len()
 }
 
-/// How many bytes at the front may stand in a word. The end of a long word is sought many bytes at a time.
+/// How many bytes at the front may be in a word. The search for the end of a long word looks at many bytes at a time.
 fn word_in_front(bytes: &[u8]) -> usize
     ensures { result ≡ prefix_len in_word bytes.now }
 {
@@ -122,7 +122,7 @@ fn long_word_in_front(bytes: &[u8]) -> usize
     }
 }
 
-/// Parts the blanks at the front from what follows them.
+/// Separates the blanks at the front from what follows them.
 fn split_blanks(bytes: &[u8]) -> (&[u8], &[u8])
     ensures whole { bytes.now ≡ result.0.now ++ result.1.now }
     ensures blank { AllBlank result.0.now }
@@ -132,7 +132,7 @@ fn split_blanks(bytes: &[u8]) -> (&[u8], &[u8])
     bytes.split_at(len)
 }
 
-/// Parts the word at the front from what follows it. There is none where the comment or the end comes at once.
+/// Separates the word at the front from what follows it. There is none where the comment or the end comes at once.
 fn split_word(bytes: &[u8]) -> (&[u8], &[u8])
     ensures whole { bytes.now ≡ result.0.now ++ result.1.now }
     ensures unbroken { AllInWord result.0.now }
@@ -162,7 +162,7 @@ impl<'a> Model for Words<'a> {
 }
 
 impl<'a> Words<'a> {
-    /// The words of these bytes before their comment. The first of the bytes stands at this offset.
+    /// The words of these bytes before their comment. The first of the bytes is at this offset.
     pub(crate) fn of(start: u32, bytes: &'a [u8]) -> Words<'a>
         requires { start + length bytes.now < 2 ^ 32 }
         ensures { result ≡ words_from start (before_comment bytes.now) }
@@ -170,7 +170,7 @@ impl<'a> Words<'a> {
         Words { start, rest: bytes }
     }
 
-    /// The same words once more. There are fewer than 2^32.
+    /// The same words again. There are fewer than 2^32.
     pub fn again(&self) -> Words<'a>
         ensures same { result ≡ self.now }
         ensures few { length self.now < 2 ^ 32 }
