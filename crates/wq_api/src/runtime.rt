@@ -1,9 +1,9 @@
 //! The runtime: the calls of kernel/workqueue.c, for many threads over one book under one lock.
 //!
 //! A call takes the lock, makes its events, and lets the lock go. A call that has to wait sleeps on the one condition variable,
-//! and each event that changes the state of the machine wakes all that sleep. No caller sleeps with the lock held. The calls of
-//! `Held`, which are made under the lock, say what a call does to the book. Here it is said what the caller can know: its answer,
-//! and its own counts.
+//! and each event that changes the state of the machine wakes all that sleep. No caller sleeps with the lock held. The contracts
+//! of `Held`, whose calls are made under the lock, say what a call does to the book. The contracts here say what the caller can
+//! know: its answer, and its own counts.
 //!
 //! Apart from what it waits for, a call takes the time of the book's events. `new` takes that of the wait graph of the workqueues
 //! and its ranks, and of the rows, for which it takes room. `close` takes time in the number of seats and their counts.
@@ -209,8 +209,8 @@ impl<N: Naming, A: Allocator> WqRuntime<N, A> {
         unreachable!()
     }
 
-    /// Waits until no entry of an item that was queued before the call is unfinished (`flush_work`): true where it had to wait,
-    /// false where the item was idle.
+    /// Waits until none of an item's entries that were queued before the call is unfinished (`flush_work`): true where it had to
+    /// wait, false where the item was idle.
     ///
     /// The error is `NoItem` (66), or else `HistoryFull` (60). Then nothing is changed or counted. Once it has asked, the only
     /// error could be `NotAsked` (65); then its ask stays counted.
@@ -241,7 +241,7 @@ impl<N: Naming, A: Allocator> WqRuntime<N, A> {
         }
     }
 
-    /// Removes the pending entry of an item, and waits until none of its entries that was queued before the call is unfinished
+    /// Removes the pending entry of an item, and waits until none of its entries that were queued before the call is unfinished
     /// (`cancel_work_sync`): true where one was pending.
     ///
     /// The error is `NoItem` (66), or else `HistoryFull` (60), where the seat is full or fewer than 3 rows are free. Then nothing

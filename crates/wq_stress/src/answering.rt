@@ -1,4 +1,4 @@
-//! The answer to a declaration and an assignment: they are judged, and then threads work on a runtime. It takes the time of these.
+//! The answer to a declaration and an assignment: they are judged, and then threads work on a runtime. It takes the time of both.
 
 ghost use Rattle.std.specs.Prelude.{◌≡◌, length};
 

@@ -110,8 +110,8 @@ fn word_in_front(bytes: &[u8]) -> usize
     }
 }
 
-/// The same, many bytes at a time. It is kept out of its callers: a search by vectors makes a function save what it overwrites, and
-/// they would do so in each call, for short words too.
+/// The same, many bytes at a time. It is kept out of its callers: a search by vectors makes a function save what it overwrites,
+/// and its callers would do so in each call, for short words too.
 #[inline(never)]
 fn long_word_in_front(bytes: &[u8]) -> usize
     ensures { result ≡ prefix_len in_word bytes.now }
