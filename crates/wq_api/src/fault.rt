@@ -98,7 +98,7 @@ pub enum CallError {
     #[error("the item has made all its waits")]
     TooManyWaits,
     /// There is no such workqueue, the item belongs to another, or the workqueue can't make this step (64).
-    #[error("the lane can't do this")]
+    #[error("the workqueue can't do this")]
     WrongLane,
     /// No ask about the item is waiting (65). A call tells only the ask that it made itself.
     #[error("no caller waits for the item")]

@@ -3,7 +3,7 @@
 //!
 //! What the layer above relies on: whenever the lock is taken, the rows are a legal history under the runtime's assignment, which
 //! is safe. Each call counts, in its caller's seat, the rows that it wrote, except for starts. All seats together count as many
-//! as the history has. Each call that may wait for another thread sleeps without the lock.
+//! rows as the history has, starts left out. Each call that may wait for another thread sleeps without the lock.
 #![tactic(auto)]
 
 mod closing;

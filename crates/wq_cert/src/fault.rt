@@ -15,10 +15,10 @@ use thiserror::Error;
 pub enum CertError {
     /// The line isn't of the form that comes next, or is too long (40). It is line 0 where the text is too long or ends too
     /// early.
-    #[error("line {line}: not what stands here in a certificate")]
+    #[error("line {line}: not what a certificate has here")]
     BadCertLine { line: u32 },
     /// An item is on a workqueue already (41). It is line 0 where an item is on none.
-    #[error("line {line}: not each item stands on one workqueue")]
+    #[error("line {line}: not every item is on exactly one workqueue")]
     NotAllItems { line: u32 },
     /// Another item of the same group is on an earlier workqueue (42).
     #[error("line {line}: a group on two workqueues")]

@@ -23,7 +23,7 @@ pub enum DeclError {
     #[error("line {line}: a word too many")]
     ExtraWord { line: u32 },
     /// A word after the first isn't a name (6).
-    #[error("line {line}: a word that is no name")]
+    #[error("line {line}: a word that isn't a name")]
     BadName { line: u32 },
 }
 

@@ -25,7 +25,7 @@ pub enum BookError {
     #[error("the item has made all its waits")]
     TooManyWaits,
     /// There is no such lane, or it can't make this step (64).
-    #[error("the lane can't do this")]
+    #[error("the workqueue can't do this")]
     WrongLane,
     /// There is no such item (66).
     #[error("no such item")]

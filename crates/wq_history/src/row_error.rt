@@ -11,7 +11,7 @@ use thiserror::Error;
 #[derive(Clone, Copy, Debug, PartialEq, Eq, Error)]
 pub enum RowFault {
     /// The bytes are fewer than 12, or hold no row (75).
-    #[error("no row")]
+    #[error("not a row")]
     BadRow,
     /// The row may not follow those before it (76).
     #[error("the row isn't legal here")]

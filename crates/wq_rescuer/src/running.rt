@@ -27,7 +27,7 @@ use wq_api::{CallError, Naming, Seat, SeatError, WqRuntime};
 #[derive(Clone, Copy, Debug, PartialEq, Eq, Error)]
 pub enum RunWhy {
     /// There isn't one body for each workqueue (73).
-    #[error("as many bodies as workqueues are wanted")]
+    #[error("there must be one body for each workqueue")]
     BodiesDiffer,
     /// The runtime has made 65,535 seats (70).
     #[error("more seats than a runtime may make")]

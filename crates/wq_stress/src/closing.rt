@@ -58,7 +58,7 @@ fn close_and_judge<N: Naming>(
     }
 }
 
-/// Prints what the threads met after `destroy`, or that not all of them were started.
+/// Prints what the threads met after `destroy`. Where not all of them were started, it prints nothing.
 fn put_left<N: Naming>(left: &Left<N>, out: &mut String) -> Result<(), AllocError> {
     if left.all_started {
         writeln!(out, "late {}\ndone {}", left.late, left.is_done)
