@@ -1,5 +1,6 @@
 pub mod NameLemmas
 pub mod FaultLemmas
+pub mod OrderedLemmas
 pub mod OriginLemmas
 pub mod RowLemmas
 pub mod TextLemmas

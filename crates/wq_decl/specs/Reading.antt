@@ -75,6 +75,16 @@ is_ordered (Ordered names) = true
 abbrev pub has_ordered : List (ℕ × Directive) → Bool
 has_ordered ds = list_any (λ (d : ℕ × Directive). is_ordered d.1) ds
 
+-- the number of an `ordered` line and the names on it; no other line has them
+abbrev pub ordered_line : ℕ × Directive → Option (ℕ × List WordView)
+ordered_line (n, Item name) = None
+ordered_line (n, Flush name targets) = None
+ordered_line (n, Ordered names) = Some (n, names)
+
+-- the `ordered` lines among directives, in order
+abbrev pub ordered_lines : List (ℕ × Directive) → List (ℕ × List WordView)
+ordered_lines ds = filter_map ordered_line ds
+
 -- each word of a directive is a name
 abbrev pub HasNames : Directive → Type 0
 HasNames (Item name) = IsTrue (is_name name.bytes)

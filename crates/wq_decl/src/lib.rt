@@ -9,9 +9,12 @@ mod directive;
 mod fault;
 mod known;
 pub mod laws;
+mod ordered_lines;
 mod reading;
 mod view;
 
 pub use directive::Directive;
 pub use fault::DeclError;
+pub use ordered_lines::OrderedLines;
+pub use reading::is_name;
 pub use view::{DeclView, Directives};

@@ -31,7 +31,7 @@ fn are_name_bytes(word: &[u8]) -> bool
 }
 
 /// Whether a word is a name: 1 to 63 bytes that a name may have.
-fn is_name(word: &[u8]) -> bool
+pub fn is_name(word: &[u8]) -> bool
     ensures { result ≡ is_name word.now }
 {
     !word.is_empty() && word.len() <= 63 && are_name_bytes(word)

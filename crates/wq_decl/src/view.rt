@@ -1,17 +1,21 @@
 //! A declaration as the list of its directives.
 //!
-//! Making a view looks at each line once, and so does going through its directives again. It takes no memory.
+//! Making a view looks at each line once, and so does going through its directives again, or through its `ordered` lines. It takes
+//! no memory.
 
-ghost use Rattle.std.specs.Prelude.{◌≡◌, ℕ, None, Some, IfErr, IfOk};
+ghost use Rattle.std.specs.Prelude.{◌≡◌, ℕ, List, None, Some, IfErr, IfOk};
 ghost use Rattle.std.specs.Iterator.{YieldsFirst, item_count};
 ghost use Rattle.std.specs.List.{AllByRecursion};
 ghost use Rattle.wq_text.specs.Lines.{lines_of};
+ghost use Rattle.wq_text.specs.Words.{WordView};
 ghost use Rattle.wq_decl.specs.declared.directive.Directive.{Directive};
-ghost use Rattle.wq_decl.specs.Reading.{directives, first_fault, has_ordered, HasNames};
+ghost use Rattle.wq_decl.specs.declared.directive.Directive.TheVariants.{Ordered};
+ghost use Rattle.wq_decl.specs.Reading.{directives, first_fault, has_ordered, ordered_lines, HasNames};
 
 use crate::directive::Directive;
 use crate::fault::DeclError;
 use crate::known::read_known_line;
+use crate::ordered_lines::OrderedLines;
 use crate::reading::read_line;
 use std::marker::Model;
 use wq_text::{Lines, Text};
@@ -57,6 +61,16 @@ impl<'a> DeclView<'a> {
         Ok(DeclView { text, orders })
     }
 
+    /// The directives of a text of which is known that no line has a fault, and whether some line is an `ordered` line:
+    /// nothing is looked at again.
+    pub fn of_faultless(text: Text<'a>, orders: bool) -> DeclView<'a>
+        requires faultless { first_fault (lines_of text) ≡ None }
+        requires orders { orders ≡ has_ordered (directives (lines_of text)) }
+        ensures { result ≡ directives (lines_of text.entry) }
+    {
+        DeclView { text, orders }
+    }
+
     /// Whether some line is an `ordered` line.
     pub fn has_ordered(&self) -> bool
         ensures { result ≡ has_ordered self.now }
@@ -72,6 +86,14 @@ impl<'a> DeclView<'a> {
         Directives {
             lines: self.text.lines(),
         }
+    }
+
+    /// The `ordered` lines in order: of each its number and the names on it. Of another line its first word is looked at, at most.
+    pub fn ordered_lines(&self) -> OrderedLines<'a>
+        ensures value { result ≡ ordered_lines self.now }
+        ensures names { AllByRecursion (λ (l : ℕ × List WordView). HasNames (Ordered l.1)) (ordered_lines self.now) }
+    {
+        OrderedLines::of(self.text.lines())
     }
 }
 

@@ -1,10 +1,10 @@
--- Going over the directives: what is noted of the items so far.
+-- Going over the `ordered` lines: what is noted of the items so far.
 use Rattle.std.proofs.Common.{◌≡◌, ℕ, ◌+◌, ◌<◌, ◌⊎◌, inl, inr, Bool, true, false, ◌||◌, ◌&&◌, cond, ltb, List, [], ◌∷◌, ◌++◌, length, map, get_or, take, drop, Option, Some, None, Ok, Err, refl, sym, ap, subst, ◌∙◌, arith, append_assoc, append-nil}
 use Rattle.std.specs.Prelude.{IsSome, is_some, Contains, bytes_eq, replicate}
 use Rattle.std.specs.List.{All, position, position_or_len, range_with_len, filter_map}
 use Rattle.std.specs.Option.{unwrap_or}
 use Rattle.std.proofs.Math.Bool.{or-false}
-use Rattle.std.proofs.lemmas.Bool.{cases_Bool, or_cases, or_parts, or_left, or_right, and_parts, and_from, cond-true, cond-false, lt-ltb, false_from_ne_true}
+use Rattle.std.proofs.lemmas.Bool.{cases_Bool, or_cases, or_left, or_right, and_parts, and_from, cond-true, cond-false, lt-ltb, false_from_ne_true}
 use Rattle.std.proofs.lemmas.List.{length-map, get_or-map, ext_get_or, get_or-replicate, length-replicate, drop_all, take_all}
 use Rattle.std.proofs.lemmas.List.Folds.{list_any-append}
 use Rattle.std.proofs.lemmas.List.FromFn.{length-range_with_len, get_or-range_with_len}
@@ -13,7 +13,7 @@ use Rattle.std.proofs.lemmas.List.Sums.{position_or_len_is}
 use Rattle.wq_text.specs.Words.{WordView}
 use Rattle.wq_decl.specs.declared.directive.Directive.{Directive}
 use Rattle.wq_decl.specs.declared.directive.Directive.TheVariants.{Item, Flush, Ordered}
-use Rattle.wq_decl.specs.Reading.{is_ordered, has_ordered}
+use Rattle.wq_decl.specs.Reading.{has_ordered, ordered_lines}
 use Rattle.wq_items.specs.Table.{Table, item_named}
 use Rattle.wq_items.specs.Building.{table_of, items_named, and_item}
 use Rattle.wq_items.specs.Flushes.{item_name}
@@ -174,74 +174,112 @@ pub written_back : {X : Type 0} (new old : List X) (n : ℕ) → length new ≡ 
 written_back new old n long all =
     ap (λ (rest : List _). take n (new ++ rest)) (drop_all (length new) old (omega (arith, long))) ∙ ap (take n) (append-nil new) ∙ take_all n new (omega (arith, long, all))
 
-pub names_ordered-other : (n : ℕ) (d : Directive) → ((names : List WordView) → d ≡ Ordered names → ⊥) → names_ordered (n, d) ≡ []
-names_ordered-other n (Item name) other = refl
-names_ordered-other n (Flush name targets) other = refl
-names_ordered-other n (Ordered names) other = absurd (other names refl)
+-- the directives before an `ordered` line are noted, and these lines are left behind it
+record NotedUpTo (ds : List (ℕ × Directive)) (n : ℕ) (words : List WordView) (others : List (ℕ × List WordView)) (names : List (List ℕ)) (first : List ℕ) (marks : List Bool) : Type 0 where
+  before : List (ℕ × Directive)
+  after : List (ℕ × Directive)
+  parts : ds ≡ before ++ ((n, Ordered words) ∷ after)
+  left : ordered_lines after ≡ others
+  noted : IsNoted before names first marks
 
--- `rest` of the directives are left, and those before them are noted
-pub record NotedSoFar (ds rest : List (ℕ × Directive)) (names : List (List ℕ)) (first : List ℕ) (marks : List Bool) : Type 0 where
+same_line : (a b : ℕ × List WordView) (after others : List (ℕ × List WordView)) → a ∷ after ≡ b ∷ others → a ≡ b
+same_line a b after others left = cc
+
+module _ (ds : List (ℕ × Directive)) (names : List (List ℕ)) (first : List ℕ) (marks : List Bool) where
+  -- a directive that orders nothing is noted with those before it
+  one_more : (before : List (ℕ × Directive)) (d : ℕ × Directive) → names_ordered d ≡ [] → IsNoted before names first marks → IsNoted (before ++ (d ∷ [])) names first marks
+  one_more before d none noted = IsNoted-other before d names first marks none noted
+
+  up_to : (n : ℕ) (words : List WordView) (others : List (ℕ × List WordView)) (before rest : List (ℕ × Directive)) → ds ≡ before ++ rest → ordered_lines rest ≡ (n, words) ∷ others
+      → IsNoted before names first marks → NotedUpTo ds n words others names first marks
+  up_to n words others before [] parts left noted = absurd cc
+  up_to n words others before ((k, Item name) ∷ rest) parts left noted =
+      up_to n words others (before ++ ((k, Item name) ∷ [])) rest (parts ∙ sym (append_assoc before ((k, Item name) ∷ []) rest)) left (one_more before (k, Item name) refl noted)
+  up_to n words others before ((k, Flush name targets) ∷ rest) parts left noted =
+      up_to n words others (before ++ ((k, Flush name targets) ∷ [])) rest (parts ∙ sym (append_assoc before ((k, Flush name targets) ∷ []) rest)) left (one_more before (k, Flush name targets) refl noted)
+  up_to n words others before ((k, Ordered ws) ∷ rest) parts left noted =
+      let same = same_line (k, ws) (n, words) (ordered_lines rest) others left in
+      let behind : ordered_lines rest ≡ others = cc in
+      record {
+        before = before;
+        after = rest;
+        parts = parts ∙ ap (λ (line : ℕ × List WordView). before ++ ((line.0, Ordered line.1) ∷ rest)) same;
+        left = behind;
+        noted = noted;
+      }
+
+  to_the_end : (before rest : List (ℕ × Directive)) → ds ≡ before ++ rest → ordered_lines rest ≡ [] → IsNoted before names first marks → IsNoted ds names first marks
+  to_the_end before [] parts left noted = subst (λ (l : List (ℕ × Directive)). IsNoted l names first marks) (sym (parts ∙ append-nil before)) noted
+  to_the_end before ((k, Item name) ∷ rest) parts left noted =
+      to_the_end (before ++ ((k, Item name) ∷ [])) rest (parts ∙ sym (append_assoc before ((k, Item name) ∷ []) rest)) left (one_more before (k, Item name) refl noted)
+  to_the_end before ((k, Flush name targets) ∷ rest) parts left noted =
+      to_the_end (before ++ ((k, Flush name targets) ∷ [])) rest (parts ∙ sym (append_assoc before ((k, Flush name targets) ∷ []) rest)) left (one_more before (k, Flush name targets) refl noted)
+  to_the_end before ((k, Ordered ws) ∷ rest) parts left noted = absurd cc
+
+-- these `ordered` lines are left, and the directives before the first of them are noted
+pub record NotedSoFar (ds : List (ℕ × Directive)) (lines : List (ℕ × List WordView)) (names : List (List ℕ)) (first : List ℕ) (marks : List Bool) : Type 0 where
   pub before : List (ℕ × Directive)
+  pub rest : List (ℕ × Directive)
   pub parts : ds ≡ before ++ rest
+  pub left : ordered_lines rest ≡ lines
   pub noted : IsNoted before names first marks
 
 pub NotedSoFar-none : (ds : List (ℕ × Directive)) (names : List (List ℕ)) (first : List ℕ) (marks : List Bool) → Differ names → first ≡ range_with_len 0 (length names) → marks ≡ replicate (length names) false
-    → NotedSoFar ds ds names first marks
-NotedSoFar-none ds names first marks differ numbers none = record { before = []; parts = refl; noted = IsNoted-none names first marks differ numbers none }
+    → NotedSoFar ds (ordered_lines ds) names first marks
+NotedSoFar-none ds names first marks differ numbers none = record { before = []; rest = ds; parts = refl; left = refl; noted = IsNoted-none names first marks differ numbers none }
 
-pub NotedSoFar-known : (ds : List (ℕ × Directive)) (t : Table) (n : ℕ) (words : List WordView) (rest : List (ℕ × Directive)) (first : List ℕ) (marks : List Bool) → table_of ds ≡ Ok t
-    → NotedSoFar ds ((n, Ordered words) ∷ rest) t.names first marks → IsSome (items_named t.names words)
-NotedSoFar-known ds t n words rest first marks made so_far = known_names ds t so_far.before n words rest made so_far.parts
+module _ (ds : List (ℕ × Directive)) (names : List (List ℕ)) (n : ℕ) (words : List WordView) (others : List (ℕ × List WordView)) (first : List ℕ) (marks : List Bool) where
+  next_line : NotedSoFar ds ((n, words) ∷ others) names first marks → NotedUpTo ds n words others names first marks
+  next_line so_far = up_to ds names first marks n words others so_far.before so_far.rest so_far.parts so_far.left so_far.noted
 
-pub NotedSoFar-more : (ds : List (ℕ × Directive)) (names : List (List ℕ)) (d : ℕ × Directive) (rest : List (ℕ × Directive)) (old new : List ℕ) (marks marked : List Bool)
-    → ((before : List (ℕ × Directive)) → IsNoted before names old marks → IsNoted (before ++ (d ∷ [])) names new marked) → NotedSoFar ds (d ∷ rest) names old marks → NotedSoFar ds rest names new marked
-NotedSoFar-more ds names d rest old new marks marked step so_far = record {
-  before = so_far.before ++ (d ∷ []);
-  parts = so_far.parts ∙ sym (append_assoc so_far.before (d ∷ []) rest);
-  noted = step so_far.before so_far.noted;
-}
+  pub NotedSoFar-more : (new : List ℕ) (marked : List Bool) → ((before : List (ℕ × Directive)) → IsNoted before names first marks → IsNoted (before ++ ((n, Ordered words) ∷ [])) names new marked)
+      → NotedSoFar ds ((n, words) ∷ others) names first marks → NotedSoFar ds others names new marked
+  NotedSoFar-more new marked step so_far =
+      let line = next_line so_far in
+      record {
+        before = line.before ++ ((n, Ordered words) ∷ []);
+        rest = line.after;
+        parts = line.parts ∙ sym (append_assoc line.before ((n, Ordered words) ∷ []) line.after);
+        left = line.left;
+        noted = step line.before line.noted;
+      }
 
-pub NotedSoFar-twice : (ds : List (ℕ × Directive)) (names : List (List ℕ)) (d : ℕ × Directive) (rest : List (ℕ × Directive)) (first : List ℕ) (marks : List Bool)
-    → ((before : List (ℕ × Directive)) → IsNoted before names first marks → Differ (all_ordered before ++ names_ordered d) → ⊥) → NotedSoFar ds (d ∷ rest) names first marks → groups_of ds names ≡ Err (GroupedTwice d.0)
-NotedSoFar-twice ds names d rest first marks twice so_far =
-    groups_of-some ds names d.0
-    (first_regrouped-lowest ds d.0 (
-    record {
-      before = so_far.before;
-      line = d;
-      after = rest;
-      parts = so_far.parts;
-      number = refl;
-      apart = so_far.noted.apart;
-      twice = λ (differ : Differ (all_ordered (so_far.before ++ (d ∷ [])))). twice so_far.before so_far.noted (subst Differ (all_ordered-push so_far.before d) differ);
-    }
-    ))
+  pub NotedSoFar-twice : ((before : List (ℕ × Directive)) → IsNoted before names first marks → Differ (all_ordered before ++ names_in words) → ⊥)
+      → NotedSoFar ds ((n, words) ∷ others) names first marks → groups_of ds names ≡ Err (GroupedTwice n)
+  NotedSoFar-twice twice so_far =
+      let line = next_line so_far in
+      groups_of-some ds names n
+      (first_regrouped-lowest ds n (
+      record {
+        before = line.before;
+        line = (n, Ordered words);
+        after = line.after;
+        parts = line.parts;
+        number = refl;
+        apart = line.noted.apart;
+        twice = λ (differ : Differ (all_ordered (line.before ++ ((n, Ordered words) ∷ [])))). twice line.before line.noted (subst Differ (all_ordered-push line.before (n, Ordered words)) differ);
+      }
+      ))
+
+pub NotedSoFar-known : (ds : List (ℕ × Directive)) (t : Table) (n : ℕ) (words : List WordView) (others : List (ℕ × List WordView)) (first : List ℕ) (marks : List Bool) → table_of ds ≡ Ok t
+    → NotedSoFar ds ((n, words) ∷ others) t.names first marks → IsSome (items_named t.names words)
+NotedSoFar-known ds t n words others first marks made so_far =
+    let line = next_line ds t.names n words others first marks so_far in
+    known_names ds t line.before n words line.after made line.parts
 
 pub NotedSoFar-all : (ds : List (ℕ × Directive)) (names : List (List ℕ)) (first : List ℕ) (marks : List Bool) → NotedSoFar ds [] names first marks → IsNoted ds names first marks
-NotedSoFar-all ds names first marks so_far = subst (λ (l : List (ℕ × Directive)). IsNoted l names first marks) (sym (so_far.parts ∙ append-nil so_far.before)) so_far.noted
+NotedSoFar-all ds names first marks so_far = to_the_end ds names first marks so_far.before so_far.rest so_far.parts so_far.left so_far.noted
 
 -- ---- no `ordered` line
 
-unordered-step : (ds : List (ℕ × Directive)) (names : List (List ℕ)) (d : ℕ × Directive) (rest : List (ℕ × Directive)) (first : List ℕ) (marks : List Bool) → is_ordered d.1 ≡ false
-    → NotedSoFar ds (d ∷ rest) names first marks → NotedSoFar ds rest names first marks
-unordered-step ds names d rest first marks other so_far =
-    NotedSoFar-more ds names d rest first first marks marks (λ before noted. IsNoted-other before d names first marks (nothing d.0 d.1 other) noted) so_far
-  where
-    nothing : (n : ℕ) (e : Directive) → is_ordered e ≡ false → names_ordered (n, e) ≡ []
-    nothing n (Item name) other = refl
-    nothing n (Flush name targets) other = refl
-    nothing n (Ordered names) other = absurd cc
-
--- directives that are left count for nothing if none of them is that of an `ordered` line
-NotedSoFar-unordered : (ds : List (ℕ × Directive)) (names : List (List ℕ)) (rest : List (ℕ × Directive)) (first : List ℕ) (marks : List Bool) → has_ordered rest ≡ false
-    → NotedSoFar ds rest names first marks → NotedSoFar ds [] names first marks
-NotedSoFar-unordered ds names [] first marks none so_far = so_far
-NotedSoFar-unordered ds names (d ∷ rest) first marks none so_far =
-    let parts = or_parts (is_ordered d.1) (has_ordered rest) none in
-    NotedSoFar-unordered ds names rest first marks parts.1 (unordered-step ds names d rest first marks parts.0 so_far)
+no_lines : (ds : List (ℕ × Directive)) → has_ordered ds ≡ false → ordered_lines ds ≡ []
+no_lines [] none = refl
+no_lines ((n, Item name) ∷ ds) none = no_lines ds none
+no_lines ((n, Flush name targets) ∷ ds) none = no_lines ds none
+no_lines ((n, Ordered names) ∷ ds) none = absurd cc
 
 -- without an `ordered` line each item is the first-declared one of its group
 pub IsNoted-unordered : (ds : List (ℕ × Directive)) (names : List (List ℕ)) (first : List ℕ) (marks : List Bool) → has_ordered ds ≡ false → Differ names → first ≡ range_with_len 0 (length names)
     → marks ≡ replicate (length names) false → IsNoted ds names first marks
 IsNoted-unordered ds names first marks none differ numbers unmarked =
-    NotedSoFar-all ds names first marks (NotedSoFar-unordered ds names ds first marks none (NotedSoFar-none ds names first marks differ numbers unmarked))
+    to_the_end ds names first marks [] ds refl (no_lines ds none) (IsNoted-none names first marks differ numbers unmarked)

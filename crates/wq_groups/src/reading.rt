@@ -18,7 +18,7 @@ ghost use Rattle.wq_groups.specs.Reading.{names_in, marks_of, lowest_of, IsNoted
 use crate::fault::GroupError;
 use arrayvec::ArrayVec;
 use std::alloc::Allocator;
-use wq_decl::{DeclView, Directive};
+use wq_decl::DeclView;
 use wq_items::{ItemId, ItemTable};
 use wq_text::Words;
 
@@ -119,17 +119,15 @@ pub(crate) fn first_members<A: Allocator + Copy>(
         return Ok(first);
     }
     let mut items = ArrayVec::new();
-    for (line, directive) in view.directives() {
-        if let Directive::Ordered(names) = directive {
-            if !put_together(
-                table,
-                first.as_mut_slice(),
-                ordered.as_mut_slice(),
-                &mut items,
-                names,
-            ) {
-                return Err(GroupError::GroupedTwice { line });
-            }
+    for (line, names) in view.ordered_lines() {
+        if !put_together(
+            table,
+            first.as_mut_slice(),
+            ordered.as_mut_slice(),
+            &mut items,
+            names,
+        ) {
+            return Err(GroupError::GroupedTwice { line });
         }
     }
     Ok(first)

@@ -1,4 +1,4 @@
-use Rattle.std.proofs.Common.{◌≡◌, ◌++◌, ◌∷◌, [], ℕ, inl, inr, true, false, get_or, List, Some, refl, sym, ap, subst, ◌∙◌, arith, rules}
+use Rattle.std.proofs.Common.{◌≡◌, [], inl, inr, true, false, get_or, List, Some, refl, sym, subst, ◌∙◌, arith, rules}
 use Rattle.wq_text.specs.Words.{WordView}
 use Rattle.wq_items.specs.Table.{item_named}
 use Rattle.wq_items.proofs.TableLemmas.{item_named-below}

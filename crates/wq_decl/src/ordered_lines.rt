@@ -1,0 +1,101 @@
+//! The `ordered` lines of a declaration, without its other lines.
+//!
+//! The directives are those of "Directives" in docs/FORMAT.md. The lines have no fault, so nothing is judged again: a line is an
+//! `ordered` line where its first word is as long as `ordered`, since `item` and `flush` are shorter. Most lines begin with one of
+//! these, without a blank before it, and are passed over by their first byte. Of another line the first word is cut, and the names on
+//! an `ordered` line are left to the caller. Going over them takes time in the length of the text.
+
+ghost use Rattle.std.specs.Prelude.{◌≡◌, ◌∷◌, List, None, IsOk, IsTrue};
+ghost use Rattle.std.specs.List.{cons_option};
+ghost use Rattle.std.specs.Iterator.{YieldsFirst, item_count};
+ghost use Rattle.wq_text.specs.Lines.{LineView};
+ghost use Rattle.wq_decl.specs.Reading.{reading, directives, first_fault, ordered_lines};
+
+use std::marker::Model;
+use wq_text::{Line, Lines, Words};
+
+/// How many bytes the word `ordered` has.
+const ORDERED_LEN: usize = b"ordered".len();
+
+/// Whether bytes begin as `item` or `flush` does: a line of these bytes is no `ordered` line, and that is told without a cut.
+fn begins_otherwise(bytes: &[u8]) -> bool
+    ensures { IsTrue result → (line : LineView) (rest : List LineView) → line.bytes ≡ bytes.now → ordered_lines (directives (line ∷ rest)) ≡ ordered_lines (directives rest) }
+{
+    match bytes.split_first() {
+        Some((first, _)) => *first == b'i' || *first == b'f',
+        None => false,
+    }
+}
+
+/// The number of a line without a fault and the names on it, if it is an `ordered` line.
+fn read_ordered_line<'a>(line: &Line<'a>) -> Option<(u32, Words<'a>)>
+    requires { IsOk (reading line.now) }
+    ensures { (rest : List LineView) → ordered_lines (directives (line.now ∷ rest)) ≡ cons_option result (ordered_lines (directives rest)) }
+{
+    if begins_otherwise(line.bytes()) {
+        return None;
+    }
+    let mut words = line.words();
+    let first = words.next()?;
+    if first.bytes().len() == ORDERED_LEN {
+        Some((line.no(), words))
+    } else {
+        None
+    }
+}
+
+/// The first `ordered` line of some lines, and the lines behind it.
+fn next_ordered_line<'a>(lines: &mut Lines<'a>) -> Option<(u32, Words<'a>)>
+    requires { first_fault lines.old ≡ None }
+    ensures steps { YieldsFirst (λ rest. ordered_lines (directives rest)) lines.old result lines.new }
+    ensures sound { first_fault lines.new ≡ None }
+{
+    while let Some(line) = lines.next() {
+        let found = read_ordered_line(&line);
+        if found.is_some() {
+            return found;
+        }
+    }
+    None
+}
+
+/// The `ordered` lines of a view, in order: of each its number and the names on it. Contracts see the list of those that are left.
+#[derive(Drop)]
+pub struct OrderedLines<'a> {
+    lines: Lines<'a>,
+}
+
+impl<'a> Model for OrderedLines<'a> {
+    ghost use Rattle.std.specs.Prelude.{◌≡◌, ℕ, List, None};
+    ghost use Rattle.wq_text.specs.Words.{WordView};
+
+    ghost Value = { List (ℕ × List WordView) };
+
+    ghost use Rattle.wq_decl.specs.Reading.{directives, first_fault, ordered_lines};
+
+    ghost view = { λ o. ordered_lines (directives o.lines) };
+
+    ghost invariant = { λ o. first_fault o.lines ≡ None };
+}
+
+impl<'a> OrderedLines<'a> {
+    /// Those among these lines, which have no fault.
+    pub(crate) fn of(lines: Lines<'a>) -> OrderedLines<'a>
+        requires { first_fault lines ≡ None }
+        ensures { result ≡ ordered_lines (directives lines.entry) }
+    {
+        OrderedLines { lines }
+    }
+}
+
+impl<'a> Iterator for OrderedLines<'a> {
+    type Item = (u32, Words<'a>);
+
+    ghost next_gives = { YieldsFirst (λ rest. rest) };
+
+    ghost remaining = { item_count (λ rest. rest) };
+
+    fn next(&mut self) -> Option<(u32, Words<'a>)> {
+        next_ordered_line(&mut self.lines)
+    }
+}
