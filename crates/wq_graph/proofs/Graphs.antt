@@ -1,14 +1,17 @@
 -- Graphs of declarations: which arcs a vertex has, and what holds of every such graph.
-use Rattle.std.proofs.Common.{◌≡◌, ℕ, ◌<◌, ◌≤◌, ◌==◌, Bool, inl, inr, List, [], length, map, get_or, Some, refl, sym, ap, subst, ◌∙◌, arith}
-use Rattle.std.specs.Prelude.{IsPermutation, AllPairs, Contains, slice_index, filter, ◌↔◌}
+use Rattle.std.proofs.Common.{◌≡◌, ℕ, ◌*◌, ◌<◌, ◌≤◌, ◌==◌, Bool, inl, inr, List, [], ◌∷◌, length, map, get_or, Some, refl, sym, ap, subst, ◌∙◌, arith}
+use Rattle.std.specs.Prelude.{IsPermutation, AllPairs, Contains, slice_index, filter, flat_map, ◌↔◌}
 use Rattle.std.specs.List.{All, range_with_len}
 use Rattle.std.specs.List.Sorted.{IsStrictlyIncreasing}
 use Rattle.std.proofs.lemmas.Bool.{cases_lt, eqb-true, eq-eqb}
-use Rattle.std.proofs.lemmas.List.{get_or_past, length-map}
+use Rattle.std.proofs.lemmas.List.{get_or_past, length-append, length-map}
 use Rattle.std.proofs.lemmas.List.Elements.{All-map, All-filter, All-contains, filter_passes}
-use Rattle.std.proofs.lemmas.List.FromFn.{length-map-range_with_len, get_or-map-range_with_len}
+use Rattle.std.proofs.lemmas.List.Folds.{flat_map-map}
+use Rattle.std.proofs.lemmas.List.FromFn.{length-range_with_len, length-map-range_with_len, get_or-map-range_with_len}
 use Rattle.std.proofs.lemmas.List.Kept.{AllPairs-filter, AllPairs-from_increasing}
+use Rattle.std.proofs.lemmas.List.Sums.{length-filter, count_by-le-length}
 use Rattle.std.proofs.lemmas.Option.{get_or_from_slice_get, slice_get-get_or}
+use Rattle.wq_buckets.specs.Cuts.{pieces, AreCuts}
 use Rattle.wq_items.specs.declared.target.Target.{Target}
 use Rattle.wq_items.specs.Table.{TargetsBelow, flush_count, places, VertexWaits}
 use Rattle.wq_items.proofs.Lists.{Contains-filtered}
@@ -18,6 +21,7 @@ use Rattle.wq_groups.specs.Assignment.{Assignment, IsAssignment, group_lane, ite
 use Rattle.wq_groups.proofs.Lanes.{item_lanes-within}
 use Rattle.wq_graph.specs.declared.arc.WaitArc.{WaitArc}
 use Rattle.wq_graph.specs.Graph.{arc_of, arcs_by_item, arcs_by_place, arcs_from, graph_of, group_graph, lane_graph, arcs_at, HasArc, IsArc, AreArcsFrom, IsGraph}
+use Rattle.wq_graph.specs.Building.{arcs_leaving}
 use Rattle.wq_graph.proofs.ListLemmas.{IsStrictlyIncreasing-map, AllPairs-from_map, same_from_rising}
 use Rattle.wq_graph.proofs.Arcs.{IsArc-by_item, Contains-by_item, src-below, ByPlace, ByPlace-arc, ByPlace-arcs_by_place, place-below}
 
@@ -185,6 +189,21 @@ src-by_place waits vertex_of arcs n numbered is long =
     subst (All (λ (a : WaitArc). a.src < n)) (sym is) (
     λ k d within. let item = src-below waits vertex_of (get_or (arcs_by_place waits vertex_of) k d) (IsArc-by_place waits vertex_of numbered k d within) in omega (arith, item, long)
     )
+
+-- the arcs of at most 4,096 vertices, of each at most 16,384, can be told apart by numbers below 2^32
+few_joined : {X Y : Type 0} (f : X → List Y) → ((x : X) → length (f x) ≤ 16384) → (xs : List X) → length (flat_map f xs) ≤ 16384 * length xs
+few_joined f each [] = omega arith
+few_joined f each (x ∷ xs) = omega (arith, length-append (f x) (flat_map f xs), each x, few_joined f each xs)
+
+pub few_arcs : (vertex_of : List ℕ) (arcs sorted : List WaitArc) (begins : List ℕ) (n : ℕ) → length arcs ≤ 16384 → n ≤ 4096 → AreCuts begins sorted
+    → pieces begins sorted ≡ map (arcs_leaving vertex_of arcs) (range_with_len 0 n) → length sorted < 4294967296
+few_arcs vertex_of arcs sorted begins n few few_vertices cuts are =
+    let of : ℕ → List WaitArc = arcs_leaving vertex_of arcs in
+    let each : (v : ℕ) → length (of v) ≤ 16384 = λ v. (let leaves : WaitArc → Bool = λ (a : WaitArc). slice_index vertex_of a.src == v in
+    omega (arith, length-filter leaves arcs, count_by-le-length leaves arcs, few)) in
+    let joined : length sorted ≡ length (flat_map of (range_with_len 0 n)) =
+    ap length (sym cuts.joined ∙ ap (flat_map (λ (l : List WaitArc). l)) are ∙ flat_map-map (λ (l : List WaitArc). l) of (range_with_len 0 n)) in
+    omega (arith, joined, few_joined of each (range_with_len 0 n), length-range_with_len 0 n, few_vertices)
 
 -- ---- no other arcs
 

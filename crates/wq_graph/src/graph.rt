@@ -25,7 +25,7 @@ pub struct WaitGraph<A: Allocator> {
 }
 
 impl<A: Allocator> Model for WaitGraph<A> {
-    ghost use Rattle.std.specs.Prelude.{List};
+    ghost use Rattle.std.specs.Prelude.{◌<◌, List, length};
     ghost use Rattle.wq_buckets.specs.Cuts.{AreCuts, pieces};
     ghost use Rattle.wq_graph.specs.declared.arc.WaitArc.{WaitArc};
     ghost use Rattle.wq_graph.specs.Graph.{IsGraph};
@@ -34,7 +34,10 @@ impl<A: Allocator> Model for WaitGraph<A> {
 
     ghost view = { λ g. pieces g.begins.items g.arcs.items };
 
-    ghost invariant = { λ g. AreCuts g.begins.items g.arcs.items × IsGraph (pieces g.begins.items g.arcs.items) };
+    ghost invariant = { λ g.
+        AreCuts g.begins.items g.arcs.items
+        × IsGraph (pieces g.begins.items g.arcs.items)
+        × (length g.arcs.items < 4294967296) };
 }
 
 impl<A: Allocator + Copy> WaitGraph<A> {
@@ -108,9 +111,10 @@ impl<A: Allocator + Copy> WaitGraph<A> {
         piece(self.arcs.as_slice(), self.begins.as_slice(), vertex)
     }
 
-    /// All arcs: those of vertex 0, then those of vertex 1, and so on.
+    /// All arcs: those of vertex 0, then those of vertex 1, and so on. Their places have numbers below 2^32.
     pub fn all(&self) -> &[WaitArc]
-        ensures { result.now ≡ flat_map (λ arcs. arcs) self.now }
+        ensures arcs { result.now ≡ flat_map (λ arcs. arcs) self.now }
+        ensures few { length result.now < 4294967296 }
     {
         self.arcs.as_slice()
     }

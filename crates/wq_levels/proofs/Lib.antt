@@ -3,7 +3,7 @@ pub mod Ranks
 pub mod Endless
 pub mod First
 pub mod Times
-pub mod Turned
+pub mod Beside
 pub mod Taken
 pub mod Marked
 pub mod WaysOn

@@ -3,7 +3,7 @@ use Rattle.std.proofs.Common.{◌≡◌, ◌≢◌, ℕ, zero, suc, ◌+◌, ◌
 use Rattle.std.specs.Prelude.{Contains, get_or}
 use Rattle.std.specs.List.{All}
 use Rattle.std.proofs.lemmas.Bool.{cases_eq, cases_lt, cond_both, eqb-true, eqb-false}
-use Rattle.std.proofs.lemmas.List.{length-map, length-set, length-replicate, length-take-le, length_push, get_or-set_same, get_or-set_other, get_or-replicate, get_or_past, take-append-le, take-append-drop, take_all, take_more}
+use Rattle.std.proofs.lemmas.List.{length-map, length-set, length-replicate, length-take-le, length_push, get_or-set_same, get_or-set_other, get_or-replicate, get_or_past, take-append-le, take-append-drop, take_all, take_more, map_more}
 use Rattle.std.proofs.lemmas.List.Elements.{All-contains, Contains-append_left, Contains-push, Contains-push_cases, Contains-get_or}
 use Rattle.wq_items.specs.Chain.{BeginsChain, Repeats}
 use Rattle.wq_items.proofs.Chains.{BeginsChain-one, BeginsChain-at, BeginsChain-more, BeginsChain-less, BeginsChain-next}
@@ -57,6 +57,16 @@ ranks_each rank (v ∷ vs) p = ranks_each rank vs (with_arc_gone rank p v) ∙ l
 pub remaining_each : (rank : ℕ) (vs : List ℕ) (p : Taking) → length (with_arcs_gone rank p vs).remaining ≡ length p.remaining
 remaining_each rank [] p = refl
 remaining_each rank (v ∷ vs) p = remaining_each rank vs (with_arc_gone rank p v) ∙ length-set p.remaining v (slice_index p.remaining v - 1)
+
+-- the next arc goes
+pub with_arcs_gone-more : (rank : ℕ) (p : Taking) (tail : ℕ → ℕ) (places : List ℕ) (i : ℕ) → i < length places
+    → with_arcs_gone rank p (map tail (take (i + 1) places)) ≡ with_arc_gone rank (with_arcs_gone rank p (map tail (take i places))) (tail (slice_index places i))
+with_arcs_gone-more rank p tail places i within =
+    ap (with_arcs_gone rank p) (map_more tail places i 0 within) ∙ pushed p (map tail (take i places))
+  where
+    pushed : (q : Taking) (vs : List ℕ) → with_arcs_gone rank q (vs ++ (tail (slice_index places i) ∷ [])) ≡ with_arc_gone rank (with_arcs_gone rank q vs) (tail (slice_index places i))
+    pushed q [] = refl
+    pushed q (v ∷ vs) = pushed (with_arc_gone rank q v) vs
 
 -- a number above 0 stands in the list
 pub some_inside : (xs : List ℕ) (i : ℕ) → 0 < slice_index xs i → i < length xs

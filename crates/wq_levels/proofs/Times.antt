@@ -26,21 +26,10 @@ times-other x v xs other = omega (arith, times-cons x v xs, cond-false {A = ℕ}
 times-push : (xs : List ℕ) (x v : ℕ) → times (xs ++ (x ∷ [])) v ≡ times xs v + cond (x == v) 1 0
 times-push xs x v = sum_by_push (λ (u : ℕ). cond (u == v) 1 0) xs x
 
-pub times-push_own : (xs : List ℕ) (v : ℕ) → times (xs ++ (v ∷ [])) v ≡ times xs v + 1
-times-push_own xs v = omega (arith, times-push xs v v, cond-true {A = ℕ} (v == v) 1 0 (eq-eqb v v refl))
-
 pub times-push_other : (xs : List ℕ) (x v : ℕ) → x ≢ v → times (xs ++ (x ∷ [])) v ≡ times xs v
 times-push_other xs x v other = omega (arith, times-push xs x v, cond-false {A = ℕ} (x == v) 1 0 (ne_eqb x v other))
 
-pub arcs_to-push_own : (arcs : List WaitArc) (a : WaitArc) (w : ℕ) → a.head ≡ w → arcs_to (arcs ++ (a ∷ [])) w ≡ arcs_to arcs w + 1
-arcs_to-push_own arcs a w same =
-    omega (arith, sum_by_push (λ (b : WaitArc). cond (b.head == w) 1 0) arcs a, cond-true {A = ℕ} (a.head == w) 1 0 (eq-eqb a.head w same))
-
-pub arcs_to-push_other : (arcs : List WaitArc) (a : WaitArc) (w : ℕ) → a.head ≢ w → arcs_to (arcs ++ (a ∷ [])) w ≡ arcs_to arcs w
-arcs_to-push_other arcs a w other =
-    omega (arith, sum_by_push (λ (b : WaitArc). cond (b.head == w) 1 0) arcs a, cond-false {A = ℕ} (a.head == w) 1 0 (ne_eqb a.head w other))
-
-arcs_to-cons : (a : WaitArc) (arcs : List WaitArc) (w : ℕ) → arcs_to (a ∷ arcs) w ≡ cond (a.head == w) 1 0 + arcs_to arcs w
+pub arcs_to-cons : (a : WaitArc) (arcs : List WaitArc) (w : ℕ) → arcs_to (a ∷ arcs) w ≡ cond (a.head == w) 1 0 + arcs_to arcs w
 arcs_to-cons a arcs w = sum_by-cons (λ (b : WaitArc). cond (b.head == w) 1 0) a arcs
 
 -- ---- the first ones

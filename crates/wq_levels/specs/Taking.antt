@@ -1,6 +1,8 @@
 -- Taking vertices off a wait graph: a vertex is taken off once all of its arcs have gone, and the arcs that lead to it go
 -- then.
-use Rattle.std.specs.Prelude.{◌≡◌, ◌≢◌, ◌↔◌, ℕ, ◌+◌, ◌-◌, ◌<◌, ◌==◌, cond, max, List, [], ◌∷◌, ◌++◌, length, fold, count_by, slice_index, slice_index_or, slice_set, Contains}
+use Rattle.std.specs.Prelude.{◌≡◌, ◌↔◌, ℕ, ◌+◌, ◌-◌, ◌<◌, ◌==◌, cond, max, List, [], ◌∷◌, ◌++◌, length, map, flat_map, replicate, fold, count_by, slice_index, slice_index_or, slice_set, Contains}
+use Rattle.std.specs.List.{range_with_len}
+use Rattle.wq_buckets.specs.Places.{places_of}
 use Rattle.wq_items.specs.Chain.{IsRank, Repeats}
 use Rattle.wq_graph.specs.declared.arc.WaitArc.{WaitArc}
 use Rattle.wq_graph.specs.Graph.{HasArc, arcs_at}
@@ -20,16 +22,22 @@ arcs_to arcs w = count_by (λ (a : WaitArc). a.head == w) arcs
 abbrev pub tails_at : List (List ℕ) → ℕ → List ℕ
 tails_at tails w = slice_index_or tails w []
 
--- vertex v came to the lists of the heads of these arcs, once for each arc
-pub record HasTails (old new : List (List ℕ)) (v : ℕ) (arcs : List WaitArc) : Type 0 where
-  pub one_each : length new ≡ length old
-  pub own : (w : ℕ) → w < length old → times (tails_at new w) v ≡ times (tails_at old w) v + arcs_to arcs w
-  pub others : (u w : ℕ) → u ≢ v → times (tails_at new w) u ≡ times (tails_at old w) u
-
 -- of each vertex the vertices that the arcs to it leave, once for each arc
 pub record AreTails (graph : List (List WaitArc)) (tails : List (List ℕ)) : Type 0 where
   pub one_each : length tails ≡ length graph
   pub turned : (v w : ℕ) → w < length graph → times (tails_at tails w) v ≡ arcs_to (arcs_at graph v) w
+
+-- of all arcs in turn, vertex by vertex, the vertex that each leads to
+abbrev pub heads_of : List (List WaitArc) → List ℕ
+heads_of graph = map (λ (a : WaitArc). a.head) (flat_map (λ arcs. arcs) graph)
+
+-- of all arcs in the same order the vertex that each leaves
+abbrev pub tails_of : List (List WaitArc) → List ℕ
+tails_of graph = flat_map (λ v. replicate (length (arcs_at graph v)) v) (range_with_len 0 (length graph))
+
+-- of each vertex in turn, of the arcs that lead to it, the vertices that they leave
+abbrev pub tails_by_head : List (List WaitArc) → List (List ℕ)
+tails_by_head graph = map (λ w. map (slice_index (tails_of graph)) (places_of (heads_of graph) w)) (range_with_len 0 (length graph))
 
 -- ---- under way
 

@@ -1,52 +1,70 @@
-//! For each vertex, the vertices whose arcs lead to it.
+//! The arcs of a wait graph by the vertices that they lead to: those that go when a vertex is removed (`ranking.rt`).
 //!
-//! It takes time and memory in the number of vertices and arcs.
+//! All arcs are taken in turn, vertex by vertex, and `wq_buckets` finds the places of those that lead to each vertex. So there
+//! are a few vectors, and none for each vertex. It takes time and memory in the number of vertices and arcs.
 
-ghost use Rattle.std.specs.Prelude.{◌≡◌, ◌<◌, length, map, replicate, [], IfOk};
-ghost use Rattle.std.specs.List.{All};
-ghost use Rattle.wq_levels.specs.Taking.{HasTails, AreTails};
+ghost use Rattle.std.specs.Prelude.{◌≡◌, ◌++◌, length, map, replicate, IfOk};
+ghost use Rattle.wq_buckets.specs.Places.{buckets_of};
+ghost use Rattle.wq_levels.specs.Taking.{heads_of, tails_of};
 
 use std::alloc::{AllocError, Allocator};
+use wq_buckets::Buckets;
 use wq_graph::{WaitArc, WaitGraph};
 
-/// This many empty lists.
-fn empty_lists<A: Allocator + Copy>(alloc: A, count: u16) -> Result<Vec<Vec<u16, A>, A>, AllocError>
-    ensures { IfOk result (λ lists. map (λ l. l.items) lists.items ≡ replicate count []) }
-{
-    let mut lists = Vec::with_capacity(alloc, usize::from(count))?;
-    for _ in 0..count {
-        lists.push(Vec::new(alloc))?;
-    }
-    Ok(lists)
+/// The arcs that lead to each vertex.
+#[derive(Drop)]
+pub(crate) struct Incoming<A: Allocator> {
+    /// For each vertex, the places of the arcs that lead to it.
+    pub(crate) places: Buckets<A>,
+    /// The vertex that each arc leaves, in turn.
+    pub(crate) tails: Vec<u16, A>,
 }
 
-/// Adds a vertex to the lists of the heads of its arcs, once for each arc.
-fn add_tail<A: Allocator + Copy>(
-    lists: &mut Vec<Vec<u16, A>, A>,
-    vertex: u16,
-    arcs: &[WaitArc],
-) -> Result<(), AllocError>
-    requires { All (λ a. a.head < length lists.old.items) arcs.now }
-    ensures { IfOk result (λ _. HasTails (map (λ l. l.items) lists.old.items) (map (λ l. l.items) lists.new.items) vertex arcs.now) }
+/// The vertex that each of these arcs leads to, in turn.
+fn heads<A: Allocator + Copy>(alloc: A, arcs: &[WaitArc]) -> Result<Vec<u16, A>, AllocError>
+    ensures { IfOk result (λ heads. heads.items ≡ map (λ a. a.head) arcs.now) }
 {
+    let mut heads = Vec::with_capacity(alloc, arcs.len())?;
     for arc in arcs {
-        let list = &mut lists[usize::from(arc.head)];
+        heads.push(arc.head)?;
+    }
+    Ok(heads)
+}
+
+/// Adds a vertex this many times.
+fn add_times<A: Allocator + Copy>(
+    list: &mut Vec<u16, A>,
+    vertex: u16,
+    times: usize,
+) -> Result<(), AllocError>
+    ensures { IfOk result (λ _. list.new.items ≡ list.old.items ++ replicate times vertex) }
+{
+    for _ in 0..times {
         list.push(vertex)?;
     }
     Ok(())
 }
 
-/// For each vertex in turn, the vertices that the arcs to it leave, once for each arc.
-pub(crate) fn tails<A: Allocator + Copy>(
-    alloc: A,
-    graph: &WaitGraph<A>,
-) -> Result<Vec<Vec<u16, A>, A>, AllocError>
-    ensures { IfOk result (λ lists. AreTails graph.now (map (λ l. l.items) lists.items)) }
+/// The vertex that each of all arcs leaves, in turn.
+fn tails<A: Allocator + Copy>(alloc: A, graph: &WaitGraph<A>) -> Result<Vec<u16, A>, AllocError>
+    ensures { IfOk result (λ tails. tails.items ≡ tails_of graph.now) }
 {
-    let vertices = graph.vertices();
-    let mut lists = empty_lists(alloc, vertices)?;
-    for v in 0..vertices {
-        add_tail(&mut lists, v, graph.arcs(v))?;
+    let mut tails = Vec::with_capacity(alloc, graph.all().len())?;
+    for v in 0..graph.vertices() {
+        add_times(&mut tails, v, graph.arcs(v).len())?;
     }
-    Ok(lists)
+    Ok(tails)
+}
+
+impl<A: Allocator + Copy> Incoming<A> {
+    /// The arcs of a graph. The only error is out of memory (20).
+    pub(crate) fn new(alloc: A, graph: &WaitGraph<A>) -> Result<Self, AllocError>
+        ensures places { IfOk result (λ i. i.places ≡ buckets_of (heads_of graph.now) (length graph.now)) }
+        ensures tails { IfOk result (λ i. i.tails.items ≡ tails_of graph.now) }
+    {
+        let heads = heads(alloc, graph.all())?;
+        let places = Buckets::new(alloc, &heads, graph.vertices())?;
+        let tails = tails(alloc, graph)?;
+        Ok(Incoming { places, tails })
+    }
 }

@@ -4,6 +4,7 @@
 //! Removing an arc takes constant time. Making the record takes time and memory in the number of vertices.
 
 ghost use Rattle.std.specs.Prelude.{◌≡◌, ◌<◌, ◌≤◌, ℕ, length, map, replicate, slice_index, slice_get, IfOk};
+ghost use Rattle.std.specs.List.{All};
 ghost use Rattle.wq_levels.specs.Taking.{AreFree, times, with_arc_gone, with_arcs_gone};
 
 use std::alloc::{AllocError, Allocator};
@@ -100,17 +101,24 @@ impl<A: Allocator + Copy> Progress<A> {
         Ok(())
     }
 
-    /// Removes a vertex: an arc of each of these vertices goes.
-    pub(crate) fn take_off(&mut self, vertex: u16, tails: &[u16]) -> Result<(), AllocError>
+    /// Removes a vertex: the arcs at these places go. The list has, for each arc, the vertex that it leaves.
+    pub(crate) fn take_off(
+        &mut self,
+        vertex: u16,
+        places: &[u32],
+        tails: &[u16],
+    ) -> Result<(), AllocError>
         requires one_each { length self.old.ranks ≡ length self.old.remaining }
         requires vertex { vertex < length self.old.ranks }
         requires low { slice_index self.old.ranks vertex < 4096 }
-        requires some { (v : ℕ) → times tails.now v ≤ slice_index self.old.remaining v }
-        ensures { IfOk result (λ _. self.new ≡ with_arcs_gone (slice_index self.old.ranks vertex) self.old tails.now) }
+        requires places { All (λ p. p < length tails.now) places.now }
+        requires some { (v : ℕ) → times (map (slice_index tails.now) places.now) v ≤ slice_index self.old.remaining v }
+        ensures { IfOk result (λ _.
+            self.new ≡ with_arcs_gone (slice_index self.old.ranks vertex) self.old (map (slice_index tails.now) places.now)) }
     {
         let rank = self.ranks[usize::from(vertex)];
-        for tail in tails {
-            self.lose_arc(*tail, rank)?;
+        for place in places {
+            self.lose_arc(tails[*place as usize], rank)?;
         }
         Ok(())
     }

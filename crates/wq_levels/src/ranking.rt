@@ -10,7 +10,7 @@ ghost use Rattle.std.specs.List.{Any};
 ghost use Rattle.wq_levels.specs.Ranked.{IsRanking};
 ghost use Rattle.wq_levels.specs.Taking.{AreMarked, AreTakenOff};
 
-use crate::incoming::tails;
+use crate::incoming::Incoming;
 use crate::progress::Progress;
 use crate::ranked::Ranked;
 use crate::walk::walk_circle;
@@ -21,11 +21,11 @@ use wq_graph::WaitGraph;
 fn take_off<A: Allocator + Copy>(alloc: A, graph: &WaitGraph<A>) -> Result<Progress<A>, AllocError>
     ensures { IfOk result (λ p. AreTakenOff graph.now p.remaining p.ranks) }
 {
-    let tails = tails(alloc, graph)?;
+    let incoming = Incoming::new(alloc, graph)?;
     let mut progress = Progress::new(alloc, graph)?;
     for place in 0..graph.vertices() {
         if let Some(vertex) = progress.nth(usize::from(place)) {
-            progress.take_off(vertex, &tails[usize::from(vertex)])?;
+            progress.take_off(vertex, incoming.places.places(vertex), &incoming.tails)?;
         }
     }
     Ok(progress)

@@ -5,7 +5,7 @@ use Rattle.wq_graph.specs.declared.arc.WaitArc.{WaitArc}
 use Rattle.wq_graph.specs.Graph.{IsGraph}
 use Rattle.wq_graph.specs.Building.{arcs_leaving}
 use Rattle.wq_graph.proofs.Arcs.{ByPlace-arcs_by_place}
-use Rattle.wq_graph.proofs.Graphs.{IsGraph-graph_of, src-by_place}
+use Rattle.wq_graph.proofs.Graphs.{IsGraph-graph_of, few_arcs, src-by_place}
 use Rattle.wq_graph.proofs.graph.WaitGraph.of_vertices.Goals as goal
 
 pub arcs_by_vertex-requires-clause-items : goal.arcs_by_vertex-requires-clause-items
@@ -37,4 +37,7 @@ invariant_of-result g c =
             numbered = table.places_are_numbered;
           }
           ) c.requires.few),
+      few_arcs vertex_of c.as_slice.result.now c.in_ok-arcs-2.arcs.items c.in_ok-arcs-2.begins.items vertices (
+          omega (arith, ap length (c.as_slice.ensures.value ∙ c.in_ok-arcs.ensures.arcs), (ByPlace-arcs_by_place waits vertex_of table.places_are_numbered).long, table.few_flushes)
+          ) c.requires.few c.in_ok-arcs-2.ensures.cuts c.in_ok-arcs-2.ensures.pieces,
     )

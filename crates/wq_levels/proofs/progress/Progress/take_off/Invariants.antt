@@ -1,6 +1,8 @@
-use Rattle.std.proofs.Common.{◌≡◌, take}
+use Rattle.std.proofs.Common.{◌≡◌, map, take}
+use Rattle.std.specs.Prelude.{slice_index}
 use Rattle.wq_levels.specs.Taking.{with_arcs_gone}
 use Rattle.wq_levels.proofs.progress.Progress.take_off.Given as goal
 
-abbrev pub invariant-loop-tail : goal.invariant-loop-tail
-invariant-loop-tail g l = l.self ≡ with_arcs_gone l.rank l.initial.self (take l.tail-index l.tails)
+-- the arcs at the places so far have gone
+abbrev pub invariant-loop-place : goal.invariant-loop-place
+invariant-loop-place g l = l.self ≡ with_arcs_gone l.rank l.initial.self (map (slice_index l.tails) (take l.place-index l.places))
