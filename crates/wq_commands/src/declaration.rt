@@ -1,4 +1,5 @@
-//! The four passes over a declaration text, one after the other.
+//! The four passes over a declaration text, one after the other. Those over the lines and over the items are made in one where
+//! neither finds a fault.
 //!
 //! They take time in the length of the text, and memory in the number of items and flushes.
 
@@ -6,15 +7,17 @@ ghost use Rattle.std.specs.Prelude.{◌≡◌, Ok, Err, None, Result, IfOk, IfEr
 ghost use Rattle.wq_text.specs.Lines.{lines_of};
 ghost use Rattle.wq_text.specs.Limits.{limit_fault, text_refusal};
 ghost use Rattle.wq_decl.specs.Reading.{first_fault, directives, decl_refusal};
+ghost use Rattle.wq_items.specs.Building.{table_of};
+ghost use Rattle.wq_items.specs.FirstFault.{RanOut};
 ghost use Rattle.wq_groups.specs.OutOfMemory.{RanOutReading};
-ghost use Rattle.wq_commands.specs.Declaration.{declaration, max_declaration, max_declaration_line};
+ghost use Rattle.wq_commands.specs.Declaration.{declaration, by_table, unless_refused, max_declaration, max_declaration_line};
 ghost use Rattle.wq_commands.specs.Stop.{StopsAt, item_stop, group_stop};
 ghost use Rattle.wq_commands.specs.declared.declaration.Stop.TheVariants.{Refused, OutOfMemory};
 
 use std::alloc::Allocator;
 use wq_decl::{DeclError, DeclView};
 use wq_groups::{GroupError, Groups};
-use wq_items::{ItemError, ItemTable};
+use wq_items::{ItemError, ItemTable, read_at_once};
 use wq_text::{Text, TextError};
 
 /// How many bytes a declaration may have.
@@ -89,6 +92,31 @@ impl From<GroupError> for Stop {
     }
 }
 
+/// The directives of a text and the table that they declare, or the first fault of the passes over the lines and the items.
+///
+/// A text without a fault is read in one pass. For any other, the two passes, one after the other, tell which fault it has.
+#[tactic(auto, using(crate::proofs::StopLemmas::ran_out_of_items))]
+fn read_table<A: Allocator + Copy>(
+    alloc: A,
+    seed: u64,
+    text: Text<'_>,
+) -> Result<(DeclView<'_>, ItemTable<'_, A>), Stop>
+    ensures view { IfOk result (λ r. r.0 ≡ directives (lines_of text.entry)) }
+    ensures faultless { IfOk result (λ _. first_fault (lines_of text.entry) ≡ None) }
+    ensures table { IfOk result (λ r. table_of (directives (lines_of text.entry)) ≡ Ok r.1) }
+    ensures stop { IfErr result (λ s. StopsAt s (unless_refused decl_refusal (first_fault (lines_of text.entry))
+        (by_table (directives (lines_of text.entry)) (table_of (directives (lines_of text.entry)))))) }
+    ensures first_pass { IfErr result (λ s. s ≡ OutOfMemory → first_fault (lines_of text.entry) ≡ None) }
+    ensures memory { IfErr result (λ s. s ≡ OutOfMemory → RanOut (directives (lines_of text.entry))) }
+{
+    if let Some(read) = read_at_once(alloc, seed, &text) {
+        return Ok(read);
+    }
+    let view = DeclView::new(text)?;
+    let table = ItemTable::read_seeded(alloc, seed, &view)?;
+    Ok((view, table))
+}
+
 /// Reads what a text declares. The names are hashed with this seed; no answer depends on it.
 ///
 /// The error is the first fault of the first pass that has one, or `OutOfMemory`, where a growth was refused before it: then no
@@ -107,8 +135,7 @@ pub fn read_declaration<A: Allocator + Copy>(
     ensures memory { result ≡ Err OutOfMemory → RanOutReading (directives (lines_of text.now)) }
 {
     let text = Text::new(text, MAX_DECLARATION, MAX_DECLARATION_LINE)?;
-    let view = DeclView::new(text)?;
-    let table = ItemTable::read_seeded(alloc, seed, &view)?;
+    let (view, table) = read_table(alloc, seed, text)?;
     let groups = Groups::read(alloc, &view, &table)?;
     Ok(Declaration { table, groups })
 }

@@ -14,3 +14,4 @@ pub mod FlushLemmas
 pub mod FaultLemmas
 pub mod SliceLemmas
 pub mod ReadLemmas
+pub mod AtOnceLemmas

@@ -51,6 +51,13 @@ impl<A: Allocator + Copy> Flushes<A> {
         }
     }
 
+    /// The number of flushes, of all items together.
+    pub(crate) fn len(&self) -> usize
+        ensures { result ≡ flush_count self.now }
+    {
+        self.flushes.len()
+    }
+
     /// Adds an item, without a target.
     pub(crate) fn push_item(&mut self)
         requires { length self.old < 65535 }

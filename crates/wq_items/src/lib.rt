@@ -7,6 +7,7 @@
 //! time in the length of the text, on average. Questions to a table take constant time.
 #![tactic(auto)]
 
+mod at_once;
 pub mod chain_laws;
 mod fault;
 mod flush;
@@ -17,6 +18,7 @@ mod table;
 mod target;
 mod waits;
 
+pub use at_once::read_at_once;
 pub use fault::ItemError;
 pub use table::ItemTable;
 pub use target::{ItemId, Target};

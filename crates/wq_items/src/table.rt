@@ -27,7 +27,7 @@ use wq_decl::{DeclView, Directive};
 use wq_text::{Span, Word, Words};
 
 /// How many items a declaration may declare.
-const MAX_ITEMS: usize = 4096;
+pub(crate) const MAX_ITEMS: usize = 4096;
 
 /// How many flushes a declaration may declare, all items together.
 const MAX_FLUSHES: u32 = 16_384;
@@ -57,7 +57,7 @@ impl<'a, A: Allocator> Model for ItemTable<'a, A> {
 
 /// A table whose lines are being read. Contracts see what they see of a table.
 #[derive(Drop)]
-struct Building<'a, A: Allocator> {
+pub(crate) struct Building<'a, A: Allocator> {
     names: Names<'a, A>,
     spans: Vec<Span, A>,
     waits: Flushes<A>,
@@ -76,7 +76,10 @@ impl<'a, A: Allocator> Model for Building<'a, A> {
 }
 
 /// How many words there are, if each names an item.
-fn count_known<'a, A: Allocator + Copy>(names: &Names<'a, A>, words: Words<'a>) -> Option<u32>
+pub(crate) fn count_known<'a, A: Allocator + Copy>(
+    names: &Names<'a, A>,
+    words: Words<'a>,
+) -> Option<u32>
     requires { length words < 2 ^ 32 }
     ensures { result ≡ option_map length (items_named names.now words.entry) }
 {
@@ -90,7 +93,7 @@ fn count_known<'a, A: Allocator + Copy>(names: &Names<'a, A>, words: Words<'a>) 
 
 /// Adds targets of one item, at the places from `place` on, and returns the place after them. It returns nothing where a name is
 /// unknown, where there are too many flushes, or where memory ran out; `refusal` says which it is.
-fn push_targets<'a, A: Allocator + Copy>(
+pub(crate) fn push_targets<'a, A: Allocator + Copy>(
     names: &Names<'a, A>,
     waits: &mut Flushes<A>,
     item: usize,
@@ -165,6 +168,20 @@ impl<'a, A: Allocator + Copy> Building<'a, A> {
             spans: Vec::new(alloc),
             waits: Flushes::new(alloc),
             flushes: 0,
+        }
+    }
+
+    /// The table of parts that make one.
+    pub(crate) fn of(names: Names<'a, A>, spans: Vec<Span, A>, waits: Flushes<A>) -> Self
+        requires { IsTable (record { names = names; spans = spans.items; waits = waits }) }
+        ensures { result ≡ record { names = names.entry; spans = spans.items; waits = waits } }
+    {
+        let flushes = waits.len() as u32;
+        Building {
+            names,
+            spans,
+            waits,
+            flushes,
         }
     }
 
@@ -256,7 +273,7 @@ impl<'a, A: Allocator + Copy> Building<'a, A> {
     }
 
     /// The table, with the targets of each item next to each other.
-    fn finish(self, alloc: A) -> Result<ItemTable<'a, A>, AllocError>
+    pub(crate) fn finish(self, alloc: A) -> Result<ItemTable<'a, A>, AllocError>
         ensures table { IfOk result (λ t. t ≡ self.entry) }
         ensures memory { IfErr result (λ _. 0 < length self.entry.names) }
     {

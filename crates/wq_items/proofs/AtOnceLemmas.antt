@@ -1,0 +1,238 @@
+-- Reading a text at once: what a line seems to say beside what it says, and what the lines so far have made.
+use Rattle.std.proofs.Common.{◌≡◌, ◌≢◌, ℕ, ◌+◌, ◌<◌, Bool, true, false, cond, ◌||◌, List, [], ◌∷◌, ◌++◌, length, Option, Some, None, Result, Ok, Err, IsOk, refl, sym, ap, subst, ◌∙◌, arith}
+use Rattle.std.specs.Prelude.{IsTrue, IfNone, codes, bytes_eq, option_map}
+use Rattle.std.specs.List.{AllByRecursion, list_all, cons_option}
+use Rattle.std.specs.Option.{option_or}
+use Rattle.std.proofs.lemmas.Bool.{and_from}
+use Rattle.wq_text.specs.Lines.{LineView}
+use Rattle.wq_text.specs.Comments.{before_comment}
+use Rattle.wq_text.specs.Words.{WordView, words_of}
+use Rattle.wq_decl.specs.declared.directive.Directive.{Directive}
+use Rattle.wq_decl.specs.declared.directive.Directive.TheVariants.{Item, Flush, Ordered}
+use Rattle.wq_decl.specs.declared.fault.DeclError.{DeclError}
+use Rattle.wq_decl.specs.declared.fault.DeclError.TheVariants.{BadByte, BadName}
+use Rattle.wq_decl.specs.Names.{is_name, are_names}
+use Rattle.wq_decl.specs.Reading.{is_text_byte, item_reading, flush_reading, ordered_reading, words_reading, reading, directives, first_fault, fault_in, directive_in, is_ordered, has_ordered, HasNames}
+use Rattle.wq_decl.proofs.NameLemmas.{HasNames-directives}
+use Rattle.wq_decl.proofs.TextLemmas.{reading-text, reading-words}
+use Rattle.wq_items.specs.declared.fault.ItemError.{ItemError}
+use Rattle.wq_items.specs.Table.{Table, IsTable, item_named}
+use Rattle.wq_items.specs.Building.{empty_table, items_named, declared, and_then, table_after, table_of}
+use Rattle.wq_items.specs.FirstFault.{RanOut, DeclaresMore}
+use Rattle.wq_items.specs.AtOnce.{item_unjudged, flush_unjudged, unjudged, is_whole, Foretells}
+use Rattle.wq_items.proofs.TableLemmas.{parts, item_named-below}
+use Rattle.wq_items.proofs.BuildingLemmas.{IsTable-table_of}
+use Rattle.wq_items.proofs.GrownTables.{known_next}
+use Rattle.wq_items.proofs.FlushLemmas.{item_named-is}
+use Rattle.wq_items.proofs.ReadLemmas.{Made, Made-none, Made-more, Made-ran_out, Made-out_at_end}
+
+-- ---- what a line seems to say
+
+Foretells-cond : (b : Bool) (x y : Option (Option Directive)) (r s : Result (Option Directive) DeclError) → Foretells x r → Foretells y s → Foretells (cond b x y) (cond b r s)
+Foretells-cond true x y r s p q = p
+Foretells-cond false x y r s p q = q
+
+-- where the test decides alone whether a directive is read
+by_test : (d : Directive) (b : Bool) (e : DeclError) → is_whole d ≡ b → Foretells (Some (Some d)) (cond b (Ok (Some d)) (Err e))
+by_test d true e is = (λ (whole : IsTrue (is_whole d)). refl, λ ok. is)
+by_test d false e is = (λ (whole : IsTrue (is_whole d)). absurd cc, λ ok. absurd cc)
+
+foretells_item : (n : ℕ) (ws : List WordView) → Foretells (item_unjudged ws) (item_reading n ws)
+foretells_item n [] = λ ok. cc
+foretells_item n (name ∷ []) = by_test (Item name) (is_name name.bytes) (BadName n) refl
+foretells_item n (name ∷ extra ∷ others) = λ ok. cc
+
+foretells_flush : (n : ℕ) (ws : List WordView) → Foretells (flush_unjudged ws) (flush_reading n ws)
+foretells_flush n [] = λ ok. cc
+foretells_flush n (name ∷ []) = (λ whole. absurd cc, λ ok. absurd cc)
+foretells_flush n (name ∷ target ∷ others) = by_test (Flush name (target ∷ others)) (are_names (name ∷ target ∷ others)) (BadName n) refl
+
+foretells_ordered : (n : ℕ) (ws : List WordView) → Foretells (Some (Some (Ordered ws))) (ordered_reading n ws)
+foretells_ordered n [] = (λ whole. absurd cc, λ ok. absurd cc)
+foretells_ordered n (name ∷ others) = by_test (Ordered (name ∷ others)) (are_names (name ∷ others)) (BadName n) refl
+
+foretells_words : (n : ℕ) (ws : List WordView) → Foretells (unjudged ws) (words_reading n ws)
+foretells_words n [] = refl
+foretells_words n (first ∷ others) =
+    Foretells-cond (bytes_eq first.bytes (codes "item")) _ _ _ _ (foretells_item n others) (
+    Foretells-cond (bytes_eq first.bytes (codes "flush")) _ _ _ _ (foretells_flush n others) (
+    Foretells-cond (bytes_eq first.bytes (codes "ordered")) _ _ _ _ (foretells_ordered n others) (λ ok. cc)))
+
+-- a line that has no fault holds only bytes that it may
+text_of_read : (line : LineView) → IsOk (reading line) → list_all is_text_byte (before_comment line.bytes) ≡ true
+text_of_read line ok = by (list_all is_text_byte (before_comment line.bytes)) ok
+  where
+    by : (b : Bool) → IsOk (cond b (words_reading line.no (words_of line)) (Err (BadByte line.no))) → b ≡ true
+    by true ok = refl
+    by false ok = absurd cc
+
+words_of_read : (line : LineView) → IsOk (reading line) → IsOk (words_reading line.no (words_of line))
+words_of_read line ok = subst (λ (r : Result (Option Directive) DeclError). IsOk r) (sym (reading-text line (text_of_read line ok))) ok
+
+Foretells-line : (line : LineView) (o : Option (Option Directive)) → Foretells o (words_reading line.no (words_of line)) → Foretells o (reading line)
+Foretells-line line None f = λ ok. f (words_of_read line ok)
+Foretells-line line (Some None) f = sym (reading-words line (subst (λ (r : Result (Option Directive) DeclError). IsOk r) (sym f) refl)) ∙ f
+Foretells-line line (Some (Some d)) f = (
+  λ whole. sym (reading-words line (subst (λ (r : Result (Option Directive) DeclError). IsOk r) (sym (f.0 whole)) refl)) ∙ f.0 whole,
+  λ ok. f.1 (words_of_read line ok),
+)
+
+-- what the words of a line seem to say tells what the line says
+pub Foretells-reading : (line : LineView) → Foretells (unjudged (words_of line)) (reading line)
+Foretells-reading line = Foretells-line line (unjudged (words_of line)) (foretells_words line.no (words_of line))
+
+-- ---- the lines so far
+
+-- the lines before those that are left have no fault and made the table
+pub record SoFar (t : Table) (orders : Bool) (left all : List LineView) : Type 0 where
+  pub made : Made t (directives left) (directives all)
+  pub whole : table_after t (directives left) ≡ table_of (directives all)
+  pub sound : first_fault left ≡ first_fault all
+  pub order : (orders || has_ordered (directives left)) ≡ has_ordered (directives all)
+
+pub SoFar-none : (t : Table) (left all : List LineView) → t ≡ empty_table → left ≡ all → SoFar t false left all
+SoFar-none t left all empty same = record {
+  made = Made-none t (directives left) (directives all) empty (ap (λ (ls : List LineView). directives ls) same);
+  whole = ap (λ (u : Table). table_after u (directives left)) empty ∙ ap (λ (ls : List LineView). table_of (directives ls)) same;
+  sound = ap (λ (ls : List LineView). first_fault ls) same;
+  order = ap (λ (ls : List LineView). has_ordered (directives ls)) same;
+}
+
+blank_directives : (line : LineView) (rest : List LineView) → reading line ≡ Ok None → directives (line ∷ rest) ≡ directives rest
+blank_directives line rest said = ap (λ (r : Result (Option Directive) DeclError). cons_option (directive_in line.no r) (directives rest)) said
+
+more_directives : (line : LineView) (d : Directive) (rest : List LineView) → reading line ≡ Ok (Some d) → directives (line ∷ rest) ≡ (line.no, d) ∷ directives rest
+more_directives line d rest said = ap (λ (r : Result (Option Directive) DeclError). cons_option (directive_in line.no r) (directives rest)) said
+
+no_fault : (line : LineView) (o : Option Directive) (rest : List LineView) → reading line ≡ Ok o → first_fault (line ∷ rest) ≡ first_fault rest
+no_fault line o rest said = ap (λ (r : Result (Option Directive) DeclError). option_or (fault_in r) (first_fault rest)) said
+
+at_lines : (t : Table) (orders : Bool) (left more all : List LineView) → left ≡ more → SoFar t orders left all → SoFar t orders more all
+at_lines t orders left more all same h = subst (λ (ls : List LineView). SoFar t orders ls all) same h
+
+pub SoFar-blank : (t : Table) (orders : Bool) (line : LineView) (left rest all : List LineView) → left ≡ line ∷ rest → reading line ≡ Ok None → SoFar t orders left all → SoFar t orders rest all
+SoFar-blank t orders line left rest all step said h =
+    let at = at_lines t orders left (line ∷ rest) all step h in
+    let ds = blank_directives line rest said in
+    record {
+      made = subst (λ (xs : List (ℕ × Directive)). Made t xs (directives all)) ds at.made;
+      whole = ap (λ (xs : List (ℕ × Directive)). table_after t xs) (sym ds) ∙ at.whole;
+      sound = sym (no_fault line None rest said) ∙ at.sound;
+      order = ap (λ (xs : List (ℕ × Directive)). orders || has_ordered xs) (sym ds) ∙ at.order;
+    }
+
+or_assoc : (a b c : Bool) → ((a || b) || c) ≡ (a || (b || c))
+or_assoc true b c = refl
+or_assoc false b c = refl
+
+after_one : (r : Result Table ItemError) (u : Table) (ds : List (ℕ × Directive)) → r ≡ Ok u → table_after u ds ≡ and_then (λ (v : Table). table_after v ds) r
+after_one r u ds taken = sym (ap (λ (q : Result Table ItemError). and_then (λ (v : Table). table_after v ds) q) taken)
+
+pub SoFar-more : (t u : Table) (orders : Bool) (line : LineView) (d : Directive) (left rest all : List LineView) → left ≡ line ∷ rest → reading line ≡ Ok (Some d) → declared t line.no d ≡ Ok u
+    → SoFar t orders left all → SoFar u (orders || is_ordered d) rest all
+SoFar-more t u orders line d left rest all step said taken h =
+    let at = at_lines t orders left (line ∷ rest) all step h in
+    let ds = more_directives line d rest said in
+    record {
+      made = Made-more t u line.no d (directives (line ∷ rest)) (directives rest) (directives all) ds taken at.made;
+      whole = after_one (declared t line.no d) u (directives rest) taken ∙ ap (λ (xs : List (ℕ × Directive)). table_after t xs) (sym ds) ∙ at.whole;
+      sound = sym (no_fault line (Some d) rest said) ∙ at.sound;
+      order = or_assoc orders (is_ordered d) (has_ordered (directives rest)) ∙ ap (λ (xs : List (ℕ × Directive)). orders || has_ordered xs) (sym ds) ∙ at.order;
+    }
+
+each_before : (Q : ℕ × Directive → Type 0) (xs ys : List (ℕ × Directive)) → AllByRecursion Q (xs ++ ys) → AllByRecursion Q xs
+each_before Q [] ys q = tt
+each_before Q (x ∷ xs) ys q = (q.0, each_before Q xs ys q.1)
+
+-- what the lines so far made is a table
+pub IsTable-SoFar : (t : Table) (orders : Bool) (left all : List LineView) → SoFar t orders left all → IsTable t
+IsTable-SoFar t orders left all h =
+    let m = h.made in
+    let named = subst (λ (ds : List (ℕ × Directive)). AllByRecursion (λ (d : ℕ × Directive). HasNames d.1) ds) m.parts (HasNames-directives all) in
+    IsTable-table_of m.before t (each_before (λ (d : ℕ × Directive). HasNames d.1) m.before (directives left) named) m.makes
+
+-- ---- the end, and what stops before it
+
+-- the text has no fault, and its directives make a table
+abbrev pub IsSound : List LineView → Type 0
+IsSound all = (first_fault all ≡ None) × IsOk (table_of (directives all))
+
+read_in : (r : Result (Option Directive) DeclError) (rest : Option DeclError) → option_or (fault_in r) rest ≡ None → IsOk r
+read_in (Ok found) rest e = refl
+read_in (Err fault) rest e = absurd cc
+
+-- the first of the lines that are left has no fault
+line_is_read : (t : Table) (orders : Bool) (line : LineView) (left rest all : List LineView) → left ≡ line ∷ rest → SoFar t orders left all → first_fault all ≡ None → IsOk (reading line)
+line_is_read t orders line left rest all step h sound = read_in (reading line) (first_fault rest) ((at_lines t orders left (line ∷ rest) all step h).sound ∙ sound)
+
+pub SoFar-refused : (t : Table) (orders : Bool) (line : LineView) (left rest all : List LineView) → left ≡ line ∷ rest → ¬ IsOk (reading line) → SoFar t orders left all
+    → first_fault all ≡ None → IsOk (table_of (directives all)) → RanOut (directives all)
+SoFar-refused t orders line left rest all step refused h sound made = absurd (refused (line_is_read t orders line left rest all step h sound))
+
+ok_before : (r : Result Table ItemError) (ds : List (ℕ × Directive)) → IsOk (and_then (λ (v : Table). table_after v ds) r) → IsOk r
+ok_before (Ok u) ds ok = refl
+ok_before (Err e) ds ok = absurd cc
+
+pub SoFar-ran_out : (t : Table) (orders : Bool) (line : LineView) (d : Directive) (left rest all : List LineView) → left ≡ line ∷ rest → Foretells (Some (Some d)) (reading line)
+    → (IsTrue (is_whole d) → IsOk (declared t line.no d) → DeclaresMore (line.no, d)) → SoFar t orders left all → first_fault all ≡ None → IsOk (table_of (directives all)) → RanOut (directives all)
+SoFar-ran_out t orders line d left rest all step said memory h sound made =
+    let at = at_lines t orders left (line ∷ rest) all step h in
+    let whole = said.1 (line_is_read t orders line left rest all step h sound) in
+    let ds = more_directives line d rest (said.0 whole) in
+    let ok : IsOk (declared t line.no d) =
+    ok_before (declared t line.no d) (directives rest) (
+    subst (λ (r : Result Table ItemError). IsOk r) (sym at.whole ∙ ap (λ (xs : List (ℕ × Directive)). table_after t xs) ds) made
+    ) in
+    Made-ran_out t line.no d (directives (line ∷ rest)) (directives rest) (directives all) ds ok (memory whole ok) at.made
+
+pub SoFar-out_at_end : (t : Table) (orders : Bool) (left all : List LineView) → left ≡ [] → 0 < length t.names → SoFar t orders left all → RanOut (directives all)
+SoFar-out_at_end t orders left all none some h = Made-out_at_end t (directives left) (directives all) (ap (λ (ls : List LineView). directives ls) none) some h.made
+
+or_false : (b : Bool) → b ≡ (b || false)
+or_false true = refl
+or_false false = refl
+
+pub SoFar-all : (t : Table) (orders : Bool) (left all : List LineView) → left ≡ [] → SoFar t orders left all
+    → (first_fault all ≡ None) × (table_of (directives all) ≡ Ok t) × (orders ≡ has_ordered (directives all))
+SoFar-all t orders left all none h =
+    let at = at_lines t orders left [] all none h in
+    (sym at.sound, sym at.whole, or_false orders ∙ at.order)
+
+-- ---- names that are found
+
+module _ (t : Table) (sound : IsTable t) where
+  name_found : (name : List ℕ) (i : ℕ) → item_named t.names name ≡ Some i → is_name name ≡ true
+  name_found name i e = subst (λ (n : List ℕ). is_name n ≡ true) (item_named-is t.names name i e) (sound.named i [] (item_named-below t.names name i e))
+
+  names_found : (words : List WordView) (items : List ℕ) → items_named t.names words ≡ Some items → are_names words ≡ true
+  names_found [] items e = refl
+  names_found (word ∷ words) items e =
+      let p = parts (item_named t.names word.bytes) (items_named t.names words) items e in
+      and_from (is_name word.bytes) (are_names words) (name_found word.bytes p.item p.first) (names_found words p.others p.rest)
+
+  -- an `ordered` line whose words are found is whole, if there are some
+  pub whole_order : (words : List WordView) (items : List ℕ) → items_named t.names words ≡ Some items → 0 < length items → IsTrue (is_whole (Ordered words))
+  whole_order [] items e some = let none : items ≡ [] = cc in absurd (omega (arith, ap length none, some))
+  whole_order (word ∷ words) items e some = names_found (word ∷ words) items e
+
+  pub whole_counted : (words : List WordView) (count : ℕ) → Some count ≡ option_map length (items_named t.names words) → count ≢ 0 → IsTrue (is_whole (Ordered words))
+  whole_counted words count e some = by (items_named t.names words) refl e
+    where
+      by : (o : Option (List ℕ)) → items_named t.names words ≡ o → Some count ≡ option_map length o → IsTrue (is_whole (Ordered words))
+      by None is e = absurd cc
+      by (Some items) is e = let same : count ≡ length items = cc in whole_order words items is (omega (arith, same, some))
+
+  -- so is a `flush` line whose words are found, if the place behind its targets isn't the first
+  pub whole_flushes : (name : WordView) (targets : List WordView) (i first next : ℕ) → item_named t.names name.bytes ≡ Some i
+      → option_map (λ (items : List ℕ). first + length items) (items_named t.names targets) ≡ Some next → next ≢ first → IsTrue (is_whole (Flush name targets))
+  whole_flushes name [] i first next found known more = let same : first + 0 ≡ next = cc in absurd (more (omega (arith, same)))
+  whole_flushes name (target ∷ others) i first next found known more =
+      let k = known_next (items_named t.names (target ∷ others)) first next known in
+      and_from (is_name name.bytes) (are_names (target ∷ others)) (name_found name.bytes i found) (names_found (target ∷ others) k.0 k.1)
+
+-- ---- no answer
+
+-- what holds anyway holds where there is no answer
+pub IfNone-always : {X : Type 0} (o : Option X) (P : Type 0) → P → IfNone o P
+IfNone-always None P p = p
+IfNone-always (Some x) P p = tt

@@ -1,0 +1,41 @@
+-- At once: what a line says before it is known whether its words are names.
+use Rattle.std.specs.Prelude.{◌≡◌, Bool, false, if◌then◌else◌, List, [], ◌∷◌, Option, Some, None, Result, Ok, IsOk, bytes_eq, codes, IsTrue}
+use Rattle.wq_text.specs.Words.{WordView}
+use Rattle.wq_decl.specs.declared.directive.Directive.{Directive}
+use Rattle.wq_decl.specs.declared.directive.Directive.TheVariants.{Item, Flush, Ordered}
+use Rattle.wq_decl.specs.declared.fault.DeclError.{DeclError}
+use Rattle.wq_decl.specs.Names.{is_name, are_names}
+
+-- the words after `item` as a directive, if there is just one
+abbrev pub item_unjudged : List WordView → Option (Option Directive)
+item_unjudged [] = None
+item_unjudged (name ∷ []) = Some (Some (Item name))
+item_unjudged (name ∷ extra ∷ others) = None
+
+-- the words after `flush` as a directive, which may lack a target
+abbrev pub flush_unjudged : List WordView → Option (Option Directive)
+flush_unjudged [] = None
+flush_unjudged (name ∷ targets) = Some (Some (Flush name targets))
+
+-- the words of a line as a directive, whatever they are and even if there are too few: nothing on a blank line, and no answer
+-- where they can't be those of a directive
+abbrev pub unjudged : List WordView → Option (Option Directive)
+unjudged [] = Some None
+unjudged (first ∷ others) =
+    if bytes_eq first.bytes (codes "item") then item_unjudged others
+    else (if bytes_eq first.bytes (codes "flush") then flush_unjudged others
+    else (if bytes_eq first.bytes (codes "ordered") then Some (Some (Ordered others)) else None))
+
+-- the directive has as many words as it needs, and each of them is a name
+abbrev pub is_whole : Directive → Bool
+is_whole (Item name) = is_name name.bytes
+is_whole (Flush name []) = false
+is_whole (Flush name (target ∷ others)) = are_names (name ∷ target ∷ others)
+is_whole (Ordered []) = false
+is_whole (Ordered (name ∷ others)) = are_names (name ∷ others)
+
+-- what the words of a line seem to say, and what the line says: the same where the directive is whole, and else it has a fault
+abbrev pub Foretells : Option (Option Directive) → Result (Option Directive) DeclError → Type 0
+Foretells None said = ¬ IsOk said
+Foretells (Some None) said = said ≡ Ok None
+Foretells (Some (Some directive)) said = (IsTrue (is_whole directive) → said ≡ Ok (Some directive)) × (IsOk said → IsTrue (is_whole directive))

@@ -1,0 +1,199 @@
+//! The table of a text in one pass, where the text has no fault.
+//!
+//! `DeclView::new` and `ItemTable::read` scan a declaration one after the other, since the faults of the first pass come before those
+//! of the second. Here both passes are made at once. The words of a line are cut once. A word that is found in the table isn't
+//! judged, since the table holds only names; the name on an `item` line is. Which fault a text has isn't asked: where there is one,
+//! there is no answer, and whoever wants to know it reads the text by the two passes.
+//!
+//! It takes time in the length of the text, on average, and memory in the number of items and flushes: each name is looked up once.
+
+ghost use Rattle.std.specs.Prelude.{◌≡◌, ◌∷◌, ℕ, ◌<◌, length, Ok, IsOk, IfSome, IfNone, IsTrue, None};
+ghost use Rattle.wq_text.specs.Lines.{lines_of};
+ghost use Rattle.wq_text.specs.Words.{words_of};
+ghost use Rattle.wq_decl.specs.declared.directive.Directive.TheVariants.{Item, Flush, Ordered};
+ghost use Rattle.wq_decl.specs.Reading.{reading, directives, first_fault};
+ghost use Rattle.wq_items.specs.AtOnce.{unjudged, item_unjudged, flush_unjudged, is_whole, Foretells};
+ghost use Rattle.wq_items.specs.Table.{IsTable};
+ghost use Rattle.wq_items.specs.Building.{empty_table, table_of, declared, item_declared, flushes_declared, items_ordered, items_named};
+ghost use Rattle.wq_items.specs.FirstFault.{RanOut, DeclaresMore};
+
+use crate::flush::Flushes;
+use crate::names::Names;
+use crate::table::{Building, ItemTable, MAX_ITEMS, count_known, push_targets};
+use std::alloc::Allocator;
+use std::marker::Model;
+use wq_decl::{DeclView, Directive, is_name};
+use wq_text::{Line, Span, Text, Word, Words};
+
+/// The words after `item` as a directive, if there is exactly one.
+fn item_unjudged<'a>(mut words: Words<'a>) -> Option<Option<Directive<'a>>>
+    ensures { result ≡ item_unjudged words.entry }
+{
+    let name = words.next()?;
+    if words.next().is_some() {
+        return None;
+    }
+    Some(Some(Directive::Item(name)))
+}
+
+/// The words after `flush` as a directive, which may lack a target.
+fn flush_unjudged<'a>(mut words: Words<'a>) -> Option<Option<Directive<'a>>>
+    ensures { result ≡ flush_unjudged words.entry }
+{
+    let name = words.next()?;
+    Some(Some(Directive::Flush(name, words)))
+}
+
+/// The words of a line as a directive, whatever they are.
+fn words_unjudged<'a>(mut words: Words<'a>) -> Option<Option<Directive<'a>>>
+    ensures { result ≡ unjudged words.entry }
+{
+    let Some(first) = words.next() else {
+        return Some(None);
+    };
+    match first.bytes() {
+        [b'i', b't', b'e', b'm'] => item_unjudged(words),
+        [b'f', b'l', b'u', b's', b'h'] => flush_unjudged(words),
+        [b'o', b'r', b'd', b'e', b'r', b'e', b'd'] => Some(Some(Directive::Ordered(words))),
+        _ => None,
+    }
+}
+
+/// What a line says, if its words are enough and names: nothing where no word stands before its comment, else a directive.
+/// There is no answer where it has a fault, whatever its words are.
+fn line_unjudged<'a>(line: &Line<'a>) -> Option<Option<Directive<'a>>>
+    ensures { Foretells result (reading line.now) }
+{
+    words_unjudged(line.words())
+}
+
+/// The parts of a table while its lines are read. Contracts see what they see of a table, but the parts needn't make one:
+/// where a growth is refused, some have grown and others haven't.
+#[derive(Drop)]
+struct Parts<'a, A: Allocator> {
+    names: Names<'a, A>,
+    spans: Vec<Span, A>,
+    waits: Flushes<A>,
+}
+
+impl<'a, A: Allocator> Model for Parts<'a, A> {
+    ghost use Rattle.wq_items.specs.Table.{Table};
+
+    ghost Value = { Table };
+
+    ghost view = { λ p. record { names = p.names; spans = p.spans.items; waits = p.waits } };
+}
+
+impl<'a, A: Allocator + Copy> Parts<'a, A> {
+    /// Those of a table without an item. Names are hashed with this seed.
+    fn new(alloc: A, seed: u64) -> Self
+        ensures { result ≡ empty_table }
+    {
+        Parts {
+            names: Names::new(alloc, seed),
+            spans: Vec::new(alloc),
+            waits: Flushes::new(alloc),
+        }
+    }
+
+    /// Adds what a line declares, if its directive is whole. Where there is no answer, the parts are of no use any more.
+    fn take(&mut self, directive: Directive<'a>) -> Option<()>
+        requires { IsTable self.old }
+        ensures table { IfSome result (λ _. (n : ℕ) → declared self.old n directive.entry ≡ Ok self.new) }
+        ensures whole { IfSome result (λ _. IsTrue (is_whole directive.entry)) }
+        ensures memory { IfNone result ((n : ℕ) → IsTrue (is_whole directive.entry) → IsOk (declared self.old n directive.entry) → DeclaresMore (n, directive.entry)) }
+    {
+        match directive {
+            Directive::Item(name) => self.take_item(name),
+            Directive::Flush(name, targets) => self.take_flushes(name, targets),
+            Directive::Ordered(names) => self.take_order(names),
+        }
+    }
+
+    /// Adds an item, if this is a name.
+    fn take_item(&mut self, name: Word<'a>) -> Option<()>
+        requires { IsTable self.old }
+        ensures table { IfSome result (λ _. (n : ℕ) → item_declared self.old n name.entry ≡ Ok self.new) }
+        ensures whole { IfSome result (λ _. IsTrue (is_whole (Item name.entry))) }
+    {
+        if !is_name(name.bytes()) || self.names.len() >= MAX_ITEMS {
+            return None;
+        }
+        if !self.names.add(name.bytes()).ok()? {
+            return None;
+        }
+        self.spans.push(name.span()).ok()?;
+        self.waits.push_item();
+        Some(())
+    }
+
+    /// Adds the flushes that one item declares, if there are some.
+    fn take_flushes(&mut self, name: Word<'a>, targets: Words<'a>) -> Option<()>
+        requires { IsTable self.old }
+        ensures table { IfSome result (λ _. (n : ℕ) → flushes_declared self.old n (items_named self.old.names (name.entry ∷ targets.entry)) ≡ Ok self.new) }
+        ensures whole { IfSome result (λ _. IsTrue (is_whole (Flush name.entry targets.entry))) }
+    {
+        let item = self.names.find(name.bytes())?;
+        let first = self.waits.len() as u32;
+        let next = push_targets(&self.names, &mut self.waits, item, first, targets)?;
+        if next == first {
+            return None;
+        }
+        Some(())
+    }
+
+    /// Adds nothing, if there are words and each of them names an item.
+    fn take_order(&self, names: Words<'a>) -> Option<()>
+        requires { IsTable self.now }
+        ensures table { IfSome result (λ _. (n : ℕ) → items_ordered self.now n (items_named self.now.names names.entry) ≡ Ok self.now) }
+        ensures whole { IfSome result (λ _. IsTrue (is_whole (Ordered names.entry))) }
+        ensures none { IfNone result ((n : ℕ) → IsTrue (is_whole (Ordered names.entry)) → ¬ IsOk (items_ordered self.now n (items_named self.now.names names.entry))) }
+    {
+        if count_known(&self.names, names.again())? == 0 {
+            return None;
+        }
+        Some(())
+    }
+
+    /// The table of the parts. There is no answer where memory ran out.
+    fn finish(self, alloc: A) -> Option<ItemTable<'a, A>>
+        requires { IsTable self }
+        ensures table { IfSome result (λ t. t ≡ self.entry) }
+        ensures memory { IfNone result (0 < length self.entry.names) }
+    {
+        let Parts {
+            names,
+            spans,
+            waits,
+        } = self;
+        Building::of(names, spans, waits).finish(alloc).ok()
+    }
+}
+
+/// The directives of a text and the table that they declare, if no line has a fault: what `DeclView::new` and
+/// `ItemTable::read_seeded` answer, in one pass. The names are hashed with this seed, on which no answer depends.
+///
+/// There is no answer where some line has a fault, of the grammar or of the items; or where a growth was refused, at a line
+/// that declares an item or a flush.
+pub fn read_at_once<'a, A: Allocator + Copy>(
+    alloc: A,
+    seed: u64,
+    text: &Text<'a>,
+) -> Option<(DeclView<'a>, ItemTable<'a, A>)>
+    ensures faultless { IfSome result (λ _. first_fault (lines_of text.now) ≡ None) }
+    ensures view { IfSome result (λ r. r.0 ≡ directives (lines_of text.now)) }
+    ensures table { IfSome result (λ r. table_of (directives (lines_of text.now)) ≡ Ok r.1) }
+    ensures memory { IfNone result (first_fault (lines_of text.now) ≡ None → IsOk (table_of (directives (lines_of text.now)))
+        → RanOut (directives (lines_of text.now))) }
+{
+    let mut parts = Parts::new(alloc, seed);
+    let mut orders = false;
+    for line in text.lines() {
+        if let Some(directive) = line_unjudged(&line)? {
+            orders = orders || directive.is_ordered();
+            parts.take(directive)?;
+        }
+    }
+    let table = parts.finish(alloc)?;
+    Some((DeclView::of_faultless(text.again(), orders), table))
+}
