@@ -1,0 +1,12 @@
+//! An allocator of the tests' own, which refuses one request for memory, and runs in which each request is refused in turn: a
+//! library of the tests.
+//!
+//! Programs of the tests run all that takes memory with it. It tells requests by their numbers alone, so a run in which a request
+//! is refused must make the same requests up to that one as one in which none is.
+#![tactic(auto)]
+
+mod heap;
+mod trial;
+
+pub use heap::RefusingHeap;
+pub use trial::{Outcome, Trial, put_trial};
