@@ -19,7 +19,7 @@ use wq_history::{Ask, Asked, Book, BookError, Told, check_rows, unpack};
 use wq_items::ItemId;
 
 /// One item.
-const ALONE: &str = "item a\n";
+pub(crate) const ALONE: &str = "item a\n";
 
 /// An item that flushes another, the first on lane 1 and the second on lane 0.
 const PAIR: &str = "item a\nitem b\nflush a b\n";
@@ -71,7 +71,7 @@ fn book_of(
 }
 
 /// The ask that is waiting.
-fn waits(rt: &impl Abort, answer: Result<Ask, BookError>) -> Asked {
+pub(crate) fn waits(rt: &impl Abort, answer: Result<Ask, BookError>) -> Asked {
     match answer {
         Ok(Ask::Waiting(asked)) => asked,
         Ok(Ask::Idle) | Err(_) => panic!(rt; "no ask waits"),
@@ -91,7 +91,7 @@ fn not_asked(rt: &impl Abort, told: Told) -> Asked {
 }
 
 /// Asserts that the wait is over.
-fn assert_done(rt: &impl Abort, told: Told) {
+pub(crate) fn assert_done(rt: &impl Abort, told: Told) {
     match told {
         Told::Done => {}
         Told::NotYet(asked) | Told::NotAsked(asked) => {
@@ -102,7 +102,7 @@ fn assert_done(rt: &impl Abort, told: Told) {
 }
 
 /// Makes a call, and gives its answer. For `start` that is whether it is the item.
-fn call<A: Allocator>(book: &mut Book<A>, made: Made) -> Result<bool, BookError> {
+pub(crate) fn call<A: Allocator>(book: &mut Book<A>, made: Made) -> Result<bool, BookError> {
     match made {
         Queue(i) => book.queue(ItemId::new(i)),
         Cancel(i) => book.cancel(ItemId::new(i)),

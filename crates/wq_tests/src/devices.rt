@@ -2,14 +2,13 @@
 //!
 //! It takes time in the number of calls of the devices.
 
-use crate::commands::{Case, Command, Readers, cases, run};
-use crate::declared::SEED;
-use crate::fakes::{Endless, Fake};
 use std::alloc::{AllocError, Global};
 use std::io::ErrorKind;
 use std::process::Abort;
 use std::test::Fail;
+use wq_cases::{Case, Command, Endless, Fake, Readers, SEED, cases, perform};
 use wq_commands::{End, Fault, Metered, plan_cmd, read_text, write_text};
+use wq_explain::{Explained, explain_cmd};
 
 /// What was counted: the calls, the bytes and the failures.
 type Counts = (u64, u64, u64);
@@ -35,7 +34,7 @@ fn run_over(
     writer: Fake<Vec<u8>>,
 ) -> Outcome {
     let mut writer = Metered::new(writer);
-    let end = run(alloc, command, &mut readers, &mut writer);
+    let end = perform(alloc, command, &mut readers, &mut writer);
     Outcome {
         end,
         reads: [
@@ -79,12 +78,19 @@ fn assert_pieces(rt: &impl Abort, alloc: Global, case: &Case, reads: usize, writ
     );
 }
 
+/// Asserts so of each case of a table.
+fn assert_all_pieces(rt: &impl Abort, alloc: Global, table: &[Case]) {
+    for case in table {
+        for (reads, writes) in [(1, 1), (1, 5), (5, 1), (7, 9), (24, 38)] {
+            assert_pieces(rt, alloc, case, reads, writes);
+        }
+    }
+}
+
 #[test]
 fn pieces_change_no_answer(rt: HostRuntime) {
-    for case in cases() {
-        for (reads, writes) in [(1, 1), (1, 5), (5, 1), (7, 9), (24, 38)] {
-            assert_pieces(&rt, rt.alloc(), case, reads, writes);
-        }
+    for table in cases() {
+        assert_all_pieces(&rt, rt.alloc(), table);
     }
 }
 
@@ -147,14 +153,28 @@ fn assert_failed_reads(
     Ok(())
 }
 
+/// Asserts so of each text of a case, and of reads that are interrupted and that fail otherwise.
+fn assert_failed_readers(rt: &impl Abort, alloc: Global, case: &Case) -> Result<(), Fail> {
+    for at in 0..case.texts.len() {
+        for kind in [ErrorKind::Interrupted, ErrorKind::Other] {
+            assert_failed_reads(rt, alloc, case, at, kind)?;
+        }
+    }
+    Ok(())
+}
+
+/// Asserts so of each case of a table.
+fn assert_all_failed_reads(rt: &impl Abort, alloc: Global, table: &[Case]) -> Result<(), Fail> {
+    for case in table {
+        assert_failed_readers(rt, alloc, case)?;
+    }
+    Ok(())
+}
+
 #[test]
 fn each_failed_read_is_a_fault(rt: HostRuntime) -> Result<(), Fail> {
-    for case in cases() {
-        for at in 0..case.texts.len() {
-            for kind in [ErrorKind::Interrupted, ErrorKind::Other] {
-                assert_failed_reads(&rt, rt.alloc(), case, at, kind)?;
-            }
-        }
+    for table in cases() {
+        assert_all_failed_reads(&rt, rt.alloc(), table)?;
     }
     Ok(())
 }
@@ -185,10 +205,45 @@ fn assert_failed_writes(rt: &impl Abort, alloc: Global, case: &Case) -> Result<(
     Ok(())
 }
 
+/// Asserts so of each case of a table.
+fn assert_all_failed_writes(rt: &impl Abort, alloc: Global, table: &[Case]) -> Result<(), Fail> {
+    for case in table {
+        assert_failed_writes(rt, alloc, case)?;
+    }
+    Ok(())
+}
+
 #[test]
 fn each_failed_write_is_a_fault(rt: HostRuntime) -> Result<(), Fail> {
-    for case in cases() {
-        assert_failed_writes(&rt, rt.alloc(), case)?;
+    for table in cases() {
+        assert_all_failed_writes(&rt, rt.alloc(), table)?;
+    }
+    Ok(())
+}
+
+/// Asserts how `explain` ends whose writer fails after it took so many bytes one by one, and what it took.
+fn assert_failed_explanation(rt: &impl Abort, alloc: Global, successes: u32, front: &[u8]) {
+    let writer = Fake::failing_after(Vec::new(alloc), successes, ErrorKind::Interrupted);
+    let mut writer = Metered::new(writer);
+    let end = explain_cmd(alloc, Some("8"), &mut writer);
+    let before = u64::from(successes);
+    let counted = counts(&writer);
+    let written = writer.into_inner().device;
+    assert_eq!(rt;
+        (end, counted, written.as_slice()),
+        (Err(Fault::Write), (before + 1, before, 1), front)
+    );
+}
+
+#[test]
+fn each_failed_write_of_an_explanation_is_a_fault(rt: HostRuntime) -> Result<(), Fail> {
+    let mut writer = Metered::new(Vec::new(rt.alloc()));
+    let end = explain_cmd(rt.alloc(), Some("8"), &mut writer);
+    let answer = writer.into_inner();
+    assert_eq!(rt; (end, answer.is_empty()), (Ok(Explained::Known), false));
+    for taken in 0..answer.len() {
+        let successes = u32::try_from(taken)?;
+        assert_failed_explanation(&rt, rt.alloc(), successes, &answer[..taken]);
     }
     Ok(())
 }

@@ -2,11 +2,11 @@
 //!
 //! It takes time in the number of sizes and cases.
 
-use crate::commands::{Case, Readers, cases, run};
 use linked_list_allocator::LocalHeap;
 use std::alloc::{AllocError, Global};
 use std::process::Abort;
 use std::test::Fail;
+use wq_cases::{Case, Readers, cases, perform};
 use wq_commands::{End, Fault, Metered};
 
 /// How a run with a heap of this many bytes ends, what it writes, and how many bytes of the heap it leaves in use.
@@ -22,7 +22,7 @@ fn run_in(
         third: Metered::new(case.text(2)),
     };
     let mut writer = Metered::new(Vec::new(alloc));
-    let end = run(&heap, case.command, &mut readers, &mut writer);
+    let end = perform(&heap, case.command, &mut readers, &mut writer);
     Ok((end, writer.into_inner(), heap.used()))
 }
 
@@ -61,10 +61,18 @@ fn assert_sizes(rt: &impl Abort, alloc: Global, case: &Case) -> Result<(), Alloc
     Ok(())
 }
 
+/// Asserts so of each case of a table.
+fn assert_all_sizes(rt: &impl Abort, alloc: Global, table: &[Case]) -> Result<(), AllocError> {
+    for case in table {
+        assert_sizes(rt, alloc, case)?;
+    }
+    Ok(())
+}
+
 #[test]
 fn running_out_of_memory_changes_no_answer(rt: HostRuntime) -> Result<(), Fail> {
-    for case in cases() {
-        assert_sizes(&rt, rt.alloc(), case)?;
+    for table in cases() {
+        assert_all_sizes(&rt, rt.alloc(), table)?;
     }
     Ok(())
 }

@@ -8,15 +8,11 @@
 #[cfg(test)]
 mod books;
 #[cfg(test)]
-mod commands;
-#[cfg(test)]
 mod deadlocks;
 #[cfg(test)]
 mod declared;
 #[cfg(test)]
 mod devices;
-#[cfg(test)]
-mod fakes;
 #[cfg(test)]
 mod graphs;
 #[cfg(test)]
@@ -29,6 +25,8 @@ mod machine;
 mod rounds;
 #[cfg(test)]
 mod seeds;
+#[cfg(test)]
+mod shortages;
 #[cfg(test)]
 mod tables;
 #[cfg(test)]

@@ -442,7 +442,7 @@ pub(crate) const STUCK: &[Made] = &[
 ];
 
 /// Asserts that this run can be made, and that no lane can move after it.
-fn assert_stuck<A: Allocator>(
+pub(crate) fn assert_stuck<A: Allocator>(
     rt: &impl Abort,
     alloc: Global,
     core: &mut Core<A>,

@@ -8,7 +8,7 @@ use std::io::{ErrorKind, Read, Write};
 
 /// Fills the buffer at each call, and never ends.
 #[derive(Drop)]
-pub(crate) struct Endless;
+pub struct Endless;
 
 impl Read for Endless {
     fn read(&mut self, buffer: &mut [u8]) -> io::Result<usize> {
@@ -19,16 +19,16 @@ impl Read for Endless {
 
 /// Moves at most this many bytes a call, and has one call fail after this many that succeed.
 #[derive(Drop)]
-pub(crate) struct Fake<D> {
-    pub(crate) device: D,
-    pub(crate) at_most: usize,
-    pub(crate) successes: u32,
-    pub(crate) kind: ErrorKind,
+pub struct Fake<D> {
+    pub device: D,
+    pub at_most: usize,
+    pub successes: u32,
+    pub kind: ErrorKind,
 }
 
 impl<D> Fake<D> {
     /// None of the first four thousand million calls fails.
-    pub(crate) fn in_pieces(device: D, at_most: usize) -> Fake<D> {
+    pub fn in_pieces(device: D, at_most: usize) -> Fake<D> {
         Fake {
             device,
             at_most,
@@ -38,7 +38,7 @@ impl<D> Fake<D> {
     }
 
     /// Each call except the one that fails moves one byte.
-    pub(crate) fn failing_after(device: D, successes: u32, kind: ErrorKind) -> Fake<D> {
+    pub fn failing_after(device: D, successes: u32, kind: ErrorKind) -> Fake<D> {
         Fake {
             device,
             at_most: 1,

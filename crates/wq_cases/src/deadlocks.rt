@@ -1,0 +1,52 @@
+//! Cases of `deadlock`.
+
+use crate::command::{Case, Command};
+use crate::declarations::{
+    CHAIN, CROSSED, CROSSED_HANGS, HANGS, LANES, PLAN_OF_TWO, TWO, TWO_FLUSHES,
+};
+use wq_commands::End;
+
+pub(crate) const DEADLOCKS: &[Case] = &[
+    Case {
+        name: "lanes that hang",
+        command: Command::Deadlock,
+        texts: &[CHAIN, LANES],
+        end: End::Bad,
+        answer: HANGS,
+    },
+    Case {
+        name: "two lanes that hang",
+        command: Command::Deadlock,
+        texts: &[TWO_FLUSHES, CROSSED],
+        end: End::Bad,
+        answer: CROSSED_HANGS,
+    },
+    Case {
+        name: "safe lanes",
+        command: Command::Deadlock,
+        texts: &[CHAIN, "wq 0 b\nwq 1\nwq 2 a\nwq 3 c\n"],
+        end: End::Good,
+        answer: "safe\n",
+    },
+    Case {
+        name: "lanes of a plan",
+        command: Command::Deadlock,
+        texts: &[TWO, PLAN_OF_TWO],
+        end: End::Good,
+        answer: "safe\n",
+    },
+    Case {
+        name: "lanes without an item",
+        command: Command::Deadlock,
+        texts: &[TWO, "wq 0 a\n"],
+        end: End::Refused,
+        answer: "refused 41 line 0\n",
+    },
+    Case {
+        name: "a declaration and lanes that are none",
+        command: Command::Deadlock,
+        texts: &["item\n", "nope\n"],
+        end: End::Refused,
+        answer: "refused 5 line 1\n",
+    },
+];

@@ -1,0 +1,136 @@
+//! Cases of `dot`, with an assignment and without one.
+
+use crate::command::{Case, Command};
+use crate::declarations::{CHAIN, GROUPED, LANES, TWO};
+use wq_commands::End;
+
+/// The drawing of the plan of `TWO`.
+const DRAWN_PLAN: &str = "\
+digraph wqplan {
+  graph [label=\"plan 2\", labelloc=t, labeljust=l, rankdir=LR, newrank=true, nodesep=0.15, ranksep=1, fontname=\"sans-serif\"];
+  node [shape=box, style=filled, fillcolor=white, height=0.3, fontname=\"sans-serif\", fontsize=12];
+  edge [arrowsize=0.7];
+  subgraph \"cluster wq 0\" {
+    graph [label=\"wq 0\", rank=same, style=filled, color=gray92];
+    \"b\";
+  }
+  subgraph \"cluster wq 1\" {
+    graph [label=\"wq 1\", rank=same, style=filled, color=gray92];
+    \"a\";
+  }
+  \"a\" -> \"b\" [style=bold];
+}
+";
+
+/// The drawing of `GROUPED`, each group on a workqueue of its own.
+const DRAWN_GROUPS: &str = "\
+digraph wqplan {
+  graph [label=\"components 1\", labelloc=t, labeljust=l, rankdir=LR, newrank=true, nodesep=0.15, ranksep=1, fontname=\"sans-serif\"];
+  node [shape=box, style=filled, fillcolor=white, height=0.3, fontname=\"sans-serif\", fontsize=12];
+  edge [arrowsize=0.7];
+  subgraph \"cluster wq 0\" {
+    graph [label=\"wq 0\", rank=same, style=filled, color=gray92];
+    subgraph \"cluster ordered a\" {
+      graph [label=\"ordered\", style=dashed, color=black];
+      \"a\";
+      \"d\";
+    }
+  }
+  subgraph \"cluster wq 1\" {
+    graph [label=\"wq 1\", rank=same, style=filled, color=gray92];
+    subgraph \"cluster ordered b\" {
+      graph [label=\"ordered\", style=dashed, color=black];
+      \"b\";
+      \"c\";
+    }
+  }
+  \"a\" -> \"b\" [color=red];
+  \"c\" -> \"d\" [color=red];
+}
+";
+
+/// The drawing of `TWO` on three workqueues, of which one is empty.
+const DRAWN_SAFE: &str = "\
+digraph wqplan {
+  graph [label=\"safe\", labelloc=t, labeljust=l, rankdir=LR, newrank=true, nodesep=0.15, ranksep=1, fontname=\"sans-serif\"];
+  node [shape=box, style=filled, fillcolor=white, height=0.3, fontname=\"sans-serif\", fontsize=12];
+  edge [arrowsize=0.7];
+  subgraph \"cluster wq 0\" {
+    graph [label=\"wq 0\", rank=same, style=filled, color=gray92];
+    \"b\";
+  }
+  subgraph \"cluster wq 1\" {
+    graph [label=\"wq 1\", rank=same, style=filled, color=gray92];
+  }
+  subgraph \"cluster wq 2\" {
+    graph [label=\"wq 2\", rank=same, style=filled, color=gray92];
+    \"a\";
+  }
+  \"a\" -> \"b\";
+}
+";
+
+/// The drawing of `CHAIN` on `LANES`.
+const DRAWN_LANES: &str = "\
+digraph wqplan {
+  graph [label=\"components 1\", labelloc=t, labeljust=l, rankdir=LR, newrank=true, nodesep=0.15, ranksep=1, fontname=\"sans-serif\"];
+  node [shape=box, style=filled, fillcolor=white, height=0.3, fontname=\"sans-serif\", fontsize=12];
+  edge [arrowsize=0.7];
+  subgraph \"cluster wq 0\" {
+    graph [label=\"wq 0\", rank=same, style=filled, color=gray92];
+    \"a\";
+    \"c\";
+  }
+  subgraph \"cluster wq 1\" {
+    graph [label=\"wq 1\", rank=same, style=filled, color=gray92];
+    \"b\";
+  }
+  \"a\" -> \"b\" [color=red];
+  \"b\" -> \"c\" [color=red];
+}
+";
+
+pub(crate) const DRAWINGS: &[Case] = &[
+    Case {
+        name: "a drawing of a plan",
+        command: Command::OwnDot,
+        texts: &[TWO],
+        end: End::Good,
+        answer: DRAWN_PLAN,
+    },
+    Case {
+        name: "a drawing of a circle of groups",
+        command: Command::OwnDot,
+        texts: &[GROUPED],
+        end: End::Good,
+        answer: DRAWN_GROUPS,
+    },
+    Case {
+        name: "a drawing of a declaration that is none",
+        command: Command::OwnDot,
+        texts: &["items a\n"],
+        end: End::Refused,
+        answer: "refused 4 line 1\n",
+    },
+    Case {
+        name: "a drawing of safe lanes",
+        command: Command::Dot,
+        texts: &[TWO, "wq 0 b\nwq 1\nwq 2 a\n"],
+        end: End::Good,
+        answer: DRAWN_SAFE,
+    },
+    Case {
+        name: "a drawing of lanes that hang",
+        command: Command::Dot,
+        texts: &[CHAIN, LANES],
+        end: End::Good,
+        answer: DRAWN_LANES,
+    },
+    Case {
+        name: "a drawing of lanes that are none",
+        command: Command::Dot,
+        texts: &[TWO, "wq 1 a b\n"],
+        end: End::Refused,
+        answer: "refused 43 line 1\n",
+    },
+];

@@ -1,0 +1,92 @@
+//! Cases of `plan`.
+
+use crate::command::{Case, Command};
+use crate::declarations::{CHAIN_OF_FOUR, CIRCLE, EACH_OTHER, GROUPED, ITSELF, PLAN_OF_TWO, TWO};
+use wq_commands::End;
+
+pub(crate) const PLANS: &[Case] = &[
+    Case {
+        name: "a plan",
+        command: Command::Plan,
+        texts: &[TWO],
+        end: End::Good,
+        answer: PLAN_OF_TWO,
+    },
+    Case {
+        name: "a plan of groups",
+        command: Command::Plan,
+        texts: &["item a\nitem b\nitem c\nitem d\nordered b c\nflush a b\nflush c d\n"],
+        end: End::Good,
+        answer: "plan 3\nwq 0 d\nwq 1 b c\nwq 2 a\nchain 3\narc a b\narc c d\n",
+    },
+    Case {
+        name: "a plan of a chain and an item beside it",
+        command: Command::Plan,
+        texts: &[CHAIN_OF_FOUR],
+        end: End::Good,
+        answer: "plan 3\nwq 0 c d\nwq 1 b\nwq 2 a\nchain 3\narc a b\narc b c\n",
+    },
+    Case {
+        name: "no item",
+        command: Command::Plan,
+        texts: &[""],
+        end: End::Good,
+        answer: "plan 0\nchain 0\n",
+    },
+    Case {
+        name: "a circle",
+        command: Command::Plan,
+        texts: &[ITSELF],
+        end: End::Bad,
+        answer: CIRCLE,
+    },
+    Case {
+        name: "a circle of two items",
+        command: Command::Plan,
+        texts: &[EACH_OTHER],
+        end: End::Bad,
+        answer: "circle 2\narc a b\narc b a\nrun 6\nqueue a\nqueue b\nstart 0 a\nwait 0 b\nstart 1 b\nwait 1 a\n",
+    },
+    Case {
+        name: "a circle of groups",
+        command: Command::Plan,
+        texts: &[GROUPED],
+        end: End::Bad,
+        answer: "circle 2\narc a b\narc c d\nrun 8\nqueue a\nqueue c\nqueue b\nqueue d\nstart 0 a\nwait 0 b\nstart 1 c\nwait 1 d\n",
+    },
+    Case {
+        name: "a circle within a group",
+        command: Command::Plan,
+        texts: &["item a\nitem b\nitem c\nordered c b\nflush a c\nflush c b\n"],
+        end: End::Bad,
+        answer: "circle 1\narc c b\nrun 7\nqueue c\nqueue a\nqueue b\nstart 0 a\nwait 0 c\nstart 1 c\nwait 1 b\n",
+    },
+    Case {
+        name: "a line that is none",
+        command: Command::Plan,
+        texts: &["item a\nitems b\n"],
+        end: End::Refused,
+        answer: "refused 4 line 2\n",
+    },
+    Case {
+        name: "an item twice",
+        command: Command::Plan,
+        texts: &["item a\nitem a\n"],
+        end: End::Refused,
+        answer: "refused 7 line 2\n",
+    },
+    Case {
+        name: "an item that isn't there",
+        command: Command::Plan,
+        texts: &["item a\nitem b\nflush a b\nflush b c\n"],
+        end: End::Refused,
+        answer: "refused 8 line 4\n",
+    },
+    Case {
+        name: "an item in two groups",
+        command: Command::Plan,
+        texts: &["item a\nitem b\nordered a b\nordered b\n"],
+        end: End::Refused,
+        answer: "refused 11 line 4\n",
+    },
+];

@@ -1,0 +1,61 @@
+//! Cases of `replay`.
+
+use crate::command::{Case, Command};
+use crate::declarations::{CHAIN, HANGS, LANES, TWO};
+use wq_commands::End;
+
+pub(crate) const REPLAYS: &[Case] = &[
+    Case {
+        name: "a run that hangs",
+        command: Command::Replay,
+        texts: &[CHAIN, LANES, HANGS],
+        end: End::Bad,
+        answer: "deadlock\n",
+    },
+    Case {
+        name: "a run within a workqueue that hangs",
+        command: Command::Replay,
+        texts: &[
+            TWO,
+            "wq 0 a b\n",
+            "run 4\nqueue a\nqueue b\nstart 0 a\nwait 0 b\n",
+        ],
+        end: End::Bad,
+        answer: "deadlock\n",
+    },
+    Case {
+        name: "a run that goes on",
+        command: Command::Replay,
+        texts: &[TWO, "wq 0 a b\n", "run 2\nqueue a\nstart 0 a\n"],
+        end: End::Good,
+        answer: "open\n",
+    },
+    Case {
+        name: "a step that isn't lawful",
+        command: Command::Replay,
+        texts: &[TWO, "wq 0 a b\n", "run 1\nstart 0 a\n"],
+        end: End::Bad,
+        answer: "not lawful 1\n",
+    },
+    Case {
+        name: "an assignment that is none",
+        command: Command::Replay,
+        texts: &[TWO, "wq 0 a\n", "run 0\n"],
+        end: End::Refused,
+        answer: "refused 41 line 0\n",
+    },
+    Case {
+        name: "a run of four thousand million steps",
+        command: Command::Replay,
+        texts: &[TWO, "wq 0 a b\n", "run 4294967295\n"],
+        end: End::Refused,
+        answer: "refused 40 line 0\n",
+    },
+    Case {
+        name: "a run that is none",
+        command: Command::Replay,
+        texts: &[TWO, "wq 0 a b\n", "run 1\nnope\n"],
+        end: End::Refused,
+        answer: "refused 40 line 2\n",
+    },
+];
