@@ -113,7 +113,7 @@ for place in "${places[@]}"; do
 done
 command -v rt >/dev/null || fail 'rt, the toolchain of Rattle, is not on the PATH'
 
-# The crates that the program stands on, and itself, from the lowest up, as crates.txt lists them.
+# The crates that the program needs, and itself, from the lowest up, as crates.txt lists them.
 declare -A needed=([wqplan]=1)
 crates=()
 while IFS=: read -r crate uses; do

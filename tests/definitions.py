@@ -4,10 +4,10 @@
 Usage: tests/definitions.py [--check]
 
 Without an argument the lists are made again, from the `--` lines above the definitions in crates/*/specs and the `///`
-lines above the laws in crates/*/src. What stands around a list is written by hand, and stays. With `--check` nothing is
+lines above the laws in crates/*/src. What is around a list is written by hand, and stays. With `--check` nothing is
 written: each entry that differs is named. The status is 1 where one differs, or where a spec or a law has no words.
 
-A list stands between two lines:
+A list is between two lines:
 
     <!-- definitions CRATE: made by tests/definitions.py -->
     <!-- end -->
@@ -47,7 +47,7 @@ class Words:
 
 
 def crates_upwards():
-    """The crates of crates.txt, each behind those that it stands on."""
+    """The crates of crates.txt, each after those that it needs."""
     needs = {}
     for line in (ROOT / "crates.txt").read_text().splitlines():
         name, found, rest = line.partition("#")[0].partition(":")
@@ -167,7 +167,7 @@ def joined(blocks):
 
 
 def parted(lines):
-    """The blocks of a list as they stand on the page."""
+    """The blocks of a list as they are on the page."""
     blocks = []
     fresh = True
     for line in lines:
@@ -182,7 +182,7 @@ def parted(lines):
 
 
 def listed(text, words):
-    """Where the lists stand on the page: of each the crate and the numbers of its two lines, counted from 0."""
+    """Where the lists are on the page: of each the crate and the numbers of its two lines, counted from 0."""
     lists = []
     open_list = None
     for number, line in enumerate(text.splitlines()):

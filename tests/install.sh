@@ -124,7 +124,7 @@ installed 'an installation' "$prefix" one
 is 'the PATH is named' "install: $prefix/bin isn't on the PATH" "$(grep PATH "$work/out")"
 is 'it says how long it takes' 1 "$(grep -c 'forty minutes' "$work/out")"
 
-# Each crate was checked before those that stand on it, the program's last, and then the program was built; no crate of the tests.
+# Each crate was checked before those that need it, the program's last, and then the program was built; no crate of the tests.
 checked=$(sed -n '$!s/ check$//p' "$work/calls")
 is 'the last call builds the program' 'wqplan run -- --version' "$(tail -n 1 "$work/calls")"
 is 'all calls before check a crate' "$(($(wc -l <"$work/calls") - 1))" "$(wc -w <<<"$checked")"
@@ -138,7 +138,7 @@ for crate in $checked; do
             sed "/^$crate\$/q" <<<"$checked" | grep -qx -- "$use" || early="$early $crate:$use"
     done
 done
-is 'each crate is checked behind those that it stands on' '' "$early"
+is 'each crate is checked after those that it needs' '' "$early"
 
 # Again, over the first one; then what was installed is removed, with the folders.
 BUILT=two run "$prefix"

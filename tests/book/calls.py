@@ -302,7 +302,7 @@ BOOKS = [
 # A declaration and an assignment, how many rows there are, the text of the calls, and all that is
 # printed.
 TEXTS = [
-    # Comments, blanks, CRs, a last line without LF, and a word that is no name.
+    # Comments, blanks, CRs, a last line without LF, and a word that isn't a name.
     (*ONE, 5, b"\tqueue  a # x\r\n\n \t\n# y\nqueue a!\nqueue a",
      "true free 2 busy open - - / refused 66 free 2 busy open - - / false free 1 busy open - - / "
      "rows 2 / 010100000000000000000000 / 010000000000000000000000"),

@@ -6,108 +6,108 @@ ABC = "item a / item b / item c / ordered a c"
 LETTERS = "item a / item b / item c / item d / item e"
 LONG = "item receive / item send"
 
-# The first word, where another one should stand, and lines behind the end.
+# The first word, where another one should be, and lines behind the end.
 WORDS = [
     ({"d": AB, "p": "plans 2 / wq 0 b / wq 1 a"}, "check d p", "refused 40 line 1", 2, [
-        "p:1:1: `plans` stands where `plan K` should [refused 40, `wqplan explain 40`]",
+        "p:1:1: expected `plan K`, found `plans` [refused 40, `wqplan explain 40`]",
         "    plans 2",
         "    ^^^^^",
     ]),
     ({"d": AB, "p": "plan 2 / wq 0 b / \tqw 1 a # c"}, "check d p", "refused 40 line 3", 2, [
-        "p:3:2: `qw` stands where `wq 1 NAME..` should [refused 40, `wqplan explain 40`]",
+        "p:3:2: expected `wq 1 NAME..`, found `qw` [refused 40, `wqplan explain 40`]",
         "     qw 1 a # c",
         "     ^^",
     ]),
     ({"d": AB, "p": "plan 2 / wq 0 b / wq 1 a / arc a b"}, "check d p", "refused 40 line 4", 2, [
-        "p:4:1: `arc` stands where `chain N` should [refused 40, `wqplan explain 40`]",
+        "p:4:1: expected `chain N`, found `arc` [refused 40, `wqplan explain 40`]",
         "    arc a b",
         "    ^^^",
     ]),
     ({"d": AB, "p": "plan 2 / wq 0 b / wq 1 a / chain 2 / a b"}, "check d p", "refused 40 line 5", 2, [
-        "p:5:1: `a` stands where `arc NAME TARGET` should [refused 40, `wqplan explain 40`]",
+        "p:5:1: expected `arc NAME TARGET`, found `a` [refused 40, `wqplan explain 40`]",
         "    a b",
         "    ^",
     ]),
     ({"d": AB, "p": "# p /  / plan 2 / // b / wq 0 b / wq 1 a"}, "check d p", "refused 40 line 4", 2, [
-        "p:4:1: `//` stands where `wq 0 NAME..` should [refused 40, `wqplan explain 40`]",
+        "p:4:1: expected `wq 0 NAME..`, found `//` [refused 40, `wqplan explain 40`]",
         "    // b",
         "    ^^ a comment begins with `#`",
     ]),
     ({"d": AB, "c": "circle 1 / flush a b"}, "check d c", "refused 40 line 2", 2, [
-        "c:2:1: `flush` stands where `arc NAME TARGET` should [refused 40, `wqplan explain 40`]",
+        "c:2:1: expected `arc NAME TARGET`, found `flush` [refused 40, `wqplan explain 40`]",
         "    flush a b",
         "    ^^^^^ this looks like a declaration: are the files in the right order?",
     ]),
     ({"d": AB, "c": "circle 1 / arc a b / ran 1"}, "check d c", "refused 40 line 3", 2, [
-        "c:3:1: `ran` stands where `run M` should [refused 40, `wqplan explain 40`]",
+        "c:3:1: expected `run M`, found `ran` [refused 40, `wqplan explain 40`]",
         "    ran 1",
         "    ^^^",
     ]),
     ({"d": AB, "c": "circle 1 / arc a b / run 1 / end 0 a"}, "check d c", "refused 40 line 4", 2, [
-        "c:4:1: `end` stands where a step should [refused 40, `wqplan explain 40`]",
+        "c:4:1: expected a step, found `end` [refused 40, `wqplan explain 40`]",
         "    end 0 a",
         "    ^^^",
     ]),
     # Texts of another kind.
     ({"d": AB, "e": AB}, "check d e", "refused 40 line 1", 2, [
-        "e:1:1: `item` stands where `plan K` should [refused 40, `wqplan explain 40`]",
+        "e:1:1: expected `plan K`, found `item` [refused 40, `wqplan explain 40`]",
         "    item a",
         "    ^^^^ this looks like a declaration: are the files in the right order?",
     ]),
     ({"d": AB, "a": "wq 0 b / wq 1 a"}, "check d a", "refused 40 line 1", 2, [
-        "a:1:1: `wq` stands where `plan K` should [refused 40, `wqplan explain 40`]",
+        "a:1:1: expected `plan K`, found `wq` [refused 40, `wqplan explain 40`]",
         "    wq 0 b",
         "    ^^ this looks like a plan or an assignment: are the files in the right order?",
     ]),
     ({"d": AB, "r": "run 1 / queue a"}, "check d r", "refused 40 line 1", 2, [
-        "r:1:1: `run` stands where `plan K` should [refused 40, `wqplan explain 40`]",
+        "r:1:1: expected `plan K`, found `run` [refused 40, `wqplan explain 40`]",
         "    run 1",
         "    ^^^ this looks like a run: are the files in the right order?",
     ]),
     ({"d": AB, "a": "wq 0 a b", "c": "circle 1 / arc a b"}, "replay d a c", "refused 40 line 1", 2, [
-        "c:1:1: `circle` stands where `run M` should [refused 40, `wqplan explain 40`]",
+        "c:1:1: expected `run M`, found `circle` [refused 40, `wqplan explain 40`]",
         "    circle 1",
         "    ^^^^^^ this looks like a circle: are the files in the right order?",
     ]),
     ({"d": AB, "a": "wq 0 a b", "r": "run 2 / queue a / ordered a b"}, "replay d a r", "refused 40 line 3", 2, [
-        "r:3:1: `ordered` stands where a step should [refused 40, `wqplan explain 40`]",
+        "r:3:1: expected a step, found `ordered` [refused 40, `wqplan explain 40`]",
         "    ordered a b",
         "    ^^^^^^^ this looks like a declaration: are the files in the right order?",
     ]),
     # `>` in the place of `<`: a plan that was overwritten with a refusal.
     ({"d.wq": AB, "d.plan": "refused 8 line 2"}, "check d.wq d.plan", "refused 40 line 1", 2, [
-        "d.plan:1:1: `refused` stands where `plan K` should [refused 40, `wqplan explain 40`]",
+        "d.plan:1:1: expected `plan K`, found `refused` [refused 40, `wqplan explain 40`]",
         "    refused 8 line 2",
         "    ^^^^^^^ this looks like a refusal, written here in place of an answer: are the files in the right order?",
     ]),
     # Behind the end. There nothing is said of the kind of text.
     ({"d": AB, "p": "plan 2 / wq 0 b / wq 1 a / chain 2 / arc a b / arc a b"}, "check d p", "refused 40 line 6", 2, [
-        "p:6:1: the text should end above this line [refused 40, `wqplan explain 40`]",
+        "p:6:1: the text should end before this line [refused 40, `wqplan explain 40`]",
         "    arc a b",
         "    ^^^",
     ]),
     ({"d": AB, "p": "plan 2 / wq 0 b / wq 1 a / chain 0 /  / plan 2"}, "check d p", "refused 40 line 6", 2, [
-        "p:6:1: the text should end above this line [refused 40, `wqplan explain 40`]",
+        "p:6:1: the text should end before this line [refused 40, `wqplan explain 40`]",
         "    plan 2",
         "    ^^^^",
     ]),
     ({"d": AB, "p": "plan 2 / wq 0 b / wq 1 a / chain 1 / ; the end"}, "check d p", "refused 40 line 5", 2, [
-        "p:5:1: the text should end above this line [refused 40, `wqplan explain 40`]",
+        "p:5:1: the text should end before this line [refused 40, `wqplan explain 40`]",
         "    ; the end",
         "    ^ a comment begins with `#`",
     ]),
     ({"d": AB, "a": "wq 0 b / wq 1 a / chain 2"}, "deadlock d a", "refused 40 line 3", 2, [
-        "a:3:1: the text should end above this line [refused 40, `wqplan explain 40`]",
+        "a:3:1: the text should end before this line [refused 40, `wqplan explain 40`]",
         "    chain 2",
         "    ^^^^^",
     ]),
     ({"d": AB, "a": "wq 0 a b", "r": "run 1 / queue a / queue b"}, "replay d a r", "refused 40 line 3", 2, [
-        "r:3:1: the text should end above this line [refused 40, `wqplan explain 40`]",
+        "r:3:1: the text should end before this line [refused 40, `wqplan explain 40`]",
         "    queue b",
         "    ^^^^^",
     ]),
     ({"d": AB, "c": "circle 1 / arc a b / run 0 / run 0"}, "check d c", "refused 40 line 4", 2, [
-        "c:4:1: the text should end above this line [refused 40, `wqplan explain 40`]",
+        "c:4:1: the text should end before this line [refused 40, `wqplan explain 40`]",
         "    run 0",
         "    ^^^",
     ]),
@@ -116,51 +116,51 @@ WORDS = [
 # Texts that end too early: no line is meant.
 ENDS = [
     ({"d": AB, "p": ""}, "check d p", "refused 40 line 0", 2, [
-        "p: the text ends where `plan K` should stand [refused 40, `wqplan explain 40`]",
+        "p: expected `plan K`, but the text ends [refused 40, `wqplan explain 40`]",
     ]),
     ({"d": AB, "p": "plan 3 / wq 0 b / wq 1 a"}, "check d p", "refused 40 line 0", 2, [
-        "p: the text ends where `wq 2 NAME..` should stand [refused 40, `wqplan explain 40`]",
+        "p: expected `wq 2 NAME..`, but the text ends [refused 40, `wqplan explain 40`]",
     ]),
     ({"d": AB, "p": "plan 2 / wq 0 b / wq 1 a"}, "deadlock d p", "refused 40 line 0", 2, [
-        "p: the text ends where `chain N` should stand [refused 40, `wqplan explain 40`]",
+        "p: expected `chain N`, but the text ends [refused 40, `wqplan explain 40`]",
     ]),
     ({"d": AB, "c": "circle 2 / arc a b"}, "check d c", "refused 40 line 0", 2, [
-        "c: the text ends where `arc NAME TARGET` should stand [refused 40, `wqplan explain 40`]",
+        "c: expected `arc NAME TARGET`, but the text ends [refused 40, `wqplan explain 40`]",
     ]),
     ({"d": AB, "a": "wq 0 a b", "r": "# nothing"}, "replay d a r", "refused 40 line 0", 2, [
-        "r: the text ends where `run M` should stand [refused 40, `wqplan explain 40`]",
+        "r: expected `run M`, but the text ends [refused 40, `wqplan explain 40`]",
     ]),
     ({"d": AB, "c": "circle 1 / arc a b / run 4294967295 / queue a"}, "check d c", "refused 40 line 0", 2, [
-        "c: the text ends where a step should stand [refused 40, `wqplan explain 40`]",
+        "c: expected a step, but the text ends [refused 40, `wqplan explain 40`]",
     ]),
 ]
 
 # Numbers, words that are missing or too many, and names.
 FORMS = [
     ({"d": AB, "p": "plan two"}, "check d p", "refused 40 line 1", 2, [
-        "p:1:6: `two` is no number [refused 40, `wqplan explain 40`]",
+        "p:1:6: `two` isn't a number [refused 40, `wqplan explain 40`]",
         "    plan two",
-        "         ^^^ a number has digits alone, and none of them is a leading 0",
+        "         ^^^ a number has only digits, and no leading zero",
     ]),
     ({"d": AB, "p": "plan 2 / wq 00 b"}, "check d p", "refused 40 line 2", 2, [
-        "p:2:4: `00` is no number [refused 40, `wqplan explain 40`]",
+        "p:2:4: `00` isn't a number [refused 40, `wqplan explain 40`]",
         "    wq 00 b",
-        "       ^^ a number has digits alone, and none of them is a leading 0",
+        "       ^^ a number has only digits, and no leading zero",
     ]),
     ({"d": AB, "c": "circle 4294967296"}, "check d c", "refused 40 line 1", 2, [
-        "c:1:8: `4294967296` is no number [refused 40, `wqplan explain 40`]",
+        "c:1:8: `4294967296` isn't a number [refused 40, `wqplan explain 40`]",
         "    circle 4294967296",
         "           ^^^^^^^^^^ a number is at most 4,294,967,295",
     ]),
     ({"d": AB, "p": "plan 2 / wq 0 b / wq 1 a / chain -1"}, "check d p", "refused 40 line 4", 2, [
-        "p:4:7: `-1` is no number [refused 40, `wqplan explain 40`]",
+        "p:4:7: `-1` isn't a number [refused 40, `wqplan explain 40`]",
         "    chain -1",
-        "          ^^ a number has digits alone, and none of them is a leading 0",
+        "          ^^ a number has only digits, and no leading zero",
     ]),
     ({"d": AB, "a": "wq 0 a b", "r": "run 1 / start a 0"}, "replay d a r", "refused 40 line 2", 2, [
-        "r:2:7: `a` is no number [refused 40, `wqplan explain 40`]",
+        "r:2:7: `a` isn't a number [refused 40, `wqplan explain 40`]",
         "    start a 0",
-        "          ^ a number has digits alone, and none of them is a leading 0",
+        "          ^ a number has only digits, and no leading zero",
     ]),
     # A word is missing.
     ({"d": AB, "p": b"plan 2\nwq 0 b\nwq"}, "check d p", "refused 40 line 3", 2, [
@@ -200,28 +200,28 @@ FORMS = [
     ]),
     # A word too many: the first one.
     ({"d": AB, "p": "plan 2 2 3 / wq 0 b"}, "check d p", "refused 40 line 1", 2, [
-        "p:1:8: here is a word too many [refused 40, `wqplan explain 40`]",
+        "p:1:8: one word too many [refused 40, `wqplan explain 40`]",
         "    plan 2 2 3",
         "           ^ the line should be `plan K`",
     ]),
     ({"d": AB, "c": "circle 1 / arc a b // c"}, "check d c", "refused 40 line 2", 2, [
-        "c:2:9: here is a word too many [refused 40, `wqplan explain 40`]",
+        "c:2:9: one word too many [refused 40, `wqplan explain 40`]",
         "    arc a b // c",
         "            ^^ the line should be `arc NAME TARGET`",
     ]),
     ({"d": AB, "a": "wq 0 a b", "r": "run 1 / queue a b"}, "replay d a r", "refused 40 line 2", 2, [
-        "r:2:9: here is a word too many [refused 40, `wqplan explain 40`]",
+        "r:2:9: one word too many [refused 40, `wqplan explain 40`]",
         "    queue a b",
         "            ^ the line should be a step",
     ]),
     # Several faults on one line: the one whose row stands first in the table of the page.
     ({"d": AB, "p": "plan two 2"}, "check d p", "refused 40 line 1", 2, [
-        "p:1:6: `two` is no number [refused 40, `wqplan explain 40`]",
+        "p:1:6: `two` isn't a number [refused 40, `wqplan explain 40`]",
         "    plan two 2",
-        "         ^^^ a number has digits alone, and none of them is a leading 0",
+        "         ^^^ a number has only digits, and no leading zero",
     ]),
     ({"d": AB, "c": "circle 1 / arc z b c"}, "check d c", "refused 40 line 2", 2, [
-        "c:2:9: here is a word too many [refused 40, `wqplan explain 40`]",
+        "c:2:9: one word too many [refused 40, `wqplan explain 40`]",
         "    arc z b c",
         "            ^ the line should be `arc NAME TARGET`",
     ]),
@@ -231,9 +231,9 @@ FORMS = [
         "         ^ the line should be `arc NAME TARGET`",
     ]),
     ({"d": AB, "a": "wq 0 a b", "r": "run 1 / over x"}, "replay d a r", "refused 40 line 2", 2, [
-        "r:2:6: `x` is no number [refused 40, `wqplan explain 40`]",
+        "r:2:6: `x` isn't a number [refused 40, `wqplan explain 40`]",
         "    over x",
-        "         ^ a number has digits alone, and none of them is a leading 0",
+        "         ^ a number has only digits, and no leading zero",
     ]),
     # Names that are no items, with and without one that is near.
     ({"d": AB, "a": "wq 0 b / wq 1 a c d"}, "deadlock d a", "refused 40 line 2", 2, [
@@ -291,45 +291,45 @@ OTHERS = [
         "           ^^^^",
     ]),
     ({"d": AB, "a": "wq 1 b / wq 2 a"}, "deadlock d a", "refused 43 line 1", 2, [
-        "a:1:4: `wq 0` should stand here [refused 43, `wqplan explain 43`]",
+        "a:1:4: expected `wq 0` [refused 43, `wqplan explain 43`]",
         "    wq 1 b",
         "       ^ workqueues are numbered from 0, in order",
     ]),
     ({"d": AB, "p": "plan 2 / wq 0 b / wq 10 a"}, "check d p", "refused 43 line 3", 2, [
-        "p:3:4: `wq 1` should stand here [refused 43, `wqplan explain 43`]",
+        "p:3:4: expected `wq 1` [refused 43, `wqplan explain 43`]",
         "    wq 10 a",
         "       ^^ workqueues are numbered from 0, in order",
     ]),
-    # 41 in a line: an item that stands on a workqueue already.
+    # 41 in a line: an item that is on a workqueue already.
     ({"d": AB, "a": "# a / wq 0 a / wq 1 b a b"}, "deadlock d a", "refused 41 line 3", 2, [
-        "a:3:8: `a` stands on a workqueue already [refused 41, `wqplan explain 41`]",
+        "a:3:8: `a` is on a workqueue already [refused 41, `wqplan explain 41`]",
         "    wq 1 b a b",
         "           ^ on line 2",
     ]),
     ({"d": AB, "p": "plan 1 / wq 0 a b a b"}, "check d p", "refused 41 line 2", 2, [
-        "p:2:10: `a` stands twice on this line [refused 41, `wqplan explain 41`]",
+        "p:2:10: `a` is on this line twice [refused 41, `wqplan explain 41`]",
         "    wq 0 a b a b",
         "             ^",
     ]),
-    # 41 without a line: items that stand on none.
+    # 41 without a line: items that are on none.
     ({"d": LONG, "a": "wq 0 send"}, "deadlock d a", "refused 41 line 0", 2, [
-        "a: `receive` stands on no workqueue [refused 41, `wqplan explain 41`]",
+        "a: `receive` is on no workqueue [refused 41, `wqplan explain 41`]",
     ]),
     ({"d": LETTERS, "a": "wq 0 d b c / wq 1 "}, "deadlock d a", "refused 41 line 0", 2, [
-        "a: `a`, `e` stand on no workqueue [refused 41, `wqplan explain 41`]",
+        "a: `a`, `e` are on no workqueue [refused 41, `wqplan explain 41`]",
     ]),
     ({"d": LETTERS, "p": "plan 1 / wq 0 b d / wq 1 a c e / chain 0"}, "check d p", "refused 41 line 0", 2, [
-        "p: `a`, `c`, `e` stand on no workqueue [refused 41, `wqplan explain 41`]",
+        "p: `a`, `c`, `e` are on no workqueue [refused 41, `wqplan explain 41`]",
     ]),
     ({"d": LETTERS, "a": "wq 0 c / qw 1 a b d e"}, "deadlock d a", "refused 41 line 0", 2, [
-        "a: `a`, `b`, `d` and 1 more stand on no workqueue [refused 41, `wqplan explain 41`]",
+        "a: `a`, `b`, `d` and 1 more are on no workqueue [refused 41, `wqplan explain 41`]",
     ]),
     ({"d": LETTERS, "e": LETTERS}, "deadlock d e", "refused 41 line 0", 2, [
-        "e: `a`, `b`, `c` and 2 more stand on no workqueue [refused 41, `wqplan explain 41`]",
+        "e: `a`, `b`, `c` and 2 more are on no workqueue [refused 41, `wqplan explain 41`]",
     ]),
     # The assignment and the run in each other's place: the assignment is judged first.
     ({"d": AB, "a": "wq 0 a b", "r": "run 1 / queue a"}, "replay d r a", "refused 41 line 0", 2, [
-        "r: `a`, `b` stand on no workqueue [refused 41, `wqplan explain 41`]",
+        "r: `a`, `b` are on no workqueue [refused 41, `wqplan explain 41`]",
     ]),
     # 42: a group on two workqueues.
     ({"d": ABC, "a": "wq 0 b a / wq 1 c"}, "deadlock d a", "refused 42 line 2", 2, [

@@ -36,12 +36,12 @@ BYTES = [
     ({"d.wq": b"item \xef\xbb\xbfa\n"}, "plan d.wq", "refused 3 line 1", 2, [
         "d.wq:1:6: the byte 0xEF is neither TAB nor printable ASCII [refused 3, `wqplan explain 3`]",
         "    item ???a",
-        "         ^ beyond ASCII there are only comments",
+        "         ^ only comments may have bytes beyond ASCII",
     ]),
     ({"d.wq": b"\xef\xbbitem a\n"}, "plan d.wq", "refused 3 line 1", 2, [
         "d.wq:1:1: the byte 0xEF is neither TAB nor printable ASCII [refused 3, `wqplan explain 3`]",
         "    ??item a",
-        "    ^ beyond ASCII there are only comments",
+        "    ^ only comments may have bytes beyond ASCII",
     ]),
     # UTF-16, with either mark and with none.
     ({"d.wq": b"\xff\xfei\0t\0e\0m\0 \0a\0\n\0"}, "plan d.wq", "refused 3 line 1", 2, [
@@ -62,7 +62,7 @@ BYTES = [
     ({"d.wq": b" \xff\xfe\n"}, "plan d.wq", "refused 3 line 1", 2, [
         "d.wq:1:2: the byte 0xFF is neither TAB nor printable ASCII [refused 3, `wqplan explain 3`]",
         "     ??",
-        "     ^ beyond ASCII there are only comments",
+        "     ^ only comments may have bytes beyond ASCII",
     ]),
     # A zero byte in a last line without a line feed.
     ({"d.wq": b"item a\n\0"}, "plan d.wq", "refused 3 line 2", 2, [
@@ -74,207 +74,207 @@ BYTES = [
     ({"d.wq": b"item a\r\r\n"}, "plan d.wq", "refused 3 line 1", 2, [
         "d.wq:1:7: the byte 0x0D is neither TAB nor printable ASCII [refused 3, `wqplan explain 3`]",
         "    item a?",
-        "          ^ a carriage return may stand only before a line feed",
+        "          ^ a carriage return may come only before a line feed",
     ]),
     ({"d.wq": b"item a\ritem b\rflush a b\r"}, "plan d.wq", "refused 3 line 1", 2, [
         "d.wq:1:7: the byte 0x0D is neither TAB nor printable ASCII [refused 3, `wqplan explain 3`]",
         "    item a?item b?flush a b?",
-        "          ^ a carriage return may stand only before a line feed",
+        "          ^ a carriage return may come only before a line feed",
     ]),
     ({"d.wq": b"item a\r\nitem b\r"}, "plan d.wq", "refused 3 line 2", 2, [
         "d.wq:2:7: the byte 0x0D is neither TAB nor printable ASCII [refused 3, `wqplan explain 3`]",
         "    item b?",
-        "          ^ a carriage return may stand only before a line feed",
+        "          ^ a carriage return may come only before a line feed",
     ]),
     # UTF-8: each byte takes one column. TABs are shown as spaces.
     ({"d.wq": "item gr\u00f6\u00dfe # gr\u00f6\u00dfer\n".encode()}, "plan d.wq", "refused 3 line 1", 2, [
         "d.wq:1:8: the byte 0xC3 is neither TAB nor printable ASCII [refused 3, `wqplan explain 3`]",
         "    item gr????e # gr????er",
-        "           ^ beyond ASCII there are only comments",
+        "           ^ only comments may have bytes beyond ASCII",
     ]),
     ({"d.wq": b"item\ta\xa0b\t# c\n"}, "plan d.wq", "refused 3 line 1", 2, [
         "d.wq:1:7: the byte 0xA0 is neither TAB nor printable ASCII [refused 3, `wqplan explain 3`]",
         "    item a?b # c",
-        "          ^ beyond ASCII there are only comments",
+        "          ^ only comments may have bytes beyond ASCII",
     ]),
 ]
 
-# 4: the first word is no directive.
+# 4: the first word isn't a directive.
 WORDS = [
     # Words that are like a directive, and words that aren't.
     ({"d.wq": "itme a"}, "plan d.wq", "refused 4 line 1", 2, [
-        "d.wq:1:1: `itme` is no directive [refused 4, `wqplan explain 4`]",
+        "d.wq:1:1: `itme` isn't a directive [refused 4, `wqplan explain 4`]",
         "    itme a",
         "    ^^^^ did you mean `item`?",
     ]),
     ({"d.wq": "item a / \titems b"}, "plan d.wq", "refused 4 line 2", 2, [
-        "d.wq:2:2: `items` is no directive [refused 4, `wqplan explain 4`]",
+        "d.wq:2:2: `items` isn't a directive [refused 4, `wqplan explain 4`]",
         "     items b",
         "     ^^^^^ did you mean `item`?",
     ]),
     ({"d.wq": "item a / FLUSH a a"}, "plan d.wq", "refused 4 line 2", 2, [
-        "d.wq:2:1: `FLUSH` is no directive [refused 4, `wqplan explain 4`]",
+        "d.wq:2:1: `FLUSH` isn't a directive [refused 4, `wqplan explain 4`]",
         "    FLUSH a a",
         "    ^^^^^ did you mean `flush`?",
     ]),
     ({"d.wq": "item a / flsh a a"}, "plan d.wq", "refused 4 line 2", 2, [
-        "d.wq:2:1: `flsh` is no directive [refused 4, `wqplan explain 4`]",
+        "d.wq:2:1: `flsh` isn't a directive [refused 4, `wqplan explain 4`]",
         "    flsh a a",
         "    ^^^^ did you mean `flush`?",
     ]),
     # Two letters of six may differ, and of five one.
     ({"d.wq": "item a / orderd a"}, "plan d.wq", "refused 4 line 2", 2, [
-        "d.wq:2:1: `orderd` is no directive [refused 4, `wqplan explain 4`]",
+        "d.wq:2:1: `orderd` isn't a directive [refused 4, `wqplan explain 4`]",
         "    orderd a",
         "    ^^^^^^ did you mean `ordered`?",
     ]),
     ({"d.wq": "item a / flushed a"}, "plan d.wq", "refused 4 line 2", 2, [
-        "d.wq:2:1: `flushed` is no directive [refused 4, `wqplan explain 4`]",
+        "d.wq:2:1: `flushed` isn't a directive [refused 4, `wqplan explain 4`]",
         "    flushed a",
         "    ^^^^^^^ did you mean `flush`?",
     ]),
     ({"d.wq": "item a / order a"}, "plan d.wq", "refused 4 line 2", 2, [
-        "d.wq:2:1: `order` is no directive [refused 4, `wqplan explain 4`]",
+        "d.wq:2:1: `order` isn't a directive [refused 4, `wqplan explain 4`]",
         "    order a",
         "    ^^^^^ a line begins with `item`, `flush` or `ordered`",
     ]),
     ({"d.wq": "item: a"}, "plan d.wq", "refused 4 line 1", 2, [
-        "d.wq:1:1: `item:` is no directive [refused 4, `wqplan explain 4`]",
+        "d.wq:1:1: `item:` isn't a directive [refused 4, `wqplan explain 4`]",
         "    item: a",
         "    ^^^^^ did you mean `item`?",
     ]),
     ({"d.wq": "i a # the last line"}, "plan d.wq", "refused 4 line 1", 2, [
-        "d.wq:1:1: `i` is no directive [refused 4, `wqplan explain 4`]",
+        "d.wq:1:1: `i` isn't a directive [refused 4, `wqplan explain 4`]",
         "    i a # the last line",
         "    ^ a line begins with `item`, `flush` or `ordered`",
     ]),
     ({"d.wq": "depends a b"}, "plan d.wq", "refused 4 line 1", 2, [
-        "d.wq:1:1: `depends` is no directive [refused 4, `wqplan explain 4`]",
+        "d.wq:1:1: `depends` isn't a directive [refused 4, `wqplan explain 4`]",
         "    depends a b",
         "    ^^^^^^^ a line begins with `item`, `flush` or `ordered`",
     ]),
     # A last line without a line feed, and one with the carriage return that is dropped.
     ({"d.wq": b"item a\nwork b"}, "plan d.wq", "refused 4 line 2", 2, [
-        "d.wq:2:1: `work` is no directive [refused 4, `wqplan explain 4`]",
+        "d.wq:2:1: `work` isn't a directive [refused 4, `wqplan explain 4`]",
         "    work b",
         "    ^^^^ a line begins with `item`, `flush` or `ordered`",
     ]),
     ({"d.wq": b"\r\n# a\r\nwork b\r\n"}, "plan d.wq", "refused 4 line 3", 2, [
-        "d.wq:3:1: `work` is no directive [refused 4, `wqplan explain 4`]",
+        "d.wq:3:1: `work` isn't a directive [refused 4, `wqplan explain 4`]",
         "    work b",
         "    ^^^^ a line begins with `item`, `flush` or `ordered`",
     ]),
     # Other comments, also where the word is like a directive.
     ({"d.wq": "// the items"}, "plan d.wq", "refused 4 line 1", 2, [
-        "d.wq:1:1: `//` is no directive [refused 4, `wqplan explain 4`]",
+        "d.wq:1:1: `//` isn't a directive [refused 4, `wqplan explain 4`]",
         "    // the items",
         "    ^^ a comment begins with `#`",
     ]),
     ({"d.wq": "/* the items */"}, "plan d.wq", "refused 4 line 1", 2, [
-        "d.wq:1:1: `/*` is no directive [refused 4, `wqplan explain 4`]",
+        "d.wq:1:1: `/*` isn't a directive [refused 4, `wqplan explain 4`]",
         "    /* the items */",
         "    ^^ a comment begins with `#`",
     ]),
     ({"d.wq": "item a /  * and more"}, "plan d.wq", "refused 4 line 2", 2, [
-        "d.wq:2:2: `*` is no directive [refused 4, `wqplan explain 4`]",
+        "d.wq:2:2: `*` isn't a directive [refused 4, `wqplan explain 4`]",
         "     * and more",
         "     ^ a comment begins with `#`",
     ]),
     ({"d.wq": ";item a"}, "plan d.wq", "refused 4 line 1", 2, [
-        "d.wq:1:1: `;item` is no directive [refused 4, `wqplan explain 4`]",
+        "d.wq:1:1: `;item` isn't a directive [refused 4, `wqplan explain 4`]",
         "    ;item a",
         "    ^^^^^ a comment begins with `#`",
     ]),
     ({"d.wq": "% a"}, "plan d.wq", "refused 4 line 1", 2, [
-        "d.wq:1:1: `%` is no directive [refused 4, `wqplan explain 4`]",
+        "d.wq:1:1: `%` isn't a directive [refused 4, `wqplan explain 4`]",
         "    % a",
         "    ^ a comment begins with `#`",
     ]),
     ({"d.wq": "--ordered a"}, "plan d.wq", "refused 4 line 1", 2, [
-        "d.wq:1:1: `--ordered` is no directive [refused 4, `wqplan explain 4`]",
+        "d.wq:1:1: `--ordered` isn't a directive [refused 4, `wqplan explain 4`]",
         "    --ordered a",
         "    ^^^^^^^^^ a comment begins with `#`",
     ]),
     ({"d.wq": "/item a"}, "plan d.wq", "refused 4 line 1", 2, [
-        "d.wq:1:1: `/item` is no directive [refused 4, `wqplan explain 4`]",
+        "d.wq:1:1: `/item` isn't a directive [refused 4, `wqplan explain 4`]",
         "    /item a",
         "    ^^^^^ did you mean `item`?",
     ]),
     # Texts of another kind.
     ({"d.wq": "plan 0 / chain 0"}, "plan d.wq", "refused 4 line 1", 2, [
-        "d.wq:1:1: `plan` is no directive [refused 4, `wqplan explain 4`]",
+        "d.wq:1:1: `plan` isn't a directive [refused 4, `wqplan explain 4`]",
         "    plan 0",
         "    ^^^^ this looks like a plan or an assignment: are the files in the right order?",
     ]),
     ({"d.wq": "wq 0 a", "a.wq": "item a"}, "deadlock d.wq a.wq", "refused 4 line 1", 2, [
-        "d.wq:1:1: `wq` is no directive [refused 4, `wqplan explain 4`]",
+        "d.wq:1:1: `wq` isn't a directive [refused 4, `wqplan explain 4`]",
         "    wq 0 a",
         "    ^^ this looks like a plan or an assignment: are the files in the right order?",
     ]),
     ({"d.wq": "chain 1"}, "plan d.wq", "refused 4 line 1", 2, [
-        "d.wq:1:1: `chain` is no directive [refused 4, `wqplan explain 4`]",
+        "d.wq:1:1: `chain` isn't a directive [refused 4, `wqplan explain 4`]",
         "    chain 1",
         "    ^^^^^ this looks like a plan or an assignment: are the files in the right order?",
     ]),
     ({"d.wq": "arc a b"}, "plan d.wq", "refused 4 line 1", 2, [
-        "d.wq:1:1: `arc` is no directive [refused 4, `wqplan explain 4`]",
+        "d.wq:1:1: `arc` isn't a directive [refused 4, `wqplan explain 4`]",
         "    arc a b",
         "    ^^^ a line begins with `item`, `flush` or `ordered`",
     ]),
     ({"circle": "circle 1 / arc a a", "d.wq": "item a / flush a a"}, "check circle d.wq", "refused 4 line 1", 2, [
-        "circle:1:1: `circle` is no directive [refused 4, `wqplan explain 4`]",
+        "circle:1:1: `circle` isn't a directive [refused 4, `wqplan explain 4`]",
         "    circle 1",
         "    ^^^^^^ this looks like a circle: are the files in the right order?",
     ]),
     ({"r": "run 1 / queue a", "a": "wq 0 a", "d": "item a"}, "replay r a d", "refused 4 line 1", 2, [
-        "r:1:1: `run` is no directive [refused 4, `wqplan explain 4`]",
+        "r:1:1: `run` isn't a directive [refused 4, `wqplan explain 4`]",
         "    run 1",
         "    ^^^ this looks like a run: are the files in the right order?",
     ]),
     ({"d.wq": "item a / queue a"}, "run d.wq", "refused 4 line 2", 2, [
-        "d.wq:2:1: `queue` is no directive [refused 4, `wqplan explain 4`]",
+        "d.wq:2:1: `queue` isn't a directive [refused 4, `wqplan explain 4`]",
         "    queue a",
         "    ^^^^^ this looks like a run: are the files in the right order?",
     ]),
     ({"d.wq": "item a / cancel a"}, "plan d.wq", "refused 4 line 2", 2, [
-        "d.wq:2:1: `cancel` is no directive [refused 4, `wqplan explain 4`]",
+        "d.wq:2:1: `cancel` isn't a directive [refused 4, `wqplan explain 4`]",
         "    cancel a",
         "    ^^^^^^ this looks like a run: are the files in the right order?",
     ]),
     ({"d.wq": "start 0 a"}, "plan d.wq", "refused 4 line 1", 2, [
-        "d.wq:1:1: `start` is no directive [refused 4, `wqplan explain 4`]",
+        "d.wq:1:1: `start` isn't a directive [refused 4, `wqplan explain 4`]",
         "    start 0 a",
         "    ^^^^^ this looks like a run: are the files in the right order?",
     ]),
     ({"d.wq": "wait 0 a"}, "plan d.wq", "refused 4 line 1", 2, [
-        "d.wq:1:1: `wait` is no directive [refused 4, `wqplan explain 4`]",
+        "d.wq:1:1: `wait` isn't a directive [refused 4, `wqplan explain 4`]",
         "    wait 0 a",
         "    ^^^^ this looks like a run: are the files in the right order?",
     ]),
     ({"d.wq": "over 0 a"}, "plan d.wq", "refused 4 line 1", 2, [
-        "d.wq:1:1: `over` is no directive [refused 4, `wqplan explain 4`]",
+        "d.wq:1:1: `over` isn't a directive [refused 4, `wqplan explain 4`]",
         "    over 0 a",
         "    ^^^^ this looks like a run: are the files in the right order?",
     ]),
     ({"d.wq": "finish 0 a"}, "plan d.wq", "refused 4 line 1", 2, [
-        "d.wq:1:1: `finish` is no directive [refused 4, `wqplan explain 4`]",
+        "d.wq:1:1: `finish` isn't a directive [refused 4, `wqplan explain 4`]",
         "    finish 0 a",
         "    ^^^^^^ this looks like a run: are the files in the right order?",
     ]),
     # `>` in the place of `<`: the declaration was overwritten.
     ({"d.wq": "refused 8 line 2"}, "plan d.wq", "refused 4 line 1", 2, [
-        "d.wq:1:1: `refused` is no directive [refused 4, `wqplan explain 4`]",
+        "d.wq:1:1: `refused` isn't a directive [refused 4, `wqplan explain 4`]",
         "    refused 8 line 2",
         "    ^^^^^^^ this looks like a refusal, written here in place of an answer: are the files in the right order?",
     ]),
     ({"<stdin>": "plan 1 / wq 0 a / chain 1"}, "plan", "refused 4 line 1", 2, [
-        "<stdin>:1:1: `plan` is no directive [refused 4, `wqplan explain 4`]",
+        "<stdin>:1:1: `plan` isn't a directive [refused 4, `wqplan explain 4`]",
         "    plan 1",
         "    ^^^^ this looks like a plan or an assignment: are the files in the right order?",
     ]),
 ]
 
-# 5, 12, 6: too few words, too many, and one that is no name.
+# 5, 12, 6: too few words, too many, and one that isn't a name.
 FORMS = [
     ({"d.wq": "item"}, "plan d.wq", "refused 5 line 1", 2, [
         "d.wq:1:5: a name is missing [refused 5, `wqplan explain 5`]",
@@ -317,56 +317,56 @@ FORMS = [
         "           ^^ a comment begins with `#`",
     ]),
     ({"d.wq": "item b! # a"}, "plan d.wq", "refused 6 line 1", 2, [
-        "d.wq:1:6: `b!` is no name [refused 6, `wqplan explain 6`]",
+        "d.wq:1:6: `b!` isn't a name [refused 6, `wqplan explain 6`]",
         "    item b! # a",
-        "         ^^ a name has letters, digits, `_`, `-` and `.`",
+        "         ^^ a name consists of letters, digits, `_`, `-` and `.`",
     ]),
     ({"d.wq": "item a / item b / flush a, b"}, "plan d.wq", "refused 6 line 3", 2, [
-        "d.wq:3:7: `a,` is no name [refused 6, `wqplan explain 6`]",
+        "d.wq:3:7: `a,` isn't a name [refused 6, `wqplan explain 6`]",
         "    flush a, b",
-        "          ^^ between names there are blanks alone",
+        "          ^^ only blanks come between names",
     ]),
     ({"d.wq": "item a;"}, "plan d.wq", "refused 6 line 1", 2, [
-        "d.wq:1:6: `a;` is no name [refused 6, `wqplan explain 6`]",
+        "d.wq:1:6: `a;` isn't a name [refused 6, `wqplan explain 6`]",
         "    item a;",
-        "         ^^ between names there are blanks alone",
+        "         ^^ only blanks come between names",
     ]),
-    # The first word behind the first that is no name.
+    # The first word behind the first that isn't a name.
     ({"d.wq": "ordered a a,b c,"}, "plan d.wq", "refused 6 line 1", 2, [
-        "d.wq:1:11: `a,b` is no name [refused 6, `wqplan explain 6`]",
+        "d.wq:1:11: `a,b` isn't a name [refused 6, `wqplan explain 6`]",
         "    ordered a a,b c,",
-        "              ^^^ a name has letters, digits, `_`, `-` and `.`",
+        "              ^^^ a name consists of letters, digits, `_`, `-` and `.`",
     ]),
     ({"d.wq": "flush a b // c;"}, "plan d.wq", "refused 6 line 1", 2, [
-        "d.wq:1:11: `//` is no name [refused 6, `wqplan explain 6`]",
+        "d.wq:1:11: `//` isn't a name [refused 6, `wqplan explain 6`]",
         "    flush a b // c;",
         "              ^^ a comment begins with `#`",
     ]),
     ({"d.wq": "flush a b ; c"}, "plan d.wq", "refused 6 line 1", 2, [
-        "d.wq:1:11: `;` is no name [refused 6, `wqplan explain 6`]",
+        "d.wq:1:11: `;` isn't a name [refused 6, `wqplan explain 6`]",
         "    flush a b ; c",
         "              ^ a comment begins with `#`",
     ]),
     ({"d.wq": "flush a , b"}, "plan d.wq", "refused 6 line 1", 2, [
-        "d.wq:1:9: `,` is no name [refused 6, `wqplan explain 6`]",
+        "d.wq:1:9: `,` isn't a name [refused 6, `wqplan explain 6`]",
         "    flush a , b",
-        "            ^ between names there are blanks alone",
+        "            ^ only blanks come between names",
     ]),
     # More than 63 bytes, which is said before the comma.
     ({"d.wq": "item " + "n" * 64}, "plan d.wq", "refused 6 line 1", 2, [
-        "d.wq:1:6: `" + "n" * 64 + "` is no name [refused 6, `wqplan explain 6`]",
+        "d.wq:1:6: `" + "n" * 64 + "` isn't a name [refused 6, `wqplan explain 6`]",
         "    item " + "n" * 64,
         "         " + "^" * 64 + " a name has at most 63 bytes",
     ]),
     ({"d.wq": "item " + "n" * 63 + ","}, "plan d.wq", "refused 6 line 1", 2, [
-        "d.wq:1:6: `" + "n" * 63 + ",` is no name [refused 6, `wqplan explain 6`]",
+        "d.wq:1:6: `" + "n" * 63 + ",` isn't a name [refused 6, `wqplan explain 6`]",
         "    item " + "n" * 63 + ",",
         "         " + "^" * 64 + " a name has at most 63 bytes",
     ]),
     ({"d.wq": "item " + "n" * 62 + ","}, "plan d.wq", "refused 6 line 1", 2, [
-        "d.wq:1:6: `" + "n" * 62 + ",` is no name [refused 6, `wqplan explain 6`]",
+        "d.wq:1:6: `" + "n" * 62 + ",` isn't a name [refused 6, `wqplan explain 6`]",
         "    item " + "n" * 62 + ",",
-        "         " + "^" * 63 + " between names there are blanks alone",
+        "         " + "^" * 63 + " only blanks come between names",
     ]),
 ]
 
@@ -460,23 +460,23 @@ ITEMS = [
         "            ^^^^ write `item item` above",
     ]),
     ({"d.wq": "item a / item b / item c / ordered c a / # / ordered b a c"}, "plan d.wq", "refused 11 line 6", 2, [
-        "d.wq:6:11: `a` stands on two `ordered` lines [refused 11, `wqplan explain 11`]",
+        "d.wq:6:11: `a` is on two `ordered` lines [refused 11, `wqplan explain 11`]",
         "    ordered b a c",
         "              ^ first on line 4",
     ]),
     # Twice on one line: the second time is meant, and nothing is hinted at.
     ({"d.wq": "item aa / item b / ordered aa b aa"}, "plan d.wq", "refused 11 line 3", 2, [
-        "d.wq:3:14: `aa` stands twice on this line [refused 11, `wqplan explain 11`]",
+        "d.wq:3:14: `aa` is on this line twice [refused 11, `wqplan explain 11`]",
         "    ordered aa b aa",
         "                 ^^",
     ]),
     ({"d.wq": "item a / item b / ordered a / ordered b b a"}, "plan d.wq", "refused 11 line 4", 2, [
-        "d.wq:4:11: `b` stands twice on this line [refused 11, `wqplan explain 11`]",
+        "d.wq:4:11: `b` is on this line twice [refused 11, `wqplan explain 11`]",
         "    ordered b b a",
         "              ^",
     ]),
     ({"d.wq": "item a / item b / ordered a / ordered a a b"}, "plan d.wq", "refused 11 line 4", 2, [
-        "d.wq:4:9: `a` stands on two `ordered` lines [refused 11, `wqplan explain 11`]",
+        "d.wq:4:9: `a` is on two `ordered` lines [refused 11, `wqplan explain 11`]",
         "    ordered a a b",
         "            ^ first on line 3",
     ]),

@@ -3,7 +3,7 @@
 #
 #     main.py PROGRAM [SEED] [CASES]
 #
-# Each row is files, a command line, the answer, the exit status, and what stands on standard error, each byte of which was
+# Each row is files, a command line, the answer, the exit status, and what is on standard error, each byte of which was
 # written by hand from docs/FORMAT.md, "Diagnoses". First the model must give each row, for which no program is
 # needed. Then the program must, and where standard error is closed or full its answer and its status must be the same.
 # At last it must say what the model says of CASES changed texts that SEED makes.

@@ -12,28 +12,28 @@ FILES = [
         "        ^ the line should be `item NAME`",
     ]),
     ({"d.wq": "items"}, ["plan", "--", "./d.wq"], "refused 4 line 1", 2, [
-        "./d.wq:1:1: `items` is no directive [refused 4, `wqplan explain 4`]",
+        "./d.wq:1:1: `items` isn't a directive [refused 4, `wqplan explain 4`]",
         "    items",
         "    ^^^^^ did you mean `item`?",
     ]),
     ({"my items.wq": "items"}, ["plan", "my items.wq"], "refused 4 line 1", 2, [
-        "my items.wq:1:1: `items` is no directive [refused 4, `wqplan explain 4`]",
+        "my items.wq:1:1: `items` isn't a directive [refused 4, `wqplan explain 4`]",
         "    items",
         "    ^^^^^ did you mean `item`?",
     ]),
     # UTF-8, a TAB, a line feed and an escape in the name.
     ({"gr\u00f6\u00dfe.wq": "items"}, ["plan", "gr\u00f6\u00dfe.wq"], "refused 4 line 1", 2, [
-        "gr????e.wq:1:1: `items` is no directive [refused 4, `wqplan explain 4`]",
+        "gr????e.wq:1:1: `items` isn't a directive [refused 4, `wqplan explain 4`]",
         "    items",
         "    ^^^^^ did you mean `item`?",
     ]),
     ({"a\tb\nc\x1bd:7:": "items"}, ["plan", "a\tb\nc\x1bd:7:"], "refused 4 line 1", 2, [
-        "a b?c?d:7::1:1: `items` is no directive [refused 4, `wqplan explain 4`]",
+        "a b?c?d:7::1:1: `items` isn't a directive [refused 4, `wqplan explain 4`]",
         "    items",
         "    ^^^^^ did you mean `item`?",
     ]),
     ({"\x7f": "item a / item b", "-": "wq 0"}, ["deadlock", "\x7f", "./-"], "refused 41 line 0", 2, [
-        "./-: `a`, `b` stand on no workqueue [refused 41, `wqplan explain 41`]",
+        "./-: `a`, `b` are on no workqueue [refused 41, `wqplan explain 41`]",
     ]),
     # Which one of several, where more than one is wrong.
     ({"d": "item", "p": "plan"}, "check d p", "refused 5 line 1", 2, [
@@ -47,12 +47,12 @@ FILES = [
         "         ^",
     ]),
     ({"d": AB, "a": WQS, "r": "walk"}, "replay d a r", "refused 40 line 1", 2, [
-        "r:1:1: `walk` stands where `run M` should [refused 40, `wqplan explain 40`]",
+        "r:1:1: expected `run M`, found `walk` [refused 40, `wqplan explain 40`]",
         "    walk",
         "    ^^^^",
     ]),
     ({"d": AB}, "deadlock d d", "refused 41 line 0", 2, [
-        "d: `a`, `b` stand on no workqueue [refused 41, `wqplan explain 41`]",
+        "d: `a`, `b` are on no workqueue [refused 41, `wqplan explain 41`]",
     ]),
     ({"d": "item a / flush a"}, "run d", "refused 5 line 2", 2, [
         "d:2:8: a name is missing [refused 5, `wqplan explain 5`]",
@@ -71,7 +71,7 @@ FILES = [
         "         ^ first on line 1",
     ]),
     ({"d": AB, "a": "wq 0 a / wq 1 b a"}, "circles d ./a", "refused 41 line 2", 2, [
-        "./a:2:8: `a` stands on a workqueue already [refused 41, `wqplan explain 41`]",
+        "./a:2:8: `a` is on a workqueue already [refused 41, `wqplan explain 41`]",
         "    wq 1 b a",
         "           ^ on line 1",
     ]),
@@ -81,7 +81,7 @@ FILES = [
         "           ^ each item has an `item` line of its own",
     ]),
     ({"d": AB, "a": WQS}, "dot a d", "refused 4 line 1", 2, [
-        "a:1:1: `wq` is no directive [refused 4, `wqplan explain 4`]",
+        "a:1:1: `wq` isn't a directive [refused 4, `wqplan explain 4`]",
         "    wq 0 b",
         "    ^^ this looks like a plan or an assignment: are the files in the right order?",
     ]),
@@ -91,18 +91,18 @@ FILES = [
         "         ^ the other one on line 1",
     ]),
     ({"d": AB, "a": "wq 0 b"}, ["dot", "--", "d", "a"], "refused 41 line 0", 2, [
-        "a: `a` stands on no workqueue [refused 41, `wqplan explain 41`]",
+        "a: `a` is on no workqueue [refused 41, `wqplan explain 41`]",
     ]),
     # Bytes that aren't printed in certificates, in what is said and in the line.
     ({"d": AB, "p": b"\xef\xbb\xbfplan 2\r\n"}, "check d p", "refused 40 line 1", 2, [
-        "p:1:1: `???plan` stands where `plan K` should [refused 40, `wqplan explain 40`]",
+        "p:1:1: expected `plan K`, found `???plan` [refused 40, `wqplan explain 40`]",
         "    ???plan 2",
         "    ^^^^^^^",
     ]),
     ({"d": AB, "p": b"plan 2\r\r\nwq 0 b\r\n"}, "check d p", "refused 40 line 1", 2, [
-        "p:1:6: `2?` is no number [refused 40, `wqplan explain 40`]",
+        "p:1:6: `2?` isn't a number [refused 40, `wqplan explain 40`]",
         "    plan 2?",
-        "         ^^ a number has digits alone, and none of them is a leading 0",
+        "         ^^ a number has only digits, and no leading zero",
     ]),
     ({"d": AB, "p": b"plan 1\nwq 0 \xc3\xa4\0\tb # \x01\xff\n"}, "check d p", "refused 40 line 2", 2, [
         "p:2:6: no item `???` is declared [refused 40, `wqplan explain 40`]",
@@ -117,24 +117,24 @@ Y = "y" * 200
 # Long lines. Of 100 bytes all are shown, and of more 94.
 CUTS = [
     ({"d.wq": "work " + X[:95]}, "plan d.wq", "refused 4 line 1", 2, [
-        "d.wq:1:1: `work` is no directive [refused 4, `wqplan explain 4`]",
+        "d.wq:1:1: `work` isn't a directive [refused 4, `wqplan explain 4`]",
         "    work " + X[:95],
         "    ^^^^ a line begins with `item`, `flush` or `ordered`",
     ]),
     # Cut at the right end.
     ({"d.wq": "work " + X[:96]}, "plan d.wq", "refused 4 line 1", 2, [
-        "d.wq:1:1: `work` is no directive [refused 4, `wqplan explain 4`]",
+        "d.wq:1:1: `work` isn't a directive [refused 4, `wqplan explain 4`]",
         "    work " + X[:89] + "...",
         "    ^^^^ a line begins with `item`, `flush` or `ordered`",
     ]),
     ({"d.wq": " " * 40 + "work " + X}, "plan d.wq", "refused 4 line 1", 2, [
-        "d.wq:1:41: `work` is no directive [refused 4, `wqplan explain 4`]",
+        "d.wq:1:41: `work` isn't a directive [refused 4, `wqplan explain 4`]",
         "    " + " " * 40 + "work " + X[:49] + "...",
         "    " + " " * 40 + "^^^^ a line begins with `item`, `flush` or `ordered`",
     ]),
     # Cut at both ends.
     ({"d.wq": " " * 41 + "work " + X}, "plan d.wq", "refused 4 line 1", 2, [
-        "d.wq:1:42: `work` is no directive [refused 4, `wqplan explain 4`]",
+        "d.wq:1:42: `work` isn't a directive [refused 4, `wqplan explain 4`]",
         "    ..." + " " * 40 + "work " + X[:49] + "...",
         "       " + " " * 40 + "^^^^ a line begins with `item`, `flush` or `ordered`",
     ]),
@@ -163,22 +163,22 @@ CUTS = [
     ({"d.wq": b"item a\nitem a" + b" " * 94 + b"\r"}, "plan d.wq", "refused 3 line 2", 2, [
         "d.wq:2:101: the byte 0x0D is neither TAB nor printable ASCII [refused 3, `wqplan explain 3`]",
         "    ..." + " " * 93 + "?",
-        "       " + " " * 93 + "^ a carriage return may stand only before a line feed",
+        "       " + " " * 93 + "^ a carriage return may come only before a line feed",
     ]),
     # Marks go as far as what is shown.
     ({"d.wq": X[:120] + " a"}, "plan d.wq", "refused 4 line 1", 2, [
-        "d.wq:1:1: `" + X[:120] + "` is no directive [refused 4, `wqplan explain 4`]",
+        "d.wq:1:1: `" + X[:120] + "` isn't a directive [refused 4, `wqplan explain 4`]",
         "    " + X[:94] + "...",
         "    " + "^" * 94 + " a line begins with `item`, `flush` or `ordered`",
     ]),
     ({"d.wq": " " * 50 + X[:120] + " a"}, "plan d.wq", "refused 4 line 1", 2, [
-        "d.wq:1:51: `" + X[:120] + "` is no directive [refused 4, `wqplan explain 4`]",
+        "d.wq:1:51: `" + X[:120] + "` isn't a directive [refused 4, `wqplan explain 4`]",
         "    ..." + " " * 40 + X[:54] + "...",
         "       " + " " * 40 + "^" * 54 + " a line begins with `item`, `flush` or `ordered`",
     ]),
     # The bytes of UTF-8 and TABs count one each, also where the cut is within a letter.
     ({"d.wq": b"item a\nwork b" + "\t# ".encode() + "\u00e4".encode() * 60}, "plan d.wq", "refused 4 line 2", 2, [
-        "d.wq:2:1: `work` is no directive [refused 4, `wqplan explain 4`]",
+        "d.wq:2:1: `work` isn't a directive [refused 4, `wqplan explain 4`]",
         "    work b # " + "?" * 85 + "...",
         "    ^^^^ a line begins with `item`, `flush` or `ordered`",
     ]),
@@ -265,7 +265,7 @@ LIMITS = [
         "       ^^^^ workqueues are numbered from 0, in order",
     ]),
     ({"d": items(4_096), "a": "wq 0"}, "deadlock d a", "refused 41 line 0", 2, [
-        "a: `i0000`, `i0001`, `i0002` and 4093 more stand on no workqueue [refused 41, `wqplan explain 41`]",
+        "a: `i0000`, `i0001`, `i0002` and 4093 more are on no workqueue [refused 41, `wqplan explain 41`]",
     ]),
     ({"d.wq": CHAIN_257}, "run d.wq", "refused 69 line 0", 2, [
         "d.wq: the plan has more than 256 workqueues, each of which takes a thread [refused 69, `wqplan explain 69`]",
@@ -275,12 +275,12 @@ LIMITS = [
 # What `check` says no to: of each reason a row, the last one on its own line among comments.
 NOES = [
     ({"d": AB, "p": "plan 1 / wq 0 a b / chain 1"}, "check d p", "no 50 a b", 1, [
-        "p:2:6: `a` flushes `b`, so it should stand on a higher workqueue [no 50, `wqplan explain 50`]",
+        "p:2:6: `a` flushes `b`, so it should be on a higher workqueue [no 50, `wqplan explain 50`]",
         "    wq 0 a b",
         "         ^ `b` is on workqueue 0",
     ]),
     ({"d": AB, "p": "plan 2 / wq 0 a / wq 1 b # below / chain 2 / arc a b"}, "check d p", "no 50 a b", 1, [
-        "p:2:6: `a` flushes `b`, so it should stand on a higher workqueue [no 50, `wqplan explain 50`]",
+        "p:2:6: `a` flushes `b`, so it should be on a higher workqueue [no 50, `wqplan explain 50`]",
         "    wq 0 a",
         "         ^ `b` is on workqueue 1",
     ]),

@@ -16,12 +16,12 @@
 # - the hint of 5 is the form of the line's own directive;
 # - FORM stands between backticks, but for `a step`, also where it is known which step;
 # - by (f) it is said `this looks like TEXT: are the files in the right order?`, as by (b), whatever kind of text it is;
-# - a line behind the `wq` lines of an assignment of these alone stands where the text should have ended, and a line
-#   behind the arcs of a circle stands where `run M` should;
+# - a line behind the `wq` lines of an assignment of these alone is where the text should have ended, and a line
+#   behind the arcs of a circle is where `run M` should be;
 # - NEAR is the item to which the fewest changes lead, one that differs in case alone before all others; in a
 #   declaration it may be declared below; changes are made one after the other;
 # - OTHER is the first item of the group on the line above, as it is read;
-# - the items that stand on no workqueue are named in the order of their declaration, and the fourth one is `1 more`.
+# - the items that are on no workqueue are named in the order of their declaration, and the fourth one is `1 more`.
 
 import collections
 import dataclasses
@@ -198,8 +198,8 @@ def byte_hint(line, at):
     if line[at] == 0:
         return b"a zero byte: is this a text, and not UTF-16?"
     if line[at] == 0x0D:
-        return b"a carriage return may stand only before a line feed"
-    return b"beyond ASCII there are only comments" if line[at] >= 0x80 else b"a control character"
+        return b"a carriage return may come only before a line feed"
+    return b"only comments may have bytes beyond ASCII" if line[at] >= 0x80 else b"a control character"
 
 
 def directive_hint(word):
@@ -216,8 +216,8 @@ def name_hint(word):
     if len(word) > NAME_LIMIT:
         return b"a name has at most 63 bytes"
     if word.endswith((b",", b";")):
-        return b"between names there are blanks alone"
-    return b"a name has letters, digits, `_`, `-` and `.`"
+        return b"only blanks come between names"
+    return b"a name consists of letters, digits, `_`, `-` and `.`"
 
 
 def unknown_hint(word, items):
@@ -259,10 +259,10 @@ def of_item_lines(lines, code, number):
     before = set()
     for name in words[1:]:
         if name.word in above:
-            what = b"`%s` stands on two `ordered` lines" % name.word
+            what = b"`%s` is on two `ordered` lines" % name.word
             return about(name, what, b"first on line %d" % above[name.word])
         if name.word in before:
-            return about(name, b"`%s` stands twice on this line" % name.word)
+            return about(name, b"`%s` is on this line twice" % name.word)
         before.add(name.word)
     raise AssertionError("no name is grouped twice")
 
@@ -283,7 +283,7 @@ def of_declaration(text, code, number):
         what = b"the byte 0x%02X is neither TAB nor printable ASCII" % line[at]
         return Finding(what, at, at + 1, byte_hint(line, at))
     if code == 4:
-        return about(words[0], b"`%s` is no directive" % words[0].word, directive_hint(words[0].word))
+        return about(words[0], b"`%s` isn't a directive" % words[0].word, directive_hint(words[0].word))
     if code == 5:
         return behind_last(words, b"a name is missing", b"the line should be " + DIRECTIVE_FORMS[words[0].word])
     if code == 12:
@@ -291,7 +291,7 @@ def of_declaration(text, code, number):
         return about(words[2], b"an `item` line has one name", hint)
     if code == 6:
         name = next(name for name in words[1:] if not is_name(name.word))
-        return about(name, b"`%s` is no name" % name.word, name_hint(name.word))
+        return about(name, b"`%s` isn't a name" % name.word, name_hint(name.word))
     if code == 9:
         return about(words[0], b"there are more than 4,096 items")
     if code == 10:
@@ -362,26 +362,26 @@ def is_number(word):
 def number_hint(word):
     if word.isdigit() and word[:1] != b"0":
         return b"a number is at most 4,294,967,295"
-    return b"a number has digits alone, and none of them is a leading 0"
+    return b"a number has only digits, and no leading zero"
 
 
 def of_bad_line(declaration, words, form):
     """40 of a line that isn't of the form."""
     first = words[0]
     if form is None:
-        return about(first, b"the text should end above this line", comment_hint(first.word))
+        return about(first, b"the text should end before this line", comment_hint(first.word))
     fits = first.word in certificate.NAMES_WORKQUEUE if form == STEP else form[1:].startswith(first.word + b" ")
     if not fits:
         hint = comment_hint(first.word) or kind_hint(first.word)
-        return about(first, b"`%s` stands where %s should" % (first.word, form), hint)
+        return about(first, b"expected %s, found `%s`" % (form, first.word), hint)
     least, most, has_number = shape_of(first.word)
     if has_number and len(words) > 1 and not is_number(words[1].word):
         hint = number_hint(words[1].word)
-        return about(words[1], b"`%s` is no number" % words[1].word, hint)
+        return about(words[1], b"`%s` isn't a number" % words[1].word, hint)
     if len(words) < least:
         return behind_last(words, b"a word is missing", b"the line should be " + form)
     if most is not None and len(words) > most:
-        return about(words[most], b"here is a word too many", b"the line should be " + form)
+        return about(words[most], b"one word too many", b"the line should be " + form)
     names = words[2:] if has_number else words[1:]
     name = next(name for name in names if name.word not in declaration.group_of)
     alike = near(name.word, declaration.items)
@@ -395,7 +395,7 @@ def of_range(kind, words, at):
         hint = b"workqueues are numbered from 0, in order"
         if kind == "assignment" and at == certificate.WORKQUEUE_LIMIT:
             return about(number, b"an assignment has at most 4,096 workqueues", hint)
-        return about(number, b"`wq %d` should stand here" % at, hint)
+        return about(number, b"expected `wq %d`" % at, hint)
     return about(number, {
         b"plan": b"a plan has at most 4,096 workqueues",
         b"chain": b"a chain has at most 4,096 groups",
@@ -404,31 +404,31 @@ def of_range(kind, words, at):
 
 
 def of_nowhere(declaration, served):
-    """41 with line 0. `served` has the items that stand on a workqueue."""
+    """41 with line 0. `served` has the items that are on a workqueue."""
     missing = [name for name in declaration.items if name not in served]
     named = b", ".join(b"`%s`" % name for name in missing[:3])
     if len(missing) == 1:
-        return Finding(named + b" stands on no workqueue")
+        return Finding(named + b" is on no workqueue")
     more = b" and %d more" % (len(missing) - 3) if len(missing) > 3 else b""
-    return Finding(named + more + b" stand on no workqueue")
+    return Finding(named + more + b" are on no workqueue")
 
 
 def of_place(declaration, code, words, served):
-    """41 and 42 of a line. `served` has the line of each item that stands on a workqueue above, in order."""
+    """41 and 42 of a line. `served` has the line of each item that is on a workqueue above, in order."""
     before = set()
     for name in words[2:]:
         if code == 41 and name.word in served:
             hint = b"on line %d" % served[name.word]
-            return about(name, b"`%s` stands on a workqueue already" % name.word, hint)
+            return about(name, b"`%s` is on a workqueue already" % name.word, hint)
         if code == 41 and name.word in before:
-            return about(name, b"`%s` stands twice on this line" % name.word)
+            return about(name, b"`%s` is on this line twice" % name.word)
         before.add(name.word)
         group = declaration.group_of[name.word]
         others = [other for other, of in declaration.group_of.items() if of == group and other in served]
         if code == 42 and others:
             what = b"`%s` and `%s` are on one `ordered` line, and on two workqueues" % (name.word, others[0])
             return about(name, what, b"the other one on line %d" % served[others[0]])
-    raise AssertionError("each item stands where it may")
+    raise AssertionError("each item is where it may be")
 
 
 def of_certificate(kind, declaration, text, code, number):
@@ -442,7 +442,7 @@ def of_certificate(kind, declaration, text, code, number):
     lines = [split_words(raw[at - 1]) for at in numbers]
     at = numbers.index(number) if number else None
     if code == 40 and number == 0:
-        return Finding(b"the text ends where %s should stand" % form_at(kind, lines, len(lines)))
+        return Finding(b"expected %s, but the text ends" % form_at(kind, lines, len(lines)))
 
     # The `wq` lines above the refused one, or all that count.
     served = {}
@@ -480,7 +480,7 @@ def of_no(text, printed):
         item, target = rest
         served = {name.word: (number, words[1].word, name) for number, words in beginning(b"wq") for name in words[2:]}
         number, _, name = served[item]
-        what = b"`%s` flushes `%s`, so it should stand on a higher workqueue" % (item, target)
+        what = b"`%s` flushes `%s`, so it should be on a higher workqueue" % (item, target)
         return number, about(name, what, b"`%s` is on workqueue %s" % (target, served[target][1]))
     if code in (b"51", b"53") and rest != [b"0"]:
         number, words = beginning(b"arc")[int(rest[0]) - 1]

@@ -485,7 +485,7 @@ def fault_line_added(choose, declared, lines):
 
 
 def number_places(lines):
-    """The words that stand where numbers do: mostly they are numbers."""
+    """The words in the places of numbers: mostly they are numbers."""
     return [words for words in lines if len(words) > 1
             and words[0] not in (b"arc", b"queue", b"cancel")]
 

@@ -202,7 +202,7 @@ def make_lines(choose, item_count, shape=None):
         choose.shuffle(pairs)
     flushes = [(choose.choice(groups[group]), choose.choice(groups[to])) for group, to in pairs]
 
-    # Each flush has a line of its own, or stands on one with others of the same item.
+    # Each flush has a line of its own, or is on one with others of the same item.
     flush_lines = []
     joined = choose.choice([0, 0.3, 0.8])
     for item, target in flushes:

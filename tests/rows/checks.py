@@ -54,7 +54,7 @@ CHECKS = [
         # Workqueues out of their places.
         ("plan 2 / wq 1 b", "refused 43 line 2"),
         ("plan 2 / wq 0 b / wq 2 a", "refused 43 line 3"),
-        # Items that stand on two lines, twice on one, or on none.
+        # Items that are on two lines, twice on one, or on none.
         ("plan 2 / wq 0 b / wq 1 b a", "refused 41 line 3"),
         ("plan 1 / wq 0 a b a", "refused 41 line 2"),
         ("plan 2 / wq 0 b / wq 1 / chain 2 / arc a b", "refused 41 line 0"),

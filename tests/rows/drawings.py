@@ -136,7 +136,7 @@ OWN = [
     # A flush that leads past the next lower workqueue is on no longest chain.
     ("item a / item b / item c / flush a b c / flush b c", drawing(
         "plan 3", [["c"], ["b"], ["a"]], ["a b [style=bold]", "a c", "b c [style=bold]"])),
-    # A group of one item isn't marked, though it stands on an `ordered` line.
+    # A group of one item isn't marked, though it is on an `ordered` line.
     ("item a / item b / ordered b", drawing("plan 1", [["a", "b"]], [])),
     # Groups come by their numbers, and the items of each in the order of their declaration.
     ("item a / item b / item c / item d / ordered d b / ordered c a", drawing("plan 1", [["a c", "b d"]], [])),

@@ -204,7 +204,7 @@ REFUSALS = [
     ("item a / flush a a / item a / flush a b", "refused 7 line 3"),
     ("item a / ordered a b / item b", "refused 8 line 2"),
     ("ordered a", "refused 8 line 1"),
-    # Names that stand on an ordered line a second time.
+    # Names that are on an ordered line a second time.
     ("item a / ordered a a", "refused 11 line 2"),
     ("item a / ordered a / ordered a", "refused 11 line 3"),
     ("item a / item b / ordered a b / ordered b", "refused 11 line 4"),

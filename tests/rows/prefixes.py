@@ -51,7 +51,7 @@ PREFIXES = [
         # An empty workqueue, and one with b.
         (11, 14, ENDS),
         (15, 17, "refused 40 line 3"),
-        # All `wq` lines are there, and a stands on none.
+        # All `wq` lines are there, and a is on none.
         (18, 19, "refused 41 line 0"),
         (20, 21, ENDS),
         (22, 27, "refused 40 line 4"),

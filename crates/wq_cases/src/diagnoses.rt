@@ -59,7 +59,7 @@ d:3:12: no item `lgo` is declared above this line [refused 8, `wqplan explain 8`
         declaration: TWO,
         certificate: "plans 2\nwq 0 b\nwq 1 a\n",
         said: "\
-c:1:1: `plans` stands where `plan K` should [refused 40, `wqplan explain 40`]
+c:1:1: expected `plan K`, found `plans` [refused 40, `wqplan explain 40`]
     plans 2
     ^^^^^
 ",
@@ -69,7 +69,7 @@ c:1:1: `plans` stands where `plan K` should [refused 40, `wqplan explain 40`]
         saying: Saying::OfAssignment,
         declaration: TWO,
         certificate: "wq 0 a\n",
-        said: "c: `b` stands on no workqueue [refused 41, `wqplan explain 41`]\n",
+        said: "c: `b` is on no workqueue [refused 41, `wqplan explain 41`]\n",
     },
     Said {
         name: "a run without a step",
@@ -77,7 +77,7 @@ c:1:1: `plans` stands where `plan K` should [refused 40, `wqplan explain 40`]
         declaration: TWO,
         certificate: "run 1\nend 0 a\n",
         said: "\
-c:2:1: `end` stands where a step should [refused 40, `wqplan explain 40`]
+c:2:1: expected a step, found `end` [refused 40, `wqplan explain 40`]
     end 0 a
     ^^^
 ",
@@ -88,7 +88,7 @@ c:2:1: `end` stands where a step should [refused 40, `wqplan explain 40`]
         declaration: TWO,
         certificate: "plan 1\nwq 0 a b\nchain 1\n",
         said: "\
-c:2:6: `a` flushes `b`, so it should stand on a higher workqueue [no 50, `wqplan explain 50`]
+c:2:6: `a` flushes `b`, so it should be on a higher workqueue [no 50, `wqplan explain 50`]
     wq 0 a b
          ^ `b` is on workqueue 0
 ",

@@ -96,7 +96,7 @@ stands_in-left xs ys i h = list_any-append (λ j. eqb i j) xs ys ∙ or_left (st
 pub stands_in-right : (xs ys : List ℕ) (i : ℕ) → stands_in ys i ≡ true → stands_in (xs ++ ys) i ≡ true
 stands_in-right xs ys i h = list_any-append (λ j. eqb i j) xs ys ∙ or_right (stands_in xs i) (stands_in ys i) h
 
--- ---- rising numbers stand once
+-- ---- rising numbers are there once
 
 -- each number is above the one before it, and the first is at least this
 abbrev pub IsRisingFrom : ℕ → List ℕ → Type 0

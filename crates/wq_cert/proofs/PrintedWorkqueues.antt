@@ -1,4 +1,4 @@
--- Workqueues as they are printed: each item stands on one, and they are the assignment's.
+-- Workqueues as they are printed: each item is on one, and they are the assignment's.
 use Rattle.std.proofs.Common.{◌≡◌, ◌≢◌, ℕ, zero, suc, ◌+◌, ◌<◌, ◌≤◌, Bool, true, false, eqb, List, [], ◌∷◌, ◌++◌, length, map, get_or, Option, Some, refl, sym, ap, ap₂, subst, ◌∙◌, arith, inl, inr}
 use Rattle.std.specs.Prelude.{codes, position, slice_index, unwrap_or}
 use Rattle.std.specs.List.{AllByRecursion, concat, enumerate_from, list_any, range_with_len}

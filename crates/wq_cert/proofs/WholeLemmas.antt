@@ -1,4 +1,4 @@
--- The assignment that workqueues are, where each item stands on one.
+-- The assignment that workqueues are, where each item is on one.
 use Rattle.std.proofs.Common.{◌≡◌, ℕ, ◌+◌, ◌<◌, ◌==◌, Bool, true, false, cond, List, length, map, get_or, Option, Ok, Err, sym, ap, ap₂, subst, ◌∙◌, arith}
 use Rattle.std.specs.Prelude.{Contains, unwrap_or}
 use Rattle.std.specs.List.{All, list_all, concat, range_with_len}
@@ -15,7 +15,7 @@ use Rattle.wq_cert.specs.Reading.{stands_in, holds_member, hold_all, workqueue_w
 use Rattle.wq_cert.specs.Noted.{marks, AreNoted}
 use Rattle.wq_cert.proofs.LaneLemmas.{HasWorkqueue, HasWorkqueue-held}
 
--- ---- each item stands on a workqueue
+-- ---- each item is on a workqueue
 
 all_marked : (n : ℕ) (workqueues : List (List ℕ)) → list_all (λ b. b) (marks n (concat workqueues)) ≡ hold_all n workqueues
 all_marked n workqueues = list_all-map (λ b. b) (stands_in (concat workqueues)) (range_with_len 0 n)

@@ -1,4 +1,4 @@
--- Workqueues as lists of items: what stands on them, and how they grow.
+-- Workqueues as lists of items: what is on them, and how they grow.
 use Rattle.std.proofs.Common.{◌≡◌, ◌≢◌, ℕ, zero, suc, ◌+◌, ◌<◌, ◌≤◌, ◌⊎◌, inl, inr, Bool, true, false, eqb, List, [], ◌∷◌, ◌++◌, length, get_or, refl, sym, ap, subst, ◌∙◌, arith, append_assoc, append-nil, length-append}
 use Rattle.std.specs.Prelude.{AllPairs, Contains, slice_index}
 use Rattle.std.specs.List.{All, list_any, concat, range_with_len}
@@ -22,7 +22,7 @@ Contains-stands_in items i e =
 pub stands_in-Contains : (items : List ℕ) (i : ℕ) → Contains items i → stands_in items i ≡ true
 stands_in-Contains items i h = list_any_at (λ j. eqb i j) items h.0 i h.1 (eq-eqb i (get_or items h.0 i) (sym h.2))
 
--- each number stands once
+-- each number is there once
 abbrev pub Once : List ℕ → Type 0
 Once items = AllPairs (λ (i j : ℕ). i ≢ j) items
 

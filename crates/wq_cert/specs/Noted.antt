@@ -14,7 +14,7 @@ marks n items = map (stands_in items) (range_with_len 0 n)
 abbrev pub lanes_with : Partition → List (List ℕ) → List (Option ℕ)
 lanes_with p workqueues = map (workqueue_with p.group_of workqueues) (range_with_len 0 p.groups)
 
--- what is noted after these workqueues: how many they are, at most 4,096; of each item whether it stands on one; and of
+-- what is noted after these workqueues: how many they are, at most 4,096; of each item whether it is on one; and of
 -- each group the workqueue that holds a member of it
 pub record AreNoted (p : Partition) (workqueues : List (List ℕ)) (count : ℕ) (stood : List Bool) (lanes : List (Option ℕ)) : Type 0 where
   pub number : count ≡ length workqueues

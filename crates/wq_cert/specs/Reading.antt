@@ -1,5 +1,5 @@
 -- Reading: what the lines of a certificate say, or the first fault, in a line by the first row of "Refusals of
--- certificates" in docs/FORMAT.md that it meets: the form (40), the numbers (43), items that stand twice (41), groups that
+-- certificates" in docs/FORMAT.md that it meets: the form (40), the numbers (43), items that are there twice (41), groups that
 -- are split (42). An item that stands nowhere is a fault of no line (41), judged behind the last `wq` line.
 use Rattle.std.specs.Prelude.{ℕ, zero, suc, ◌-◌, ◌==◌, ◌||◌, not, nat_le, nat_lt, if◌then◌else◌, Bool, false, List, [], ◌∷◌, ◌++◌, length, map, slice_index, unwrap_or, Option, Some, None, Result, Ok, Err, ok_or, codes}
 use Rattle.std.specs.List.{list_any, list_all, concat, position, range_with_len}
@@ -97,7 +97,7 @@ wq_items names place line =
     and_then (λ (p : ℕ × List ℕ). if not (p.0 == place) || nat_le max_lanes place then Err (NumberOutOfRange line.no) else Ok p.1)
     (ok_or (wq_form names line.words) (BadCertLine line.no))
 
--- the items on line n, where these stand on the lines before it: none of them twice, nor with a group that stands there
+-- the items on line n, where these are on the lines before it: none of them twice, nor with a group that is there
 abbrev pub fresh_items : List ℕ → List ℕ → ℕ → List ℕ → Result (List ℕ) CertError
 fresh_items group_of before n items =
     if has_stood before items then Err (NotAllItems n) else (if splits_group group_of before items then Err (GroupSplit n) else Ok items)
@@ -121,7 +121,7 @@ all_workqueues names group_of workqueues (line ∷ lines) =
     then and_then (λ items. all_workqueues names group_of (workqueues ++ (items ∷ [])) lines) (wq_reading names group_of workqueues line)
     else Ok (workqueues, line ∷ lines)
 
--- each of so many items stands on a workqueue
+-- each of so many items is on a workqueue
 abbrev pub hold_all : ℕ → List (List ℕ) → Bool
 hold_all items workqueues = list_all (stands_in (concat workqueues)) (range_with_len 0 items)
 
@@ -137,7 +137,7 @@ workqueue_of_group group_of workqueues g = unwrap_or (workqueue_with group_of wo
 abbrev pub assignment_of : Partition → List (List ℕ) → Assignment
 assignment_of p workqueues = record { lanes = length workqueues; lane_of_group = map (workqueue_of_group p.group_of workqueues) (range_with_len 0 p.groups) }
 
--- the assignment, where each item stands on a workqueue: one that stands on none is a fault of no line
+-- the assignment, where each item is on a workqueue: one that is on none is a fault of no line
 abbrev pub whole_assignment : Partition → List (List ℕ) → Result Assignment CertError
 whole_assignment p workqueues = if hold_all (length p.group_of) workqueues then Ok (assignment_of p workqueues) else Err (NotAllItems 0)
 

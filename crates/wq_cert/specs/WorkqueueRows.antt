@@ -1,5 +1,5 @@
 -- Rows of faults, said without a reader: which row of "Refusals of certificates" in docs/FORMAT.md is the first that the
--- line of a workqueue breaks, where these workqueues stand on the lines before it.
+-- line of a workqueue breaks, where these workqueues are on the lines before it.
 use Rattle.std.specs.Prelude.{◌≡◌, ◌≢◌, ℕ, ◌^◌, ◌<◌, ◌≤◌, Bool, false, List, [], ◌∷◌, ◌++◌, ◌⊎◌, length, Contains, AllPairs, codes}
 use Rattle.std.specs.List.{All, concat}
 use Rattle.wq_groups.specs.Assignment.{max_lanes}
@@ -10,7 +10,7 @@ use Rattle.wq_cert.specs.Lines.{CertLine}
 use Rattle.wq_cert.specs.PlanText.{workqueue_line}
 use Rattle.wq_cert.specs.Spelled.{GroupsAreWhole}
 
--- at most 4,096 workqueues with items of so many, none of which stands twice, and no group of which is split
+-- at most 4,096 workqueues with items of so many, none of which is there twice, and no group of which is split
 pub record AreFirstWorkqueues (items : ℕ) (group_of : List ℕ) (workqueues : List (List ℕ)) : Type 0 where
   pub few : length workqueues ≤ max_lanes
   pub known : All (λ i. i < items) (concat workqueues)
@@ -28,7 +28,7 @@ pub record SpellsNextWorkqueue (names words : List (List ℕ)) (workqueues : Lis
   pub says : SpellsWorkqueue names words (length workqueues, items)
   pub room : length workqueues < max_lanes
 
--- the items stand once with those before them
+-- the items are there once, with those before them
 abbrev pub StandOnce : List (List ℕ) → List ℕ → Type 0
 StandOnce workqueues items = AllPairs (λ (i j : ℕ). i ≢ j) (concat workqueues ++ items)
 
@@ -54,6 +54,6 @@ abbrev pub begins_workqueue : List CertLine → Bool
 begins_workqueue [] = false
 begins_workqueue (line ∷ lines) = begins_with (codes "wq") line.words
 
--- each of so many items stands on a workqueue
+-- each of so many items is on a workqueue
 abbrev pub AllStand : ℕ → List (List ℕ) → Type 0
 AllStand items workqueues = (i : ℕ) → i < items → Contains (concat workqueues) i

@@ -31,7 +31,7 @@ module _ (w : Wiring) (steps : List Step) (step : Step) (b keeps : Bool) (old ne
   more : AreDone (record { wiring = w; state = empty_state w }) (steps ++ (step ∷ [])) new
   more = AreDone-more (record { wiring = w; state = empty_state w }) old new steps step n (record { lawful = played.run; wiring = played.wiring; state = played.state }) done
 
-  -- the machine stands where the run ends
+  -- the machine is where the run ends
   at_end : IsTrue keeps ↔ KeepsOrder w (end_of w steps) step
   at_end =
       subst (λ (s : State). IsTrue keeps ↔ KeepsOrder w s step) played.state (

@@ -172,7 +172,7 @@ IsWalk-finished lists s v is top all = record {
   v_below : v < length lists
   v_below = IsTop-below lists s v is top
 
-  -- what stands on the path is before its last, or is that
+  -- what is on the path is before its last, or is that
   on_path : (u : ℕ) → Contains s.path u → Contains (take end s.path) u ⊎ (u ≡ v)
   on_path u has =
       let place = place-of s.path u has in

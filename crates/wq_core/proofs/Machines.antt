@@ -8,7 +8,7 @@ use Rattle.wq_core.specs.State.{Lane, State, lane_at, Runs, HasPending, HasUnfin
 use Rattle.wq_core.specs.Held.{IsSoundState, HasPendingBelow, RunsBelow, runs_below}
 use Rattle.wq_core.proofs.Unfinished.{is_below-true, true-is_below}
 
--- ---- an item's entries stand on its own lane
+-- ---- an item's entries are on its own lane
 
 pub pending-own_lane : (w : Wiring) (s : State) (i : ℕ) → IsSoundState w s → (h : HasPending s i) → (i < items w) × (h.lane ≡ lane_of w i)
 pending-own_lane w s i sound h =

@@ -6,14 +6,14 @@ use Rattle.std.proofs.lemmas.List.{length-set, get_or-set_same, get_or-set_other
 use Rattle.std.proofs.lemmas.List.Sums.{count_by-le-length, count_by_more_yes, count_by_more_no}
 use Rattle.wq_core.specs.Wiring.{count_on}
 
--- ---- how many items stand on each lane
+-- ---- how many items are on each lane
 
 -- the first k items are counted, each on its lane
 pub record Counted (lane_of_item : List ℕ) (lanes k : ℕ) (counts : List ℕ) : Type 0 where
   pub len : length counts ≡ lanes
   pub each : (q : ℕ) → q < lanes → get_or counts q 0 ≡ count_on (take k lane_of_item) q
 
--- item k stands on lane q, which is one of the lanes; so far so many items were counted there
+-- item k is on lane q, which is one of the lanes; so far so many items were counted there
 pub record CountsNext (lane_of_item : List ℕ) (lanes k : ℕ) (counts : List ℕ) (q count : ℕ) : Type 0 where
   pub item : k < length lane_of_item
   pub lane : q ≡ get_or lane_of_item k q

@@ -20,7 +20,7 @@ use Rattle.wq_core.proofs.LaneLemmas.{cases_with_lane, lane_at-with_lane_same, l
 abbrev pub pending_items : State → ℕ → List ℕ
 pending_items s q = map (λ (e : Entry). e.item) (lane_at s q).pending
 
--- those of these items that stand on lane q
+-- those of these items that are on lane q
 abbrev pub on_lane : Wiring → ℕ → List ℕ → List ℕ
 on_lane w q is = filter (λ i. eqb (lane_of w i) q) is
 

@@ -78,7 +78,7 @@ pub record IsSoundRunning (w : Wiring) (r : Running) : Type 0 where
   pub made : r.made ≤ length (declared_by w r.entry.item)
   pub waits : (f : Waiting) → r.waiting ≡ Some f → (0 < r.made) × ItemWaits w.waits r.entry.item f.target
 
--- what holds of every state that a run leaves: there are the wiring's lanes; each entry is of an item that exists, stands on
+-- what holds of every state that a run leaves: there are the wiring's lanes; each entry is of an item that exists, is on
 -- that item's lane, and has a number that was given; a lane has at most one pending entry of an item; and what runs is sound
 pub record IsSoundState (w : Wiring) (s : State) : Type 0 where
   pub one_each : length s.lanes ≡ w.lanes

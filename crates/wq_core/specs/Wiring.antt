@@ -29,7 +29,7 @@ items w = length w.waits
 abbrev pub lane_of : Wiring → ℕ → ℕ
 lane_of w i = slice_index w.lane_of_item i
 
--- how many items stand on lane q, where these are the lanes of the items
+-- how many items are on lane q, where these are the lanes of the items
 abbrev pub count_on : List ℕ → ℕ → ℕ
 count_on lane_of_item q = count_by (λ l. l == q) lane_of_item
 

@@ -28,7 +28,7 @@ module _ (d : Declaration) (a : Assignment) (declaration : IsDeclaration d) (ass
   abbrev arc : ℕ → WaitArc
   arc k = get_or circle k no_arc
 
-  -- it is a declared flush, and its first item stands on the lane that it leaves
+  -- it is a declared flush, and its first item is on the lane that it leaves
   arc_leaves : (k : ℕ) → k < length circle → IsArc d.waits (item_lanes a d.group_of) (arc k) × (lane_of w (arc k).src ≡ slice_index round.left k)
   arc_leaves k lt =
       All-contains (λ (b : WaitArc). IsArc d.waits (item_lanes a d.group_of) b × (slice_index (item_lanes a d.group_of) b.src ≡ slice_index round.left k))

@@ -14,7 +14,7 @@ use Rattle.wq_decl.specs.Reading.{is_text_byte}
 abbrev pub HasBadByte : List ℕ → Type 0
 HasBadByte bytes = Any (λ (b : ℕ). ¬ IsTrue (is_text_byte b)) bytes
 
--- the first word is no directive
+-- the first word isn't a directive
 abbrev pub IsUnknown : WordView → List WordView → Type 0
 IsUnknown first others = (first.bytes ≢ codes "item") × (first.bytes ≢ codes "flush") × (first.bytes ≢ codes "ordered")
 
@@ -28,7 +28,7 @@ LacksName first others =
 abbrev pub HasExtraWord : WordView → List WordView → Type 0
 HasExtraWord first others = (first.bytes ≡ codes "item") × (1 < length others)
 
--- a word behind the first is no name
+-- a word behind the first isn't a name
 abbrev pub HasBadName : WordView → List WordView → Type 0
 HasBadName first others = Any (λ (w : WordView). ¬ IsTrue (is_name w.bytes)) others
 

@@ -48,7 +48,7 @@ To see it:
 To mend it:
 Write a long `flush` line as several lines with the same item: their targets add
 up. Put a long comment on lines of its own. The items of an `ordered` line have
-to stand on one line: give them shorter names.
+to be on one line: give them shorter names.
 ",
 );
 
@@ -115,7 +115,7 @@ const BAD_NAME: Explanation = (
     "BadName",
     "6 BadName\n",
     "\
-`refused 6 line N`: a word of line N, behind the first one, is no name. A name
+`refused 6 line N`: a word of line N, behind the first one, isn't a name. A name
 is 1 to 63 ASCII letters, digits, `_`, `-` and `.`.
 
 The rule: docs/FORMAT.md, \"Names\"
@@ -273,7 +273,7 @@ const NOT_ALL_ITEMS: Explanation = (
     "41 NotAllItems\n",
     "\
 `refused 41 line N`: line N, a `wq` line, has an item twice, or one that a `wq`
-line above it has. With line 0 an item stands on no `wq` line.
+line above it has. With line 0 an item is on no `wq` line.
 
 The rule: docs/FORMAT.md, \"Certificates\"
 
@@ -294,7 +294,7 @@ const GROUP_SPLIT: Explanation = (
     "42 GroupSplit\n",
     "\
 `refused 42 line N`: line N, a `wq` line, has an item that shares an `ordered`
-line with one that stands on a `wq` line above.
+line with one that is on a `wq` line above.
 
 The rule: docs/FORMAT.md, \"Certificates\"
 
@@ -304,7 +304,7 @@ To see it:
     wqplan deadlock decl assign
 
 To mend it:
-Put all items of the `ordered` line on one `wq` line. If they may stand on
+Put all items of the `ordered` line on one `wq` line. If they may be on
 different workqueues, take them off the `ordered` line.
 ",
 );

@@ -141,7 +141,7 @@ fn wrong_line<'a, A: Allocator + Copy>(
 fn other_line<'a>(line: &Line<'a>, stage: Stage) -> Finding<'a> {
     let word = bytes_at(line, 0);
     if stage.may_end() {
-        let what = What::Said("the text should end above this line");
+        let what = What::Said("the text should end before this line");
         return Finding::marked(first_mark(line), what, comment_hint(word));
     }
     let hint = match text_with(word) {
@@ -157,7 +157,7 @@ fn number_hint(word: &[u8]) -> &'static str {
         [b'1'..=b'9', ..] if word.iter().all(|byte| byte.is_ascii_digit()) => {
             "a number is at most 4,294,967,295"
         }
-        _ => "a number has digits alone, and none of them is a leading 0",
+        _ => "a number has only digits, and no leading zero",
     }
 }
 
@@ -189,7 +189,7 @@ fn wrong_form<'a>(line: &Line<'a>, stage: Stage, shape: Shape) -> Option<Finding
     }
     match surplus_word(line, shape) {
         Some(word) => {
-            let what = What::Said("here is a word too many");
+            let what = What::Said("one word too many");
             Some(Finding::marked(word.mark, what, Hint::Line(stage)))
         }
         None => None,

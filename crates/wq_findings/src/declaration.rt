@@ -81,8 +81,8 @@ fn byte_hint(line: &Line<'_>, at: usize) -> &'static str {
         Some([0xFF, 0xFE, ..] | [0xFE, 0xFF, ..]) if at == 0 =>
             "this is UTF-16: save the file as ASCII",
         Some([0, ..]) => "a zero byte: is this a text, and not UTF-16?",
-        Some([b'\r', ..]) => "a carriage return may stand only before a line feed",
-        Some([0x80..=0xFF, ..]) => "beyond ASCII there are only comments",
+        Some([b'\r', ..]) => "a carriage return may come only before a line feed",
+        Some([0x80..=0xFF, ..]) => "only comments may have bytes beyond ASCII",
         _ => "a control character",
     }
 }
@@ -165,9 +165,9 @@ fn name_hint(word: &[u8]) -> Hint<'static> {
     } else if word.len() > MAX_NAME {
         Hint::Said("a name has at most 63 bytes")
     } else if matches!(word, [.., b',' | b';']) {
-        Hint::Said("between names there are blanks alone")
+        Hint::Said("only blanks come between names")
     } else {
-        Hint::Said("a name has letters, digits, `_`, `-` and `.`")
+        Hint::Said("a name consists of letters, digits, `_`, `-` and `.`")
     }
 }
 
@@ -183,7 +183,7 @@ fn bad_name<'a>(line: &Line<'a>) -> Finding<'a> {
             );
         }
     }
-    Finding::whole(What::Said("a word of the line is no name"))
+    Finding::whole(What::Said("a word of the line isn't a name"))
 }
 
 /// An item that is declared twice.
@@ -205,7 +205,7 @@ fn unknown_item<'a, A: Allocator + Copy>(
     let items = Names::above(alloc, text, b"item", line.no())?;
     match not_above(&items, line) {
         Some(word) => undeclared(alloc, text, word),
-        None => Ok(Finding::whole(What::Said("a name of the line is declared by no line above"))),
+        None => Ok(Finding::whole(What::Said("no line above declares a name of this line"))),
     }
 }
 
@@ -270,5 +270,5 @@ fn ordered_twice<'a, A: Allocator + Copy>(above: &Names<'a, A>, line: &Line<'a>)
             return Finding::twice_on_line(word);
         }
     }
-    Finding::whole(What::Said("a name stands on two `ordered` lines"))
+    Finding::whole(What::Said("a name is on two `ordered` lines"))
 }

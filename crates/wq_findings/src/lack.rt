@@ -13,7 +13,7 @@ use wq_items::{ItemId, ItemTable};
 use wq_text::{Line, Text};
 
 /// What is wrong with an arc whose names aren't known.
-const WRONG_ARC: &str = "an arc is no flush, or doesn't begin where the one before it ends";
+const WRONG_ARC: &str = "an arc isn't a flush, or doesn't begin where the one before it ends";
 
 /// What is found, and the number of its line; the number is 0 where no line is meant.
 #[derive(Clone, Copy)]
@@ -122,7 +122,7 @@ fn not_falling<'a, A: Allocator + Copy>(
     match (place_of(table, text, item), place_of(table, text, target)) {
         (Some(item), Some(target)) => too_low(item, target),
         _ => Lack::whole(What::Said(
-            "an item doesn't stand on a higher workqueue than all that it flushes",
+            "an item isn't on a higher workqueue than all that it flushes",
         )),
     }
 }

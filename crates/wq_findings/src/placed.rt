@@ -136,7 +136,7 @@ fn placed_twice<'a, A: Allocator + Copy>(
             return Finding::twice_on_line(word);
         }
     }
-    Finding::whole(What::Said("an item of the line stands on a workqueue already"))
+    Finding::whole(What::Said("an item of the line is on a workqueue already"))
 }
 
 /// A member of an item's group that is on a line above.

@@ -59,19 +59,19 @@ impl fmt::Display for What<'_> {
         match *self {
             What::Said(said) => f.write_str(said),
             What::BadByte(byte) => bad_byte(f, byte),
-            What::NoDirective(word) => say(f, "", word, " is no directive"),
-            What::NoName(word) => say(f, "", word, " is no name"),
-            What::NoNumber(word) => say(f, "", word, " is no number"),
+            What::NoDirective(word) => say(f, "", word, " isn't a directive"),
+            What::NoName(word) => say(f, "", word, " isn't a name"),
+            What::NoNumber(word) => say(f, "", word, " isn't a number"),
             What::DeclaredTwice(name) => say(f, "the item ", name, " is declared twice"),
             What::NotAbove(name) => say(f, "no item ", name, " is declared above this line"),
             What::NoItem(name) => say(f, "no item ", name, " is declared"),
-            What::OnTwoLines(name) => say(f, "", name, " stands on two `ordered` lines"),
-            What::TwiceOnLine(word) => say(f, "", word, " stands twice on this line"),
-            What::EndsAt(stage) => write!(f, "the text ends where {stage} should stand"),
-            What::Other(word, stage) => write!(f, "`{word}` stands where {stage} should"),
-            What::OutOfOrder(next) => write!(f, "`wq {next}` should stand here"),
+            What::OnTwoLines(name) => say(f, "", name, " is on two `ordered` lines"),
+            What::TwiceOnLine(word) => say(f, "", word, " is on this line twice"),
+            What::EndsAt(stage) => write!(f, "expected {stage}, but the text ends"),
+            What::Other(word, stage) => write!(f, "expected {stage}, found `{word}`"),
+            What::OutOfOrder(next) => write!(f, "expected `wq {next}`"),
             What::OnNoWorkqueue(items) => items.fmt(f),
-            What::PlacedAlready(name) => say(f, "", name, " stands on a workqueue already"),
+            What::PlacedAlready(name) => say(f, "", name, " is on a workqueue already"),
             What::Split(name, other) => split(f, name, other),
             What::TooLow(item, target) => too_low(f, item, target),
             What::WrongArc(item, target, before) => wrong_arc(f, item, target, before),
@@ -127,7 +127,7 @@ fn too_low<W: fmt::Write>(
     target: Quoted<'_>,
 ) -> fmt::Result {
     say(f, "", item, " flushes ")?;
-    say(f, "", target, ", so it should stand on a higher workqueue")
+    say(f, "", target, ", so it should be on a higher workqueue")
 }
 
 /// Writes what is wrong with an arc.
@@ -189,9 +189,9 @@ impl fmt::Display for Unplaced<'_> {
             write!(f, " and {} more", self.count.saturating_sub(3))?;
         }
         f.write_str(if self.count == 1 {
-            " stands on no workqueue"
+            " is on no workqueue"
         } else {
-            " stand on no workqueue"
+            " are on no workqueue"
         })
     }
 }

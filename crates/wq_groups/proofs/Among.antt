@@ -36,7 +36,7 @@ is_among-Contains a names h =
 
 -- ---- names that differ
 
--- each name stands once
+-- each name is there once
 abbrev pub Differ : List (List ℕ) → Type 0
 Differ names = AllPairs (λ (a b : List ℕ). a ≢ b) names
 

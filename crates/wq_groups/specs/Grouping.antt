@@ -23,7 +23,7 @@ abbrev pub has_twin : List (List ℕ) → Bool
 has_twin [] = false
 has_twin (name ∷ names) = list_any (bytes_eq name) names || has_twin names
 
--- the number of the first line with a name that stands on it twice, or on an `ordered` line before it, where these are
+-- the number of the first line with a name that is on it twice, or on an `ordered` line before it, where these are
 -- the names ordered before
 abbrev pub first_regrouped : List (List ℕ) → List (ℕ × Directive) → Option ℕ
 first_regrouped before [] = None

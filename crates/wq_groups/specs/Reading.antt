@@ -17,8 +17,8 @@ marks_of names ordered = map (λ (name : List ℕ). list_any (bytes_eq name) ord
 abbrev pub lowest_of : List (List ℕ) → List (List ℕ) → ℕ
 lowest_of names ordered = position_or_len (λ (name : List ℕ). list_any (bytes_eq name) ordered) names
 
--- what is noted after these directives: of each item the first-declared one of its group, and whether its name stands on
--- an `ordered` line; no name stands there twice
+-- what is noted after these directives: of each item the first-declared one of its group, and whether its name is on
+-- an `ordered` line; no name is there twice
 pub record IsNoted (ds : List (ℕ × Directive)) (names : List (List ℕ)) (first : List ℕ) (ordered : List Bool) : Type 0 where
   pub firsts : first ≡ map (first_member ds names) names
   pub marks : ordered ≡ marks_of names (all_ordered ds)

@@ -251,7 +251,7 @@ pub running-known : (m : Machine) (q : ℕ) (o : Option Running) → IsMachine m
 running-known m q None machine is = tt
 running-known m q (Some r) machine is = machine.state.own_lane q r.entry (inr (r, sym is, refl))
 
--- what is first on a lane is of an item that exists, and stands on this lane
+-- what is first on a lane is of an item that exists, and is on this lane
 pub first-known : (m : Machine) (q : ℕ) (o : Option Entry) → IsMachine m → o ≡ slice_get (lane_at m.state q).pending 0
     → IfSome o (λ (e : Entry). (e.item < items m.wiring) × (lane_of m.wiring e.item ≡ q))
 first-known m q None machine is = tt

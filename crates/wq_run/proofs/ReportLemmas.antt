@@ -13,7 +13,7 @@ use Rattle.wq_commands.specs.Declaration.{Declared}
 use Rattle.wq_run.specs.Report.{item_line}
 use Rattle.wq_run.specs.Running.{yes_tally}
 
--- six words behind what stands there
+-- six words behind what is there
 pub six_words : (out a b c d e f : List ℕ) → (((((out ++ spaced a) ++ spaced b) ++ spaced c) ++ spaced d) ++ spaced e) ++ spaced f
     ≡ out ++ flat_map spaced (a ∷ b ∷ c ∷ d ∷ e ∷ f ∷ [])
 six_words out a b c d e f =
