@@ -1,8 +1,8 @@
-# Completion of wqplan for bash: the commands, the numbers and names that `explain` knows, and files. What stands behind a `<` or a `>`
-# is a file of the shell's, and no argument of wqplan; what stands in `<(..)` is another command.
+# Completion of wqplan for bash: the commands, the numbers and names that `explain` knows, and files. What follows a `<` or a `>`
+# is a file of the shell's, and no argument of wqplan; what is in `<(..)` is another command.
 _wqplan() {
     local word=${COMP_WORDS[COMP_CWORD]} command='' words=0 redirected='' inside=0 index at next
-    # What stands behind the last word that was looked at.
+    # What follows the last word that was looked at.
     local rest=${COMP_LINE#*"$1"}
     for ((index = 1; index < COMP_CWORD; index++)); do
         at=${COMP_WORDS[index]}

@@ -1,4 +1,4 @@
--- What lies under the lock of a runtime, and what its calls do to it and to the seat of the caller.
+-- What the lock of a runtime guards, and what the runtime's calls do to it and to the caller's seat.
 use Rattle.std.specs.Prelude.{◌≡◌, ◌≢◌, ℕ, ◌+◌, ◌*◌, ◌<◌, ◌≤◌, ◌⊎◌, List, sum, replicate, Bool, true, false}
 use Rattle.wq_core.specs.declared.entry.Running.{Running}
 use Rattle.wq_core.specs.declared.entry.Waiting.{Waiting as WaitingOf}
@@ -28,10 +28,10 @@ pub record HeldView : Type 0 where
 
 -- ---- what holds whenever the lock is free
 
--- of a runtime named by its wiring, its rows and the parts of its ledger: the book is of this wiring and has room for these
--- rows; there are at most 256 lanes, and no run of the assignment ends stuck; the tallies are those of the book's rows, and
--- add up to the number of its counted rows; the room for the sums is kept empty. Each part of the ledger was given to a seat
--- or is left; one at least is left, and those that are have no amount
+-- for a runtime with this wiring, this many rows and this many parts of its ledger: the book is of this wiring and has room for
+-- this many rows; there are at most 256 lanes, and no run of the assignment ends stuck; the tallies are those of the book's
+-- rows, and add up to the number of its counted rows; the room for the sums is kept empty. Each part of the ledger was given to
+-- a seat or is left; at least one is left, and those that are left have no amount
 pub record IsHeld (w : Wiring) (rows parts : ℕ) (book : BookView) (tallies sums : List ℕ) (seats parts_left amount_left : ℕ) : Type 0 where
   pub of_wiring : book.wiring ≡ w
   pub of_rows : book.room ≡ rows
@@ -46,19 +46,19 @@ pub record IsHeld (w : Wiring) (rows parts : ℕ) (book : BookView) (tallies sum
   pub a_part_left : 0 < parts_left
   pub no_amount_left : amount_left ≡ 0
 
--- the counts of a seat: one part of the ledger, and the amount of that part is what they add up to
+-- a seat: its counts, and one part of the ledger, whose amount is what the counts add up to
 pub record IsSeat (w : Wiring) (counts : List ℕ) (parts amount : ℕ) : Type 0 where
   pub a_count_each : HasCountsOf (items w) counts
   pub one_part : parts ≡ 1
   pub amount_is : amount ≡ sum counts
 
--- the tallies: what they add up to is the total of the ledger, which is that of all its parts
+-- the tallies: they add up to the total of the ledger, which is that of all its parts
 pub record IsLedgered (w : Wiring) (tallies : List ℕ) (total : ℕ) : Type 0 where
   pub a_count_each : HasCountsOf (items w) tallies
   pub total_is : total ≡ sum tallies
 
--- whenever the lock is got, the book is of this wiring and has room for these rows; its rows are a legal history whose
--- replay is its state, and rows are kept for what is to come; no run of the assignment ends stuck, and so its state isn't
+-- whenever the lock is taken, the book is of this wiring and has room for this many rows; its rows are a legal history whose
+-- replay is its state, and rows are kept for what is to come; no run of the assignment ends stuck, and so its state isn't stuck
 pub record Holds (w : Wiring) (rows : ℕ) (b : BookView) : Type 0 where
   pub of_wiring : b.wiring ≡ w
   pub of_rows : b.room ≡ rows
@@ -73,13 +73,13 @@ abbrev pub CountsAsk : List ℕ → List ℕ → ℕ → Ask → Type 0
 CountsAsk old new i Idle = new ≡ raised old i AskKind false
 CountsAsk old new i (Waiting asked) = new ≡ raised old i AskKind true
 
--- a caller who waits: a row says that its wait is over, or there is none
+-- a caller who waits: a row says that its wait is over, or there is no row
 abbrev pub CountsTold : List ℕ → List ℕ → ℕ → Told → Type 0
 CountsTold old new i Done = new ≡ raised old i ToldKind true
 CountsTold old new i (NotYet same) = new ≡ old
 CountsTold old new i (BookNotAsked same) = new ≡ old
 
--- a lane that waits: a row says that its wait is over, or there is none
+-- a lane that waits: a row says that its wait is over, or there is no row
 abbrev pub CountsOver : List ℕ → List ℕ → ℕ → Bool → Type 0
 CountsOver old new b true = new ≡ raised old b OverKind true
 CountsOver old new b false = new ≡ old
@@ -89,7 +89,7 @@ abbrev pub flushed : List ℕ → ℕ → Bool → List ℕ
 flushed old i true = raised (raised old i AskKind true) i ToldKind true
 flushed old i false = raised old i AskKind false
 
--- counts after a refused flush: where no ask of its item waits (65) its own ask stays counted, else nothing was
+-- counts after a refused flush: if no ask of its item waits (65), its own ask stays counted; otherwise nothing was counted
 abbrev pub flush_refused : List ℕ → ℕ → CallError → List ℕ
 flush_refused old i NotAsked = raised old i AskKind true
 flush_refused old i HistoryFull = old
@@ -99,17 +99,17 @@ flush_refused old i TooManyWaits = old
 flush_refused old i WrongLane = old
 flush_refused old i NoItem = old
 
--- counts after an ask and a cancellation under one hold, of which these are the answers
+-- counts after an ask and a cancellation under one hold of the lock, with these answers
 abbrev pub asked_and_cancelled : List ℕ → ℕ → Bool → Bool → List ℕ
 asked_and_cancelled old i waits taken = raised (raised old i AskKind waits) i CancelKind taken
 
--- counts after a cancellation that waits: those of the ask and of the cancellation, and where the ask waits its end
+-- counts after a cancellation that waits: those of the ask and of the cancellation, and if the ask waits, that of its end
 abbrev pub CountsCancelSync : List ℕ → List ℕ → ℕ → Bool → Type 0
 CountsCancelSync old new i taken =
     (new ≡ asked_and_cancelled old i false taken) ⊎ (new ≡ raised (asked_and_cancelled old i true taken) i ToldKind true)
 
--- counts after a refused cancellation that waits: where no ask of its item waits (65) its ask and its cancellation stay
--- counted, else nothing was
+-- counts after a refused cancellation that waits: if no ask of its item waits (65), its ask and its cancellation stay counted;
+-- otherwise nothing was counted
 abbrev pub RefusedCancelSync : List ℕ → List ℕ → ℕ → CallError → Type 0
 RefusedCancelSync old new i NotAsked = (taken : Bool) × (new ≡ asked_and_cancelled old i true taken)
 RefusedCancelSync old new i HistoryFull = new ≡ old
@@ -119,11 +119,12 @@ RefusedCancelSync old new i TooManyWaits = new ≡ old
 RefusedCancelSync old new i WrongLane = new ≡ old
 RefusedCancelSync old new i NoItem = new ≡ old
 
--- counts after a wait that is over, of which this is the answer
+-- counts after a wait that is over, with this answer
 abbrev pub waited_for : List ℕ → ℕ → Bool → List ℕ
 waited_for old b unfinished = raised (raised old b WaitKind unfinished) b OverKind true
 
--- counts after a refused wait on lane q: where the lane no longer waits (64) its wait stays counted, else nothing was
+-- counts after a refused wait on lane q: if the lane no longer waits (64), its wait stays counted; otherwise nothing was
+-- counted
 abbrev pub RefusedWaitFor : Wiring → List ℕ → List ℕ → ℕ → ℕ → CallError → Type 0
 RefusedWaitFor w old new q b WrongLane = (new ≡ old) ⊎ ((q < w.lanes) × (unfinished : Bool) × (new ≡ raised old b WaitKind unfinished))
 RefusedWaitFor w old new q b HistoryFull = new ≡ old
@@ -133,7 +134,7 @@ RefusedWaitFor w old new q b TooManyWaits = new ≡ old
 RefusedWaitFor w old new q b NotAsked = new ≡ old
 RefusedWaitFor w old new q b NoItem = new ≡ old
 
--- ---- two events under one hold
+-- ---- two events under one hold of the lock
 
 -- an ask of item i, and then a cancellation of it
 pub record AsksAndCancels (old new : BookView) (i : ℕ) (answer : Ask) (taken : Bool) : Type 0 where
@@ -141,7 +142,7 @@ pub record AsksAndCancels (old new : BookView) (i : ℕ) (answer : Ask) (taken :
   pub asks : AnswersAsk old between i answer
   pub cancels : AppendsOne between new (Cancel i) taken
 
--- counts of both
+-- counts after both
 abbrev pub CountsAskAndCancel : List ℕ → List ℕ → ℕ → Ask → Bool → Type 0
 CountsAskAndCancel old new i Idle taken = new ≡ asked_and_cancelled old i false taken
 CountsAskAndCancel old new i (Waiting asked) taken = new ≡ asked_and_cancelled old i true taken
@@ -156,7 +157,7 @@ WaitsFor b q target = (f : WaitingOf) × IsWaiting b q f × (f.target ≡ target
 abbrev pub IsWrongToGoOn : BookView → ℕ → ℕ → Type 0
 IsWrongToGoOn b q target = ¬ WaitsFor b q target
 
--- whether the wait of lane q for item b is over: a row says that it is; or nothing is changed, since the wait goes on
+-- whether the wait of lane q for item b is over: a row says that it is; or nothing is changed, because the wait goes on
 abbrev pub AnswersOverOf : BookView → BookView → ℕ → ℕ → Bool → Type 0
 AnswersOverOf old new q target true = AppendsOne old new (Over q target) true
 AnswersOverOf old new q target false = (f : WaitingOf) × IsWaiting old q f × (f.target ≡ target) × HasUnfinishedBelow (state old) target f.mark × (new ≡ old)
@@ -165,18 +166,19 @@ AnswersOverOf old new q target false = (f : WaitingOf) × IsWaiting old q f × (
 abbrev pub RunsItem : BookView → ℕ → ℕ → Type 0
 RunsItem b q i = (r : Running) × LaneRuns b q r × (r.entry.item ≡ i)
 
--- lane q doesn't run an entry of item i that could finish: there is no such lane, it runs none or another's, or it waits
+-- lane q doesn't run an entry of item i that could finish: there is no such lane, it runs nothing or an entry of another item,
+-- or it waits
 abbrev pub IsWrongToFinish : BookView → ℕ → ℕ → Type 0
 IsWrongToFinish b q i = (¬ RunsItem b q i) ⊎ IsNotAwake b q
 
 -- ---- closing
 
--- so many seats don't close it: work is unfinished, or a caller waits; else they are not all
+-- this many seats don't close the runtime: work is unfinished, or a caller waits; or else these aren't all its seats
 abbrev pub RefusesClose : HeldView → ℕ → CloseWhy → Type 0
 RefusesClose h n NotIdle = HasUnfinished (state h.book) ⊎ (0 < all_asks_waiting h.book.rows)
 RefusesClose h n SeatsMissing = (¬ HasUnfinished (state h.book)) × (all_asks_waiting h.book.rows ≡ 0) × (n ≢ h.seats)
 
--- so many seats close it
+-- this many seats close the runtime
 pub record Closes (h : HeldView) (n : ℕ) : Type 0 where
   pub idle : ¬ HasUnfinished (state h.book)
   pub nobody_waits : all_asks_waiting h.book.rows ≡ 0

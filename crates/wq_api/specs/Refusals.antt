@@ -46,7 +46,7 @@ close_code SeatsMissing = 72
 
 -- ---- refusals of the book, as a runtime hands them on
 
--- the same refusal; making a book is none of a runtime's calls
+-- the same refusal; making a book isn't one of a runtime's calls
 abbrev pub call_error : BookError → Option CallError
 call_error BookFull = Some HistoryFull
 call_error BookClosed = Some Closed
@@ -57,22 +57,22 @@ call_error BookNoItem = Some NoItem
 call_error BookTooManyRows = None
 call_error BookOutOfMemory = None
 
--- it is one of a call on a book that is made
+-- the refusal is one of a call on a book that was made
 abbrev pub IsOfCall : BookError → Type 0
 IsOfCall e = (c : CallError) × (call_error e ≡ Some c)
 
--- the book refuses for a cause that this names, and its refusal is handed on
+-- the book refuses for a cause that this states, and its refusal is handed on
 abbrev pub RefusedAs : (BookError → Type 0) → CallError → Type 0
 RefusedAs cause e = (b : BookError) × cause b × (call_error b ≡ Some e)
 
--- ---- causes that a caller can know, since they lie in its arguments
+-- ---- causes that a caller can know, since they are in its arguments
 
--- how many lanes a runtime has at most
+-- the most lanes that a runtime may have
 abbrev pub max_runtime_lanes : ℕ
 max_runtime_lanes = 256
 
--- making a runtime of a wiring with so many rows: too many lanes; too many rows; some run ends stuck; out of memory, never
--- where there is nothing to keep
+-- making a runtime of a wiring with this many rows: too many lanes; too many rows; some run ends stuck; out of memory, but
+-- never if there is nothing to keep
 abbrev pub RefusesRuntime : Wiring → ℕ → NewError → Type 0
 RefusesRuntime w rows TooManyLanes = max_runtime_lanes < w.lanes
 RefusesRuntime w rows TooManyRows = (w.lanes ≤ max_runtime_lanes) × (max_rows < rows)
@@ -85,7 +85,7 @@ pub record MakesRuntime (w : Wiring) (rows : ℕ) : Type 0 where
   pub few_rows : rows ≤ max_rows
   pub safe : IsSafe w
 
--- an item exists, and belongs to the lane
+-- the item exists, and belongs to the lane
 abbrev pub IsOnLane : Wiring → ℕ → ℕ → Type 0
 IsOnLane w q i = (i < items w) × (lane_of w i ≡ q)
 
@@ -93,12 +93,12 @@ IsOnLane w q i = (i < items w) × (lane_of w i ≡ q)
 abbrev pub seat_rows : ℕ
 seat_rows = 33554432
 
--- the seat of these counts isn't full
+-- the seat with these counts isn't full
 abbrev pub HasRoom : List ℕ → Type 0
 HasRoom counts = sum counts < seat_rows
 
--- `queue_work` of item i on lane q, by a seat with these counts: no such item; it belongs to another lane; the seat is full,
--- which is 60 too; the runtime is closed; the history is full
+-- `queue_work` of item i on lane q, through a seat with these counts: no such item; it belongs to another lane; the seat is
+-- full (60, too); the runtime is closed; the history is full
 abbrev pub RefusesQueueWork : Wiring → List ℕ → ℕ → ℕ → CallError → Type 0
 RefusesQueueWork w counts q i NoItem = items w ≤ i
 RefusesQueueWork w counts q i WrongLane = (i < items w) × (lane_of w i ≢ q)
@@ -118,8 +118,8 @@ RefusesCancelWork w i TooManyWaits = ⊥
 RefusesCancelWork w i WrongLane = ⊥
 RefusesCancelWork w i NotAsked = ⊥
 
--- `flush_work` and `cancel_work_sync` of item i, by a seat with these counts: no such item; the seat or the history is full;
--- or, after the ask, no ask of the item waits
+-- `flush_work` and `cancel_work_sync` of item i, through a seat with these counts: no such item; the seat or the history is
+-- full; or, after the ask, no ask of the item waits
 abbrev pub RefusesFlushWork : Wiring → List ℕ → ℕ → CallError → Type 0
 RefusesFlushWork w counts i NoItem = items w ≤ i
 RefusesFlushWork w counts i HistoryFull = i < items w
@@ -129,7 +129,7 @@ RefusesFlushWork w counts i Undeclared = ⊥
 RefusesFlushWork w counts i TooManyWaits = ⊥
 RefusesFlushWork w counts i WrongLane = ⊥
 
--- `wait_for` on lane q, by a seat with these counts: no such lane, or it can't make this step; the seat is full; what the
+-- `wait_for` on lane q, through a seat with these counts: no such lane, or it can't make this step; the seat is full; what the
 -- lane runs declares no such flush, or has made as many waits as it declares
 abbrev pub RefusesWaitFor : Wiring → List ℕ → ℕ → CallError → Type 0
 RefusesWaitFor w counts q WrongLane = (w.lanes ≤ q) ⊎ HasRoom counts
@@ -140,7 +140,7 @@ RefusesWaitFor w counts q Closed = ⊥
 RefusesWaitFor w counts q NotAsked = ⊥
 RefusesWaitFor w counts q NoItem = ⊥
 
--- an ask and a cancellation of item i under one hold: no such item; else fewer than 3 rows are free
+-- an ask and a cancellation of item i under one hold of the lock: no such item; otherwise fewer than 3 rows are free
 abbrev pub RefusesAskAndCancel : BookView → ℕ → CallError → Type 0
 RefusesAskAndCancel b i NoItem = items b.wiring ≤ i
 RefusesAskAndCancel b i HistoryFull = (i < items b.wiring) × (free b < 3)

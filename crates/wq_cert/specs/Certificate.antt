@@ -12,7 +12,7 @@ pub record PlanCertificate : Type 0 where
   pub length : ℕ
   pub arcs : List (ℕ × ℕ)
 
--- what a circle text says: the arcs of the circle, and the steps of a run, where there is one
+-- what a circle text says: the arcs of the circle, and the steps of a run, if there is one
 pub record CircleCertificate : Type 0 where
   pub arcs : List (ℕ × ℕ)
   pub steps : Option (List Step)

@@ -1,11 +1,11 @@
--- First faults: that a refusal at a line is one of the first line at fault, said without a reader.
+-- First faults: that a refusal at a line is about the first line at fault, said without a reader.
 use Rattle.std.specs.Prelude.{◌≡◌, ℕ, ◌<◌, ◌≤◌, List, length, map, take, Result, Err, IfErr}
 use Rattle.wq_text.specs.Lines.{LineView, lines_of}
 use Rattle.wq_cert.specs.declared.fault.CertError.{CertError}
 use Rattle.wq_cert.specs.Texts.{cert_refusal}
 use Rattle.wq_cert.specs.Spelled.{KeepsLimits}
 
--- the line of a fault, 0 where no line is meant
+-- the line of a fault, or 0 if no line is meant
 abbrev pub line_of : CertError → ℕ
 line_of fault = (cert_refusal fault).line
 
@@ -17,12 +17,12 @@ line_texts text = map (λ (line : LineView). line.bytes) (lines_of text)
 abbrev pub first_lines : ℕ → List ℕ → List (List ℕ)
 first_lines n text = take n (line_texts text)
 
--- a value is read, or the fault is one of no line: the text ends too early, or an item stands nowhere
+-- a value is read, or the fault is at no line: the text ends too early, or an item is on no workqueue
 abbrev pub NoLineIsAtFault : {V : Type 0} → Result V CertError → Type 0
 NoLineIsAtFault r = IfErr r (λ fault. line_of fault ≡ 0)
 
--- the fault of a text is one of the first line at fault: the text has that line; any text within the limits that begins
--- with the lines up to it has the same fault, whatever stands behind them; and in a text of fewer of these lines no line
+-- the fault of a text is that of the first line at fault: the text has that line; any text within the limits that begins
+-- with the lines up to it has the same fault, whatever comes after them; and in a text of fewer of these lines no line
 -- is at fault
 pub record IsOfTheFirstLine {V : Type 0} (read : List ℕ → Result V CertError) (text : List ℕ) (fault : CertError) : Type 0 where
   pub stands : line_of fault ≤ length (line_texts text)

@@ -1,4 +1,4 @@
--- Forms: what the words of one line say, if they have the form that is asked for. A byte that no line may hold stands in
+-- Forms: what the words of one line say, if they have the form that is asked for. A byte that no line may hold is in
 -- no keyword, number or name, so a line with such a byte before its comment has no form.
 use Rattle.std.specs.Prelude.{ℕ, ◌^◌, ◌&&◌, nat_lt, if◌then◌else◌, Bool, false, List, [], ◌∷◌, Option, Some, None, option_map, option_and_then, bytes_eq, codes, decimal}
 use Rattle.std.specs.Option.{option_zip}
@@ -7,13 +7,13 @@ use Rattle.wq_items.specs.Table.{item_named}
 use Rattle.wq_core.specs.declared.step.Step.{Step}
 use Rattle.wq_core.specs.declared.step.Step.TheVariants.{Queue, Cancel, Start, Wait, Over, Finish}
 
--- the number whose one spelling a word is: `0`, or a digit from 1 to 9 and digits after it, at most 4,294,967,295
+-- the number whose one spelling a word is: `0`, or a digit from 1 to 9 followed by digits; at most 4,294,967,295
 abbrev pub number_of : List ℕ → Option ℕ
 number_of word =
     let n = digits_value 10 word in
     if bytes_eq word (decimal n) && nat_lt n (2 ^ 32) then Some n else None
 
--- the items of these names, if each is declared
+-- the items with these names, if each is declared
 abbrev pub items_of : List (List ℕ) → List (List ℕ) → Option (List ℕ)
 items_of names [] = Some []
 items_of names (word ∷ words) = option_map (λ (p : ℕ × List ℕ). p.0 ∷ p.1) (option_zip (item_named names word) (items_of names words))
@@ -58,7 +58,7 @@ lane_step word lane item =
     else (if bytes_eq word (codes "over") then Some (Over lane item)
     else (if bytes_eq word (codes "finish") then Some (Finish lane item) else None)))
 
--- the step that a line says
+-- the step that the words of a line say
 abbrev pub step_form : List (List ℕ) → List (List ℕ) → Option Step
 step_form names [] = None
 step_form names (word ∷ []) = None

@@ -1,5 +1,5 @@
 -- Rows of faults, said without a reader: which row of "Refusals of certificates" in docs/FORMAT.md is the first that a line
--- breaks where a `plan`, `chain`, `circle`, `arc` or `run` line, or that of a step, stands next.
+-- breaks where a `plan`, `chain`, `circle`, `arc` or `run` line, or that of a step, is expected.
 use Rattle.std.specs.Prelude.{◌≡◌, ℕ, ◌-◌, ◌^◌, ◌<◌, ◌≤◌, List, [], ◌∷◌, ◌++◌, ◌⊎◌, length, map, codes, decimal, Option, Some, None, IfSome, IsSomeAnd}
 use Rattle.std.specs.List.{All}
 use Rattle.wq_groups.specs.Partition.{Partition}
@@ -16,7 +16,7 @@ use Rattle.wq_cert.specs.Reading.{max_count}
 use Rattle.wq_cert.specs.RunText.{step_line, item_in}
 use Rattle.wq_cert.specs.Spelled.{AreWorkqueues, workqueue_lines, count_line}
 
--- which line stands next, if it isn't that of a workqueue
+-- which line is expected, if it isn't that of a workqueue
 pub data LineForm : Type 0 where
   PlanLine : LineForm
   ChainLine : LineForm
@@ -66,7 +66,7 @@ HasForm names RunLine words = (m : ℕ) × SpellsCount (codes "run") words m
 HasForm names StepLine words = (step : Step) × SpellsStep names words step
 
 -- the words have the form, with a number that is out of its range: a count of workqueues, groups or arcs above 4,096, a
--- circle of none, a workqueue above 4,095; the number of steps may be any
+-- circle of no arcs, or a workqueue above 4,095; there may be any number of steps
 abbrev pub IsOutOfRange : List (List ℕ) → LineForm → List (List ℕ) → Type 0
 IsOutOfRange names PlanLine words = (k : ℕ) × SpellsCount (codes "plan") words k × (max_count < k)
 IsOutOfRange names ChainLine words = (n : ℕ) × SpellsCount (codes "chain") words n × (max_count < n)
@@ -75,7 +75,7 @@ IsOutOfRange names ArcLine words = ⊥
 IsOutOfRange names RunLine words = ⊥
 IsOutOfRange names StepLine words = (step : Step) × SpellsStep names words step × IsSomeAnd (lane_in step) (λ q. max_lanes ≤ q)
 
--- the row of this fault is the first that the line breaks, where one of this form stands next
+-- the row of this fault is the first that the line breaks, where one of this form is expected
 abbrev pub BreaksLine : List (List ℕ) → LineForm → CertLine → CertError → Type 0
 BreaksLine names form line (BadCertLine n) = (n ≡ line.no) × (¬ HasForm names form line.words)
 BreaksLine names form line (NumberOutOfRange n) = (n ≡ line.no) × IsOutOfRange names form line.words
@@ -87,14 +87,14 @@ BreaksLine names form line OutOfMemory = ⊥
 abbrev pub KeepsLine : List (List ℕ) → LineForm → CertLine → Type 0
 KeepsLine names form line = HasForm names form line.words × (¬ IsOutOfRange names form line.words)
 
--- ---- where such a line stands next
+-- ---- where such a line is expected
 
--- arcs of so many items, fewer of them than have to stand
+-- arcs of this many items, and fewer arcs than there have to be
 pub record AreFirstArcs (items count : ℕ) (arcs : List (ℕ × ℕ)) : Type 0 where
   pub known : All (IsArcOf items) arcs
   pub fewer : length arcs < count
 
--- behind these lines of a plan: `plan` first, `chain` behind the workqueues, then as many arcs as it says, less one
+-- after these lines of a plan: `plan` first, `chain` after the workqueues, then one arc fewer than it says
 abbrev pub StandsInPlan : List (List ℕ) → Partition → List (List (List ℕ)) → LineForm → Type 0
 StandsInPlan names p before PlanLine = before ≡ []
 StandsInPlan names p before ChainLine =
@@ -106,7 +106,7 @@ StandsInPlan names p before ArcLine =
 StandsInPlan names p before RunLine = ⊥
 StandsInPlan names p before StepLine = ⊥
 
--- behind these lines of a run: `run` first, then as many steps as it says
+-- after these lines of a run: `run` first, then as many steps as it says
 abbrev pub StandsInRun : List (List ℕ) → List (List (List ℕ)) → LineForm → Type 0
 StandsInRun names before PlanLine = ⊥
 StandsInRun names before ChainLine = ⊥
@@ -124,7 +124,7 @@ pub record IsBehindArcs (names : List (List ℕ)) (before run : List (List (List
   pub few : length arcs ≤ max_count
   pub known : All (IsArcOf (length names)) arcs
 
--- behind these lines of a circle: `circle` first, then as many arcs as it says, then a run
+-- after these lines of a circle: `circle` first, then as many arcs as it says, then a run
 abbrev pub StandsInCircle : List (List ℕ) → List (List (List ℕ)) → LineForm → Type 0
 StandsInCircle names before PlanLine = ⊥
 StandsInCircle names before ChainLine = ⊥

@@ -16,7 +16,7 @@ bytes_of words = map (λ (w : WordView). w.bytes) words
 abbrev pub holds_word : LineView → Bool
 holds_word line = not (length (words_of line) == 0)
 
--- the lines that hold one; the others are skipped
+-- the lines that hold a word; the others are skipped
 abbrev pub filled : List LineView → List LineView
 filled lines = filter holds_word lines
 

@@ -12,15 +12,15 @@ name_of names i = slice_index_or names i []
 abbrev pub plan_line : ℕ → List (List ℕ)
 plan_line lanes = codes "plan" ∷ decimal lanes ∷ []
 
--- `wq Q NAME..`, of a workqueue's number and its items
+-- `wq Q NAME..`, with a workqueue's number and its items
 abbrev pub workqueue_line : List (List ℕ) → ℕ × List ℕ → List (List ℕ)
 workqueue_line names workqueue = codes "wq" ∷ decimal workqueue.0 ∷ map (name_of names) workqueue.1
 
--- that of workqueue q, with its items in declaration order
+-- the line of workqueue q, with its items in declaration order
 abbrev pub wq_line : List (List ℕ) → List ℕ → ℕ → List (List ℕ)
 wq_line names lane q = workqueue_line names (q, items_at lane q)
 
--- `chain N`: how many groups the chain has, one more than arcs, and 0 where there is no workqueue
+-- `chain N`: how many groups the chain has, one more than it has arcs, or 0 if there is no workqueue
 abbrev pub chain_line : ℕ → List (ℕ × ℕ) → List (List ℕ)
 chain_line lanes chain = codes "chain" ∷ decimal (if lanes == 0 then 0 else length chain + 1) ∷ []
 

@@ -1,4 +1,4 @@
--- Ranges: what is known of every certificate, assignment and run that is read. Items are counted by their names.
+-- Ranges: what is known about every certificate, assignment and run that is read. Items are counted by their names.
 use Rattle.std.specs.Prelude.{◌≡◌, ℕ, ◌-◌, ◌<◌, ◌≤◌, false, List, length, Some}
 use Rattle.std.specs.List.{All}
 use Rattle.wq_groups.specs.Assignment.{Assignment, IsAssignment, max_lanes}
@@ -8,40 +8,40 @@ use Rattle.wq_cert.specs.Certificate.{PlanCertificate, CircleCertificate, Certif
 use Rattle.wq_cert.specs.Reading.{names_far_lane, max_count}
 use Rattle.wq_cert.specs.RunText.{item_in}
 
--- the item and the target of an arc are two of so many items, or one of them twice
+-- the item and the target of an arc are two of this many items, or one of them twice
 abbrev pub IsArcOf : ℕ → ℕ × ℕ → Type 0
 IsArcOf items arc = (arc.0 < items) × (arc.1 < items)
 
--- a step names one of so many items, and a workqueue below 4,096 if it names one
+-- a step names one of this many items, and a workqueue below 4,096 if it names one
 abbrev pub IsStepOf : ℕ → Step → Type 0
 IsStepOf items step = (item_in step < items) × (names_far_lane step ≡ false)
 
--- an assignment of so many groups to at most 4,096 workqueues
+-- an assignment of this many groups to at most 4,096 workqueues
 pub record IsAssignmentOf (groups : ℕ) (a : Assignment) : Type 0 where
   pub assignment : IsAssignment groups a
   pub few : a.lanes ≤ max_lanes
 
--- steps of so many items, fewer than 4,294,967,295
+-- fewer than 4,294,967,295 steps, of this many items
 pub record IsRunOf (items : ℕ) (steps : List Step) : Type 0 where
   pub known : All (IsStepOf items) steps
   pub few : length steps < max_number
 
--- what the text of a plan says of so many items and groups: an assignment to at most 4,096 workqueues, a chain of at most
--- 4,096 groups, and one arc fewer, none where there is no group
+-- what the text of a plan says about this many items and groups: an assignment to at most 4,096 workqueues, a chain of at most
+-- 4,096 groups, and one arc fewer, or none if there is no group
 pub record IsPlanOf (items groups : ℕ) (c : PlanCertificate) : Type 0 where
   pub assignment : IsAssignmentOf groups c.assignment
   pub few : c.length ≤ max_count
   pub count : length c.arcs ≡ c.length - 1
   pub arcs : All (IsArcOf items) c.arcs
 
--- what the text of a circle says of so many items: from 1 to 4,096 arcs, and perhaps a run
+-- what the text of a circle says about this many items: from 1 to 4,096 arcs, and perhaps a run
 pub record IsCircleOf (items : ℕ) (c : CircleCertificate) : Type 0 where
   pub some : 0 < length c.arcs
   pub few : length c.arcs ≤ max_count
   pub arcs : All (IsArcOf items) c.arcs
   pub run : (steps : List Step) → c.steps ≡ Some steps → IsRunOf items steps
 
--- what the text of an answer says of so many items and groups
+-- what the text of an answer says about this many items and groups
 abbrev pub IsCertificateOf : ℕ → ℕ → Certificate → Type 0
 IsCertificateOf items groups (OfPlan c) = IsPlanOf items groups c
 IsCertificateOf items groups (OfCircle c) = IsCircleOf items c

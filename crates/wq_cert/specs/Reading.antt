@@ -1,6 +1,6 @@
--- Reading: what the lines of a certificate say, or the first fault, in a line by the first row of "Refusals of
--- certificates" in docs/FORMAT.md that it meets: the form (40), the numbers (43), items that are there twice (41), groups that
--- are split (42). An item that stands nowhere is a fault of no line (41), judged behind the last `wq` line.
+-- Reading: what the lines of a certificate say, or the first fault. Within a line it is the first row of "Refusals of
+-- certificates" in docs/FORMAT.md that applies: the form (40), the numbers (43), items that are there twice (41), groups that
+-- are split (42). An item that is on no workqueue is a fault at no line (41), judged after the last `wq` line.
 use Rattle.std.specs.Prelude.{ℕ, zero, suc, ◌-◌, ◌==◌, ◌||◌, not, nat_le, nat_lt, if◌then◌else◌, Bool, false, List, [], ◌∷◌, ◌++◌, length, map, slice_index, unwrap_or, Option, Some, None, Result, Ok, Err, ok_or, codes}
 use Rattle.std.specs.List.{list_any, list_all, concat, position, range_with_len}
 use Rattle.wq_items.specs.Building.{and_then}
@@ -16,20 +16,20 @@ use Rattle.wq_cert.specs.Forms.{begins_with, count_form, wq_form, arc_form, step
 
 -- ---- one thing after the other
 
--- a value that is read, and the lines behind it; or the first fault
+-- a value that is read, and the lines after it; or the first fault
 abbrev pub Read : Type 0 → Type 0
 Read V = Result (V × List CertLine) CertError
 
--- what follows a value and the lines behind it
+-- what follows a value and the lines after it
 abbrev pub and_read : {V W : Type 0} → (V → List CertLine → Result W CertError) → Read V → Result W CertError
 and_read {V} next r = and_then (λ (p : V × List CertLine). next p.0 p.1) r
 
--- the next line, read so; a text that ends before it ends too early, which is a fault of no line
+-- the next line, read in this way; a text that ends before it ends too early, which is a fault at no line
 abbrev pub next_line : {V : Type 0} → (CertLine → Result V CertError) → List CertLine → Read V
 next_line read [] = Err (BadCertLine 0)
 next_line read (line ∷ lines) = and_then (λ v. Ok (v, lines)) (read line)
 
--- so many lines, each read so
+-- this many lines, each read in this way
 abbrev pub next_lines : {V : Type 0} → (CertLine → Result V CertError) → ℕ → List CertLine → Read (List V)
 next_lines read zero lines = Ok ([], lines)
 next_lines read (suc n) lines = and_read (λ v rest. and_read (λ vs behind. Ok (v ∷ vs, behind)) (next_lines read n rest)) (next_line read lines)
@@ -64,7 +64,7 @@ names_far_lane (Wait q b) = nat_lt 4095 q
 names_far_lane (Over q b) = nat_lt 4095 q
 names_far_lane (Finish q i) = nat_lt 4095 q
 
--- the step that a line of this number says, if it says one and names no far workqueue
+-- the step that the line with this number says, if it says one and names no workqueue above 4,095
 abbrev pub step_in_range : ℕ → Option Step → Result Step CertError
 step_in_range n step = and_then (λ found. if names_far_lane found then Err (NumberOutOfRange n) else Ok found) (ok_or step (BadCertLine n))
 
@@ -74,20 +74,20 @@ step_reading names line = step_in_range line.no (step_form names line.words)
 
 -- ---- workqueues
 
--- an item stands in the list
+-- an item is in the list
 abbrev pub stands_in : List ℕ → ℕ → Bool
 stands_in items i = list_any (λ j. i == j) items
 
--- an item of the list stands in it twice, or in the other one
+-- an item of the list is in it twice, or is in the other one
 abbrev pub has_stood : List ℕ → List ℕ → Bool
 has_stood before [] = false
 has_stood before (i ∷ items) = stands_in before i || has_stood (before ++ (i ∷ [])) items
 
--- an item of the list is of group g
+-- an item of the list is in group g
 abbrev pub holds_member : List ℕ → List ℕ → ℕ → Bool
 holds_member group_of items g = list_any (λ i. slice_index group_of i == g) items
 
--- an item of the list shares its group with one of the other list, judged where no item of it stands there
+-- an item of the list shares its group with one of the other list; judged only if the two have no item in common
 abbrev pub splits_group : List ℕ → List ℕ → List ℕ → Bool
 splits_group group_of before items = list_any (λ i. holds_member group_of before (slice_index group_of i)) items
 
@@ -97,23 +97,23 @@ wq_items names place line =
     and_then (λ (p : ℕ × List ℕ). if not (p.0 == place) || nat_le max_lanes place then Err (NumberOutOfRange line.no) else Ok p.1)
     (ok_or (wq_form names line.words) (BadCertLine line.no))
 
--- the items on line n, where these are on the lines before it: none of them twice, nor with a group that is there
+-- the items on line n, where these are on the lines before it: none of them is there twice or in a group that is there
 abbrev pub fresh_items : List ℕ → List ℕ → ℕ → List ℕ → Result (List ℕ) CertError
 fresh_items group_of before n items =
     if has_stood before items then Err (NotAllItems n) else (if splits_group group_of before items then Err (GroupSplit n) else Ok items)
 
--- the items on the next workqueue, where these are those on the workqueues before it: of a line its form is judged, then
--- its number, which is that of its place and below 4,096, then items that stand again, then groups that are split
+-- the items on the next workqueue, where these are those on the workqueues before it. The form of a line is judged first,
+-- then its number, which is that of its place and below 4,096, then items that are there again, then groups that are split
 abbrev pub wq_reading : List (List ℕ) → List ℕ → List (List ℕ) → CertLine → Result (List ℕ) CertError
 wq_reading names group_of workqueues line = and_then (λ items. fresh_items group_of (concat workqueues) line.no items) (wq_items names (length workqueues) line)
 
--- so many workqueues behind these
+-- this many workqueues after these
 abbrev pub next_workqueues : List (List ℕ) → List ℕ → ℕ → List (List ℕ) → List CertLine → Read (List (List ℕ))
 next_workqueues names group_of zero workqueues lines = Ok (workqueues, lines)
 next_workqueues names group_of (suc n) workqueues lines =
     and_read (λ items rest. next_workqueues names group_of n (workqueues ++ (items ∷ [])) rest) (next_line (wq_reading names group_of workqueues) lines)
 
--- all workqueues behind these: they end before the first line with another first word
+-- all workqueues after these: they end before the first line with another first word
 abbrev pub all_workqueues : List (List ℕ) → List ℕ → List (List ℕ) → List CertLine → Read (List (List ℕ))
 all_workqueues names group_of workqueues [] = Ok (workqueues, [])
 all_workqueues names group_of workqueues (line ∷ lines) =
@@ -121,7 +121,7 @@ all_workqueues names group_of workqueues (line ∷ lines) =
     then and_then (λ items. all_workqueues names group_of (workqueues ++ (items ∷ [])) lines) (wq_reading names group_of workqueues line)
     else Ok (workqueues, line ∷ lines)
 
--- each of so many items is on a workqueue
+-- each of this many items is on a workqueue
 abbrev pub hold_all : ℕ → List (List ℕ) → Bool
 hold_all items workqueues = list_all (stands_in (concat workqueues)) (range_with_len 0 items)
 
@@ -133,23 +133,23 @@ workqueue_with group_of workqueues g = position (λ items. holds_member group_of
 abbrev pub workqueue_of_group : List ℕ → List (List ℕ) → ℕ → ℕ
 workqueue_of_group group_of workqueues g = unwrap_or (workqueue_with group_of workqueues g) 0
 
--- the assignment that the workqueues are
+-- the workqueues as an assignment
 abbrev pub assignment_of : Partition → List (List ℕ) → Assignment
 assignment_of p workqueues = record { lanes = length workqueues; lane_of_group = map (workqueue_of_group p.group_of workqueues) (range_with_len 0 p.groups) }
 
--- the assignment, where each item is on a workqueue: one that is on none is a fault of no line
+-- the assignment, if each item is on a workqueue; one that is on none is a fault at no line
 abbrev pub whole_assignment : Partition → List (List ℕ) → Result Assignment CertError
 whole_assignment p workqueues = if hold_all (length p.group_of) workqueues then Ok (assignment_of p workqueues) else Err (NotAllItems 0)
 
 -- ---- texts
 
--- `chain N`, and N - 1 arcs, none where N is 0: N and the arcs
+-- `chain N`, and N - 1 arcs, or none if N is 0: N and the arcs
 abbrev pub chain_reading : List (List ℕ) → List CertLine → Result (ℕ × List (ℕ × ℕ)) CertError
 chain_reading names lines =
     and_read (λ n behind_chain. and_read (λ arcs rest. at_end (n, arcs) rest) (next_lines (arc_reading names) (n - 1) behind_chain))
     (next_line (count_reading (codes "chain")) lines)
 
--- so many workqueues as an assignment
+-- this many workqueues as an assignment
 abbrev pub counted_assignment : List (List ℕ) → Partition → ℕ → List CertLine → Read Assignment
 counted_assignment names p lanes lines =
     and_read (λ workqueues rest. and_then (λ assignment. Ok (assignment, rest)) (whole_assignment p workqueues)) (next_workqueues names p.group_of lanes [] lines)
@@ -172,7 +172,7 @@ run_reading names lines =
     (next_lines (step_reading names) m behind_run))
     (next_line (λ line. ok_or (count_form (codes "run") line.words) (BadCertLine line.no)) lines)
 
--- the run behind a circle, if there is one
+-- the run after a circle, if there is one
 abbrev pub run_behind : List (List ℕ) → List CertLine → Result (Option (List Step)) CertError
 run_behind names [] = Ok None
 run_behind names (line ∷ lines) = and_then (λ steps. Ok (Some steps)) (run_reading names (line ∷ lines))
@@ -196,18 +196,18 @@ answer_reading names p (line ∷ lines) =
     if begins_with (codes "circle") line.words then and_then (λ circle. Ok (OfCircle circle)) (circle_reading names (line ∷ lines))
     else and_then (λ plan. Ok (OfPlan plan)) (plan_reading names p (line ∷ lines))
 
--- an assignment by `wq` lines alone
+-- an assignment by only `wq` lines
 abbrev pub workqueues_reading : List (List ℕ) → Partition → List CertLine → Result Assignment CertError
 workqueues_reading names p lines =
     and_read (λ workqueues rest. and_then (λ assignment. at_end assignment rest) (whole_assignment p workqueues))
     (all_workqueues names p.group_of [] lines)
 
--- whether the first word of all is `plan`
+-- whether the very first word is `plan`
 abbrev pub begins_plan : List CertLine → Bool
 begins_plan [] = false
 begins_plan (line ∷ lines) = begins_with (codes "plan") line.words
 
--- an assignment: a whole plan text where the first word is `plan`, else `wq` lines
+-- an assignment: a whole plan text if the first word is `plan`, else `wq` lines
 abbrev pub assignment_reading : List (List ℕ) → Partition → List CertLine → Result Assignment CertError
 assignment_reading names p lines =
     if begins_plan lines then and_then (λ (plan : PlanCertificate). Ok plan.assignment) (plan_reading names p lines)

@@ -1,4 +1,4 @@
--- Spelled: which lines are read, said without a reader: their words are those of the forms, one behind the other.
+-- Spelled: which lines are read, said without a reader: their words are those of the forms, one after the other.
 use Rattle.std.specs.Prelude.{◌≡◌, ◌≢◌, ℕ, ◌-◌, ◌^◌, ◌<◌, ◌≤◌, List, [], ◌∷◌, ◌++◌, ◌⊎◌, length, map, filter, slice_index_or, Contains, AllPairs, codes, decimal, Option, Some, None}
 use Rattle.std.specs.List.{All, concat, enumerate_from}
 use Rattle.wq_text.specs.Lines.{LineView, lines_of}
@@ -25,11 +25,11 @@ words_in lines = map (λ (line : CertLine). line.words) lines
 abbrev pub IsOnWorkqueue : List (List ℕ) → ℕ → ℕ → Type 0
 IsOnWorkqueue workqueues q i = Contains (slice_index_or workqueues q []) i
 
--- two items of one group are on one workqueue
+-- two items of the same group are on the same workqueue
 abbrev pub GroupsAreWhole : List ℕ → List (List ℕ) → Type 0
 GroupsAreWhole group_of qs = (q r i j : ℕ) → IsOnWorkqueue qs q i → IsOnWorkqueue qs r j → ShareGroup group_of i j → q ≡ r
 
--- at most 4,096 workqueues with these items, each on one of them and only once, and each group on one workqueue
+-- at most 4,096 workqueues with this many items, each item on one of them and only once, and each group on one workqueue
 pub record AreWorkqueues (items : ℕ) (group_of : List ℕ) (workqueues : List (List ℕ)) : Type 0 where
   pub few : length workqueues ≤ max_lanes
   pub known : All (λ i. i < items) (concat workqueues)
@@ -43,7 +43,7 @@ workqueue_lines names workqueues = map (workqueue_line names) (enumerate_from 0 
 
 -- ---- lines
 
--- an assignment by `wq` lines alone
+-- an assignment by only `wq` lines
 pub record SpellsWorkqueues (names : List (List ℕ)) (p : Partition) (lines : List (List (List ℕ))) (a : Assignment) : Type 0 where
   pub workqueues : List (List ℕ)
   pub words : lines ≡ workqueue_lines names workqueues
@@ -75,7 +75,7 @@ abbrev pub SpellsRunBehind : List (List ℕ) → List (List (List ℕ)) → Opti
 SpellsRunBehind names lines None = lines ≡ []
 SpellsRunBehind names lines (Some steps) = SpellsRun names lines steps
 
--- a circle: `circle N` and the arcs, and perhaps a run behind them
+-- a circle: `circle N` and the arcs, and perhaps a run after them
 pub record SpellsCircle (names : List (List ℕ)) (lines : List (List (List ℕ))) (c : CircleCertificate) : Type 0 where
   pub behind : List (List (List ℕ))
   pub words : lines ≡ circle_line c.arcs ∷ (map (arc_line names) c.arcs ++ behind)
@@ -89,17 +89,17 @@ abbrev pub SpellsCertificate : List (List ℕ) → Partition → List (List (Lis
 SpellsCertificate names p lines (OfPlan c) = SpellsPlan names p lines c
 SpellsCertificate names p lines (OfCircle c) = SpellsCircle names lines c
 
--- an assignment: `wq` lines alone, or a plan
+-- an assignment: only `wq` lines, or a plan
 abbrev pub SpellsAssignment : List (List ℕ) → Partition → List (List (List ℕ)) → Assignment → Type 0
 SpellsAssignment names p lines a = SpellsWorkqueues names p lines a ⊎ ((c : PlanCertificate) × SpellsPlan names p lines c × (c.assignment ≡ a))
 
 -- ---- texts
 
--- neither the text nor a line of it is too long
+-- neither the text nor any line of it is too long
 pub record KeepsLimits (text : List ℕ) : Type 0 where
   pub text_fits : length text ≤ max_certificate
   pub lines_fit : All (λ (line : LineView). length line.bytes ≤ max_certificate_line) (lines_of text)
 
--- the words of each line that holds one
+-- the words of each line that holds a word
 abbrev pub words_of_text : List ℕ → List (List (List ℕ))
 words_of_text text = map (λ (line : LineView). bytes_of (words_of line)) (filter holds_word (lines_of text))

@@ -22,17 +22,17 @@ max_certificate = 8388608
 abbrev pub max_certificate_line : ℕ
 max_certificate_line = 524288
 
--- the fault of a text or a line above its limit is one of form: of no line, or of the first that is too long
+-- the fault of a text or a line above its limit is one of form: at no line, or at the first that is too long
 abbrev pub unless_too_long : {V : Type 0} → Option TextError → Result V CertError → Result V CertError
 unless_too_long None rest = rest
 unless_too_long (Some TextTooLong) rest = Err (BadCertLine 0)
 unless_too_long (Some (LineTooLong line)) rest = Err (BadCertLine line)
 
--- the limits are judged before all else, for lines without words too
+-- the limits are judged before all else, even for lines without words
 abbrev pub text_reading : {V : Type 0} → (List CertLine → Result V CertError) → List ℕ → Result V CertError
 text_reading read text = unless_too_long (limit_fault max_certificate max_certificate_line text) (read (cert_lines (lines_of text)))
 
--- what the text of an answer says, for items of these names in these groups
+-- what the text of an answer says, for items with these names in these groups
 abbrev pub answer_of : List (List ℕ) → Partition → List ℕ → Result Certificate CertError
 answer_of names p text = text_reading (answer_reading names p) text
 
@@ -46,7 +46,7 @@ run_of names text = text_reading (run_reading names) text
 
 -- ---- faults
 
--- what a call answers in place of a value: that memory ran out, or else the first fault
+-- what a call answers instead of a value: that memory ran out, or else the first fault
 abbrev pub IsCertFaultOf : {V : Type 0} → CertError → Result V CertError → Type 0
 IsCertFaultOf (BadCertLine line) r = r ≡ Err (BadCertLine line)
 IsCertFaultOf (NotAllItems line) r = r ≡ Err (NotAllItems line)
@@ -54,7 +54,7 @@ IsCertFaultOf (GroupSplit line) r = r ≡ Err (GroupSplit line)
 IsCertFaultOf (NumberOutOfRange line) r = r ≡ Err (NumberOutOfRange line)
 IsCertFaultOf OutOfMemory r = Unit {0}
 
--- 40, 41, 42 or 43 with the line, or 0 where no line is meant; 20 without one
+-- code 40, 41, 42 or 43 with the line, or with 0 if no line is meant; 20 without one
 abbrev pub cert_refusal : CertError → Refusal
 cert_refusal (BadCertLine line) = record { code = 40; line = line }
 cert_refusal (NotAllItems line) = record { code = 41; line = line }

@@ -10,7 +10,7 @@ use Rattle.wq_cert.specs.Lines.{CertLine}
 use Rattle.wq_cert.specs.PlanText.{workqueue_line}
 use Rattle.wq_cert.specs.Spelled.{GroupsAreWhole}
 
--- at most 4,096 workqueues with items of so many, none of which is there twice, and no group of which is split
+-- at most 4,096 workqueues with some of this many items; no item is there twice, and no group is split
 pub record AreFirstWorkqueues (items : ℕ) (group_of : List ℕ) (workqueues : List (List ℕ)) : Type 0 where
   pub few : length workqueues ≤ max_lanes
   pub known : All (λ i. i < items) (concat workqueues)
@@ -28,15 +28,15 @@ pub record SpellsNextWorkqueue (names words : List (List ℕ)) (workqueues : Lis
   pub says : SpellsWorkqueue names words (length workqueues, items)
   pub room : length workqueues < max_lanes
 
--- the items are there once, with those before them
+-- each item is there once, counting those before them
 abbrev pub StandOnce : List (List ℕ) → List ℕ → Type 0
 StandOnce workqueues items = AllPairs (λ (i j : ℕ). i ≢ j) (concat workqueues ++ items)
 
--- with these items as the next workqueue no group is split
+-- with these items as the next workqueue, no group is split
 abbrev pub SplitNoGroup : List ℕ → List (List ℕ) → List ℕ → Type 0
 SplitNoGroup group_of workqueues items = GroupsAreWhole group_of (workqueues ++ (items ∷ []))
 
--- the row of this fault is the first that the line behind these workqueues breaks
+-- the row of this fault is the first that the line after these workqueues breaks
 abbrev pub BreaksRow : List (List ℕ) → List ℕ → List (List ℕ) → CertLine → CertError → Type 0
 BreaksRow names group_of workqueues line (BadCertLine n) = (n ≡ line.no) × ((workqueue : ℕ × List ℕ) → ¬ SpellsWorkqueue names line.words workqueue)
 BreaksRow names group_of workqueues line (NumberOutOfRange n) =
@@ -47,13 +47,13 @@ BreaksRow names group_of workqueues line (GroupSplit n) =
     (n ≡ line.no) × (items : List ℕ) × SpellsNextWorkqueue names line.words workqueues items × StandOnce workqueues items × (¬ SplitNoGroup group_of workqueues items)
 BreaksRow names group_of workqueues line OutOfMemory = ⊥
 
--- ---- behind the workqueues
+-- ---- after the workqueues
 
 -- the first of the lines is one of a workqueue
 abbrev pub begins_workqueue : List CertLine → Bool
 begins_workqueue [] = false
 begins_workqueue (line ∷ lines) = begins_with (codes "wq") line.words
 
--- each of so many items is on a workqueue
+-- each of this many items is on a workqueue
 abbrev pub AllStand : ℕ → List (List ℕ) → Type 0
 AllStand items workqueues = (i : ℕ) → i < items → Contains (concat workqueues) i

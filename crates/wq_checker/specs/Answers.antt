@@ -18,15 +18,15 @@ use Rattle.wq_checker.specs.Falling.{AllFall, IsFirstNotFalling}
 
 -- ---- plans
 
--- a chain of one group is said to be there, and there is no group
+-- the chain is said to have one group, but there is no group
 abbrev pub LacksGroup : Declaration → PlanCertificate → Type 0
 LacksGroup d c = (c.length ≡ 1) × (d.groups ≡ 0)
 
--- the chain ends at arc `at`, counted from 1, or at 0 where it lacks its one group
+-- the chain breaks at arc `at`, counted from 1, or at 0 if it lacks its one group
 abbrev pub IsChainBrokenAt : Declaration → PlanCertificate → ℕ → Type 0
 IsChainBrokenAt d c at = (LacksGroup d c × (at ≡ 0)) ⊎ IsFirstBreak d (before_in_chain c.arcs) c.arcs at
 
--- each flush falls, and the chain is one of as many groups as there are workqueues
+-- each flush falls, and the chain has as many groups as there are workqueues
 pub record IsGoodPlan (d : Declaration) (c : PlanCertificate) : Type 0 where
   pub falls : AllFall d c.assignment
   pub long : c.length ≡ c.assignment.lanes
@@ -50,7 +50,7 @@ abbrev pub ShowsDeadlock : Declaration → Option (List Step) → Type 0
 ShowsDeadlock d None = Unit {0}
 ShowsDeadlock d (Some steps) = DeadlocksBy (wiring d (own_lanes d.groups)) steps
 
--- the arcs go round, and the run deadlocks
+-- the arcs make a circle, and the run deadlocks
 pub record IsGoodCircle (d : Declaration) (c : CircleCertificate) : Type 0 where
   pub joined : AllJoin d (before_in_circle c.arcs) c.arcs
   pub deadlocks : ShowsDeadlock d c.steps
@@ -70,31 +70,31 @@ abbrev pub AnswersCertificate : Declaration → Certificate → Result Yes No �
 AnswersCertificate d (OfPlan c) answer = AnswersPlan d c answer
 AnswersCertificate d (OfCircle c) answer = AnswersCircle d c answer
 
--- a run has to be made for the answer: the arcs of a circle go round, and steps stand behind them
+-- a run has to be made for the answer: the arcs make a circle, and steps follow them
 abbrev pub NeedsRun : Declaration → Certificate → Type 0
 NeedsRun d (OfPlan c) = ⊥
 NeedsRun d (OfCircle c) = AllJoin d (before_in_circle c.arcs) c.arcs × IsSome c.steps
 
 -- ---- certificates that can be asked about
 
--- each arc is of items that exist
+-- each arc is between items that exist
 abbrev pub ArcsOfItems : Declaration → List (ℕ × ℕ) → Type 0
 ArcsOfItems d arcs = All (λ (arc : ℕ × ℕ). (arc.0 < length d.waits) × (arc.1 < length d.waits)) arcs
 
--- one lane for each group, and one arc fewer than there are groups in the chain, none where there is none
+-- one lane for each group, and one arc fewer than there are groups in the chain, or none if it has no group
 pub record IsPlanAsked (d : Declaration) (c : PlanCertificate) : Type 0 where
   pub assignment : IsAssignment d.groups c.assignment
   pub arcs : ArcsOfItems d c.arcs
   pub count : length c.arcs ≡ c.length - 1
 
--- one arc at least, and fewer steps than there are numbers
+-- at least one arc, and fewer steps than there are numbers
 pub record IsCircleAsked (d : Declaration) (c : CircleCertificate) : Type 0 where
   pub arcs : ArcsOfItems d c.arcs
   pub some : 0 < length c.arcs
   pub few : length c.arcs ≤ max_count
   pub few_steps : (steps : List Step) → c.steps ≡ Some steps → length steps < max_number
 
--- what is known of every certificate that is read
+-- what is known about every certificate that is read
 abbrev pub IsAsked : Declaration → Certificate → Type 0
 IsAsked d (OfPlan c) = IsPlanAsked d c
 IsAsked d (OfCircle c) = IsCircleAsked d c

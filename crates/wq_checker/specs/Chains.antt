@@ -1,4 +1,4 @@
--- Chains and circles of arcs, where an arc is an item and the target of its flush: they join by group.
+-- Chains and circles of arcs. An arc is an item and the target of its flush; arcs join by group.
 use Rattle.std.specs.Prelude.{◌≡◌, ℕ, ◌+◌, ◌-◌, ◌<◌, ◌==◌, if◌then◌else◌, List, ◌∷◌, length, map, slice_index, slice_get, Option, Some, None}
 use Rattle.std.specs.List.{All}
 use Rattle.wq_items.specs.Chain.{IsChain, Circle}
@@ -11,15 +11,15 @@ abbrev pub Joins : Declaration → Option (ℕ × ℕ) → ℕ × ℕ → Type 0
 Joins d None arc = ItemWaits d.waits arc.0 arc.1
 Joins d (Some before) arc = ItemWaits d.waits arc.0 arc.1 × ShareGroup d.group_of before.1 arc.0
 
--- what stands before the arc at place k, where this stands before the first
+-- what comes before the arc at place k, where this comes before the first
 abbrev pub before_from : Option (ℕ × ℕ) → List (ℕ × ℕ) → ℕ → Option (ℕ × ℕ)
 before_from first arcs k = if k == 0 then first else slice_get arcs (k - 1)
 
--- in a chain: nothing before the first
+-- in a chain: nothing comes before the first
 abbrev pub before_in_chain : List (ℕ × ℕ) → ℕ → Option (ℕ × ℕ)
 before_in_chain arcs = before_from None arcs
 
--- in a circle: the last before the first
+-- in a circle: the last comes before the first
 abbrev pub before_in_circle : List (ℕ × ℕ) → ℕ → Option (ℕ × ℕ)
 before_in_circle arcs = before_from (slice_get arcs (length arcs - 1)) arcs
 
@@ -27,7 +27,7 @@ before_in_circle arcs = before_from (slice_get arcs (length arcs - 1)) arcs
 abbrev pub AllJoin : Declaration → (ℕ → Option (ℕ × ℕ)) → List (ℕ × ℕ) → Type 0
 AllJoin d before arcs = (k : ℕ) (arc : ℕ × ℕ) → slice_get arcs k ≡ Some arc → Joins d (before k) arc
 
--- arc `at`, counted from 1, is the first that doesn't
+-- arc `at`, counted from 1, is the first that doesn't join the one before it
 pub record IsFirstBreak (d : Declaration) (before : ℕ → Option (ℕ × ℕ)) (arcs : List (ℕ × ℕ)) (at : ℕ) : Type 0 where
   pub from_one : 0 < at
   pub arc : ℕ × ℕ
@@ -35,11 +35,10 @@ pub record IsFirstBreak (d : Declaration) (before : ℕ → Option (ℕ × ℕ))
   pub breaks : ¬ Joins d (before (at - 1)) arc
   pub first : (k : ℕ) (other : ℕ × ℕ) → k < at - 1 → slice_get arcs k ≡ Some other → Joins d (before k) other
 
--- ---- in words of groups
+-- ---- in terms of groups
 
--- these groups are a chain along the arcs: each waits for the next; there is one arc fewer than there are groups, none where
--- there is no group; and each arc is a declared flush from its group to the next, its item in the one and its target in the
--- other
+-- these groups are a chain along the arcs: each waits for the next; there is one arc fewer than there are groups, or none if
+-- there is no group; and each arc is a declared flush, with its item in its group and its target in the next group
 pub record IsChainAlong (d : Declaration) (arcs : List (ℕ × ℕ)) (groups : List ℕ) : Type 0 where
   pub chain : IsChain (GroupWaits d) groups
   pub within : All (λ g. g < d.groups) groups
@@ -51,8 +50,8 @@ pub record IsChainAlong (d : Declaration) (arcs : List (ℕ × ℕ)) (groups : L
 abbrev pub heads : Declaration → List (ℕ × ℕ) → List ℕ
 heads d arcs = map (λ (arc : ℕ × ℕ). slice_index d.group_of arc.1) arcs
 
--- groups wait for each other in a circle along the arcs: each arc is a declared flush, whose item is in the group where the one
--- before it leads; and the groups where they lead, one for each arc, wait each for the next, and the last for the first
+-- groups wait for each other in a circle along the arcs: each arc is a declared flush, whose item is in the group that the arc
+-- before it leads to; and of the groups that they lead to, one for each arc, each waits for the next, and the last for the first
 pub record IsCircleAlong (d : Declaration) (arcs : List (ℕ × ℕ)) : Type 0 where
   pub joined : AllJoin d (before_in_circle arcs) arcs
   pub circle : Circle (GroupWaits d)

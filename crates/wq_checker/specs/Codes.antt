@@ -3,7 +3,7 @@ use Rattle.std.specs.Prelude.{ℕ}
 use Rattle.wq_checker.specs.declared.answer.No.{No}
 use Rattle.wq_checker.specs.declared.answer.No.TheVariants.{NotFalling, LengthDiffers, ChainBroken, CircleBroken, RunBroken}
 
--- from 50 to 54
+-- a number from 50 to 54
 abbrev pub no_code : No → ℕ
 no_code (NotFalling item target) = 50
 no_code (ChainBroken at) = 51

@@ -5,7 +5,7 @@ use Rattle.wq_items.specs.Table.{ItemWaits, targets_of}
 use Rattle.wq_groups.specs.Declaration.{Declaration}
 use Rattle.wq_groups.specs.Assignment.{Assignment, item_lane}
 
--- the workqueue of item i is above that of item j
+-- the workqueue of item i has a higher number than that of item j
 abbrev pub Falls : Declaration → Assignment → ℕ → ℕ → Type 0
 Falls d a i j = item_lane a d.group_of j < item_lane a d.group_of i
 
@@ -17,7 +17,7 @@ AllFall d a = (i j : ℕ) → ItemWaits d.waits i j → Falls d a i j
 abbrev pub Declares : Declaration → ℕ → Target → Type 0
 Declares d i target = Contains (targets_of d.waits i) target
 
--- of the declared flushes that don't fall, the one of least place is of item i, and its target is item j
+-- of the declared flushes that don't fall, the one at the lowest place is by item i, and its target is item j
 pub record IsFirstNotFalling (d : Declaration) (a : Assignment) (i j : ℕ) : Type 0 where
   pub target : Target
   pub declares : Declares d i target

@@ -17,7 +17,7 @@ pub record IsFirstOf (d : Declaration) (a : Assignment) (Of : ℕ → Target →
   pub stays : ¬ Falls d a flush.item flush.target.item
   pub first : (k : ℕ) (other : Target) → Of k other → other.place < flush.target.place → Falls d a k other.item
 
--- it is found where there is one, and else each falls
+-- it is found if there is one; otherwise each falls
 abbrev pub FindsFirst : Declaration → Assignment → (ℕ → Target → Type 0) → Option DeclaredFlush → Type 0
 FindsFirst d a Of None = (k : ℕ) (target : Target) → Of k target → Falls d a k target.item
 FindsFirst d a Of (Some flush) = IsFirstOf d a Of flush
@@ -30,13 +30,13 @@ OfItem d i k target = (k ≡ i) × Declares d k target
 abbrev pub OfItemsBelow : Declaration → ℕ → ℕ → Target → Type 0
 OfItemsBelow d n k target = (k < n) × Declares d k target
 
--- the one of lower place, where there are two
+-- the one at the lower place, if there are two
 abbrev pub earlier : Option DeclaredFlush → Option DeclaredFlush → Option DeclaredFlush
 earlier None other = other
 earlier (Some one) None = Some one
 earlier (Some one) (Some other) = if nat_lt other.target.place one.target.place then Some other else Some one
 
--- the steps are a run, which leaves this machine; `in_order` says whether what ran flushed as declared
+-- the steps are a run, which ends in this machine; `in_order` says whether what ran flushed as declared
 pub record IsPlayed (w : Wiring) (steps : List Step) (in_order : Bool) (m : Machine) : Type 0 where
   pub run : IsRun w steps
   pub wiring : m.wiring ≡ w

@@ -1,4 +1,4 @@
--- A run of `circles`: a declaration, and an assignment where one is named, are taken from readers, and answered.
+-- A run of `circles`: a declaration, and an assignment if one is named, are taken from readers, and answered.
 use Rattle.std.specs.Prelude.{ℕ, List, Option}
 use Rattle.wq_meter.specs.Meter.{Meter}
 use Rattle.wq_meter.specs.Input.{Gives}
@@ -27,7 +27,7 @@ pub record KeepsCirclesOfInput {D S : Type 0} (known : D → Option (List ℕ)) 
   pub answered : CirclesInput known assigned old new a_old a_new end out
   pub promise : KeepsCircles answered.text answered.lanes end out
 
--- the same of what one reader had
+-- the same for what one reader had
 pub record KeepsOwnCirclesOfInput {D : Type 0} (known : D → Option (List ℕ)) (old new : Meter D) (end : End) (out : List ℕ) : Type 0 where
   pub answered : OwnCirclesInput known old new end out
   pub promise : KeepsOwnCircles answered.text end out

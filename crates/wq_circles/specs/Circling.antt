@@ -1,4 +1,4 @@
--- The answer to a declaration and an assignment: the flushes that lie on a circle.
+-- The answer to a declaration and an assignment: the flushes that are on a circle.
 use Rattle.std.specs.Prelude.{◌≡◌, ◌≢◌, ℕ, List, [], MatchResult}
 use Rattle.wq_groups.specs.Assignment.{Assignment}
 use Rattle.wq_graph.specs.declared.arc.WaitArc.{WaitArc}
@@ -12,14 +12,14 @@ use Rattle.wq_commands.specs.Declaration.{Declared, declaration}
 use Rattle.wq_circles.specs.Components.{AreComponents}
 use Rattle.wq_circles.specs.ComponentsText.{components_text}
 
--- these are the components of an assignment, one at least, and they are printed
+-- these are the components of an assignment, at least one, and they are printed
 pub record PrintsComponents (s : Declared) (a : Assignment) (out : List ℕ) : Type 0 where
   pub components : List (List WaitArc)
   pub some : components ≢ []
   pub are : AreComponents (declared_waits s) a components
   pub text : out ≡ components_text s.table.names components
 
--- the components of an assignment of a declaration's groups are printed, or `safe` where there is none
+-- the components of an assignment of a declaration's groups are printed, or `safe` if there are none
 abbrev pub CirclesAssigned : Declared → Assignment → End → List ℕ → Type 0
 CirclesAssigned s a Good out = AreComponents (declared_waits s) a [] × (out ≡ safe_text)
 CirclesAssigned s a Bad out = PrintsComponents s a out
@@ -34,7 +34,7 @@ CirclesDeclared s text end out =
 abbrev pub Circles : List ℕ → List ℕ → End → List ℕ → Type 0
 Circles declared text end out = MatchResult (declaration declared) (λ s. CirclesDeclared s text end out) (λ r. IsRefused r end out)
 
--- the answer to the text of a declaration alone: each group has a workqueue of its own, with its number
+-- the answer to only the text of a declaration: each group has its own workqueue, with the group's number
 abbrev pub OwnCircles : List ℕ → End → List ℕ → Type 0
 OwnCircles declared end out =
     MatchResult (declaration declared) (λ s. CirclesAssigned s (own_lanes s.partition.groups) end out) (λ r. IsRefused r end out)

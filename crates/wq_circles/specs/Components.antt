@@ -1,4 +1,4 @@
--- Components: the flushes that lie on a circle, put together by the workqueues that lead to one another.
+-- Components: the flushes that are on a circle, put together by the workqueues that lead to one another.
 use Rattle.std.specs.Prelude.{◌≡◌, ℕ, ◌==◌, not, List, length, map, filter, slice_index}
 use Rattle.std.specs.List.{range_with_len}
 use Rattle.wq_groups.specs.Declaration.{Declaration}
@@ -7,8 +7,8 @@ use Rattle.wq_graph.specs.declared.arc.WaitArc.{WaitArc}
 use Rattle.wq_graph.specs.Graph.{HasArc, arcs_at, lane_graph}
 use Rattle.wq_components.specs.Leading.{AreLowest}
 
--- the assignment in which those workqueues are joined that lead to one another: each group is on the lowest-numbered workqueue
--- that is together with its own, which `lowest` has of each workqueue in turn. There are as many workqueues as before
+-- the assignment in which workqueues that lead to one another are joined: each group is on the lowest-numbered workqueue that
+-- is together with its own. `lowest` has this workqueue for each workqueue in turn. The number of workqueues stays the same
 abbrev pub joined : Assignment → List ℕ → Assignment
 joined a lowest = record { lanes = a.lanes; lane_of_group = map (slice_index lowest) a.lane_of_group }
 
@@ -16,12 +16,12 @@ joined a lowest = record { lanes = a.lanes; lane_of_group = map (slice_index low
 abbrev pub loops_at : List (List WaitArc) → ℕ → List WaitArc
 loops_at graph v = filter (λ (a : WaitArc). a.head == v) (arcs_at graph v)
 
--- of each vertex in turn its loops, and nothing of a vertex without one
+-- the loops of each vertex in turn, without the vertices that have none
 abbrev pub loops : List (List WaitArc) → List (List WaitArc)
 loops graph = filter (λ (arcs : List WaitArc). not (length arcs == 0)) (map (loops_at graph) (range_with_len 0 (length graph)))
 
--- of each component its arcs: an arc lies on a circle exactly where its two workqueues are joined. So the components come in the
--- order of their lowest-numbered workqueues, and the arcs of each in order of place
+-- the arcs of each component: an arc is on a circle exactly if its two workqueues are joined. So the components are in the
+-- order of their lowest-numbered workqueues, and the arcs of each are in order of place
 pub record AreComponents (d : Declaration) (a : Assignment) (components : List (List WaitArc)) : Type 0 where
   pub lowest : List ℕ
   pub are_lowest : AreLowest (HasArc (lane_graph d a)) a.lanes lowest

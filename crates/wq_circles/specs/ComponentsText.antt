@@ -1,4 +1,4 @@
--- Components texts: how many components there are, and of each its arcs.
+-- Components texts: how many components there are, and the arcs of each.
 use Rattle.std.specs.Prelude.{ℕ, ◌<◌, ◌^◌, List, [], ◌∷◌, length, map, flat_map, codes, decimal}
 use Rattle.std.specs.List.{All}
 use Rattle.wq_graph.specs.declared.arc.WaitArc.{WaitArc}
@@ -14,11 +14,11 @@ components_line components = codes "components" ∷ decimal components ∷ []
 abbrev pub component_line : ℕ → List (List ℕ)
 component_line arcs = codes "component" ∷ decimal arcs ∷ []
 
--- the lines of a component, as words: `component`, and an `arc` line for each arc
+-- the lines of a component, as words: `component M`, and an `arc` line for each arc
 abbrev pub component_lines : List (List ℕ) → List WaitArc → List (List (List ℕ))
 component_lines names arcs = component_line (length arcs) ∷ map (λ (a : WaitArc). arc_line names (ends_of a)) arcs
 
--- the lines of a components text, as words: `components`, and the lines of each component
+-- the lines of a components text, as words: `components N`, and the lines of each component
 abbrev pub components_lines : List (List ℕ) → List (List WaitArc) → List (List (List ℕ))
 components_lines names components = components_line (length components) ∷ flat_map (component_lines names) components
 
@@ -26,6 +26,6 @@ components_lines names components = components_line (length components) ∷ flat
 abbrev pub components_text : List (List ℕ) → List (List WaitArc) → List ℕ
 components_text names components = flat_map line_text (components_lines names components)
 
--- fewer arcs than 4,294,967,296, each from one of so many items to one of them
+-- fewer than 4,294,967,296 arcs, each from one of this many items to one of them
 abbrev pub AreBetween : ℕ → List WaitArc → Type 0
 AreBetween items arcs = (length arcs < 2 ^ 32) × All (λ (a : WaitArc). (a.src < items) × (a.dst < items)) arcs

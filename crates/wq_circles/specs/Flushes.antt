@@ -1,4 +1,4 @@
--- Flushes in components, whatever vertex their arcs lead to.
+-- Flushes in components, whichever vertices their arcs lead to.
 use Rattle.std.specs.Prelude.{◌≡◌, ℕ, ◌<◌, List, Contains}
 use Rattle.std.specs.List.{Any}
 use Rattle.wq_items.specs.declared.target.Target.{Target}
@@ -6,7 +6,7 @@ use Rattle.wq_items.specs.Table.{targets_of}
 use Rattle.wq_graph.specs.declared.arc.WaitArc.{WaitArc}
 use Rattle.wq_components.specs.Leading.{IsLowest}
 
--- two arcs are of one flush
+-- two arcs are of the same flush
 abbrev pub IsSameFlush : WaitArc → WaitArc → Type 0
 IsSameFlush a b = (a.src ≡ b.src) × (a.dst ≡ b.dst) × (a.place ≡ b.place)
 
@@ -26,8 +26,8 @@ AreInOneComponent components b c = Any (λ (arcs : List WaitArc). HasFlush b arc
 abbrev pub IsDeclaredFlush : List (List Target) → WaitArc → Type 0
 IsDeclaredFlush waits b = Any (λ (t : Target). (t.item ≡ b.dst) × (t.place ≡ b.place)) (targets_of waits b.src)
 
--- of any arc of the one component and any of the other: the lowest-numbered workqueue that is together with that of the first
--- one's item is below that of the second one's
+-- for any arc of the first component and any arc of the second: the lowest-numbered workqueue that is together with that of the
+-- first arc's item has a lower number than the one for the second arc's item
 abbrev pub IsBefore : (ℕ → ℕ → Type 0) → (ℕ → ℕ) → List WaitArc → List WaitArc → Type 0
 IsBefore R lane arcs others =
     (b c : WaitArc) (v w : ℕ) → Contains arcs b → Contains others c → IsLowest R (lane b.src) v → IsLowest R (lane c.src) w → v < w

@@ -25,7 +25,7 @@ refusal_text r = line_text (codes "refused" ∷ decimal r.code ∷ codes "line" 
 abbrev pub IsRefused : Refusal → End → List ℕ → Type 0
 IsRefused r end out = (end ≡ Refused) × (out ≡ refusal_text r)
 
--- what a text declares, its names aside
+-- what a text declares, without its names
 abbrev pub declared_waits : Declared → Declaration
 declared_waits s = declaration_of s.table s.partition
 
@@ -48,8 +48,7 @@ pub record PrintsPlan (s : Declared) (out : List ℕ) : Type 0 where
   pub plan : IsPlan (declared_waits s) assignment
   pub text : out ≡ text_of_plan s assignment
 
--- the text of the circle in which the groups wait is printed, with the run of this circle where each group has a workqueue of
--- its own
+-- the text of the circle in which the groups wait is printed, with the run of this circle when each group has its own workqueue
 pub record PrintsCircle (s : Declared) (out : List ℕ) : Type 0 where
   pub circle : List WaitArc
   pub walked : IsWalkedCircle (group_graph (declared_waits s)) circle
@@ -63,7 +62,7 @@ AnswersDeclared s Good out = PrintsPlan s out
 AnswersDeclared s Bad out = PrintsCircle s out
 AnswersDeclared s Refused out = ⊥
 
--- the answer to a text: that to what it declares, or its refusal
+-- the answer to a text: the answer to what it declares, or its refusal
 abbrev pub Answers : List ℕ → End → List ℕ → Type 0
 Answers text end out =
     MatchResult (declaration text) (λ s. AnswersDeclared s end out) (λ r. IsRefused r end out)

@@ -18,7 +18,7 @@ pub record ChecksInput {D C : Type 0} (known : D → Option (List ℕ)) (certifi
   pub certificate : Gives certified c_old c_new max_certificate claim
   pub answer : Checks text claim end out
 
--- this is the checker's answer to the declaration and the certificate that two readers had, and where it is a yes it is true
+-- this is the checker's answer to the declaration and the certificate that two readers had, and if it is a yes, it is true
 pub record KeepsYesOfInput {D C : Type 0} (known : D → Option (List ℕ)) (certified : C → Option (List ℕ)) (old new : Meter D) (c_old c_new : Meter C) (end : End) (out : List ℕ) : Type 0 where
   pub answered : ChecksInput known certified old new c_old c_new end out
   pub promise : end ≡ Good → YesIsTrue answered.text answered.claim out

@@ -1,4 +1,4 @@
--- The answer to a declaration and a certificate: whether it shows what it says.
+-- The answer to a declaration and a certificate: whether the certificate shows what it says.
 use Rattle.std.specs.Prelude.{◌≡◌, ◌<◌, ℕ, List, [], ◌∷◌, length, codes, decimal, Result, Ok, Err, MatchResult}
 use Rattle.wq_lines.specs.LineText.{line_text}
 use Rattle.wq_cert.specs.PlanText.{name_of}
@@ -20,7 +20,7 @@ abbrev pub yes_words : Yes → List (List ℕ)
 yes_words (yes.Plan number) = codes "yes" ∷ decimal number ∷ []
 yes_words (yes.Circle n) = codes "yes" ∷ codes "circle" ∷ decimal n ∷ []
 
--- what a no speaks of: an item and its target, a place, or nothing
+-- what a no is about: an item and its target, a place, or nothing
 abbrev pub no_details : List (List ℕ) → No → List (List ℕ)
 no_details names (NotFalling item target) = name_of names item ∷ name_of names target ∷ []
 no_details names (ChainBroken at) = decimal at ∷ []

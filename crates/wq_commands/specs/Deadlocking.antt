@@ -1,4 +1,4 @@
--- The answer to a declaration and an assignment: whether the assignment is safe, and else its deadlocking run.
+-- The answer to a declaration and an assignment: that the assignment is safe, or else its deadlocking run.
 use Rattle.std.specs.Prelude.{◌≡◌, ℕ, List, [], ◌∷◌, codes, MatchResult}
 use Rattle.wq_groups.specs.Assignment.{Assignment, IsAssignment}
 use Rattle.wq_core.specs.declared.step.Step.{Step}
@@ -17,8 +17,9 @@ use Rattle.wq_commands.specs.Declaration.{Declared, declaration}
 abbrev pub safe_text : List ℕ
 safe_text = line_text (codes "safe" ∷ [])
 
--- the verdict on an assignment of a declaration's groups is printed: `safe` where no run ends stuck; else the deadlocking run,
--- that of the circle in which the workqueues wait, which ends stuck with each item queued once and flushing as declared
+-- the verdict on an assignment of a declaration's groups is printed: `safe` if no run ends stuck; else the deadlocking run.
+-- This is the run of the circle in which the workqueues wait. It ends stuck, with each item queued once and flushing as
+-- declared
 abbrev pub JudgesAssigned : Declared → Assignment → End → List ℕ → Type 0
 JudgesAssigned s a Good out = IsAssignment s.partition.groups a × IsSafe (wiring (declared_waits s) a) × (out ≡ safe_text)
 JudgesAssigned s a Bad out = (steps : List Step) × IsDeadlock (declared_waits s) a steps × (out ≡ run_text s.table.names steps)

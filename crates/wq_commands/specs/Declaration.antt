@@ -14,11 +14,11 @@ use Rattle.wq_groups.specs.declared.fault.GroupError.{GroupError}
 use Rattle.wq_groups.specs.Partition.{Partition}
 use Rattle.wq_groups.specs.Grouping.{groups_of, group_refusal}
 
--- how many bytes a declaration may have
+-- how many bytes a declaration may have at most
 abbrev pub max_declaration : ℕ
 max_declaration = 1048576
 
--- how many bytes a line of it may have
+-- how many bytes a line of a declaration may have at most
 abbrev pub max_declaration_line : ℕ
 max_declaration_line = 4096
 

@@ -3,7 +3,7 @@ use Rattle.std.specs.Prelude.{ℕ}
 use Rattle.wq_commands.specs.declared.end.End.{End}
 use Rattle.wq_commands.specs.declared.end.End.TheVariants.{Good, Bad, Refused}
 
--- the status of the process: 0 where the answer is good, 1 where it is bad, 2 where the input was refused
+-- the exit status of the process: 0 if the answer is good, 1 if it is bad, 2 if the input was refused
 abbrev pub exit_status : End → ℕ
 exit_status Good = 0
 exit_status Bad = 1

@@ -10,26 +10,26 @@ use Rattle.wq_commands.specs.declared.end.End.TheVariants.{Good, Bad, Refused}
 use Rattle.wq_commands.specs.Checking.{yes_words, ChecksDeclared}
 use Rattle.wq_commands.specs.Declaration.{Declared, declaration}
 
--- a plan is read from the bytes, and the answer to them is `yes K`, with K the number of its workqueues
+-- a plan is read from the bytes, and the answer to them is `yes K`, where K is the number of its workqueues
 pub record ChecksYesPlan (s : Declared) (out : List ℕ) : Type 0 where
   pub plan : PlanCertificate
   pub read : answer_of s.table.names s.partition out ≡ Ok (OfPlan plan)
   pub assignment : assignment_of_text s.table.names s.partition out ≡ Ok plan.assignment
   pub checked : ChecksDeclared s out Good (line_text (yes_words (yes.Plan plan.assignment.lanes)))
 
--- a circle is read from the bytes, and the answer to them is `yes circle N`, with N the number of its arcs
+-- a circle is read from the bytes, and the answer to them is `yes circle N`, where N is the number of its arcs
 pub record ChecksYesCircle (s : Declared) (out : List ℕ) : Type 0 where
   pub circle : CircleCertificate
   pub read : answer_of s.table.names s.partition out ≡ Ok (OfCircle circle)
   pub checked : ChecksDeclared s out Good (line_text (yes_words (yes.Circle (length circle.arcs))))
 
--- of a plan that is printed the answer is `yes K`, and of a circle with its run `yes circle N`
+-- the answer to a printed plan is `yes K`, and the answer to a printed circle with its run is `yes circle N`
 abbrev pub ChecksYesDeclared : Declared → List ℕ → End → Type 0
 ChecksYesDeclared s out Good = ChecksYesPlan s out
 ChecksYesDeclared s out Bad = ChecksYesCircle s out
 ChecksYesDeclared s out Refused = ⊥
 
--- the same of what a text declares; nothing is said of a text that is refused
+-- the same for what a text declares; of a refused text nothing is said
 abbrev pub ChecksYesOf : Result Declared Refusal → List ℕ → End → Type 0
 ChecksYesOf (Ok s) out end = ChecksYesDeclared s out end
 ChecksYesOf (Err r) out end = Unit {0}

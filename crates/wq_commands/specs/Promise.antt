@@ -1,4 +1,4 @@
--- What an answer promises, said of the bytes that are printed.
+-- What an answer promises, in terms of the bytes that are printed.
 use Rattle.std.specs.Prelude.{◌≡◌, ℕ, List, length, Some, MatchResult}
 use Rattle.wq_groups.specs.Assignment.{Assignment, IsAssignment}
 use Rattle.wq_core.specs.declared.step.Step.{Step}
@@ -15,8 +15,8 @@ use Rattle.wq_commands.specs.Declaration.{Declared, declaration}
 
 -- the bytes spell a plan within the limits of a certificate; each flush falls to a workqueue with a lower number; no run of its
 -- assignment ends stuck, and every assignment to fewer workqueues has a run that ends stuck, with each item queued once and
--- flushing as declared; and the printed arcs are those of a chain of as many groups as the text says and as there are
--- workqueues, each of which waits for the next
+-- flushing as declared; and the printed arcs are those of a chain of groups, each of which waits for the next. The chain has as
+-- many groups as the text says, which is also the number of workqueues
 pub record KeepsPlan (s : Declared) (out : List ℕ) : Type 0 where
   pub plan : PlanCertificate
   pub limits : KeepsLimits out
@@ -28,8 +28,8 @@ pub record KeepsPlan (s : Declared) (out : List ℕ) : Type 0 where
   pub said : plan.length ≡ plan.assignment.lanes
   pub long : length chain ≡ plan.assignment.lanes
 
--- the bytes spell a circle with a run behind it, within the limits of a certificate; the printed arcs go round groups, one for
--- each arc, each of which waits for the next; the run deadlocks where each group has a workqueue of its own; and every
+-- the bytes spell a circle with a run after it, within the limits of a certificate; the printed arcs lead round a circle of
+-- groups, one for each arc, each of which waits for the next; the run deadlocks if each group has its own workqueue; and every
 -- assignment has a run that deadlocks
 pub record KeepsCircle (s : Declared) (out : List ℕ) : Type 0 where
   pub circle : CircleCertificate
@@ -47,6 +47,6 @@ KeepsDeclared s Good out = KeepsPlan s out
 KeepsDeclared s Bad out = KeepsCircle s out
 KeepsDeclared s Refused out = ⊥
 
--- what is promised of the bytes that answer a text: of a text that declares nothing, that it is refused
+-- what is promised of the bytes that answer a text; if the text is no declaration, that it is refused
 abbrev pub KeepsPromise : List ℕ → End → List ℕ → Type 0
 KeepsPromise text end out = MatchResult (declaration text) (λ s. KeepsDeclared s end out) (λ r. end ≡ Refused)

@@ -20,7 +20,7 @@ replay_words Deadlock = codes "deadlock" ∷ []
 replay_words Stuck = codes "stuck" ∷ []
 replay_words (NotLawful n) = codes "not" ∷ codes "lawful" ∷ decimal n ∷ []
 
--- a run that doesn't end stuck is good, and all else is bad
+-- a run that doesn't end stuck is good; all else is bad
 abbrev pub replay_end : RunEnd → End
 replay_end Free = Good
 replay_end Deadlock = Bad
@@ -46,6 +46,7 @@ abbrev pub ReplaysDeclared : Declared → List ℕ → List ℕ → End → List
 ReplaysDeclared s assigned text end out =
     MatchResult (assignment_of_text s.table.names s.partition assigned) (λ a. ReplaysAssigned s a text end out) (λ fault. IsRefused (cert_refusal fault) end out)
 
--- the answer to the texts of a declaration, an assignment and a run: the refusal of the first that is refused comes first
+-- the answer to the texts of a declaration, an assignment and a run; if any is refused, the refusal of the first such text is
+-- printed
 abbrev pub Replays : List ℕ → List ℕ → List ℕ → End → List ℕ → Type 0
 Replays declared assigned text end out = MatchResult (declaration declared) (λ s. ReplaysDeclared s assigned text end out) (λ r. IsRefused r end out)

@@ -7,7 +7,7 @@ use Rattle.wq_meter.specs.Input.{Gives}
 use Rattle.wq_commands.specs.Promise.{KeepsPromise}
 use Rattle.wq_meter.specs.Meter.{Meter}
 
--- this is the answer to the text that a reader had; the reader gave it up to the first byte too many
+-- this is the answer to the text that a reader had; the reader gave its bytes up to the first one past the limit
 pub record AnswersInput {R : Type 0} (remaining : R → Option (List ℕ)) (old new : Meter R) (end : End) (out : List ℕ) : Type 0 where
   pub text : List ℕ
   pub given : Gives remaining old new max_declaration text

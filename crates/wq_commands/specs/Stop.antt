@@ -1,4 +1,4 @@
--- What a call answers in place of a declaration.
+-- What a call returns in place of a declaration.
 use Rattle.std.specs.Prelude.{◌≡◌, Result, Err}
 use Rattle.wq_text.specs.Refusal.{Refusal}
 use Rattle.wq_items.specs.declared.fault.ItemError.{ItemError}
@@ -11,7 +11,7 @@ use Rattle.wq_commands.specs.Declaration.{Declared}
 use Rattle.wq_commands.specs.declared.declaration.Stop.{Stop}
 use Rattle.wq_commands.specs.declared.declaration.Stop.TheVariants.{Refused, OutOfMemory}
 
--- a refusal of this number and line, or out of memory, which says nothing of the text
+-- a refusal with this number and line, or out of memory, which says nothing about the text
 abbrev pub StopsAt : Stop → Result Declared Refusal → Type 0
 StopsAt (Refused code line) declared = declared ≡ Err (record { code = code; line = line })
 StopsAt OutOfMemory declared = Unit {0}

@@ -1,4 +1,4 @@
--- What a yes of `check` promises, said of the bytes that it reads and those that it prints.
+-- What a yes of `check` promises, in terms of the bytes that it reads and those that it prints.
 use Rattle.std.specs.Prelude.{◌≡◌, ℕ, ◌⊎◌, List, length, Ok, MatchResult}
 use Rattle.wq_groups.specs.Assignment.{Assignment, IsAssignment}
 use Rattle.wq_core.specs.Wiring.{wiring}
@@ -12,8 +12,8 @@ use Rattle.wq_commands.specs.Answer.{declared_waits}
 use Rattle.wq_commands.specs.Checking.{yes_words}
 use Rattle.wq_commands.specs.Declaration.{Declared, declaration}
 
--- a plan is read from the certificate, and `yes K` is printed, with K the number of its workqueues; no run of its assignment
--- ends stuck, and every assignment to fewer workqueues deadlocks; its arcs are those of a chain of K groups
+-- a plan is read from the certificate, and `yes K` is printed, where K is the number of its workqueues; no run of its
+-- assignment ends stuck, and every assignment to fewer workqueues deadlocks; its arcs are those of a chain of K groups
 pub record IsTrueOfPlan (s : Declared) (claim out : List ℕ) : Type 0 where
   pub plan : PlanCertificate
   pub read : answer_of s.table.names s.partition claim ≡ Ok (OfPlan plan)
@@ -23,8 +23,8 @@ pub record IsTrueOfPlan (s : Declared) (claim out : List ℕ) : Type 0 where
   pub is_chain : IsChainAlong (declared_waits s) plan.arcs chain
   pub long : length chain ≡ plan.assignment.lanes
 
--- a circle is read from the certificate, and `yes circle N` is printed, with N the number of its arcs; these go round groups,
--- and every assignment deadlocks
+-- a circle is read from the certificate, and `yes circle N` is printed, where N is the number of its arcs; these lead round a
+-- circle of groups, and every assignment deadlocks
 pub record IsTrueOfCircle (s : Declared) (claim out : List ℕ) : Type 0 where
   pub circle : CircleCertificate
   pub read : answer_of s.table.names s.partition claim ≡ Ok (OfCircle circle)

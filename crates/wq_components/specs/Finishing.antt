@@ -8,12 +8,12 @@ use Rattle.wq_components.specs.Searching.{is_marked}
 
 -- ---- the order
 
--- v stands at place k of the list or before it
+-- v is at place k of the list or before it
 abbrev pub StandsBy : List ℕ → ℕ → ℕ → Type 0
 StandsBy xs k v = (j : ℕ) × (j ≤ k) × (j < length xs) × (slice_index xs j ≡ v)
 
--- whenever a vertex is finished, each vertex that isn't finished yet and that an arc of a finished one leads to leads to the one
--- just finished
+-- whenever a vertex is finished: if an arc of a finished vertex leads to one that isn't finished yet, then this one leads to
+-- the vertex that was finished last
 abbrev pub LeadToLast : (ℕ → ℕ → Type 0) → List ℕ → Type 0
 LeadToLast R finished = (k i w : ℕ) → i ≤ k → k < length finished → R (slice_index finished i) w → StandsBy finished k w ⊎ Leads R w (slice_index finished k)
 
@@ -26,8 +26,8 @@ pub record IsFinishing (R : ℕ → ℕ → Type 0) (n : ℕ) (finished : List �
 
 -- ---- the search
 
--- which vertices were visited; of each vertex how many of its arcs are known to lead to visited ones; the path to the vertex
--- where the search is; and the vertices that are finished, in that order
+-- which vertices were visited; for each vertex, how many of its arcs are known to lead to visited ones; the path to the vertex
+-- where the search is; and the finished vertices, in the order in which they were finished
 pub record Walk : Type 0 where
   pub visited : List Bool
   pub followed : List ℕ
@@ -42,7 +42,7 @@ IsVisited s v = is_marked s.visited v ≡ true
 abbrev pub with_visited : Walk → ℕ → Walk
 with_visited s v = record { visited = slice_set s.visited v true; followed = s.followed; path = s.path ++ (v ∷ []); finished = s.finished }
 
--- the search after so many arcs of vertex v were followed
+-- the search after this many arcs of vertex v were followed
 abbrev pub with_followed : Walk → ℕ → ℕ → Walk
 with_followed s v count = record { visited = s.visited; followed = slice_set s.followed v count; path = s.path; finished = s.finished }
 
@@ -50,19 +50,19 @@ with_followed s v count = record { visited = s.visited; followed = slice_set s.f
 abbrev pub with_finished : Walk → ℕ → Walk
 with_finished s v = record { visited = s.visited; followed = s.followed; path = take (length s.path - 1) s.path; finished = s.finished ++ (v ∷ []) }
 
--- the search s passed the places of the list of vertex v that hold visited vertices, which led to t; next is the first vertex of
--- the list that wasn't visited
+-- the search went from s to t, as it passed those next in vertex v's list that were visited; `next` is the first one that
+-- wasn't
 pub record Follows (s : Walk) (heads : List ℕ) (v : ℕ) (next : Option ℕ) (t : Walk) : Type 0 where
   pub count : ℕ
   pub after : t ≡ with_followed s v count
   pub passed : (k : ℕ) → slice_index s.followed v ≤ k → k < count → k < length heads → IsVisited s (slice_index heads k)
   pub tells : MatchOption next (length heads ≤ count) (λ w. Contains heads w × (is_marked s.visited w ≡ false))
 
--- how many steps led here: one that came to each vertex, and one more that finished it
+-- how many steps led here: one that came to each visited vertex, and one more for each that was finished
 abbrev pub steps_to : Walk → ℕ
 steps_to s = length s.path + 2 * length s.finished
 
--- what holds between two steps: visited are the vertices of the path and those that are finished, each once; each vertex of the
+-- what holds between two steps: the visited vertices are those of the path and the finished ones, each once; each vertex of the
 -- path leads to the later ones; the arcs of a finished vertex, and those that were followed, lead to visited ones
 pub record IsWalk (lists : List (List ℕ)) (s : Walk) : Type 0 where
   pub marks : length s.visited ≡ length lists
@@ -78,7 +78,7 @@ pub record IsWalk (lists : List (List ℕ)) (s : Walk) : Type 0 where
   pub arcs : (v w : ℕ) → Contains s.finished v → Next lists v w → IsVisited s w
   pub leads : LeadToLast (Next lists) s.finished
 
--- the search went on from s to t: what was visited is visited still
+-- the search went on from s to t: what was visited is still visited
 pub record WentOn (lists : List (List ℕ)) (s t : Walk) : Type 0 where
   pub walk : IsWalk lists t
   pub keeps : (v : ℕ) → IsVisited s v → IsVisited t v

@@ -1,4 +1,4 @@
--- Leading: which vertices lead where, by any relation: R v w says that v waits for w.
+-- Leading: which vertices lead where, for any relation R, where R v w says that v waits for w.
 use Rattle.std.specs.Prelude.{◌≡◌, ◌≢◌, ℕ, ◌<◌, ◌≤◌, ◌⊎◌, List, [], ◌∷◌, length, slice_index}
 use Rattle.wq_items.specs.Chain.{IsChain, last_of}
 
@@ -18,7 +18,7 @@ pub record IsLowest (R : ℕ → ℕ → Type 0) (v c : ℕ) : Type 0 where
   pub together : AreTogether R v c
   pub least : (w : ℕ) → AreTogether R v w → c ≤ w
 
--- of each of n vertices the lowest-numbered one that is together with it
+-- for each of n vertices, the lowest-numbered one that is together with it
 pub record AreLowest (R : ℕ → ℕ → Type 0) (n : ℕ) (lowest : List ℕ) : Type 0 where
   pub one_each : length lowest ≡ n
   pub is : (v : ℕ) → v < n → IsLowest R v (slice_index lowest v)

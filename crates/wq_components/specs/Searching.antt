@@ -1,4 +1,4 @@
--- Searching: what a search from vertex to vertex finds, where others were found before.
+-- Searching: what a search from vertex to vertex finds, if others were found before it.
 use Rattle.std.specs.Prelude.{◌≡◌, ◌⊎◌, ◌↔◌, ℕ, ◌<◌, ◌≤◌, Bool, true, false, cond, List, [], ◌∷◌, ◌++◌, length, fold, take, slice_index_or, slice_set, Contains}
 use Rattle.std.specs.List.{All}
 use Rattle.wq_items.specs.Chain.{Repeats}
@@ -22,7 +22,7 @@ with_found s w = cond (is_marked s.marks w) s (record { marks = slice_set s.mark
 abbrev pub with_all_found : Search → List ℕ → Search
 with_all_found s ws = fold with_found s ws
 
--- marked is just what stands in the order, and there once
+-- exactly the vertices in the order are marked, and each is there once
 pub record AreFound (s : Search) : Type 0 where
   pub below : All (λ w. w < length s.marks) s.order
   pub marked : (w : ℕ) → w < length s.marks → (is_marked s.marks w ≡ true) ↔ Contains s.order w
@@ -32,7 +32,7 @@ pub record AreFound (s : Search) : Type 0 where
 abbrev pub NextNew : List (List ℕ) → Search → ℕ → ℕ → Type 0
 NextNew lists s v w = Next lists v w × (¬ Contains s.order w)
 
--- the search s went on to t: found are, after what was found before, v and what it leads to over vertices that weren't found
+-- the search s went on to t: after what was found before, it found v and what v leads to by way of vertices that weren't found
 pub record Spreads (lists : List (List ℕ)) (s : Search) (v : ℕ) (t : Search) : Type 0 where
   pub marks : length t.marks ≡ length s.marks
   pub found : AreFound t

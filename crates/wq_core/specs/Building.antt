@@ -6,7 +6,7 @@ use Rattle.wq_core.specs.Wiring.{wiring}
 use Rattle.wq_core.specs.State.{idle_lane, empty_state}
 use Rattle.wq_core.specs.Held.{HeldLane, Machine}
 
--- an idle lane with room for so many entries
+-- an idle lane with room for this many entries
 abbrev pub idle_with_room : ℕ → HeldLane
 idle_with_room room = record { lane = idle_lane; room = room }
 

@@ -13,7 +13,7 @@ pub record IsStuck (w : Wiring) (s : State) : Type 0 where
   pub left : HasUnfinished s
   pub no_step : (step : Step) → IsRescuerStep step → ¬ Lawful w s step
 
--- no run ends stuck. It says something of an assignment only where each item's lane is one of the lanes (`IsWiring`)
+-- no run ends stuck. This says something about an assignment only if the lane of each item is one of the lanes (`IsWiring`)
 abbrev pub IsSafe : Wiring → Type 0
 IsSafe w = (steps : List Step) → IsRun w steps → ¬ IsStuck w (end_of w steps)
 
@@ -24,7 +24,7 @@ pub record DeadlocksBy (w : Wiring) (steps : List Step) : Type 0 where
   pub as_declared : AsDeclaredFrom w (empty_state w) steps
   pub stuck : IsStuck w (end_of w steps)
 
--- some run deadlocks so
+-- some run deadlocks in this way
 abbrev pub Deadlocks : Wiring → Type 0
 Deadlocks w = (steps : List Step) × DeadlocksBy w steps
 

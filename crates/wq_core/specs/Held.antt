@@ -16,7 +16,7 @@ use Rattle.wq_core.specs.State.{Lane, State, max_number, lane_at, Runs, IsPendin
 use Rattle.wq_core.specs.Rules.{Lawful, Gives, effect}
 use Rattle.wq_core.specs.Runs.{after, IsRunFrom}
 
--- a lane, and how many pending entries there is room for
+-- a lane, and how many pending entries it has room for
 pub record HeldLane : Type 0 where
   pub lane : Lane
   pub room : ℕ
@@ -25,7 +25,7 @@ pub record HeldLane : Type 0 where
 abbrev pub is_below : ℕ → ℕ → Entry → Bool
 is_below item mark e = (e.item == item) && nat_lt e.number mark
 
--- what runs is such an entry
+-- the entry that runs is of the item, with a number below the mark
 abbrev pub runs_below : ℕ → ℕ → Option Running → Bool
 runs_below item mark None = false
 runs_below item mark (Some r) = is_below item mark r.entry
@@ -58,7 +58,7 @@ pub record IsSortedOf (targets : List Target) (items : List ℕ) : Type 0 where
   pub same : IsPermutation (map (λ (t : Target). t.item) targets) items
   pub rise : IsNonDecreasing items
 
--- of the first n items the targets, sorted
+-- the targets of each of the first n items, sorted
 pub record AreSorted (n : ℕ) (waits : List (List Target)) (sorted : List (List ℕ)) : Type 0 where
   pub one_each : length sorted ≡ n
   pub each : (i : ℕ) → i < n → IsSortedOf (targets_of waits i) (slice_index_or sorted i [])
@@ -72,14 +72,14 @@ pub record Machine : Type 0 where
   pub wiring : Wiring
   pub state : State
 
--- what holds of what a lane runs: it has made at most as many waits as its item declares; while it waits it has made one at
--- least, and its item declares a flush of what it waits for
+-- what holds for the entry that a lane runs: it has made at most as many waits as its item declares; while it waits, it has
+-- made at least one, and its item declares a flush of what it waits for
 pub record IsSoundRunning (w : Wiring) (r : Running) : Type 0 where
   pub made : r.made ≤ length (declared_by w r.entry.item)
   pub waits : (f : Waiting) → r.waiting ≡ Some f → (0 < r.made) × ItemWaits w.waits r.entry.item f.target
 
--- what holds of every state that a run leaves: there are the wiring's lanes; each entry is of an item that exists, is on
--- that item's lane, and has a number that was given; a lane has at most one pending entry of an item; and what runs is sound
+-- what holds for every state after a run: it has the wiring's lanes; each entry is of an item that exists, is on that item's
+-- lane, and has a number that was given; a lane has at most one pending entry of an item; and what runs is sound
 pub record IsSoundState (w : Wiring) (s : State) : Type 0 where
   pub one_each : length s.lanes ≡ w.lanes
   pub own_lane : (q : ℕ) (e : Entry) → IsUnfinishedOn (lane_at s q) e → (e.item < items w) × (lane_of w e.item ≡ q)
@@ -87,8 +87,8 @@ pub record IsSoundState (w : Wiring) (s : State) : Type 0 where
   pub once : (q : ℕ) → AllPairs (λ (e f : Entry). e.item ≢ f.item) (lane_at s q).pending
   pub running : (q : ℕ) (r : Running) → Runs (lane_at s q) r → IsSoundRunning w r
 
--- what holds of every machine: its wiring and its state are sound, and within the limits of a declaration, of an assignment
--- and of the numbers that are given
+-- what holds for every machine: its wiring and its state are sound, and within the limits of declarations, of assignments and
+-- of the numbers that are given
 pub record IsMachine (m : Machine) : Type 0 where
   pub wiring : IsWiring m.wiring
   pub state : IsSoundState m.wiring m.state
@@ -97,7 +97,7 @@ pub record IsMachine (m : Machine) : Type 0 where
   pub few_lanes : m.wiring.lanes ≤ max_lanes
   pub numbers : m.state.next < 2 ^ 32
 
--- the machine that is held as these fields
+-- the machine that these fields hold
 abbrev pub machine_of : List (List Target) → List ℕ → List HeldLane → ℕ → Machine
 machine_of waits lane_of_item lanes next = record {
   wiring = record { waits = waits; lane_of_item = lane_of_item; lanes = length lanes };
@@ -108,14 +108,14 @@ machine_of waits lane_of_item lanes next = record {
 abbrev pub HasRoom : List ℕ → ℕ → HeldLane → Type 0
 HasRoom lane_of_item q h = count_on lane_of_item q ≤ h.room
 
--- of each item in turn the number of its pending entry, and none where no entry of it is pending
+-- for each item in turn, the number of its pending entry, or none if no entry of it is pending
 pub record IsNumbering (w : Wiring) (s : State) (numbers : List (Option ℕ)) : Type 0 where
   pub one_each : length numbers ≡ items w
   pub pending : (i n : ℕ) → slice_index_or numbers i None ≡ Some n → IsPendingOn (lane_at s (lane_of w i)) (record { number = n; item = i })
   pub noted : (q : ℕ) (e : Entry) → IsPendingOn (lane_at s q) e → slice_index_or numbers e.item None ≡ Some e.number
 
--- what holds of these fields: the machine is sound, each lane has room for all its items, the numbers are those of the pending
--- entries, and on each lane they rise
+-- what holds for these fields: the machine is sound; each lane has room for all its items; the numbers are those of the pending
+-- entries, and they rise on each lane
 pub record IsHeld (waits : List (List Target)) (lane_of_item : List ℕ) (pending : List (Option ℕ)) (lanes : List HeldLane) (next : ℕ) : Type 0 where
   pub machine : IsMachine (machine_of waits lane_of_item lanes next)
   pub room : (q : ℕ) (h : HeldLane) → slice_get lanes q ≡ Some h → HasRoom lane_of_item q h
@@ -124,11 +124,11 @@ pub record IsHeld (waits : List (List Target)) (lane_of_item : List ℕ) (pendin
 
 -- ---- steps of a machine
 
--- the number that a step gives, where it is lawful
+-- the number that a step gives, if it is lawful
 abbrev pub IsNumberOf : Machine → Step → Option ℕ → Type 0
 IsNumberOf m step answer = MatchOption answer (¬ Lawful m.wiring m.state step) (λ n. Lawful m.wiring m.state step × Gives m.state step n)
 
--- a queueing would be given the number that no entry is given
+-- the step is a queueing, and would be given the number that no entry is given
 abbrev pub UsesUp : State → Step → Type 0
 UsesUp s (Queue i) = s.next ≡ max_number
 UsesUp s (Cancel i) = ⊥
@@ -153,7 +153,7 @@ abbrev pub IsRefusal : Machine → Step → StepError → Type 0
 IsRefusal m step NotLawful = ¬ Lawful m.wiring m.state step
 IsRefusal m step NumbersUsedUp = Lawful m.wiring m.state step × UsesUp m.state step
 
--- the number of that refusal
+-- the number of such a refusal
 abbrev pub step_code : StepError → ℕ
 step_code NotLawful = 30
 step_code NumbersUsedUp = 31

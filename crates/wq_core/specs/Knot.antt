@@ -12,7 +12,7 @@ HasLane w is q = Any (λ i. lane_of w i ≡ q) is
 abbrev pub WaitsAmong : Wiring → List ℕ → ℕ → Type 0
 WaitsAmong w is i = Any (λ (t : Target). HasLane w is (lane_of w t.item)) (declared_by w i)
 
--- items that hold one another up: there is one at least, no two are on one lane, and each declares a flush of an item on
+-- items that hold one another up: there is at least one, no two are on the same lane, and each declares a flush of an item on
 -- the lane of one of them
 pub record IsKnot (w : Wiring) (knot : List ℕ) : Type 0 where
   pub some : 0 < length knot

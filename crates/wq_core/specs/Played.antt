@@ -1,4 +1,4 @@
--- The run that is played: the lowest lane that can move flushes as declared.
+-- The run that is played: each step is that of the lowest lane that can move, and executions flush as declared.
 use Rattle.std.specs.Prelude.{◌≡◌, ℕ, ◌<◌, not, ◌==◌, List, [], ◌∷◌, ◌++◌, filter, map}
 use Rattle.std.specs.List.{list_any, range_with_len}
 use Rattle.wq_core.specs.declared.step.Step.{Step}
@@ -8,7 +8,7 @@ use Rattle.wq_core.specs.State.{State}
 use Rattle.wq_core.specs.Rules.{Lawful, effect}
 use Rattle.wq_core.specs.Runs.{KeepsOrder}
 
--- the step is one of lane q's rescuer
+-- the rescuer of lane q makes the step
 abbrev pub IsStepOfLane : ℕ → Step → Type 0
 IsStepOfLane q (Queue i) = ⊥
 IsStepOfLane q (Cancel i) = ⊥
@@ -21,13 +21,13 @@ IsStepOfLane q (Finish p i) = p ≡ q
 abbrev pub CanMove : Wiring → State → ℕ → Type 0
 CanMove w s q = (step : Step) × IsStepOfLane q step × Lawful w s step
 
--- the step that lane q can make when its executions flush as declared
+-- the step that lane q can make if its executions flush as declared
 pub record IsDeclaredStep (w : Wiring) (s : State) (q : ℕ) (step : Step) : Type 0 where
   pub of_lane : IsStepOfLane q step
   pub lawful : Lawful w s step
   pub in_order : KeepsOrder w s step
 
--- lane q can make none of these
+-- lane q can make no such step
 abbrev pub HasNoDeclaredStep : Wiring → State → ℕ → Type 0
 HasNoDeclaredStep w s q = (step : Step) → ¬ IsDeclaredStep w s q step
 
@@ -37,6 +37,6 @@ IsPlayedFrom w s [] = (q : ℕ) → HasNoDeclaredStep w s q
 IsPlayedFrom w s (step ∷ steps) =
     ((q : ℕ) × IsDeclaredStep w s q step × ((p : ℕ) → p < q → HasNoDeclaredStep w s p)) × IsPlayedFrom w (effect w s step) steps
 
--- queueings of these items first, in their order, and then of all others, in declaration order
+-- these items are queued first, in their order, and then all others, in declaration order
 abbrev pub queue_order : Wiring → List ℕ → List Step
 queue_order w first = map Queue (first ++ filter (λ i. not (list_any (λ j. i == j) first)) (range_with_len 0 (items w)))

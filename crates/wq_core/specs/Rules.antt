@@ -40,8 +40,8 @@ pub record MayStart (lane : Lane) (i : ℕ) : Type 0 where
   pub of_item : entry.item ≡ i
 
 -- a step is lawful: an item is queued only while no entry of it is pending, and cancelled only while one is; an idle lane
--- starts its first pending entry; and what runs waits, goes on and finishes as above. Nothing is lawful on a lane that
--- doesn't exist, and no state that a run leaves has an entry of an item that doesn't
+-- starts its first pending entry; and what runs waits, goes on and finishes as above. Nothing is lawful on a lane that doesn't
+-- exist, and after a run there is no entry of an item that doesn't exist
 abbrev pub Lawful : Wiring → State → Step → Type 0
 Lawful w s (Queue i) = (i < items w) × (¬ HasPending s i)
 Lawful w s (Cancel i) = HasPending s i
@@ -52,22 +52,22 @@ Lawful w s (Finish q i) = (r : Running) × Runs (lane_at s q) r × MayFinish i r
 
 -- ---- what a step does
 
--- an entry goes last
+-- the entry is added at the end
 abbrev pub with_queued : Entry → Lane → Lane
 with_queued e lane = record lane { pending = lane.pending ++ (e ∷ []) }
 
--- each pending entry of item i is taken out, of which a run leaves one at most, and the others keep their order
+-- each pending entry of item i is removed (after a run there is at most one), and the others keep their order
 abbrev pub with_cancelled : ℕ → Lane → Lane
 with_cancelled i lane = record lane { pending = filter (λ (e : Entry). not (e.item == i)) lane.pending }
 
--- the first pending entry runs, with no wait made
+-- the first pending entry runs, and has made no wait
 abbrev pub with_started : Lane → Lane
 with_started lane = record {
   pending = drop 1 lane.pending;
   running = option_map (λ (e : Entry). record { entry = e; made = 0; waiting = None }) (slice_get lane.pending 0);
 }
 
--- what runs waits for item b with this mark, and has made one wait more
+-- what runs waits for item b with this mark, and has made one more wait
 abbrev pub with_wait : ℕ → ℕ → Lane → Lane
 with_wait b mark lane = record lane {
   running = option_map (λ (r : Running). record r { made = r.made + 1; waiting = Some (record { target = b; mark = mark }) }) lane.running;
@@ -94,7 +94,7 @@ effect w s (Finish q i) = with_lane s q (with_finished (lane_at s q))
 
 -- ---- which number a step gives
 
--- the number of the entry that is queued, taken out, started or finished; the mark of the wait that begins or is over
+-- the number of the entry that is queued, cancelled, started or finished; the mark of the wait that begins or is over
 abbrev pub Gives : State → Step → ℕ → Type 0
 Gives s (Queue i) n = n ≡ s.next
 Gives s (Cancel i) n = (h : HasPending s i) × (h.entry.number ≡ n)

@@ -1,4 +1,4 @@
--- Runs: lists of steps of any length, each lawful where it is made.
+-- Runs: lists of steps of any length, each lawful when it is made.
 use Rattle.std.specs.Prelude.{◌≡◌, ℕ, ◌<◌, List, [], ◌∷◌, length, slice_get, ⊤, MatchBool, Some, Bool, true, false, ◌==◌}
 use Rattle.std.specs.List.{All, count_by}
 use Rattle.wq_items.specs.declared.target.Target.{Target}
@@ -9,21 +9,21 @@ use Rattle.wq_core.specs.Wiring.{Wiring, items, declared_by}
 use Rattle.wq_core.specs.State.{State, lane_at, empty_state, Runs}
 use Rattle.wq_core.specs.Rules.{Lawful, effect}
 
--- the state that steps leave
+-- the state after these steps
 abbrev pub after : Wiring → State → List Step → State
 after w s [] = s
 after w s (step ∷ steps) = after w (effect w s step) steps
 
--- each step is lawful in the state that those before it leave
+-- each step is lawful in the state after the steps before it
 abbrev pub IsRunFrom : Wiring → State → List Step → Type 0
 IsRunFrom w s [] = ⊤
 IsRunFrom w s (step ∷ steps) = Lawful w s step × IsRunFrom w (effect w s step) steps
 
--- a run begins where nothing is queued
+-- a run begins before anything is queued
 abbrev pub IsRun : Wiring → List Step → Type 0
 IsRun w steps = IsRunFrom w (empty_state w) steps
 
--- the state that a run leaves
+-- the state after a run
 abbrev pub end_of : Wiring → List Step → State
 end_of w steps = after w (empty_state w) steps
 
@@ -36,7 +36,7 @@ is_rescuer_step (Wait q b) = true
 is_rescuer_step (Over q b) = true
 is_rescuer_step (Finish q i) = true
 
--- the step is one of a rescuer
+-- a rescuer makes the step
 abbrev pub IsRescuerStep : Step → Type 0
 IsRescuerStep step = MatchBool (is_rescuer_step step) ⊤ ⊥
 
@@ -68,7 +68,7 @@ queues i (Wait q b) = false
 queues i (Over q b) = false
 queues i (Finish q j) = false
 
--- the step cancels
+-- the step cancels an item
 abbrev pub IsCancel : Step → Type 0
 IsCancel (Queue i) = ⊥
 IsCancel (Cancel i) = ⊤

@@ -14,7 +14,7 @@ pub record State : Type 0 where
   pub next : ℕ
   pub lanes : List Lane
 
--- the number that no entry is given: a mark may be as great
+-- the number that no entry is given; a mark may be this great
 abbrev pub max_number : ℕ
 max_number = 4294967295
 
@@ -22,11 +22,11 @@ max_number = 4294967295
 abbrev pub idle_lane : Lane
 idle_lane = record { pending = []; running = None }
 
--- lane q; a lane that doesn't exist is one that stays idle
+-- lane q; a lane that doesn't exist counts as one that stays idle
 abbrev pub lane_at : State → ℕ → Lane
 lane_at s q = slice_index_or s.lanes q idle_lane
 
--- the state with this lane in the place of lane q, if there is one
+-- the state with this lane in place of lane q, if there is a lane q
 abbrev pub with_lane : State → ℕ → Lane → State
 with_lane s q lane = record s { lanes = slice_set s.lanes q lane }
 

@@ -1,4 +1,4 @@
--- Work left: how many rescuer steps what is queued and what runs can still make at most.
+-- Work left: the most rescuer steps that what is queued and what runs can still make.
 use Rattle.std.specs.Prelude.{ℕ, ◌+◌, ◌-◌, ◌*◌, length, sum_by, Option, Some, None}
 use Rattle.wq_core.specs.declared.entry.Entry.{Entry}
 use Rattle.wq_core.specs.declared.entry.Waiting.{Waiting}
@@ -10,12 +10,12 @@ use Rattle.wq_core.specs.State.{Lane, State}
 abbrev pub whole_work : Wiring → ℕ → ℕ
 whole_work w i = 2 + 2 * length (declared_by w i)
 
--- how many of its waits are over, where it has made so many
+-- how many of its waits are over, if it has made this many
 abbrev pub waits_over : ℕ → Option Waiting → ℕ
 waits_over made None = made
 waits_over made (Some flush) = made - 1
 
--- what is left of a running entry: all of it but its start, the waits that it has made and those that are over
+-- what is left of a running entry: all of it except its start, the waits that it has made, and the ends of those that are over
 abbrev pub running_work : Wiring → Option Running → ℕ
 running_work w None = 0
 running_work w (Some r) = whole_work w r.entry.item - (1 + r.made + waits_over r.made r.waiting)
@@ -24,6 +24,6 @@ running_work w (Some r) = whole_work w r.entry.item - (1 + r.made + waits_over r
 abbrev pub lane_work : Wiring → Lane → ℕ
 lane_work w lane = sum_by (λ (e : Entry). whole_work w e.item) lane.pending + running_work w lane.running
 
--- what is left in all lanes
+-- what is left on all lanes
 abbrev pub work_left : Wiring → State → ℕ
 work_left w s = sum_by (lane_work w) s.lanes

@@ -1,7 +1,7 @@
 -- Counting: how many rows there are of an item, of a kind and with an answer.
 --
--- Every row is counted but those of starts, which no seat counts. A row of a wait, or of its end, counts for the item
--- that is waited for.
+-- Every row is counted except those of starts, which no seat counts. A row of a wait, or of its end, counts for the item that
+-- is waited for.
 use Rattle.std.specs.Prelude.{◌≡◌, ℕ, ◌+◌, ◌*◌, ◌<◌, ◌==◌, ◌&&◌, Option, Some, None, Bool, true, false, List, length, slice_index, slice_set}
 use Rattle.std.specs.List.{All, count_by}
 use Rattle.wq_rows.specs.declared.event.Event.{Event}
@@ -11,7 +11,7 @@ use Rattle.wq_rows.specs.Packing.{item_in}
 use Rattle.wq_counts.specs.declared.kind.Kind.{Kind}
 use Rattle.wq_counts.specs.declared.kind.Kind.TheVariants.{Queue as QueueKind, Cancel as CancelKind, Wait as WaitKind, Over as OverKind, Ask as AskKind, Told as ToldKind, Finish as FinishKind}
 
--- the kind of an event that is counted
+-- the kind of an event, if it is counted
 abbrev pub kind_in : Event → Option Kind
 kind_in (Queue i) = Some QueueKind
 kind_in (Cancel i) = Some CancelKind
@@ -37,19 +37,19 @@ abbrev pub answer_place : Bool → ℕ
 answer_place false = 0
 answer_place true = 1
 
--- where the count of an item, a kind and an answer stands: 14 counts for each item in turn
+-- where the count of an item, a kind and an answer is; there are 14 counts for each item in turn
 abbrev pub place : ℕ → Kind → Bool → ℕ
 place i kind said = 14 * i + (2 * kind_place kind + answer_place said)
 
--- counts for so many items, each 0 or more
+-- counts for this many items, each 0 or more
 abbrev pub HasCountsOf : ℕ → List ℕ → Type 0
 HasCountsOf items counts = length counts ≡ 14 * items
 
--- how many there are of an item, a kind and an answer
+-- the count of an item, a kind and an answer
 abbrev pub made : List ℕ → ℕ → Kind → Bool → ℕ
 made counts i kind said = slice_index counts (place i kind said)
 
--- one more of an item, a kind and an answer
+-- the counts with one more of an item, a kind and an answer
 abbrev pub raised : List ℕ → ℕ → Kind → Bool → List ℕ
 raised counts i kind said = slice_set counts (place i kind said) (made counts i kind said + 1)
 
@@ -62,7 +62,7 @@ has_kind (Some one) kind = kind_place one == kind_place kind
 abbrev pub is_of : ℕ → Kind → Bool → Row → Bool
 is_of i kind said row = has_kind (kind_in row.event) kind && ((item_in row.event == i) && (answer_place row.yes == answer_place said))
 
--- the row is counted
+-- a row of this event is counted
 abbrev pub is_counted : Event → Bool
 is_counted (Queue i) = true
 is_counted (Cancel i) = true
@@ -81,11 +81,11 @@ tally rows i kind said = count_by (is_of i kind said) rows
 abbrev pub counted_rows : List Row → ℕ
 counted_rows rows = count_by (λ (row : Row). is_counted row.event) rows
 
--- the counts of so many items are the tallies of the rows
+-- the counts of this many items are the tallies of the rows
 abbrev pub AreTallies : ℕ → List Row → List ℕ → Type 0
 AreTallies items rows counts = (i : ℕ) (kind : Kind) (said : Bool) → i < items → made counts i kind said ≡ tally rows i kind said
 
--- the counted rows are of so many items
+-- each counted row is of one of this many items
 abbrev pub AreRowsOf : ℕ → List Row → Type 0
 AreRowsOf items rows = All (λ (row : Row). is_counted row.event ≡ true → item_in row.event < items) rows
 

@@ -4,7 +4,7 @@ use Rattle.wq_core.specs.declared.step.Step.{Step}
 use Rattle.wq_core.specs.declared.step.Step.TheVariants.{Queue, Cancel, Start, Wait, Over, Finish}
 use Rattle.wq_core.specs.Wiring.{Wiring, items}
 
--- the step's item exists, and so does its lane, if it has one
+-- the step's item exists, and so does its lane if it names one
 abbrev pub IsNamed : Wiring → Step → Type 0
 IsNamed w (Queue i) = i < items w
 IsNamed w (Cancel i) = i < items w

@@ -1,4 +1,4 @@
--- The run of a circle: what is queued first holds up all that waits for it.
+-- The run of a circle: the items that are queued first hold up all that wait for them.
 use Rattle.std.specs.Prelude.{◌≡◌, ℕ, List, ◌++◌, map}
 use Rattle.wq_graph.specs.declared.arc.WaitArc.{WaitArc}
 use Rattle.wq_core.specs.declared.step.Step.{Step}
@@ -10,8 +10,8 @@ use Rattle.wq_core.specs.Played.{IsPlayedFrom, queue_order}
 abbrev pub first_items : List WaitArc → List ℕ
 first_items arcs = map (λ (a : WaitArc). a.src) arcs
 
--- the steps queue the first items of the circle's arcs, in the circle's order, then all other items, in declaration order; and
--- then play what is queued to its end
+-- the steps queue the first items of the circle's arcs, in the circle's order, then all other items, in declaration order; then
+-- they play what is queued to its end
 pub record IsCircleRun (w : Wiring) (circle : List WaitArc) (steps : List Step) : Type 0 where
   pub played : List Step
   pub is_played : IsPlayedFrom w (end_of w (queue_order w (first_items circle))) played

@@ -1,9 +1,9 @@
--- Where the search for the lowest lane that can move goes on.
+-- Where the search for the lowest lane that can move continues.
 use Rattle.std.specs.Prelude.{ℕ}
 use Rattle.wq_core.specs.declared.step.Step.{Step}
 use Rattle.wq_core.specs.declared.step.Step.TheVariants.{Queue, Cancel, Start, Wait, Over, Finish}
 
--- the lane from which it goes on after a step of lane q: only a finish makes a lower lane movable
+-- the lane from which it continues after a step of lane q: only a finish can make a lower lane movable
 abbrev pub search_from : ℕ → Step → ℕ
 search_from q (Queue i) = q
 search_from q (Cancel i) = q

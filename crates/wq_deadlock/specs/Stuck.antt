@@ -6,12 +6,12 @@ use Rattle.wq_core.specs.declared.step.Step.{Step}
 use Rattle.wq_core.specs.declared.step.Step.TheVariants.{Queue, Cancel, Start, Wait, Over, Finish}
 use Rattle.wq_core.specs.State.{State, lane_at, Runs}
 
--- of each lane whether it is known to be stuck, and of each item the lanes that were found to wait for it
+-- for each lane, whether it is known to be stuck; for each item, the lanes that were found to wait for it
 pub record StuckLanes : Type 0 where
   pub known : List Bool
   pub waiting : List (List ℕ)
 
--- what lane q runs waits for item i
+-- the item that lane q runs waits for item i
 pub record Awaits (s : State) (q i : ℕ) : Type 0 where
   pub running : Running
   pub flush : Waiting
@@ -27,21 +27,21 @@ IsKnown stuck q = slice_index_or stuck.known q false ≡ true
 abbrev pub waiting_for : StuckLanes → ℕ → List ℕ
 waiting_for stuck i = slice_index_or stuck.waiting i []
 
--- the lists where lane q is found to wait for this item, or for none
+-- the lists after lane q was found to wait for this item, or for none
 abbrev pub with_waiting : List (List ℕ) → ℕ → Option ℕ → List (List ℕ)
 with_waiting waiting q None = waiting
 with_waiting waiting q (Some i) = slice_set waiting i (slice_index_or waiting i [] ++ (q ∷ []))
 
--- where lane q is found to be stuck, and to wait for this item, or for none
+-- what is known after lane q was found to be stuck, and to wait for this item, or for none
 abbrev pub with_stuck : StuckLanes → ℕ → Option ℕ → StuckLanes
 with_stuck stuck q awaited = record { known = slice_set stuck.known q true; waiting = with_waiting stuck.waiting q awaited }
 
--- where item i is finished: no lane that was found to wait for it is known to be stuck any more
+-- item i is finished: the lanes that were found to wait for it aren't known to be stuck any more
 pub record IsReleased (old : StuckLanes) (i : ℕ) (new : StuckLanes) : Type 0 where
   pub known : (q : ℕ) → IsKnown new q → IsKnown old q × (¬ Contains (waiting_for old i) q)
   pub waiting : new.waiting ≡ slice_set old.waiting i []
 
--- where a step was made: only a finish lets other lanes move
+-- a step was made: only a finish lets other lanes move
 abbrev pub IsAfter : StuckLanes → Step → StuckLanes → Type 0
 IsAfter old (Queue i) new = new ≡ old
 IsAfter old (Cancel i) new = new ≡ old

@@ -1,4 +1,4 @@
--- Verdicts: what it means that an assignment is called safe, or said to deadlock.
+-- Verdicts: what it means that an assignment is found to be safe, or to deadlock.
 use Rattle.std.specs.Prelude.{◌≡◌, ℕ, ◌<◌, List, length, slice_index, Option, Some, None}
 use Rattle.wq_items.specs.Chain.{Circle}
 use Rattle.wq_items.specs.Table.{ItemWaits}
@@ -15,8 +15,8 @@ use Rattle.wq_deadlock.specs.declared.outcome.Verdict.{Verdict}
 use Rattle.wq_deadlock.specs.declared.outcome.Verdict.TheVariants as verdict
 use Rattle.wq_deadlock.specs.CircleRun.{IsCircleRun}
 
--- an assignment of the declaration's groups, no run of which ends stuck; each lane has its rank in the wait graph of the
--- lanes; and these fall along every declared flush, from the lane of the item to that of its target
+-- an assignment of the declaration's groups, no run of which ends stuck; each lane has its rank in the wait graph of the lanes;
+-- and along every declared flush the rank falls, from the lane of the item to that of its target
 pub record IsSafeByRanks (d : Declaration) (a : Assignment) (ranks : List ℕ) : Type 0 where
   pub assignment : IsAssignment d.groups a
   pub safe : IsSafe (wiring d a)
@@ -24,8 +24,8 @@ pub record IsSafeByRanks (d : Declaration) (a : Assignment) (ranks : List ℕ) :
   pub are_ranks : AreRanks (lane_graph d a) ranks
   pub fall : (i j : ℕ) → ItemWaits d.waits i j → slice_index ranks (item_lane a d.group_of j) < slice_index ranks (item_lane a d.group_of i)
 
--- an assignment of the declaration's groups, whose lanes wait in a circle, the walked one; the steps are the run of this
--- circle; and they are a run that ends stuck, with each item queued once and flushing as declared
+-- an assignment of the declaration's groups, whose lanes wait in the circle of the walk; the steps are the run of this circle;
+-- and they are a run that ends stuck, with each item queued once and flushing as declared
 pub record IsDeadlock (d : Declaration) (a : Assignment) (steps : List Step) : Type 0 where
   pub assignment : IsAssignment d.groups a
   pub lanes_wait : Circle (LaneWaits (wiring d a))
@@ -34,12 +34,12 @@ pub record IsDeadlock (d : Declaration) (a : Assignment) (steps : List Step) : T
   pub is_run : IsCircleRun (wiring d a) circle steps
   pub deadlocks : DeadlocksBy (wiring d a) steps
 
--- what is answered of an assignment
+-- what a verdict on an assignment means
 abbrev pub IsVerdict : {A : Type 0} → Declaration → Assignment → Verdict A → Type 0
 IsVerdict d a (verdict.Safe ranks) = IsSafeByRanks d a ranks.items
 IsVerdict d a (verdict.Deadlock steps) = IsDeadlock d a steps.items
 
--- no steps where one lane for each group is safe, and else the run by which that deadlocks
+-- no steps if one lane for each group is safe, and else the run by which it deadlocks
 abbrev pub IsGroupsRun : Declaration → Option (List Step) → Type 0
 IsGroupsRun d None = IsSafe (wiring d (own_lanes d.groups))
 IsGroupsRun d (Some steps) = IsDeadlock d (own_lanes d.groups) steps

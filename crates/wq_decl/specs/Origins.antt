@@ -11,7 +11,7 @@ directive_words (Item name) = name ∷ []
 directive_words (Flush name targets) = name ∷ targets
 directive_words (Ordered names) = names
 
--- the directive has the number of this line, and its words are all that follow the first word of it
+-- the directive has the number of this line, and its words are all those after the line's first word
 pub record IsFrom (d : ℕ × Directive) (line : LineView) : Type 0 where
   pub number : d.0 ≡ line.no
   pub first : WordView

@@ -22,13 +22,13 @@ item_reading n [] = Err (MissingName n)
 item_reading n (name ∷ []) = if is_name name.bytes then Ok (Some (Item name)) else Err (BadName n)
 item_reading n (name ∷ extra ∷ others) = Err (ExtraWord n)
 
--- the words after `flush` on line n: a name and one target at least
+-- the words after `flush` on line n: a name and at least one target
 abbrev pub flush_reading : ℕ → List WordView → Result (Option Directive) DeclError
 flush_reading n [] = Err (MissingName n)
 flush_reading n (name ∷ []) = Err (MissingName n)
 flush_reading n (name ∷ target ∷ others) = if are_names (name ∷ target ∷ others) then Ok (Some (Flush name (target ∷ others))) else Err (BadName n)
 
--- the words after `ordered` on line n: one name at least
+-- the words after `ordered` on line n: at least one name
 abbrev pub ordered_reading : ℕ → List WordView → Result (Option Directive) DeclError
 ordered_reading n [] = Err (MissingName n)
 ordered_reading n (name ∷ rest) = if are_names (name ∷ rest) then Ok (Some (Ordered (name ∷ rest))) else Err (BadName n)
@@ -41,7 +41,7 @@ words_reading n (first ∷ others) =
     else (if bytes_eq first.bytes (codes "flush") then flush_reading n others
     else (if bytes_eq first.bytes (codes "ordered") then ordered_reading n others else Err (UnknownWord n)))
 
--- what a line says, or its first fault: its comment may hold any bytes
+-- what a line says, or its first fault; its comment may hold any bytes
 abbrev pub reading : LineView → Result (Option Directive) DeclError
 reading l = if list_all is_text_byte (before_comment l.bytes) then words_reading l.no (words_of l) else Err (BadByte l.no)
 
@@ -56,7 +56,7 @@ directive_in n (Ok (Some directive)) = Some (n, directive)
 directive_in n (Ok None) = None
 directive_in n (Err fault) = None
 
--- the fault of the lowest line that has one
+-- the fault of the first line that has one
 abbrev pub first_fault : List LineView → Option DeclError
 first_fault [] = None
 first_fault (line ∷ lines) = option_or (fault_in (reading line)) (first_fault lines)
@@ -75,7 +75,7 @@ is_ordered (Ordered names) = true
 abbrev pub has_ordered : List (ℕ × Directive) → Bool
 has_ordered ds = list_any (λ (d : ℕ × Directive). is_ordered d.1) ds
 
--- the number of an `ordered` line and the names on it; no other line has them
+-- the number of an `ordered` line and the names on it; nothing for any other line
 abbrev pub ordered_line : ℕ × Directive → Option (ℕ × List WordView)
 ordered_line (n, Item name) = None
 ordered_line (n, Flush name targets) = None
@@ -91,7 +91,7 @@ HasNames (Item name) = IsTrue (is_name name.bytes)
 HasNames (Flush name targets) = IsTrue (is_name name.bytes) × AllByRecursion (λ (w : WordView). IsTrue (is_name w.bytes)) targets
 HasNames (Ordered names) = AllByRecursion (λ (w : WordView). IsTrue (is_name w.bytes)) names
 
--- 3, 4, 5, 12 or 6, with the line
+-- code 3, 4, 5, 12 or 6, with the line
 abbrev pub decl_refusal : DeclError → Refusal
 decl_refusal (BadByte line) = record { code = 3; line = line }
 decl_refusal (UnknownWord line) = record { code = 4; line = line }

@@ -1,4 +1,4 @@
--- Diagnoses: what is said on standard error of a text that is refused.
+-- Diagnoses: what standard error says about a refused text.
 use Rattle.std.specs.Prelude.{◌≡◌, ◌⊎◌, ◌≤◌, ◌<◌, ℕ, List, [], ◌∷◌, ◌++◌, codes, decimal, flat_map, map}
 use Rattle.std.specs.List.{All}
 use Rattle.wq_findings.specs.Shown.{place_text, shown}
@@ -7,13 +7,13 @@ use Rattle.wq_findings.specs.Shown.{place_text, shown}
 abbrev pub shown_lines : List (List ℕ) → List ℕ
 shown_lines lines = flat_map (λ line. map shown line ++ (10 ∷ [])) lines
 
--- the first line: the file, the place in it, what is wrong, and the word of the answer, `refused` or `no`, with its number
+-- the first line: the file, the place in it, what is wrong, and the word of the answer (`refused` or `no`) with its number
 abbrev pub head : List ℕ → List ℕ → List ℕ → List ℕ → ℕ → List ℕ
 head file place what word code =
     (((((((((file ++ place_text place) ++ codes ": ") ++ what) ++ codes " [") ++ word) ++ codes " ") ++ decimal code)
     ++ codes ", `wqplan explain ") ++ decimal code) ++ codes "`]"
 
--- a place has this line, and maybe a column; on line 0, where no line is meant, it has neither
+-- a place has this line, and maybe a column; with line 0, which means no line, it has neither
 abbrev pub IsOnLine : ℕ → List ℕ → Type 0
 IsOnLine line place = ((line ≡ 0) × (place ≡ []))
     ⊎ ((0 < line) × ((place ≡ line ∷ []) ⊎ ((column : ℕ) × (place ≡ line ∷ column ∷ []))))

@@ -1,4 +1,4 @@
--- Which refusal a diagnosis is of, or which `no`.
+-- Which refusal or which `no` a diagnosis is about.
 use Rattle.std.specs.Prelude.{◌≡◌, ℕ, List, Option, Some, None, Result, Ok, Err, MatchResult, codes}
 use Rattle.wq_text.specs.Refusal.{Refusal}
 use Rattle.wq_cert.specs.declared.fault.CertError.{CertError}
@@ -15,7 +15,7 @@ use Rattle.wq_findings.specs.declared.stage.Kind.{Kind}
 use Rattle.wq_findings.specs.declared.stage.Kind.TheVariants.{Answer, Assignment, Run}
 use Rattle.wq_diagnosis.specs.Diagnosis.{IsDiagnosis}
 
--- what a text is refused for, by what it was read as
+-- what a text is refused for, if this is what reading it gave
 abbrev pub refusal_of : {T E : Type 0} → (E → Refusal) → Result T E → Option Refusal
 refusal_of refusal (Ok _) = None
 refusal_of refusal (Err e) = Some (refusal e)
@@ -30,40 +30,40 @@ certificate_refusal Answer s text = refusal_of cert_refusal (answer_of s.table.n
 certificate_refusal Assignment s text = refusal_of cert_refusal (assignment_of_text s.table.names s.partition text)
 certificate_refusal Run s text = refusal_of cert_refusal (run_of s.table.names text)
 
--- what a certificate is refused for, where the declaration is one
+-- what a certificate is refused for, if the declaration isn't refused
 abbrev pub refusal_by : Kind → Result Declared Refusal → List ℕ → Option Refusal
 refusal_by kind (Ok s) text = certificate_refusal kind s text
 refusal_by kind (Err r) text = None
 
--- the same of two texts
+-- the same for two texts
 abbrev pub refusal_with : Kind → List ℕ → List ℕ → Option Refusal
 refusal_with kind declared text = refusal_by kind (declaration declared) text
 
--- a fault of this refusal, or out of memory, which says nothing of the text; none where there is no refusal
+-- a fault with this refusal, or out of memory, which says nothing about the text; no fault if there is no refusal
 abbrev pub IsFaultOfCertificate : Option CertError → Option Refusal → Type 0
 IsFaultOfCertificate None refusal = refusal ≡ None
 IsFaultOfCertificate (Some OutOfMemory) refusal = Unit {0}
 IsFaultOfCertificate (Some e) refusal = refusal ≡ Some (cert_refusal e)
 
--- what is said of a text: nothing where it isn't refused, and else a diagnosis of its refusal
+-- what is said about a text: nothing if it isn't refused, and else a diagnosis of its refusal
 abbrev pub Diagnoses : List ℕ → Option Refusal → Option (List ℕ) → Type 0
 Diagnoses file None said = said ≡ None
 Diagnoses file (Some r) said = (text : List ℕ) × (said ≡ Some text) × IsDiagnosis file (codes "refused") r.code r.line text
 
--- the `no` that the checker answers to a certificate; none where it answers yes
+-- the `no` that the checker answers to a certificate; none if it answers yes
 abbrev pub IsNoOf : Declared → Certificate → Option No → Type 0
 IsNoOf s c None = (yes : Yes) × AnswersCertificate (declared_waits s) c (Ok yes)
 IsNoOf s c (Some why) = AnswersCertificate (declared_waits s) c (Err why)
 
--- the same of a text; none where it is refused
+-- the same for a text; none if it is refused
 abbrev pub IsNoTo : Declared → List ℕ → Option No → Type 0
 IsNoTo s text why = MatchResult (answer_of s.table.names s.partition text) (λ c. IsNoOf s c why) (λ fault. why ≡ None)
 
--- what is said of a certificate: the diagnosis of a `no`, with its number; nothing where there is none
+-- what is said about a certificate: the diagnosis of a `no`, with its number; nothing if there is none
 abbrev pub SaysNo : List ℕ → Option No → Option (List ℕ) → Type 0
 SaysNo file None said = said ≡ None
 SaysNo file (Some why) said = (text : List ℕ) × (line : ℕ) × (said ≡ Some text) × IsDiagnosis file (codes "no") (no_code why) line text
 
--- the same of two texts; nothing where the declaration is refused
+-- the same for two texts; nothing if the declaration is refused
 abbrev pub DiagnosesNo : List ℕ → List ℕ → List ℕ → Option (List ℕ) → Type 0
 DiagnosesNo file declared text said = MatchResult (declaration declared) (λ s. (why : Option No) × IsNoTo s text why × SaysNo file why said) (λ r. said ≡ None)

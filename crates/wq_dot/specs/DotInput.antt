@@ -1,4 +1,4 @@
--- A run of `dot`: a declaration, and an assignment where one is named, are taken from readers, and answered.
+-- A run of `dot`: a declaration, and an assignment if one is named, are taken from readers, and answered.
 use Rattle.std.specs.Prelude.{ℕ, List, Option}
 use Rattle.wq_meter.specs.Meter.{Meter}
 use Rattle.wq_meter.specs.Input.{Gives}

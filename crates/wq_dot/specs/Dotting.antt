@@ -1,4 +1,4 @@
--- The answer to a declaration and an assignment, or to a declaration alone: a drawing.
+-- The answer to a declaration and an assignment, or to only a declaration: a drawing.
 use Rattle.std.specs.Prelude.{◌≡◌, ◌⊎◌, ℕ, zero, suc, List, ◌++◌, length, codes, decimal, MatchResult}
 use Rattle.wq_items.specs.Chain.{HasCircle}
 use Rattle.wq_items.specs.Table.{flush_count}
@@ -25,31 +25,32 @@ use Rattle.wq_dot.specs.Flushes.{all_arcs, looks_of}
 abbrev pub plan_title : ℕ → List ℕ
 plan_title workqueues = codes "plan " ++ decimal workqueues
 
--- `safe`, or `components N` where there are some
+-- `safe`, or `components N` if there are any
 abbrev pub components_title : ℕ → List ℕ
 components_title zero = codes "safe"
 components_title (suc others) = codes "components " ++ decimal (suc others)
 
 -- ---- drawings
 
--- the drawing of what is declared on the workqueues of this assignment, where the flushes of these arcs look so and the others
--- are plain
+-- the drawing of what is declared, on the workqueues of this assignment; the flushes of these arcs have this look, and the
+-- others are plain
 abbrev pub drawing_of : Declared → Assignment → List ℕ → FlushLook → List WaitArc → List ℕ
 drawing_of s a title look arcs = drawing_text s.table s.partition a title (looks_of (flush_count s.table.waits) look arcs)
 
--- the plan is drawn, and bold are the flushes that the chain of its plan text follows
+-- the plan is drawn; the flushes along the chain of its plan text are bold
 pub record DrawsPlan (s : Declared) (out : List ℕ) : Type 0 where
   pub assignment : Assignment
   pub plan : IsPlan (declared_waits s) assignment
   pub drawn : out ≡ drawing_of s assignment (plan_title assignment.lanes) Bold (chain_of (group_graph (declared_waits s)) assignment.lane_of_group)
 
--- an assignment is drawn, and red are the flushes that lie on a circle
+-- an assignment is drawn; the flushes that are on a circle are red
 pub record DrawsCircles (s : Declared) (a : Assignment) (out : List ℕ) : Type 0 where
   pub components : List (List WaitArc)
   pub are : AreComponents (declared_waits s) a components
   pub drawn : out ≡ drawing_of s a (components_title (length components)) Red (all_arcs components)
 
--- the groups of a declaration are drawn: on the workqueues of their plan; or, where they wait in a circle, each on one of its own
+-- the groups of a declaration are drawn: on the workqueues of their plan or, if they wait in a circle, each on its own
+-- workqueue
 abbrev pub DrawsGroups : Declared → List ℕ → Type 0
 DrawsGroups s out = DrawsPlan s out ⊎ (HasCircle (GroupWaits (declared_waits s)) s.partition.groups × DrawsCircles s (own_lanes s.partition.groups) out)
 
@@ -72,6 +73,6 @@ Draws declared text end out = MatchResult (declaration declared) (λ s. DrawsDec
 abbrev pub DrawsOwn : Declared → End → List ℕ → Type 0
 DrawsOwn s end out = (end ≡ Good) × DrawsGroups s out
 
--- the answer to the text of a declaration alone
+-- the answer to only the text of a declaration
 abbrev pub OwnDraws : List ℕ → End → List ℕ → Type 0
 OwnDraws declared end out = MatchResult (declaration declared) (λ s. DrawsOwn s end out) (λ r. IsRefused r end out)

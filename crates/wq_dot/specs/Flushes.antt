@@ -1,11 +1,11 @@
--- How the flushes of a drawing look: those of some arcs have a mark, and the others none.
+-- How the flushes of a drawing look: those of some arcs have a mark, and the others have none.
 use Rattle.std.specs.Prelude.{ℕ, ◌<◌, ◌==◌, List, map, flat_map, fold, cond, slice_set}
 use Rattle.std.specs.List.{All, list_any, range_with_len}
 use Rattle.wq_graph.specs.declared.arc.WaitArc.{WaitArc}
 use Rattle.wq_drawing.specs.declared.look.FlushLook.{FlushLook}
 use Rattle.wq_drawing.specs.declared.look.FlushLook.TheVariants.{Plain}
 
--- how the flush at this place looks, where those of these arcs look so
+-- how the flush at this place looks, if the flushes of these arcs have this look
 abbrev pub look_at : FlushLook → List WaitArc → ℕ → FlushLook
 look_at look arcs place = cond (list_any (λ (a : WaitArc). a.place == place) arcs) look Plain
 
@@ -13,7 +13,7 @@ look_at look arcs place = cond (list_any (λ (a : WaitArc). a.place == place) ar
 abbrev pub looks_of : ℕ → FlushLook → List WaitArc → List FlushLook
 looks_of n look arcs = map (look_at look arcs) (range_with_len 0 n)
 
--- the arcs of all components, one component after the other
+-- the arcs of all components, one component after another
 abbrev pub all_arcs : List (List WaitArc) → List WaitArc
 all_arcs components = flat_map (λ (arcs : List WaitArc). arcs) components
 
@@ -23,6 +23,6 @@ all_arcs components = flat_map (λ (arcs : List WaitArc). arcs) components
 abbrev pub AreMarkable : ℕ → List WaitArc → Type 0
 AreMarkable n arcs = All (λ (a : WaitArc). a.place < n) arcs
 
--- the looks after the flush of each of these arcs was given one
+-- the looks after the flush of each of these arcs was given this look
 abbrev pub with_marks : FlushLook → List FlushLook → List WaitArc → List FlushLook
 with_marks look looks arcs = fold (λ (l : List FlushLook) (a : WaitArc). slice_set l a.place look) looks arcs

@@ -1,4 +1,5 @@
--- Drawings: the text for Graphviz of items in their groups and workqueues, and of the flushes between them, line by line.
+-- Drawings: the text for Graphviz that shows the items in their groups and workqueues, and the flushes between them, line by
+-- line.
 use Rattle.std.specs.Prelude.{ℕ, ◌==◌, List, [], ◌∷◌, ◌++◌, length, map, flat_map, filter, slice_index_or, codes, decimal}
 use Rattle.std.specs.List.{range_with_len}
 use Rattle.wq_items.specs.Table.{Table, items_at}
@@ -15,7 +16,7 @@ name_of names i = slice_index_or names i []
 
 -- ---- the head
 
--- the four lines of the head, of which the second one varies by the title
+-- the four lines of the head; the second one has the title
 abbrev pub head_lines : List ℕ → List (List ℕ)
 head_lines title =
     codes "digraph wqplan {"
@@ -26,15 +27,15 @@ head_lines title =
 
 -- ---- groups
 
--- a group of one item: `"NAME";`, behind four spaces
+-- a group of one item: `"NAME";`, after four spaces
 abbrev pub single_line : List (List ℕ) → ℕ → List ℕ
 single_line names i = codes "    \"" ++ name_of names i ++ codes "\";"
 
--- an item of a group of several: `"NAME";`, behind six spaces
+-- an item of a group of several: `"NAME";`, after six spaces
 abbrev pub member_line : List (List ℕ) → ℕ → List ℕ
 member_line names i = codes "      \"" ++ name_of names i ++ codes "\";"
 
--- a group of several items, of which this one is the first: a box in the box, with a line for each item
+-- a group of several items, of which this one is the first: a box within the workqueue's box, with a line for each item
 abbrev pub ordered_lines : List (List ℕ) → ℕ → List ℕ → List (List ℕ)
 ordered_lines names first members =
     (codes "    subgraph \"cluster ordered " ++ name_of names first ++ codes "\" {")
@@ -53,37 +54,37 @@ group_lines names (first ∷ second ∷ others) = ordered_lines names first (fir
 abbrev pub groups_on : Assignment → ℕ → List ℕ
 groups_on a q = filter (λ g. group_lane a g == q) (range_with_len 0 (length a.lane_of_group))
 
--- workqueue q with these groups: its three lines, and those of the groups before the third one
+-- workqueue q with these groups: its three lines, with those of the groups before the third one
 abbrev pub box_lines : List (List ℕ) → List ℕ → ℕ → List ℕ → List (List ℕ)
 box_lines names group_of q own =
     (codes "  subgraph \"cluster wq " ++ decimal q ++ codes "\" {")
     ∷ (codes "    graph [label=\"wq " ++ decimal q ++ codes "\", rank=same, style=filled, color=gray92];")
     ∷ (flat_map (λ g. group_lines names (items_at group_of g)) own ++ (codes "  }" ∷ []))
 
--- that of workqueue q with its groups
+-- the lines of workqueue q with its groups
 abbrev pub workqueue_lines : List (List ℕ) → List ℕ → Assignment → ℕ → List (List ℕ)
 workqueue_lines names group_of a q = box_lines names group_of q (groups_on a q)
 
 -- ---- flushes
 
--- what an arrow is marked with
+-- the mark of an arrow
 abbrev pub look_text : FlushLook → List ℕ
 look_text Plain = []
 look_text Red = codes " [color=red]"
 look_text Bold = codes " [style=bold]"
 
--- a flush that looks so: `"NAME" -> "TARGET";`, behind two spaces, with the mark of the look before the semicolon
+-- a flush with this look: `"NAME" -> "TARGET";`, after two spaces, with the mark of the look before the semicolon
 abbrev pub arrow_line : List (List ℕ) → FlushLook → WaitArc → List ℕ
 arrow_line names look flush =
     codes "  \"" ++ name_of names flush.src ++ codes "\" -> \"" ++ name_of names flush.dst ++ codes "\"" ++ look_text look ++ codes ";"
 
--- that of a flush, which looks as the look at its place says
+-- the line of a flush, with the look that is at its place
 abbrev pub flush_line : List (List ℕ) → List FlushLook → WaitArc → List ℕ
 flush_line names looks flush = arrow_line names (slice_index_or looks flush.place Plain) flush
 
 -- ---- the text
 
--- the lines: the head, each workqueue from 0 on, each flush in order of place, and the end
+-- all lines: the head, each workqueue from 0 up, each flush in order of place, and the end
 abbrev pub drawing_lines : Table → Partition → Assignment → List ℕ → List FlushLook → List (List ℕ)
 drawing_lines t p a title looks =
     head_lines title

@@ -9,8 +9,8 @@ use Rattle.wq_explain.specs.declared.explain.Explained.{Explained}
 use Rattle.wq_explain.specs.declared.explain.Explained.TheVariants.{Known, Unknown}
 use Rattle.wq_explain.specs.declared.table.TheConstants.{EXPLANATIONS}
 
--- the numbers that have an explanation: of a declaration that is refused, of a certificate that is, of a `no`, and of a plan that
--- is refused since it has too many workqueues to run
+-- the numbers that have an explanation: those of a refused declaration, of a refused certificate, of a `no`, and of a plan that
+-- is refused because it has too many workqueues to run
 abbrev pub numbers : List ℕ
 numbers = 1 ∷ 2 ∷ 3 ∷ 4 ∷ 5 ∷ 6 ∷ 7 ∷ 8 ∷ 9 ∷ 10 ∷ 11 ∷ 12 ∷ 40 ∷ 41 ∷ 42 ∷ 43 ∷ 50 ∷ 51 ∷ 52 ∷ 53 ∷ 54 ∷ 69 ∷ []
 
@@ -23,8 +23,8 @@ names =
     ∷ codes "NotFalling" ∷ codes "ChainBroken" ∷ codes "LengthDiffers" ∷ codes "CircleBroken" ∷ codes "RunBroken"
     ∷ codes "TooManyLanes" ∷ codes "read" ∷ codes "memory" ∷ codes "thread" ∷ codes "tally" ∷ codes "write" ∷ []
 
--- a row of the table: the number that it explains, if it is no fault; the name of that or of the fault; its line in a list; and
--- what it means
+-- a row of the table: the number that it explains, unless it is a fault; the name of the number or of the fault; its line in a
+-- list; and what it means
 pub record Row : Type 0 where
   pub code : Option ℕ
   pub name : List ℕ
@@ -64,17 +64,17 @@ with_number rows code = find (λ row. numbered row.code code) rows
 abbrev pub with_name : List Row → List ℕ → Option Row
 with_name rows name = find (λ row. bytes_eq row.name name) rows
 
--- whether there is a digit, and nothing else
+-- whether there is at least one digit, and nothing else
 abbrev pub is_numeral : List ℕ → Bool
 is_numeral digits = nat_lt 0 (length digits) && list_all (λ d. nat_lt (digit_value d) 10) digits
 
--- the number of 32 bits that a word spells in digits, behind at most one plus
+-- the 32-bit number that a word spells in digits, after at most one plus
 abbrev pub number_in : List ℕ → Option ℕ
 number_in word =
     let digits = without_leading_plus word in
     cond (is_numeral digits && nat_lt (digits_value 10 digits) (2 ^ 32)) (Some (digits_value 10 digits)) None
 
--- the explanation that a word names, which spells this number or none
+-- the explanation that a word names, if it spells this number or none
 abbrev pub explanation_of : List Row → List ℕ → Option ℕ → Option Row
 explanation_of rows word (Some code) = with_number rows code
 explanation_of rows word None = with_name rows word
@@ -83,12 +83,12 @@ explanation_of rows word None = with_name rows word
 abbrev pub explanation_in : List Row → List ℕ → Option Row
 explanation_in rows word = explanation_of rows word (number_in word)
 
--- what is printed for a word: the text of its explanation where there is one, or else the titles of all
+-- what is printed for a word: the text of its explanation if there is one, or else the titles of all
 abbrev pub text_or_titles : List Row → Option Row → List ℕ
 text_or_titles rows (Some row) = explanation_text row
 text_or_titles rows None = unknown_text rows
 
--- what is printed for a word, or without one, where these are the rows of the table
+-- what is printed for a word, or without one, if these are the rows of the table
 abbrev pub text_in : List Row → Option (List ℕ) → List ℕ
 text_in rows (Some word) = text_or_titles rows (explanation_in rows word)
 text_in rows None = titles rows
@@ -98,7 +98,7 @@ abbrev pub known_or_not : Option Row → Explained
 known_or_not (Some row) = Known
 known_or_not None = Unknown
 
--- whether a word has an explanation, where these are the rows of the table; to list all is well too
+-- whether a word has an explanation, if these are the rows of the table; listing all is fine, too
 abbrev pub end_in : List Row → Option (List ℕ) → Explained
 end_in rows (Some word) = known_or_not (explanation_in rows word)
 end_in rows None = Known

@@ -6,6 +6,6 @@ use Rattle.wq_decl.specs.Reading.{is_text_byte}
 abbrev pub shown : ℕ → ℕ
 shown byte = if byte == 9 then 32 else (if is_text_byte byte then byte else 63)
 
--- numbers behind colons
+-- numbers, each after a colon
 abbrev pub place_text : List ℕ → List ℕ
 place_text place = flat_map (λ number. 58 ∷ decimal number) place

@@ -1,4 +1,4 @@
--- Wait graphs: of each vertex the declared flushes that leave it. Vertices are groups, or lanes.
+-- Wait graphs: for each vertex, the declared flushes that leave it. Vertices are groups, or lanes.
 use Rattle.std.specs.Prelude.{◌≡◌, ℕ, ◌<◌, ◌≤◌, ◌==◌, List, [], length, map, flat_map, filter, filter_map, find, slice_index, slice_index_or, Option, Contains}
 use Rattle.std.specs.List.{All, Any, range_with_len}
 use Rattle.std.specs.List.Sorted.{IsStrictlyIncreasing}
@@ -8,7 +8,7 @@ use Rattle.wq_groups.specs.Declaration.{Declaration}
 use Rattle.wq_groups.specs.Assignment.{Assignment, max_lanes, item_lanes}
 use Rattle.wq_graph.specs.declared.arc.WaitArc.{WaitArc}
 
--- the arc of a flush that item `src` declares, where `vertex_of` has of each item in turn its vertex
+-- the arc of a flush that item `src` declares, where `vertex_of` has the vertex of each item in turn
 abbrev pub arc_of : List ℕ → ℕ → Target → WaitArc
 arc_of vertex_of src t = record { src = src; dst = t.item; head = slice_index vertex_of t.item; place = t.place }
 
@@ -28,7 +28,7 @@ arcs_by_place waits vertex_of = filter_map (arc_at waits vertex_of) (range_with_
 abbrev pub arcs_from : List (List Target) → List ℕ → ℕ → List WaitArc
 arcs_from waits vertex_of v = filter (λ (a : WaitArc). slice_index vertex_of a.src == v) (arcs_by_place waits vertex_of)
 
--- of each of n vertices in turn the arcs that leave it
+-- for each of n vertices in turn, the arcs that leave it
 abbrev pub graph_of : List (List Target) → List ℕ → ℕ → List (List WaitArc)
 graph_of waits vertex_of n = map (arcs_from waits vertex_of) (range_with_len 0 n)
 
@@ -47,7 +47,7 @@ pub record IsArc (waits : List (List Target)) (vertex_of : List ℕ) (a : WaitAr
   pub declared : Any (λ (t : Target). (t.item ≡ a.dst) × (t.place ≡ a.place)) (targets_of waits a.src)
   pub head : a.head ≡ slice_index vertex_of a.dst
 
--- each is the arc of a declared flush that leaves v; each such flush has its arc; and their places rise
+-- each is the arc of a declared flush that leaves v; the arc of each such flush is there; and their places rise
 pub record AreArcsFrom (waits : List (List Target)) (vertex_of : List ℕ) (v : ℕ) (arcs : List WaitArc) : Type 0 where
   pub declared : All (λ (a : WaitArc). IsArc waits vertex_of a × (slice_index vertex_of a.src ≡ v)) arcs
   pub all : (a : WaitArc) → IsArc waits vertex_of a → slice_index vertex_of a.src ≡ v → Contains arcs a
@@ -59,12 +59,11 @@ pub record AreArcsFrom (waits : List (List Target)) (vertex_of : List ℕ) (v : 
 abbrev pub arcs_at : List (List WaitArc) → ℕ → List WaitArc
 arcs_at graph v = slice_index_or graph v []
 
--- an arc leaves vertex v for vertex w
+-- an arc leads from vertex v to vertex w
 abbrev pub HasArc : List (List WaitArc) → ℕ → ℕ → Type 0
 HasArc graph v w = Any (λ (a : WaitArc). a.head ≡ w) (arcs_at graph v)
 
--- what holds of every wait graph: at most 4,096 vertices; each arc leads to one of them; the places of a vertex's arcs
--- rise
+-- what holds for every wait graph: at most 4,096 vertices; each arc leads to one of them; the places of a vertex's arcs rise
 pub record IsGraph (graph : List (List WaitArc)) : Type 0 where
   pub few : length graph ≤ max_lanes
   pub heads : All (λ (arcs : List WaitArc). All (λ (a : WaitArc). a.head < length graph) arcs) graph

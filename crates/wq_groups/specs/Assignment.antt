@@ -2,7 +2,7 @@
 use Rattle.std.specs.Prelude.{◌≡◌, ℕ, ◌<◌, List, length, map, slice_index}
 use Rattle.std.specs.List.{All}
 
--- how many lanes there are, and of each group in turn the number of its lane; a lane may serve no group
+-- how many lanes there are, and for each group in turn the number of its lane; a lane may serve no group
 pub record Assignment : Type 0 where
   pub lanes : ℕ
   pub lane_of_group : List ℕ
@@ -20,10 +20,10 @@ pub record IsAssignment (groups : ℕ) (a : Assignment) : Type 0 where
 abbrev pub group_lane : Assignment → ℕ → ℕ
 group_lane a g = slice_index a.lane_of_group g
 
--- the lane of item i, that of its group
+-- the lane of item i: the lane of its group
 abbrev pub item_lane : Assignment → List ℕ → ℕ → ℕ
 item_lane a group_of i = group_lane a (slice_index group_of i)
 
--- of each item in turn its lane
+-- the lane of each item in turn
 abbrev pub item_lanes : Assignment → List ℕ → List ℕ
 item_lanes a group_of = map (group_lane a) group_of

@@ -5,7 +5,7 @@ use Rattle.wq_items.specs.declared.target.Target.{Target}
 use Rattle.wq_items.specs.Table.{Table, VertexWaits, TargetsBelow, PlacesRise, max_flushes, flush_count, places}
 use Rattle.wq_groups.specs.Partition.{Partition, IsPartition}
 
--- of each item in turn the targets of its flushes and the number of its group, and how many groups there are
+-- for each item in turn the targets of its flushes and the number of its group; and how many groups there are
 pub record Declaration : Type 0 where
   pub waits : List (List Target)
   pub group_of : List ℕ
@@ -15,11 +15,11 @@ pub record Declaration : Type 0 where
 abbrev pub declaration_of : Table → Partition → Declaration
 declaration_of t p = record { waits = t.waits; group_of = p.group_of; groups = p.groups }
 
--- a group waits for a group, which may be the same: an item of the one declares a flush of an item of the other
+-- a group waits for a group, which may be the same: an item of the first declares a flush of an item of the second
 abbrev pub GroupWaits : Declaration → ℕ → ℕ → Type 0
 GroupWaits d = VertexWaits d.waits d.group_of
 
--- what holds of every declaration: one list of targets for each item; groups as a partition has them; at most 16,384
+-- what holds for every declaration: one list of targets for each item; groups as a partition has them; at most 16,384
 -- flushes, each of an item, at the places 0, 1, 2 and so on, which rise within each item
 pub record IsDeclaration (d : Declaration) : Type 0 where
   pub one_list_each : length d.waits ≡ length d.group_of

@@ -18,13 +18,13 @@ names_ordered (n, Ordered names) = map (λ (word : WordView). word.bytes) names
 
 -- ---- the first fault
 
--- some name stands in the list twice
+-- some name is in the list twice
 abbrev pub has_twin : List (List ℕ) → Bool
 has_twin [] = false
 has_twin (name ∷ names) = list_any (bytes_eq name) names || has_twin names
 
 -- the number of the first line with a name that is on it twice, or on an `ordered` line before it, where these are
--- the names ordered before
+-- the names on the `ordered` lines so far
 abbrev pub first_regrouped : List (List ℕ) → List (ℕ × Directive) → Option ℕ
 first_regrouped before [] = None
 first_regrouped before (d ∷ ds) =
@@ -34,8 +34,8 @@ first_regrouped before (d ∷ ds) =
 abbrev pub all_ordered : List (ℕ × Directive) → List (List ℕ)
 all_ordered ds = flat_map names_ordered ds
 
--- line n is the first that orders a name again: the names on the `ordered` lines before it all differ, and with those on
--- the line they don't
+-- line n is the first that orders a name again: the names on the `ordered` lines before it all differ, but together with
+-- those on the line they don't
 pub record IsLowestRegrouped (ds : List (ℕ × Directive)) (n : ℕ) : Type 0 where
   pub before : List (ℕ × Directive)
   pub line : ℕ × Directive
@@ -51,11 +51,11 @@ pub record IsLowestRegrouped (ds : List (ℕ × Directive)) (n : ℕ) : Type 0 w
 abbrev pub ShareLine : List (ℕ × Directive) → List ℕ → List ℕ → Type 0
 ShareLine ds a b = Any (λ (d : ℕ × Directive). Contains (names_ordered d) a × Contains (names_ordered d) b) ds
 
--- the two names are one, or an `ordered` line has both
+-- the two names are the same, or an `ordered` line has both
 abbrev pub are_together : List (ℕ × Directive) → List ℕ → List ℕ → Bool
 are_together ds a b = bytes_eq a b || list_any (λ d. list_any (bytes_eq a) (names_ordered d) && list_any (bytes_eq b) (names_ordered d)) ds
 
--- the first-declared item of the group of this name, which an item has
+-- the first-declared item of the group of this name, which is an item's name
 abbrev pub first_member : List (ℕ × Directive) → List (List ℕ) → List ℕ → ℕ
 first_member ds names name = unwrap_or (position (are_together ds name) names) 0
 
@@ -67,13 +67,13 @@ first_members ds names = filter (λ i. first_member ds names (slice_index_or nam
 abbrev pub group_number : List (ℕ × Directive) → List (List ℕ) → List ℕ → ℕ
 group_number ds names name = count_by (λ i. nat_lt i (first_member ds names name)) (first_members ds names)
 
--- the groups of the items of these names, where no name is ordered twice
+-- the groups of the items with these names, if no name is ordered twice
 abbrev pub partition_of : List (ℕ × Directive) → List (List ℕ) → Partition
 partition_of ds names = record { group_of = map (group_number ds names) names; groups = length (first_members ds names) }
 
 -- ---- what is answered
 
--- the groups that directives declare of the items of these names, or the first fault
+-- the groups that directives declare for the items with these names, or the first fault
 abbrev pub groups_of : List (ℕ × Directive) → List (List ℕ) → Result Partition GroupError
 groups_of ds names = unless_regrouped (first_regrouped [] ds)
   where
@@ -81,12 +81,12 @@ groups_of ds names = unless_regrouped (first_regrouped [] ds)
     unless_regrouped (Some line) = Err (GroupedTwice line)
     unless_regrouped None = Ok (partition_of ds names)
 
--- what a call answers in place of groups: that memory ran out, or else the first fault
+-- what a call answers instead of groups: that memory ran out, or else the first fault
 abbrev pub IsGroupFaultOf : GroupError → Result Partition GroupError → Type 0
 IsGroupFaultOf (GroupedTwice line) r = r ≡ Err (GroupedTwice line)
 IsGroupFaultOf OutOfMemory r = Unit {0}
 
--- 11 with the line, 20 without one
+-- code 11 with the line, or 20 without one
 abbrev pub group_refusal : GroupError → Refusal
 group_refusal (GroupedTwice line) = record { code = 11; line = line }
 group_refusal OutOfMemory = record { code = 20; line = 0 }

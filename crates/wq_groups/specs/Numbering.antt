@@ -1,14 +1,14 @@
--- Numbering: the numbers of groups, where of each item its head is known, the first-declared item of its group.
+-- Numbering: the numbers of groups, where the head of each item is known: the first-declared item of its group.
 use Rattle.std.specs.Prelude.{◌≡◌, ℕ, zero, suc, ◌+◌, ◌<◌, ◌≤◌, ◌==◌, if◌then◌else◌, map}
 use Rattle.std.specs.List.{range_with_len}
 use Rattle.wq_groups.specs.Partition.{Partition}
 
--- of the items below n: none stands before its head, and a head is its own
+-- for the items below n: none is before its head, and a head is its own head
 pub record AreHeads (n : ℕ) (F : ℕ → ℕ) : Type 0 where
   pub no_later : (i : ℕ) → i < n → F i ≤ i
   pub own : (i : ℕ) → i < n → F (F i) ≡ F i
 
--- how many heads stand below m
+-- how many heads are below m
 abbrev pub heads_below : (ℕ → ℕ) → ℕ → ℕ
 heads_below F zero = 0
 heads_below F (suc m) = heads_below F m + (if F m == m then 1 else 0)

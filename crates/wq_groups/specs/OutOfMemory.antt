@@ -12,6 +12,6 @@ pub record RanOutOfGroups (ds : List (ℕ × Directive)) (names : List (List ℕ
   pub grows : 0 < length names
 
 -- memory can run out in the pass over the items, at a line up to which no line has a fault; or in the pass over the
--- groups, where no line has a fault of either pass
+-- groups, if no line has a fault of either pass
 abbrev pub RanOutReading : List (ℕ × Directive) → Type 0
 RanOutReading ds = RanOut ds ⊎ ((t : Table) × (table_of ds ≡ Ok t) × RanOutOfGroups ds t.names)

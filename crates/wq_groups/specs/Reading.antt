@@ -1,23 +1,23 @@
--- Reading: what is noted of the items while the directives are gone over.
+-- Reading: what is noted about the items while the directives are gone through.
 use Rattle.std.specs.Prelude.{◌≡◌, ◌≢◌, ℕ, Bool, List, map, bytes_eq, AllPairs}
 use Rattle.std.specs.List.{list_any, position_or_len}
 use Rattle.wq_text.specs.Words.{WordView}
 use Rattle.wq_decl.specs.declared.directive.Directive.{Directive}
 use Rattle.wq_groups.specs.Grouping.{all_ordered, first_member}
 
--- the names that words are
+-- words as names
 abbrev pub names_in : List WordView → List (List ℕ)
 names_in words = map (λ (word : WordView). word.bytes) words
 
--- of each of these names, whether it stands in the list
+-- for each of these names, whether it is in the list
 abbrev pub marks_of : List (List ℕ) → List (List ℕ) → List Bool
 marks_of names ordered = map (λ (name : List ℕ). list_any (bytes_eq name) ordered) names
 
--- where the first of these names stands that is in the list; if none is, how many names there are
+-- the place of the first of these names that is in the list; if none is, how many names there are
 abbrev pub lowest_of : List (List ℕ) → List (List ℕ) → ℕ
 lowest_of names ordered = position_or_len (λ (name : List ℕ). list_any (bytes_eq name) ordered) names
 
--- what is noted after these directives: of each item the first-declared one of its group, and whether its name is on
+-- what is noted after these directives: for each item, the first-declared item of its group, and whether its name is on
 -- an `ordered` line; no name is there twice
 pub record IsNoted (ds : List (ℕ × Directive)) (names : List (List ℕ)) (first : List ℕ) (ordered : List Bool) : Type 0 where
   pub firsts : first ≡ map (first_member ds names) names

@@ -11,26 +11,26 @@ use Rattle.wq_history.specs.declared.asking.Told.TheVariants.{Done, NotYet, NotA
 use Rattle.wq_history.specs.History.{asks_waiting}
 use Rattle.wq_history.specs.Book.{BookView, state, Appends, AppendsOne, IsWaiting, HasNothingToStart, WaitGoesOn}
 
--- `ask` of item i: a row says whether it has an unfinished entry; a caller who waits holds the item, and the number of the
--- row as mark
+-- `ask` of item i: a row says whether it has an unfinished entry; a caller who waits holds the item, and the number of the row
+-- as its mark
 abbrev pub AnswersAsk : BookView → BookView → ℕ → Ask → Type 0
 AnswersAsk old new i Idle = AppendsOne old new (AskEvent i) false
 AnswersAsk old new i (WaitingAnswer asked) = (asked.item ≡ i) × Appends old new (AskEvent i) true asked.mark
 
--- `told`: a row says that the wait is over; or nothing is changed and the ask is given back, since an entry that it waits
--- for is unfinished, or since no ask of its item waits
+-- `told`: a row says that the wait is over; or nothing is changed and the ask is given back, because an entry that it waits for
+-- is unfinished, or because no ask of its item waits
 abbrev pub AnswersTold : BookView → BookView → Asked → Told → Type 0
 AnswersTold old new asked Done = Appends old new (ToldEvent asked.item) true asked.mark
 AnswersTold old new asked (NotYet same) = (same ≡ asked) × (new ≡ old) × (0 < asks_waiting asked.item old.rows)
     × HasUnfinishedBelow (state old) asked.item asked.mark
 AnswersTold old new asked (NotAsked same) = (same ≡ asked) × (new ≡ old) × (asks_waiting asked.item old.rows ≡ 0)
 
--- `start` on lane q: the item that a row says is started; or nothing is changed, since the lane has nothing to start
+-- `start` on lane q: a row says which item is started; or nothing is changed, because the lane has nothing to start
 abbrev pub AnswersStart : BookView → BookView → ℕ → Option ℕ → Type 0
 AnswersStart old new q (Some i) = AppendsOne old new (Start q i) true
 AnswersStart old new q None = HasNothingToStart old q × (new ≡ old)
 
--- `over` on lane q: a row says that the wait is over for the target that the lane waited for; or nothing is changed, since
+-- `over` on lane q: a row says that the wait is over for the target that the lane waited for; or nothing is changed, because
 -- the wait goes on
 abbrev pub AnswersOver : BookView → BookView → ℕ → Bool → Type 0
 AnswersOver old new q true = (f : Waiting) × IsWaiting old q f × AppendsOne old new (Over q f.target) true

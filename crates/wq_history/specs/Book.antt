@@ -1,4 +1,4 @@
--- Books: a history with room for so many rows, and what each call answers.
+-- Books: a history with room for a given number of rows, and what each call answers.
 use Rattle.std.specs.Prelude.{◌≡◌, ℕ, ◌+◌, ◌<◌, ◌≤◌, ◌⊎◌, List, ◌∷◌, [], ◌++◌, length, Some, None, Bool, true, false}
 use Rattle.wq_items.specs.Table.{ItemWaits}
 use Rattle.wq_core.specs.declared.entry.Waiting.{Waiting}
@@ -14,7 +14,7 @@ use Rattle.wq_history.specs.declared.fault.BookError.TheVariants.{HistoryFull, C
 use Rattle.wq_history.specs.History.{state_after, MayCome, IsLegal}
 use Rattle.wq_history.specs.Reserve.{reserved, free_rows, rows_needed}
 
--- a book: whose machine it is of, the rows so far, how many there is room for, and whether it is closed. Its state is the
+-- a book: the wiring of its machine, the rows so far, how many there is room for, and whether it is closed. Its state is the
 -- replay of the rows
 pub record BookView : Type 0 where
   pub wiring : Wiring
@@ -30,15 +30,15 @@ state b = state_after b.wiring b.rows
 abbrev pub free : BookView → ℕ
 free b = free_rows b.wiring b.room b.rows
 
--- what holds of every book: its wiring is sound, its rows are a legal history, it has room for as many as a history may have,
--- and those that are written and those that are kept have room
+-- what holds for every book: its wiring is sound, its rows are a legal history, it has no more room than a history may have,
+-- and there is room for the rows that are written and for those that are kept
 pub record IsBook (b : BookView) : Type 0 where
   pub wiring : IsWiring b.wiring
   pub legal : IsLegal b.wiring b.rows
   pub limit : b.room ≤ max_rows
   pub enough : length b.rows + reserved b.wiring b.rows ≤ b.room
 
--- exactly one row is appended, which may follow those before it, and as many rows were free as its event needs; nothing
+-- exactly one row is appended, which may follow those before it; at least as many rows were free as its event needs; nothing
 -- else is changed
 pub record Appends (old new : BookView) (event : Event) (said : Bool) (number : ℕ) : Type 0 where
   pub may : MayCome old.wiring old.rows event said number
@@ -69,7 +69,7 @@ IsWaiting b q f = (r : Running) × LaneRuns b q r × (r.waiting ≡ Some f)
 
 -- ---- why a call is refused: the first cause that holds
 
--- making a book of so many rows: they are too many; out of memory, which comes only where there are rows or items
+-- making a book of this many rows: too many rows; out of memory, which happens only if there are rows or items
 abbrev pub RefusesNew : Wiring → ℕ → BookError → Type 0
 RefusesNew w rows TooManyRows = max_rows < rows
 RefusesNew w rows OutOfMemory = (rows ≤ max_rows) × ((0 < rows) ⊎ (0 < items w))
@@ -91,7 +91,7 @@ RefusesQueue b i WrongLane = ⊥
 RefusesQueue b i TooManyRows = ⊥
 RefusesQueue b i OutOfMemory = ⊥
 
--- `cancel` and `ask`, whose event this is of item i: no such item; too few rows are free
+-- `cancel` or `ask` of item i, whichever has this event: no such item; too few rows are free
 abbrev pub RefusesItem : BookView → ℕ → (ℕ → Event) → BookError → Type 0
 RefusesItem b i event NoItem = items b.wiring ≤ i
 RefusesItem b i event HistoryFull = (i < items b.wiring) × LacksRows b (event i)
@@ -102,7 +102,7 @@ RefusesItem b i event WrongLane = ⊥
 RefusesItem b i event TooManyRows = ⊥
 RefusesItem b i event OutOfMemory = ⊥
 
--- the call is refused because its lane is the wrong one, where this says so
+-- the call is refused because its lane is the wrong one, which this states
 abbrev pub RefusesLane : Type 0 → BookError → Type 0
 RefusesLane wrong WrongLane = wrong
 RefusesLane wrong NoItem = ⊥
@@ -117,11 +117,11 @@ RefusesLane wrong OutOfMemory = ⊥
 abbrev pub IsWrongToStart : BookView → ℕ → Type 0
 IsWrongToStart b q = (b.wiring.lanes ≤ q) ⊎ ((r : Running) × LaneRuns b q r)
 
--- `wait` and `finish` on lane q are wrong: there is no such lane, it runs none, or its entry waits
+-- `wait` and `finish` on lane q are wrong: there is no such lane, it runs nothing, or its entry waits
 abbrev pub IsNotAwake : BookView → ℕ → Type 0
 IsNotAwake b q = (r : Running) → ¬ IsAwake b q r
 
--- `over` on lane q is wrong: there is no such lane, it runs none, or its entry doesn't wait
+-- `over` on lane q is wrong: there is no such lane, it runs nothing, or its entry doesn't wait
 abbrev pub IsNotWaiting : BookView → ℕ → Type 0
 IsNotWaiting b q = (f : Waiting) → ¬ IsWaiting b q f
 
@@ -140,7 +140,7 @@ RefusesWait b q target OutOfMemory = ⊥
 
 -- ---- answers without a row
 
--- lane q has nothing to start: there is such a lane, it runs nothing, and nothing is pending
+-- lane q has nothing to start: the lane exists, runs nothing, and has nothing pending
 abbrev pub HasNothingToStart : BookView → ℕ → Type 0
 HasNothingToStart b q = (q < b.wiring.lanes) × (lane_at (state b) q ≡ idle_lane)
 

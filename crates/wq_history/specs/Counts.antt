@@ -14,11 +14,12 @@ pub record AskView : Type 0 where
   pub counts : List ℕ
   pub all : ℕ
 
--- the sum is that of the counts
+-- the number in all is the sum of the counts
 abbrev pub CountsAll : AskView → Type 0
 CountsAll asks = sum asks.counts ≡ asks.all
 
--- the counts are those of these rows: item by item, and in all, what waits and what was told are what was asked with yes
+-- the counts are those of these rows: item by item and in all, the asks that wait and those that were told add up to those that
+-- were answered with yes
 pub record CountsAsks (rows : List Row) (asks : AskView) : Type 0 where
   pub each : (i : ℕ) → slice_index asks.counts i + count_by (ends_a_wait i) rows ≡ count_by (begins_to_wait i) rows
   pub in_all : asks.all + count_by (λ (row : Row). is_told row.event) rows ≡ count_by (λ (row : Row). is_ask row.event && row.yes) rows
@@ -33,7 +34,7 @@ pub record Replays (machine : Machine) (rows : List Row) (asks : AskView) : Type
   pub asked : CountsAsks rows asks
   pub numbers : machine.state.next ≤ length rows
 
--- what holds of the parts of a book: its machine is the replay of its rows, the work that is left is counted, and rows are
+-- what holds for the parts of a book: its machine is the replay of its rows, the work that is left is counted, and rows are
 -- kept for it and for the asks that wait
 pub record HoldsBook (machine : Machine) (rows : List Row) (room : ℕ) (asks : AskView) (work : ℕ) : Type 0 where
   pub replays : Replays machine rows asks

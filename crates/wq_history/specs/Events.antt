@@ -7,8 +7,8 @@ use Rattle.wq_rows.specs.declared.event.Event.{Event}
 use Rattle.wq_rows.specs.declared.event.Event.TheVariants.{Queue, Cancel, Start, Wait, Over, Finish, Ask, Told}
 use Rattle.wq_rows.specs.declared.event.Row.{Row}
 
--- the step that an event with this `yes` makes, if it makes one: a queueing that isn't accepted and a cancellation that
--- finds nothing make none, and callers who ask and are told make none
+-- the step that an event with this `yes` makes, if it makes one: a queueing that isn't accepted and a cancellation that finds
+-- nothing make none, nor do callers who ask or are told
 abbrev pub step_of : Event → Bool → Option Step
 step_of (Queue i) true = Some (QueueStep i)
 step_of (Queue i) false = None
@@ -47,7 +47,7 @@ tells i (Finish q j) = false
 tells i (Ask j) = false
 tells i (Told j) = j == i
 
--- the row is of a caller who waits from then on, for the item
+-- the row is of a caller who begins to wait for the item
 abbrev pub begins_to_wait : ℕ → Row → Bool
 begins_to_wait i row = asks i row.event && row.yes
 

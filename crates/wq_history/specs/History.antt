@@ -13,11 +13,11 @@ use Rattle.wq_rows.specs.declared.event.Row.{Row}
 use Rattle.wq_rows.specs.Packing.{item_in}
 use Rattle.wq_history.specs.Events.{steps_of, begins_to_wait, ends_a_wait, is_ask, is_told}
 
--- the replay: the state that the steps of rows leave
+-- the replay: the state after the steps of these rows
 abbrev pub state_after : Wiring → List Row → State
 state_after w rows = end_of w (steps_of rows)
 
--- how many asks of the item are waiting: those that were answered with yes, less those that were told
+-- how many asks of the item are waiting: those that were answered with yes, minus those that were told
 abbrev pub asks_waiting : ℕ → List Row → ℕ
 asks_waiting i rows = count_by (begins_to_wait i) rows - count_by (ends_a_wait i) rows
 
@@ -33,12 +33,12 @@ Makes w s step number = Lawful w s step × Gives s step number
 abbrev pub SaysUnfinished : State → ℕ → Bool → Type 0
 SaysUnfinished s i said = IsTrue said ↔ HasUnfinishedOf s i
 
--- in a state in which so many asks of its item wait, an event may come with this `yes` and this number: a queueing is
--- accepted exactly where the item isn't pending, a cancellation takes an entry off exactly where one is pending; a wait and
--- an ask say whether the item has an unfinished entry; and a caller is told only where an ask of the item waits, and no
--- entry of it below the number is unfinished. All else has yes. The number is that of the step; of an ask it is the next
--- number, and where nothing is queued or taken off it is 0. Lanes and items of legal histories exist, since their steps are
--- lawful and those whom a caller is told of were asked for
+-- in a state in which this many asks of its item wait, an event may come with this `yes` and this number. A queueing is
+-- accepted exactly if the item isn't pending; a cancellation removes an entry exactly if one is pending; a wait and an ask say
+-- whether the item has an unfinished entry; and a caller is told only if an ask of the item waits, and no entry of it below the
+-- number is unfinished. All other events have yes. The number is that of the step; for an ask it is the next number; and if
+-- nothing is queued or removed, it is 0. The lanes and items of legal histories exist, since their steps are lawful and callers
+-- are told only of items that were asked for
 abbrev pub MayComeIn : Wiring → State → ℕ → Event → Bool → ℕ → Type 0
 MayComeIn w s waiting (Queue i) said n = (i < items w) × MatchBool said (Makes w s (QueueStep i) n) (HasPending s i × (n ≡ 0))
 MayComeIn w s waiting (Cancel i) said n = (i < items w) × MatchBool said (Makes w s (CancelStep i) n) ((¬ HasPending s i) × (n ≡ 0))

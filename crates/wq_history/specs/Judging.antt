@@ -1,4 +1,4 @@
--- Judging a history: what its bytes say of a machine on which nothing has happened.
+-- Judging a history: what its bytes say about a machine on which nothing has happened.
 use Rattle.std.specs.Prelude.{◌≡◌, ℕ, ◌+◌, ◌-◌, ◌<◌, List, ◌++◌, length, take, slice_index, slice_set, Option, Some, None, Bool, true, false}
 use Rattle.wq_core.specs.declared.step.Step.{Step}
 use Rattle.wq_core.specs.Wiring.{items}
@@ -13,13 +13,13 @@ use Rattle.wq_history.specs.declared.row_error.RowFault.TheVariants.{BadRow, Not
 use Rattle.wq_history.specs.History.{state_after, MayFollow, IsLegal}
 use Rattle.wq_history.specs.Counts.{AskView}
 
--- the bytes hold these rows, they are a legal history of the machine, and what was a new machine is now their replay
+-- the bytes hold these rows, they are a legal history of the machine, and the machine, which was new, is now their replay
 pub record IsJudged (old : Machine) (bytes : List ℕ) (rows : List Row) (new : Machine) : Type 0 where
   pub stored : IsStored bytes rows
   pub legal : IsLegal old.wiring rows
   pub replay : new ≡ record { wiring = old.wiring; state = state_after old.wiring rows }
 
--- the bytes up to a place are such a history, and some are left; the row that is to follow is the one at `at`, from 1
+-- the bytes up to a place are such a history, and some are left; the next row is the one at `at`, counted from 1
 pub record IsJudgedUpTo (old : Machine) (bytes : List ℕ) (at : ℕ) (new : Machine) : Type 0 where
   pub rows : List Row
   pub judged_bytes : List ℕ
@@ -29,14 +29,14 @@ pub record IsJudgedUpTo (old : Machine) (bytes : List ℕ) (at : ℕ) (new : Mac
   pub some_left : 0 < length left
   pub at_is : at ≡ length rows + 1
 
--- why bytes are no legal history: the next 12 of them, or those that are left where they are fewer, are no row; they are a
--- row that may not follow; out of memory comes before any row, and only where there are items
+-- why bytes aren't a legal history: the next 12 of them, or those that are left if they are fewer, aren't a row; they are a row
+-- that may not follow; out of memory, which comes before any row, and only if there are items
 abbrev pub IsFaultAt : Machine → List ℕ → ℕ → Machine → RowFault → Type 0
 IsFaultAt old bytes at new BadRow = (place : IsJudgedUpTo old bytes at new) × ((row : Row) → ¬ IsPackedRow (take 12 place.left) row)
 IsFaultAt old bytes at new NotLegal = (place : IsJudgedUpTo old bytes at new) × ((row : Row) × IsPackedRow (take 12 place.left) row × (¬ MayFollow old.wiring place.rows row))
 IsFaultAt old bytes at new OutOfMemory = (at ≡ 0) × (new ≡ old) × (0 < items old.wiring)
 
--- ---- one row more
+-- ---- one more row
 
 -- the machine after a step, if there is one
 abbrev pub stepped : Machine → Option Step → Machine

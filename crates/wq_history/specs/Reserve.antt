@@ -7,17 +7,17 @@ use Rattle.wq_rows.specs.declared.event.Event.TheVariants.{Queue, Cancel, Start,
 use Rattle.wq_rows.specs.declared.event.Row.{Row}
 use Rattle.wq_history.specs.History.{state_after, all_asks_waiting}
 
--- rows that are kept for what is to come: one for each step that is left, and one for each ask that waits
+-- how many rows are kept for what is to come: one for each step that is left, and one for each ask that waits
 abbrev pub reserved : Wiring → List Row → ℕ
 reserved w rows = work_left w (state_after w rows) + all_asks_waiting rows
 
--- of so many rows those that are neither written nor kept
+-- how many of this many rows are neither written nor kept
 abbrev pub free_rows : Wiring → ℕ → List Row → ℕ
 free_rows w room rows = room - (length rows + reserved w rows)
 
--- how many rows an event with this `yes` needs free: an accepted queueing its own and those of the execution, an ask that
--- waits its own and that of its end, and what comes to nothing its own; a cancellation that takes an entry off writes one
--- of those kept for it, and rescuers and callers who are told write theirs
+-- how many free rows an event with this `yes` needs: an accepted queueing needs its own and those of the execution; an ask that
+-- waits, its own and that of its end; an event that comes to nothing, its own. A cancellation that removes an entry writes one
+-- of the rows kept for it, and rescuers and callers who are told write theirs
 abbrev pub rows_needed : Wiring → Event → Bool → ℕ
 rows_needed w (Queue i) true = 1 + whole_work w i
 rows_needed w (Queue i) false = 1

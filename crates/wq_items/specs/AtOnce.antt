@@ -6,7 +6,7 @@ use Rattle.wq_decl.specs.declared.directive.Directive.TheVariants.{Item, Flush, 
 use Rattle.wq_decl.specs.declared.fault.DeclError.{DeclError}
 use Rattle.wq_decl.specs.Names.{is_name, are_names}
 
--- the words after `item` as a directive, if there is just one
+-- the words after `item` as a directive, if there is exactly one
 abbrev pub item_unjudged : List WordView → Option (Option Directive)
 item_unjudged [] = None
 item_unjudged (name ∷ []) = Some (Some (Item name))
@@ -18,7 +18,7 @@ flush_unjudged [] = None
 flush_unjudged (name ∷ targets) = Some (Some (Flush name targets))
 
 -- the words of a line as a directive, whatever they are and even if there are too few: nothing on a blank line, and no answer
--- where they can't be those of a directive
+-- if they can't be those of a directive
 abbrev pub unjudged : List WordView → Option (Option Directive)
 unjudged [] = Some None
 unjudged (first ∷ others) =
@@ -34,7 +34,7 @@ is_whole (Flush name (target ∷ others)) = are_names (name ∷ target ∷ other
 is_whole (Ordered []) = false
 is_whole (Ordered (name ∷ others)) = are_names (name ∷ others)
 
--- what the words of a line seem to say, and what the line says: the same where the directive is whole, and else it has a fault
+-- what the words of a line seem to say and what the line says: the same if the directive is whole; otherwise it has a fault
 abbrev pub Foretells : Option (Option Directive) → Result (Option Directive) DeclError → Type 0
 Foretells None said = ¬ IsOk said
 Foretells (Some None) said = said ≡ Ok None

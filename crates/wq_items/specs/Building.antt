@@ -14,11 +14,11 @@ use Rattle.wq_items.specs.Table.{Table, item_named, targets_of, flush_count, max
 abbrev pub empty_table : Table
 empty_table = record { names = []; spans = []; waits = [] }
 
--- where a word stands
+-- where a word is in the text
 abbrev pub span_of : WordView → Span
 span_of word = record { start = word.start; end = word.start + length word.bytes }
 
--- the table with one item more, which flushes nothing
+-- the table with one more item, which flushes nothing
 abbrev pub with_item : Table → WordView → Table
 with_item t name =
     record { names = t.names ++ (name.bytes ∷ []); spans = t.spans ++ (span_of name ∷ []); waits = t.waits ++ ([] ∷ []) }
@@ -32,31 +32,31 @@ targets_from place (item ∷ items) = record { item = item; place = place } ∷ 
 abbrev pub with_flushes : Table → ℕ → List ℕ → Table
 with_flushes t i items = record t { waits = slice_set t.waits i (targets_of t.waits i ++ targets_from (flush_count t.waits) items) }
 
--- an item in front of others, where all are known
+-- an item before the others, if all are known
 abbrev pub and_item : Option ℕ → Option (List ℕ) → Option (List ℕ)
 and_item None others = None
 and_item (Some i) None = None
 and_item (Some i) (Some others) = Some (i ∷ others)
 
--- the items of these names, if each is declared
+-- the items with these names, if each is declared
 abbrev pub items_named : List (List ℕ) → List WordView → Option (List ℕ)
 items_named names [] = Some []
 items_named names (word ∷ words) = and_item (item_named names word.bytes) (items_named names words)
 
--- line n declares an item of this name
+-- line n declares an item with this name
 abbrev pub item_declared : Table → ℕ → WordView → Result Table ItemError
 item_declared t n name =
     if is_some (item_named t.names name.bytes) then Err (ItemTwice n)
     else (if nat_le max_items (length t.names) then Err (TooManyItems n) else Ok (with_item t name))
 
--- line n declares that the first of these items flushes the others, where all names on it are known
+-- line n declares that the first of these items flushes the others, if all names on it are known
 abbrev pub flushes_declared : Table → ℕ → Option (List ℕ) → Result Table ItemError
 flushes_declared t n None = Err (UnknownItem n)
 flushes_declared t n (Some []) = Ok t
 flushes_declared t n (Some (i ∷ items)) =
     if nat_lt max_flushes (flush_count t.waits + length items) then Err (TooManyFlushes n) else Ok (with_flushes t i items)
 
--- line n puts these items into one group, where all names on it are known; the table stays as it is
+-- line n puts these items into one group, if all names on it are known; the table stays as it is
 abbrev pub items_ordered : Table → ℕ → Option (List ℕ) → Result Table ItemError
 items_ordered t n None = Err (UnknownItem n)
 items_ordered t n (Some items) = Ok t
@@ -67,7 +67,7 @@ declared t n (Item name) = item_declared t n name
 declared t n (Flush name targets) = flushes_declared t n (items_named t.names (name ∷ targets))
 declared t n (Ordered names) = items_ordered t n (items_named t.names names)
 
--- what follows a value, where there is one; an error stays
+-- what follows a value, if there is one; an error stays
 abbrev pub and_then : {V W E : Type 0} → (V → Result W E) → Result V E → Result W E
 and_then next (Ok v) = next v
 and_then next (Err e) = Err e
@@ -81,7 +81,7 @@ table_after t (d ∷ ds) = and_then (λ u. table_after u ds) (declared t d.0 d.1
 abbrev pub table_of : List (ℕ × Directive) → Result Table ItemError
 table_of ds = table_after empty_table ds
 
--- what a call answers in place of a table: that memory ran out, or else the first fault
+-- what a call answers instead of a table: that memory ran out, or else the first fault
 abbrev pub IsFaultOf : ItemError → Result Table ItemError → Type 0
 IsFaultOf (ItemTwice n) r = r ≡ Err (ItemTwice n)
 IsFaultOf (UnknownItem n) r = r ≡ Err (UnknownItem n)
@@ -89,7 +89,7 @@ IsFaultOf (TooManyItems n) r = r ≡ Err (TooManyItems n)
 IsFaultOf (TooManyFlushes n) r = r ≡ Err (TooManyFlushes n)
 IsFaultOf OutOfMemory r = Unit {0}
 
--- 7, 8, 9 or 10 with the line, 20 without one
+-- code 7, 8, 9 or 10 with the line, or 20 without one
 abbrev pub item_refusal : ItemError → Refusal
 item_refusal (ItemTwice line) = record { code = 7; line = line }
 item_refusal (UnknownItem line) = record { code = 8; line = line }

@@ -1,4 +1,4 @@
--- Chains and circles of numbers, by any relation: R v w says that v waits for w.
+-- Chains and circles of numbers, for any relation: R v w says that v waits for w.
 use Rattle.std.specs.Prelude.{◌≡◌, ℕ, ◌+◌, ◌<◌, List, [], ◌∷◌, length, slice_index, ⊤}
 use Rattle.std.specs.List.{All}
 
@@ -32,6 +32,6 @@ BeginsChain R v n = (others : List ℕ) × IsChain R (v ∷ others) × (length (
 abbrev pub IsRank : (ℕ → ℕ → Type 0) → ℕ → ℕ → Type 0
 IsRank R v r = BeginsChain R v (r + 1) × (¬ BeginsChain R v (r + 2))
 
--- some number stands at two places
+-- some number is at two places
 abbrev pub Repeats : List ℕ → Type 0
 Repeats xs = (i j : ℕ) × (i < j) × (j < length xs) × (slice_index xs i ≡ slice_index xs j)

@@ -1,4 +1,4 @@
--- First faults: which line of a declaration has one, said of the lines alone.
+-- First faults: which line of a declaration has one, said in terms of the lines only.
 use Rattle.std.specs.Prelude.{◌≡◌, ◌≢◌, ◌⊎◌, ℕ, ◌<◌, ◌≤◌, List, [], ◌∷◌, ◌++◌, length, filter_map, IsOk, IsSome, IsSomeAnd, Contains, AllPairs}
 use Rattle.std.specs.List.{All, Any}
 use Rattle.wq_decl.specs.declared.directive.Directive.{Directive}
@@ -8,7 +8,7 @@ use Rattle.wq_items.specs.Building.{table_of}
 use Rattle.wq_items.specs.Flushes.{item_name, line_flushes, flushes, names_used}
 use Rattle.wq_items.specs.Table.{max_items, max_flushes}
 
--- one of these lines declares an item of this name
+-- one of these lines declares an item with this name
 abbrev pub IsDeclared : List (ℕ × Directive) → List ℕ → Type 0
 IsDeclared ds name = Contains (filter_map item_name ds) name
 
@@ -20,7 +20,7 @@ pub record IsFaultless (ds : List (ℕ × Directive)) : Type 0 where
   pub items : length (filter_map item_name ds) ≤ max_items
   pub flushes : length (flushes ds) ≤ max_flushes
 
--- what each fault says of its line and of the lines before it
+-- what each fault says about its line and the lines before it
 abbrev pub IsFaultOfLine : List (ℕ × Directive) → ℕ × Directive → ItemError → Type 0
 IsFaultOfLine before d (ItemTwice n) = (d.0 ≡ n) × IsSomeAnd (item_name d) (IsDeclared before)
 IsFaultOfLine before d (TooManyItems n) = (d.0 ≡ n) × IsSomeAnd (item_name d) (λ (name : List ℕ). ¬ IsDeclared before name) × (max_items ≤ length (filter_map item_name before))
@@ -43,7 +43,7 @@ pub record IsLowestItemFault (ds : List (ℕ × Directive)) (e : ItemError) : Ty
 abbrev pub DeclaresMore : ℕ × Directive → Type 0
 DeclaresMore d = IsSome (item_name d) ⊎ (0 < length (line_flushes d))
 
--- memory can run out at a line: it declares an item or a flush, and the directives before it and its own have no fault
+-- memory can run out at a line: it declares an item or a flush, and neither its directive nor any before it has a fault
 pub record RanOut (ds : List (ℕ × Directive)) : Type 0 where
   pub before : List (ℕ × Directive)
   pub line : ℕ × Directive

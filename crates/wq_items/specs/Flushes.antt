@@ -18,11 +18,11 @@ item_word (n, Ordered names) = None
 abbrev pub item_name : ℕ × Directive → Option (List ℕ)
 item_name d = option_map (λ (name : WordView). name.bytes) (item_word d)
 
--- where this name stands
+-- where this name is in the text
 abbrev pub item_span : ℕ × Directive → Option Span
 item_span d = option_map span_of (item_word d)
 
--- the flushes that a line declares: of each, the name of the item and the name of the target
+-- the flushes that a line declares: for each, the name of the item and the name of the target
 abbrev pub line_flushes : ℕ × Directive → List (List ℕ × List ℕ)
 line_flushes (n, Item name) = []
 line_flushes (n, Flush name targets) = map (λ (target : WordView). (name.bytes, target.bytes)) targets
@@ -32,11 +32,11 @@ line_flushes (n, Ordered names) = []
 abbrev pub flushes : List (ℕ × Directive) → List (List ℕ × List ℕ)
 flushes ds = flat_map line_flushes ds
 
--- of numbered flushes, those of the item of this name: of each, the name of the target and the number
+-- of numbered flushes, those of the item with this name: for each, the name of the target and the number
 abbrev pub flushes_of : List ℕ → List (ℕ × (List ℕ × List ℕ)) → List (List ℕ × ℕ)
 flushes_of name numbered = filter_map (λ (f : ℕ × (List ℕ × List ℕ)). if bytes_eq f.1.0 name then Some (f.1.1, f.0) else None) numbered
 
--- the targets of item i: of each, the name of the target and the place of the flush
+-- the targets of item i: for each, the name of the target and the place of the flush
 abbrev pub named_targets : Table → ℕ → List (List ℕ × ℕ)
 named_targets t i = map (λ (target : Target). (slice_index_or t.names target.item [], target.place)) (targets_of t.waits i)
 

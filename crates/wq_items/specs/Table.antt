@@ -6,13 +6,13 @@ use Rattle.wq_text.specs.declared.span.Span.{Span}
 use Rattle.wq_decl.specs.Names.{is_name}
 use Rattle.wq_items.specs.declared.target.Target.{Target}
 
--- of each item in turn: its name, where the name stands, and the targets of the flushes that it declares
+-- for each item in turn: its name, where the name is in the text, and the targets of the flushes that it declares
 pub record Table : Type 0 where
   pub names : List (List ℕ)
   pub spans : List Span
   pub waits : List (List Target)
 
--- the number of the item of this name, if there is one
+-- the number of the item with this name, if there is one
 abbrev pub item_named : List (List ℕ) → List ℕ → Option ℕ
 item_named names name = position (bytes_eq name) names
 
@@ -24,11 +24,11 @@ targets_of waits i = slice_index_or waits i []
 abbrev pub ItemWaits : List (List Target) → ℕ → ℕ → Type 0
 ItemWaits waits i j = Any (λ (t : Target). t.item ≡ j) (targets_of waits i)
 
--- the items at vertex v, in declaration order, where `vertex_of` has of each item in turn its vertex: its group or its lane
+-- the items at vertex v, in declaration order, where `vertex_of` has the vertex of each item in turn: its group or its lane
 abbrev pub items_at : List ℕ → ℕ → List ℕ
 items_at vertex_of v = filter (λ i. slice_index vertex_of i == v) (range_with_len 0 (length vertex_of))
 
--- a vertex waits for a vertex, which may be the same: an item of the one declares a flush of an item of the other
+-- vertex v waits for vertex w, which may be the same: an item at v declares a flush of an item at w
 pub record VertexWaits (waits : List (List Target)) (vertex_of : List ℕ) (v w : ℕ) : Type 0 where
   pub item : ℕ
   pub target : ℕ
@@ -36,7 +36,7 @@ pub record VertexWaits (waits : List (List Target)) (vertex_of : List ℕ) (v w 
   pub of_item : slice_get vertex_of item ≡ Some v
   pub of_target : slice_get vertex_of target ≡ Some w
 
--- how many flushes are declared, all items together
+-- how many flushes all items together declare
 abbrev pub flush_count : List (List Target) → ℕ
 flush_count waits = sum_by length waits
 
@@ -48,7 +48,7 @@ TargetsBelow n targets = All (λ (t : Target). t.item < n) targets
 abbrev pub places : List (List Target) → List ℕ
 places waits = flat_map (λ (targets : List Target). map (λ (t : Target). t.place) targets) waits
 
--- each target is declared further on than the one before it
+-- each target is declared later than the one before it
 abbrev pub PlacesRise : List Target → Type 0
 PlacesRise targets = IsStrictlyIncreasing (map (λ (t : Target). t.place) targets)
 
@@ -56,11 +56,11 @@ PlacesRise targets = IsStrictlyIncreasing (map (λ (t : Target). t.place) target
 abbrev pub max_items : ℕ
 max_items = 4096
 
--- how many flushes may be declared, all items together
+-- how many flushes all items together may declare
 abbrev pub max_flushes : ℕ
 max_flushes = 16384
 
--- what holds of every table: one span and one list of targets for each name; at most 4,096 names, which differ and
+-- what holds for every table: one span and one list of targets for each name; at most 4,096 names, which differ and
 -- are names; at most 16,384 flushes, each of an item, at the places 0, 1, 2 and so on, which rise within each item
 pub record IsTable (t : Table) : Type 0 where
   pub one_span_each : length t.spans ≡ length t.names

@@ -8,6 +8,6 @@ use Rattle.wq_items.specs.declared.flush.Flush.{Flush}
 abbrev pub targets_among : List Flush → ℕ → List Target
 targets_among flushes i = map (λ (f : Flush). f.target) (filter (λ (f : Flush). f.item == i) flushes)
 
--- of each of so many items the targets of its flushes
+-- for each of this many items the targets of its flushes
 abbrev pub waits_of : List Flush → ℕ → List (List Target)
 waits_of flushes items = map (targets_among flushes) (range_with_len 0 items)

@@ -1,11 +1,11 @@
 -- Lines as they are printed.
 use Rattle.std.specs.Prelude.{ℕ, List, [], ◌∷◌, ◌++◌, flat_map}
 
--- a word behind one space
+-- a word after one space
 abbrev pub spaced : List ℕ → List ℕ
 spaced word = 32 ∷ word
 
--- the words with one space between them, and a line feed behind the last
+-- the words with one space between them, and a line feed after the last
 abbrev pub line_text : List (List ℕ) → List ℕ
 line_text [] = 10 ∷ []
 line_text (word ∷ words) = word ++ (flat_map spaced words ++ (10 ∷ []))

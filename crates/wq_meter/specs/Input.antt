@@ -2,7 +2,7 @@
 use Rattle.std.specs.Prelude.{◌≡◌, ◌⊎◌, ℕ, ◌+◌, List, IfSome, Option, take}
 use Rattle.wq_meter.specs.Meter.{Meter, TakesPrefix, count_after}
 
--- the text is what a reader has left, where that is known
+-- the text is what a reader has left, if that is known
 abbrev pub IsInput : Option (List ℕ) → List ℕ → Type 0
 IsInput known text = IfSome known (λ bytes. text ≡ bytes)
 
@@ -22,7 +22,7 @@ pub record HasGivenBytes {R : Type 0} (remaining : R → Option (List ℕ)) (old
   pub given : HasGiven remaining old new limit
   pub prefix : bytes ≡ take (limit + 1) given.text
 
--- another reader is untouched, or this one has given its text before
+-- another reader is untouched, or this one gave its text first
 abbrev pub AfterGiven : {R L : Type 0} → (R → Option (List ℕ)) → Meter R → Meter R → ℕ → Meter L → Meter L → Type 0
 AfterGiven remaining old new limit later_old later_new = (later_new ≡ later_old) ⊎ HasGiven remaining old new limit
 

@@ -1,9 +1,9 @@
--- What is counted of the calls that are made of a reader or a writer.
+-- What is counted of the calls that are made on a reader or a writer.
 use Rattle.std.specs.Prelude.{◌≡◌, ℕ, ◌+◌, ◌-◌, ◌^◌, ◌<◌, ◌≤◌, min, max, List, length, take, Option, refl}
 use Rattle.std.specs.Io.KnownBytes.{Appends, Consumes}
 use Rattle.std.specs.Coded.{Coded, code_by, coded×, coded_ℕ}
 
--- a device, and how many calls were made of it, how many bytes those moved, and how many of them failed
+-- a device, how many calls were made on it, how many bytes they moved, and how many of them failed
 pub record Meter (D : Type 0) : Type 0 where
   pub device : D
   pub calls : ℕ
@@ -17,7 +17,7 @@ meter_code {D} device_code =
     (λ m. (m.device, (m.calls, (m.bytes, m.failures))))
     (λ p. record { device = p.0; calls = p.1.0; bytes = p.1.1.0; failures = p.1.1.1 }) (λ _. refl)
 
--- a count of 64 bits after n more: it stops at the largest, and never falls
+-- a 64-bit count after n more: it stops at the largest value, and never falls
 abbrev pub count_after : ℕ → ℕ → ℕ
 count_after count n = max count (min (count + n) (2 ^ 64 - 1))
 
@@ -28,19 +28,19 @@ pub record LosesPrefix {R : Type 0} (remaining : R → Option (List ℕ)) (old n
   pub consumed : Consumes (remaining old.device) (remaining new.device) lost
   pub counted : new.bytes ≡ count_after old.bytes (length lost)
 
--- a reader gave the front of a text, up to `most` bytes, and they were counted; each call but the last gave one at least
+-- a reader gave a prefix of a text, up to `most` bytes, and they were counted; each call except the last gave at least one
 pub record TakesPrefix {R : Type 0} (remaining : R → Option (List ℕ)) (old new : Meter R) (most : ℕ) (text : List ℕ) : Type 0 where
   pub consumed : Consumes (remaining old.device) (remaining new.device) (take most text)
   pub counted : new.bytes ≡ count_after old.bytes (length (take most text))
   pub few_calls : new.calls ≤ old.calls + (length (take most text) + 1)
 
--- a writer took a text, and the bytes were counted; each call took one at least
+-- a writer took a text, and the bytes were counted; each call took at least one
 pub record WritesWhole {W : Type 0} (contents : W → Option (List ℕ)) (old new : Meter W) (text : List ℕ) : Type 0 where
   pub appended : Appends (contents old.device) (contents new.device) text
   pub counted : new.bytes ≡ count_after old.bytes (length text)
   pub few_calls : new.calls ≤ old.calls + length text
 
--- a writer took the front of a text, and not all of it, and the bytes were counted; each call but the last took one at least
+-- a writer took a prefix of a text, but not all of it, and the bytes were counted; each call except the last took at least one
 pub record WritesPrefix {W : Type 0} (contents : W → Option (List ℕ)) (old new : Meter W) (text : List ℕ) : Type 0 where
   pub written : ℕ
   pub short : written < length text

@@ -1,4 +1,4 @@
--- What holds of the printed circle, as the groups go round it.
+-- What holds for the printed circle, in terms of the groups on it.
 use Rattle.std.specs.Prelude.{◌≡◌, ◌≢◌, ℕ, ◌-◌, List, length, map, slice_index, slice_get, Some, AllPairs}
 use Rattle.std.specs.List.{All, AllAdjacentBelow}
 use Rattle.wq_groups.specs.Declaration.{Declaration}
@@ -9,8 +9,8 @@ use Rattle.wq_graph.specs.Graph.{IsArc}
 abbrev pub tail_of : Declaration → WaitArc → ℕ
 tail_of d arc = slice_index d.group_of arc.src
 
--- declared flushes, one at least; each leaves the group where the one before it led, and the first leaves the group where
--- the last one led; no group is left twice
+-- declared flushes, at least one; each leaves the group that the one before it led to, and the first leaves the group that the
+-- last one leads to; no group is left twice
 pub record IsCircleOfGroups (d : Declaration) (circle : List WaitArc) : Type 0 where
   pub declared : All (IsArc d.waits d.group_of) circle
   pub joined : AllAdjacentBelow (λ (x y : WaitArc). slice_index d.group_of x.dst ≡ tail_of d y) circle (length circle)

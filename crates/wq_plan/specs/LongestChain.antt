@@ -6,7 +6,7 @@ use Rattle.wq_groups.specs.Assignment.{Assignment, group_lane, item_lane}
 use Rattle.wq_graph.specs.declared.arc.WaitArc.{WaitArc}
 use Rattle.wq_graph.specs.Graph.{IsArc}
 
--- a declared flush of an item one lane below, and of all flushes from the same group to that lane the one of least place
+-- a declared flush of an item one lane below; it has the least place among all flushes from the same group to that lane
 pub record IsStepDown (d : Declaration) (a : Assignment) (arc : WaitArc) : Type 0 where
   pub declared : IsArc d.waits d.group_of arc
   pub falls : item_lane a d.group_of arc.dst + 1 ≡ item_lane a d.group_of arc.src
@@ -17,7 +17,7 @@ pub record IsStepDown (d : Declaration) (a : Assignment) (arc : WaitArc) : Type 
 abbrev pub IsFirstOnLast : Assignment → ℕ → Type 0
 IsFirstOnLast a g = (group_lane a g + 1 ≡ a.lanes) × ((h : ℕ) → h < g → group_lane a h < group_lane a g)
 
--- one arc fewer than there are lanes, none where there is no lane; each leaves the group where the one before it led; the
+-- one arc fewer than there are lanes, and none if there is no lane; each leaves the group that the one before it led to; the
 -- first leaves the lowest-numbered group on the last lane
 pub record IsLongestChain (d : Declaration) (a : Assignment) (chain : List WaitArc) : Type 0 where
   pub count : length chain ≡ a.lanes - 1

@@ -20,13 +20,13 @@ pub record IsPlanned (d : Declaration) (a : Assignment) (chain : List WaitArc) :
   pub least : IsLeast d a
   pub longest : chain ≡ chain_of (group_graph d) a.lane_of_group
 
--- the groups wait in a circle, and it is that of the walk; so every assignment deadlocks
+-- the groups wait in a circle, and this is the circle of the walk; so every assignment deadlocks
 pub record IsCircled (d : Declaration) (circle : List WaitArc) : Type 0 where
   pub has_circle : HasCircle (GroupWaits d) d.groups
   pub walked : IsWalkedCircle (group_graph d) circle
   pub deadlocks : (a : Assignment) → IsAssignment d.groups a → Deadlocks (wiring d a)
 
--- a plan where the groups wait in no circle, and the circle where they do
+-- a plan if the groups wait in no circle, and the circle if they do
 abbrev pub Solves : {A : Type 0} → Declaration → Answer A → Type 0
 Solves d (answer.Plan assignment chain) = IsPlanned d assignment chain.items
 Solves d (answer.Circle arcs) = IsCircled d arcs.items
@@ -36,7 +36,7 @@ abbrev pub PlanIsSafe : {A : Type 0} → Declaration → Answer A → Type 0
 PlanIsSafe d (answer.Plan assignment chain) = IsSafe (wiring d assignment)
 PlanIsSafe d (answer.Circle arcs) = Unit {0}
 
--- every assignment to fewer lanes than a plan has deadlocks, and every assignment where the answer is a circle
+-- every assignment to fewer lanes than the plan has deadlocks; and if the answer is a circle, every assignment deadlocks
 abbrev pub FewerDeadlock : {A : Type 0} → Declaration → Answer A → Type 0
 FewerDeadlock d (answer.Plan assignment chain) = (b : Assignment) → IsAssignment d.groups b → b.lanes < assignment.lanes → Deadlocks (wiring d b)
 FewerDeadlock d (answer.Circle arcs) = (b : Assignment) → IsAssignment d.groups b → Deadlocks (wiring d b)

@@ -8,13 +8,13 @@ use Rattle.wq_api.specs.declared.fault.CallError.{CallError}
 use Rattle.wq_api.specs.declared.fault.CallError.TheVariants.{HistoryFull, Closed, Undeclared, TooManyWaits, WrongLane, NotAsked, NoItem}
 use Rattle.wq_api.specs.Refusals.{HasRoom}
 
--- ---- what a body runs: of each item, how often
+-- ---- what a body runs: how often each item ran
 
 -- nothing ran
 abbrev pub NeverRan : (ℕ → ℕ) → Type 0
 NeverRan runs = (i : ℕ) → runs i ≡ 0
 
--- this item ran once more, and no other
+-- this item ran once more, and no other item did
 abbrev pub RanOnce : (ℕ → ℕ) → (ℕ → ℕ) → ℕ → Type 0
 RanOnce old new item = (new item ≡ old item + 1) × ((i : ℕ) → i ≢ item → new i ≡ old i)
 
@@ -24,26 +24,26 @@ RanOnce old new item = (new item ≡ old item + 1) × ((i : ℕ) → i ≢ item 
 abbrev pub finished_of : List ℕ → ℕ → ℕ
 finished_of counts i = made counts i Finish true
 
--- how many executions of so many items
+-- how many executions of this many items, in all
 abbrev pub finished_in_all : ℕ → List ℕ → ℕ
 finished_in_all items counts = sum_by (finished_of counts) (range_with_len 0 items)
 
--- of each item, as many as before
+-- for each item, as many as before
 abbrev pub SameFinished : List ℕ → List ℕ → Type 0
 SameFinished old new = (i : ℕ) → finished_of new i ≡ finished_of old i
 
--- of each item, as many more as ran
+-- for each item, as many more as ran
 abbrev pub CountsRuns : List ℕ → List ℕ → (ℕ → ℕ) → Type 0
 CountsRuns old new runs = (i : ℕ) → finished_of new i ≡ finished_of old i + runs i
 
--- of each item, at most as many more as ran, and no fewer than before
+-- for each item, at most as many more as ran, and no fewer than before
 abbrev pub CountsAtMost : List ℕ → List ℕ → (ℕ → ℕ) → Type 0
 CountsAtMost old new runs = (i : ℕ) → (finished_of old i ≤ finished_of new i) × (finished_of new i ≤ finished_of old i + runs i)
 
 -- ---- refusals
 
--- a body that queues item i, by a seat with these counts: no such item; the seat is full, which is 60; the runtime is
--- closed; the history is full
+-- a body that queues item i, through a seat with these counts: no such item; the seat is full (60); the runtime is closed; the
+-- history is full
 abbrev pub RefusesQueueByBody : Wiring → List ℕ → ℕ → CallError → Type 0
 RefusesQueueByBody w counts i NoItem = items w ≤ i
 RefusesQueueByBody w counts i Closed = (i < items w) × HasRoom counts

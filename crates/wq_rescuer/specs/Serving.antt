@@ -8,14 +8,14 @@ use Rattle.wq_rescuer.specs.declared.running.RunWhy.{RunWhy}
 use Rattle.wq_rescuer.specs.declared.running.RunWhy.TheVariants.{BodiesDiffer, TooManySeats, OutOfMemory, NoThread}
 use Rattle.wq_rescuer.specs.Executing.{finished_of, finished_in_all}
 
--- a rescuer whose seat had no counts, and whose body had run nothing: of each item, the seat counts as finished what the
--- body ran, and in all what the rescuer says; after a refusal, no more than the body ran
+-- a rescuer whose seat had no counts, and whose body had run nothing: for each item, the seat counts as finished what the body
+-- ran, and in all, what the rescuer says; after a refusal, no more than the body ran
 abbrev pub IsServed : ℕ → List ℕ → (ℕ → ℕ) → Result Rescued CallError → Type 0
 IsServed items seat runs answer =
     ForOk answer (λ (rescued : Rescued). ((i : ℕ) → finished_of seat i ≡ runs i) × (rescued.finished ≡ finished_in_all items seat) × (rescued.faults ≤ rescued.finished))
     × ForErr answer (λ (e : CallError). (i : ℕ) → finished_of seat i ≤ runs i)
 
--- how many executions a rescuer finished, where it wasn't refused
+-- how many executions a rescuer finished, if it wasn't refused
 abbrev pub finished_by : Result Rescued CallError → ℕ
 finished_by (Ok rescued) = rescued.finished
 finished_by (Err e) = 0
@@ -25,7 +25,7 @@ abbrev pub faults_by : Result Rescued CallError → ℕ
 faults_by (Ok rescued) = rescued.faults
 faults_by (Err e) = 0
 
--- what so many lanes hand back, lane by lane: each rescuer's answer is true of its seat and of what its body ran
+-- what this many lanes hand back, lane by lane: each rescuer's answer is true of its seat and of what its body ran
 pub record AreServed (items lanes : ℕ) (seats : List (List ℕ)) (runs : List (ℕ → ℕ)) (rescued : List (Result Rescued CallError)) : Type 0 where
   pub a_seat_each : length seats ≡ lanes
   pub a_body_each : length runs ≡ lanes
@@ -33,8 +33,9 @@ pub record AreServed (items lanes : ℕ) (seats : List (List ℕ)) (runs : List 
   pub served : (q : ℕ) (seat : List ℕ) (ran : ℕ → ℕ) (answer : Result Rescued CallError) → slice_get seats q ≡ Some seat → slice_get runs q ≡ Some ran
       → slice_get rescued q ≡ Some answer → IsServed items seat ran answer
 
--- all was run, of so many items, lanes and callers: a seat for each lane and then for each caller; what the lanes hand back
--- is true; each caller answered; and the numbers of executions and faults are the sums over the rescuers that weren't refused
+-- everything was run, with this many items, lanes and callers: there is a seat for each lane and then for each caller; what the
+-- lanes hand back is true; each caller answered; and the numbers of executions and faults are the sums over the rescuers that
+-- weren't refused
 pub record IsRan (items lanes callers : ℕ) (seats : List (List ℕ)) (runs : List (ℕ → ℕ)) (handed_back results : ℕ) (rescued : List (Result Rescued CallError)) (finished faults : ℕ) : Type 0 where
   pub a_seat_each : length seats ≡ lanes + callers
   pub served : AreServed items lanes (take lanes seats) runs rescued
@@ -43,7 +44,7 @@ pub record IsRan (items lanes callers : ℕ) (seats : List (List ℕ)) (runs : L
   pub finished_is : finished ≡ sum_by finished_by rescued
   pub faults_is : faults ≡ sum_by faults_by rescued
 
--- why not all was run: there isn't a body for each lane; or there is, and a seat, memory or a thread is wanting
+-- why not everything was run: there isn't a body for each lane; or there is, but a seat, memory or a thread is lacking
 abbrev pub RefusesRun : ℕ → ℕ → RunWhy → Type 0
 RefusesRun lanes bodies BodiesDiffer = bodies ≢ lanes
 RefusesRun lanes bodies TooManySeats = bodies ≡ lanes
@@ -57,7 +58,7 @@ IsNoSeat TooManySeats = Unit {0}
 IsNoSeat OutOfMemory = Unit {0}
 IsNoSeat NoThread = ⊥
 
--- the number of each
+-- the number of each cause
 abbrev pub run_code : RunWhy → ℕ
 run_code OutOfMemory = 20
 run_code NoThread = 22

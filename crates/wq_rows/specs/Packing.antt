@@ -1,8 +1,8 @@
 -- Packing: the 12 bytes that hold a row.
 --
--- Byte 0 is the kind of the event; byte 1 is 1 where the answer is yes, else 0; bytes 2 and 3 are the item; bytes 4 and 5
--- are the lane, 0 where the event has none; bytes 6 and 7 are 0; bytes 8 to 11 are the number. The least byte of a number
--- stands first.
+-- Byte 0 is the kind of the event; byte 1 is 1 if the answer is yes, else 0; bytes 2 and 3 are the item; bytes 4 and 5 are the
+-- lane, or 0 if the event has none; bytes 6 and 7 are 0; bytes 8 to 11 are the number. The least significant byte of a number
+-- comes first.
 use Rattle.std.specs.Prelude.{◌≡◌, ℕ, ◌<◌, ◌^◌, ⊤, Bool, true, false, IsTrue, List, ◌∷◌, ◌++◌}
 use Rattle.std.specs.Int.{w16, w32, to_le_bytes}
 use Rattle.std.specs.List.{flat_map}
@@ -21,7 +21,7 @@ kind_of (Finish lane item) = 6
 kind_of (Ask item) = 7
 kind_of (Told item) = 8
 
--- the item of an event: of Wait and Over, the one that is waited for
+-- the item of an event; for Wait and Over, the item that is waited for
 abbrev pub item_in : Event → ℕ
 item_in (Queue item) = item
 item_in (Cancel item) = item
@@ -32,7 +32,7 @@ item_in (Finish lane item) = item
 item_in (Ask item) = item
 item_in (Told item) = item
 
--- the lane of an event, 0 where it has none
+-- the lane of an event, or 0 if it has none
 abbrev pub lane_in : Event → ℕ
 lane_in (Queue item) = 0
 lane_in (Cancel item) = 0
@@ -43,7 +43,7 @@ lane_in (Finish lane item) = lane
 lane_in (Ask item) = 0
 lane_in (Told item) = 0
 
--- 1 where the answer is yes, else 0
+-- 1 if the answer is yes, else 0
 abbrev pub answer_byte : Bool → ℕ
 answer_byte true = 1
 answer_byte false = 0
@@ -57,7 +57,7 @@ packed row =
 abbrev pub packed_rows : List Row → List ℕ
 packed_rows rows = flat_map packed rows
 
--- an event may have this answer: those that can't come to nothing have yes
+-- an event may have this answer: events that can't come to nothing always have yes
 abbrev pub MayAnswer : Event → Bool → Type 0
 MayAnswer (Queue item) said = ⊤
 MayAnswer (Cancel item) said = ⊤

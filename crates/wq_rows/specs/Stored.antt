@@ -12,7 +12,7 @@ use Rattle.wq_rows.specs.Packing.{packed_rows, IsPackable, IsRowInRange}
 abbrev pub max_rows : ℕ
 max_rows = 16777216
 
--- the event of this kind, item and lane; none where no event is of this kind
+-- the event of this kind, item and lane; none if no event is of this kind
 abbrev pub event_of : ℕ → ℕ → ℕ → Option Event
 event_of kind item lane =
     if kind == 1 then Some (Queue item)
@@ -25,8 +25,8 @@ event_of kind item lane =
     else if kind == 8 then Some (Told item)
     else None
 
--- the rows that some bytes hold, 12 bytes each. It is meant of bytes that hold rows; of others it reads what it can:
--- 12 bytes that begin with no kind are no row, nor are fewer than 12 bytes at the end
+-- the rows that some bytes hold, 12 bytes each. This is meant for bytes that hold rows. From others it reads what it can: 12
+-- bytes that don't begin with a kind aren't a row, nor are fewer than 12 bytes at the end
 abbrev pub rows_of : List ℕ → List Row
 rows_of (kind ∷ answer ∷ item0 ∷ item1 ∷ lane0 ∷ lane1 ∷ spare0 ∷ spare1 ∷ number0 ∷ number1 ∷ number2 ∷ number3 ∷ rest) =
     option_to_list (option_map
@@ -41,8 +41,8 @@ pub record IsStored (bytes : List ℕ) (rows : List Row) : Type 0 where
   pub in_range : All IsRowInRange rows
   pub holds : packed_rows rows ≡ bytes
 
--- what holds of the bytes of a history, with the number of bytes that there is memory for and of rows that there is room for:
--- the bytes hold rows, and there is memory for as many rows as there is room for, and at most so many rows
+-- what holds for the bytes of a history, given how many bytes there is memory for and how many rows there is room for: the
+-- bytes hold rows, no more than there is room for, and there is memory for all the rows that there is room for
 pub record IsRoomy (bytes : List ℕ) (capacity room : ℕ) : Type 0 where
   pub stored : IsStored bytes (rows_of bytes)
   pub within : length bytes ≤ 12 * room
@@ -54,8 +54,8 @@ pub record HistoryView : Type 0 where
   pub rows : List Row
   pub room : ℕ
 
--- what holds of every history: each row can be packed, there are no more rows than there is room for, and no more room
--- than a history may have
+-- what holds for every history: each row can be packed, there are no more rows than there is room for, and no more room than a
+-- history may have
 pub record IsHistory (history : HistoryView) : Type 0 where
   pub packable : All IsPackable history.rows
   pub in_range : All IsRowInRange history.rows

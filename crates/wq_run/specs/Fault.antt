@@ -16,20 +16,21 @@ command_fault_text (Common fault) = fault_text fault
 command_fault_text Thread = codes "fault thread"
 command_fault_text Tally = codes "fault tally"
 
--- why there is no answer where not all was run
+-- why there is no answer if not everything was run
 abbrev pub stop_of_run : RunWhy → RunStop
 stop_of_run NoMemory = OutOfMemory
 stop_of_run NoThread = stop.Thread
 stop_of_run TooManySeats = stop.Tally
 stop_of_run BodiesDiffer = stop.Tally
 
--- what is said of it
+-- the fault that is reported for it
 abbrev pub fault_of_stop : RunStop → CommandFault
 fault_of_stop OutOfMemory = Common Memory
 fault_of_stop stop.Thread = Thread
 fault_of_stop stop.Tally = Tally
 
--- making the answer stops for memory, or, where there is a plan that a runtime can have, for a thread or the tallies
+-- making the answer may stop for lack of memory, or, if there is a plan that a runtime can have, because of a thread or the
+-- tallies
 abbrev pub Stops : Type 0 → RunStop → Type 0
 Stops runnable OutOfMemory = Unit {0}
 Stops runnable stop.Thread = runnable

@@ -12,8 +12,8 @@ use Rattle.wq_commands.specs.Declaration.{Declared}
 abbrev pub workqueues_line : ℕ → List (List ℕ)
 workqueues_line lanes = codes "workqueues" ∷ decimal lanes ∷ []
 
--- `queued N cancelled N finished N`: how many of its queueings were accepted, how many of its entries were taken off, and how
--- many ran, where `count` has the number of each kind
+-- `queued N cancelled N finished N`: how many of its queueings were accepted, how many of its entries were removed, and how
+-- many ran, where `count` gives the number of each kind
 abbrev pub count_words : (Kind → ℕ) → List (List ℕ)
 count_words count =
     codes "queued" ∷ decimal (count Queue) ∷ codes "cancelled" ∷ decimal (count Cancel) ∷ codes "finished" ∷ decimal (count Finish) ∷ []
@@ -32,6 +32,6 @@ abbrev pub report_lines : Declared → Assignment → (ℕ → Kind → ℕ) →
 report_lines s a count faults =
     workqueues_line a.lanes ∷ (map (item_line s a count) (range_with_len 0 (length s.table.names)) ++ (faults_line faults ∷ []))
 
--- the text
+-- the text of these lines
 abbrev pub report_text : Declared → Assignment → (ℕ → Kind → ℕ) → ℕ → List ℕ
 report_text s a count faults = flat_map line_text (report_lines s a count faults)

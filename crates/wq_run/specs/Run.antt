@@ -6,7 +6,7 @@ use Rattle.wq_commands.specs.declared.end.End.{End}
 use Rattle.wq_commands.specs.Declaration.{max_declaration}
 use Rattle.wq_run.specs.Running.{Runs, IsRunnable}
 
--- this is the answer to the text that a reader had; the reader gave it up to the first byte too many
+-- this is the answer to the text that a reader had; the reader gave it up to the first byte past the limit
 pub record RunsInput {R : Type 0} (remaining : R → Option (List ℕ)) (old new : Meter R) (end : End) (out : List ℕ) : Type 0 where
   pub text : List ℕ
   pub given : Gives remaining old new max_declaration text

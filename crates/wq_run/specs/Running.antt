@@ -18,12 +18,12 @@ use Rattle.wq_commands.specs.Answer.{declared_waits, refusal_text, IsRefused, Pr
 use Rattle.wq_commands.specs.Declaration.{Declared, declaration}
 use Rattle.wq_run.specs.Report.{report_text}
 
--- how many rows the history has room for: what one queueing of each item, its flush by a caller and one execution with all
--- declared flushes write and reserve
+-- how many rows the history has room for: those that one queueing of each item, its flush by a caller and one execution with
+-- all declared flushes write and reserve
 abbrev pub rows_for : Declared → ℕ
 rows_for s = 5 * length s.table.names + 2 * flush_count s.table.waits
 
--- how many rows of an item, of a kind and with a yes a history holds
+-- how many rows of this item and this kind, with a yes, a history holds
 abbrev pub yes_tally : BookView → ℕ → Kind → ℕ
 yes_tally book i kind = tally book.rows i kind true
 
@@ -59,7 +59,7 @@ RunsDeclared s Good out = PrintsRun s out
 RunsDeclared s Bad out = PrintsCircle s out
 RunsDeclared s Refused out = IsTooWide s out
 
--- the answer to a text: that to what it declares, or its refusal
+-- the answer to a text: the answer to what it declares, or its refusal
 abbrev pub Runs : List ℕ → End → List ℕ → Type 0
 Runs text end out = MatchResult (declaration text) (λ s. RunsDeclared s end out) (λ r. IsRefused r end out)
 
@@ -69,6 +69,6 @@ pub record HasRuntime (s : Declared) : Type 0 where
   pub plan : IsPlan (declared_waits s) assignment
   pub few : assignment.lanes ≤ max_runtime_lanes
 
--- so has what the text declares
+-- what the text declares has such a plan
 abbrev pub IsRunnable : List ℕ → Type 0
 IsRunnable text = MatchResult (declaration text) HasRuntime (λ r. ⊥)

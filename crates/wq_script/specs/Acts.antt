@@ -17,8 +17,8 @@ CountsAct w old new (Flush i) = (i < items w) × (waited : Bool) × (new ≡ flu
 CountsAct w old new (Cancel i) = (i < items w) × (taken : Bool) × (new ≡ raised old i CancelKind taken)
 CountsAct w old new (CancelSync i) = (i < items w) × (taken : Bool) × CountsCancelSync old new i taken
 
--- counts after an act that was refused, and the cause of the refusal: to be queued on its own lane, an item is refused
--- as it is to a body
+-- counts after an act that was refused, and the cause of the refusal: queueing an item on its own lane is refused as it is to a
+-- body
 abbrev pub RefusedAct : Wiring → List ℕ → List ℕ → Act → CallError → Type 0
 RefusedAct w old new (Queue i) e = RefusesQueueByBody w old i e × (new ≡ old)
 RefusedAct w old new (Flush i) e = RefusesFlushWork w old i e × (new ≡ flush_refused old i e)

@@ -5,12 +5,12 @@ use Rattle.wq_items.specs.declared.target.Target.{Target}
 use Rattle.wq_counts.specs.declared.kind.Kind.TheVariants.{Wait}
 use Rattle.wq_counts.specs.Counting.{made}
 
--- of each item in turn: the targets of the flushes that it declares, and how often it ran
+-- for each item in turn: the targets of the flushes that it declares, and how often it ran
 pub record Script : Type 0 where
   pub waits : List (List Target)
   pub runs : List ℕ
 
--- how often item i ran, 0 where there is no such item
+-- how often item i ran, or 0 if there is no such item
 abbrev pub runs_of : Script → ℕ → ℕ
 runs_of script i = slice_index script.runs i
 
@@ -18,15 +18,15 @@ runs_of script i = slice_index script.runs i
 abbrev pub waits_of : List ℕ → ℕ → ℕ
 waits_of counts b = made counts b Wait true + made counts b Wait false
 
--- how often item b stands among these targets
+-- how often item b is among these targets
 abbrev pub times_among : List Target → ℕ → ℕ
 times_among targets b = count_by (λ (t : Target). t.item == b) targets
 
--- of each item, a seat counts as many more waits as the item stands among these targets
+-- for each item, a seat counts one more wait for each time that the item is among these targets
 abbrev pub CountsWaits : List ℕ → List ℕ → List Target → Type 0
 CountsWaits old new targets = (b : ℕ) → waits_of new b ≡ waits_of old b + times_among targets b
 
--- of each item, a seat counts as many more waits as the item stands among the first so many of these targets
+-- for each item, a seat counts one more wait for each time that the item is among the first n of these targets, for some n
 abbrev pub CountsFirstWaits : List ℕ → List ℕ → List Target → Type 0
 CountsFirstWaits old new targets = (n : ℕ) × (n ≤ length targets) × CountsWaits old new (take n targets)
 

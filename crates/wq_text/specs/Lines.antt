@@ -1,25 +1,25 @@
 -- Lines: how a text is cut at its line feeds (LF, the byte 10), and that one carriage return (CR, the byte 13) before
--- a line feed is no part of the line.
+-- a line feed isn't part of the line.
 use Rattle.std.specs.Prelude.{◌≡◌, ◌≢◌, ℕ, ◌+◌, ◌==◌, if◌then◌else◌, Bool, true, false, List, [], ◌∷◌, ◌++◌, length, Contains, IsTrue, ◌⊎◌, ⊤, flat_map}
 use Rattle.std.specs.List.{AllByRecursion}
 use Rattle.std.specs.Str.Lines.{strip_carriage_return}
 
--- what stands in front of a line feed, or behind the last one; `ended` says that a line feed follows it
+-- what comes before a line feed, or after the last one; `ended` says that a line feed follows it
 pub record Piece : Type 0 where
   pub bytes : List ℕ
   pub ended : Bool
 
--- these pieces with a byte more in front, in a piece of its own where there is none
+-- these pieces with one more byte before the first; if there is no piece, the byte is a piece by itself
 abbrev pub in_front : ℕ → List Piece → List Piece
 in_front b [] = record { bytes = b ∷ []; ended = false } ∷ []
 in_front b (p ∷ ps) = record { bytes = b ∷ p.bytes; ended = p.ended } ∷ ps
 
--- a text cut at its line feeds; nothing after the last of them is no piece
+-- a text cut at its line feeds; if nothing follows the last of them, there is no piece after it
 abbrev pub pieces : List ℕ → List Piece
 pieces [] = []
 pieces (b ∷ bs) = if b == 10 then record { bytes = []; ended = true } ∷ pieces bs else in_front b (pieces bs)
 
--- the bytes of a line: those of its piece, without one carriage return that stands directly before the line feed
+-- the bytes of a line: those of its piece, without one carriage return directly before the line feed
 abbrev pub line_bytes : Piece → List ℕ
 line_bytes p = if p.ended then strip_carriage_return p.bytes else p.bytes
 
@@ -44,17 +44,17 @@ lines_of text = lines_from 1 0 (pieces text)
 
 -- ---- the same without recursion over the bytes
 
--- a piece as it stands in the text
+-- a piece as it is in the text
 abbrev pub piece_text : Piece → List ℕ
 piece_text p = p.bytes ++ (if p.ended then 10 ∷ [] else [])
 
--- each piece but the last has its line feed, and a last one without it isn't empty
+-- each piece except the last has its line feed, and a last piece without one isn't empty
 abbrev pub OnlyTheLastIsOpen : List Piece → Type 0
 OnlyTheLastIsOpen [] = ⊤
 OnlyTheLastIsOpen (p ∷ []) = IsTrue p.ended ⊎ (p.bytes ≢ [])
 OnlyTheLastIsOpen (p ∷ q ∷ ps) = IsTrue p.ended × OnlyTheLastIsOpen (q ∷ ps)
 
--- the pieces, each with its line feed, make the text; none holds a line feed; only the last may lack its own
+-- the pieces, each with its line feed, make up the text; none holds a line feed; only the last may lack its own
 pub record AreThePieces (text : List ℕ) (ps : List Piece) : Type 0 where
   pub make_the_text : flat_map piece_text ps ≡ text
   pub hold_no_feed : AllByRecursion (λ p. Contains p.bytes 10 → ⊥) ps

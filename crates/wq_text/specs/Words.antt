@@ -8,7 +8,7 @@ use Rattle.wq_text.specs.Comments.{before_comment}
 abbrev pub is_blank : ℕ → Bool
 is_blank b = b == 32 || b == 9
 
--- another byte: one of a word
+-- any other byte: one that is part of a word
 abbrev pub is_filled : ℕ → Bool
 is_filled b = not (is_blank b)
 
@@ -17,18 +17,18 @@ pub record WordView : Type 0 where
   pub start : ℕ
   pub bytes : List ℕ
 
--- the bytes begin with one that is no blank
+-- the bytes begin with one that isn't a blank
 abbrev pub begins_word : List ℕ → Bool
 begins_word [] = false
 begins_word (b ∷ bs) = is_filled b
 
--- these words with a byte more in front of the first, which then begins at this offset
+-- these words with one more byte before the first word, which then begins at this offset
 abbrev pub longer : ℕ → ℕ → List WordView → List WordView
 longer at b [] = record { start = at; bytes = b ∷ [] } ∷ []
 longer at b (w ∷ ws) = record { start = at; bytes = b ∷ w.bytes } ∷ ws
 
--- the words of bytes, the first of which stands at this offset: a blank parts words, and another byte
--- makes the word behind it longer, or is a word of its own where none begins there
+-- the words of bytes, the first of which is at this offset: a blank separates words; any other byte makes the word
+-- right after it longer, or is a word by itself if none begins there
 abbrev pub words_from : ℕ → List ℕ → List WordView
 words_from at [] = []
 words_from at (b ∷ bs) =
@@ -39,17 +39,17 @@ words_from at (b ∷ bs) =
 abbrev pub words_of : LineView → List WordView
 words_of line = words_from line.start (before_comment line.bytes)
 
--- ---- how words are cut off bytes with a comment
+-- ---- how words are cut from bytes with a comment
 
--- a byte ends a word: a blank, or the `#` that begins a comment
+-- the byte ends a word: it is a blank, or the `#` that begins a comment
 abbrev pub ends_word : ℕ → Bool
 ends_word b = is_blank b || b == 35
 
--- a byte may stand in a word before a comment
+-- the byte may be in a word before a comment
 abbrev pub in_word : ℕ → Bool
 in_word b = not (ends_word b)
 
--- only bytes that may stand in a word before a comment
+-- only bytes that may be in a word before a comment
 abbrev pub AllInWord : List ℕ → Type 0
 AllInWord bs = AllByRecursion (λ b. in_word b ≡ true) bs
 
@@ -68,7 +68,7 @@ AllBlank bs = AllByRecursion (λ b. is_blank b ≡ true) bs
 abbrev pub NoBlank : List ℕ → Type 0
 NoBlank bs = AllByRecursion (λ b. is_blank b ≡ false) bs
 
--- what stands behind a word: nothing, or bytes that begin with a blank
+-- what comes after a word: nothing, or bytes that begin with a blank
 abbrev pub EndsAWord : List ℕ → Type 0
 EndsAWord rest = begins_word rest ≡ false
 

@@ -4,7 +4,7 @@ use Rattle.clap.specs.Words.{App, Row, Rule, Text, first_of, new_app, new_rule, 
 use Rattle.wqplan.specs.declared.command_line.Request.{Request}
 use Rattle.wqplan.specs.declared.command_line.Request.TheVariants.{Plan, Check, Deadlock, Replay, Circles, Dot, Run, Explain}
 
--- a positional argument that has to be given
+-- a positional argument that must be given
 abbrev pub needed : Text → Rule
 needed name = record (new_rule name) { required = true }
 
@@ -110,7 +110,8 @@ abbrev pub is_no_option : Text → Bool
 is_no_option [] = true
 is_no_option (x ∷ xs) = not (x == 45)
 
--- the words are the program's name and a command, and behind them its files, or the word to explain, none of which looks like an option
+-- the words are the program's name, a command, and after it its files or the word to explain, none of which looks like an
+-- option
 abbrev pub Calls : List Text → Asked → Type 0
 Calls words (plans None) = (program : Text) × (words ≡ program ∷ codes "plan" ∷ [])
 Calls words (plans (Some file)) = (program : Text) × (words ≡ program ∷ codes "plan" ∷ file ∷ []) × (is_no_option file ≡ true)

@@ -4,7 +4,7 @@ use Rattle.wq_api.specs.Refusals.{new_code}
 use Rattle.wq_api.specs.declared.fault.NewError.TheVariants.{TooManyLanes}
 use Rattle.wq_commands.specs.Numbers.{IsPrinted}
 
--- the number is that of a text that is refused or of a `no`, or that of a plan which `run` refuses: it has more workqueues than a
+-- the number of a refused text or of a `no`, or the number of a plan that `run` refuses because it has more workqueues than a
 -- runtime may have
 pub data IsPrintedByProgram : ℕ → Type 0 where
   of_text : {code : ℕ} → IsPrinted code → IsPrintedByProgram code

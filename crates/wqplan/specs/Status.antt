@@ -7,12 +7,12 @@ use Rattle.wq_commands.specs.declared.end.End.TheVariants.{Good, Refused}
 use Rattle.wq_explain.specs.declared.explain.Explained.{Explained}
 use Rattle.wq_explain.specs.declared.explain.Explained.TheVariants.{Known, Unknown}
 
--- `explain` ends well where its word has an explanation, or it has none
+-- `explain` ends well if its word has an explanation, or if it has no word
 abbrev pub explain_end : Explained → End
 explain_end Known = Good
 explain_end Unknown = Refused
 
--- the exit status of a command that ran: that of its end, or 3 where a fault stopped it
+-- the exit status of a command that ran: the status of its end, or 3 if a fault stopped it
 abbrev pub status_of : Result End CommandFault → ℕ
 status_of (Ok end) = exit_status end
 status_of (Err fault) = 3
