@@ -1,4 +1,4 @@
--- What a book refuses, as the causes that a caller of a runtime can know; and what making a runtime can be refused for.
+-- What a book refuses, as causes that a caller of a runtime can know; and why making a runtime can be refused.
 use Rattle.std.proofs.Common.{◌≡◌, ℕ, ◌<◌, ◌≤◌, ◌⊎◌, inl, inr, Bool, true, false, List, refl, sym, subst, ◌∙◌, arith}
 use Rattle.std.specs.Prelude.{Some, None, IsTrue, ◌↔◌}
 use Rattle.wq_core.specs.Wiring.{Wiring, IsWiring, items, lane_of}
@@ -17,11 +17,11 @@ use Rattle.wq_api.specs.declared.fault.NewError.TheVariants.{NotSafe}
 use Rattle.wq_api.specs.Refusals.{max_runtime_lanes, RefusesRuntime, call_error, RefusedAs, IsOnLane, HasRoom, RefusesQueueWork, RefusesCancelWork, RefusesFlushWork, RefusesWaitFor, RefusesAskAndCancel}
 use Rattle.wq_api.specs.Locked.{flush_refused, asked_and_cancelled, RefusedCancelSync, RefusedWaitFor}
 
--- what holds of a refusal holds of the same refusal
+-- what holds for a refusal holds for the same refusal
 moved : (P : CallError → Type 0) (x e : CallError) → Some x ≡ Some e → P x → P e
 moved P x e is holds = let same : x ≡ e = cc in subst P same holds
 
--- where an item exists, its lane does
+-- if an item exists, its lane does
 pub lane_exists : (w : Wiring) (i : ℕ) → IsWiring w → i < items w → lane_of w i < w.lanes
 lane_exists w i wiring there = wiring.within i 0 (omega (arith, there, wiring.one_lane_each))
 
@@ -50,7 +50,7 @@ queue_refused w b counts q i e of_wiring on room why = queue_cases w b counts q 
 
 -- ---- cancel_work, flush_work
 
--- the refusals of `cancel` and `ask`: whatever holds where the history is full, and where there is no item
+-- the refusals of `cancel` and `ask`: whatever holds if the history is full, and if there is no such item
 item_cases : (P : CallError → Type 0) (b : BookView) (i : ℕ) (event : ℕ → Event) (e : CallError) → (i < items b.wiring → P CallFull) → (items b.wiring ≤ i → P CallNoItem)
     → (x : BookError) → RefusesItem b i event x → call_error x ≡ Some e → P e
 item_cases P b i event e full missing HistoryFull why is = moved P CallFull e is (full why.0)
@@ -95,7 +95,7 @@ both_not_counted b old new i CallWrongLane same why = same
 both_not_counted b old new i CallNotAsked same why = absurd why
 both_not_counted b old new i CallNoItem same why = same
 
--- where no ask of the item waits, its ask and its cancellation stay counted
+-- if no ask of the item waits, its ask and its cancellation stay counted
 pub told_refused : (w : Wiring) (counts : List ℕ) (i : ℕ) (e : CallError) → i < items w → HasRoom counts → e ≡ CallNotAsked → RefusesFlushWork w counts i e
 told_refused w counts i e there room is = subst (λ y. RefusesFlushWork w counts i y) (sym is) (there, room)
 
@@ -142,7 +142,7 @@ pub wait_not_counted : (w : Wiring) (b : BookView) (old new : List ℕ) (q targe
     → RefusedWaitFor w old new q target e
 wait_not_counted w b old new q target e same why = wait_cases (λ y. RefusedWaitFor w old new q target y) b q target e (inl same) same same why.0 why.1 why.2
 
--- once it waits, only the wrong lane refuses
+-- once it waits, it is refused only because of the wrong lane
 pub over_refused : (w : Wiring) (counts : List ℕ) (q : ℕ) (e : CallError) → HasRoom counts → e ≡ CallWrongLane → RefusesWaitFor w counts q e
 over_refused w counts q e room is = subst (λ y. RefusesWaitFor w counts q y) (sym is) (inr room)
 

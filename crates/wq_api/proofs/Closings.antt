@@ -27,7 +27,7 @@ use Rattle.wq_api.specs.Closing.{SumsSeats, Agrees, IsClosed}
 
 -- ---- an entry is unfinished, or none is
 
--- of a lane with these entries pending, and of which this runs
+-- for a lane with these entries pending, and on which this runs
 cases_lane : (pending : List Entry) (running : Option Running)
     → ((e : Entry) × IsUnfinishedOn (record { pending = pending; running = running }) e)
     ⊎ ((e : Entry) → ¬ IsUnfinishedOn (record { pending = pending; running = running }) e)
@@ -52,7 +52,7 @@ cases_lanes (lane ∷ lanes) = elim (cases_lane lane.pending lane.running) [
   ]
 ]
 
--- where it isn't so that none is, one is
+-- if it isn't so that none is, one is
 pub unfinished-not_idle : (s : State) (idle : Bool) → ((¬ HasUnfinished s) → IsTrue idle) → idle ≡ false → HasUnfinished s
 unfinished-not_idle s idle says not = elim (cases_lanes s.lanes) [
   | inl some ↦ (let found : HasUnfinished s = record { lane = some.0; entry = some.1; unfinished = some.2 } in found)
@@ -61,8 +61,8 @@ unfinished-not_idle s idle says not = elim (cases_lanes s.lanes) [
 
 -- ---- seats that are taken in one by one
 
--- of all seats some are left: their counts and the sums of those that were taken in add up to those of all; the parts of
--- these seats and those that are left are all parts, and the amount of the parts taken in is that of the sums
+-- of all seats some are left: their counts and the sums of those that were taken in add up to those of all; the parts of these
+-- seats and those that are left are all parts, and the amount of the parts that were taken in is what the sums add up to
 pub record IsGathered (n parts total : ℕ) (all left : List (List ℕ)) (sums : List ℕ) (parts_in amount_in seats_left ledger : ℕ) : Type 0 where
   pub sums_are : (i : ℕ) (kind : Kind) (said : Bool)
       → made sums i kind said + sum_by (λ (seat : List ℕ). made seat i kind said) left ≡ sum_by (λ (seat : List ℕ). made seat i kind said) all
@@ -89,7 +89,7 @@ IsGathered-none n parts total all sums parts_in amount_in seats_left empty parts
   total_is = refl;
 }
 
--- the last one is taken in
+-- the last one that is left is taken in
 pub IsGathered-more : (w : Wiring) (parts total : ℕ) (all left rest : List (List ℕ)) (sums new seat counts : List ℕ)
     (parts_in amount_in seats_left ledger parts_new amount_new seats_rest ledger_new one amount : ℕ)
     → IsGathered (items w) parts total all left sums parts_in amount_in seats_left ledger
@@ -114,7 +114,7 @@ IsGathered-more w parts total all left rest sums new seat counts parts_in amount
       total_is = ledger_same ∙ old.total_is;
     }
 
--- what two that are added count is bounded by the ledger
+-- what two that are added count together is bounded by the ledger
 pub few_gathered : (w : Wiring) (parts total : ℕ) (all left : List (List ℕ)) (sums counts : List ℕ) (parts_in amount_in seats_left ledger one amount amount_new : ℕ)
     → IsGathered (items w) parts total all left sums parts_in amount_in seats_left ledger → IsSeat w counts one amount
     → amount_new ≡ amount_in + amount → amount_new ≤ ledger → total < 4294967296 → sum sums + sum counts < 18446744073709551616
@@ -143,14 +143,14 @@ total-gathered n parts total all left sums parts_in amount_in seats_left ledger 
 
 -- ---- a runtime that was closed
 
--- where no ask waits, each caller who was to wait was told
+-- if no ask waits, each caller who was to wait was told
 all_told : (w : Wiring) (rows : List Row) → IsLegal w rows → all_asks_waiting rows ≡ 0
     → (i : ℕ) → count_by (ends_a_wait i) rows ≡ count_by (begins_to_wait i) rows
 all_told w rows legal none i =
     let c = AreCounted-legal w rows legal in
     CountsAsks-none rows c.asks i c.sum_is c.counts (all_asks_waiting-count rows c.asks c.counts ∙ none)
 
--- counts are the tallies exactly where each is
+-- counts are the tallies exactly if each of them is its tally
 agrees_exactly : (n : ℕ) (book : BookView) (counts tallies : List ℕ) (agree : Bool) → HasCountsOf n counts → HasCountsOf n tallies
     → AreTallies n book.rows tallies → (IsTrue agree ↔ (counts ≡ tallies)) → IsTrue agree ↔ Agrees n book counts
 agrees_exactly n book counts tallies agree of_counts of_tallies tallied same = (

@@ -1,4 +1,4 @@
--- What lies under the lock stays as it has to be: one row more, counted or not, and a book that is closed.
+-- What the lock guards stays as it has to be: one more row, counted or not, and a book that is closed.
 use Rattle.std.proofs.Common.{◌≡◌, ℕ, ◌+◌, ◌*◌, ◌<◌, ◌≤◌, replicate, refl, Bool, true, false, cond, List, [], ◌∷◌, ◌++◌, length, sym, ap, subst, ◌∙◌, arith}
 use Rattle.std.specs.Prelude.{Option, Some, None, sum}
 use Rattle.std.proofs.lemmas.List.{length-replicate}
@@ -31,7 +31,7 @@ use Rattle.wq_api.specs.Locked.{IsHeld, Holds, RunsItem, WaitsFor, AnswersOverOf
 pub sum-replicate_zero : (n : ℕ) → sum (replicate n 0) ≡ 0
 sum-replicate_zero n = sum_by-replicate (λ (k : ℕ). k) n 0 ∙ omega arith
 
--- the tallies are few: no more than a history may have rows
+-- the tallies are few: at most as many as the rows that a history may have
 pub few_tallies : (w : Wiring) (rows parts : ℕ) (b : BookView) (tallies sums : List ℕ) (seats left amount : ℕ)
     → IsHeld w rows parts b tallies sums seats left amount → IsBook b → sum tallies < 4294967295
 few_tallies w rows parts b tallies sums seats left amount held book =
@@ -73,7 +73,7 @@ IsHeld-raised w rows parts b new tallies sums seats left amount event said n kin
       no_amount_left = held.no_amount_left;
     }
 
--- the same of counts that are known to be these
+-- the same for counts that are known to be these
 pub IsHeld-counted : (w : Wiring) (rows parts : ℕ) (b new : BookView) (tallies sums : List ℕ) (seats left amount : ℕ) (event : Event) (said : Bool) (n : ℕ) (kind : Kind) (counts : List ℕ)
     → counts ≡ raised tallies (item_in event) kind said
     → IsHeld w rows parts b tallies sums seats left amount → Appends b new event said n → kind_in event ≡ Some kind → item_in event < items w
@@ -100,7 +100,7 @@ IsHeld-first w rows parts b tallies sums left amount of_wiring of_rows empty few
   no_amount_left = none_counted;
 }
 
--- the book of a runtime, as whoever gets the lock finds it
+-- the book of a runtime, as whoever takes the lock finds it
 pub Holds-held : (w : Wiring) (rows parts : ℕ) (b : BookView) (tallies sums : List ℕ) (seats left amount : ℕ) → IsHeld w rows parts b tallies sums seats left amount
     → IsBook b → Holds w rows b
 Holds-held w rows parts b tallies sums seats left amount held book =
@@ -126,7 +126,7 @@ waits_once b q f g (r, runs, waits) (other, others, wait) =
 pub waits_for_one : (b : BookView) (q one other : ℕ) → WaitsFor b q one → WaitsFor b q other → one ≡ other
 waits_for_one b q one other (f, waits, of_one) (g, wait, of_other) = sym of_one ∙ (ap (λ (x : Waiting). x.target) (waits_once b q f g waits wait) ∙ of_other)
 
--- what a lane that waits for an item is answered, is answered of this item
+-- if a lane waits for an item, what it is answered is about this item
 pub AnswersOverOf-over : (b new : BookView) (q target : ℕ) (answer : Bool) → WaitsFor b q target → AnswersOver b new q answer → AnswersOverOf b new q target answer
 AnswersOverOf-over b new q target true waits (g, wait, appends) =
     subst (λ (x : ℕ). AppendsOne b new (Over q x) true) (waits_for_one b q g.target target (g, wait, refl) waits) appends
@@ -145,13 +145,13 @@ over-not_refused b q target NoItem waits wrong = wrong
 over-not_refused b q target TooManyRows waits wrong = wrong
 over-not_refused b q target OutOfMemory waits wrong = wrong
 
--- a lane that runs an entry of one item runs none of another
+-- a lane that runs an entry of one item doesn't run one of another
 runs_one : (b : BookView) (q i : ℕ) (r : Running) → RunsItem b q i → LaneRuns b q r → r.entry.item ≡ i
 runs_one b q i r (other, runs, of_item) is = ap (λ (x : Running). x.entry.item) (Some-same (sym is ∙ runs)) ∙ of_item where
   Some-same : {X : Type 0} {x y : X} → Some x ≡ Some y → x ≡ y
   Some-same e = cc
 
--- what a lane finishes that runs an entry of an item is of this item
+-- if a lane runs an entry of an item, what it finishes is of this item
 pub finish_of : (b new : BookView) (q i : ℕ) (r : Running) → RunsItem b q i → LaneRuns b q r → AppendsOne b new (Finish q r.entry.item) true
     → AppendsOne b new (Finish q i) true
 finish_of b new q i r runs is appends = subst (λ (x : ℕ). AppendsOne b new (Finish q x) true) (runs_one b q i r runs is) appends

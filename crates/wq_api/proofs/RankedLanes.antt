@@ -1,4 +1,4 @@
--- What ranks of the lanes, and a circle of them, say of whether an assignment is safe.
+-- What ranks of the lanes, and a circle of them, say about the safety of an assignment.
 use Rattle.std.proofs.Common.{◌≡◌, ℕ, ◌≤◌, true, false, List, refl}
 use Rattle.std.specs.Prelude.{IsTrue, ◌↔◌}
 use Rattle.wq_groups.specs.Declaration.{Declaration, IsDeclaration}

@@ -1,4 +1,4 @@
--- Refusals of a book that is made are refusals of a runtime's calls.
+-- The refusals of a book that was made are refusals of a runtime's calls.
 use Rattle.std.proofs.Common.{ℕ, refl}
 use Rattle.wq_rows.specs.declared.event.Event.{Event}
 use Rattle.wq_history.specs.declared.fault.BookError.{BookError}

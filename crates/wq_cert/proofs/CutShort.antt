@@ -21,11 +21,11 @@ abbrev IsShort : {V : Type 0} → Read V → Type 0
 IsShort (Ok p) = Unit {0}
 IsShort (Err fault) = fault ≡ BadCertLine 0
 
--- so it is where a value is read of more lines
+-- the same if a value is read from more lines
 record MayBeShort {V : Type 0} (read : List CertLine → Read V) : Type 0 where
   short : (lines more : List CertLine) (p : V × List CertLine) → read (lines ++ more) ≡ Ok p → IsShort (read lines)
 
--- where a value is read of more lines, the lines end too early
+-- if a value is read from more lines, the lines end too early
 record EndsEarly {V : Type 0} (read : List CertLine → Result V CertError) : Type 0 where
   early : (lines more : List CertLine) (v : V) → more ≢ [] → read (lines ++ more) ≡ Ok v → read lines ≡ Err (BadCertLine 0)
 

@@ -1,4 +1,4 @@
--- Reading in order: the lines up to a fault settle it, whatever stands behind them.
+-- Reading in order: the lines up to a fault settle it, whatever comes after them.
 use Rattle.std.proofs.Common.{◌≡◌, ℕ, zero, suc, ◌<◌, Bool, true, false, cond, List, [], ◌∷◌, ◌++◌, Option, Some, None, Result, Ok, Err, refl, sym, ap, subst, ◌∙◌, arith, append_assoc}
 use Rattle.std.specs.Prelude.{ok_or, IfErr}
 use Rattle.wq_cert.specs.declared.fault.CertError.{CertError}
@@ -9,9 +9,9 @@ use Rattle.wq_items.specs.Building.{and_then}
 use Rattle.wq_cert.specs.Reading.{Read, and_read, next_line, next_lines, at_end}
 use Rattle.wq_cert.proofs.SpelledLines.{same_ok}
 
--- ---- which line a fault is of
+-- ---- which line a fault is at
 
--- a value, or a fault of line n
+-- a value, or a fault at line n
 abbrev pub IsAt : {V : Type 0} → ℕ → Result V CertError → Type 0
 IsAt n r = IfErr r (λ fault. line_of fault ≡ n)
 
@@ -26,19 +26,19 @@ pub IsAt-and_then : {V W : Type 0} (n : ℕ) (next : V → Result W CertError) (
 IsAt-and_then n next (Ok v) h then = then v
 IsAt-and_then n next (Err fault) h then = h
 
--- a test that may fail, and what comes behind it
+-- a test that may fail, and what comes after it
 pub IsAt-cond : {V : Type 0} (n : ℕ) (b : Bool) (fault : CertError) (r : Result V CertError) → line_of fault ≡ n → IsAt n r → IsAt n (cond b (Err fault) r)
 IsAt-cond n true fault r h then = h
 IsAt-cond n false fault r h then = then
 
 -- ---- what is settled
 
--- no line stands in an empty list
+-- no line is in an empty list
 pub nothing_stands : (before : List CertLine) (line : CertLine) (behind : List CertLine) → [] ≡ before ++ (line ∷ behind) → ⊥
 nothing_stands [] line behind e = cc
 nothing_stands (front ∷ before) line behind e = cc
 
--- a fault of one of the lines is settled by those up to it
+-- a fault at one of the lines is settled by those up to it
 pub record IsSettled {V : Type 0} (read : List CertLine → Result V CertError) (lines : List CertLine) (fault : CertError) : Type 0 where
   pub before : List CertLine
   pub line : CertLine
@@ -47,22 +47,22 @@ pub record IsSettled {V : Type 0} (read : List CertLine → Result V CertError) 
   pub number : line.no ≡ line_of fault
   pub settled : (others : List CertLine) → read (before ++ (line ∷ others)) ≡ Err fault
 
--- each fault of a line is
+-- each fault at a line is settled
 pub record Settles {V : Type 0} (read : List CertLine → Result V CertError) : Type 0 where
   pub refuses : (lines : List CertLine) (fault : CertError) → read lines ≡ Err fault → 0 < line_of fault → IsSettled read lines fault
 
--- a value is read of the front of the lines, whatever stands behind it
+-- a value is read from a prefix of the lines, whatever comes after it
 pub record IsReadOfPrefix {V : Type 0} (read : List CertLine → Read V) (lines : List CertLine) (v : V) (rest : List CertLine) : Type 0 where
   pub front : List CertLine
   pub lines_are : lines ≡ front ++ rest
   pub is_read : (others : List CertLine) → read (front ++ others) ≡ Ok (v, others)
 
--- values are read in order, and each fault of a line is settled
+-- values are read in order, and each fault at a line is settled
 pub record ReadsInOrder {V : Type 0} (read : List CertLine → Read V) : Type 0 where
   pub reads : (lines : List CertLine) (v : V) (rest : List CertLine) → read lines ≡ Ok (v, rest) → IsReadOfPrefix read lines v rest
   pub refuses : Settles read
 
--- what is read stays so where more lines stand behind
+-- what is read stays so if more lines follow
 pub with_more : {V : Type 0} (read : List CertLine → Read V) (lines more : List CertLine) (v : V) (rest : List CertLine) → ReadsInOrder read → read lines ≡ Ok (v, rest) → read (lines ++ more) ≡ Ok (v, rest ++ more)
 with_more read lines more v rest first e =
     let f = first.reads lines v rest e in
@@ -125,9 +125,9 @@ module _ {V W : Type 0} (read : List CertLine → Read V) (next : V → List Cer
                 ∙ h.is_read others;
           }
 
--- ---- values of no line
+-- ---- values from no line
 
--- a value and the lines behind it
+-- a value and the lines after it
 abbrev read_with : {V : Type 0} → V → List CertLine → Read V
 read_with v lines = Ok (v, lines)
 
@@ -136,7 +136,7 @@ same_read {V} v w lines rest e =
     let both : (v, lines) ≡ (w, rest) = same_ok {V = V × List CertLine} (v, lines) (w, rest) e in
     (ap (λ (p : V × List CertLine). p.0) both, ap (λ (p : V × List CertLine). p.1) both)
 
--- a value with the lines behind it, or a fault of no line
+-- a value with the lines after it, or a fault at no line
 abbrev pub of_no_line : {V : Type 0} → Result V CertError → List CertLine → Read V
 of_no_line r lines = and_then (λ v. Ok (v, lines)) r
 

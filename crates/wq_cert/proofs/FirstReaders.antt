@@ -1,4 +1,4 @@
--- Each reader of certificates reads in order: a fault of a line is settled by the lines up to it.
+-- Each reader of certificates reads in order: a fault at a line is settled by the lines up to it.
 use Rattle.std.proofs.Common.{◌≡◌, ℕ, zero, suc, ◌-◌, ◌<◌, Bool, true, false, cond, List, [], ◌∷◌, ◌++◌, length, Option, Some, Result, Ok, Err, refl, sym, ap, subst, ◌∙◌, arith}
 use Rattle.std.specs.Prelude.{codes, ok_or, nat_lt, nat_le, ◌==◌, ◌||◌, not}
 use Rattle.std.specs.List.{concat}
@@ -64,7 +64,7 @@ module _ (names : List (List ℕ)) where
 
 -- ---- what the first line decides
 
--- two readers that agree behind this line, the first of which has no fault of a line where nothing stands
+-- two readers that agree after this line, the first of which has no fault at a line where there are no lines
 pub IsSettled-first : {V : Type 0} (read other : List CertLine → Result V CertError) (line : CertLine) (lines : List CertLine) (fault : CertError)
     → ((rest : List CertLine) → other (line ∷ rest) ≡ read (line ∷ rest)) → IsSettled read (line ∷ lines) fault → IsSettled other (line ∷ lines) fault
 IsSettled-first read other line lines fault same h = placed h.before h.lines_are h.settled
@@ -97,7 +97,7 @@ abbrev pub last_step : List Step → List CertLine → Result (List Step) CertEr
 last_step steps rest = at_end steps rest
 
 module _ (names : List (List ℕ)) where
-  -- what is read behind the number of a run
+  -- what is read after the number of a run
   abbrev pub steps_behind : ℕ → List CertLine → Result (List Step) CertError
   steps_behind m lines = and_read last_step (next_lines (step_reading names) m lines)
 
@@ -123,7 +123,7 @@ module _ (names : List (List ℕ)) where
           IsSettled-first run_if_some (run_behind names) line lines fault (λ rest. refl)
           ((Settles-and_then (run_reading names) (λ (steps : List Step). Some steps) Settles-run_reading).refuses (line ∷ lines) fault e some)
 
-  -- what is read behind the arcs of a circle, and behind its number
+  -- what is read after the arcs of a circle, and after its number
   abbrev pub behind_arcs : List (ℕ × ℕ) → List CertLine → Result CircleCertificate CertError
   behind_arcs arcs rest = and_then (λ steps. Ok (circle_made arcs steps)) (run_behind names rest)
 
@@ -164,7 +164,7 @@ module _ (names : List (List ℕ)) (p : Partition) where
 
   -- ---- plans
 
-  -- what is read behind the number of a chain
+  -- what is read after the number of a chain
   abbrev pub behind_chain : ℕ → List CertLine → Result (ℕ × List (ℕ × ℕ)) CertError
   behind_chain n lines = and_read (λ arcs rest. at_end (n, arcs) rest) (next_lines (arc_reading names) (n - 1) lines)
 
@@ -177,7 +177,7 @@ module _ (names : List (List ℕ)) (p : Partition) where
   Settles-chain_reading =
       Settles-and_read (next_line (count_reading (codes "chain"))) behind_chain (ReadsInOrder-next_line (count_reading (codes "chain")) (at-count (codes "chain"))) Settles-behind_chain
 
-  -- what is read behind the workqueues of a plan, and behind their number
+  -- what is read after the workqueues of a plan, and after their number
   abbrev pub behind_assignment : Assignment → List CertLine → Result PlanCertificate CertError
   behind_assignment assignment lines = and_then (λ chain. Ok (plan_made assignment chain)) (chain_reading names lines)
 
@@ -193,7 +193,7 @@ module _ (names : List (List ℕ)) (p : Partition) where
   pub Settles-plan_reading : Settles (plan_reading names p)
   Settles-plan_reading = Settles-and_read (next_line (count_reading (codes "plan"))) behind_lanes (ReadsInOrder-next_line (count_reading (codes "plan")) (at-count (codes "plan"))) Settles-behind_lanes
 
-  -- ---- workqueues alone
+  -- ---- only workqueues
 
   abbrev workqueues_behind : List (List ℕ) → List CertLine → Result Assignment CertError
   workqueues_behind workqueues lines = and_read (assigned p) (all_workqueues names p.group_of workqueues lines)
@@ -218,7 +218,7 @@ module _ (names : List (List ℕ)) (p : Partition) where
             ∙ ap (λ (x : CertError). Err x) same;
       }
 
-  -- the reader of one line more, where it is of a workqueue
+  -- the reader of one more line, if it is that of a workqueue
   abbrev one_more : List (List ℕ) → List CertLine → Result (List ℕ) CertError → Result Assignment CertError
   one_more workqueues lines r = and_read (assigned p) (and_then (λ items. all_workqueues names p.group_of (workqueues ++ (items ∷ [])) lines) r)
 

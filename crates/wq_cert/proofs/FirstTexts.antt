@@ -15,9 +15,9 @@ use Rattle.wq_cert.specs.Lines.{CertLine, bytes_of, holds_word, filled, cert_lin
 use Rattle.wq_cert.specs.Spelled.{KeepsLimits}
 use Rattle.wq_cert.specs.Texts.{max_certificate, max_certificate_line, unless_too_long, text_reading}
 
--- ---- the words of a line stand in its bytes, wherever it begins
+-- ---- the words of a line are in its bytes, wherever it begins
 
--- these words with a byte more in front of the first
+-- these words with one more byte before the first
 abbrev one_longer : ℕ → List (List ℕ) → List (List ℕ)
 one_longer b [] = (b ∷ []) ∷ []
 one_longer b (w ∷ ws) = (b ∷ w) ∷ ws
@@ -39,13 +39,13 @@ bytes_of-words_from [] at start = refl
 bytes_of-words_from (b ∷ bs) at start =
     bytes_of-more at start b (words_from (at + 1) bs) (words_from (start + 1) bs) (is_blank b) (begins_word bs) (bytes_of-words_from bs (at + 1) (start + 1))
 
--- ---- the lines of a certificate, of the bytes of each line
+-- ---- the lines of a certificate, from the bytes of each line
 
 -- the words in the bytes of a line
 abbrev words_in_bytes : List ℕ → List (List ℕ)
 words_in_bytes bytes = bytes_of (words_from 0 (before_comment bytes))
 
--- these words as line n in front of others, where there is one
+-- these words as line n before the others, if there is a word
 abbrev with_line : ℕ → List (List ℕ) → List CertLine → List CertLine
 with_line n words others = cond (not (eqb (length words) 0)) (record { no = n; words = words } ∷ others) others
 
@@ -73,7 +73,7 @@ cert_lines-numbered (piece ∷ ps) n start =
     cert_lines-line (record { no = n; start = start; bytes = line_bytes piece }) (lines_from (n + 1) (start + taken piece) ps)
     ∙ ap₂ (with_line n) (bytes_of-words_from (before_comment (line_bytes piece)) start 0) (cert_lines-numbered ps (n + 1) (start + taken piece))
 
--- ---- where a line stands
+-- ---- where a line is
 
 -- line k + 1 of these has the number, and the lines up to it are kept wherever others have the same bytes
 record StandsAt (n : ℕ) (texts : List (List ℕ)) (before : List CertLine) (line : CertLine) : Type 0 where
@@ -82,7 +82,7 @@ record StandsAt (n : ℕ) (texts : List (List ℕ)) (before : List CertLine) (li
   number : line.no ≡ n + place
   kept : (others : List (List ℕ)) → take (suc place) others ≡ take (suc place) texts → (rest : List CertLine) × (numbered n others ≡ before ++ (line ∷ rest))
 
--- the same, of what stands behind a line of bytes
+-- the same for what comes after a line of bytes
 numbered-same : (n : ℕ) (bytes : List ℕ) (texts : List (List ℕ)) (k : ℕ) (before : List CertLine) (line : CertLine)
     → (behind : (others : List (List ℕ)) → take k others ≡ take k texts → (rest : List CertLine) × (with_line n (words_in_bytes bytes) (numbered (n + 1) others) ≡ before ++ (line ∷ rest)))
     → (others : List (List ℕ)) → take (suc k) others ≡ take (suc k) (bytes ∷ texts) → (rest : List CertLine) × (numbered n others ≡ before ++ (line ∷ rest))
@@ -93,7 +93,7 @@ numbered-same n bytes texts k before line behind (found ∷ others) e =
     let h = behind others more in
     (h.0, ap (λ (bs : List ℕ). with_line n (words_in_bytes bs) (numbered (n + 1) others)) first ∙ h.1)
 
--- a line without words stands in front
+-- a line without words comes first
 behind_empty : (n : ℕ) (bytes : List ℕ) (texts : List (List ℕ)) (before : List CertLine) (line : CertLine) → not (eqb (length (words_in_bytes bytes)) 0) ≡ false → StandsAt (n + 1) texts before line → StandsAt n (bytes ∷ texts) before line
 behind_empty n bytes texts before line empty h = record {
   place = suc h.place;
@@ -105,7 +105,7 @@ behind_empty n bytes texts before line empty h = record {
       (k.0, ap (λ (b : Bool). cond b (record { no = n; words = words_in_bytes bytes } ∷ numbered (n + 1) others) (numbered (n + 1) others)) empty ∙ k.1));
 }
 
--- a line with words stands in front
+-- a line with words comes first
 behind_line : (n : ℕ) (bytes : List ℕ) (texts : List (List ℕ)) (first : CertLine) (before : List CertLine) (line : CertLine) → not (eqb (length (words_in_bytes bytes)) 0) ≡ true → record { no = n; words = words_in_bytes bytes } ≡ first
     → StandsAt (n + 1) texts before line → StandsAt n (bytes ∷ texts) (first ∷ before) line
 behind_line n bytes texts first before line held is h = record {
@@ -168,7 +168,7 @@ module _ {V : Type 0} (read : List CertLine → Result V CertError) where
       ap (λ (o : Option TextError). unless_too_long o (read (cert_lines (lines_of text)))) within
       ∙ ap read (cert_lines-numbered (pieces text) 1 0)
 
-  -- the line of a fault is one of the text, and those up to it settle the fault
+  -- the line of a fault is one of the text, and the lines up to it settle the fault
   record IsSettledIn (text : List ℕ) (fault : CertError) : Type 0 where
     stands : line_of fault ≤ length (line_texts text)
     settled : (other : List ℕ) → KeepsLimits other → first_lines (line_of fault) other ≡ first_lines (line_of fault) text → text_reading read other ≡ Err fault
@@ -186,7 +186,7 @@ module _ {V : Type 0} (read : List CertLine → Result V CertError) where
               text_reading-kept other kept ∙ ap read lines.1 ∙ h.settled lines.0;
         }
 
-    -- a fault in the front of a text is one of the text
+    -- a fault in a prefix of a text is one of the text
     first_in : (text front : List ℕ) (n : ℕ) (found : CertError) → KeepsLimits text → KeepsLimits front → line_texts front ≡ first_lines n text → text_reading read front ≡ Err found → 0 < line_of found
         → (line_of found ≤ n) × (text_reading read text ≡ Err found)
     first_in text front n found keeps kept front_is e some =

@@ -18,7 +18,7 @@ number_of-none word none = of (number_of word) refl
     of None e = sym e
     of (Some n) e = absurd (none n (Spells-number_of word n e))
 
--- what is read of a word is its number
+-- what is read from a word is its number
 pub number_of-is : (word : List ℕ) (o : Option ℕ) → IfSome o (λ n. Spells word n) → IfNone o ((n : ℕ) → Spells word n → ⊥) → o ≡ number_of word
 number_of-is word None some none = number_of-none word none
 number_of-is word (Some n) some none = sym (number_of-Spells word n some)
@@ -28,7 +28,7 @@ number_of-is word (Some n) some none = sym (number_of-Spells word n some)
 and_more : Option ℕ → Option (List ℕ) → Option (List ℕ)
 and_more item items = option_map (λ (p : ℕ × List ℕ). p.0 ∷ p.1) (option_zip item items)
 
--- `rest` of all the words are left: those in front name these items
+-- `rest` of all the words are left: those before it name these items
 pub record FoundSoFar (names : List (List ℕ)) (items : List ℕ) (rest words : List WordView) : Type 0 where
   pub known : option_map (λ (is : List ℕ). items ++ is) (items_of names (bytes_of rest)) ≡ items_of names (bytes_of words)
 

@@ -1,4 +1,4 @@
--- What is read without a fault before memory is taken.
+-- What is read without a fault before memory is requested.
 use Rattle.std.proofs.Common.{◌≡◌, ◌≢◌, ℕ, zero, suc, ◌+◌, ◌-◌, ◌<◌, Bool, true, false, cond, ltb, eqb, List, [], ◌∷◌, ◌++◌, map, take, Option, Some, None, Result, Ok, Err, refl, sym, ap, subst, ◌∙◌, arith}
 use Rattle.std.specs.Prelude.{codes, ok_or, IfErr, IsErrAnd}
 use Rattle.wq_groups.specs.Partition.{Partition}
@@ -27,7 +27,7 @@ pub Err-passed : {T E : Type 0} (r : Result T E) (met error : E) → IsErrAnd r 
 Err-passed (Ok x) met error passed is = absurd passed
 Err-passed (Err e) met error passed is = sym passed ∙ cc
 
--- ---- no line takes memory
+-- ---- reading a line requests no memory
 
 -- the fault, if there is one, isn't that memory ran out
 abbrev IsOfTheText : {V : Type 0} → Result V CertError → Type 0
@@ -75,7 +75,7 @@ step_reading-memory names line =
     (of_then (λ found. cond (names_far_lane found) (Err (NumberOutOfRange line.no)) (Ok found)) (ok_or (step_form names line.words) (BadCertLine line.no)) (of_form (step_form names line.words) line.no)
     (λ found. of_range (names_far_lane found) line.no found))
 
--- ---- a line for each value, where the first is read
+-- ---- a line for each value, if the first is read
 
 -- i of n are read, and if any is, the first line is
 pub record ReadTo {V : Type 0} (read : CertLine → Result V CertError) (n i : ℕ) (lines : List CertLine) (vs : List V) (rest : List CertLine) : Type 0 where
@@ -113,7 +113,7 @@ module _ {V : Type 0} (read : CertLine → Result V CertError) (n : ℕ) (lines 
       one = λ some. ReadsOne-next;
     }
 
-  -- where all are read, the first is
+  -- if all are read, the first is
   pub ReadsOne-all : (vs : List V) (rest : List CertLine) → 0 < n → next_lines read n lines ≡ Ok (vs, rest) → ReadsOne read n lines
   ReadsOne-all vs rest some e = by_count n refl lines refl some e
     where
@@ -129,7 +129,7 @@ module _ {V : Type 0} (read : CertLine → Result V CertError) (n : ℕ) (lines 
 
 -- ---- what begins well
 
--- no fault is asked of the line
+-- no fault is demanded of the line
 abbrev Never : CertError → Type 0
 Never fault = ⊥
 
@@ -151,7 +151,7 @@ module _ (names : List (List ℕ)) (first : CertLine) (n : ℕ) where
   BeginsWell-line read line rest behind are none =
       subst (λ (ls : List CertLine). BeginsWell read 2 (first ∷ ls)) (sym are) (record { stand = omega arith; no_fault = none })
 
-  -- the first of so many lines is read, behind their number
+  -- the first of this many lines is read, after their number
   module _ {V W : Type 0} (read : CertLine → Result V CertError) (at : (other : CertLine) → IsAt other.no (read other)) (count : CertLine → Result ℕ CertError) (counts : (other : CertLine) → IsAt other.no (count other))
       (next : List V → List CertLine → Result W CertError) (then : (vs : List V) → Settles (next vs)) (rest : List CertLine) (is : count first ≡ Ok n) (one : ReadsOne read n rest) where
     abbrev all_of : ℕ → List CertLine → Result W CertError

@@ -1,4 +1,4 @@
--- The line behind others: it is judged alone, and where it is in order nothing is at fault yet.
+-- The line after others: only it is judged, and if it is in order nothing is at fault yet.
 use Rattle.std.proofs.Common.{◌≡◌, ℕ, zero, suc, ◌<◌, List, [], ◌∷◌, ◌++◌, length, map, Result, Ok, Err, refl, sym, ap, subst, ◌∙◌, arith}
 use Rattle.std.specs.List.{AllByRecursion}
 use Rattle.wq_cert.specs.declared.fault.CertError.{CertError}
@@ -10,7 +10,7 @@ use Rattle.wq_cert.specs.Spelled.{words_in}
 use Rattle.wq_cert.proofs.FirstLines.{nothing_stands, IsAt, Settles, ReadsInOrder, with_more, read_and, of_no_line, ReadsInOrder-and_read, ReadsInOrder-of_no_line, ReadsInOrder-next_line, ReadsInOrder-next_lines}
 use Rattle.wq_cert.proofs.SpelledLines.{IsReadBy}
 
--- ---- where nothing stands
+-- ---- where no line is left
 
 nothing_left : (front rest : List CertLine) → [] ≡ front ++ rest → rest ≡ []
 nothing_left [] rest e = sym e
@@ -29,7 +29,7 @@ NoLineIsAtFault-nothing {V} read settles = decided (read []) refl
     decided (Ok v) is = tt
     decided (Err fault) is = of_none read settles fault is (line_of fault) refl
 
--- all lines are read, or the fault is one of no line
+-- all lines are read, or the fault is at no line
 abbrev pub IsAllRead : {V : Type 0} → Read V → Type 0
 IsAllRead (Ok p) = p.1 ≡ []
 IsAllRead (Err fault) = line_of fault ≡ 0
@@ -46,7 +46,7 @@ IsAllRead-nothing {V} read order = decided (read []) refl
 -- ---- one line, which breaks a row or keeps all
 
 module _ (line : CertLine) (Breaks : CertError → Type 0) (Keeps : Type 0) where
-  -- behind these lines this one is judged, whatever stands behind it
+  -- after these lines this one is judged, whatever comes after it
   pub record Judges {V : Type 0} (read : List CertLine → Result V CertError) (before : List CertLine) : Type 0 where
     pub refused : (fault : CertError) (behind : List CertLine) → Breaks fault → read (before ++ (line ∷ behind)) ≡ Err fault
     pub kept : Keeps → NoLineIsAtFault (read (before ++ (line ∷ [])))
@@ -56,7 +56,7 @@ module _ (line : CertLine) (Breaks : CertError → Type 0) (Keeps : Type 0) wher
     pub refused : (fault : CertError) (behind : List CertLine) → Breaks fault → read (before ++ (line ∷ behind)) ≡ Err fault
     pub kept : Keeps → IsAllRead (read (before ++ (line ∷ [])))
 
-  -- the line is read so
+  -- the line is read in this way
   pub record IsJudged {V : Type 0} (read : CertLine → Result V CertError) : Type 0 where
     pub refused : (fault : CertError) → Breaks fault → read line ≡ Err fault
     pub kept : Keeps → (v : V) × (read line ≡ Ok v)
@@ -92,7 +92,7 @@ module _ (line : CertLine) (Breaks : CertError → Type 0) (Keeps : Type 0) wher
         followed (Err fault) h = h
 
     module _ (v : V) (rest : List CertLine) (order : ReadsInOrder read) (is : read before ≡ Ok (v, rest)) where
-      -- a value stands before it, and what follows judges the line
+      -- a value comes before it, and what follows judges the line
       pub Judges-behind : (next : V → List CertLine → Result W CertError) → Judges (next v) rest → Judges (read_and read next) before
       Judges-behind next then = record {
         refused = λ fault behind breaks. ap (and_read next) (with_more read before (line ∷ behind) v rest order is) ∙ then.refused fault behind breaks;
@@ -115,7 +115,7 @@ module _ (line : CertLine) (Breaks : CertError → Type 0) (Keeps : Type 0) wher
       made_of (Ok v) h = tt
       made_of (Err fault) h = h
 
-  -- so many lines stand there
+  -- there are this many lines
   module _ {V : Type 0} (read : CertLine → Result V CertError) (at : (other : CertLine) → IsAt other.no (read other)) (judged : IsJudged read) where
     abbrev joined : V → List V → List CertLine → Read (List V)
     joined v vs behind = Ok (v ∷ vs, behind)
@@ -132,7 +132,7 @@ module _ (line : CertLine) (Breaks : CertError → Type 0) (Keeps : Type 0) wher
         JudgesNext-first (next_line read) [] (more_lines n) (JudgesNext-next_line read judged)
         (λ v. ReadsInOrder-and_read (next_lines read n) (joined v) (ReadsInOrder-next_lines read at n) (ReadsInOrder-joined v))
 
-    -- some of them stand before it
+    -- some of them come before it
     module _ (show : V → List (List ℕ)) (P : V → Type 0) (reads : IsReadBy read show P) where
       pub JudgesNext-next_lines : (vs : List V) (n : ℕ) (before : List CertLine) → length vs < n → words_in before ≡ map show vs → AllByRecursion P vs → JudgesNext (next_lines read n) before
       JudgesNext-next_lines vs zero before fewer words hold = absurd (omega (arith, fewer))

@@ -47,7 +47,7 @@ module _ {X : Type 0} (p : X → Bool) where
   pub position-none : (xs : List X) → list_any p xs ≡ false → position p xs ≡ None
   position-none xs none = none_at xs (omega (arith, nowhere_in xs none))
 
-  -- one more behind them
+  -- one more after them
   pub position-push_any : (xs : List X) (y : X) → list_any p xs ≡ true → position p (xs ++ (y ∷ [])) ≡ position p xs
   position-push_any xs y any =
       let below : position_or_len p xs < length xs = first_in xs any in
@@ -84,7 +84,7 @@ module _ (group_of : List ℕ) (workqueues : List (List ℕ)) (g : ℕ) where
   any_holds : (b : Bool) → holds_member group_of (concat workqueues) g ≡ b → list_any (λ items. holds_member group_of items g) workqueues ≡ b
   any_holds b is = sym (any_concat (λ i. get_or group_of i 0 == g) workqueues) ∙ is
 
-  -- it is one of those that hold a member, where one does
+  -- it is one of those that hold a member, if one does
   pub record HasWorkqueue : Type 0 where
     pub workqueue : ℕ
     pub below : workqueue < length workqueues
@@ -106,7 +106,7 @@ module _ (group_of : List ℕ) (workqueues : List (List ℕ)) (g : ℕ) where
   push_none : (front : List ℕ) → holds_member group_of (concat workqueues) g ≡ false → holds_member group_of front g ≡ false → workqueue_with group_of (workqueues ++ (front ∷ [])) g ≡ None
   push_none front free not_here = position-push_none (λ items. holds_member group_of items g) workqueues front (any_holds false free) not_here
 
-  -- an empty workqueue more changes nothing
+  -- one more empty workqueue changes nothing
   push_nothing : workqueue_with group_of (workqueues ++ ([] ∷ [])) g ≡ workqueue_with group_of workqueues g
   push_nothing = elim (cases_Bool (holds_member group_of (concat workqueues) g)) [
     | inl held ↦ push_held [] held
@@ -124,7 +124,7 @@ module _ (group_of : List ℕ) (workqueues : List (List ℕ)) (g : ℕ) where
         ]
   ]
 
-  -- whether the group is on another workqueue than the next
+  -- whether the group is on a workqueue other than the next
   other_held : (front : List ℕ) → holds_member group_of (concat workqueues) g ≡ true → is_other (workqueue_with group_of (workqueues ++ (front ∷ [])) g) (length workqueues) ≡ true
   other_held front held =
       let q = HasWorkqueue-held held in

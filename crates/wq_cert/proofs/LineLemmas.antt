@@ -22,7 +22,7 @@ module _ (names : List (List ℕ)) (q : ℕ) where
   pub wq_front-none : (out : List ℕ) → (out ++ codes "wq") ++ spaced (decimal q) ≡ out ++ wq_front []
   wq_front-none out = append_assoc out (codes "wq") (spaced (decimal q)) ∙ ap (λ (ls : List ℕ). out ++ ls) (sym (append-nil (codes "wq" ++ spaced (decimal q))))
 
-  -- and with that of one item more
+  -- and with that of one more item
   wq_front-push : (out items : List ℕ) (i : ℕ) → (out ++ wq_front items) ++ spaced (name_of names i) ≡ out ++ wq_front (items ++ (i ∷ []))
   wq_front-push out items i =
       let front : List ℕ = codes "wq" ++ spaced (decimal q) in

@@ -222,7 +222,7 @@ module _ (names : List (List ℕ)) (line : CertLine) where
     -- ---- plans
 
     module _ (p : Partition) (one_group_each : length names ≡ length p.group_of) where
-      -- all workqueues are read, and these lines stand behind them
+      -- all workqueues are read, and these lines come after them
       record Counts (workqueues : List (List ℕ)) (lines : List CertLine) (others : List (List (List ℕ))) : Type 0 where
         rest : List CertLine
         is_read : counted_assignment names p (length workqueues) lines ≡ Ok (assignment_of p workqueues, rest)
@@ -239,7 +239,7 @@ module _ (names : List (List ℕ)) (line : CertLine) where
             behind = said.behind;
           }
 
-      -- what judges the line behind the workqueues judges it in the plan
+      -- what judges the line after the workqueues judges it in the plan
       Judges-behind_workqueues : (form : LineForm) (before : List CertLine) (workqueues : List (List ℕ)) (others : List (List (List ℕ))) → AreWorkqueues (length names) p.group_of workqueues
           → words_in before ≡ plan_line (length workqueues) ∷ (workqueue_lines names workqueues ++ others) → ((rest : List CertLine) → words_in rest ≡ others → JudgesForm form (chain_reading names) rest) → JudgesForm form (plan_reading names p) before
       Judges-behind_workqueues form before workqueues others are words then =

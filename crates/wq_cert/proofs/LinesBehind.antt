@@ -1,4 +1,4 @@
--- A line behind the end of a plan, of a run, or of a circle with a run.
+-- A line after the end of a plan, of a run, or of a circle with a run.
 use Rattle.std.proofs.Common.{◌≡◌, ◌≢◌, ℕ, ◌-◌, List, [], ◌∷◌, ◌++◌, Option, Some, None, Result, Ok, Err, refl, sym, ap, subst, ◌∙◌, append_assoc}
 use Rattle.std.specs.Prelude.{codes, ok_or}
 use Rattle.wq_core.specs.declared.step.Step.{Step}
@@ -16,11 +16,11 @@ use Rattle.wq_cert.specs.Reading.{Read, and_read, next_line, next_lines, at_end,
 
 -- ---- what ends
 
--- where such a value is read of lines, each line behind them is refused
+-- if such a value is read from lines, each line after them is refused
 record Ends {V : Type 0} (P : V → Type 0) (read : List CertLine → Result V CertError) : Type 0 where
   refused : (lines : List CertLine) (v : V) (line : CertLine) (behind : List CertLine) → read lines ≡ Ok v → P v → read (lines ++ (line ∷ behind)) ≡ Err (BadCertLine line.no)
 
--- no more is asked of the value
+-- nothing more is demanded of the value
 abbrev AnyValue : {V : Type 0} → V → Type 0
 AnyValue v = Unit {0}
 

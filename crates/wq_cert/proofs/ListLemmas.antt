@@ -1,4 +1,4 @@
--- Lists of numbers: ranges, what passes a test, and what stands in them.
+-- Lists of numbers: ranges, what passes a test, and what is in them.
 use Rattle.std.proofs.Common.{◌≡◌, ℕ, zero, suc, ◌+◌, ◌<◌, ◌≤◌, Bool, true, false, cond, eqb, ltb, List, [], ◌∷◌, ◌++◌, length, get_or, Some, None, refl, sym, ap, ◌∙◌, arith, inl, inr}
 use Rattle.std.specs.Prelude.{filter, position}
 use Rattle.std.specs.List.{AllByRecursion, list_any, list_all, position_or_len, range_with_len}
@@ -26,7 +26,7 @@ module _ {X : Type 0} where
   list_all-each p [] h = refl
   list_all-each p (x ∷ xs) h = and_from (p x) (list_all p xs) h.0 (list_all-each p xs h.1)
 
-  -- what the test passes of what P holds of
+  -- what passes the test among elements that P holds for
   pub AllByRecursion-filter : (P Q : X → Type 0) (p : X → Bool) → ((x : X) → P x → p x ≡ true → Q x) → (xs : List X) → AllByRecursion P xs → AllByRecursion Q (filter p xs)
   AllByRecursion-filter P Q p passes [] h = tt
   AllByRecursion-filter P Q p passes (x ∷ xs) h = chosen (p x) refl (AllByRecursion-filter P Q p passes xs h.1)
@@ -48,7 +48,7 @@ module _ {X : Type 0} where
       let place : position_or_len p xs ≡ i = position_or_len_is p xs i d (omega arith) before (λ lt. here) in
       ap (λ (n : ℕ). cond (ltb n (length xs)) (Some n) None) place ∙ ap (λ (b : Bool). cond b (Some i) None) (lt-ltb i (length xs) within)
 
--- no element of the one list is as E says to one of the other
+-- E relates no element of one list to an element of the other
 pub list_any-apart : (P Q : ℕ → Type 0) (E : ℕ → ℕ → Bool) → ((i j : ℕ) → P i → Q j → E i j ≡ false) → (is js : List ℕ) → AllByRecursion P is → AllByRecursion Q js
     → AllByRecursion (λ i. list_any (E i) js ≡ false) is
 list_any-apart P Q E apart is js left right =
@@ -60,7 +60,7 @@ pub AllByRecursion-range_with_len : (P : ℕ → Type 0) (a n : ℕ) → ((i : �
 AllByRecursion-range_with_len P a zero each = tt
 AllByRecursion-range_with_len P a (suc n) each = (each a (omega arith) (omega arith), AllByRecursion-range_with_len P (a + 1) n (λ i low high. each i (omega arith) (omega arith)))
 
--- ---- what stands in a list
+-- ---- what is in a list
 
 pub stands_in-range_with_len : (a n i : ℕ) → a ≤ i → i < a + n → stands_in (range_with_len a n) i ≡ true
 stands_in-range_with_len a zero i low high = absurd (omega arith)
@@ -82,7 +82,7 @@ stands_in-filter p (x ∷ xs) i h passes = elim (or_cases (eqb i x) (stands_in x
     either true e = or_right (eqb i x) (stands_in (filter p xs) i) e
     either false e = e
 
--- what stands in the list passes
+-- what is in the list passes
 pub list_any-at : (p : ℕ → Bool) (xs : List ℕ) (i : ℕ) → stands_in xs i ≡ true → p i ≡ true → list_any p xs ≡ true
 list_any-at p [] i h passes = h
 list_any-at p (x ∷ xs) i h passes = elim (or_cases (eqb i x) (stands_in xs i) h) [
@@ -115,7 +115,7 @@ IsRisingFrom-filter p a (suc n) = chosen (p a) (IsRisingFrom-filter p (a + 1) n)
     chosen true h = (omega arith, h)
     chosen false h = IsRisingFrom-lower (a + 1) a (filter p (range_with_len (a + 1) n)) (omega arith) h
 
--- numbers that rise from behind i stand in no list with i as its last one, if they stood in none without it
+-- rising numbers above i that aren't in a list aren't in it either when i is added at its end
 fresh-push : (before : List ℕ) (i : ℕ) (is : List ℕ) → AllByRecursion (λ j. stands_in before j ≡ false) is → IsRisingFrom (i + 1) is → AllByRecursion (λ j. stands_in (before ++ (i ∷ [])) j ≡ false) is
 fresh-push before i [] fresh rises = tt
 fresh-push before i (j ∷ js) fresh rises =

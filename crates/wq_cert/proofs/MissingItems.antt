@@ -1,4 +1,4 @@
--- What is answered behind the lines of the workqueues: that an item is missing, and then a line with another first word.
+-- What is answered after the lines of the workqueues: that an item is missing, and then a line with another first word.
 use Rattle.std.proofs.Common.{◌≡◌, ◌≢◌, ℕ, ◌+◌, Bool, false, cond, List, [], ◌∷◌, ◌++◌, length, Result, Ok, Err, refl, sym, ap, ◌∙◌, append_assoc, append-nil, length-append}
 use Rattle.std.specs.Prelude.{AllPairs, codes}
 use Rattle.std.proofs.lemmas.Bool.{false_from_ne_true}

@@ -1,4 +1,4 @@
--- What is noted of the workqueues that are read so far, and the assignment that they are.
+-- What is noted about the workqueues that have been read so far, and the assignment that they are.
 use Rattle.std.proofs.Common.{◌≡◌, ℕ, zero, suc, ◌+◌, ◌-◌, ◌<◌, ◌≤◌, ◌==◌, inl, inr, Bool, true, false, not, ◌||◌, cond, leb, List, [], ◌∷◌, ◌++◌, length, map, Option, Some, None, Result, Ok, Err, refl, sym, ap, ap₂, subst, subst₂, ◌∙◌, arith}
 use Rattle.std.specs.Prelude.{replicate, option_map, ok_or, bytes_eq, codes}
 use Rattle.std.specs.List.{All, concat, range_with_len}
@@ -35,7 +35,7 @@ AreNoted-none p n stood lanes all unmarked free = record {
   groups = free ∙ replicate_is 0 p.groups None;
 }
 
--- ---- one workqueue more
+-- ---- one more workqueue
 
 pub fresh_items-fresh : (group_of before items : List ℕ) (n : ℕ) → has_stood before items ≡ false → splits_group group_of before items ≡ false → fresh_items group_of before n items ≡ Ok items
 fresh_items-fresh group_of before items n once apart = ap₂ (λ a b. cond a (Err (NotAllItems n)) (cond b (Err (GroupSplit n)) (Ok items))) once apart
@@ -104,9 +104,9 @@ wq_items-below names place line items e = let h = numbered (wq_form names line.w
 pub wq_items-near : (names : List (List ℕ)) (place : ℕ) (line : CertLine) (items : List ℕ) → wq_items names place line ≡ Ok items → place < 4096
 wq_items-near names place line items e = (numbered (wq_form names line.words) place line.no items e).near
 
--- ---- so many workqueues
+-- ---- this many workqueues
 
--- after some of n workqueues so many are left, from the lines of `rest` on
+-- after some of n workqueues this many are left, from the lines of `rest` on
 pub record ReadSome (names : List (List ℕ)) (p : Partition) (n : ℕ) (lines : List CertLine) (count : ℕ) (stood : List Bool) (lanes : List (Option ℕ)) (left : ℕ) (rest : List CertLine) : Type 0 where
   pub workqueues : List (List ℕ)
   pub noted : AreNoted p workqueues count stood lanes

@@ -30,7 +30,7 @@ in_one_turn : {Q A W : Type 0} (f : A → List CertLine → Result W CertError) 
 in_one_turn f w (Ok p) = kept_rest f p.1 (w p.0)
 in_one_turn f w (Err e) = refl
 
--- ---- the chain behind an assignment
+-- ---- the chain after an assignment
 
 module _ (names : List (List ℕ)) (a : Assignment) where
   abbrev plan_with_chain : ℕ × List (ℕ × ℕ) → Result PlanCertificate CertError
@@ -59,7 +59,7 @@ module _ (names : List (List ℕ)) (a : Assignment) where
       ≡ and_read arcs_behind (next_line (count_reading (codes "chain")) lines)
   chain_reading-plan lines = count-plan (next_line (count_reading (codes "chain")) lines)
 
--- ---- workqueues alone
+-- ---- only workqueues
 
 abbrev pub ended : List CertLine → Assignment → Result Assignment CertError
 ended rest assignment = at_end assignment rest

@@ -27,7 +27,7 @@ use Rattle.wq_cert.proofs.SpelledAnswers.{text_reading-KeepsLimits, answer_readi
 use Rattle.wq_cert.proofs.TextWords.{words_in-text}
 
 module _ (t : Table) (table : IsTable t) where
-  -- the lines of the run, where there is one
+  -- the lines of the run, if there is one
   abbrev behind_arcs : Option (List Step) → List (List (List ℕ))
   behind_arcs steps = option_map_or (run_lines t.names) steps []
 

@@ -22,7 +22,7 @@ use Rattle.wq_cert.proofs.TextWords.{words_in-text}
 
 -- ---- what can be printed
 
--- each byte is above `#` (35): it is no blank, no line feed, no carriage return and no `#`
+-- each byte is above `#` (35): it isn't a blank, a line feed, a carriage return or a `#`
 abbrev pub IsPlain : List ℕ → Type 0
 IsPlain bytes = AllByRecursion (λ b. 35 < b) bytes
 
@@ -38,7 +38,7 @@ pub record IsPrintableLine (words : List (List ℕ)) : Type 0 where
   pub each : AllByRecursion IsPrintable words
   pub few : length words ≤ 8192
 
--- the words of a line as they stand before its line feed
+-- the words of a line as they are before its line feed
 abbrev pub line_body : List (List ℕ) → List ℕ
 line_body [] = []
 line_body (word ∷ words) = word ++ flat_map spaced words
@@ -175,7 +175,7 @@ length-line_body-le (word ∷ words) h =
     let short : length word ≤ 63 = h.0.short in
     omega (arith, length-append word (flat_map spaced words))
 
--- a printed line has 524,288 bytes at most
+-- a printed line has at most 524,288 bytes
 length-line_body-most : (words : List (List ℕ)) → IsPrintableLine words → length (line_body words) ≤ 524288
 length-line_body-most words h = omega (arith, length-line_body-le words h.each, h.few)
 

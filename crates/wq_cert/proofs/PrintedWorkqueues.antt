@@ -68,7 +68,7 @@ module _ (lane : List ℕ) where
       (IsBelow-queued 0 q q (omega arith)))
       (IsRisingFrom-filter (λ i. eqb (slice_index lane i) q) 0 (length lane))
 
-  -- items of one group are on one workqueue
+  -- items of the same group are on the same workqueue
   abbrev pub FollowsGroups : List ℕ → Type 0
   FollowsGroups group_of = (i j : ℕ) → i < length lane → j < length lane → slice_index group_of i ≡ slice_index group_of j → slice_index lane i ≡ slice_index lane j
 

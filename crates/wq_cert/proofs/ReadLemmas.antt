@@ -1,4 +1,4 @@
--- Reading line by line: what is read so far, and that a fault of a part is one of the whole.
+-- Reading line by line: what has been read so far, and that a fault of a part is one of the whole.
 use Rattle.std.proofs.Common.{◌≡◌, ℕ, zero, suc, ◌+◌, ◌-◌, ◌<◌, List, [], ◌∷◌, ◌++◌, map, Option, Some, None, Result, Ok, Err, refl, sym, ap, subst, subst₂, ◌∙◌, arith, append_assoc, append-nil}
 use Rattle.wq_text.specs.declared.text.TextError.{TextError}
 use Rattle.wq_text.specs.declared.text.TextError.TheVariants.{TextTooLong, LineTooLong}
@@ -33,7 +33,7 @@ IsCertFaultOf-read {V} next e r s made h = IsCertFaultOf-then (λ (p : V × List
 
 -- ---- a line for each value
 
--- of so many values these are read, and so many are left, from the lines of `rest` on
+-- of this many values these are read, and this many are left, from the lines of `rest` on
 pub record GoesOn {V : Type 0} (read : CertLine → Result V CertError) (n : ℕ) (lines : List CertLine) (vs : List V) (left : ℕ) (rest : List CertLine) : Type 0 where
   pub goes_on : next_lines read n lines ≡ and_read (λ us behind. Ok (vs ++ us, behind)) (next_lines read left rest)
 
@@ -46,7 +46,7 @@ GoesOn-none {V} read n lines vs none = record {
   goes_on = behind_nothing (next_lines read n lines) ∙ ap (λ (front : List V). and_read (λ us behind. Ok (front ++ us, behind)) (next_lines read n lines)) (sym none);
 }
 
--- these values in front of others that are read
+-- these values before others that are read
 in_front : {V : Type 0} → List V → List V × List CertLine → Result (List V × List CertLine) CertError
 in_front vs p = Ok (vs ++ p.0, p.1)
 

@@ -60,7 +60,7 @@ length-words_in lines = length-map lines (λ (line : CertLine). line.words)
 
 -- ---- texts
 
--- the text keeps the limits, and its lines are read so
+-- the text keeps the limits, and its lines are read in this way
 pub record IsReadSo {V : Type 0} (read : List CertLine → Result V CertError) (text : List ℕ) (v : V) : Type 0 where
   pub within : limit_fault max_certificate max_certificate_line text ≡ None
   pub is_read : read (cert_lines (lines_of text)) ≡ Ok v
@@ -105,7 +105,7 @@ IsReadAs-answer_reading names p (line ∷ lines) c e = chosen (begins_with (code
 
 -- ---- the text of an assignment
 
--- the lines are `wq` lines alone, or those of a plan
+-- the lines are only `wq` lines, or those of a plan
 abbrev pub IsAssignedBy : List (List ℕ) → Partition → List CertLine → Assignment → Type 0
 IsAssignedBy names p lines a = (workqueues_reading names p lines ≡ Ok a) ⊎ ((c : PlanCertificate) × (plan_reading names p lines ≡ Ok c) × (c.assignment ≡ a))
 
@@ -124,7 +124,7 @@ IsAssignedBy-assignment_reading names p (line ∷ lines) a e = chosen (begins_wi
 
 -- ---- in range
 
--- the steps are fewer than the lines
+-- there are fewer steps than lines
 IsRunOf-spelled : (names : List (List ℕ)) (lines : List (List (List ℕ))) (steps : List Step) → length lines ≤ 8388608 → SpellsRun names lines steps → IsRunOf (length names) steps
 IsRunOf-spelled names lines steps few spells = record {
   known = spells.known;

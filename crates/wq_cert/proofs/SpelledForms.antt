@@ -172,7 +172,7 @@ module _ (names : List (List ℕ)) (differ : AllPairs (λ (a b : List ℕ). a �
   step_form-line (Over q b) known fits = lane_said (codes "over") q b known fits
   step_form-line (Finish q i) known fits = lane_said (codes "finish") q i known fits
 
--- a workqueue that isn't far is a number
+-- a workqueue that isn't above 4,095 is a number
 pub IsNumbered-near : (step : Step) → names_far_lane step ≡ false → IsNumbered step
 IsNumbered-near (Queue i) near = tt
 IsNumbered-near (Cancel i) near = tt
@@ -181,7 +181,7 @@ IsNumbered-near (Wait q b) near = omega (arith, ltb-false 4095 q near)
 IsNumbered-near (Over q b) near = omega (arith, ltb-false 4095 q near)
 IsNumbered-near (Finish q i) near = omega (arith, ltb-false 4095 q near)
 
--- a step of which no workqueue above 4,095 is named
+-- a step that names no workqueue above 4,095
 pub names_far_lane-near : (step : Step) → (IsSomeAnd (lane_in step) (λ q. 4095 < q) → ⊥) → names_far_lane step ≡ false
 names_far_lane-near (Queue i) near = refl
 names_far_lane-near (Cancel i) near = refl

@@ -29,7 +29,7 @@ pub Follows-and_then : {V W : Type 0} (next : V → Result W CertError) (r : Res
 Follows-and_then next (Ok v) w e = record { value = v; first = refl; then = e }
 Follows-and_then next (Err fault) w e = absurd cc
 
--- a value is read, and the lines behind it
+-- a value is read, and the lines after it
 pub record FollowsRead {V W : Type 0} (next : V → List CertLine → Result W CertError) (r : Read V) (w : W) : Type 0 where
   pub value : V
   pub rest : List CertLine
@@ -49,12 +49,12 @@ read_as v = Ok v
 pub same_ok : {V : Type 0} (v w : V) → read_as v ≡ Ok w → v ≡ w
 same_ok v w e = cc
 
--- what is there instead of a fault
+-- a value that is there instead of a fault
 pub Some-ok_or : {V : Type 0} (o : Option V) (fault : CertError) (v : V) → ok_or o fault ≡ Ok v → o ≡ Some v
 Some-ok_or None fault v e = absurd cc
 Some-ok_or (Some u) fault v e = cc
 
--- what comes behind a test that was passed
+-- what comes after a test that was passed
 pub past : {V : Type 0} (b : Bool) (fault : CertError) (r : Result V CertError) (w : V) → cond b (Err fault) r ≡ Ok w → (b ≡ false) × (r ≡ Ok w)
 past true fault r w e = absurd cc
 past false fault r w e = (refl, e)
@@ -95,7 +95,7 @@ pub record BeginsAll {V : Type 0} (read : CertLine → Result V CertError) (line
   pub is_read : next_lines read (length vs) lines ≡ Ok (vs, rest)
   pub behind : words_in rest ≡ others
 
--- so many values stand in front
+-- this many values come first
 pub record AreInFront {V : Type 0} (show : V → List (List ℕ)) (P : V → Type 0) (n : ℕ) (lines rest : List CertLine) (vs : List V) : Type 0 where
   pub count : length vs ≡ n
   pub words_are : words_in lines ≡ map show vs ++ words_in rest
@@ -244,7 +244,7 @@ module _ (names : List (List ℕ)) where
   abbrev near_step : ℕ → Step → Result Step CertError
   near_step line step = cond (names_far_lane step) (Err (NumberOutOfRange line)) (Ok step)
 
-  -- a step is found, on no far workqueue
+  -- a step is found, on no workqueue above 4,095
   step_found : (line : CertLine) (step : Step) → step_reading names line ≡ Ok step → (step_form names line.words ≡ Some step) × (names_far_lane step ≡ false)
   step_found line step e =
       let found = Follows-and_then (near_step line.no) (ok_or (step_form names line.words) (BadCertLine line.no)) step e in

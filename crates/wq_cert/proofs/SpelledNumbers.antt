@@ -22,12 +22,12 @@ pub guarded : {X : Type 0} (b : Bool) (o : Option X) (x : X) → cond b o None �
 guarded true o x e = (refl, e)
 guarded false o x e = absurd cc
 
--- it is this, or else what comes behind
+-- it is this, or else what comes after
 pub one_of : {X : Type 0} (b : Bool) (x y : X) (o : Option X) → cond b (Some x) o ≡ Some y → ((b ≡ true) × (x ≡ y)) ⊎ (o ≡ Some y)
 one_of true x y o e = inl (refl, cc)
 one_of false x y o e = inr e
 
--- a pair is there where both are
+-- a pair is there if both are
 pub record AreBoth {X Y : Type 0} (a : Option X) (b : Option Y) (p : X × Y) : Type 0 where
   pub left : a ≡ Some p.0
   pub right : b ≡ Some p.1

@@ -67,13 +67,13 @@ module _ (names : List (List ℕ)) (group_of : List ℕ) where
         ∙ ap (λ (b : Bool). cond b (Err (NotAllItems line.no)) (in_groups group_of workqueues line.no workqueue)) said.next.fresh
         ∙ ap (λ (b : Bool). cond b (Err (GroupSplit line.no)) (Ok workqueue)) said.next.apart
 
-  -- ---- so many workqueues
+  -- ---- this many workqueues
 
   -- the lines of these workqueues, numbered from here
   abbrev pub lines_from : ℕ → List (List ℕ) → List (List (List ℕ))
   lines_from n more = map (workqueue_line names) (enumerate_from n more)
 
-  -- these workqueues come behind, so many or as many as there are
+  -- these workqueues follow, this many or as many as there are
   pub record Grows (workqueues all : List (List ℕ)) (lines rest : List CertLine) : Type 0 where
     pub more : List (List ℕ)
     pub whole : all ≡ workqueues ++ more
@@ -130,7 +130,7 @@ module _ (names : List (List ℕ)) (group_of : List ℕ) where
       let others = Grows-next_workqueues n (workqueues ++ (found.value ∷ [])) all found.rest rest (AreGrown-push items group_of workqueues found.value grown first.1) found.then in
       (Grows-more workqueues all found.value lines found.rest rest first.0 others.0, omega (arith, others.1, length-append workqueues (found.value ∷ [])))
 
-  -- what comes behind one workqueue more
+  -- what comes after one more workqueue
   abbrev after : List (List ℕ) → List CertLine → List ℕ → Read (List (List ℕ))
   after workqueues lines workqueue = all_workqueues names group_of (workqueues ++ (workqueue ∷ [])) lines
 
@@ -167,7 +167,7 @@ module _ (names : List (List ℕ)) (group_of : List ℕ) where
           next = IsNextWorkqueue-grown items group_of workqueues workqueue (AreGrown-front items group_of (workqueues ++ (workqueue ∷ [])) more (first_grown workqueues more workqueue grown));
         })
 
-    -- the lines behind these workqueues
+    -- the lines after these workqueues
     pub record GrowsTo (n : ℕ) (workqueues all : List (List ℕ)) (lines : List CertLine) (others : List (List (List ℕ))) : Type 0 where
       pub rest : List CertLine
       pub is_read : next_workqueues names group_of n workqueues lines ≡ Ok (all, rest)

@@ -10,7 +10,7 @@ use Rattle.std.proofs.lemmas.List.FromFn.{length-map-range_with_len, get_or-map-
 use Rattle.wq_cert.specs.Reading.{stands_in, has_stood}
 use Rattle.wq_cert.specs.Noted.{marks}
 
--- ---- one element more
+-- ---- one more element
 
 pub take_one : {X : Type 0} (xs : List X) (k : ℕ) (x : X) → k < length xs → x ≡ get_or xs k x → take (k + 1) xs ≡ take k xs ++ (x ∷ [])
 take_one {X} xs k x lt at = ap (λ n. take n xs) (add-one k) ∙ take-suc xs k x lt ∙ ap (λ (y : X). take k xs ++ (y ∷ [])) (sym at)
@@ -33,7 +33,7 @@ length-marks n items = length-map-range_with_len (stands_in items) 0 n
 pub get_or-marks : (n : ℕ) (items : List ℕ) (k : ℕ) (d : Bool) → k < n → get_or (marks n items) k d ≡ stands_in items k
 get_or-marks n items k d lt = get_or-map-range_with_len (stands_in items) 0 n k k d lt (omega arith)
 
--- one item more stands there
+-- one more item is there
 marks-set : (n : ℕ) (items : List ℕ) (x : ℕ) → x < n → set (marks n items) x true ≡ marks n (items ++ (x ∷ []))
 marks-set n items x within =
     fill_by_all (stands_in (items ++ (x ∷ []))) (set (marks n items) x true) n true (length-set (marks n items) x true ∙ length-marks n items) at

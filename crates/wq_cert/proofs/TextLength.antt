@@ -33,7 +33,7 @@ total g [] = 0
 total g (x ∷ xs) = g x + total g xs
 
 module _ {X : Type 0} where
-  -- pieces that are each within a bound are together within the sum of the bounds
+  -- pieces that are each within a bound are, together, within the sum of the bounds
   length-flat_map-le : (f : X → List ℕ) (g : X → ℕ) (xs : List X) → AllByRecursion (λ x. length (f x) ≤ g x) xs → length (flat_map f xs) ≤ total g xs
   unfolding total
   length-flat_map-le f g [] each = omega arith

@@ -1,4 +1,4 @@
--- The assignment that workqueues are, where each item is on one.
+-- Workqueues as an assignment, if each item is on one.
 use Rattle.std.proofs.Common.{◌≡◌, ℕ, ◌+◌, ◌<◌, ◌==◌, Bool, true, false, cond, List, length, map, get_or, Option, Ok, Err, sym, ap, ap₂, subst, ◌∙◌, arith}
 use Rattle.std.specs.Prelude.{Contains, unwrap_or}
 use Rattle.std.specs.List.{All, list_all, concat, range_with_len}

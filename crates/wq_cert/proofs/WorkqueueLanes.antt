@@ -1,4 +1,4 @@
--- The workqueue of a group is the one on which its members stand.
+-- The workqueue of a group is the one that its members are on.
 use Rattle.std.proofs.Common.{◌≡◌, ℕ, ◌<◌, Bool, true, false, cond, ltb, eqb, List, [], length, map, get_or, Some, None, refl, sym, ap, subst, ◌∙◌, arith}
 use Rattle.std.specs.Prelude.{slice_index, unwrap_or}
 use Rattle.std.specs.List.{list_any, concat, position_or_len, range_with_len}

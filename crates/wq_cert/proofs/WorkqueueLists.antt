@@ -12,7 +12,7 @@ use Rattle.std.proofs.lemmas.List.Sums.{AllPass-from_list_all, list_all-from_All
 use Rattle.wq_cert.specs.Reading.{stands_in, has_stood, splits_group, hold_all}
 use Rattle.wq_cert.specs.Spelled.{IsOnWorkqueue, GroupsAreWhole, AreWorkqueues}
 
--- ---- what stands in a list
+-- ---- what is in a list
 
 pub Contains-stands_in : (items : List ℕ) (i : ℕ) → stands_in items i ≡ true → Contains items i
 Contains-stands_in items i e =
@@ -52,7 +52,7 @@ has_stood-Once before (i ∷ items) once =
     (false_from_ne_true (stands_in before i) (λ e. Once-apart before (i ∷ items) i once (Contains-stands_in before i e) (0, omega arith, refl)))
     (has_stood-Once (before ++ (i ∷ [])) items (subst Once (sym (append_assoc before (i ∷ []) items)) once))
 
--- ---- all of so many items
+-- ---- all of this many items
 
 pub Contains-hold_all : (items : ℕ) (workqueues : List (List ℕ)) → hold_all items workqueues ≡ true → (i : ℕ) → i < items → Contains (concat workqueues) i
 Contains-hold_all items workqueues e i within =
@@ -70,7 +70,7 @@ hold_all-Contains items workqueues each =
 
 -- ---- groups apart
 
--- no item of the list is of a group with one of those before
+-- no item of the list shares a group with one of those before
 abbrev pub AreApart : List ℕ → List ℕ → List ℕ → Type 0
 AreApart group_of before items = (i j : ℕ) → Contains items i → Contains before j → slice_index group_of i ≡ slice_index group_of j → ⊥
 
@@ -158,7 +158,7 @@ module _ (group_of : List ℕ) (workqueues : List (List ℕ)) where
 
 -- ---- workqueues that grow
 
--- what holds of the workqueues that are read so far
+-- what holds for the workqueues that have been read so far
 pub record AreGrown (items : ℕ) (group_of : List ℕ) (workqueues : List (List ℕ)) : Type 0 where
   pub few : length workqueues ≤ 4096
   pub known : All (λ i. i < items) (concat workqueues)
@@ -194,7 +194,7 @@ module _ (items : ℕ) (group_of : List ℕ) where
     whole = GroupsAreWhole-front group_of workqueues more h.whole;
   }
 
-  -- the items are those of one workqueue more
+  -- the items are those of one more workqueue
   pub record IsNextWorkqueue (workqueues : List (List ℕ)) (workqueue : List ℕ) : Type 0 where
     pub room : length workqueues < 4096
     pub known : All (λ i. i < items) workqueue

@@ -79,17 +79,17 @@ module _ (names : List (List ℕ)) (group_of : List ℕ) (workqueues : List (Lis
         ∙ ap (λ (m : ℕ). Err (GroupSplit m)) (sym h.0)
     wq_reading-BreaksRow first OutOfMemory h = absurd h
 
--- ---- behind the lines of these workqueues
+-- ---- after the lines of these workqueues
 
 module _ (names : List (List ℕ)) (group_of : List ℕ) where
   abbrev pub GrownBy : List (List ℕ) → List (List ℕ) → Type 0
   GrownBy workqueues more = AreGrown (length names) group_of (workqueues ++ more)
 
-  -- all workqueues behind one more that is read
+  -- all workqueues after one more that is read
   abbrev pub and_all : List (List ℕ) → List CertLine → Result (List ℕ) CertError → Read (List (List ℕ))
   and_all workqueues lines r = and_then (λ items. all_workqueues names group_of (workqueues ++ (items ∷ [])) lines) r
 
-  -- the same, where the line is of a workqueue
+  -- the same, if the line is that of a workqueue
   abbrev pub all_by : List (List ℕ) → CertLine → List CertLine → Bool → Read (List (List ℕ))
   all_by workqueues found lines b = cond b (and_all workqueues lines (wq_reading names group_of workqueues found)) (Ok (workqueues, found ∷ lines))
 

@@ -1,4 +1,4 @@
--- How the line of a workqueue is judged: its form, its number, then items that stand again, then groups that are split.
+-- How the line of a workqueue is judged: its form, its number, then items that are there again, then groups that are split.
 use Rattle.std.proofs.Common.{◌≡◌, ℕ, Bool, true, false, cond, List, length, Result, Ok, Err, refl}
 use Rattle.std.specs.Prelude.{not, ◌==◌, ◌||◌, nat_le, ok_or}
 use Rattle.std.specs.List.{concat}
@@ -14,7 +14,7 @@ module _ (group_of : List ℕ) (workqueues : List (List ℕ)) where
   abbrev pub in_groups : ℕ → List ℕ → Result (List ℕ) CertError
   in_groups line items = cond (splits_group group_of (concat workqueues) items) (Err (GroupSplit line)) (Ok items)
 
-  -- items that stand again, and then groups
+  -- items that are there again, and then groups
   abbrev pub in_once : ℕ → List ℕ → Result (List ℕ) CertError
   in_once line items = cond (has_stood (concat workqueues) items) (Err (NotAllItems line)) (in_groups line items)
 

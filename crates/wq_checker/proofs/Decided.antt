@@ -1,4 +1,4 @@
--- Whether something stands in a list or below a number.
+-- Whether something is in a list or below a number.
 use Rattle.std.proofs.Common.{◌≡◌, ℕ, zero, suc, ◌<◌, ◌⊎◌, inl, inr, List, [], ◌∷◌, refl, subst, arith}
 use Rattle.std.specs.List.{All, Any}
 use Rattle.std.proofs.lemmas.Bool.{cases_lt}
@@ -17,7 +17,7 @@ pub not_so : {P : Type 0} → Decided P → Decided (¬ P)
 not_so (inl p) = inr (λ h. h p)
 not_so (inr no_p) = inl no_p
 
--- what is as good as what is decided
+-- what is equivalent to what is decided
 pub alike : {P Q : Type 0} → (P → Q) → (Q → P) → Decided P → Decided Q
 alike to from (inl p) = inl (to p)
 alike to from (inr no_p) = inr (λ q. no_p (from q))
@@ -54,14 +54,14 @@ module _ {X : Type 0} (P : X → Type 0) (decide : (x : X) → Decided (P x)) wh
   ]
 
 module _ (P : ℕ → Type 0) (decide : (k : ℕ) → Decided (P k)) where
-  -- what holds below n and of n holds below n + 1
+  -- what holds below n and for n holds below n + 1
   one_more : (n : ℕ) → ((k : ℕ) → k < n → P k) → P n → (k : ℕ) → k < suc n → P k
   one_more n lower here k less = elim (cases_lt k n) [
     | inl lower_one ↦ lower k lower_one
     | inr past ↦ (let same : n ≡ k = omega arith in subst P same here)
   ]
 
-  -- each number below n, or the first that it doesn't hold of
+  -- each number below n, or the first that it doesn't hold for
   pub first_below : (n : ℕ) → ((k : ℕ) → k < n → P k) ⊎ ((m : ℕ) × (m < n) × (¬ P m) × ((k : ℕ) → k < m → P k))
   first_below zero = inl (λ k less. absurd (omega arith))
   first_below (suc n) = elim (first_below n) [

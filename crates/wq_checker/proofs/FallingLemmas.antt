@@ -22,7 +22,7 @@ pub Declares-waits : (d : Declaration) (i j : ℕ) → ItemWaits d.waits i j →
 Declares-waits d i j waits = (waits.1, (waits.0, waits.2, waits.3), waits.4)
 
 module _ (d : Declaration) (a : Assignment) where
-  -- the first of an item that doesn't fall is the one of least place, where places rise
+  -- the first of an item that doesn't fall is the one at the lowest place, if places rise
   pub IsFirstOf-item : (i k : ℕ) (target : Target) → PlacesRise (targets_of d.waits i) → k < length (targets_of d.waits i) → target ≡ get_or (targets_of d.waits i) k target → (¬ Falls d a i target.item)
       → ((m : ℕ) (e : Target) → m < k → Falls d a i (get_or (targets_of d.waits i) m e).item) → IsFirstOf d a (OfItem d i) (record { item = i; target = target })
   IsFirstOf-item i k target rise within is stays before = record {

@@ -61,7 +61,7 @@ place_there [] i t there = absurd (omega (arith, there.1))
 place_there (targets ∷ waits) zero t there = Contains-append_left (own_places targets) (places waits) t.place (place_among targets t there)
 place_there (targets ∷ waits) (suc i) t there = Contains-append_right (own_places targets) (places waits) t.place (place_there waits i t there)
 
--- flushes at one place are of one item
+-- flushes at the same place are by the same item
 same_item : (waits : List (List Target)) → Apart (places waits) → (i j : ℕ) (t u : Target) → Contains (targets_of waits i) t → Contains (targets_of waits j) u → t.place ≡ u.place → i ≡ j
 same_item [] apart i j t u one other same = absurd (omega (arith, one.1))
 same_item (targets ∷ waits) apart zero zero t u one other same = refl
@@ -71,7 +71,7 @@ same_item (targets ∷ waits) apart (suc i) zero t u one other same =
     absurd (Apart-across (own_places targets) (places waits) apart t.place (subst (Contains (own_places targets)) (sym same) (place_among targets u other)) (place_there waits i t one))
 same_item (targets ∷ waits) apart (suc i) (suc j) t u one other same = ap suc (same_item waits (Apart-right (own_places targets) (places waits) apart) i j t u one other same)
 
--- and of one target
+-- and of the same target
 rises : (targets : List Target) (m n : ℕ) (t u : Target) → PlacesRise targets → m < n → n < length targets → (get_or targets m t).place < (get_or targets n u).place
 rises targets m n t u rise less fits =
     omega (

@@ -26,7 +26,7 @@ use Rattle.wq_checker.proofs.GroupChains.{chain_of_groups, circle_of_groups}
 module _ (d : Declaration) (is : IsDeclaration d) where
   -- ---- plans
 
-  -- where each flush falls no run ends stuck
+  -- if each flush falls, no run ends stuck
   pub IsSafe-fall : (a : Assignment) → AllFall d a → IsSafe (wiring d a)
   IsSafe-fall a falls =
       IsSafe-falls (wiring d a) (λ l. l) (λ i j waits.
@@ -35,7 +35,7 @@ module _ (d : Declaration) (is : IsDeclaration d) where
       omega (arith, one, other, falls i j waits)
       )
 
-  -- the chain is one of as many groups as there are lanes
+  -- the chain has as many groups as there are lanes
   pub IsChainAlong-good : (c : PlanCertificate) → IsPlanAsked d c → IsGoodPlan d c → (groups : List ℕ) × IsChainAlong d c.arcs groups × (length groups ≡ c.assignment.lanes)
   IsChainAlong-good c asked good =
       let chain = chain_of_groups d is c.length c.arcs good.joined asked.count (λ one none. good.has_group (one, none)) in

@@ -17,12 +17,12 @@ use Rattle.wq_checker.proofs.FallingLemmas.{Declares-within, Declares-waits}
 abbrev group : Declaration → ℕ → ℕ
 group d i = slice_index d.group_of i
 
--- each arc is declared, and begins in the group in which the one before it ends, the first in group g
+-- each arc is declared, and begins in the group where the one before it ends; the first begins in group g
 abbrev Linked : Declaration → ℕ → List (ℕ × ℕ) → Type 0
 Linked d g [] = Unit {0}
 Linked d g (arc ∷ arcs) = ItemWaits d.waits arc.0 arc.1 × (group d arc.0 ≡ g) × Linked d (group d arc.1) arcs
 
--- ---- what stands before an arc
+-- ---- what comes before an arc
 
 before_from-suc : (first : Option (ℕ × ℕ)) (arcs : List (ℕ × ℕ)) (k : ℕ) → before_from first arcs (suc k) ≡ slice_get arcs k
 before_from-suc first arcs k =
@@ -77,7 +77,7 @@ module _ (d : Declaration) where
         (subst (λ (a : ℕ × ℕ). ItemWaits d.waits a.0 a.1) same linked.0, ap (λ (h : ℕ). Some h) (sym linked.1 ∙ ap (λ (a : ℕ × ℕ). group d a.0) same), ap (λ (a : ℕ × ℕ). Some (group d a.1)) same)
     along-linked g (first ∷ arcs) linked (suc k) arc stands = along-linked (group d first.1) arcs linked.2 k arc stands
 
-    -- arcs that join are a chain of one group more
+    -- arcs that join are a chain of one more group
     IsChainAlong-joined : (first : Option (ℕ × ℕ)) (arc : ℕ × ℕ) (arcs : List (ℕ × ℕ)) → AllJoin d (before_from first (arc ∷ arcs)) (arc ∷ arcs)
         → IsChainAlong d (arc ∷ arcs) (group d arc.0 ∷ heads d (arc ∷ arcs))
     IsChainAlong-joined first arc arcs joined =
@@ -113,7 +113,7 @@ module _ (d : Declaration) where
           omega (arith, few),
         )
 
-    -- arcs that join are a chain of n groups, where there is one arc fewer
+    -- arcs that join are a chain of n groups, if there is one arc fewer
     pub chain_of_groups : (n : ℕ) (arcs : List (ℕ × ℕ)) → AllJoin d (before_in_chain arcs) arcs → length arcs ≡ n - 1 → (n ≡ 1 → ¬ (d.groups ≡ 0))
         → (groups : List ℕ) × IsChainAlong d arcs groups × (length groups ≡ n)
     chain_of_groups n [] joined count some = chain_alone n (omega (arith, count)) some
@@ -127,7 +127,7 @@ module _ (d : Declaration) where
     last_of-heads arc [] last stands = let same : arc ≡ last = cc in ap (λ (a : ℕ × ℕ). group d a.1) same
     last_of-heads arc (next ∷ arcs) last stands = last_of-heads next arcs last stands
 
-    -- arcs that join, the first the last, are a circle
+    -- arcs that join, the first joining the last, are a circle
     IsCircleAlong-joined : (arc : ℕ × ℕ) (arcs : List (ℕ × ℕ)) → AllJoin d (before_in_circle (arc ∷ arcs)) (arc ∷ arcs) → IsCircleAlong d (arc ∷ arcs)
     IsCircleAlong-joined arc arcs joined =
         let circle : List (ℕ × ℕ) = arc ∷ arcs in

@@ -51,7 +51,7 @@ cases_ItemWaits : (waits : List (List Target)) (i j : ℕ) → Decided (ItemWait
 cases_ItemWaits waits i j = cases_Any (λ (t : Target). t.item ≡ j) (λ t. cases_eq t.item j) (targets_of waits i)
 
 module _ (w : Wiring) (s : State) where
-  -- what runs, and what is said of it
+  -- what runs, and what is said about it
   cases_runs : (lane : Lane) (P : Running → Type 0) → ((r : Running) → Decided (P r)) → Decided ((r : Running) × Runs lane r × P r)
   cases_runs lane P decide = by_running lane.running refl
     where

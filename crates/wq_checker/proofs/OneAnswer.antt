@@ -1,4 +1,4 @@
--- A certificate has one answer at most, and a list of steps one end.
+-- A certificate has at most one answer, and a list of steps at most one end.
 use Rattle.std.proofs.Common.{◌≡◌, ℕ, zero, suc, ◌-◌, ◌<◌, inl, inr, List, [], ◌∷◌, take, Option, Some, Result, Ok, Err, refl, sym, ap, subst, ◌∙◌, arith}
 use Rattle.std.specs.Prelude.{slice_get}
 use Rattle.std.proofs.lemmas.Bool.{cases_order}
@@ -64,7 +64,7 @@ module _ (d : Declaration) where
     -- ---- plans
 
     module _ (c : PlanCertificate) (asked : IsPlanAsked d c) where
-      -- where there is no group there is no arc
+      -- if there is no group, there is no arc
       lacking-unbroken : (at : ℕ) → LacksGroup d c → ¬ IsFirstBreak d (before_in_chain c.arcs) c.arcs at
       lacking-unbroken at lacks break = absurd (omega (arith, asked.count, lacks.0, slice_get_within c.arcs (at - 1) break.arc break.stands))
 

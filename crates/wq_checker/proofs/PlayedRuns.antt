@@ -24,7 +24,7 @@ next-done old new step n done =
     let is : new.state.next ≡ (effect old.wiring old.state step).next = ap (λ (m : Machine). m.state.next) done.after in
     omega (arith, is, next-effect old.wiring old.state step)
 
--- ---- a run with one step more
+-- ---- a run with one more step
 
 module _ (w : Wiring) (steps : List Step) (step : Step) (b keeps : Bool) (old new : Machine) (n : ℕ) (played : IsPlayed w steps b old) (done : IsDone old step n new)
     (order : Lawful old.wiring old.state step → IsTrue keeps ↔ KeepsOrder old.wiring old.state step) where
@@ -41,7 +41,7 @@ module _ (w : Wiring) (steps : List Step) (step : Step) (b keeps : Bool) (old ne
   both : AsDeclaredFrom w (empty_state w) (steps ++ (step ∷ [])) ↔ (AsDeclaredFrom w (empty_state w) steps × KeepsOrder w (end_of w steps) step)
   both = AsDeclaredFrom-more w (empty_state w) steps step
 
-  -- it is in order where it was so far, and the step keeps to it
+  -- it is in order if it was so far and the step keeps to it
   pub IsPlayed-more : (c : Bool) → ((b ≡ true) × (c ≡ keeps)) ⊎ ((b ≡ false) × (c ≡ false)) → IsPlayed w (steps ++ (step ∷ [])) c new
   IsPlayed-more c (inl so_far) = record {
     run = more.lawful;

@@ -10,13 +10,13 @@ use Rattle.wq_core.specs.declared.step.Step.TheVariants.{Queue}
 use Rattle.wq_core.specs.Wiring.{Wiring, items}
 use Rattle.wq_core.specs.Runs.{queues, IsCancel, IsOnce}
 
--- of each item below n how often the steps queue it
+-- for each item below n, how often the steps queue it
 pub record Counted (steps : List Step) (n : ℕ) (counts : List ℕ) : Type 0 where
   pub len : length counts ≡ n
   pub each : (i : ℕ) → i < n → get_or counts i 0 ≡ count_by (λ (step : Step). queues i step) steps
 
 module _ (steps : List Step) (n k : ℕ) (counts : List ℕ) (within : k < length steps) (counted : Counted (take k steps) n counts) where
-  -- a step that queues none of them
+  -- a step that queues none of the items
   pub Counted-other : (step : Step) → step ≡ get_or steps k step → ((i : ℕ) → i < n → queues i step ≡ false) → Counted (take (k + 1) steps) n counts
   Counted-other step is none = record {
     len = counted.len;
@@ -46,7 +46,7 @@ module _ (steps : List Step) (n k : ℕ) (counts : List ℕ) (within : k < lengt
       let is : count ≡ count_by (λ (step : Step). queues i step) (take k steps) = read ∙ get_or_default counts i count 0 (omega (arith, counted.len)) ∙ counted.each i below in
       omega (arith, is, count_by-le-length (λ (step : Step). queues i step) (take k steps), length-take k steps)
 
--- each item is queued once where each count is one
+-- each item is queued once if each count is one
 pub IsOnce-counts : (w : Wiring) (steps : List Step) (counts : List ℕ) (one : Bool) → Counted steps (items w) counts → All (λ (step : Step). ¬ IsCancel step) steps
     → (IsTrue one ↔ All (λ n. n ≡ 1) counts) → IsTrue one ↔ IsOnce w steps
 IsOnce-counts w steps counts one counted uncancelled both = (to, from)

@@ -11,7 +11,7 @@ use Rattle.wq_checker.specs.RunEnds.{IsFirstUnlawful, EndsAs}
 use Rattle.wq_core.proofs.RunLemmas.{IsRunFrom-at}
 
 module _ (w : Wiring) (steps : List Step) where
-  -- a list with a step that isn't lawful is no run
+  -- a list with a step that isn't lawful isn't a run
   pub IsRun-unlawful : (n : ℕ) → IsFirstUnlawful w steps n → ¬ IsRun w steps
   IsRun-unlawful n is run = is.unlawful (IsRunFrom-at w (empty_state w) steps (n - 1) is.step run is.stands)
 

@@ -58,11 +58,11 @@ CanMove-rescuer w s (Finish q i) is lawful = (q, (Finish q i, refl, lawful))
 -- ---- stuck
 
 module _ (w : Wiring) (s : State) where
-  -- where a lane can move, the state isn't stuck
+  -- if a lane can move, the state isn't stuck
   pub IsStuck-can_move : (q : ℕ) → CanMove w s q → ¬ IsStuck w s
   IsStuck-can_move q can stuck = stuck.no_step can.0 (IsRescuerStep-of_lane q can.0 can.1) can.2
 
-  -- where none can, it is stuck exactly where something is unfinished
+  -- if none can, it is stuck exactly if something is unfinished
   pub IsStuck-cannot_move : ((q : ℕ) → ¬ CanMove w s q) → (idle : Bool) → (IsTrue idle ↔ (¬ HasUnfinished s)) → IsTrue (not idle) ↔ IsStuck w s
   IsStuck-cannot_move none true both = ((λ e. absurd cc), (λ stuck. absurd (both.0 refl stuck.left)))
   IsStuck-cannot_move none false both = ((λ e. stuck (cases_HasUnfinished s)), (λ stuck. refl))

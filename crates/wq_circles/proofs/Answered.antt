@@ -1,4 +1,4 @@
--- Answers: a text has one, and it ends as the verdict on the assignment does, and as `plan` where none is named.
+-- Answers: a text has one. It ends as the verdict on the assignment does, and as `plan` does if no assignment is named.
 use Rattle.std.proofs.Common.{◌≡◌, ℕ, inl, inr, List, [], Result, Ok, Err, refl, sym, ap, subst, ◌∙◌}
 use Rattle.std.specs.Prelude.{MatchResult}
 use Rattle.wq_text.specs.Refusal.{Refusal}
@@ -32,7 +32,7 @@ use Rattle.wq_circles.specs.ComponentsText.{components_text}
 use Rattle.wq_circles.specs.Circling.{CirclesAssigned, CirclesDeclared, Circles, OwnCircles}
 use Rattle.wq_circles.proofs.Safe.{AreComponents-unique, IsSafe-none, none-IsSafe, none_or_circle}
 
--- what follows of two answers to one thing that was read, or not
+-- what follows from two answers to the same thing, which was read or not
 matched : {V E : Type 0} (r : Result V E) (P Q : V → Type 0) (F G : E → Type 0) (C : Type 0) → ((v : V) → r ≡ Ok v → P v → Q v → C) → ((e : E) → F e → G e → C)
     → MatchResult r P F → MatchResult r Q G → C
 matched (Ok v) P Q F G C good bad one two = good v refl one two
@@ -102,7 +102,7 @@ module _ (s : Declared) (sound : IsSound s) where
   declares : IsDeclaration (declared_waits s)
   declares = IsDeclaration-sound s sound
 
-  -- where the groups' own workqueues wait in a circle no assignment is safe
+  -- if the groups' own workqueues wait in a circle, no assignment is safe
   no_plan : (a : Assignment) → Circle (HasArc (lane_graph (declared_waits s) (own_lanes s.partition.groups))) → IsAssignment s.partition.groups a → ¬ IsSafe (wiring (declared_waits s) a)
   no_plan a circle assignment =
       let groups = subst (λ (g : List (List WaitArc)). Circle (HasArc g)) (lane_graph-own_lanes (declared_waits s) declares) circle in

@@ -18,7 +18,7 @@ use Rattle.wq_circles.specs.Components.{joined, loops_at, loops}
 use Rattle.wq_circles.specs.Flushes.{IsBefore}
 use Rattle.wq_circles.proofs.OnCircles.{AreTogether-keeps, AreLoops-loops, IsLoop, IsLoop-loops_at, assigned, flush-items, lane-below, loop-vertex}
 
--- by relations that hold alike the lowest are the same
+-- for relations that hold alike, the lowest are the same
 IsLowest-keeps : (R S : ℕ → ℕ → Type 0) → ((v w : ℕ) → R v w → S v w) → ((v w : ℕ) → S v w → R v w) → (v c : ℕ) → IsLowest R v c → IsLowest S v c
 IsLowest-keeps R S keeps back v c lowest = record { together = AreTogether-keeps R S keeps v c lowest.together; least = λ w together. lowest.least w (AreTogether-keeps S R back v w together) }
 

@@ -1,4 +1,4 @@
--- The assignment in which workqueues are joined that lead to one another.
+-- The assignment in which workqueues that lead to one another are joined.
 use Rattle.std.proofs.Common.{◌≡◌, ℕ, ◌+◌, ◌<◌, ◌≤◌, ◌==◌, not, inl, List, [], ◌∷◌, ◌++◌, length, map, get_or, take, cond, true, false, append-nil, refl, sym, ap, subst, ◌∙◌, arith}
 use Rattle.std.specs.Prelude.{Some, slice_get, slice_index}
 use Rattle.std.specs.List.{All, filter, range_with_len}
@@ -14,11 +14,11 @@ use Rattle.wq_graph.specs.Graph.{HasArc, arcs_from, lane_graph}
 use Rattle.wq_components.specs.Leading.{AreLowest}
 use Rattle.wq_circles.specs.Components.{joined, loops_at}
 
--- what stands at a place within a list is no default
+-- what is at a place within a list isn't the default
 pub same_default : (xs : List ℕ) (k d : ℕ) → k < length xs → get_or xs k d ≡ slice_index xs k
 same_default xs k d within = get_or_from_slice_get xs k (slice_index xs k) d (slice_get-get_or xs k 0 within)
 
--- a vertex is together with itself, so none that is lowest is above n
+-- a vertex is together with itself, so no lowest one is above n
 pub AreLowest-within : (R : ℕ → ℕ → Type 0) (n : ℕ) (lowest : List ℕ) → AreLowest R n lowest → All (λ q. q < n) lowest
 AreLowest-within R n lowest are k d within =
     let least : slice_index lowest k ≤ k = (are.is k (omega (arith, within, are.one_each))).least k (inl refl) in
@@ -37,7 +37,7 @@ IsAssignment-joined R groups a lowest are assignment = record {
   within = joined-within a lowest are.one_each (AreLowest-within R a.lanes lowest are) assignment.within;
 }
 
--- the lane of one group more: q is its lane, at which l is found
+-- the lane of one more group: q is its lane, and l is found for q
 pub joined-more : (lowest lanes done new : List ℕ) (g q number at l : ℕ) → g < length lanes → slice_get lanes g ≡ Some q → done ≡ map (slice_index lowest) (take g lanes) → number ≡ q → at ≡ number → l ≡ slice_index lowest at
     → new ≡ done ++ (l ∷ []) → new ≡ map (slice_index lowest) (take (g + 1) lanes)
 joined-more lowest lanes done new g q number at l within lane so_far is same found pushed =
@@ -57,7 +57,7 @@ loops_below graph v = filter (λ (arcs : List WaitArc). not (length arcs == 0)) 
 loops_below-more : (graph : List (List WaitArc)) (v : ℕ) → loops_below graph (v + 1) ≡ loops_below graph v ++ cond (not (length (loops_at graph v) == 0)) (loops_at graph v ∷ []) []
 loops_below-more graph v = filter_of_map_range_with_len_more (λ (arcs : List WaitArc). not (length arcs == 0)) (loops_at graph) 0 v v (omega arith)
 
--- one vertex more, with a loop or without one, where n is the number of its loops
+-- one more vertex, with a loop or without one, where n is the number of its loops
 pub loops_below-some : (graph : List (List WaitArc)) (v n : ℕ) (done new : List (List WaitArc)) (arcs : List WaitArc) → done ≡ loops_below graph v → arcs ≡ loops_at graph v → n ≡ length arcs → false ≡ (n == 0)
     → new ≡ done ++ (arcs ∷ []) → new ≡ loops_below graph (v + 1)
 loops_below-some graph v n done new arcs so_far is long some pushed =
@@ -84,7 +84,7 @@ AreLowest-graph d a graph lowest is are =
     subst (λ (n : ℕ). AreLowest (HasArc (lane_graph d a)) n lowest) (length-map-range_with_len (arcs_from d.waits (item_lanes a d.group_of)) 0 a.lanes)
     (subst (λ (h : List (List WaitArc)). AreLowest (HasArc h) (length h) lowest) is are)
 
--- where there is a group, there is a lane
+-- if there is a group, there is a lane
 pub some_lane : (groups : ℕ) (a : Assignment) → length a.lane_of_group ≡ groups → All (λ l. l < a.lanes) a.lane_of_group → 0 < groups → 0 < a.lanes
 some_lane groups a long within some =
     let first : get_or a.lane_of_group 0 0 < a.lanes = within 0 0 (omega (arith, long, some)) in

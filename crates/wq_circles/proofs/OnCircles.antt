@@ -42,7 +42,7 @@ not_nil : (arcs : List WaitArc) → not (length arcs == 0) ≡ true → arcs ≢
 not_nil [] full = absurd cc
 not_nil (b ∷ bs) full = λ same. (let bad : b ∷ bs ≡ [] = same in absurd cc)
 
--- no list of them is empty
+-- no list of loops is empty
 pub not_nil-loops : (graph : List (List WaitArc)) → All (λ (arcs : List WaitArc). arcs ≢ []) (loops graph)
 not_nil-loops graph k e within = not_nil _ (filter_passes (λ (arcs : List WaitArc). not (length arcs == 0)) (map (loops_at graph) (range_with_len 0 (length graph))) k e within)
 
@@ -106,7 +106,7 @@ module _ (d : Declaration) (a : Assignment) (declaration : IsDeclaration d) (ass
 
   -- ---- declared flushes
 
-  -- the arc of a flush, where this is the assignment
+  -- the arc of a flush under this assignment
   abbrev arc_in : Assignment → WaitArc → WaitArc
   arc_in x b = record { src = b.src; dst = b.dst; head = slice_index (item_lanes x d.group_of) b.dst; place = b.place }
 
@@ -123,7 +123,7 @@ module _ (d : Declaration) (a : Assignment) (declaration : IsDeclaration d) (ass
       let there = (AreArcsFrom-lane_graph d a declaration assignment (item_lane a d.group_of b.src)).all (arc_in a b) (IsArc-arc_in a b flush) (item_lanes-at a d.group_of b.src items.0) in
       (there.0, arc_in a b, there.1, there.2, item_lanes-at a d.group_of b.dst items.1)
 
-  -- the two lanes are joined exactly where the one leads back to the other
+  -- the two lanes are joined exactly if the second leads back to the first
   back-leads : (v w : ℕ) → v < a.lanes → w < a.lanes → HasArc (lane_graph d a) v w → slice_index lowest v ≡ slice_index lowest w → Leads (HasArc (lane_graph d a)) w v
   back-leads v w first second arc same = elim (AreTogether-lowest (HasArc (lane_graph d a)) w v (slice_index lowest w) (slice_index lowest v) (sym same) (are.is w second) (are.is v first)) [
     | inl one ↦ subst (λ (x : ℕ). Leads (HasArc (lane_graph d a)) x v) (sym one) (subst (λ (x : ℕ). Leads (HasArc (lane_graph d a)) v x) one (Leads-arc (HasArc (lane_graph d a)) v w arc))

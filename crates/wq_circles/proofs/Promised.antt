@@ -1,4 +1,4 @@
--- What is promised of an answer holds of each.
+-- What is promised of an answer holds for each.
 use Rattle.std.proofs.Common.{◌≡◌, ℕ, List, [], map, Option, Result, Ok, Err, refl, sym, subst}
 use Rattle.std.specs.Prelude.{AllPairs, MatchResult, ◌↔◌}
 use Rattle.std.specs.List.{All}
@@ -85,7 +85,7 @@ module _ (s : Declared) (sound : IsSound s) where
   )
   kept a assigned Refused out circles = absurd circles
 
--- what is said of a value that was read, or not, by its case
+-- what is said about a value that was read or not, case by case
 by_case : {V E : Type 0} (r : Result V E) (P Q : V → Type 0) (F G : E → Type 0) → ((v : V) → r ≡ Ok v → P v → Q v) → ((e : E) → F e → G e) → MatchResult r P F → MatchResult r Q G
 by_case (Ok v) P Q F G good bad one = good v refl one
 by_case (Err e) P Q F G good bad one = bad e one

@@ -48,11 +48,11 @@ some_arcs d a components are = subst (All (λ (arcs : List WaitArc). arcs ≢ []
 
 -- ---- circles
 
--- an arc that is led back from closes a circle
+-- an arc whose end leads back closes a circle
 closes : (R : ℕ → ℕ → Type 0) (v w : ℕ) → R v w → Leads R w v → Circle R
 closes R v w arc leads = record { first = w; others = leads.others; chain = leads.chain; closes = subst (λ (x : ℕ). R x w) (sym leads.ends) arc }
 
--- where a circle closes, what it closes with leads back
+-- the first vertex of a circle leads to the last, whose arc closes it
 led_back : (R : ℕ → ℕ → Type 0) (first : ℕ) (others : List ℕ) → IsChain R (first ∷ others) → R (last_of first others) first → Leads R first (last_of first others)
 led_back R first [] chain closes = Leads-arc R first first closes
 led_back R first (v ∷ vs) chain closes = record { others = v ∷ vs; some = λ same. (let bad : v ∷ vs ≡ [] = same in absurd cc); chain = chain; ends = refl }

@@ -1,4 +1,4 @@
--- The text that was read, and the text that there was: the answer to the prefix that comes is that to the text.
+-- The text that was read, and the text that there was: the answer to the prefix that was read is the answer to the text.
 use Rattle.std.proofs.Common.{◌≡◌, ℕ, ◌+◌, List, Option, Result, subst, ◌∙◌}
 use Rattle.std.specs.Prelude.{MatchResult, take}
 use Rattle.std.proofs.lemmas.Result.{MatchResult-weaker}

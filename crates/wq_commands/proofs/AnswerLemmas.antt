@@ -1,4 +1,4 @@
--- What a text declares is a declaration, and its plan or its circle has a text.
+-- What a text declares is a declaration, and its plan or its circle can be printed.
 use Rattle.std.proofs.Common.{◌≡◌, ℕ, ◌+◌, ◌<◌, ◌≤◌, List, length, map, Option, Some, None, Result, Ok, Err, refl, sym, ap, subst, ◌∙◌, arith, inl, inr}
 use Rattle.std.proofs.lemmas.Bool.{cases_lt, lt-ltb}
 use Rattle.std.proofs.lemmas.List.{length-take, take_all, length-map}
@@ -111,7 +111,7 @@ printable s arcs ends sound few are is =
       items = subst (All (JoinsItems s.table)) (sym is) joins;
     }
 
--- so are those of a plan's chain
+-- so are the arcs of a plan's chain
 pub ArePrintable-plan : (s : Declared) (a : Assignment) → IsSound s → IsPlan (declared_waits s) a → ArePrintable s.table (map ends_of (chain_of (group_graph (declared_waits s)) a.lane_of_group))
 ArePrintable-plan s a sound plan =
     let d = declared_waits s in
@@ -125,7 +125,7 @@ pub ArePrintable-planned : (s : Declared) (a : Assignment) (chain : List WaitArc
     → ends ≡ map ends_of chain → ArePrintable s.table ends
 ArePrintable-planned s a chain ends sound planned is = subst (ArePrintable s.table) (sym (is ∙ ap (map ends_of) planned.longest)) (ArePrintable-plan s a sound planned.plan)
 
--- and those of a circle
+-- and the arcs of a circle
 pub IsWalkedCircle-short : (s : Declared) (circle : List WaitArc) → IsSound s → IsWalkedCircle (group_graph (declared_waits s)) circle → length circle ≤ 4096
 IsWalkedCircle-short s circle sound walked =
     let d = declared_waits s in
@@ -143,7 +143,7 @@ ArePrintable-walked s circle ends sound walked is =
 pub too_long : (text : List ℕ) → max_declaration < length text → declaration text ≡ Err (record { code = 1; line = 0 })
 too_long text long = rw (lt-ltb max_declaration (length text) long) refl
 
--- a text that is too long is known to be so by its front
+-- that a text is too long is known from its prefix
 pub declaration-take : (bytes : List ℕ) → declaration (take (max_declaration + 1) bytes) ≡ declaration bytes
 declaration-take bytes = elim (cases_lt (max_declaration + 1) (length bytes)) [
   | inl long ↦ too_long (take (max_declaration + 1) bytes) (omega (arith, length-take (max_declaration + 1) bytes)) ∙ sym (too_long bytes (omega arith))

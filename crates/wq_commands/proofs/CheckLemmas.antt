@@ -23,7 +23,7 @@ use Rattle.wq_commands.specs.Checking.{NamesItems}
 use Rattle.wq_commands.specs.Declaration.{Declared}
 use Rattle.wq_commands.proofs.AnswerLemmas.{IsSound}
 
--- what is said of the value of a result, where it is known
+-- what is said about the value of a result, if the value is known
 pub MatchResult-ok : {V E : Type 0} (r : Result V E) (v : V) (Good : V → Type 0) (Bad : E → Type 0) → r ≡ Ok v → Good v → MatchResult r Good Bad
 MatchResult-ok {V} {E} r v Good Bad is good = subst (λ (s : Result V E). MatchResult s Good Bad) (sym is) good
 

@@ -1,4 +1,4 @@
--- The run behind a printed circle: there is one and no other, and it deadlocks.
+-- The run after a printed circle: there is exactly one, and it deadlocks.
 use Rattle.std.proofs.Common.{List, sym, subst, arith}
 use Rattle.wq_groups.specs.Declaration.{Declaration, IsDeclaration}
 use Rattle.wq_groups.specs.Assignment.{Assignment, IsAssignment}

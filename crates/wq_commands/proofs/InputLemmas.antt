@@ -1,4 +1,4 @@
--- The text that was read, and the text that there was: the answer to the prefix that comes is that to the text.
+-- The text that was read, and the text that there was: the answer to the prefix that was read is the answer to the text.
 use Rattle.std.proofs.Common.{◌≡◌, ℕ, ◌+◌, List, Option, Result, Ok, Err, Vec, subst, sym, ap, ◌∙◌}
 use Rattle.std.specs.Prelude.{MatchResult, IfOk, IsOkAnd, take}
 use Rattle.std.specs.Result.{IsErrAnd}

@@ -3,7 +3,7 @@ use Rattle.std.proofs.Common.{◌≡◌, ℕ, List, [], ◌∷◌, ◌++◌, sym
 use Rattle.std.specs.Prelude.{flat_map}
 use Rattle.wq_lines.specs.LineText.{spaced, line_text}
 
--- two words behind others
+-- two words after others
 pub spaced-two : (out a b : List ℕ) → (out ++ spaced a) ++ spaced b ≡ out ++ flat_map spaced (a ∷ b ∷ [])
 spaced-two out a b = append_assoc out (spaced a) (spaced b) ∙ ap (λ (word : List ℕ). out ++ (spaced a ++ word)) (sym (append-nil (spaced b)))
 

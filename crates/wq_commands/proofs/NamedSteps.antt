@@ -1,4 +1,4 @@
--- The steps of a run by which an assignment deadlocks: they are few, and each can be printed.
+-- The steps of a run by which an assignment deadlocks: there are few, and each can be printed.
 use Rattle.std.proofs.Common.{◌≡◌, ℕ, ◌<◌, ◌≤◌, false, List, length, refl, subst, arith}
 use Rattle.std.specs.Prelude.{nat_lt}
 use Rattle.std.specs.List.{All}

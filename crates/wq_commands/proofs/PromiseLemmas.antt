@@ -63,7 +63,7 @@ length_zero : (xs : List (ℕ × ℕ)) → length xs ≡ 0 → xs ≡ []
 length_zero [] e = refl
 length_zero (x ∷ xs) e = absurd (omega (arith, e))
 
--- one group more than arcs, none where there is no lane
+-- one group more than arcs, and none if there is no lane
 chain_length : (lanes n : ℕ) → n ≡ lanes - 1 → (if lanes == 0 then 0 else n + 1) ≡ lanes
 chain_length zero n e = refl
 chain_length (suc lanes) n e = ap (λ (b : Bool). cond b 0 (n + 1)) (ne_eqb (suc lanes) 0 (λ is. omega (arith, is))) ∙ omega (arith, e)
@@ -106,7 +106,7 @@ module _ (s : Declared) (printed : List WaitArc) (none : WaitArc) (declared : Al
         let same : ends_of (at k) ≡ arc = some_same (ends_of (at k)) arc (sym (ends_at k within) ∙ stands) in
         subst (Joins (declared_waits s) (before_from first arcs k)) same (joins_at k within)
 
--- the arcs of a circle go round
+-- the arcs of a circle lead round
 AllJoin-circle : (s : Declared) (circle : List WaitArc) (round : IsCircleOfGroups (declared_waits s) circle) → AllJoin (declared_waits s) (before_in_circle (map ends_of circle)) (map ends_of circle)
 AllJoin-circle s circle round =
     let ends = map ends_of circle in
@@ -218,7 +218,7 @@ KeepsPromiseOfInput-answered end out answered = record { answered = answered; pr
 
 -- ---- what the readers read of it, and what the checker says
 
--- a chain along arcs follows them: each arc leaves the group where the one before it led
+-- a chain along arcs follows them: each arc leaves the group that the one before it led to
 AllJoin-along : (d : Declaration) (arcs : List (ℕ × ℕ)) (groups : List ℕ) → IsChainAlong d arcs groups → AllJoin d (before_in_chain arcs) arcs
 AllJoin-along d arcs groups is zero arc stands = (is.along 0 arc stands).0
 AllJoin-along d arcs groups is (suc k) arc stands =
@@ -295,7 +295,7 @@ Checks-answers text out end answers = checked (declaration text) end (IsSound-de
 -- ---- a yes is true
 
 module _ (s : Declared) (sound : IsSound s) (claim out : List ℕ) where
-  -- of a plan that is read
+  -- if a plan is read
   yes_to_plan : (plan : PlanCertificate) → answer_of s.table.names s.partition claim ≡ Ok (OfPlan plan) → (answer : Result Yes No)
       → AnswersPlan (declared_waits s) plan answer → PrintsCheck s.table.names answer Good out → IsTrueOfPlan s claim out
   yes_to_plan plan read (Ok (yes.Plan number)) answers prints =
@@ -315,7 +315,7 @@ module _ (s : Declared) (sound : IsSound s) (claim out : List ℕ) where
   yes_to_plan plan read (Ok (yes.Circle n)) answers prints = absurd answers
   yes_to_plan plan read (Err reason) answers prints = absurd cc
 
-  -- of a circle that is read
+  -- if a circle is read
   yes_to_circle : (circle : CircleCertificate) → answer_of s.table.names s.partition claim ≡ Ok (OfCircle circle) → (answer : Result Yes No)
       → AnswersCircle (declared_waits s) circle answer → PrintsCheck s.table.names answer Good out → IsTrueOfCircle s claim out
   yes_to_circle circle read (Ok (yes.Plan number)) answers prints = absurd answers

@@ -1,4 +1,4 @@
--- Stops: what was refused memory, where the answer is that memory ran out.
+-- Stops: which pass was refused memory, if the answer is that memory ran out.
 use Rattle.std.proofs.Common.{◌≡◌, List, ℕ, Ok, refl, inr}
 use Rattle.wq_decl.specs.declared.directive.Directive.{Directive}
 use Rattle.wq_items.specs.declared.fault.ItemError.{ItemError}
@@ -12,7 +12,7 @@ use Rattle.wq_groups.specs.OutOfMemory.{RanOutOfGroups, RanOutReading}
 use Rattle.wq_commands.specs.Stop.{item_stop, group_stop}
 use Rattle.wq_commands.specs.declared.declaration.Stop.TheVariants.{OutOfMemory}
 
--- the pass over the items was refused memory, where its fault stops the reading so
+-- the pass over the items was refused memory, if its fault stops the reading in this way
 pub ran_out_of_items : (e : ItemError) (ds : List (ℕ × Directive)) → (e ≡ items.OutOfMemory → RanOut ds) → item_stop e ≡ OutOfMemory → RanOut ds
 ran_out_of_items items.OutOfMemory ds ran stop = ran refl
 ran_out_of_items (items.ItemTwice line) ds ran stop = cc
@@ -20,7 +20,7 @@ ran_out_of_items (items.UnknownItem line) ds ran stop = cc
 ran_out_of_items (items.TooManyItems line) ds ran stop = cc
 ran_out_of_items (items.TooManyFlushes line) ds ran stop = cc
 
--- the pass over the groups was refused memory, where its fault stops the reading so
+-- the pass over the groups was refused memory, if its fault stops the reading in this way
 pub ran_out_of_groups : (e : GroupError) (ds : List (ℕ × Directive)) (t : Table) → table_of ds ≡ Ok t
     → (e ≡ groups.OutOfMemory → RanOutOfGroups ds t.names) → group_stop e ≡ OutOfMemory → RanOutReading ds
 ran_out_of_groups groups.OutOfMemory ds t made ran stop = inr (t, made, ran refl)

@@ -1,4 +1,4 @@
--- How long a printed text and its lines can be.
+-- How long a printed text and its lines can be at most.
 use Rattle.std.proofs.Common.{◌≡◌, ℕ, ◌≤◌, List, length, map, Some, refl, ◌∙◌, arith}
 use Rattle.std.specs.List.{All}
 use Rattle.std.proofs.lemmas.List.{length-map}

@@ -14,8 +14,8 @@ use Rattle.wq_components.proofs.Once.{contains_or_not, once_apart, place-of, sam
 use Rattle.wq_components.proofs.Searched.{AreFound-none}
 use Rattle.wq_components.proofs.Turned.{Leads-arcs, Leads-turned}
 
--- of two vertices the one that is finished first, at place i, has an arc to something that is together with the other one: so the other
--- one leads to it
+-- of two vertices, the one that is finished first, at place i, has an arc to something that is together with the other one: so
+-- the other one leads to it
 pub Leads-back : (R : ℕ → ℕ → Type 0) (n : ℕ) (finished : List ℕ) (k i y : ℕ) → IsFinishing R n finished → i < k → k < length finished
     → R (slice_index finished i) y → AreTogether R (slice_index finished k) y → Leads R (slice_index finished k) (slice_index finished i)
 Leads-back R n finished k i y is less within arc together = ends (at_v together) where
@@ -66,7 +66,8 @@ Leads-back R n finished k i y is less within arc together = ends (at_v together)
       let same : stands.0 ≡ k = same_place finished stands.0 k is.once stands.2 within stands.3 in
       absurd (omega (arith, same, stands.1, less))
 
--- the vertices at place k of the order and after it are found, with what is together with them; the lowest is known of what is found
+-- the vertices at place k of the order and after it are found, with all that are together with them; for each that is found the
+-- lowest is known
 pub record AreDone (lists : List (List ℕ)) (finished : List ℕ) (k : ℕ) (s : Search) (lowest : List ℕ) : Type 0 where
   pub marks : length s.marks ≡ length lists
   pub found : AreFound s
@@ -128,7 +129,7 @@ AreDone-more lists finished k j s t lowest new is next inside ordered within unf
   v_in : Contains t.order v
   v_in = (spreads.reached v).1 (inr (inl refl))
 
-  -- what wasn't found stands before v in the order, or is v
+  -- what wasn't found is before v in the order, or is v
   on : (x y : ℕ) → AreTogether R v x → NextNew lists s x y → AreTogether R v y
   on x y together step = go (cases_lt i k) (cases_eq i j) where
     below : y < length lists

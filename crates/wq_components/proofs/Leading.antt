@@ -1,4 +1,4 @@
--- Laws of leading, by any relation.
+-- Laws of leading, for any relation.
 use Rattle.std.proofs.Common.{◌≡◌, ◌≢◌, ℕ, ◌≤◌, inl, inr, List, [], ◌∷◌, ◌++◌, refl, sym, subst, ap, ◌∙◌, arith}
 use Rattle.wq_items.specs.Chain.{IsChain, last_of}
 use Rattle.wq_components.specs.Leading.{Leads, AreTogether, IsLowest}
@@ -54,7 +54,7 @@ module _ (R : ℕ → ℕ → Type 0) where
       let d_least : d ≤ c = two.least c (AreTogether-trans w v c (AreTogether-sym v w together) one.together) in
       omega (arith, c_least, d_least)
 
-  -- where the lowest is the same, they are together
+  -- if the lowest is the same, they are together
   pub AreTogether-lowest : (v w c d : ℕ) → c ≡ d → IsLowest R v c → IsLowest R w d → AreTogether R v w
   AreTogether-lowest v w c d same one two =
       AreTogether-trans v c w one.together (subst (λ (x : ℕ). AreTogether R x w) (sym same) (AreTogether-sym w d two.together))

@@ -9,7 +9,7 @@ use Rattle.wq_items.proofs.Lists.{Contains-here, Contains-later}
 use Rattle.wq_items.proofs.Pigeonhole.{repeats_from_length}
 use Rattle.wq_graph.proofs.ListLemmas.{Contains-cases}
 
--- where an element stands
+-- where an element is
 pub place-of : (xs : List ℕ) (u : ℕ) → Contains xs u → (k : ℕ) × (k < length xs) × (slice_index xs k ≡ u)
 place-of xs u at = (at.0, at.1, get_or_default xs at.0 0 u at.1 ∙ at.2)
 
@@ -22,21 +22,21 @@ contains_or_not (x ∷ xs) u = go (cases_eq x u) (contains_or_not xs u) where
   go (inr other) (inl later) = inl (Contains-later x xs u later)
   go (inr other) (inr none) = inr (λ has. elim (Contains-cases x xs u has) [ inl same ↦ other same | inr later ↦ none later ])
 
--- so many numbers below n are no more than n
+-- there are at most n different numbers below n
 pub at_most : (n : ℕ) (xs : List ℕ) → All (λ x. x < n) xs → ¬ Repeats xs → length xs ≤ n
 at_most n xs below once = elim (cases_lt n (length xs)) [
   | inl long ↦ absurd (once (repeats_from_length n xs below long))
   | inr le ↦ le
 ]
 
--- one place of each
+-- each has one place
 pub same_place : (xs : List ℕ) (i j : ℕ) → ¬ Repeats xs → i < length xs → j < length xs → slice_index xs i ≡ slice_index xs j → i ≡ j
 same_place xs i j once i_in j_in same = elim (cases_lt i j) [
   | inl less ↦ absurd (once (i, j, less, j_in, same))
   | inr le ↦ elim (cases_lt j i) [ inl less ↦ absurd (once (j, i, less, i_in, sym same)) | inr ge ↦ omega (arith, le, ge) ]
 ]
 
--- another number comes to the end
+-- another number is added at the end
 pub once_push : (xs : List ℕ) (w : ℕ) → ¬ Repeats xs → ¬ Contains xs w → ¬ Repeats (xs ++ (w ∷ []))
 once_push xs w once new (i, j, less, upto, same) = go (cases_lt j (length xs)) where
   i_is : slice_index (xs ++ (w ∷ [])) i ≡ slice_index xs i
@@ -49,7 +49,7 @@ once_push xs w once new (i, j, less, upto, same) = go (cases_lt j (length xs)) w
       let is : slice_index (xs ++ (w ∷ [])) j ≡ w = get_or_push xs w 0 j (sym at) in
       new (subst (Contains xs) (sym i_is ∙ same ∙ is) (Contains-get_or xs i 0 (omega (arith, less, at))))
 
--- what stands in one part stands in no other
+-- what is in one part isn't in the other
 pub once_apart : (xs ys : List ℕ) (u : ℕ) → ¬ Repeats (xs ++ ys) → Contains xs u → ¬ Contains ys u
 once_apart xs ys u once first second =
     let i = place-of xs u first in

@@ -23,7 +23,7 @@ pub record Grows (s t : Search) (ws : List ℕ) : Type 0 where
   pub all : (u : ℕ) → Contains ws u → Contains t.order u
   pub only : (u : ℕ) → Contains t.order u → Contains s.order u ⊎ Contains ws u
 
--- what stays in its place is found still
+-- what stays in its place is still found
 pub Grows-contains : (s t : Search) (ws : List ℕ) → Grows s t ws → (u : ℕ) → Contains s.order u → Contains t.order u
 Grows-contains s t ws grows u (k, within, is) =
     let longer = grows.longer in
@@ -136,7 +136,7 @@ pub marks-with_all_found : (ws : List ℕ) (s : Search) → length (with_all_fou
 marks-with_all_found [] s = refl
 marks-with_all_found (w ∷ ws) s = marks-with_all_found ws (with_found s w) ∙ marks-with_found s w
 
--- nothing is found of unmarked vertices
+-- if no vertex is marked, none is found
 pub AreFound-none : (s : Search) (n : ℕ) → s.marks ≡ replicate n false → s.order ≡ [] → AreFound s
 AreFound-none s n unmarked empty = record {
   below = subst (All (λ w. w < length s.marks)) (sym empty) (All-nil (λ w. w < length s.marks));
@@ -160,7 +160,7 @@ AreFound-new s v found unmarked has =
 
 -- ---- a search goes on
 
--- the search s goes on from v, and came to t; the places from that of v on and before i were looked at
+-- the search s went on from v, and came to t; the places from that of v up to i, without i, were looked at
 pub record IsSpreading (lists : List (List ℕ)) (s : Search) (v : ℕ) (t : Search) (i : ℕ) : Type 0 where
   pub marks : length t.marks ≡ length s.marks
   pub found : AreFound t
@@ -202,7 +202,7 @@ IsSpreading-at lists s v t i u is here =
     subst (λ (x : ℕ). x < length t.marks) (get_or_from_slice_get t.order i u 0 here) (is.found.below i 0 inside) in
     (omega (arith, below, marks), omega (arith, inside, marks, AreFound-few t is.found))
 
--- one place more is looked at
+-- one more place is looked at
 pub IsSpreading-more : (lists : List (List ℕ)) (s : Search) (v : ℕ) (t : Search) (i u : ℕ) → IsSpreading lists s v t i → length s.order ≤ i → slice_get t.order i ≡ Some u
     → All (λ w. w < length s.marks) (listed_at lists u) → IsSpreading lists s v (with_all_found t (listed_at lists u)) (i + 1)
 IsSpreading-more lists s v t i u is from here within = record {

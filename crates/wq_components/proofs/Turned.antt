@@ -1,4 +1,4 @@
--- The lists of a wait graph, and the same turned round.
+-- The lists of a wait graph, and the same lists turned round.
 use Rattle.std.proofs.Common.{◌≡◌, ◌≢◌, ℕ, zero, suc, ◌+◌, ◌<◌, ◌≤◌, ◌⊎◌, ◌↔◌, inl, inr, List, [], ◌∷◌, ◌++◌, length, map, get_or, set, replicate, refl, sym, subst, ap, ◌∙◌, arith}
 use Rattle.std.specs.Prelude.{Contains, All, Vec}
 use Rattle.std.proofs.lemmas.Bool.{cases_eq, cases_lt}
@@ -61,7 +61,7 @@ heads_of-below graph is v k d lt = elim (cases_lt v (length graph)) [
 pub Next-in_range : (graph : List (List WaitArc)) → IsGraph graph → (v w : ℕ) → HasArc graph v w → w < length graph
 Next-in_range graph is v w arc = All-contains (λ x. x < length graph) (listed_at (heads_of graph) v) w (heads_of-below graph is v) (Next-heads graph v w arc)
 
--- the same of lists that are kept as vectors
+-- the same for lists that are kept as vectors
 pub lists-below : {A : Type 0} (lists : List (Vec ℕ A)) (shown : List (List ℕ)) (n : ℕ) → map (λ (l : Vec ℕ A). l.items) lists ≡ shown
     → ((v : ℕ) → All (λ w. w < n) (listed_at shown v)) → All (λ (l : Vec ℕ A). All (λ w. w < n) l.items) lists
 lists-below {A = A} lists shown n same below k d lt =
@@ -80,7 +80,7 @@ shown-below {A = A} (l ∷ lists) n within v = elim (cases_lt v (length (l ∷ l
       subst (All (λ w. w < n)) (sym (past_end (map items (l ∷ lists)) v [] (omega (arith, past, length-map (l ∷ lists) items)))) (λ k d lt. absurd (omega (arith, lt)))
 ]
 
--- where the lists hold vertices
+-- if the lists hold vertices
 pub listed_at-below : {A : Type 0} (lists : List (Vec ℕ A)) → All (λ (l : Vec ℕ A). All (λ w. w < length lists) l.items) lists
     → (v : ℕ) → All (λ w. w < length (map (λ (l : Vec ℕ A). l.items) lists)) (listed_at (map (λ (l : Vec ℕ A). l.items) lists) v)
 listed_at-below {A = A} lists within v =
@@ -96,14 +96,14 @@ listed_at-read {A = A} lists v n read same is inside =
 
 -- ---- arcs turned round
 
--- where each arc of R is one of S, what leads by R leads by S
+-- if each arc of R is one of S, what leads by R leads by S
 pub Leads-arcs : (R S : ℕ → ℕ → Type 0) → ((x y : ℕ) → R x y → S x y) → (v w : ℕ) → Leads R v w → Leads S v w
 Leads-arcs R S arcs v w leads = record { others = leads.others; some = leads.some; chain = chain v leads.others leads.chain; ends = leads.ends } where
   chain : (v : ℕ) (vs : List ℕ) → IsChain R (v ∷ vs) → IsChain S (v ∷ vs)
   chain v [] is = tt
   chain v (x ∷ xs) is = (arcs v x is.0, chain x xs is.1)
 
--- where each arc of R is one of S turned round, what leads by R leads back by S
+-- if each arc of R is one of S turned round, what leads by R leads back by S
 pub Leads-turned : (R S : ℕ → ℕ → Type 0) → ((x y : ℕ) → R x y → S y x) → (v w : ℕ) → Leads R v w → Leads S w v
 Leads-turned R S arcs v w leads = go v leads.others leads.some leads.chain leads.ends where
   go : (v : ℕ) (vs : List ℕ) → vs ≢ [] → IsChain R (v ∷ vs) → last_of v vs ≡ w → Leads S w v
@@ -112,7 +112,7 @@ Leads-turned R S arcs v w leads = go v leads.others leads.some leads.chain leads
   go v (x ∷ y ∷ ys) some is ends =
       Leads-trans S w x v (go x (y ∷ ys) (λ same. (let bad : y ∷ ys ≡ [] = same in absurd (cc))) is.1 ends) (Leads-arc S x v (arcs v x is.0))
 
--- of the tails of a graph's heads: the arcs turned round
+-- the tails of a graph's heads are its arcs turned round
 pub Next-tails : (graph : List (List WaitArc)) (tails : List (List ℕ)) → IsGraph graph → AreTails (heads_of graph) tails → (v w : ℕ) → HasArc graph v w → Next tails w v
 Next-tails graph tails is turned v w arc =
     let long : length (heads_of graph) ≡ length graph = length-map graph (map (λ (b : WaitArc). b.head)) in
@@ -143,7 +143,7 @@ tails-below graph tails turned w k d lt = elim (cases_lt w (length tails)) [
 pub HasTails-none : (lists : List (List ℕ)) (v : ℕ) → HasTails lists lists v []
 HasTails-none lists v = record { one_each = refl; tails = λ u w lt. ((λ next. inl next), (λ either. elim either [ inl next ↦ next | inr new ↦ absurd (nothing_in w new.1) ])) }
 
--- one head more
+-- one more head
 pub HasTails-more : (old now : List (List ℕ)) (v : ℕ) (heads : List ℕ) (h : ℕ) → HasTails old now v heads → h < length old
     → HasTails old (set now h (listed_at now h ++ (v ∷ []))) v (heads ++ (h ∷ []))
 HasTails-more old now v heads h has inside = record { one_each = length-set now h grown ∙ one_each; tails = tails } where

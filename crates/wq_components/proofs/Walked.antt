@@ -80,7 +80,7 @@ IsWalk-followed lists s v count is inside passed = record {
         subst (λ (x : ℕ). IsVisited s (slice_index (listed_at lists x) k)) (sym own) (passed k le_v (omega (arith, lt, now)) within_v)
     go (inr other) (inr le) = (let now = get_or-set_other s.followed v u count 0 other in absurd (omega (arith, lt, le, now)))
 
--- one vertex more is visited, to which each of the path leads
+-- one more vertex is visited, to which each of the path leads
 IsWalk-visited : (lists : List (List ℕ)) (s : Walk) (w : ℕ) → IsWalk lists s → w < length lists → is_marked s.visited w ≡ false
     → ((i : ℕ) → i < length s.path → Leads (Next lists) (slice_index s.path i) w) → IsWalk lists (with_visited s w)
 IsWalk-visited lists s w is inside unmarked led = record {
@@ -172,7 +172,7 @@ IsWalk-finished lists s v is top all = record {
   v_below : v < length lists
   v_below = IsTop-below lists s v is top
 
-  -- what is on the path is before its last, or is that
+  -- what is on the path is before its last vertex, or is the last one
   on_path : (u : ℕ) → Contains s.path u → Contains (take end s.path) u ⊎ (u ≡ v)
   on_path u has =
       let place = place-of s.path u has in
@@ -229,7 +229,7 @@ IsWalk-finished lists s v is top all = record {
   stands : (k j w : ℕ) → j ≤ k → j < length s.finished → slice_index s.finished j ≡ w → StandsBy (s.finished ++ (v ∷ [])) k w
   stands k j w le lt is_w = (j, le, omega (arith, lt, long), old j lt ∙ is_w)
 
-  -- what is visited when v is finished stands before it, or leads to it
+  -- what is visited when v is finished is before it, or leads to it
   leads_now : (k w : ℕ) → length s.finished ≡ k → IsVisited s w → StandsBy (s.finished ++ (v ∷ [])) k w ⊎ Leads (Next lists) w (slice_index (s.finished ++ (v ∷ [])) k)
   leads_now k w at holds =
       let marks = is.marks in
@@ -310,7 +310,7 @@ WentOn-some lists s v w t is top follows inside =
           subst (λ (x : ℕ). Leads (Next lists) x w) (sym (ap (slice_index s.path) at ∙ top.last)) arc
     ]
 
--- there is none: the vertex is finished
+-- there is no next vertex: the last one is finished
 pub WentOn-none : (lists : List (List ℕ)) (s : Walk) (v : ℕ) (t : Walk) → IsWalk lists s → IsTop s.path v → Follows s (listed_at lists v) v None t → WentOn lists s (with_finished t v)
 WentOn-none lists s v t is top follows =
     subst (λ (x : Walk). WentOn lists s (with_finished x v)) (sym follows.after) (record {

@@ -36,7 +36,7 @@ module _ (waits : List (List Target)) (lane_of_item : List ℕ) (numbers : List 
   held_lane q old was =
       get_or-map (λ (h : HeldLane). h.lane) lanes q old idle_lane (slice_get_within lanes q old was) ∙ ap (λ (h : HeldLane). h.lane) (get_or_from_slice_get lanes q old old was)
 
-  -- of the fields, one lane and the next number may change
+  -- one lane and the next number may change in the fields
   machine_of-set : (q : ℕ) (new : HeldLane) (later : ℕ)
       → machine_of waits lane_of_item (set lanes q new) later ≡ record { wiring = held_machine.wiring; state = record { next = later; lanes = set held_machine.state.lanes q new.lane } }
   machine_of-set q new later =

@@ -1,4 +1,4 @@
--- Where lanes wait in a circle, items hold one another up.
+-- If lanes wait in a circle, there are items that hold one another up.
 use Rattle.std.proofs.Common.{◌≡◌, ◌≢◌, ℕ, zero, suc, ◌⊎◌, inl, inr, true, eqb, List, [], ◌∷◌, get_or, refl, sym, ap, subst, ◌∙◌, arith}
 use Rattle.std.specs.Prelude.{AllPairs, Contains}
 use Rattle.std.specs.List.{Any, list_any}
@@ -40,7 +40,7 @@ module _ (w : Wiring) where
 
   -- ---- one item for each lane
 
-  -- some of these items, no two of them on one lane, and on the same lanes
+  -- some of these items, no two of them on the same lane, which have all the lanes that these have
   record IsOneEach (is ones : List ℕ) : Type 0 where
     apart : AllPairs (λ i j. lane_of w i ≢ lane_of w j) ones
     among : (i : ℕ) → Contains ones i → Contains is i

@@ -1,4 +1,4 @@
--- Which steps a lane can make, and which of them where its executions flush as declared.
+-- Which steps a lane can make, and which of them if its executions flush as declared.
 use Rattle.std.proofs.Common.{◌≡◌, ℕ, ◌<◌, ◌≤◌, inl, inr, ◌↔◌, Bool, true, false, not, List, length, Option, Some, None, refl, sym, ap, subst, ◌∙◌, arith}
 use Rattle.std.specs.Prelude.{slice_get, is_some, IsTrue}
 use Rattle.std.proofs.lemmas.Option.{slice_get_within, slice_get_past, slice_get_cases, get_or_from_slice_get}
@@ -19,7 +19,7 @@ use Rattle.wq_core.proofs.LaneLemmas.{same_running, nothing_runs, runs_within, s
 
 -- ---- steps of a lane
 
--- what holds of each kind of step of lane q holds of its steps
+-- what holds for each kind of step of lane q holds for all its steps
 by_kind : (q : ℕ) (P : Step → Type 0) → ((i : ℕ) → P (Start q i)) → ((b : ℕ) → P (Wait q b)) → ((b : ℕ) → P (Over q b))
     → ((i : ℕ) → P (Finish q i)) → (step : Step) → IsStepOfLane q step → P step
 by_kind q P starts waits goes_on finishes (Queue i) is = absurd is
@@ -165,7 +165,7 @@ module _ (w : Wiring) (s : State) (q : ℕ) where
 
   -- ---- any lane
 
-  -- a lane has one declared step at most
+  -- a lane has at most one declared step
   pub declared_steps_equal : (a b : Step) → IsDeclaredStep w s q a → IsDeclaredStep w s q b → a ≡ b
   declared_steps_equal a b first second = by_running (lane_at s q).running refl
     where

@@ -52,7 +52,7 @@ HasRoom-first lane_of_item lanes rooms idle counted q h there =
     let room : get_or rooms q 0 ≡ h.room = ap (λ (l : HeldLane). l.room) is in
     omega (arith, room, counted q within)
 
--- there is room for all items where the rooms count them, and no entry is pending
+-- there is room for all items if the rooms count them, and no entry is pending
 pub IsHeld-first : (d : Declaration) (a : Assignment) (waits : List (List Target)) (lane_of_item : List ℕ) (numbers : List (Option ℕ)) (lanes : List HeldLane) (rooms : List ℕ) (count : ℕ) → IsDeclaration d → IsAssignment d.groups a → a.lanes ≤ 4096
     → waits ≡ d.waits → lane_of_item ≡ item_lanes a d.group_of → numbers ≡ replicate count None → count ≡ length d.waits → lanes ≡ map idle_with_room rooms → length rooms ≡ a.lanes → ((q : ℕ) → q < a.lanes → get_or rooms q 0 ≡ count_on lane_of_item q)
     → IsHeld waits lane_of_item numbers lanes 0

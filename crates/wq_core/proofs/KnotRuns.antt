@@ -42,7 +42,7 @@ first_entry (e ∷ es) i is = (e, refl, cc)
 no_pending : (w : Wiring) (i : ℕ) → ¬ HasPending (empty_state w) i
 no_pending w i h = idle_lane-unfinished h.entry (subst (λ (l : Lane). IsUnfinishedOn l h.entry) (lane_at-empty_state w h.lane) (inl h.pending))
 
--- an item that waits among others is an item
+-- an item that waits among these exists
 item_from_waits : (w : Wiring) (is : List ℕ) (i : ℕ) → WaitsAmong w is i → i < items w
 item_from_waits w is i waits = elim (cases_lt i (items w)) [
   | inl within ↦ within
@@ -108,7 +108,7 @@ module _ (w : Wiring) (knot : List ℕ) (wiring : IsWiring w) (is : IsKnot w kno
       omega arith
       ) (in_order knot (items w)) all_items
 
-  -- what is pending on a lane are its items, in order
+  -- what is pending on a lane is its items, in order
   pending_at_start : (q : ℕ) → pending_items start q ≡ on_lane w q (in_order knot (items w))
   pending_at_start q =
       pending_items-all_queued w (in_order knot (items w)) (empty_state w) q lanes_exist

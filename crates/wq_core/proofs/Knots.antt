@@ -1,4 +1,4 @@
--- Of items that hold one another up nothing is ever finished, while their lanes flush as declared.
+-- Items that hold one another up never finish, as long as their lanes flush as declared.
 use Rattle.std.proofs.Common.{◌≡◌, ℕ, zero, suc, ◌+◌, ◌<◌, ◌≤◌, ◌⊎◌, inl, inr, List, [], ◌∷◌, length, Option, Some, None, refl, sym, ap, subst, ◌∙◌, arith}
 use Rattle.std.specs.Prelude.{Contains, slice_get, option_map}
 use Rattle.std.proofs.lemmas.Bool.{cases_lt}
@@ -33,7 +33,7 @@ unfinished-going_on lane f e keeps (inr (r, runs, same)) = inr (f r, ap (λ (o :
 
 -- ---- one lane
 
--- the running entry is in its wait for t, which it began as the one after `place` others, with n or more for a mark
+-- the running entry is in its wait for t, which it began as the one after `place` others, with a mark of n or more
 pub record IsInWait (place : ℕ) (t : Target) (n : ℕ) (r : Running) : Type 0 where
   pub made : r.made ≡ place + 1
   pub flush : Waiting
@@ -41,8 +41,8 @@ pub record IsInWait (place : ℕ) (t : Target) (n : ℕ) (r : Running) : Type 0 
   pub target : flush.target ≡ t.item
   pub mark : n ≤ flush.mark
 
--- of the lane of item m: each of its items has an unfinished entry with a number below n, and m is the next one to start,
--- or runs and isn't past the wait at `place`, which is for t
+-- for the lane of item m: each of its items has an unfinished entry with a number below n, and m is the next one to start, or
+-- runs and isn't past the wait at `place`, which is for t
 pub record IsHeldUp (w : Wiring) (n m place : ℕ) (t : Target) (lane : Lane) : Type 0 where
   pub unfinished : (j : ℕ) → j < items w → lane_of w j ≡ lane_of w m → (e : Entry) × IsUnfinishedOn lane e × (e.item ≡ j) × (e.number < n)
   pub turn : MayStart lane m ⊎ ((r : Running) × Runs lane r × (r.entry.item ≡ m) × ((r.made ≤ place) ⊎ IsInWait place t n r))

@@ -32,7 +32,7 @@ module _ (R S : ℕ → ℕ → Type 0) (f : ℕ → ℕ) (keeps : (v w : ℕ) �
 
 -- ---- groups and their lanes
 
--- where a group waits for a group, the lane of the one waits for that of the other
+-- if one group waits for another, the lane of the first waits for that of the second
 LaneWaits-groups : (d : Declaration) (a : Assignment) (g h : ℕ) → GroupWaits d g h → LaneWaits (wiring d a) (group_lane a g) (group_lane a h)
 LaneWaits-groups d a = VertexWaits-map d.waits d.group_of (group_lane a)
 

@@ -1,4 +1,4 @@
--- Lanes of a state, after one of them has changed; entries of a lane, after its pending list has.
+-- Lanes of a state, after one of them has changed; entries of a lane, after its pending list has changed.
 use Rattle.std.proofs.Common.{◌≡◌, ◌≢◌, ℕ, zero, suc, ◌<◌, ◌≤◌, ◌⊎◌, inl, inr, Bool, List, [], ◌∷◌, length, get_or, set, replicate, refl, ap, subst, None, Some, sym, ◌∙◌, arith}
 use Rattle.std.specs.Prelude.{AllPairs, Contains}
 use Rattle.std.specs.List.{filter}
@@ -66,7 +66,7 @@ lane_within s q e h = elim (cases_lt q (length s.lanes)) [
   | inr past ↦ absurd (idle_lane-unfinished e (subst (λ (lane : Lane). IsUnfinishedOn lane e) (lane_at_past s q past) h))
 ]
 
--- one execution runs on a lane at most, and none where it is idle
+-- a lane runs at most one execution, and none if it is idle
 pub same_running : (lane : Lane) (r x : Running) → Runs lane r → Runs lane x → r ≡ x
 same_running lane r x one other = let both : Some r ≡ Some x = sym one ∙ other in cc
 

@@ -1,4 +1,4 @@
--- What lawful steps say of an item, of what runs, and of what it waits for.
+-- What lawful steps say about an item, about what runs, and about what it waits for.
 use Rattle.std.proofs.Common.{◌≡◌, ℕ, ◌<◌, Some, sym, subst, ◌∙◌, ap}
 use Rattle.wq_items.specs.Table.{ItemWaits}
 use Rattle.wq_core.specs.declared.entry.Entry.{Entry}
@@ -14,7 +14,7 @@ use Rattle.wq_items.proofs.Tables.{ItemWaits-below}
 use Rattle.wq_core.proofs.LaneLemmas.{same_running}
 use Rattle.wq_core.proofs.Machines.{pending-own_lane}
 
--- ---- a lane has one item at most to start, to wait for until it is over, and to finish
+-- ---- a lane has at most one item to start, one whose wait may be over, and one to finish
 
 pub MayStart-one : (lane : Lane) (i j : ℕ) → MayStart lane i → MayStart lane j → i ≡ j
 MayStart-one lane i j one other =

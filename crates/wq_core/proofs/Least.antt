@@ -1,4 +1,4 @@
--- What a declaration's chains and circles of groups say of its assignments.
+-- What a declaration's chains and circles of groups say about its assignments.
 use Rattle.std.proofs.Common.{◌≡◌, ℕ, ◌<◌, List, length, arith}
 use Rattle.std.specs.Prelude.{slice_index}
 use Rattle.std.specs.List.{All}

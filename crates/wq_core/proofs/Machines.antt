@@ -20,7 +20,7 @@ unfinished-own_lane w s i mark sound h =
     let own = sound.own_lane h.lane h.entry h.unfinished in
     (subst (λ j. j < items w) h.of_item own.0, sym (subst (λ j. lane_of w j ≡ h.lane) h.of_item own.1))
 
--- what runs on the item's own lane is all that runs of it
+-- all that runs of an item runs on its own lane
 pub runs_below-exactly : (w : Wiring) (s : State) (q i mark : ℕ) (lane : Lane) → IsSoundState w s → q ≡ lane_of w i → lane ≡ lane_at s q → IsTrue (runs_below i mark lane.running) ↔ RunsBelow s i mark
 runs_below-exactly w s q i mark lane sound own is = (to lane.running refl, from) where
   to : (o : Option Running) → lane.running ≡ o → IsTrue (runs_below i mark o) → RunsBelow s i mark
@@ -61,7 +61,7 @@ HasUnfinishedOf-below_next w s i sound = (
   (λ h. record { lane = h.lane; entry = h.entry; unfinished = h.unfinished; of_item = h.of_item }),
 )
 
--- the answer to the question below the next number
+-- an answer about the numbers below the next one is an answer about all
 pub HasUnfinishedOf-answer : (w : Wiring) (s : State) (i next : ℕ) (answer : Bool) → IsSoundState w s → next ≡ s.next → IsTrue answer ↔ HasUnfinishedBelow s i next
     → IsTrue answer ↔ HasUnfinishedOf s i
 HasUnfinishedOf-answer w s i next answer sound same below =

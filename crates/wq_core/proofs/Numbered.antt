@@ -1,4 +1,4 @@
--- Of each item the number of its pending entry: what it answers, and how it changes with a step.
+-- The number of each item's pending entry: what it answers, and how it changes with a step.
 use Rattle.std.proofs.Common.{◌≡◌, ◌≢◌, ℕ, zero, suc, ◌<◌, ◌↔◌, ◌⊎◌, inl, inr, Bool, true, false, not, eqb, ltb, List, [], ◌∷◌, length, get_or, set, drop, replicate, Some, None, refl, sym, ap, subst, ◌∙◌, arith}
 use Rattle.std.specs.Prelude.{AllPairs, Contains, IsTrue, Option, slice_get}
 use Rattle.std.specs.List.{filter}
@@ -41,7 +41,7 @@ IsNumbering-empty w = record {
   noted = λ q e there. absurd (Contains-nil e (subst (λ (l : Lane). IsPendingOn l e) (lane_at-empty_state w q) there));
 }
 
--- ---- where the same entries are pending
+-- ---- when the same entries are pending
 
 pending_kept : (s : State) (q : ℕ) (lane : Lane) → lane.pending ≡ (lane_at s q).pending → (p : ℕ) → (lane_at (with_lane s q lane) p).pending ≡ (lane_at s p).pending
 pending_kept s q lane same p = elim (cases_with_lane s q lane p) [
@@ -56,7 +56,7 @@ IsNumbering-kept w s q lane numbers same before = record {
   noted = λ p e there. before.noted p e (subst (λ (es : List Entry). Contains es e) (pending_kept s q lane same p) there);
 }
 
--- ---- where the entry of an item is taken out
+-- ---- when the entry of an item is removed
 
 -- the second entries are the first without those of item i
 record IsWithout (i : ℕ) (ps qs : List Entry) : Type 0 where
@@ -137,7 +137,7 @@ module _ (w : Wiring) (s : State) (q i : ℕ) (lane : Lane) (sound : IsSoundStat
       noted : (p : ℕ) (e : Entry) → IsPendingOn (lane_at (with_lane s q lane) p) e → get_or (set numbers i None) e.item None ≡ Some e.number
       noted p e there = let was = less p e there in get_or-set_other numbers i e.item None None was.1 ∙ before.noted p e was.0
 
--- ---- where an entry is queued
+-- ---- when an entry is queued
 
 module _ (w : Wiring) (s : State) (i : ℕ) (within : lane_of w i < length s.lanes) (none : ¬ HasPending s i) where
   abbrev new : Entry

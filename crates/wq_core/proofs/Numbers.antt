@@ -1,4 +1,4 @@
--- Which number a step gives: one at most in a sound state, and one where it is lawful.
+-- Which number a step gives: at most one in a sound state, and one if it is lawful.
 use Rattle.std.proofs.Common.{◌≡◌, ℕ, inl, inr, List, get_or, Some, refl, sym, ap, subst, ◌∙◌, arith}
 use Rattle.std.specs.Prelude.{AllPairs, Contains}
 use Rattle.std.proofs.lemmas.Bool.{cases_lt}
@@ -17,9 +17,9 @@ use Rattle.wq_core.proofs.LaneLemmas.{same_running}
 use Rattle.wq_core.proofs.Machines.{pending-own_lane}
 use Rattle.wq_core.proofs.Sound.{Differ, IsSoundState-end_of}
 
--- ---- an item has one pending entry at most
+-- ---- an item has at most one pending entry
 
--- two entries of one item in a list in which none is twice
+-- two entries of one item, in a list that has no item twice, are the same
 Contains-one : (ps : List Entry) (e f : Entry) → AllPairs Differ ps → Contains ps e → Contains ps f → e.item ≡ f.item → e ≡ f
 Contains-one ps e f once (k, lt, at) (l, lt_too, at_too) same =
     elim (cases_lt k l) [
@@ -39,7 +39,7 @@ pending-one w s i sound g h =
     let there : Contains (lane_at s g.lane).pending h.entry = subst (λ q. Contains (lane_at s q).pending h.entry) lanes h.pending in
     Contains-one (lane_at s g.lane).pending g.entry h.entry (sound.once g.lane) g.pending there (g.of_item ∙ sym h.of_item)
 
--- ---- one number at most
+-- ---- at most one number
 
 pub Gives-one : (w : Wiring) (s : State) (step : Step) (n m : ℕ) → IsSoundState w s → Gives s step n → Gives s step m → n ≡ m
 Gives-one w s (Queue i) n m sound one other = one ∙ sym other
@@ -60,7 +60,7 @@ Gives-one w s (Finish q i) n m sound (r, runs, one) (x, runs_too, other) =
 pub Gives-one_after : (w : Wiring) (steps : List Step) (step : Step) (n m : ℕ) → IsRun w steps → Gives (end_of w steps) step n → Gives (end_of w steps) step m → n ≡ m
 Gives-one_after w steps step n m run one other = Gives-one w (end_of w steps) step n m (IsSoundState-end_of w steps run) one other
 
--- ---- a number where it is lawful
+-- ---- a number if it is lawful
 
 pub Gives-some : (w : Wiring) (s : State) (step : Step) → Lawful w s step → (n : ℕ) × Gives s step n
 Gives-some w s (Queue i) lawful = (s.next, refl)

@@ -13,7 +13,7 @@ pub record Counted (lane_of_item : List ℕ) (lanes k : ℕ) (counts : List ℕ)
   pub len : length counts ≡ lanes
   pub each : (q : ℕ) → q < lanes → get_or counts q 0 ≡ count_on (take k lane_of_item) q
 
--- item k is on lane q, which is one of the lanes; so far so many items were counted there
+-- item k is on lane q, which is one of the lanes; so far this many items were counted there
 pub record CountsNext (lane_of_item : List ℕ) (lanes k : ℕ) (counts : List ℕ) (q count : ℕ) : Type 0 where
   pub item : k < length lane_of_item
   pub lane : q ≡ get_or lane_of_item k q
@@ -30,12 +30,12 @@ CountsNext-read lane_of_item lanes k counts q read count item within same at so_
 Counted-is : (lane_of_item : List ℕ) (lanes k : ℕ) (counts : List ℕ) (q count : ℕ) → CountsNext lane_of_item lanes k counts q count → Counted lane_of_item lanes k counts → count ≡ count_on (take k lane_of_item) q
 Counted-is lane_of_item lanes k counts q count next counted = next.so_far ∙ get_or_default counts q count 0 (omega (arith, counted.len, next.within)) ∙ counted.each q next.within
 
--- there are no more of them than items
+-- they are fewer than the items
 pub Counted-few : (lane_of_item : List ℕ) (lanes k : ℕ) (counts : List ℕ) (q count : ℕ) → CountsNext lane_of_item lanes k counts q count → Counted lane_of_item lanes k counts → count < length lane_of_item
 Counted-few lane_of_item lanes k counts q count next counted =
     omega (arith, next.item, Counted-is lane_of_item lanes k counts q count next counted, count_by-le-length (λ (l : ℕ). l == q) (take k lane_of_item), length-take k lane_of_item)
 
--- one item more is counted
+-- one more item is counted
 pub Counted-more : (lane_of_item : List ℕ) (lanes k : ℕ) (counts : List ℕ) (q count : ℕ) → CountsNext lane_of_item lanes k counts q count → Counted lane_of_item lanes k counts
     → Counted lane_of_item lanes (k + 1) (set counts q (count + 1))
 Counted-more lane_of_item lanes k counts q count next counted = record {

@@ -1,4 +1,4 @@
--- From every state that a run leaves, a run can be played to its end.
+-- From every state after a run, a run can be played to its end.
 use Rattle.std.proofs.Common.{◌≡◌, ℕ, zero, suc, ◌<◌, ◌⊎◌, inl, inr, ◌↔◌, Bool, true, false, List, [], ◌∷◌, length, Option, Some, None, refl, sym, ap, subst, ◌∙◌, arith}
 use Rattle.std.specs.Prelude.{IsTrue, ◌||◌, slice_get}
 use Rattle.std.specs.List.{list_any}
@@ -63,7 +63,7 @@ HasNoDeclaredStep-idle w s q idle empty (Wait p b) is = nothing_runs (lane_at s 
 HasNoDeclaredStep-idle w s q idle empty (Over p b) is = nothing_runs (lane_at s q) idle is.lawful.0 (subst (λ (k : ℕ). Runs (lane_at s k) is.lawful.0) is.of_lane is.lawful.1)
 HasNoDeclaredStep-idle w s q idle empty (Finish p i) is = nothing_runs (lane_at s q) idle is.lawful.0 (subst (λ (k : ℕ). Runs (lane_at s k) is.lawful.0) is.of_lane is.lawful.1)
 
--- nor does one whose entry waits for what is unfinished
+-- nor does one whose entry waits for something unfinished
 module _ (w : Wiring) (s : State) (q : ℕ) (r : Running) (f : Waiting) (runs : Runs (lane_at s q) r) (waits : r.waiting ≡ Some f) (left : HasUnfinishedBelow s f.target f.mark) where
   asleep : (x : Running) → Runs (lane_at s q) x → ¬ (x.waiting ≡ None)
   asleep x other awake =

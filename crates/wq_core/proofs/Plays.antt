@@ -1,4 +1,4 @@
--- Played runs: they are runs, they flush as declared, and no rescuer can move at their end.
+-- Played runs: they are runs, they flush as declared, and at their end no rescuer can move.
 use Rattle.std.proofs.Common.{◌≡◌, ℕ, zero, suc, ◌<◌, ◌≤◌, inl, inr, List, [], ◌∷◌, ◌++◌, length, map, Some, None, refl, arith}
 use Rattle.std.specs.Prelude.{slice_get}
 use Rattle.std.specs.List.{All, Any, count_by}
@@ -94,7 +94,7 @@ pub HasNoDeclaredStep-played : (w : Wiring) (s : State) (steps : List Step) → 
 HasNoDeclaredStep-played w s [] played = played
 HasNoDeclaredStep-played w s (step ∷ steps) played = HasNoDeclaredStep-played w (effect w s step) steps played.1
 
--- ---- where a rescuer can move, its lane can move as declared
+-- ---- if a rescuer can move, its lane can move as declared
 
 next_target : (ts : List Target) (k : ℕ) → k < length ts → (t : Target) × (slice_get ts k ≡ Some t) × Any (λ (u : Target). u.item ≡ t.item) ts
 next_target [] k lt = absurd (omega arith)

@@ -36,7 +36,7 @@ AllPairs-range_with_len n i j d lt within same =
 abbrev pub is_other : List ℕ → ℕ → Bool
 is_other first i = not (list_any (λ j. eqb i j) first)
 
--- the items below n that aren't among the first ones, as they are numbered
+-- the items below n that aren't among the first ones, in the order of their numbers
 abbrev pub others_in_order : List ℕ → ℕ → List ℕ
 others_in_order first n = filter (λ i. is_other first i) (range_with_len 0 n)
 
@@ -72,7 +72,7 @@ Contains-in_order first n i lt = elim (cases_Bool (list_any (λ j. eqb i j) firs
       )
 ]
 
--- of items on different lanes, each is the first one on its lane
+-- if the first items are on different lanes, each comes first on its lane
 pub first_on_lane : (w : Wiring) (first others : List ℕ) (i : ℕ) → AllPairs (λ j k. lane_of w j ≢ lane_of w k) first → Contains first i
     → slice_get (on_lane w (lane_of w i) (first ++ others)) 0 ≡ Some i
 first_on_lane w [] others i apart (k, lt, at) = absurd (omega arith)

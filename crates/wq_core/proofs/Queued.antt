@@ -94,7 +94,7 @@ pub running-all_queued : (w : Wiring) (is : List ℕ) (s : State) (q : ℕ) → 
 running-all_queued w [] s q = refl
 running-all_queued w (i ∷ is) s q = running-all_queued w is (effect w s (Queue i)) q ∙ running-queued w s i q
 
--- items that differ can be queued one after another, where none of them is pending
+-- different items can be queued one after another, if none of them is pending
 pub IsRunFrom-queued : (w : Wiring) (is : List ℕ) (s : State) → All (λ i. i < items w) is → AllPairs (λ i j. i ≢ j) is
     → ((i : ℕ) → Contains is i → ¬ HasPending s i) → IsRunFrom w s (map Queue is)
 IsRunFrom-queued w [] s below differ none = tt
@@ -109,7 +109,7 @@ IsRunFrom-queued w (i ∷ is) s below differ none =
 
 -- ---- how often an item is queued
 
--- what a test counts
+-- what a test counts for
 abbrev pub one_if : Bool → ℕ
 one_if b = cond b 1 0
 

@@ -1,4 +1,4 @@
--- Results: what holds in any case holds of an error, and where there is no answer.
+-- Results: what holds in any case holds for an error, and if there is no answer.
 use Rattle.std.specs.Prelude.{Result, Ok, Err, OnErr, Option, Some, None, IfNone}
 
 pub OnErr-holds : {T E P : Type 0} (r : Result T E) → P → OnErr r P

@@ -1,4 +1,4 @@
--- Entries of a lane, whose numbers rise: after a step, and where one of them is taken out.
+-- Entries of a lane, whose numbers rise: after a step, and when one of them is removed.
 use Rattle.std.proofs.Common.{◌≡◌, ◌≢◌, ℕ, zero, suc, ◌<◌, ◌≤◌, inl, inr, true, false, not, eqb, ltb, List, [], ◌∷◌, length, get_or, drop, refl, sym, ap, subst, ◌∙◌, arith}
 use Rattle.std.specs.Prelude.{AllPairs, Contains, remove}
 use Rattle.std.specs.List.{All, filter}
@@ -19,7 +19,7 @@ use Rattle.wq_core.specs.Held.{IsSoundState, IsRising}
 use Rattle.wq_core.proofs.LaneLemmas.{cases_with_lane, AllPairs-nil}
 use Rattle.wq_core.proofs.Sound.{Differ}
 
--- two entries of one lane in their order
+-- two entries of one lane, in order
 abbrev Rise : Entry → Entry → Type 0
 Rise e f = e.number < f.number
 
@@ -31,7 +31,7 @@ IsNonDecreasingBy-rising ps rising i j d le within = elim (cases_lt i j) [
   | inr no_less ↦ let same : i ≡ j = omega arith in subst (λ k. (get_or ps i d).number ≤ (get_or ps k d).number) same (omega arith)
 ]
 
--- the place at which the numbers reach that of an entry is its own
+-- an entry is at the place where the numbers reach its own
 pub place_of : (ps : List Entry) (e : Entry) (k : ℕ) → IsRising ps → IsPartitionPoint (λ (f : Entry). ltb f.number e.number ≡ true) (λ (f : Entry). ltb f.number e.number ≡ false) ps k → Contains ps e
     → (k < length ps) × (get_or ps k e ≡ e)
 place_of ps e k rising point (j, within, is) = elim (cases_lt j k) [
@@ -57,7 +57,7 @@ all_pass i (p ∷ ps) differ =
     let here : not (eqb p.item i) ≡ true = ap not (ne_eqb p.item i (All-head (λ (e : Entry). e.item ≢ i) p ps differ)) in
     cond-true (not (eqb p.item i)) (p ∷ others ps) (others ps) here ∙ ap (λ (es : List Entry). p ∷ es) (all_pass i ps (All-tail (λ (e : Entry). e.item ≢ i) p ps differ))
 
--- where each item has one entry, without it the others are left
+-- if each item has at most one entry, removing an item's entry leaves those of the other items
 pub remove-others : (i : ℕ) (ps : List Entry) (k : ℕ) (d : Entry) → k < length ps → (get_or ps k d).item ≡ i → AllPairs Differ ps → remove ps k ≡ filter (λ (e : Entry). not (eqb e.item i)) ps
 remove-others i [] k d within is once = absurd (omega arith)
 remove-others i (p ∷ ps) zero d within is once =

@@ -1,4 +1,5 @@
--- What a lawful step asks of the lane and of the numbers: room for one entry more, an entry that is there, a count that fits.
+-- What a lawful step needs from the lane and from the numbers: room for one more entry, an entry that is there, a count that
+-- fits.
 use Rattle.std.proofs.Common.{◌≡◌, ◌≢◌, ℕ, zero, suc, ◌+◌, ◌-◌, ◌<◌, ◌≤◌, ◌==◌, eqb, Bool, true, false, List, [], ◌∷◌, length, map, take, get_or, refl, sym, subst, ◌∙◌, ap, arith, inl, inr}
 use Rattle.std.specs.Prelude.{AllPairs, Option, Some, slice_get, IfSome}
 use Rattle.std.specs.List.{All, count_by}
@@ -59,7 +60,7 @@ module _ (p : ℕ → Bool) (l : List ℕ) where
     ]
   ]
 
-  -- places that differ are no more than there are
+  -- different places at which the test passes are no more than all such places
   pub distinct_places : (xs : List ℕ) → ((k d : ℕ) → k < length xs → (get_or xs k d < length l) × (p (get_or l (get_or xs k d) 0) ≡ true)) → ((i j d : ℕ) → i < j → j < length xs → get_or xs i d ≢ get_or xs j d)
       → length xs ≤ count_by p l
   distinct_places xs each distinct = elim (cases_lt (count_by p l) (length xs)) [
@@ -146,7 +147,7 @@ module _ (waits : List (List Target)) (lane_of_item : List ℕ) (numbers : List 
       let is : old.lane.running ≡ Some r = ap (λ (l : Lane). l.running) (sym (held_lane waits lane_of_item numbers lanes next q old was) ∙ ap (λ (k : Machine). lane_at k.state q) view) ∙ runs in
       subst (λ (o : Option Running). IfSome o (λ (x : Running). x.made + 1 < 4294967296)) (sym is) (omega (arith, may.fewer, few, sound.few_flushes))
 
-  -- the entry that is cancelled is one of the lane's, which rise and of which each item has one
+  -- the entry that is cancelled is one of the lane's, whose numbers rise and of which each item has one
   pub cancel_pending : (i : ℕ) → q ≡ lane_of m.wiring i → IsNumberOf m (Cancel i) (Some n) → IsPendingOn old.lane (record { number = n; item = i })
   cancel_pending i own number =
       let sound : IsMachine m = subst IsMachine view held.machine in

@@ -15,19 +15,19 @@ use Rattle.wq_core.specs.Runs.{after, IsRunFrom}
 use Rattle.wq_core.specs.Held.{HeldLane, Machine, machine_of, IsDone, AreDone}
 use Rattle.wq_core.proofs.LaneLemmas.{lane_within, idle_lane-unfinished}
 
--- ---- one step more
+-- ---- one more step
 
 pub after-more : (w : Wiring) (s : State) (steps : List Step) (step : Step) → after w s (steps ++ (step ∷ [])) ≡ effect w (after w s steps) step
 after-more w s [] step = refl
 after-more w s (first ∷ steps) step = after-more w (effect w s first) steps step
 
--- each step of a run is lawful where those before it lead
+-- each step of a run is lawful in the state after those before it
 pub IsRunFrom-at : (w : Wiring) (s : State) (steps : List Step) (k : ℕ) (step : Step) → IsRunFrom w s steps → slice_get steps k ≡ Some step → Lawful w (after w s (take k steps)) step
 IsRunFrom-at w s [] k step run stands = absurd cc
 IsRunFrom-at w s (first ∷ steps) zero step run stands = let same : first ≡ step = cc in subst (Lawful w s) same run.0
 IsRunFrom-at w s (first ∷ steps) (suc k) step run stands = IsRunFrom-at w (effect w s first) steps k step run.1 stands
 
--- a step gives one number at most
+-- a step gives at most one number
 pub next-effect : (w : Wiring) (s : State) (step : Step) → (effect w s step).next ≤ s.next + 1
 next-effect w s (Queue i) = omega arith
 next-effect w s (Cancel i) = omega arith

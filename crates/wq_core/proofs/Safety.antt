@@ -1,4 +1,4 @@
--- Where numbers of lanes fall along every declared flush, no run ends stuck.
+-- If numbers of lanes fall along every declared flush, no run ends stuck.
 use Rattle.std.proofs.Common.{◌≡◌, ℕ, zero, suc, ◌+◌, ◌<◌, inl, inr, List, [], ◌∷◌, Option, Some, None, refl, sym, ap, subst, ◌∙◌, arith}
 use Rattle.std.specs.Prelude.{Contains, slice_get}
 use Rattle.wq_items.specs.Table.{ItemWaits}
@@ -36,7 +36,7 @@ Falls w number = (i j : ℕ) → ItemWaits w.waits i j → number (lane_of w j) 
 abbrev NoneBelow : State → (ℕ → ℕ) → ℕ → Type 0
 NoneBelow s number n = (p : ℕ) → number p < n → (e : Entry) → ¬ IsUnfinishedOn (lane_at s p) e
 
--- what a lane's context waits for is over, where nothing is unfinished on lanes with lower numbers
+-- the wait of a lane's context is over if nothing is unfinished on lanes with lower numbers
 wait_is_over : (w : Wiring) (s : State) (number : ℕ → ℕ) (q : ℕ) (r : Running) (flush : Waiting) → Falls w number
     → IsSoundState w s → NoneBelow s number (number q) → Runs (lane_at s q) r → r.waiting ≡ Some flush
     → ¬ HasUnfinishedBelow s flush.target flush.mark

@@ -1,4 +1,4 @@
--- What holds of every state that a run leaves.
+-- What holds for every state after a run.
 use Rattle.std.proofs.Common.{◌≡◌, ◌≢◌, ℕ, ◌+◌, ◌<◌, ◌≤◌, ◌⊎◌, inl, inr, Bool, not, eqb, List, [], ◌∷◌, length, get_or, Option, Some, None, refl, sym, ap, subst, ◌∙◌, arith}
 use Rattle.std.specs.Prelude.{AllPairs, slice_get, option_map}
 use Rattle.std.proofs.lemmas.List.{length-set, length-replicate}
@@ -23,7 +23,7 @@ use Rattle.wq_core.proofs.LaneLemmas.{cases_with_lane, same_running, lane_at-emp
 abbrev pub Differ : Entry → Entry → Type 0
 Differ e f = e.item ≢ f.item
 
--- what holds of each lane of a sound state
+-- what holds for each lane of a sound state
 pub record IsSoundLane (w : Wiring) (next q : ℕ) (lane : Lane) : Type 0 where
   pub own_lane : (e : Entry) → IsUnfinishedOn lane e → (e.item < items w) × (lane_of w e.item ≡ q)
   pub given : (e : Entry) → IsUnfinishedOn lane e → e.number < next
@@ -54,7 +54,7 @@ IsSoundLane-later w next later q lane le sound = record {
   running = sound.running;
 }
 
--- a state of which one lane changes to a sound one, while numbers are given
+-- a sound state in which one lane changes to a sound one, while numbers are given
 IsSoundState-with_lane : (w : Wiring) (s : State) (q : ℕ) (lane : Lane) (next : ℕ) → s.next ≤ next → IsSoundState w s
     → IsSoundLane w next q lane → IsSoundState w (record (with_lane s q lane) { next = next })
 IsSoundState-with_lane w s q lane next le sound new =
@@ -71,13 +71,13 @@ IsSoundState-with_lane w s q lane next le sound new =
               )
         ]
 
--- the same where no number is given
+-- the same when no number is given
 IsSoundState-with_lane_now : (w : Wiring) (s : State) (q : ℕ) (lane : Lane) → IsSoundState w s
     → (IsSoundLane w s.next q (lane_at s q) → IsSoundLane w s.next q lane) → IsSoundState w (with_lane s q lane)
 IsSoundState-with_lane_now w s q lane sound keeps =
     IsSoundState-with_lane w s q lane s.next (omega arith) sound (keeps (IsSoundLane-lane_at w s q sound))
 
--- ---- where nothing is queued
+-- ---- before anything is queued
 
 IsSoundLane-idle : (w : Wiring) (next q : ℕ) → IsSoundLane w next q idle_lane
 IsSoundLane-idle w next q = record {

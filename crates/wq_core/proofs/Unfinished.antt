@@ -9,7 +9,7 @@ use Rattle.wq_core.specs.declared.entry.Running.{Running}
 use Rattle.wq_core.specs.State.{Lane, Runs, IsUnfinishedOn}
 use Rattle.wq_core.specs.Held.{LaneHasUnfinishedBelow, is_below, runs_below}
 
--- the test says what it is named for
+-- the test says what its name says
 pub is_below-true : (item mark : ℕ) (e : Entry) → is_below item mark e ≡ true → (e.item ≡ item) × (e.number < mark)
 is_below-true item mark e h = search (rules, tests)
 
@@ -27,7 +27,7 @@ below-running lane item mark (Some r) e h =
     record { entry = r.entry; unfinished = inr (r, e, refl); of_item = b.0; below = b.1 }
 below-running lane item mark None e h = cc
 
--- some entry passes the test exactly where such an entry is unfinished
+-- some entry passes the test exactly if such an entry is unfinished
 pub unfinished_below : (lane : Lane) (item mark : ℕ) → IsTrue (list_any (is_below item mark) lane.pending || runs_below item mark lane.running) ↔ LaneHasUnfinishedBelow lane item mark
 unfinished_below lane item mark = (to _ refl, from) where
   to : (b : Bool) → list_any (is_below item mark) lane.pending ≡ b → IsTrue (b || runs_below item mark lane.running) → LaneHasUnfinishedBelow lane item mark

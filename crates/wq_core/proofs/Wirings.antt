@@ -8,7 +8,7 @@ use Rattle.wq_groups.specs.Assignment.{Assignment, IsAssignment, group_lane}
 use Rattle.wq_groups.proofs.Lanes.{item_lanes-within}
 use Rattle.wq_core.specs.Wiring.{Wiring, IsWiring, wiring, items, lane_of}
 
--- the same of equal numbers and lists
+-- the same for equal numbers and lists
 pub All-below : (m n : ℕ) (xs ys zs : List ℕ) → n ≡ m → zs ≡ ys → ys ≡ xs → All (λ x. x < m) xs → All (λ x. x < n) zs
 All-below m n xs ys zs bound read same h = subst (λ (k : ℕ). All (λ x. x < k) zs) (sym bound) (subst (All (λ x. x < m)) (sym (read ∙ same)) h)
 
@@ -19,7 +19,7 @@ IsWiring-wiring d a declaration assignment = record {
   targets_are_items = subst (λ n. All (TargetsBelow n) d.waits) (sym declaration.one_list_each) declaration.targets_are_items;
 }
 
--- where there is an item there is a lane
+-- if there is an item, there is a lane
 pub lanes-some : (group_of : List ℕ) (groups : ℕ) (a : Assignment) → All (λ g. g < groups) group_of → IsAssignment groups a → 0 < length group_of → 0 < a.lanes
 lanes-some group_of groups a within assignment some =
     let group : get_or group_of 0 0 < groups = within 0 0 some in

@@ -1,4 +1,4 @@
--- How much work can be left at most, by the limits of a declaration.
+-- The most work that can be left, by the limits of a declaration.
 use Rattle.std.proofs.Common.{◌≡◌, ℕ, zero, suc, ◌+◌, ◌*◌, ◌<◌, ◌≤◌, ◌==◌, inl, cond, nat_lt, Option, Some, None, List, [], ◌∷◌, length, get_or, take, refl, ap, ◌∙◌, arith}
 use Rattle.std.specs.Prelude.{sum_by}
 use Rattle.std.specs.List.{All, count_by}
@@ -28,7 +28,7 @@ pub record IsLimited (w : Wiring) : Type 0 where
 pub IsLimited-machine : (m : Machine) → IsMachine m → IsLimited m.wiring
 IsLimited-machine m machine = record { few_items = machine.few_items; few_flushes = machine.few_flushes; few_lanes = machine.few_lanes }
 
--- an item has at most all flushes
+-- an item declares at most all flushes
 pub whole_work-few : (w : Wiring) (i : ℕ) → IsLimited w → i < items w → whole_work w i ≤ 32770
 whole_work-few w i limits there =
     let some : length (declared_by w i) ≤ sum_by length w.waits = get_or-le-sum_by length w.waits i [] there in
@@ -66,7 +66,7 @@ module _ (w : Wiring) (s : State) (sound : IsSoundState w s) where
 
 -- ---- lane by lane
 
--- one lane more
+-- one more lane
 pub work_left-more : (w : Wiring) (s : State) (q lane so_far more : ℕ) → q < length s.lanes → lane ≡ q
     → so_far ≡ sum_by (lane_work w) (take q s.lanes) → more ≡ lane_work w (lane_at s lane)
     → so_far + more ≡ sum_by (lane_work w) (take (q + 1) s.lanes)
@@ -80,7 +80,7 @@ pub work_left-all : (w : Wiring) (s : State) (q so_far : ℕ) → length s.lanes
     → so_far ≡ work_left w s
 work_left-all w s q so_far past sum = sum ∙ ap (sum_by (lane_work w)) (take_all q s.lanes past)
 
--- ---- at most so much
+-- ---- at most this much
 
 -- the items on the lanes below n, and on lane n
 count_by-below : (n : ℕ) (ls : List ℕ) → count_by (λ l. nat_lt l n) ls + count_by (λ l. l == n) ls ≡ count_by (λ l. nat_lt l (n + 1)) ls
@@ -106,7 +106,7 @@ module _ (w : Wiring) (s : State) (sound : IsSoundState w s) (wiring : IsWiring 
       let sum = ap (sum_by (lane_work w)) (take_all (length s.lanes) s.lanes (omega arith)) in
       omega (arith, all, below, sum, wiring.one_lane_each, limits.few_items, limits.few_lanes, sound.one_each)
 
--- of a machine, and after a step of it
+-- for a machine, and after one of its steps
 pub pending_work-machine : (m : Machine) (q : ℕ) → IsMachine m → sum_by (λ (e : Entry). whole_work m.wiring e.item) (lane_at m.state q).pending ≤ 134225920
 pending_work-machine m q machine = pending_work-few m.wiring m.state machine.state machine.wiring (IsLimited-machine m machine) q
 

@@ -40,7 +40,7 @@ work_of_others w i (p ∷ ps) each =
     let rest : pending_work w (others i ps) ≡ pending_work w ps = work_of_others w i ps (λ k d lt. each (suc k) d (omega arith)) in
     omega (arith, ap (pending_work w) stays, sum_by-cons work p (others i ps), sum_by-cons work p ps, rest)
 
--- without the one entry of an item
+-- the work without the one entry of an item
 work_of_one : (w : Wiring) (i : ℕ) (ps : List Entry) (e : Entry) → AllPairs Differ ps → Contains ps e → e.item ≡ i
     → pending_work w (others i ps) + whole_work w i ≡ pending_work w ps
 work_of_one w i [] e once (k, lt, at) of_item = absurd (omega arith)
@@ -110,7 +110,7 @@ lane_work-finished w lane = omega arith
 
 -- ---- states
 
--- a lane that has less work than before, by so much
+-- a lane that has this much less work than before
 work_left-less_by : (w : Wiring) (s : State) (q : ℕ) (lane : Lane) (less : ℕ) → q < length s.lanes
     → lane_work w lane + less ≡ lane_work w (lane_at s q) → work_left w (with_lane s q lane) + less ≡ work_left w s
 work_left-less_by w s q lane less within by = omega (arith, work_left-with_lane w s q lane within, by)
@@ -130,7 +130,7 @@ work_left-queued w s i wiring sound there =
     let put = work_left-with_lane w s q (with_queued e (lane_at s q)) (lane_of-within w s i wiring sound there) in
     omega (arith, put, lane_work-queued w e (lane_at s q))
 
--- a cancellation takes them off
+-- a cancellation removes them
 pub work_left-cancelled : (w : Wiring) (s : State) (i : ℕ) → IsSoundState w s → HasPending s i
     → work_left w (effect w s (Cancel i)) + whole_work w i ≡ work_left w s
 work_left-cancelled w s i sound h =
@@ -140,7 +140,7 @@ work_left-cancelled w s i sound h =
     let within : q < length s.lanes = lane_within s q h.entry (inl there) in
     work_left-less_by w s q (with_cancelled i (lane_at s q)) (whole_work w i) within (lane_work-cancelled w i (lane_at s q) h.entry (sound.once q) there h.of_item)
 
--- a start, a wait and the end of a wait take off one step
+-- a start, a wait and the end of a wait remove one step
 pub work_left-started : (w : Wiring) (s : State) (q i : ℕ) → MayStart (lane_at s q) i → work_left w (effect w s (Start q i)) + 1 ≡ work_left w s
 work_left-started w s q i may =
     work_left-less_by w s q (with_started (lane_at s q)) 1 (starts_within s q i may) (lane_work-started w i (lane_at s q) may)
@@ -153,13 +153,13 @@ pub work_left-over : (w : Wiring) (s : State) (q b : ℕ) → IsSoundState w s �
 work_left-over w s q b sound (r, runs, may) =
     work_left-less_by w s q (with_over (lane_at s q)) 1 (runs_within s q r runs) (lane_work-over w (lane_at s q) r may.flush runs may.waits (sound.running q r runs))
 
--- a finish takes off all that is left of what runs
+-- a finish removes all that is left of what runs
 pub work_left-finished : (w : Wiring) (s : State) (q i : ℕ) → Lawful w s (Finish q i)
     → work_left w (effect w s (Finish q i)) + running_work w (lane_at s q).running ≡ work_left w s
 work_left-finished w s q i (r, runs, may) =
     work_left-less_by w s q (with_finished (lane_at s q)) (running_work w (lane_at s q).running) (runs_within s q r runs) (lane_work-finished w (lane_at s q))
 
--- ---- steps, by what they are
+-- ---- steps, by their kind
 
 module _ (w : Wiring) (s : State) (sound : IsSoundState w s) (step : Step) (lawful : Lawful w s step) where
   pub work_after-queued : (i : ℕ) → IsWiring w → step ≡ Queue i → (i < items w) × (work_left w (effect w s step) ≡ work_left w s + whole_work w i)

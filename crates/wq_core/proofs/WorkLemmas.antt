@@ -1,4 +1,4 @@
--- Each rescuer step lowers the work that is left, and a cancellation doesn't raise it.
+-- Each rescuer step reduces the work that is left, and a cancellation doesn't increase it.
 use Rattle.std.proofs.Common.{◌≡◌, ℕ, ◌+◌, ◌-◌, ◌<◌, ◌≤◌, ◌⊎◌, inl, inr, Bool, cond, not, eqb, List, [], ◌∷◌, length, set, Option, Some, None, refl, ap, ◌∙◌, arith}
 use Rattle.std.specs.Prelude.{slice_get, option_map, sum_by}
 use Rattle.std.specs.List.{All, count_by}
@@ -97,7 +97,7 @@ work_left-not_more w s q lane less = elim (cases_lt q (length s.lanes)) [
       )
 ]
 
--- a rescuer step leaves less
+-- after a rescuer step less work is left
 pub work_left-rescuer : (w : Wiring) (s : State) (step : Step) → IsSoundState w s → Lawful w s step
     → IsRescuerStep step → work_left w (effect w s step) < work_left w s
 work_left-rescuer w s (Queue i) sound lawful is = absurd is
@@ -117,7 +117,7 @@ work_left-rescuer w s (Finish q i) sound (r, runs, may) is =
     let less = lane_work-finished w lane r runs may.awake (sound.running q r runs) in
     work_left-less w s q (with_finished lane) (runs_within s q r runs) less
 
--- a cancellation leaves no more
+-- after a cancellation no more work is left
 pub work_left-cancel : (w : Wiring) (s : State) (step : Step) → IsCancel step
     → work_left w (effect w s step) ≤ work_left w s
 work_left-cancel w s (Queue i) is = absurd is
@@ -132,7 +132,7 @@ work_left-cancel w s (Finish q i) is = absurd is
 
 -- ---- runs
 
--- what the step counts
+-- what the step counts for
 abbrev counted : Step → ℕ
 counted step = cond (is_rescuer_step step) 1 0
 
@@ -152,7 +152,7 @@ counted-cancel (Wait q b) is = absurd is
 counted-cancel (Over q b) is = absurd is
 counted-cancel (Finish q i) is = absurd is
 
--- a step and the work that it leaves
+-- a step and the work that is left after it
 step_bound : (w : Wiring) (s : State) (step : Step) → IsSoundState w s → Lawful w s step
     → IsRescuerStep step ⊎ IsCancel step → counted step + work_left w (effect w s step) ≤ work_left w s
 step_bound w s step sound lawful (inl rescuer) =

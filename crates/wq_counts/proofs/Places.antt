@@ -76,14 +76,14 @@ pub split_place : (i j k l a b : ℕ) → k < 7 → l < 7 → a < 2 → b < 2 �
     → (i ≡ j) × (k ≡ l) × (a ≡ b)
 split_place i j k l a b hk hl ha hb e = (omega arith, omega arith, omega arith)
 
--- two places are the same only where the items, the kinds and the answers are
+-- two places are the same only if the items, the kinds and the answers are
 pub place-same : (i j : ℕ) (kind other : Kind) (said answer : Bool) → place i kind said ≡ place j other answer
     → (i ≡ j) × (kind ≡ other) × (said ≡ answer)
 place-same i j kind other said answer e =
     let parts = split_place i j (kind_place kind) (kind_place other) (answer_place said) (answer_place answer) (kind_place-lt kind) (kind_place-lt other) (answer_place-lt said) (answer_place-lt answer) e in
     (parts.0, kind_place-same kind other parts.1, answer_place-same said answer parts.2)
 
--- the places of an item are among the 14 of it
+-- the places of an item are among its 14
 pub place-lt : (i n : ℕ) (kind : Kind) (said : Bool) → i < n → place i kind said < 14 * n
 place-lt i n kind said h = omega (arith, kind_place-lt kind, answer_place-lt said)
 
@@ -118,7 +118,7 @@ IsPlaceOf-all n p h =
 
 -- ---- counts by their places
 
--- counts of so many items are the same where all that they say is the same
+-- counts of this many items are the same if all that they say is the same
 pub same_counts : (n : ℕ) (c d : List ℕ) → HasCountsOf n c → HasCountsOf n d
     → ((i : ℕ) (kind : Kind) (said : Bool) → i < n → made c i kind said ≡ made d i kind said) → c ≡ d
 same_counts n c d hc hd same = ext_get_or 0 c d (omega (arith, hc, hd)) (λ p h.
@@ -142,7 +142,7 @@ sum-raised counts i kind said within =
     let h : p < length counts = place-lt-length counts i kind said within in
     omega (arith, sum_by-set (λ (x : ℕ). x) counts p (get_or counts p 0 + 1) 0 h)
 
--- that count is one more, and no other count is changed
+-- that count is one higher, and no other count is changed
 pub made-raised_same : (counts : List ℕ) (i : ℕ) (kind : Kind) (said : Bool) → 14 * i + 14 ≤ length counts
     → made (raised counts i kind said) i kind said ≡ made counts i kind said + 1
 made-raised_same counts i kind said within =
@@ -166,7 +166,7 @@ sum-added (x ∷ xs) (y ∷ ys) [] hy hz each = absurd (omega (arith, hz))
 sum-added (x ∷ xs) (y ∷ ys) (z ∷ zs) hy hz each =
     omega (arith, each 0, sum-added xs ys zs (omega (arith, hy)) (omega (arith, hz)) (λ p. each (suc p)), sum_by-cons (λ (n : ℕ). n) x xs, sum_by-cons (λ (n : ℕ). n) y ys, sum_by-cons (λ (n : ℕ). n) z zs)
 
--- where the places below some number are added, and those from it on are as they were, all are added
+-- if the places below some number are added, and those from it on are as they were, all are added
 pub added_all : (xs ys zs : List ℕ) (n : ℕ) → length xs ≡ length ys → length xs ≤ n
     → ((p : ℕ) → p < n → get_or zs p 0 ≡ get_or xs p 0 + get_or ys p 0) → ((p : ℕ) → n ≤ p → get_or zs p 0 ≡ get_or xs p 0)
     → (p : ℕ) → get_or zs p 0 ≡ get_or xs p 0 + get_or ys p 0

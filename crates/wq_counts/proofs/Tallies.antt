@@ -21,7 +21,7 @@ pub cases_kind : (kind : Option Kind) → (kind ≡ None) ⊎ ((one : Kind) × (
 cases_kind None = inl refl
 cases_kind (Some one) = inr (one, refl)
 
--- a row is counted exactly where it has a kind
+-- a row is counted exactly if it has a kind
 pub is_counted-some : (event : Event) (kind : Kind) → kind_in event ≡ Some kind → is_counted event ≡ true
 is_counted-some (Queue i) kind is = refl
 is_counted-some (Cancel i) kind is = refl
@@ -52,7 +52,7 @@ kind_in-counted (Finish q i) counted = (FinishKind, refl)
 kind_in-counted (Ask i) counted = (AskKind, refl)
 kind_in-counted (Told i) counted = (ToldKind, refl)
 
--- ---- of which item and kind a row is, and with which answer
+-- ---- which item and kind a row is of, and with which answer
 
 -- a row that is counted is of its own item and kind, with its own answer
 pub is_of-own : (row : Row) (kind : Kind) → kind_in row.event ≡ Some kind
@@ -76,7 +76,7 @@ is_of-parts row i kind said is =
     let rest = and_parts (item_in row.event == i) (answer_place row.yes == answer_place said) parts.1 in
     (has_kind-own (kind_in row.event) kind parts.0, eqb-true (item_in row.event) i rest.0, answer_place-same row.yes said (eqb-true (answer_place row.yes) (answer_place said) rest.1))
 
--- it is of those whose place is that of its own
+-- it is of those that have the same place as its own
 pub is_of-at : (row : Row) (own : Kind) (i : ℕ) (kind : Kind) (said : Bool) → kind_in row.event ≡ Some own
     → place (item_in row.event) own row.yes ≡ place i kind said → is_of i kind said row ≡ true
 is_of-at row own i kind said is at =
@@ -96,7 +96,7 @@ pub is_of-none : (row : Row) (i : ℕ) (kind : Kind) (said : Bool) → kind_in r
     → is_of i kind said row ≡ false
 is_of-none row i kind said kindless = ap (λ o. has_kind o kind && ((item_in row.event == i) && (answer_place row.yes == answer_place said))) kindless
 
--- ---- one row more
+-- ---- one more row
 
 pub tally-more : (rows : List Row) (row : Row) (i : ℕ) (kind : Kind) (said : Bool)
     → tally (rows ++ (row ∷ [])) i kind said ≡ tally rows i kind said + cond (is_of i kind said row) 1 0
@@ -106,18 +106,18 @@ pub counted_rows-more : (rows : List Row) (row : Row)
     → counted_rows (rows ++ (row ∷ [])) ≡ counted_rows rows + cond (is_counted row.event) 1 0
 counted_rows-more rows row = sum_by_push (λ (r : Row). cond (is_counted r.event) 1 0) rows row
 
--- no more rows are counted than there are
+-- no more rows are counted than there are rows
 pub counted_rows-le-length : (rows : List Row) → counted_rows rows ≤ length rows
 counted_rows-le-length rows = count_by-le-length (λ (row : Row). is_counted row.event) rows
 
--- no row of so many items
+-- no rows, for this many items
 pub AreTallies-none : (n : ℕ) → AreTallies n [] (replicate (14 * n) 0)
 AreTallies-none n = λ i kind said within. get_or-replicate (14 * n) (place i kind said) 0 0 (place-lt i n kind said within)
 
 pub HasCountsOf-none : (n : ℕ) → HasCountsOf n (replicate (14 * n) 0)
 HasCountsOf-none n = length-replicate (14 * n) 0
 
--- what is inside the counts of so many items
+-- what is inside the counts of this many items
 pub item_within : (n i : ℕ) (counts : List ℕ) → HasCountsOf n counts → i < n → 14 * i + 14 ≤ length counts
 item_within n i counts has within = omega (arith, has, within)
 
@@ -145,7 +145,7 @@ AreTallies-raised n rows row counts own has is within tallies = λ i kind said i
         let there = made-raised_other counts (item_in row.event) i own kind row.yes said (λ e. ne (sym e)) in
         omega (arith, more, there, tallies i kind said inside)
 
--- a row that isn't counted raises none
+-- a row that isn't counted raises no count
 pub AreTallies-not_counted : (n : ℕ) (rows : List Row) (row : Row) (counts : List ℕ) → kind_in row.event ≡ None
     → AreTallies n rows counts → AreTallies n (rows ++ (row ∷ [])) counts
 AreTallies-not_counted n rows row counts kindless tallies = λ i kind said within.
@@ -202,14 +202,14 @@ sum-noted counts row within = by_kind (cases_kind (kind_in row.event))
         let same = ap sum (noted-some counts row one is) in
         omega (arith, hit, same, sum-raised counts (item_in row.event) one row.yes (within counted))
 
--- ---- what tallies say of all rows
+-- ---- what tallies say about all rows
 
 -- two lists of counts that are those of the same rows are the same
 pub AreTallies-only : (n : ℕ) (rows : List Row) (a b : List ℕ) → HasCountsOf n a → HasCountsOf n b
     → AreTallies n rows a → AreTallies n rows b → a ≡ b
 AreTallies-only n rows a b ha hb ta tb = same_counts n a b ha hb (λ i kind said within. ta i kind said within ∙ sym (tb i kind said within))
 
--- counts of these rows that sum up to the number of those that are counted
+-- counts of these rows that add up to the number of those that are counted
 pub record HasTallies (n : ℕ) (rows : List Row) : Type 0 where
   pub counts : List ℕ
   pub has : HasCountsOf n counts

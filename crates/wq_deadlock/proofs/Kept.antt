@@ -1,4 +1,5 @@
--- Steps: what was unfinished stays so, but for what is finished, and no other lane becomes movable, but for one that waits for it.
+-- Steps: what was unfinished stays so, except for what is finished, and no other lane becomes movable, except for one that
+-- waits for it.
 use Rattle.std.proofs.Common.{◌≡◌, ◌≢◌, ℕ, ◌+◌, ◌<◌, inl, inr, None, Some, refl, sym, ap, subst, ◌∙◌, arith}
 use Rattle.wq_core.specs.declared.entry.Entry.{Entry}
 use Rattle.wq_core.specs.declared.entry.Running.{Running}
@@ -15,7 +16,7 @@ use Rattle.wq_deadlock.specs.Stuck.{Awaits}
 
 -- ---- one lane changes
 
--- an entry stays unfinished, where it does on the lane that changes
+-- an entry stays unfinished if it does on the lane that changes
 unfinished-with_lane : (s : State) (q : ℕ) (new : Lane) (e : Entry) → (IsUnfinishedOn (lane_at s q) e → IsUnfinishedOn new e)
     → (k : ℕ) → IsUnfinishedOn (lane_at s k) e → IsUnfinishedOn (lane_at (with_lane s q new) k) e
 unfinished-with_lane s q new e keeps k h = elim (cases_with_lane s q new k) [
@@ -23,7 +24,7 @@ unfinished-with_lane s q new e keeps k h = elim (cases_with_lane s q new k) [
   | inr there ↦ subst (λ (l : Lane). IsUnfinishedOn l e) (sym there.1) (keeps (subst (λ (p : ℕ). IsUnfinishedOn (lane_at s p) e) there.0 h))
 ]
 
--- a lane that can't move still can't, where another one changes and keeps what is unfinished of the item that it waits for
+-- a lane that can't move still can't, if another one changes and keeps the unfinished entries of the item that it waits for
 HasNoDeclaredStep-with_lane : (w : Wiring) (s : State) (q : ℕ) (new : Lane) (p : ℕ) → ((e : Entry) → Awaits s p e.item → IsUnfinishedOn (lane_at s q) e → IsUnfinishedOn new e)
     → p ≢ q → HasNoDeclaredStep w s p → HasNoDeclaredStep w (with_lane s q new) p
 HasNoDeclaredStep-with_lane w s q new p keeps other still = moves
@@ -67,7 +68,7 @@ HasNoDeclaredStep-with_lane w s q new p keeps other still = moves
 
 -- ---- steps
 
--- after a step of lane q another lane that couldn't move still can't, but where its item is finished
+-- after a step of lane q another lane that couldn't move still can't, unless the item that it waits for is finished
 pub HasNoDeclaredStep-other : (w : Wiring) (s : State) (q : ℕ) (step : Step) → IsDeclaredStep w s q step → (p : ℕ) → p ≢ q → ((i : ℕ) → step ≡ Finish q i → ¬ Awaits s p i)
     → HasNoDeclaredStep w s p → HasNoDeclaredStep w (effect w s step) p
 HasNoDeclaredStep-other w s q (Queue i) is p other waits none = absurd is.of_lane
@@ -88,7 +89,7 @@ HasNoDeclaredStep-other w s q (Finish k i) is p other waits none = HasNoDeclared
         let item : e.item ≡ i = ap (λ (f : Entry). f.item) (sym same) ∙ ap (λ (y : Running). y.entry.item) (same_running (lane_at s k) x r runs ran) ∙ may.entry in
         absurd (waits i (ap (λ n. Finish n i) is.of_lane) (subst (Awaits s p) item awaits))
 
--- after a step of lane q no lane below that from which the search goes on can move, if none below q could
+-- after a step of lane q no lane below the one from which the search continues can move, if none below q could
 pub HasNoDeclaredStep-below : (w : Wiring) (s : State) (q : ℕ) (step : Step) → IsDeclaredStep w s q step → ((p : ℕ) → p < q → HasNoDeclaredStep w s p)
     → (p : ℕ) → p < search_from q step → HasNoDeclaredStep w (effect w s step) p
 HasNoDeclaredStep-below w s q (Queue i) is none p lt = absurd is.of_lane

@@ -1,4 +1,4 @@
--- What is known of stuck lanes while a machine is played: that they can't move, and where they are listed.
+-- What is known about stuck lanes while a machine is played: that they can't move, and where they are listed.
 use Rattle.std.proofs.Common.{◌≡◌, ◌≢◌, ℕ, zero, suc, ◌+◌, ◌<◌, ◌≤◌, inl, inr, Bool, true, false, List, [], ◌∷◌, ◌++◌, length, get_or, map, set, replicate, Some, None, Option, refl, sym, ap, subst, ◌∙◌, arith}
 use Rattle.std.specs.Prelude.{Contains, IfSome, Vec}
 use Rattle.std.proofs.lemmas.Bool.{cases_eq}
@@ -33,7 +33,7 @@ set_false (b ∷ bs) (suc q) = set_false bs q
 pub Forgotten-none : (known : List Bool) → Forgotten known known []
 Forgotten-none known = record { size = refl; left = λ q is. (is, Contains-nil q) }
 
--- one lane more, whether or not there is such a lane
+-- one more lane, whether or not there is such a lane
 pub Forgotten-more : (old new : List Bool) (lanes : List ℕ) (q : ℕ) → Forgotten old new lanes → Forgotten old (set new q false) (lanes ++ (q ∷ []))
 Forgotten-more old new lanes q so_far = record { size = length-set new q false ∙ so_far.size; left = left }
   where
@@ -59,7 +59,7 @@ Forgotten-past old new lanes q past so_far =
 
 -- ---- what is known
 
--- a lane that is known to be stuck can't move, and where it waits, it is in the list of that item
+-- a lane that is known to be stuck can't move, and if it waits, it is in the list of the item that it waits for
 pub record KnowsStuck (w : Wiring) (s : State) (stuck : StuckLanes) : Type 0 where
   pub each_lane : length stuck.known ≡ w.lanes
   pub each_item : length stuck.waiting ≡ items w

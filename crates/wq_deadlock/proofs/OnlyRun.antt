@@ -1,4 +1,4 @@
--- From a state one run is played, and no other.
+-- From a state exactly one run is played.
 use Rattle.std.proofs.Common.{◌≡◌, ℕ, ◌<◌, inl, inr, List, [], ◌∷◌, ◌++◌, refl, sym, ap, subst, ◌∙◌}
 use Rattle.std.proofs.lemmas.Bool.{cases_order}
 use Rattle.wq_graph.specs.declared.arc.WaitArc.{WaitArc}

@@ -1,4 +1,4 @@
--- Playing step by step: what holds of the steps so far, and of the lanes that were passed over.
+-- Playing step by step: what holds for the steps so far, and for the lanes that were passed over.
 use Rattle.std.proofs.Common.{◌≡◌, ℕ, ◌+◌, ◌*◌, ◌-◌, ◌<◌, ◌≤◌, inl, inr, suc, List, [], ◌∷◌, ◌++◌, length, refl, sym, ap, subst, ◌∙◌, arith, below_more}
 use Rattle.std.proofs.lemmas.Bool.{cases_lt}
 use Rattle.std.proofs.Math.Nat.{suc-mul, mul-le-mul_right}
@@ -29,14 +29,14 @@ IsPlayFrom-more : (w : Wiring) (s : State) (steps : List Step) (q : ℕ) (step :
 IsPlayFrom-more w s [] q step play is lowest = ((q, is, lowest), tt)
 IsPlayFrom-more w s (first ∷ steps) q step play is lowest = (play.0, IsPlayFrom-more w (effect w s first) steps q step play.1 is lowest)
 
--- where no lane can move any more, all is played
+-- if no lane can move any more, all is played
 IsPlayedFrom-play : (w : Wiring) (s : State) (steps : List Step) → IsPlayFrom w s steps → ((q : ℕ) → HasNoDeclaredStep w (after w s steps) q) → IsPlayedFrom w s steps
 IsPlayedFrom-play w s [] play none = none
 IsPlayedFrom-play w s (step ∷ steps) play none = (play.0, IsPlayedFrom-play w (effect w s step) steps play.1 none)
 
 -- ---- under way
 
--- a machine was played from `start` to `now` by these steps, where it is sound, and no lane below q can move
+-- a machine was played from `start` to `now` by these steps; it is sound there, and no lane below q can move
 pub record IsPlaying (start now : Machine) (steps : List Step) (q : ℕ) : Type 0 where
   pub wiring : now.wiring ≡ start.wiring
   pub play : IsPlayFrom start.wiring start.state steps
@@ -52,7 +52,7 @@ pub IsPlaying-passed : (start now : Machine) (steps : List Step) (q : ℕ) → I
 IsPlaying-passed start now steps q playing none =
     record { wiring = playing.wiring; play = playing.play; state = playing.state; sound = playing.sound; below = below_more (λ p. HasNoDeclaredStep now.wiring now.state p) q playing.below none }
 
--- a step more
+-- one more step
 pub IsPlaying-move : (start now : Machine) (steps : List Step) (q : ℕ) (step : Step) → IsPlaying start now steps q → IsDeclaredStep now.wiring now.state q step
     → IsPlaying start (machine_after now step) (steps ++ (step ∷ [])) (search_from q step)
 IsPlaying-move start now steps q step playing is =
@@ -93,7 +93,7 @@ IsPlayedFrom-playing start now steps q playing all = IsPlayedFrom-play start.wir
 
 -- ---- it ends
 
--- what is left, lane by lane: each step leaves less work, and each lane that is passed over fewer lanes
+-- what is left, lane by lane: each step leaves less work, and each lane that is passed over leaves fewer lanes
 abbrev pub play_left : Machine → ℕ → ℕ → ℕ
 play_left m lanes q = work_left m.wiring m.state * (lanes + 1) + (lanes - q)
 

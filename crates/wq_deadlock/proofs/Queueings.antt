@@ -33,7 +33,7 @@ queued_same first n steps so_far among =
     let last : filter (λ i. is_other first i) (n ∷ []) ≡ [] = cond-false (is_other first n) (n ∷ []) [] (ap not among) in
     so_far ∙ ap (λ (l : List ℕ). map Queue (first ++ l)) (sym (others_more first n [] last ∙ append-nil (others_in_order first n)))
 
--- there are no more queueings than items come first, and items
+-- there are no more queueings than the items that come first and all items together
 pub length-queue_order : (w : Wiring) (first : List ℕ) → length (queue_order w first) ≤ length first + items w
 length-queue_order w first =
     let all = length-map (in_order first (items w)) (λ (i : ℕ). Queue i) in

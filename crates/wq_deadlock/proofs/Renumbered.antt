@@ -1,4 +1,4 @@
--- Lanes by their first groups: of any number of lanes, as many as there are groups say whether it is safe.
+-- Lanes by their first groups: however many lanes there are, as many as there are groups decide whether it is safe.
 use Rattle.std.proofs.Common.{◌≡◌, ℕ, zero, suc, ◌<◌, ◌≤◌, ◌⊎◌, inl, inr, cond, eqb, List, [], ◌∷◌, length, map, get_or, Some, sym, ap, subst, ◌∙◌, arith}
 use Rattle.std.specs.Prelude.{Contains, slice_index, slice_get}
 use Rattle.std.proofs.lemmas.Bool.{cases_eq, cond-true, cond-false, eq-eqb, ne_eqb}
@@ -28,7 +28,7 @@ not_safe-deadlocks w deadlocks safe = safe deadlocks.0 deadlocks.1.run deadlocks
 
 -- ---- the first group on a lane
 
--- where lane l stands first among these; their number, if it doesn't
+-- the first place of lane l among these; if it has none, how many there are
 first_on : List ℕ → ℕ → ℕ
 first_on [] l = 0
 first_on (x ∷ xs) l = cond (eqb x l) 0 (suc (first_on xs l))

@@ -1,4 +1,4 @@
--- How many steps a run has at most in which each item is queued once and none is cancelled.
+-- How many steps a run can have in which each item is queued once and none is cancelled.
 use Rattle.std.proofs.Common.{◌≡◌, ℕ, zero, suc, ◌+◌, ◌*◌, ◌<◌, ◌≤◌, inl, inr, cond, eqb, List, [], ◌∷◌, length, set, take, refl, sym, ap, ◌∙◌, arith}
 use Rattle.std.specs.Prelude.{sum_by}
 use Rattle.std.specs.List.{All, count_by}
@@ -181,7 +181,7 @@ length-once w steps run once =
     let whole = ap (λ (ts : List (List Target)). flush_count ts) (take_all (items w) w.waits (omega arith)) in
     omega (arith, most, none, by_item, each, all, whole)
 
--- so a run by which an assignment deadlocks has 45,056 steps at most
+-- so a run by which an assignment deadlocks has at most 45,056 steps
 pub length-deadlocking : (d : Declaration) (a : Assignment) (steps : List Step) → IsDeclaration d → DeadlocksBy (wiring d a) steps → length steps ≤ 45056
 length-deadlocking d a steps declaration deadlocks =
     let short : length steps ≤ 3 * length d.waits + 2 * flush_count d.waits = length-once (wiring d a) steps deadlocks.run deadlocks.once in

@@ -1,4 +1,4 @@
--- What ranks of the lanes, and circles of them, say of an assignment.
+-- What ranks of the lanes, and circles of lanes, say about an assignment.
 use Rattle.std.proofs.Common.{◌≡◌, ℕ, ◌<◌, ◌≤◌, List, length, subst, ◌∙◌, arith}
 use Rattle.std.specs.Prelude.{slice_index}
 use Rattle.std.proofs.lemmas.List.{length-map}

@@ -19,9 +19,9 @@ HasNames-ordered_lines ((n, Item name) ∷ ds) h = HasNames-ordered_lines ds h.1
 HasNames-ordered_lines ((n, Flush name targets) ∷ ds) h = HasNames-ordered_lines ds h.1
 HasNames-ordered_lines ((n, Ordered names) ∷ ds) h = (h.0, HasNames-ordered_lines ds h.1)
 
--- ---- lines that begin with another byte than `ordered`
+-- ---- lines that begin with a byte other than that of `ordered`
 
--- what the line says is no `ordered` line
+-- what the line says isn't an `ordered` line
 abbrev OrdersNothing : Result (Option Directive) DeclError → Type 0
 OrdersNothing (Ok (Some d)) = is_ordered d ≡ false
 OrdersNothing (Ok None) = Unit {0}
@@ -88,7 +88,7 @@ line_nothing line b bs is filled first other =
 kept : (b n : ℕ) (bs : List ℕ) → take (1 + n) (b ∷ bs) ≡ b ∷ take n bs
 kept b n bs = let one_more : 1 + n ≡ suc n = omega arith in ap (λ (k : ℕ). take k (b ∷ bs)) one_more
 
--- a line that begins with `i` or `f` is no `ordered` line
+-- a line that begins with `i` or `f` isn't an `ordered` line
 pub passed-item : (line : LineView) (bs : List ℕ) → line.bytes ≡ 105 ∷ bs → (rest : List LineView) → ordered_lines (directives (line ∷ rest)) ≡ ordered_lines (directives rest)
 passed-item line bs is rest = passed line.no (reading line) (directives rest) (line_nothing line 105 bs is refl (kept 105 _ bs) (λ tail. refl))
 

@@ -15,7 +15,7 @@ use Rattle.wq_decl.specs.Names.{is_name, are_names}
 use Rattle.wq_decl.specs.Reading.{is_text_byte, item_reading, flush_reading, ordered_reading, words_reading, reading, directive_in, directives}
 use Rattle.wq_decl.specs.Origins.{directive_words, IsFrom}
 
--- a directive, if the reading found one, has the words behind the first
+-- a directive, if the reading found one, has the words after the first
 pub record IsBehindFirst (ws : List WordView) (d : Directive) : Type 0 where
   pub first : WordView
   pub words : ws ≡ first ∷ directive_words d

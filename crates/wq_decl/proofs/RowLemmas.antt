@@ -44,7 +44,7 @@ Breaks n bytes words (MissingName m) = (m ≡ n) × OfWords LacksName words
 Breaks n bytes words (ExtraWord m) = (m ≡ n) × OfWords HasExtraWord words
 Breaks n bytes words (BadName m) = (m ≡ n) × OfWords HasBadName words
 
--- the result is no fault where no row is broken, else that of the first row that is
+-- the result is no fault if no row is broken; otherwise it is the fault of the first row that is broken
 abbrev Follows : (DeclError → Type 0) → Result (Option Directive) DeclError → Type 0
 Follows Broken (Ok found) = (e : DeclError) → Broken e → ⊥
 Follows Broken (Err e) = Broken e × ((other : DeclError) → Broken other → rows_above e ≤ rows_above other)
@@ -87,7 +87,7 @@ module _ (n : ℕ) (bytes : List ℕ) (clean : HasBadByte bytes → ⊥) where
       above (ExtraWord m) b = omega arith
       above (BadName m) b = omega arith
 
-  -- as many words as the directive takes, where the test says whether each of them is a name
+  -- as many words as the directive takes; the test says whether each of them is a name
   names : (first : WordView) (others : List WordView) (d : Directive) (test : Bool) → (IsUnknown first others → ⊥) → (LacksName first others → ⊥) → (HasExtraWord first others → ⊥) → list_all (λ (w : WordView). is_name w.bytes) others ≡ test
       → Says (first ∷ others) (cond test (Ok (Some d)) (Err (BadName n)))
   names first others d true known enough few all = broken
@@ -170,7 +170,7 @@ line_says line =
     (λ all. words_say line.no (before_comment line.bytes) (fails_none is_text_byte (before_comment line.bytes) all) (words_of line))
     (λ bad. ((refl, fails is_text_byte (before_comment line.bytes) bad), λ other b. omega arith))
 
--- a row has one fault of a line
+-- each row has one fault for a line
 same_fault : (line : LineView) (e f : DeclError) → BreaksRow line e → BreaksRow line f → rows_above e ≡ rows_above f → e ≡ f
 same_fault line (BadByte m) (BadByte k) p q rows = ap BadByte (p.0 ∙ sym q.0)
 same_fault line (UnknownWord m) (UnknownWord k) p q rows = ap UnknownWord (p.0 ∙ sym q.0)

@@ -40,11 +40,11 @@ append_is_text xs ys p q = list_all-append is_text_byte xs ys ∙ and_from (list
 
 -- ---- words
 
--- each byte of the words may stand in a line
+-- each byte of the words may be in a line
 abbrev pub WordsAreText : List WordView → Type 0
 WordsAreText ws = list_all (λ (w : WordView). list_all is_text_byte w.bytes) ws ≡ true
 
--- bytes hold nothing but their words and blanks
+-- bytes hold only their words and blanks
 text_from_words : (at : ℕ) (bs : List ℕ) (ws : List WordView) → AreTheWords at bs ws → WordsAreText ws → list_all is_text_byte bs ≡ true
 text_from_words at bs [] h words = blanks_are_text bs h
 text_from_words at bs (w ∷ ws) h words =
@@ -116,10 +116,10 @@ text_from_clean : (line : LineView) (r : Result (Option Directive) DeclError) �
 text_from_clean line (Ok found) clean ok = text_from_words line.start (before_comment line.bytes) (words_of line) (AreTheWords-words_from line.start (before_comment line.bytes)) clean
 text_from_clean line (Err e) clean ok = absurd cc
 
--- where the bytes may stand in a line, its words say what it says
+-- if the bytes may be in a line, its words say what it says
 pub reading-text : (line : LineView) → list_all is_text_byte (before_comment line.bytes) ≡ true → words_reading line.no (words_of line) ≡ reading line
 reading-text line h = rw h refl
 
--- where its words have no fault, too
+-- also if its words have no fault
 pub reading-words : (line : LineView) → IsOk (words_reading line.no (words_of line)) → words_reading line.no (words_of line) ≡ reading line
 reading-words line ok = reading-text line (text_from_clean line (words_reading line.no (words_of line)) (clean_words line.no (words_of line)) ok)

@@ -1,4 +1,4 @@
--- Marks: what is written arc by arc is what is said place by place.
+-- Marks: what is written arc by arc is what the definition says place by place.
 use Rattle.std.proofs.Common.{◌≡◌, ℕ, ◌<◌, ◌==◌, ◌||◌, Bool, inl, inr, List, [], ◌∷◌, length, get_or, set, replicate, refl, sym, ap, ◌∙◌, arith}
 use Rattle.std.specs.Prelude.{cond}
 use Rattle.std.specs.List.{list_any}
@@ -14,7 +14,7 @@ pub length-with_marks : (look : FlushLook) (looks : List FlushLook) (arcs : List
 length-with_marks look looks [] = refl
 length-with_marks look looks (a ∷ arcs) = length-with_marks look (set looks a.place look) arcs ∙ length-set looks a.place look
 
--- what looks so already stays so
+-- what already has this look keeps it
 get_or-kept : (look : FlushLook) (looks : List FlushLook) (arcs : List WaitArc) (p : ℕ) → p < length looks → get_or looks p Plain ≡ look → get_or (with_marks look looks arcs) p Plain ≡ look
 get_or-kept look looks [] p within is = is
 get_or-kept look looks (a ∷ arcs) p within is = elim (cases_eq p a.place) [
@@ -24,7 +24,7 @@ get_or-kept look looks (a ∷ arcs) p within is = elim (cases_eq p a.place) [
   | inr other ↦ get_or-kept look (set looks a.place look) arcs p (omega (arith, within, length-set looks a.place look)) (get_or-set_other looks a.place p look Plain other ∙ is)
 ]
 
--- a place looks so where an arc has it, and else as before
+-- a place has this look if an arc has the place, and else keeps its look
 get_or-with_marks : (look : FlushLook) (looks : List FlushLook) (arcs : List WaitArc) (p : ℕ) → p < length looks
     → get_or (with_marks look looks arcs) p Plain ≡ cond (list_any (λ (a : WaitArc). a.place == p) arcs) look (get_or looks p Plain)
 get_or-with_marks look looks [] p within = refl
@@ -39,7 +39,7 @@ get_or-with_marks look looks (a ∷ arcs) p within = elim (cases_eq a.place p) [
       ∙ sym (ap (λ (b : Bool). cond (b || list_any (λ (c : WaitArc). c.place == p) arcs) look (get_or looks p Plain)) (ne_eqb a.place p other))
 ]
 
--- where all was plain before
+-- if all was plain before
 pub with_marks-is : (n : ℕ) (look : FlushLook) (looks : List FlushLook) (arcs : List WaitArc) → looks ≡ replicate n Plain → with_marks look looks arcs ≡ looks_of n look arcs
 with_marks-is n look looks arcs plain =
     let long : length looks ≡ n = ap length plain ∙ length-replicate n Plain in

@@ -1,4 +1,4 @@
--- Lines one after the other.
+-- Lines one after another.
 use Rattle.std.proofs.Common.{◌≡◌, ℕ, ◌+◌, ◌<◌, ◌≤◌, List, [], ◌∷◌, ◌++◌, length, map, take, get_or, sym, ap, ◌∙◌, append_assoc, append-nil}
 use Rattle.std.specs.Prelude.{flat_map}
 use Rattle.std.proofs.lemmas.List.{take_more, take_all, map-append}
@@ -16,14 +16,14 @@ text_of-append before lines = flat_map-append ended before lines
 pub text_of-push : (out : List ℕ) (before lines : List (List ℕ)) → (out ++ text_of before) ++ text_of lines ≡ out ++ text_of (before ++ lines)
 text_of-push out before lines = append_assoc out (text_of before) (text_of lines) ∙ ap (λ (l : List ℕ). out ++ l) (sym (text_of-append before lines))
 
--- of each of a list its lines: those of one more
+-- the lines of each element of a list: those of one more
 module _ {X : Type 0} (lines : X → List (List ℕ)) where
   pub text_of-more : (out : List ℕ) (xs : List X) (x : X) → (out ++ text_of (flat_map lines xs)) ++ text_of (lines x) ≡ out ++ text_of (flat_map lines (xs ++ (x ∷ [])))
   text_of-more out xs x =
       text_of-push out (flat_map lines xs) (lines x)
       ∙ ap (λ (l : List (List ℕ)). out ++ text_of l) (ap (λ (l : List (List ℕ)). flat_map lines xs ++ l) (sym (append-nil (lines x))) ∙ sym (flat_map-append lines xs (x ∷ [])))
 
-  -- those of the next of a list
+  -- those of the next element
   pub text_of-next : (out now new : List ℕ) (xs : List X) (k : ℕ) (x : X) → k < length xs → x ≡ get_or xs k x → now ≡ out ++ text_of (flat_map lines (take k xs)) → new ≡ now ++ text_of (lines x)
       → new ≡ out ++ text_of (flat_map lines (take (k + 1) xs))
   text_of-next out now new xs k x within is so_far put =
@@ -47,7 +47,7 @@ box_closed out first second last lines now full new opened filled closed =
     ∙ ap (λ (l : List ℕ). ended first ++ (ended second ++ l)) (ap (λ (l : List ℕ). text_of lines ++ l) (sym (append-nil (ended last))) ∙ sym (text_of-append lines (last ∷ [])))
     )
 
--- a line for each of a list: that of the next
+-- a line for each element of a list: the line of the next
 module _ {X : Type 0} (line : X → List ℕ) where
   pub text_of-line : (out now new : List ℕ) (xs : List X) (k : ℕ) (x : X) → k < length xs → x ≡ get_or xs k x → now ≡ out ++ text_of (map line (take k xs)) → new ≡ now ++ ended (line x)
       → new ≡ out ++ text_of (map line (take (k + 1) xs))
@@ -60,7 +60,7 @@ module _ {X : Type 0} (line : X → List ℕ) where
       ∙ ap (map line) (ap (λ (y : X). take k xs ++ (y ∷ [])) is ∙ sym (take_more xs k x within))
       )
 
--- a head, what is behind it, what is behind that, and a last line
+-- a head, two parts after it, and a last line
 pub text_of-whole : (head middle lines : List (List ℕ)) (last first now full new : List ℕ) → first ≡ text_of head → now ≡ first ++ text_of middle → full ≡ now ++ text_of lines → new ≡ full ++ ended last
     → new ≡ text_of (head ++ middle ++ lines ++ (last ∷ []))
 text_of-whole head middle lines last first now full new begun more filled closed =

@@ -2,7 +2,7 @@
 use Rattle.std.proofs.Common.{◌≡◌, ℕ, List, [], ◌∷◌, ◌++◌, refl, sym, ap, ◌∙◌, append_assoc}
 use Rattle.wq_drawing.specs.Drawing.{ended}
 
--- one piece more
+-- one more piece
 pub put_more : (out a b c now new : List ℕ) → now ≡ out ++ a → new ≡ now ++ b → b ≡ c → new ≡ out ++ (a ++ c)
 put_more out a b c now new so_far put is = put ∙ ap (λ (o : List ℕ). o ++ b) so_far ∙ append_assoc out a b ∙ ap (λ (l : List ℕ). out ++ (a ++ l)) is
 
@@ -10,6 +10,6 @@ put_more out a b c now new so_far put is = put ∙ ap (λ (o : List ℕ). o ++ b
 pub put_end : (out a b now new : List ℕ) → now ≡ out ++ a → new ≡ now ++ ended b → new ≡ out ++ ended (a ++ b)
 put_end out a b now new so_far put = put_more out a (ended b) (ended b) now new so_far put refl ∙ ap (λ (l : List ℕ). out ++ l) (sym (append_assoc a b (10 ∷ [])))
 
--- a line more, behind others
+-- one more line, after others
 pub put_line : (out a b now new : List ℕ) → now ≡ out ++ a → new ≡ now ++ b → new ≡ out ++ (a ++ b)
 put_line out a b now new so_far put = put_more out a b b now new so_far put refl

@@ -39,7 +39,7 @@ spot-none c k (suc m) past =
     let before : sum_by w (range_with_len 0 m) ≡ 0 = spot-none c k m (λ lt. past (omega (arith, lt))) in
     ap (λ n. sum_by w (range_with_len 0 n)) more ∙ ap (sum_by w) (range_with_len-push m) ∙ sum_by_push w (range_with_len 0 m) m ∙ omega (arith, here, before)
 
--- what counts at k alone
+-- what counts only at k
 pub spot : (c k m : ℕ) → k < m → sum_by (λ v. cond (k == v) c 0) (range_with_len 0 m) ≡ c
 spot c k zero below = absurd (omega (arith, below))
 spot c k (suc m) below =

@@ -21,7 +21,7 @@ test-digits (d ∷ ds) e =
     let parts = and_parts _ _ e in
     (ltb-true _ _ parts.0, test-digits ds parts.1)
 
--- the digits spell a number of 32 bits
+-- the digits spell a 32-bit number
 abbrev Small : List ℕ → Type 0
 Small ds = IsNumeral 10 ds × (digits_value 10 ds < 2 ^ 32)
 
@@ -37,7 +37,7 @@ test-Small ds e =
     let digits = and_parts _ _ parts.0 in
     ((ltb-true _ _ digits.0, test-digits ds digits.1), ltb-true _ _ parts.1)
 
--- what a word is parsed to is the number that it spells
+-- the number that a word is parsed to is the one that it spells
 pub parse-number_in : {E : Type 0} (word : List ℕ) (r : Result ℕ E) → ParsesUnsigned 32 10 word r → result_ok r ≡ number_in word
 parse-number_in word (Ok n) h =
     let ds = without_leading_plus word in
@@ -49,14 +49,14 @@ parse-number_in word (Err e) h = go (small (without_leading_plus word)) refl
     go true is = absurd (h (test-Small (without_leading_plus word) is))
     go false is = refl
 
--- digits begin with no `+`
+-- digits don't begin with a `+`
 no_plus : (ds : List ℕ) → IsNumeral 10 ds → without_leading_plus ds ≡ ds
 no_plus [] h = refl
 no_plus (d ∷ ds) h =
     let plus : (d == 43) ≡ false = ne_eqb _ _ (λ e. omega (arith, digit_from_value d h.1.0)) in
     ap (λ (b : Bool). drop (cond b 1 0) (d ∷ ds)) plus
 
--- a number of 32 bits is spelled by its digits
+-- the digits of a 32-bit number spell it
 pub number_in-decimal : (code : ℕ) → code < 2 ^ 32 → number_in (decimal code) ≡ Some code
 number_in-decimal code fits =
     let digits = decimal_is_IsNumeral code (omega arith) in

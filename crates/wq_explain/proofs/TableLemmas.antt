@@ -1,4 +1,4 @@
--- To search the rows that a program holds is to search what they say.
+-- Searching the rows that a program holds is searching what they say.
 use Rattle.std.proofs.Common.{◌≡◌, ◌∙◌, Bool, true, false, cond, List, [], ◌∷◌, Option, Some, None, map, refl, sym, ap}
 use Rattle.std.specs.Prelude.{find, option_map}
 use Rattle.std.specs.Borrow.{Bor}
@@ -13,7 +13,7 @@ find-map {A} {B} f p (x ∷ xs) = go (p (f x)) (find-map f p xs)
     go true rest = refl
     go false rest = rest
 
--- to map twice is to map once
+-- mapping twice is mapping once
 option_map_twice : {X Y W : Type 0} (f : X → Y) (g : Y → W) (o : Option X) → option_map g (option_map f o) ≡ option_map (λ x. g (f x)) o
 option_map_twice f g None = refl
 option_map_twice f g (Some x) = refl

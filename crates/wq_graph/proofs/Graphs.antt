@@ -1,4 +1,4 @@
--- Graphs of declarations: which arcs a vertex has, and what holds of every such graph.
+-- Graphs of declarations: which arcs a vertex has, and what holds for every such graph.
 use Rattle.std.proofs.Common.{◌≡◌, ℕ, ◌*◌, ◌<◌, ◌≤◌, ◌==◌, Bool, inl, inr, List, [], ◌∷◌, length, map, get_or, Some, refl, sym, ap, subst, ◌∙◌, arith}
 use Rattle.std.specs.Prelude.{IsPermutation, AllPairs, Contains, slice_index, filter, flat_map, ◌↔◌}
 use Rattle.std.specs.List.{All, range_with_len}
@@ -64,7 +64,7 @@ arcs_at-graph_of waits vertex_of n v lt = get_or-map-range_with_len (arcs_from w
 
 -- ---- graphs by the vertices of the items
 
--- flushes of items, each at a place of its own, and for each item one of so many vertices
+-- flushes of items, each at a place of its own, and for each item one of this many vertices
 pub record AreVertices (waits : List (List Target)) (vertex_of : List ℕ) (n : ℕ) : Type 0 where
   pub one_each : length waits ≡ length vertex_of
   pub within : All (λ v. v < n) vertex_of
@@ -134,7 +134,7 @@ module _ (waits : List (List Target)) (vertex_of : List ℕ) (n : ℕ) (are : Ar
         of_target = slice_get-get_or vertex_of a.dst 0 (dst-below a arc) ∙ ap (λ (g : ℕ). Some g) (sym arc.head ∙ has.4);
       }
 
-  -- a vertex waits for a vertex exactly where an arc leaves the one for the other
+  -- a vertex waits for a vertex exactly if an arc leads from the first to the second
   pub VertexWaits-HasArc : (v w : ℕ) → VertexWaits waits vertex_of v w ↔ HasArc (graph_of waits vertex_of n) v w
   VertexWaits-HasArc v w = (arc_from_wait v w, wait_from_arc v w)
 
@@ -155,7 +155,7 @@ module _ (d : Declaration) (h : IsDeclaration d) where
   pub AreArcsFrom-group_graph : (v : ℕ) → AreArcsFrom d.waits d.group_of v (arcs_at (group_graph d) v)
   AreArcsFrom-group_graph v = AreArcsFrom-graph_of d.waits d.group_of d.groups AreVertices-groups v
 
-  -- a group waits for a group exactly where an arc leaves the one for the other
+  -- a group waits for a group exactly if an arc leads from the first to the second
   pub GroupWaits-HasArc : (v w : ℕ) → GroupWaits d v w ↔ HasArc (group_graph d) v w
   GroupWaits-HasArc v w = VertexWaits-HasArc d.waits d.group_of d.groups AreVertices-groups v w
 
@@ -178,7 +178,7 @@ module _ (d : Declaration) (a : Assignment) (h : IsDeclaration d) (assignment : 
   pub AreArcsFrom-lane_graph : (q : ℕ) → AreArcsFrom d.waits (item_lanes a d.group_of) q (arcs_at (lane_graph d a) q)
   AreArcsFrom-lane_graph q = AreArcsFrom-graph_of d.waits (item_lanes a d.group_of) a.lanes AreVertices-lanes q
 
-  -- a lane waits for a lane exactly where an arc leaves the one for the other
+  -- a lane waits for a lane exactly if an arc leads from the first to the second
   pub VertexWaits-lane_graph : (p q : ℕ) → VertexWaits d.waits (item_lanes a d.group_of) p q ↔ HasArc (lane_graph d a) p q
   VertexWaits-lane_graph p q = VertexWaits-HasArc d.waits (item_lanes a d.group_of) a.lanes AreVertices-lanes p q
 
@@ -190,7 +190,7 @@ src-by_place waits vertex_of arcs n numbered is long =
     λ k d within. let item = src-below waits vertex_of (get_or (arcs_by_place waits vertex_of) k d) (IsArc-by_place waits vertex_of numbered k d within) in omega (arith, item, long)
     )
 
--- the arcs of at most 4,096 vertices, of each at most 16,384, can be told apart by numbers below 2^32
+-- the arcs of at most 4,096 vertices, at most 16,384 of each, can be told apart by numbers below 2^32
 few_joined : {X Y : Type 0} (f : X → List Y) → ((x : X) → length (f x) ≤ 16384) → (xs : List X) → length (flat_map f xs) ≤ 16384 * length xs
 few_joined f each [] = omega arith
 few_joined f each (x ∷ xs) = omega (arith, length-append (f x) (flat_map f xs), each x, few_joined f each xs)

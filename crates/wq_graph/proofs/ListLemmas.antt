@@ -80,7 +80,7 @@ found p (y ∷ ys) x h passes = elim (cases_Bool (p y)) [
       ]
 ]
 
--- where h gives the elements of a list at the numbers from n on
+-- if h gives the elements of a list at the numbers from n on
 pub filter_map-range_with_len : {X : Type 0} (h : ℕ → Option X) (n : ℕ) (xs : List X) → ((k m : ℕ) (d : X) → k < length xs → n + k ≡ m → h m ≡ Some (get_or xs k d)) → filter_map h (range_with_len n (length xs)) ≡ xs
 filter_map-range_with_len h n [] gives = refl
 filter_map-range_with_len {X} h n (x ∷ xs) gives =
@@ -106,7 +106,7 @@ IsStrictlyIncreasing-map f xs d h k within =
 abbrev Differ : List ℕ → Type 0
 Differ xs = (i j : ℕ) → i < length xs → j < length xs → i ≢ j → get_or xs i 0 ≢ get_or xs j 0
 
--- where the element at k comes from, when those at i and j are exchanged
+-- where the element at k comes from if those at i and j are exchanged
 exchanged : ℕ → ℕ → ℕ → ℕ
 exchanged i j k = cond (eqb k i) j (cond (eqb k j) i k)
 

@@ -50,7 +50,7 @@ Differ-append_right xs ys differ i j d lt within same =
     let long = length-append xs ys in
     differ (length xs + i) (length xs + j) d (omega arith) (omega (arith, long)) (get_or-append-add xs ys i d ∙ same ∙ sym (get_or-append-add xs ys j d))
 
--- no name stands in both parts
+-- no name is in both parts
 pub Differ-parts : (xs ys : List (List ℕ)) (a : List ℕ) → Differ (xs ++ ys) → Contains xs a → Contains ys a → ⊥
 Differ-parts xs ys a differ left right =
     let long = length-append xs ys in

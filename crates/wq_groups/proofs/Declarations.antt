@@ -7,7 +7,7 @@ use Rattle.std.specs.List.{All}
 use Rattle.wq_groups.specs.Partition.{Partition, IsPartition}
 use Rattle.wq_groups.specs.Declaration.{Declaration, GroupWaits, IsDeclaration, declaration_of}
 
--- of a table and of a partition of its items
+-- for a table and a partition of its items
 pub IsDeclaration-of : (t : Table) (p : Partition) → IsTable t → IsPartition p → length p.group_of ≡ length t.names → IsDeclaration (declaration_of t p)
 IsDeclaration-of t p table partition one_each = record {
   one_list_each = table.one_list_each ∙ sym one_each;

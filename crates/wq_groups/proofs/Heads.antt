@@ -1,4 +1,4 @@
--- Heads: items that are the first of their group, counted, where each item has a head F i that stands no later.
+-- Heads: items that are the first of their group, counted, where each item has a head F i that comes no later.
 use Rattle.std.proofs.Common.{◌≡◌, ◌≢◌, ℕ, zero, suc, ◌+◌, ◌<◌, ◌≤◌, inl, inr, Bool, true, false, cond, eqb, ltb, List, [], ◌∷◌, ◌++◌, length, map, get_or, take, append-nil, refl, sym, ap, ap₂, subst, ◌∙◌, arith}
 use Rattle.std.specs.Prelude.{Contains}
 use Rattle.std.specs.List.{count_by, filter, range_with_len}
@@ -32,7 +32,7 @@ module _ (F : ℕ → ℕ) where
   heads_below-few zero = omega arith
   heads_below-few (suc m) = omega (arith, heads_below-few m, one_at_most m)
 
-  -- m stands before n or they are one
+  -- m comes before n or they are the same
   pub heads_below-le : (m n : ℕ) → m ≤ n → heads_below F m ≤ heads_below F n
   heads_below-le zero zero le = omega arith
   heads_below-le (suc m) zero le = absurd (omega arith)
@@ -44,7 +44,7 @@ module _ (F : ℕ → ℕ) where
   pub heads_below-lt : (m n : ℕ) → F m ≡ m → m < n → heads_below F m < heads_below F n
   heads_below-lt m n head lt = omega (arith, heads_below-head m head, heads_below-le (suc m) n (omega arith))
 
-  -- the head that so many heads stand before
+  -- the head that this many heads come before
   pub head_of_number : (g n : ℕ) → g < heads_below F n → (a : ℕ) × (a < n) × (F a ≡ a) × (heads_below F a ≡ g)
   head_of_number g zero lt = absurd (omega arith)
   head_of_number g (suc n) lt = elim (cases_lt g (heads_below F n)) [
@@ -124,7 +124,7 @@ module _ (n : ℕ) (F : ℕ → ℕ) (are : AreHeads n F) where
   pub head_number-at : (i d : ℕ) → i < n → get_or (headed n F).group_of i d ≡ head_number F i
   head_number-at i d lt = get_or-map-range_with_len (head_number F) 0 n i i d lt (omega arith)
 
-  -- items have one number just where they have one head
+  -- items have the same number exactly if they have the same head
   pub head_number-same : (i j : ℕ) → i < n → j < n → head_number F i ≡ head_number F j → F i ≡ F j
   head_number-same i j i_in j_in same = elim (cases_order (F i) (F j)) [
     | inl one ↦ one

@@ -1,4 +1,4 @@
--- The lanes of items, each that of its group.
+-- The lanes of items, each the lane of its group.
 use Rattle.std.proofs.Common.{◌≡◌, ℕ, ◌+◌, ◌<◌, List, [], ◌∷◌, ◌++◌, length, get_or, take, Some, sym, ap, ◌∙◌, arith}
 use Rattle.std.specs.Prelude.{slice_get, slice_index}
 use Rattle.std.specs.List.{All}
@@ -16,7 +16,7 @@ pub item_lanes-within : (group_of : List ℕ) (groups : ℕ) (a : Assignment) �
 item_lanes-within group_of groups a within assignment =
     All-map (λ l. l < a.lanes) (group_lane a) group_of (λ k d below. let inside : get_or group_of k d < groups = within k d below in assignment.within (get_or group_of k d) 0 (omega (arith, assignment.one_each, inside)))
 
--- the lane of one item more
+-- the lane of one more item
 pub item_lanes-more : (a : Assignment) (group_of lanes new : List ℕ) (i g l : ℕ) → i < length group_of → slice_get group_of i ≡ Some g → slice_get a.lane_of_group g ≡ Some l
     → lanes ≡ item_lanes a (take i group_of) → new ≡ lanes ++ (l ∷ []) → new ≡ item_lanes a (take (i + 1) group_of)
 item_lanes-more a group_of lanes new i g l within group lane so_far pushed =

@@ -1,4 +1,4 @@
--- Going over the names of an `ordered` line: what is marked, which item is the first, and whose first it becomes.
+-- Going through the names of an `ordered` line: what is marked, which item is the first, and whose first it becomes.
 use Rattle.std.proofs.Common.{◌≡◌, ℕ, ◌+◌, ◌<◌, ◌≤◌, ◌⊎◌, inl, inr, Bool, true, false, ◌||◌, cond, eqb, List, [], ◌∷◌, ◌++◌, length, map, get_or, set, Option, Some, None, refl, sym, ap, ap₂, subst, ◌∙◌, arith, append_assoc, append-nil}
 use Rattle.std.specs.Prelude.{IsSome, Contains, bytes_eq, slice_index}
 use Rattle.std.specs.List.{count_by, list_any}
@@ -64,7 +64,7 @@ known_rest names w rest known = chosen (item_named names w.bytes) (items_named n
     chosen (Some i) None none = none
     chosen (Some i) (Some others) some = refl
 
--- ---- one name more
+-- ---- one more name
 
 is_among-push : (a : List ℕ) (names : List (List ℕ)) (w : List ℕ) → is_among a (names ++ (w ∷ [])) ≡ cond (bytes_eq a w) true (is_among a names)
 is_among-push a names w = list_any-append (bytes_eq a) names (w ∷ []) ∙ either (is_among a names) (bytes_eq a w)
@@ -124,7 +124,7 @@ marked_count-set marks i within fresh =
     let none : one_if (get_or marks i false) ≡ one_if false = ap one_if fresh in
     omega (arith, counted, none)
 
--- `rest` of all the words are left: the items of those in front are listed and marked, and the first of them is `lowest`
+-- `rest` of all the words are left: the items of those before it are listed and marked, and the first of them is `lowest`
 pub record Marked (names : List (List ℕ)) (old new : List Bool) (items : List ℕ) (lowest : ℕ) (rest words : List WordView) : Type 0 where
   pub front : List (List ℕ)
   pub parts : names_in words ≡ front ++ names_in rest
@@ -150,7 +150,7 @@ Marked-none names old items lowest words long empty known all = record {
   few = let none : length items ≡ 0 = ap length empty in omega (arith, none);
 }
 
--- there is room for one item more than are listed where one isn't marked
+-- there is room for one more item than are listed if one isn't marked
 pub Marked-room : (names : List (List ℕ)) (old mid : List Bool) (items : List ℕ) (lowest : ℕ) (rest words : List WordView) (i : ℕ) → i < length names → get_or mid i false ≡ false
     → Marked names old mid items lowest rest words → length items < length names
 Marked-room names old mid items lowest rest words i within fresh m =
@@ -198,7 +198,7 @@ Marked-twice names old mid items lowest w rest words i found marked m before is 
 
 -- ---- setting the first
 
--- a name of the table is one of the words where its item is one of theirs
+-- a name of the table is one of the words if its item is one of theirs
 is_among-items : (names : List (List ℕ)) (words : List WordView) (items : List ℕ) (i : ℕ) → Differ names → items_named names words ≡ Some items → i < length names
     → is_among (get_or names i []) (names_in words) ≡ list_any (λ (item : ℕ). eqb i item) items
 is_among-items names [] items i differ is within = let none : items ≡ [] = cc in ap (list_any (λ (item : ℕ). eqb i item)) (sym none)

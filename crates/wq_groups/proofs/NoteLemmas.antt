@@ -1,4 +1,4 @@
--- Going over the `ordered` lines: what is noted of the items so far.
+-- Going through the `ordered` lines: what is noted about the items so far.
 use Rattle.std.proofs.Common.{◌≡◌, ℕ, ◌+◌, ◌<◌, ◌⊎◌, inl, inr, Bool, true, false, ◌||◌, ◌&&◌, cond, ltb, List, [], ◌∷◌, ◌++◌, length, map, get_or, take, drop, Option, Some, None, Ok, Err, refl, sym, ap, subst, ◌∙◌, arith, append_assoc, append-nil}
 use Rattle.std.specs.Prelude.{IsSome, is_some, Contains, bytes_eq, replicate}
 use Rattle.std.specs.List.{All, position, position_or_len, range_with_len, filter_map}
@@ -28,7 +28,7 @@ use Rattle.wq_groups.proofs.Regrouped.{all_ordered-push, first_regrouped-lowest}
 use Rattle.wq_groups.proofs.Together.{same_test, position_or_len-agree, position_or_len-le, first_place, on_one_line, on_one_line-ordered, are_together-same, together_cases}
 use Rattle.wq_groups.proofs.Partitions.{groups_of-some}
 
--- ---- one directive more
+-- ---- one more directive
 
 position-agree : {X : Type 0} (p q : X → Bool) → ((x : X) → p x ≡ q x) → (xs : List X) → position p xs ≡ position q xs
 position-agree p q agree xs = ap (λ (n : ℕ). cond (ltb n (length xs)) (Some n) None) (position_or_len-agree p q agree xs)
@@ -167,14 +167,14 @@ known_names ds t before n words after made parts =
     (λ (name : List ℕ) (h : IsDeclared before name). subst (λ (names : List (List ℕ)). Contains names name) (sym whole) (Contains-append_left (filter_map item_name before) (filter_map item_name ((n, Ordered words) ∷ after)) name h))
     (names_in words) ((IsFaultless-table_of ds t made).known before (n, Ordered words) after parts))
 
--- ---- going over them
+-- ---- going through them
 
--- what a vector holds after a write through a slice of it all
+-- what a vector holds after a write through a slice of all of it
 pub written_back : {X : Type 0} (new old : List X) (n : ℕ) → length new ≡ length old → n ≡ length old → take n (new ++ drop (length new) old) ≡ new
 written_back new old n long all =
     ap (λ (rest : List _). take n (new ++ rest)) (drop_all (length new) old (omega (arith, long))) ∙ ap (take n) (append-nil new) ∙ take_all n new (omega (arith, long, all))
 
--- the directives before an `ordered` line are noted, and these lines are left behind it
+-- the directives before an `ordered` line are noted, and these lines are left after it
 record NotedUpTo (ds : List (ℕ × Directive)) (n : ℕ) (words : List WordView) (others : List (ℕ × List WordView)) (names : List (List ℕ)) (first : List ℕ) (marks : List Bool) : Type 0 where
   before : List (ℕ × Directive)
   after : List (ℕ × Directive)

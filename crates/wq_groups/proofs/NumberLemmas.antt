@@ -28,7 +28,7 @@ filter-none_below p n none = filter-agree_below p (λ j. false) n none ∙ nothi
     nothing [] = refl
     nothing (x ∷ xs) = nothing xs
 
--- one item more, in group g
+-- one more item, in group g
 items_at-push : (group_of : List ℕ) (g h : ℕ) → items_at (group_of ++ (g ∷ [])) h ≡ items_at group_of h ++ cond (eqb g h) (length group_of ∷ []) []
 items_at-push group_of g h =
     ap (λ n. filter (λ i. eqb (slice_index (group_of ++ (g ∷ [])) i) h) (range_with_len 0 n)) (length_push group_of g)
@@ -129,7 +129,7 @@ items_of lists = map (λ m. m.items) lists
 pub items_of-push : {A : Type 0} (lists : List (Vec ℕ A)) (own : Vec ℕ A) (i : ℕ) → own.items ≡ i ∷ [] → items_of (lists ++ (own ∷ [])) ≡ items_of lists ++ ((i ∷ []) ∷ [])
 items_of-push {A} lists own i is = map_push (λ (m : Vec ℕ A). m.items) lists own ∙ ap (λ (l : List ℕ). items_of lists ++ (l ∷ [])) is
 
--- a vector that is another after a push
+-- a vector that equals another after a push
 pub items-pushed : {A : Type 0} (v u : Vec ℕ A) (xs : List ℕ) (pushed k : ℕ) → v ≡ u → u.items ≡ xs ++ (pushed ∷ []) → pushed ≡ k → v.items ≡ xs ++ (k ∷ [])
 items-pushed {A} v u xs pushed k same grown is = ap (λ (w : Vec ℕ A). w.items) same ∙ grown ∙ ap (λ n. xs ++ (n ∷ [])) is
 
@@ -139,7 +139,7 @@ items-begun own empty item i grown none is = grown ∙ ap₂ (λ (xs : List ℕ)
 pub items_of-pushed : {A : Type 0} (v u : Vec (Vec ℕ A) A) (lists : List (Vec ℕ A)) (own : Vec ℕ A) (i : ℕ) → v ≡ u → u.items ≡ lists ++ (own ∷ []) → own.items ≡ i ∷ [] → items_of v.items ≡ items_of lists ++ ((i ∷ []) ∷ [])
 items_of-pushed {A} v u lists own i same grown is = ap (λ (w : Vec (Vec ℕ A) A). items_of w.items) same ∙ ap items_of grown ∙ items_of-push lists own i is
 
--- what a number read from a list is, and as an index
+-- a number that is read from a list, also as an index
 pub read_index : (xs : List ℕ) (at read number i : ℕ) → at < length xs → read ≡ get_or xs at read → number ≡ read → i ≡ number → i ≡ slice_index xs at
 read_index xs at read number i within is as_number as_index = as_index ∙ as_number ∙ is ∙ get_or_default xs at read 0 within
 

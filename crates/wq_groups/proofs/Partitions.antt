@@ -19,7 +19,7 @@ use Rattle.wq_groups.specs.Numbering.{heads_below, head_number}
 use Rattle.wq_groups.proofs.Heads.{head_number-at, head_number-same, IsPartition-headed}
 use Rattle.wq_groups.proofs.Together.{on_one_line, are_together-line, together_cases, first_of, first_of-same, together_from_first_of, AreHeads-first_of, partition_of-headed}
 
--- ---- what a table says of the names
+-- ---- what a table says about the names
 
 pub Differ-table_of : (ds : List (ℕ × Directive)) (t : Table) → table_of ds ≡ Ok t → Differ t.names
 Differ-table_of ds t made = subst Differ (sym (names-table_of ds t made)) (IsFaultless-table_of ds t made).once
@@ -133,7 +133,7 @@ ShareGroup-partition_of ds t i j a b made once i_is j_is = (together_to ds t mad
 
 -- ---- no other partition is alike
 
--- the number of item i isn't lower in p, where the numbers before it are the same
+-- the number of item i isn't lower in p, if the numbers before it are the same
 not_lower : (p q : Partition) (i : ℕ) → IsPartition q → length p.group_of ≡ length q.group_of → i < length p.group_of
     → ((j : ℕ) → j < i → slice_index p.group_of j ≡ slice_index q.group_of j)
     → ((j : ℕ) → j < i → slice_index p.group_of j ≡ slice_index p.group_of i → slice_index q.group_of j ≡ slice_index q.group_of i)
@@ -157,7 +157,7 @@ same_numbers p q is_p is_q long alike (suc n) i below within =
       | inr (inr higher) ↦ absurd (not_lower q p i is_p (sym long) (omega (arith, long)) (λ j lt. sym (before j lt)) (λ j lt. (alike j i (omega arith) within).1) higher)
     ]
 
--- there are no more groups in q, where the numbers are the same
+-- there are no more groups in q, if the numbers are the same
 no_more_groups : (p q : Partition) → IsPartition p → IsPartition q → p.group_of ≡ q.group_of → p.groups < q.groups → ⊥
 no_more_groups p q is_p is_q same more =
     let h = is_q.filled p.groups more in

@@ -47,7 +47,7 @@ Differ-all_ordered ds none = Differ-none [] ds (λ i j d lt within. absurd (omeg
 pub none-iff : (ds : List (ℕ × Directive)) → (first_regrouped [] ds ≡ None) ↔ Differ (all_ordered ds)
 none-iff ds = (Differ-all_ordered ds, first_regrouped-none ds)
 
--- ---- the lowest such line
+-- ---- the first such line
 
 pub first_regrouped-lowest : (ds : List (ℕ × Directive)) (n : ℕ) → IsLowestRegrouped ds n → first_regrouped [] ds ≡ Some n
 first_regrouped-lowest ds n lowest =

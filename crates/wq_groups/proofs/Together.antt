@@ -21,7 +21,7 @@ same_test true b to from = sym (to refl)
 same_test false true to from = from refl
 same_test false false to from = refl
 
--- tests that agree on each element pass at the same place first
+-- tests that agree on each element first pass at the same place
 pub prefix_len-agree : {X : Type 0} (p q : X → Bool) → ((x : X) → p x ≡ q x) → (xs : List X) → prefix_len p xs ≡ prefix_len q xs
 prefix_len-agree p q agree [] = refl
 prefix_len-agree p q agree (x ∷ xs) =
@@ -30,7 +30,7 @@ prefix_len-agree p q agree (x ∷ xs) =
 pub position_or_len-agree : {X : Type 0} (p q : X → Bool) → ((x : X) → p x ≡ q x) → (xs : List X) → position_or_len p xs ≡ position_or_len q xs
 position_or_len-agree p q agree xs = prefix_len-agree (λ x. not (p x)) (λ x. not (q x)) (λ x. ap not (agree x)) xs
 
--- an element that passes stands no earlier than the first that does
+-- an element that passes comes no earlier than the first that does
 pub position_or_len-le : {X : Type 0} (p : X → Bool) (xs : List X) (i : ℕ) (d : X) → p (get_or xs i d) ≡ true → position_or_len p xs ≤ i
 position_or_len-le p xs i d passes = elim (cases_lt i (position_or_len p xs)) [
   | inl before ↦ absurd (both_ways (p (get_or xs i d)) (fails_before_first p xs i d before) passes)
@@ -112,7 +112,7 @@ are_together-chain ds a b c differ ab bc = elim (together_cases ds a b ab) [
   ]
 ]
 
--- names that are together are so with the same names
+-- names that are together are together with the same names
 pub are_together-agree : (ds : List (ℕ × Directive)) (a b c : List ℕ) → Differ (all_ordered ds) → are_together ds a b ≡ true → are_together ds a c ≡ are_together ds b c
 are_together-agree ds a b c differ ab =
     same_test (are_together ds a c) (are_together ds b c) (are_together-chain ds b a c differ (are_together-flip ds a b ab)) (are_together-chain ds a b c differ ab)

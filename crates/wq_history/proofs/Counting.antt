@@ -1,4 +1,4 @@
--- Asks that wait: what one row more does to their counts.
+-- Asks that wait: what one more row does to their counts.
 use Rattle.std.proofs.Common.{◌≡◌, ◌≢◌, ℕ, zero, suc, ◌+◌, ◌-◌, ◌<◌, ◌≤◌, ◌⊎◌, inl, inr, Bool, true, false, cond, eqb, List, [], ◌∷◌, ◌++◌, length, get_or, set, refl, sym, ap, ◌∙◌, arith}
 use Rattle.std.specs.Prelude.{Some, sum, ◌&&◌}
 use Rattle.std.specs.List.{count_by}
@@ -13,7 +13,7 @@ use Rattle.wq_history.specs.Events.{step_of, begins_to_wait, ends_a_wait, is_ask
 use Rattle.wq_history.specs.History.{asks_waiting, all_asks_waiting}
 use Rattle.wq_history.specs.Counts.{AskView, CountsAll, CountsAsks}
 
--- ---- one row more
+-- ---- one more row
 
 pub count-more : (p : Row → Bool) (rows : List Row) (row : Row) → count_by p (rows ++ (row ∷ [])) ≡ count_by p rows + cond (p row) 1 0
 count-more p rows row = sum_by_push (λ (r : Row). cond (p r) 1 0) rows row
@@ -63,7 +63,7 @@ CountsAsks-same rows row asks nobody counts = record {
       omega (arith, asked, told, counts.in_all);
 }
 
--- one ask more of an item waits
+-- one more ask of an item waits
 pub CountsAsks-asked : (rows : List Row) (asks new : AskView) (i n : ℕ) → i < length asks.counts → CountsAsks rows asks
     → new.counts ≡ set asks.counts i (get_or asks.counts i 0 + 1) → new.all ≡ asks.all + 1
     → CountsAsks (rows ++ (record { event = Ask i; yes = true; number = n } ∷ [])) new
@@ -96,7 +96,7 @@ CountsAsks-asked rows asks new i n within counts set_is all_is = record {
         ap (λ cs. get_or cs j 0) set_is ∙ get_or-set_other asks.counts i j (get_or asks.counts i 0 + 1) 0 (λ e. other (sym e)) in
         omega (arith, begun, ended, at, counts.each j)
 
--- one ask of an item waits no longer
+-- one ask of an item no longer waits
 pub CountsAsks-told : (rows : List Row) (asks new : AskView) (i n : ℕ) → i < length asks.counts → 0 < get_or asks.counts i 0 → 0 < asks.all → CountsAsks rows asks
     → new.counts ≡ set asks.counts i (get_or asks.counts i 0 - 1) → new.all ≡ asks.all - 1
     → CountsAsks (rows ++ (record { event = Told i; yes = true; number = n } ∷ [])) new
@@ -136,13 +136,13 @@ asks_waiting-count rows asks i counts = omega (arith, counts.each i)
 pub all_asks_waiting-count : (rows : List Row) (asks : AskView) → CountsAsks rows asks → asks.all ≡ all_asks_waiting rows
 all_asks_waiting-count rows asks counts = omega (arith, counts.in_all)
 
--- an item of which some wait is one of the table
+-- an item of which some asks wait is one of the table
 pub within-some : (counts : List ℕ) (i : ℕ) → 0 < get_or counts i 0 → i < length counts
 within-some [] i some = omega (arith, some)
 within-some (n ∷ counts) zero some = omega arith
 within-some (n ∷ counts) (suc i) some = omega (arith, within-some counts i some)
 
--- where none waits in all, as many were told of each item as asked for it with yes
+-- if no asks wait in all, as many were told of each item as asked for it with yes
 pub CountsAsks-none : (rows : List Row) (asks : AskView) (i : ℕ) → CountsAll asks → CountsAsks rows asks → asks.all ≡ 0
     → count_by (ends_a_wait i) rows ≡ count_by (begins_to_wait i) rows
 CountsAsks-none rows asks i sum_is counts none = by_count (get_or asks.counts i 0) refl where

@@ -1,4 +1,4 @@
--- One row more: what it does to the replay, and why the history stays legal.
+-- One more row: what it does to the replay, and why the history stays legal.
 use Rattle.std.proofs.Common.{◌≡◌, ℕ, zero, suc, ◌⊎◌, inl, inr, Bool, true, false, List, [], ◌∷◌, ◌++◌, take, refl, sym, ap, subst, ◌∙◌}
 use Rattle.std.specs.Prelude.{Option, Some, None, slice_get}
 use Rattle.std.specs.List.{cons_option}
@@ -18,7 +18,7 @@ use Rattle.wq_history.specs.History.{state_after, MayCome, MayFollow, IsLegal}
 
 -- ---- lists
 
--- what stands at a place of a list with one element more: an element of the list, or the last one
+-- what is at a place of a list with one more element: an element of the list, or the last one
 at_place : {X : Type 0} (xs : List X) (x : X) (n : ℕ) (y : X) → slice_get (xs ++ (x ∷ [])) n ≡ Some y
     → ((slice_get xs n ≡ Some y) × (take n (xs ++ (x ∷ [])) ≡ take n xs)) ⊎ ((y ≡ x) × (take n (xs ++ (x ∷ [])) ≡ xs))
 at_place [] x zero y at = let same : x ≡ y = cc in inr (sym same, refl)
@@ -32,7 +32,7 @@ at_place {X} (z ∷ xs) x (suc n) y at = later (at_place xs x n y at) where
 
 -- ---- the replay
 
--- the steps with one row more
+-- the steps with one more row
 pub steps_of-more : (rows : List Row) (row : Row) → steps_of (rows ++ (row ∷ [])) ≡ steps_of rows ++ cons_option (step_of row.event row.yes) []
 steps_of-more rows row = filter_map-append (λ (r : Row). step_of r.event r.yes) rows (row ∷ [])
 

@@ -1,4 +1,4 @@
--- What a book holds, and that it holds it with one row more.
+-- What a book holds, and that it still holds this after one more row.
 use Rattle.std.proofs.Common.{◌≡◌, ℕ, zero, suc, ◌+◌, ◌-◌, ◌<◌, ◌≤◌, ◌^◌, inl, inr, cond, Bool, true, false, List, [], ◌∷◌, ◌++◌, length, length-append, get_or, replicate, refl, sym, ap, subst, ◌∙◌, arith}
 use Rattle.std.specs.Prelude.{Option, Some, None, IfSome, slice_get, sum_by, ◌&&◌}
 use Rattle.std.proofs.lemmas.List.{length-replicate}
@@ -44,7 +44,7 @@ pub free_rows-held : (m : Machine) (rows : List Row) (room : ℕ) (asks : AskVie
     → free_rows m.wiring room rows ≡ room - (length rows + (work + asks.all))
 free_rows-held m rows room asks work holds = ap (λ n. room - (length rows + n)) (reserved-held m rows room asks work holds)
 
--- what holds of every book follows
+-- what holds for every book follows
 pub IsBook-held : (m : Machine) (rows : List Row) (room : ℕ) (asks : AskView) (work : ℕ) (closed : Bool) → HoldsBook m rows room asks work
     → IsBook (record { wiring = m.wiring; rows = rows; room = room; closed = closed })
 IsBook-held m rows room asks work closed holds = record {
@@ -54,12 +54,12 @@ IsBook-held m rows room asks work closed holds = record {
   enough = omega (arith, holds.enough, reserved-held m rows room asks work holds);
 }
 
--- ---- one row more
+-- ---- one more row
 
 length-more : (rows : List Row) (row : Row) → length (rows ++ (row ∷ [])) ≡ length rows + 1
 length-more rows row = length-append rows (row ∷ [])
 
--- a row without a step takes one of the free rows at most, and one more where an ask begins to wait
+-- a row without a step takes at most one of the free rows, and one more if an ask begins to wait
 pub free_rows-noted : (w : Wiring) (room : ℕ) (rows : List Row) (row : Row) → step_of row.event row.yes ≡ None
     → free_rows w room rows ≤ free_rows w room (rows ++ (row ∷ [])) + (1 + cond (is_ask row.event && row.yes) 1 0)
 free_rows-noted w room rows row none =
@@ -68,7 +68,7 @@ free_rows-noted w room rows row none =
     let told = count-more (λ (r : Row). is_told r.event) rows row in
     omega (arith, work, asked, told, length-more rows row)
 
--- a lawful step leaves a machine
+-- after a lawful step there is a machine again
 IsMachine-after : (m : Machine) (step : Step) → IsMachine m → Lawful m.wiring m.state step → m.state.next + 1 < 2 ^ 32 → IsMachine (machine_after m step)
 IsMachine-after m step machine lawful few = record {
   wiring = machine.wiring;
@@ -117,7 +117,7 @@ HoldsBook-noted m rows room asks new work row holds none may counts same enough 
   limit = holds.limit;
 }
 
--- what comes to nothing is no end of a wait, and needs a row
+-- what comes to nothing isn't the end of a wait, and needs a row
 pub not_told : (w : Wiring) (rows : List Row) (event : Event) (n : ℕ) → MayCome w rows event false n → is_told event ≡ false
 not_told w rows (Queue i) n may = refl
 not_told w rows (Cancel i) n may = refl
@@ -138,18 +138,18 @@ needs_a_row w rows (Finish q i) n may none = absurd cc
 needs_a_row w rows (Ask i) n may none = omega arith
 needs_a_row w rows (Told i) n may none = let said : false ≡ true = may.0 in absurd cc
 
--- the same, of rows and room by other names
+-- the same, for rows and room under other names
 pub HoldsBook-read : (m : Machine) (new : List Row) (room_new : ℕ) (asks : AskView) (work : ℕ) {rows : List Row} {room : ℕ} → new ≡ rows → room_new ≡ room
     → HoldsBook m rows room asks work → HoldsBook m new room_new asks work
 HoldsBook-read m new room_new asks work {rows} {room} same_rows same_room holds =
     subst (λ (n : ℕ). HoldsBook m new n asks work) (sym same_room) (subst (λ (rs : List Row). HoldsBook m rs room asks work) (sym same_rows) holds)
 
--- the work that a step leaves and its row take no more than the work before it and the rows that its event needs free
+-- the work that is left after a step, and its row, take no more than the work before it and the free rows that its event needs
 abbrev IsPaidFor : Machine → Event → Bool → Step → Type 0
 IsPaidFor m event said step =
     Lawful m.wiring m.state step → work_left m.wiring (effect m.wiring m.state step) + 1 ≤ work_left m.wiring m.state + rows_needed m.wiring event said
 
--- the step of a rescuer is paid for by the work that it takes off
+-- the step of a rescuer is paid for by the work that it removes
 rescuer_pays : (m : Machine) (event : Event) (said : Bool) (step : Step) → IsMachine m → IsRescuerStep step → IsPaidFor m event said step
 rescuer_pays m event said step machine is lawful = omega (arith, work_left-rescuer m.wiring m.state step machine.state lawful is)
 
@@ -251,7 +251,7 @@ pub running-known : (m : Machine) (q : ℕ) (o : Option Running) → IsMachine m
 running-known m q None machine is = tt
 running-known m q (Some r) machine is = machine.state.own_lane q r.entry (inr (r, sym is, refl))
 
--- what is first on a lane is of an item that exists, and is on this lane
+-- what comes first on a lane is of an item that exists, and that is on this lane
 pub first-known : (m : Machine) (q : ℕ) (o : Option Entry) → IsMachine m → o ≡ slice_get (lane_at m.state q).pending 0
     → IfSome o (λ (e : Entry). (e.item < items m.wiring) × (lane_of m.wiring e.item ≡ q))
 first-known m q None machine is = tt

@@ -1,4 +1,4 @@
--- Judging: what one row more does to a replay, and why a row is at fault.
+-- Judging: what one more row does to a replay, and why a row is at fault.
 use Rattle.std.proofs.Common.{◌≡◌, ℕ, ◌+◌, ◌-◌, ◌*◌, ◌<◌, ◌≤◌, ◌↔◌, Bool, true, false, eqb, List, append_assoc, length-append, length-take, replicate, [], ◌∷◌, ◌++◌, length, get_or, take, refl, sym, ap, subst, ◌∙◌, arith}
 use Rattle.std.specs.Prelude.{Option, Some, None, IfSome, IfNone, IsTrue, ◌&&◌}
 use Rattle.std.specs.Option.{option_eq}
@@ -43,7 +43,7 @@ refused : (m : Machine) (step : Step) (e : StepError) → m.state.next < 4294967
 refused m step NotLawful below refusal = refusal
 refused m step NumbersUsedUp below refusal = λ lawful. number_left m.state step below refusal.1
 
--- what is looked up is the number that is meant exactly where the step makes it
+-- the number that is looked up is the one that is meant exactly if the step makes it
 pub peeked : (m : Machine) (step : Step) (o : Option ℕ) (n : ℕ) → IsMachine m → m.state.next < 4294967295
     → IfSome o (λ k. IsDone m step k (machine_after m step)) → IfNone o ((e : StepError) × IsRefusal m step e)
     → IsTrue (option_eq eqb o (Some n)) ↔ Makes m.wiring m.state step n
@@ -53,7 +53,7 @@ peeked m step (Some k) n machine below some none = (
   (λ makes. eq-eqb k n (Gives-one m.wiring m.state step k n machine.state some.gives makes.1)),
 )
 
--- ---- what is looked at is what may follow
+-- ---- what is examined is what may follow
 
 -- what may come in a machine that is the replay of rows, and with as many asks as are counted, may follow the rows
 pub MayFollow-here : (m : Machine) (rows : List Row) (asks : AskView) (row : Row) (waiting : ℕ) → Replays m rows asks → waiting ≡ get_or asks.counts (item_in row.event) 0
@@ -88,7 +88,7 @@ step-lawful w s waiting (Told i) said n may = tt
 pub few_asks : (m : Machine) (rows : List Row) (asks : AskView) → Replays m rows asks → asks.all ≤ length rows
 few_asks m rows asks replays = omega (arith, replays.asked.in_all, count_by-le-length (λ (row : Row). is_ask row.event && row.yes) rows)
 
--- ---- one row more
+-- ---- one more row
 
 pub Replays-follow : (m : Machine) (rows : List Row) (asks : AskView) (row : Row) → Replays m rows asks → MayFollow m.wiring rows row → length rows < max_rows
     → (0 < asks_waiting (item_in row.event) rows → 0 < asks.all) → Replays (stepped m (step_of row.event row.yes)) (rows ++ (row ∷ [])) (counted asks row.event row.yes)
@@ -132,7 +132,7 @@ Replays-follow m rows asks row replays may few some = by_event row.event row.yes
 
 -- ---- judged so far
 
--- the bytes before those that are left hold so many rows, of which the machine is the replay
+-- the bytes before those that are left hold this many rows, and the machine is their replay
 pub record JudgedSoFar (old : Machine) (bytes left : List ℕ) (now : Machine) (asks : AskView) (count : ℕ) : Type 0 where
   pub rows : List Row
   pub judged_bytes : List ℕ
@@ -170,14 +170,14 @@ place-of old bytes left now asks count so_far some = record {
   at_is = omega (arith, so_far.counted_rows);
 }
 
--- the next bytes hold no row
+-- the next bytes don't hold a row
 pub bad-row : (old : Machine) (bytes left front after : List ℕ) (now : Machine) (asks : AskView) (count : ℕ) → JudgedSoFar old bytes left now asks count
     → IsSplitAt left 12 front after → ((row : Row) → ¬ IsPackedRow front row) → (place : IsJudgedUpTo old bytes (count + 1) now) × ((row : Row) → ¬ IsPackedRow (take 12 place.left) row)
 unfolding place-of
 bad-row old bytes left front after now asks count so_far split none =
     (place-of old bytes left now asks count so_far (omega (arith, split.0)), (λ row holds. none row (subst (λ (l : List ℕ). IsPackedRow l row) (sym split.1) holds)))
 
--- fewer than 12 bytes are left, and some
+-- fewer than 12 bytes are left, but at least one
 pub cut-off : (old : Machine) (bytes left : List ℕ) (now : Machine) (asks : AskView) (count : ℕ) → JudgedSoFar old bytes left now asks count
     → length left < 12 → 0 < length left → (place : IsJudgedUpTo old bytes (count + 1) now) × ((row : Row) → ¬ IsPackedRow (take 12 place.left) row)
 unfolding place-of
@@ -205,7 +205,7 @@ stepped-wiring : (m : Machine) (o : Option Step) → (stepped m o).wiring ≡ m.
 stepped-wiring m None = refl
 stepped-wiring m (Some step) = refl
 
--- one row further
+-- one more row is judged
 pub judged-next : (old : Machine) (bytes left front after : List ℕ) (now : Machine) (asks : AskView) (count waiting : ℕ) (row : Row) → JudgedSoFar old bytes left now asks count
     → IsSplitAt left 12 front after → IsPackedRow front row → waiting ≡ get_or asks.counts (item_in row.event) 0 → waiting ≤ asks.all → length bytes ≤ 12 * max_rows
     → MayComeIn now.wiring now.state waiting row.event row.yes row.number

@@ -41,7 +41,7 @@ kept_row w rows row legal may none = by_event row.event row.yes row.number may n
   sound : IsSoundState w s
   sound = IsSoundState-legal w rows legal
 
-  -- the asks that wait are those before it, where nobody asks or is told
+  -- the asks that wait are those before it, if nobody asks or is told
   waiting : (r : Row) → (is_ask r.event && r.yes) ≡ false → is_told r.event ≡ false → all_asks_waiting (rows ++ (r ∷ [])) ≡ all_asks_waiting rows
   waiting r no_ask no_told =
       let a = count-more (λ (x : Row). is_ask x.event && x.yes) rows r ∙ ap (λ b. count_by (λ (x : Row). is_ask x.event && x.yes) rows + cond b 1 0) no_ask in
@@ -131,7 +131,7 @@ exist w rows event said n wiring legal may = by_event event may where
   sound : IsSoundState w s
   sound = IsSoundState-legal w rows legal
 
-  -- where there is an item, there is a lane
+  -- if there is an item, there is a lane
   with_lane : (i : ℕ) → i < items w → 0 < w.lanes
   with_lane i there =
       let on : lane_of w i < w.lanes = wiring.within i 0 (omega (arith, there, wiring.one_lane_each)) in

@@ -1,4 +1,4 @@
--- What holds of legal histories: prefixes, runs, and the asks that wait.
+-- What holds for legal histories: prefixes, runs, and the asks that wait.
 use Rattle.std.proofs.Common.{◌≡◌, ℕ, zero, suc, ◌+◌, ◌-◌, ◌<◌, ◌≤◌, ◌↔◌, Bool, true, false, List, [], ◌∷◌, ◌++◌, length, take, get_or, set, replicate, append_assoc, refl, sym, ap, subst, ◌∙◌, arith}
 use Rattle.std.specs.Prelude.{Option, Some, None, slice_get, sum, ◌&&◌}
 use Rattle.std.specs.List.{count_by, cons_option}
@@ -27,7 +27,7 @@ use Rattle.wq_history.proofs.Holding.{zeros}
 
 -- ---- prefixes
 
--- what stands in a list stands there in a longer one
+-- what is at a place in a list is there in a longer one
 stands : {X : Type 0} (xs ys : List X) (n : ℕ) (x : X) → slice_get xs n ≡ Some x → slice_get (xs ++ ys) n ≡ Some x
 stands [] ys n x at = absurd cc
 stands (z ∷ xs) ys zero x at = at
@@ -38,7 +38,7 @@ IsLegal-prefix w rows more legal n row at =
     let below : n < length rows = slice_get_within rows n row at in
     subst (λ (rs : List Row). MayFollow w rs row) (take-append-le n rows more (omega (arith, below))) (legal n row (stands rows more n row at))
 
--- the element behind a list, and what stands before it
+-- the element after a list, and what comes before it
 behind : {X : Type 0} (xs : List X) (x : X) → (slice_get (xs ++ (x ∷ [])) (length xs) ≡ Some x) × (take (length xs) (xs ++ (x ∷ [])) ≡ xs)
 behind [] x = (refl, refl)
 behind {X} (z ∷ xs) x = let rest = behind xs x in (rest.0, ap (λ (ys : List X). z ∷ ys) rest.1)
@@ -52,7 +52,7 @@ IsLegal-last_exactly w rows row = (
   (λ both. IsLegal-more w rows row both.0 both.1),
 )
 
--- ---- what one row more keeps holds of all rows
+-- ---- what one more row preserves holds for all rows
 
 from_front : {X : Type 0} (P : List X → Type 0) → ((xs : List X) (x : X) → P xs → P (xs ++ (x ∷ []))) → (xs ys : List X) → P xs → P (xs ++ ys)
 from_front P step xs [] holds = subst P (sym (append-nil xs)) holds
@@ -102,7 +102,7 @@ no_asks w = record {
   counts = record { each = λ i. let at : get_or (replicate (items w) 0) i 0 ≡ 0 = zeros (items w) i 0 in omega (arith, at); in_all = refl };
 }
 
--- the sum with one count that is another
+-- the sum after one count is replaced
 sum-set : (xs : List ℕ) (i y : ℕ) → i < length xs → sum (set xs i y) + get_or xs i 0 ≡ sum xs + y
 sum-set xs i y within = sum_by-set (λ (n : ℕ). n) xs i y 0 within
 
@@ -161,7 +161,7 @@ asked-item w rows i legal some =
     let waits : 0 < get_or c.asks.counts i 0 = omega (arith, some, asks_waiting-count rows c.asks i c.counts) in
     omega (arith, within-some c.asks.counts i waits, c.each_item)
 
--- where an ask of an item waits, one waits in all
+-- if an ask of an item waits, at least one waits in all
 pub some-wait : (w : Wiring) (rows : List Row) (i : ℕ) → IsLegal w rows → 0 < asks_waiting i rows → 0 < all_asks_waiting rows
 some-wait w rows i legal some =
     let c = AreCounted-legal w rows legal in

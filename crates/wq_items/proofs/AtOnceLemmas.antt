@@ -1,4 +1,4 @@
--- Reading a text at once: what a line seems to say beside what it says, and what the lines so far have made.
+-- Reading a text at once: what a line seems to say compared with what it says, and what the lines so far have made.
 use Rattle.std.proofs.Common.{◌≡◌, ◌≢◌, ℕ, ◌+◌, ◌<◌, Bool, true, false, cond, ◌||◌, List, [], ◌∷◌, ◌++◌, length, Option, Some, None, Result, Ok, Err, IsOk, refl, sym, ap, subst, ◌∙◌, arith}
 use Rattle.std.specs.Prelude.{IsTrue, IfNone, codes, bytes_eq, option_map}
 use Rattle.std.specs.List.{AllByRecursion, list_all, cons_option}
@@ -32,7 +32,7 @@ Foretells-cond : (b : Bool) (x y : Option (Option Directive)) (r s : Result (Opt
 Foretells-cond true x y r s p q = p
 Foretells-cond false x y r s p q = q
 
--- where the test decides alone whether a directive is read
+-- if only the test decides whether a directive is read
 by_test : (d : Directive) (b : Bool) (e : DeclError) → is_whole d ≡ b → Foretells (Some (Some d)) (cond b (Ok (Some d)) (Err e))
 by_test d true e is = (λ (whole : IsTrue (is_whole d)). refl, λ ok. is)
 by_test d false e is = (λ (whole : IsTrue (is_whole d)). absurd cc, λ ok. absurd cc)
@@ -58,7 +58,7 @@ foretells_words n (first ∷ others) =
     Foretells-cond (bytes_eq first.bytes (codes "flush")) _ _ _ _ (foretells_flush n others) (
     Foretells-cond (bytes_eq first.bytes (codes "ordered")) _ _ _ _ (foretells_ordered n others) (λ ok. cc)))
 
--- a line that has no fault holds only bytes that it may
+-- a line that has no fault holds only bytes that it may hold
 text_of_read : (line : LineView) → IsOk (reading line) → list_all is_text_byte (before_comment line.bytes) ≡ true
 text_of_read line ok = by (list_all is_text_byte (before_comment line.bytes)) ok
   where
@@ -222,7 +222,7 @@ module _ (t : Table) (sound : IsTable t) where
       by None is e = absurd cc
       by (Some items) is e = let same : count ≡ length items = cc in whole_order words items is (omega (arith, same, some))
 
-  -- so is a `flush` line whose words are found, if the place behind its targets isn't the first
+  -- so is a `flush` line whose words are found, if the place after its targets isn't the first
   pub whole_flushes : (name : WordView) (targets : List WordView) (i first next : ℕ) → item_named t.names name.bytes ≡ Some i
       → option_map (λ (items : List ℕ). first + length items) (items_named t.names targets) ≡ Some next → next ≢ first → IsTrue (is_whole (Flush name targets))
   whole_flushes name [] i first next found known more = let same : first + 0 ≡ next = cc in absurd (more (omega (arith, same)))
@@ -232,7 +232,7 @@ module _ (t : Table) (sound : IsTable t) where
 
 -- ---- no answer
 
--- what holds anyway holds where there is no answer
+-- what holds in any case holds if there is no answer
 pub IfNone-always : {X : Type 0} (o : Option X) (P : Type 0) → P → IfNone o P
 IfNone-always None P p = p
 IfNone-always (Some x) P p = tt

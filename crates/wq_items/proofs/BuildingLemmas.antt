@@ -90,7 +90,7 @@ pub and_then-Ok : (r : Result Table ItemError) (step : Table → Result Table It
 and_then-Ok (Ok u) step w e = record { next = u; taken = refl; rest = e }
 and_then-Ok (Err f) step w e = absurd cc
 
--- what holds of a table and is kept by each step holds at the end
+-- what holds for a table and is kept by each step holds at the end
 pub table_after-keeps : (P : Table → Type 0) (Q : ℕ × Directive → Type 0) → ((t : Table) (d : ℕ × Directive) (u : Table) → Q d → P t → declared t d.0 d.1 ≡ Ok u → P u)
     → (t : Table) (ds : List (ℕ × Directive)) (w : Table) → AllByRecursion Q ds → P t → table_after t ds ≡ Ok w → P w
 table_after-keeps P Q step t [] w q p e = let same : t ≡ w = cc in subst P same p
@@ -98,7 +98,7 @@ table_after-keeps P Q step t (d ∷ ds) w q p e =
     let s = and_then-Ok (declared t d.0 d.1) (λ (u : Table). table_after u ds) w e in
     table_after-keeps P Q step s.next ds w q.1 (step t d s.next q.0 p s.taken) s.rest
 
--- what asks nothing of a line holds of every line
+-- what demands nothing of a line holds for every line
 pub every_line : (ds : List (ℕ × Directive)) → AllByRecursion (λ (d : ℕ × Directive). Unit {0}) ds
 every_line [] = tt
 every_line (d ∷ ds) = (tt, every_line ds)
@@ -107,7 +107,7 @@ cons_option-append : {X : Type 0} (o : Option X) (xs : List X) → cons_option o
 cons_option-append None xs = refl
 cons_option-append (Some x) xs = refl
 
--- a list to which each step adds what its line says has all that the lines say
+-- a list to which each step adds what its line says gets all that the lines say
 pub table_after-grows : {X : Type 0} (field : Table → List X) (said : ℕ × Directive → Option X)
     → ((t : Table) (d : ℕ × Directive) (u : Table) → declared t d.0 d.1 ≡ Ok u → field u ≡ field t ++ cons_option (said d) [])
     → (t : Table) (ds : List (ℕ × Directive)) (w : Table) → table_after t ds ≡ Ok w → field w ≡ field t ++ filter_map said ds
@@ -165,7 +165,7 @@ pub table_after-append : (t : Table) (xs ys : List (ℕ × Directive)) → table
 table_after-append t [] ys = refl
 table_after-append t (d ∷ xs) ys = and_then-assoc (declared t d.0 d.1) xs ys (λ (u : Table). table_after-append u xs ys)
 
--- e is the fault of the lowest line that has one: from t on the directives before it make a table, and its own can't be added
+-- e is the fault of the first line that has one: from t on, the directives before it make a table, and its own can't be added
 pub record IsFirstFault (t : Table) (ds : List (ℕ × Directive)) (e : ItemError) : Type 0 where
   pub before : List (ℕ × Directive)
   pub line : ℕ

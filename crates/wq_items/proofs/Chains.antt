@@ -1,4 +1,4 @@
--- Laws of chains by any relation.
+-- Laws of chains for any relation.
 use Rattle.std.proofs.Common.{◌≡◌, ℕ, zero, suc, ◌+◌, ◌-◌, ◌<◌, ◌≤◌, inl, inr, List, [], ◌∷◌, length, refl, arith}
 use Rattle.std.proofs.lemmas.Bool.{cases_lt}
 use Rattle.wq_items.specs.Chain.{IsChain, BeginsChain, IsRank}
@@ -8,18 +8,18 @@ module _ (R : ℕ → ℕ → Type 0) where
   IsChain-tail v [] chain = tt
   IsChain-tail v (w ∷ ws) chain = chain.1
 
-  -- a vertex alone is a chain
+  -- a single vertex is a chain
   pub BeginsChain-one : (v : ℕ) → BeginsChain R v 1
   BeginsChain-one v = ([], tt, refl)
 
   pub BeginsChain-at : (v m n : ℕ) → m ≡ n → BeginsChain R v m → BeginsChain R v n
   BeginsChain-at v m n same begins = (begins.0, begins.1, omega (arith, begins.2))
 
-  -- one vertex more at the front
+  -- one more vertex at the beginning
   pub BeginsChain-more : (v w n : ℕ) → R v w → BeginsChain R w n → BeginsChain R v (n + 1)
   BeginsChain-more v w n waits begins = (w ∷ begins.0, (waits, begins.1), omega (arith, begins.2))
 
-  -- the front of a chain
+  -- a prefix of a chain
   front : (v m : ℕ) (others : List ℕ) → IsChain R (v ∷ others) → m ≤ length others → BeginsChain R v (m + 1)
   front v zero others chain le = ([], tt, omega arith)
   front v (suc m) [] chain le = absurd (omega arith)

@@ -233,7 +233,7 @@ module _ (before : List (ℕ × Directive)) (t : Table) (makes : table_of before
   IsFaultOfLine-declared (n, Flush name targets) e is = flush_fault n name targets e is
   IsFaultOfLine-declared (n, Ordered names) e is = order_fault n names e is
 
-  -- behind faultless lines, such a line is refused
+  -- after faultless lines, such a line is refused
   declared-from_fault : IsFaultless before → (d : ℕ × Directive) (e : ItemError) → IsFaultOfLine before d e → declared t d.0 d.1 ≡ Err e
   unfolding words_bytes Found
   declared-from_fault h (n, Item name) (ItemTwice m) p =

@@ -120,7 +120,7 @@ flushes_of-other name other place (w ∷ ws) differ =
     ap (λ (b : Bool). cons_option (cond b (Some (w.bytes, place)) None) (flushes_of name (enumerate_from (place + 1) (map (λ (w : WordView). (other, w.bytes)) ws)))) apart
     ∙ flushes_of-other name other (place + 1) ws differ
 
--- what the line of step d adds: to the targets of item i those flushes of the line that are of its name
+-- what the line of step d adds to the targets of item i: those flushes of the line that are of its name
 record Adds (names : List (List ℕ)) (t : Table) (d : ℕ × Directive) (u : Table) (i : ℕ) : Type 0 where
   targets : targets_in names (targets_of u.waits i) ≡ targets_in names (targets_of t.waits i) ++ flushes_of (get_or names i []) (enumerate_from (flush_count t.waits) (line_flushes d))
 
@@ -183,7 +183,7 @@ module _ (names rest : List (List ℕ)) (t : Table) (even : IsEven t) (front : n
 
 -- ---- all lines
 
--- what lines add from t on: to the targets of item i those of their flushes that are of its name
+-- what lines add from t on to the targets of item i: those of their flushes that are of its name
 record AddsAll (names : List (List ℕ)) (t : Table) (ds : List (ℕ × Directive)) (w : Table) (i : ℕ) : Type 0 where
   targets : targets_in names (targets_of w.waits i) ≡ targets_in names (targets_of t.waits i) ++ flushes_of (get_or names i []) (enumerate_from (flush_count t.waits) (flushes ds))
 

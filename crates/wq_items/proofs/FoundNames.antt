@@ -1,4 +1,4 @@
--- Where a name stands among names.
+-- Where a name is among names.
 use Rattle.std.proofs.Common.{◌≡◌, ℕ, suc, ◌+◌, Bool, true, false, not, cond, ltb, List, [], ◌∷◌, length, map, Option, Some, None, is_some, refl, sym, ap, ◌∙◌, arith, one-add, inl, inr}
 use Rattle.std.specs.Prelude.{position, bytes_eq}
 use Rattle.std.specs.List.{list_any, prefix_len, position_or_len}
@@ -33,7 +33,7 @@ list_any-step : {X : Type 0} (p : X → Bool) (x : X) (xs : List X) (b : Bool) �
 list_any-step p x xs true e rest = rw e (sym (lt-ltb 0 (suc (length xs)) (omega arith)))
 list_any-step p x xs false e rest = rw (e, one-add) (rest ∙ sym (ltb-suc (position_or_len p xs) (length xs)))
 
--- an element passes where there is a first one that does
+-- an element passes if there is a first one that does
 list_any-is : {X : Type 0} (p : X → Bool) (xs : List X) → list_any p xs ≡ ltb (position_or_len p xs) (length xs)
 list_any-is p [] = refl
 list_any-is p (x ∷ xs) = list_any-step p x xs (p x) refl (list_any-is p xs)
@@ -46,7 +46,7 @@ is_there : {X : Type 0} (b : Bool) (x : X) → b ≡ is_some (cond b (Some x) No
 is_there true x = refl
 is_there false x = refl
 
--- a key with this name is there where an item has it
+-- a key with this name is there if an item has it
 pub found_key : {X : Type 0} (f : X → List ℕ) (keys : List X) (names : List (List ℕ)) (name : List ℕ) → map f keys ≡ names
     → list_any (λ (x : X). bytes_eq name (f x)) keys ≡ is_some (item_named names name)
 found_key {X} f keys names name same =

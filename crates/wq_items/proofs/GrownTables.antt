@@ -20,7 +20,7 @@ IsTable-item_added t name names spans waits sound new room named n s w =
       sym (flush_count-with_item t name) ∙ ap flush_count (sym w),
     )
 
--- the items that the words of a line name, where all are known, and the place behind them
+-- the items that the words of a line name, if all are known, and the place after them
 pub known_next : (o : Option (List ℕ)) (first next : ℕ) → option_map (λ (items : List ℕ). first + length items) o ≡ Some next → (items : List ℕ) × (o ≡ Some items) × (first + length items ≡ next)
 known_next None first next e = absurd cc
 known_next (Some items) first next e = (items, refl, cc)

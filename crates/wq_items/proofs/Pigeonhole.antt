@@ -12,7 +12,7 @@ abbrev pub IsIn : ℕ → List ℕ → Type 0
 IsIn x [] = ⊥
 IsIn x (y ∷ ys) = (y ≡ x) ⊎ IsIn x ys
 
--- some element stands again further on
+-- some element is there again further on
 abbrev pub HasAgain : List ℕ → Type 0
 HasAgain [] = ⊥
 HasAgain (x ∷ xs) = IsIn x xs ⊎ HasAgain xs
@@ -61,7 +61,7 @@ has_again (suc n) (x ∷ xs) below long = elim (cases_IsIn x xs) [
   | inr none ↦ inr (HasAgain-close_gap x xs none (has_again n (map (close_gap x) xs) (close_gap-all x n xs below.0 below.1 none) (rw length-map (omega arith))))
 ]
 
--- where an element stands
+-- where an element is
 place_of : (x : ℕ) (ys : List ℕ) → IsIn x ys → (k : ℕ) × (k < length ys) × (x ≡ get_or ys k 0)
 place_of x [] found = absurd found
 place_of x (y ∷ ys) (inl same) = (0, omega arith, cc)
@@ -72,6 +72,6 @@ Repeats-from_again [] again = absurd again
 Repeats-from_again (x ∷ xs) (inl found) = let at = place_of x xs found in (0, suc at.0, omega arith, omega arith, at.2)
 Repeats-from_again (x ∷ xs) (inr later) = let at = Repeats-from_again xs later in (suc at.0, suc at.1, omega arith, omega arith, at.4)
 
--- two places hold one number where there are more places than numbers
+-- two places hold the same number if there are more places than numbers
 pub repeats_from_length : (n : ℕ) (xs : List ℕ) → All (λ x. x < n) xs → n < length xs → Repeats xs
 repeats_from_length n xs below long = Repeats-from_again xs (has_again n xs (recursion_from_All (λ x. x < n) xs below) long)

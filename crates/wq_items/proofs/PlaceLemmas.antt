@@ -1,4 +1,4 @@
--- Places of targets: they rise where new ones come behind old ones.
+-- Places of targets: they rise if new ones come after old ones.
 use Rattle.std.proofs.Common.{◌≡◌, ℕ, zero, suc, ◌+◌, ◌-◌, ◌<◌, ◌≤◌, inl, inr, List, [], ◌∷◌, ◌++◌, length, map, get_or, set, refl, subst, arith}
 use Rattle.std.specs.Prelude.{IsPermutation}
 use Rattle.std.specs.List.{All, range_with_len, flat_map}
@@ -47,13 +47,13 @@ All-flat_map P f (y ∷ ys) zero x lt each = λ k d fits. subst P (get_or_append
 All-flat_map P f (y ∷ ys) (suc i) x lt each =
     All-flat_map P f ys i x (omega arith) (λ k d fits. subst P (get_or-append-add (f y) (flat_map f ys) k d) (each (length (f y) + k) d (omega (arith, fits, length-append (f y) (flat_map f ys)))))
 
--- where the places are the numbers below n, so are those of each item
+-- if the places are the numbers below n, so are those of each item
 pub places-below : (n : ℕ) (waits : List (List Target)) (i : ℕ) → i < length waits → IsPermutation (range_with_len 0 n) (places waits) → All (λ p. p < n) (map (λ (t : Target). t.place) (targets_of waits i))
 places-below n waits i lt numbered =
     All-flat_map (λ p. p < n) (λ (targets : List Target). map (λ (t : Target). t.place) targets) waits i [] lt
     (All-permutation (λ p. p < n) (range_with_len 0 n) (places waits) numbered (range_with_len-below n))
 
--- targets at the places from n on come behind those of an item
+-- targets at the places from n on come after those of an item
 pub PlacesRise-set : (n : ℕ) (waits : List (List Target)) (i len : ℕ) (more : List Target) → i < length waits → IsPermutation (range_with_len 0 n) (places waits) → map (λ (t : Target). t.place) more ≡ range_with_len n len
     → All PlacesRise waits → All PlacesRise (set waits i (targets_of waits i ++ more))
 PlacesRise-set n waits i len more lt numbered added rise =

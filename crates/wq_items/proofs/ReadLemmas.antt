@@ -1,4 +1,4 @@
--- Going over the directives of a declaration: what those so far have made.
+-- Going through the directives of a declaration: what those so far have made.
 use Rattle.std.proofs.Common.{◌≡◌, ℕ, ◌<◌, inl, List, [], ◌∷◌, ◌++◌, length, Option, Some, None, Result, Ok, Err, refl, sym, ap, subst, ◌∙◌, arith, append_assoc, append-nil}
 use Rattle.std.specs.Prelude.{IsOk, IsSome}
 use Rattle.std.specs.List.{filter_map, cons_option}
@@ -64,7 +64,7 @@ first_item (d ∷ ds) some = by (item_name d) refl some (λ (later : 0 < length 
         let f = rest some in
         record { before = d ∷ f.before; line = f.line; after = f.after; parts = ap (λ (l : List (ℕ × Directive)). d ∷ l) f.parts; item = f.item }
 
--- where the lines make a table with an item, memory can run out
+-- if the lines make a table with an item, memory can run out
 pub RanOut-table_of : (ds : List (ℕ × Directive)) (t : Table) → table_of ds ≡ Ok t → 0 < length t.names → RanOut ds
 RanOut-table_of ds t made some =
     let f = first_item ds (subst (λ (names : List (List ℕ)). 0 < length names) (names-table_of ds t made) some) in
@@ -80,6 +80,6 @@ RanOut-table_of ds t made some =
       grows = inl f.item;
     }
 
--- so it can where the lines so far are all of them
+-- so it can if the lines so far are all of them
 pub Made-out_at_end : (t : Table) (left ds : List (ℕ × Directive)) → left ≡ [] → 0 < length t.names → Made t left ds → RanOut ds
 Made-out_at_end t left ds none some m = RanOut-table_of ds t (ap table_of (m.parts ∙ ap (λ (l : List (ℕ × Directive)). m.before ++ l) none ∙ append-nil m.before) ∙ m.makes) some

@@ -22,7 +22,7 @@ module _ (text : List ℕ) where
   abbrev slice_at : Span → List ℕ
   slice_at span = slice_range text span.start span.end
 
-  -- the words of a directive stand in the text where they say
+  -- the words of a directive are in the text where they say
   abbrev Stands : ℕ × Directive → Type 0
   Stands d = All (WordStands text) (directive_words d.1)
 

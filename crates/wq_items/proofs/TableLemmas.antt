@@ -65,7 +65,7 @@ places-targets_from place (item ∷ items) = ap (λ (l : List ℕ). place ∷ l)
 pub places-push_nil : (waits : List (List Target)) → places (waits ++ ([] ∷ [])) ≡ places waits
 places-push_nil waits = flat_map-append (λ (targets : List Target). map (λ (t : Target). t.place) targets) waits ([] ∷ []) ∙ append-nil (places waits)
 
--- the places of more targets of item i come to the others
+-- the places of more targets of item i are added to the others
 pub places-set : (waits : List (List Target)) (i : ℕ) (more : List Target) → i < length waits
     → IsPermutation (places waits ++ map (λ (t : Target). t.place) more) (places (set waits i (get_or waits i [] ++ more)))
 places-set [] i more lt = absurd (omega arith)
@@ -104,7 +104,7 @@ TargetsBelow-targets_from n place (item ∷ items) h =
 targets_of-below : (n : ℕ) (waits : List (List Target)) (i : ℕ) → i < length waits → All (TargetsBelow n) waits → TargetsBelow n (targets_of waits i)
 targets_of-below n waits i lt h = All-get_or (TargetsBelow n) waits i [] lt h
 
--- ---- what holds of every table
+-- ---- what holds for every table
 
 pub IsTable-empty : IsTable empty_table
 IsTable-empty = record {

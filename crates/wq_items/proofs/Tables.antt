@@ -1,4 +1,4 @@
--- Laws of tables: what an item waits for is an item, and its targets stand in order of place.
+-- Laws of tables: what an item waits for is an item, and its targets are in order of place.
 use Rattle.std.proofs.Common.{◌≡◌, ℕ, ◌<◌, ◌≤◌, inl, inr, List, [], length, map, get_or, ap, subst, ◌∙◌, arith}
 use Rattle.std.specs.Prelude.{Option, Some, option_map, slice_get, slice_index}
 use Rattle.std.specs.List.{All}
@@ -10,7 +10,7 @@ use Rattle.std.proofs.lemmas.Option.{slice_get-map, slice_get-get_or}
 use Rattle.wq_items.specs.declared.target.Target.{Target}
 use Rattle.wq_items.specs.Table.{ItemWaits, VertexWaits, TargetsBelow, PlacesRise, targets_of}
 
--- the targets of any number, also past the last item
+-- the targets of any number, even past the last item
 pub targets_of-below : (n : ℕ) (waits : List (List Target)) (i : ℕ) → All (TargetsBelow n) waits → TargetsBelow n (targets_of waits i)
 targets_of-below n waits i each = elim (cases_lt i (length waits)) [
   | inl item ↦ each i [] item
@@ -40,7 +40,7 @@ VertexWaits-items waits vertex_of i j item target declared = record {
   of_target = slice_get-get_or vertex_of j 0 target;
 }
 
--- so it is where other numbers stand for the vertices
+-- the same if other numbers stand for the vertices
 pub VertexWaits-map : (waits : List (List Target)) (vertex_of : List ℕ) (f : ℕ → ℕ) (v w : ℕ) → VertexWaits waits vertex_of v w → VertexWaits waits (map f vertex_of) (f v) (f w)
 VertexWaits-map waits vertex_of f v w waiting = record {
   item = waiting.item;
@@ -53,14 +53,14 @@ VertexWaits-map waits vertex_of f v w waiting = record {
     mapped : (k x : ℕ) → slice_get vertex_of k ≡ Some x → slice_get (map f vertex_of) k ≡ Some (f x)
     mapped k x at = slice_get-map f vertex_of k ∙ ap (λ (o : Option ℕ). option_map f o) at
 
--- also past the last item
+-- even past the last item
 pub targets_of-rise : (waits : List (List Target)) (i : ℕ) → All PlacesRise waits → PlacesRise (targets_of waits i)
 targets_of-rise waits i each = elim (cases_lt i (length waits)) [
   | inl item ↦ each i [] item
   | inr past ↦ rw (get_or_past waits i [] past) (λ k none. absurd (omega arith))
 ]
 
--- a target that stands no later has no greater place
+-- a target that comes no later has no greater place
 pub PlacesRise-places : (targets : List Target) (i j : ℕ) (d e : Target) → PlacesRise targets → i ≤ j → j < length targets → (get_or targets i d).place ≤ (get_or targets j e).place
 PlacesRise-places targets i j d e rise le lt =
     let place_of : Target → ℕ = λ (t : Target). t.place in

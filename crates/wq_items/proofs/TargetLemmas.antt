@@ -1,4 +1,4 @@
--- Going over the words of a `flush` or an `ordered` line: how many were known, and what the targets of a flush added.
+-- Going through the words of a `flush` or an `ordered` line: how many were known, and what the targets of a flush added.
 use Rattle.std.proofs.Common.{◌≡◌, ℕ, zero, suc, ◌+◌, ◌<◌, List, [], ◌∷◌, ◌++◌, length, set, Option, Some, None, refl, sym, ap, ◌∙◌, arith, append_assoc}
 use Rattle.std.specs.Prelude.{option_map}
 use Rattle.std.proofs.lemmas.List.{get_or-set_same, length-append}
@@ -16,7 +16,7 @@ pub record Counted (names : List (List ℕ)) (count : ℕ) (rest words : List Wo
 
 -- ---- adding
 
--- the items in front were added to those of one item, and `rest` of all the words are left
+-- `rest` of all the words are left, and the items of those before it were added to those of one item
 pub record Added (names : List (List ℕ)) (old new : List (List Target)) (item first place : ℕ) (rest words : List WordView) : Type 0 where
   pub front : List ℕ
   pub known : option_map (λ (is : List ℕ). front ++ is) (items_named names rest) ≡ items_named names words

@@ -14,7 +14,7 @@ use Rattle.wq_items.specs.declared.flush.Flush.{Flush}
 use Rattle.wq_items.specs.Table.{targets_of, flush_count}
 use Rattle.wq_items.specs.Waits.{targets_among, waits_of}
 
--- what holds in any case holds of an error
+-- what holds in any case holds for an error
 pub OnErr-always : {T E : Type 0} (r : Result T E) (P : Type 0) → P → OnErr r P
 OnErr-always (Ok x) P p = tt
 OnErr-always (Err e) P p = p
@@ -25,7 +25,7 @@ length-waits_of flushes items = length-map-range_with_len (targets_among flushes
 targets-at : (flushes : List Flush) (items i : ℕ) → i < items → targets_of (waits_of flushes items) i ≡ targets_among flushes i
 targets-at flushes items i lt = get_or-map-range_with_len (targets_among flushes) 0 items i i [] lt (omega arith)
 
--- ---- one item more
+-- ---- one more item
 
 targets_among-none : (flushes : List Flush) (i : ℕ) → All (λ (f : Flush). f.item < i) flushes → targets_among flushes i ≡ []
 targets_among-none [] i below = refl
@@ -46,7 +46,7 @@ below-more flushes items below = All-weaker (λ (f : Flush). f.item < items) (λ
 pub count-more : (waits : List (List Target)) → flush_count (waits ++ ([] ∷ [])) ≡ flush_count waits
 count-more waits = omega (arith, sum_by_push {X = List Target} length waits [])
 
--- ---- one flush more
+-- ---- one more flush
 
 module _ (flushes : List Flush) (flush : Flush) where
   among : (i : ℕ) (b : Bool) → (flush.item == i) ≡ b → targets_among (flushes ++ (flush ∷ [])) i ≡ targets_among flushes i ++ map (λ (f : Flush). f.target) (cond b (flush ∷ []) [])
@@ -91,7 +91,7 @@ count-push waits i target lt =
       length_push {X = Target} (targets_of waits i) target,
     )
 
--- what holds of flushes, after one of item i was added
+-- what holds for flushes after one of item i was added
 module _ (flushes new : List Flush) (items i number : ℕ) (target : Target) (waits : List (List Target)) (shown : waits_of flushes items ≡ waits) (inside : i < length waits) (same : number ≡ i)
     (added : new ≡ flushes ++ (record { item = number; target = target } ∷ [])) where
   abbrev flush : Flush

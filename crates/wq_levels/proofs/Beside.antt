@@ -15,7 +15,7 @@ use Rattle.wq_graph.specs.Graph.{IsGraph, arcs_at}
 use Rattle.wq_levels.specs.Taking.{AreTails, arcs_to, heads_of, tails_of, tails_by_head, times}
 use Rattle.wq_levels.proofs.Times.{times-cons, arcs_to-cons}
 
--- how often w is in the one where v is at the same place in the other
+-- how often w is in the first list with v at the same place in the second
 abbrev pub beside : List ℕ → List ℕ → ℕ → ℕ → ℕ
 beside [] ts w v = 0
 beside (h ∷ hs) [] w v = 0
@@ -30,7 +30,7 @@ beside-append (h ∷ hs) (t ∷ ts) more mts w v same = omega (arith, beside-app
 abbrev heads : List WaitArc → List ℕ
 heads arcs = map (λ (a : WaitArc). a.head) arcs
 
--- beside one number alone
+-- beside only one number
 beside-one : (arcs : List WaitArc) (u w v : ℕ) → beside (heads arcs) (replicate (length arcs) u) w v ≡ cond (u == v) (arcs_to arcs w) 0
 beside-one [] u w v = go (u == v)
   where
@@ -133,7 +133,7 @@ module _ (graph : List (List WaitArc)) where
             ((λ lt. (let own = so_far.0 (omega (arith, lt, other)) in omega (arith, more, here, own))), (λ le. (let none = so_far.1 (omega (arith, le)) in omega (arith, more, here, none))))
       ]
 
--- all arcs: those of each vertex, one vertex after the other
+-- all arcs: those of each vertex, one vertex after another
 heads_of-from : (graph whole : List (List WaitArc)) (a : ℕ) → ((k : ℕ) → k < length graph → arcs_at whole (a + k) ≡ arcs_at graph k)
     → heads_of graph ≡ flat_map (λ v. heads (arcs_at whole v)) (range_with_len a (length graph))
 heads_of-from [] whole a same = refl

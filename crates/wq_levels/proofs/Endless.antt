@@ -1,4 +1,4 @@
--- Chains that get as long as one likes, by any relation.
+-- Chains of any length, for any relation.
 use Rattle.std.proofs.Common.{◌≡◌, ℕ, zero, suc, ◌+◌, ◌<◌, inl, inr, List, [], ◌∷◌, length, sym, subst, arith}
 use Rattle.wq_items.specs.Chain.{IsChain, BeginsChain}
 use Rattle.wq_items.proofs.Chains.{BeginsChain-one, BeginsChain-at, BeginsChain-more, BeginsChain-less}
@@ -10,7 +10,7 @@ abbrev pub IsEndless : (ℕ → ℕ → Type 0) → ℕ → Type 0
 IsEndless R v = (m : ℕ) → BeginsChain R v (m + 1)
 
 module _ (R : ℕ → ℕ → Type 0) where
-  -- a chain goes on from v to where x stands, and from there as a chain from x
+  -- a chain goes from v to x, and from there on as a chain from x
   reaches : (x m v : ℕ) (vs : List ℕ) → IsChain R (v ∷ vs) → IsIn x vs → BeginsChain R x (m + 1) → BeginsChain R v (m + 2)
   reaches x m v [] chain found begins = absurd found
   reaches x m v (w ∷ ws) chain (inl same) begins = BeginsChain-at R v (m + 1 + 1) (m + 2) (omega arith) (BeginsChain-more R v w (m + 1) chain.0 (subst (λ u. BeginsChain R u (m + 1)) (sym same) begins))
@@ -24,7 +24,7 @@ module _ (R : ℕ → ℕ → Type 0) where
   pub IsEndless-before : (v w : ℕ) → R v w → IsEndless R w → IsEndless R v
   IsEndless-before v w waits endless m = BeginsChain-less R v (m + 1) (m + 1 + 1) (omega arith) (omega arith) (BeginsChain-more R v w (m + 1) waits (endless m))
 
-  -- where each vertex with P waits for one with P, these are endless
+  -- if each vertex with P waits for one with P, these are endless
   pub IsEndless-held : (P : ℕ → Type 0) → ((v : ℕ) → P v → (w : ℕ) × R v w × P w) → (v : ℕ) → P v → IsEndless R v
   IsEndless-held P next v held zero = BeginsChain-at R v 1 (zero + 1) (omega arith) (BeginsChain-one R v)
   IsEndless-held P next v held (suc m) =
@@ -49,7 +49,7 @@ module _ (R : ℕ → ℕ → Type 0) where
   next_endless n v (w ∷ ws) targets below chain size =
       (w, chain.0, endless_second v w ws chain (has_again n (v ∷ w ∷ ws) (each_below R n v (w ∷ ws) targets below chain) (omega arith)))
 
-  -- from a vertex below n at which a chain of n + 1 vertices begins the way goes on to an endless one, where all that is
+  -- if a chain of n + 1 vertices begins at a vertex below n, this vertex waits for an endless one, provided that all that is
   -- waited for is below n
   pub IsEndless-next : (n v : ℕ) → ((a b : ℕ) → R a b → b < n) → v < n → BeginsChain R v (n + 1) → (w : ℕ) × R v w × IsEndless R w
   IsEndless-next n v targets below begins = next_endless n v begins.0 targets below begins.1 begins.2

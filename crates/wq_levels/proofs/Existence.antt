@@ -1,4 +1,4 @@
--- Each graph has ranks or a circle of the walk: how long a chain begins at a vertex can be tried out, along its arcs.
+-- Each graph has ranks or a circle of the walk: how long the chains from a vertex are can be tried out, along its arcs.
 use Rattle.std.proofs.Common.{◌≡◌, ℕ, zero, suc, ◌+◌, ◌<◌, ◌≤◌, ◌⊎◌, inl, inr, List, [], ◌∷◌, ◌++◌, length, get_or, slice_index, Contains, refl, sym, subst, arith}
 use Rattle.std.specs.List.{All, Any}
 use Rattle.std.proofs.lemmas.Bool.{cases_lt}
@@ -18,7 +18,7 @@ use Rattle.wq_levels.proofs.WaysOn.{IsWayOn-first, Remains-next}
 use Rattle.wq_levels.proofs.Walks.{length-vertices_walked}
 use Rattle.wq_levels.proofs.UnderWay.{cases_new, IsUnderWay, IsUnderWay-start, IsUnderWay-remains, IsUnderWay-more, IsUnderWay-few, IsWalkedCircle-drop}
 
--- whether P holds of an element, where it is decided of each
+-- whether P holds for some element, if it is decided for each
 Any-decided : {X : Type 0} (P : X → Type 0) → ((x : X) → Decided (P x)) → (xs : List X) → Decided (Any P xs)
 Any-decided {X = X} P each [] = inr (λ found. absurd (omega (arith, found.2)))
 Any-decided {X = X} P each (x ∷ xs) = elim (each x) [
@@ -34,7 +34,7 @@ Any-decided {X = X} P each (x ∷ xs) = elim (each x) [
     no_place (suc k) y fits at holds none no_later = no_later (k, y, omega arith, at, holds)
 
 module _ (graph : List (List WaitArc)) where
-  -- a longer chain begins at a vertex where a chain begins at the head of one of its arcs
+  -- a longer chain begins at a vertex if a chain begins at the head of one of its arcs
   longer_from_arc : (v n : ℕ) → Any (λ (a : WaitArc). BeginsChain (HasArc graph) a.head (n + 1)) (arcs_at graph v) → BeginsChain (HasArc graph) v (n + 2)
   longer_from_arc v n found =
       BeginsChain-at (HasArc graph) v (n + 1 + 1) (n + 2) (omega arith)

@@ -60,7 +60,7 @@ module _ {X : Type 0} (P : X → Type 0) where
   any_later zero x y ys fits at holds none = absurd (none (subst P (sym at) holds))
   any_later (suc k) x y ys fits at holds none = (k, x, omega arith, at, holds)
 
-  -- where an element has P, the first that has it is found
+  -- if an element has P, the first that has it is found
   pub IsFirst-find : (test : X → Bool) → Tells P test → (xs : List X) → Any P xs → (x : X) × (find test xs ≡ Some x) × IsFirst P xs x
   IsFirst-find test tells [] found = absurd (omega (arith, found.2))
   IsFirst-find test tells (y ∷ ys) found = elim (cases_Bool (test y)) [
@@ -71,7 +71,7 @@ module _ {X : Type 0} (P : X → Type 0) where
         (later.0, rw fails later.1, first_later y ys later.0 none later.2)
   ]
 
--- the least number that has P, where it is decided of each
+-- the least number that has P, if it is decided for each
 module _ (P : ℕ → Type 0) (each : (v : ℕ) → Decided (P v)) where
   none_or_least : (n : ℕ) → ((v : ℕ) → v < n → ¬ P v) ⊎ ((v : ℕ) × P v × ((w : ℕ) → w < v → ¬ P w))
   none_or_least zero = inl (λ v below. absurd (omega arith))
@@ -92,7 +92,7 @@ module _ (P : ℕ → Type 0) (each : (v : ℕ) → Decided (P v)) where
     | inr found ↦ found
   ]
 
--- where an element passes, the place of the first that does is found
+-- if an element passes, the place of the first that does is found
 prefix_len-fails : {X : Type 0} (test : X → Bool) (xs : List X) (k : ℕ) (d : X) → k < length xs → test (get_or xs k d) ≡ true → prefix_len (λ x. not (test x)) xs < length xs
 prefix_len-fails test [] k d fits passes = absurd (omega arith)
 prefix_len-fails test (y ∷ ys) zero d fits passes = rw passes (omega arith)
@@ -105,7 +105,7 @@ pub position-is : {X : Type 0} (test : X → Bool) (xs : List X) (k : ℕ) (d : 
 position-is test xs k d fits passes =
     (prefix_len (λ x. not (test x)) xs, rw (lt-ltb (prefix_len (λ x. not (test x)) xs) (length xs) (prefix_len-fails test xs k d fits passes)) refl)
 
--- what is copied of a value is there where the value is
+-- a copy of a value is there if the value is
 pub IsSome-copied : {T : Type 0} (o : Option (Bor T)) (x : T) → option_copied o ≡ Some x → IsSome o
 IsSome-copied None x copied = cc
 IsSome-copied (Some y) x copied = refl

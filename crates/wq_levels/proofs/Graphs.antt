@@ -1,4 +1,4 @@
--- Laws of wait graphs: where arcs lead, and in which order they stand.
+-- Laws of wait graphs: where arcs lead, and in which order they are.
 use Rattle.std.proofs.Common.{ℕ, ◌<◌, inl, inr, List, [], length, map, subst, arith}
 use Rattle.std.specs.List.{All}
 use Rattle.std.specs.List.Sorted.{IsStrictlyIncreasing}
@@ -12,7 +12,7 @@ use Rattle.wq_graph.specs.Graph.{IsGraph, HasArc, arcs_at}
 abbrev pub HeadsBelow : ℕ → List WaitArc → Type 0
 HeadsBelow n arcs = All (λ (a : WaitArc). a.head < n) arcs
 
--- each arc stands further on than the one before it
+-- each arc has a greater place than the one before it
 abbrev pub ArcsRise : List WaitArc → Type 0
 ArcsRise arcs = IsStrictlyIncreasing (map (λ (a : WaitArc). a.place) arcs)
 

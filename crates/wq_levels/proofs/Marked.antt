@@ -1,4 +1,4 @@
--- The vertices that were not taken off, marked by a rank as high as there are vertices.
+-- The vertices that were not removed, marked with the number of vertices as their rank.
 use Rattle.std.proofs.Common.{◌≡◌, ℕ, ◌+◌, ◌<◌, ◌≤◌, ◌⊎◌, inl, inr, List, length, slice_index, ◌∙◌, arith}
 use Rattle.std.specs.List.{Any}
 use Rattle.std.proofs.lemmas.Bool.{cases_lt}
@@ -13,7 +13,7 @@ use Rattle.wq_levels.specs.Taking.{AreTakenOff, AreMarked}
 use Rattle.wq_levels.proofs.Graphs.{HasArc-below}
 use Rattle.wq_levels.proofs.Endless.{IsEndless-before, IsEndless-next}
 
--- the first i vertices are marked, where an arc of them remains
+-- those of the first i vertices are marked of which an arc remains
 pub record IsMarking (remaining : List ℕ) (mark : ℕ) (old now : List ℕ) (i : ℕ) : Type 0 where
   pub one_each : length now ≡ length old
   pub marked : (v : ℕ) → v < i → v < length remaining → 0 < slice_index remaining v → slice_index now v ≡ mark
@@ -22,7 +22,7 @@ pub record IsMarking (remaining : List ℕ) (mark : ℕ) (old now : List ℕ) (i
 -- ---- ranks or marks
 
 module _ (graph : List (List WaitArc)) (remaining ranks : List ℕ) (taken : AreTakenOff graph remaining ranks) where
-  -- all are taken off
+  -- all are removed
   pub AreRanks-taken_off : ¬ Any (λ (r : ℕ). 0 < r) remaining → AreRanks graph ranks
   AreRanks-taken_off none = record { one_each = taken.one_rank_each; longest = λ v vertex. taken.ranked v vertex (all v vertex) } where
     all : (v : ℕ) → v < length graph → slice_index remaining v ≡ 0

@@ -26,7 +26,7 @@ IsLeastRemaining-unique graph v w one other = elim (cases_order v w) [
   ]
 ]
 
--- a walk that leads in to a circle from this vertex
+-- a walk that leads from this vertex to a circle
 record LeadsIn (graph : List (List WaitArc)) (start : ℕ) (lead_in : List WaitArc) (entry : ℕ) (circle : List WaitArc) : Type 0 where
   leads_in : IsWalk graph start lead_in entry
   comes_back : IsWalk graph entry circle entry
@@ -92,7 +92,7 @@ module _ (graph : List (List WaitArc)) (sound : IsGraph graph) where
       (LeadsIn-walked graph one second.start first (IsLeastRemaining-unique graph first.start second.start first.least second.least))
       (LeadsIn-walked graph other second.start second refl)
 
-  -- where the walk comes to a circle there is one
+  -- if the walk comes to a circle, there is one
   pub HasCircle-walked : (circle : List WaitArc) → IsWalkedCircle graph circle → HasCircle (HasArc graph) (length graph)
   HasCircle-walked circle walked = circle_from_BeginsChain (HasArc graph) (length graph) walked.start (HasArc-below graph sound) walked.least.remains.0 walked.least.remains.1
 

@@ -22,7 +22,7 @@ module _ (graph : List (List WaitArc)) (ranks : List ℕ) (sound : IsGraph graph
   AreRanks-fall v w vertex arc =
       IsRank-falls (HasArc graph) v w (slice_index ranks v) (slice_index ranks w) arc (are.longest v vertex) (are.longest w (HasArc-below graph sound v w arc))
 
-  -- and has an arc to one of the next lower rank, if it is not of the lowest
+  -- and has an arc to one of the next lower rank, unless its own is the lowest
   pub AreRanks-next : (v r : ℕ) → v < length graph → slice_index ranks v ≡ r + 1 → Any (λ (a : WaitArc). slice_index ranks a.head ≡ r) (arcs_at graph v)
   AreRanks-next v r vertex above =
       let on = BeginsChain-next (HasArc graph) v r (BeginsChain-at (HasArc graph) v (slice_index ranks v + 1) (r + 2) (omega arith) (are.longest v vertex).0) in
@@ -33,7 +33,7 @@ module _ (graph : List (List WaitArc)) (ranks : List ℕ) (sound : IsGraph graph
       let same : slice_index ranks w ≡ r = omega arith in
       (arc.0, arc.1, arc.2, arc.3, subst (λ u. slice_index ranks u ≡ r) (sym arc.4) same)
 
-  -- no vertex ranks as high as there are vertices
+  -- each rank is below the number of vertices
   pub AreRanks-few : All (λ r. r < length graph) ranks
   AreRanks-few = All-from_get_or (λ r. r < length graph) ranks 0 (λ v fits.
       let vertex : v < length graph = omega (arith, are.one_each) in

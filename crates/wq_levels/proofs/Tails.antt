@@ -1,4 +1,4 @@
--- Arcs that lead round, where each arc itself tells which vertex it leaves.
+-- Arcs that lead round, if each arc itself tells which vertex it leaves.
 use Rattle.std.proofs.Common.{◌≡◌, ◌≢◌, ℕ, ◌+◌, ◌-◌, ◌<◌, List, length, map, get_or, slice_index, AllPairs, Some, ext_get_or, sym, ◌∙◌, subst, ap, arith}
 use Rattle.std.specs.Prelude.{slice_get}
 use Rattle.std.specs.List.{All, AllAdjacentBelow}

@@ -1,4 +1,4 @@
--- Vertices being taken off: what holds while the arcs to one of them go, and what holds when no more can be taken off.
+-- Vertices being removed: what holds while the arcs to one of them go, and what holds when no more can be removed.
 use Rattle.std.proofs.Common.{◌≡◌, ◌≢◌, ℕ, zero, suc, ◌+◌, ◌-◌, ◌<◌, ◌≤◌, ◌==◌, ◌⊎◌, inl, inr, max, List, [], ◌∷◌, ◌++◌, length, map, set, take, drop, replicate, slice_index, refl, sym, subst, ap, ◌∙◌, arith}
 use Rattle.std.specs.Prelude.{Contains, get_or}
 use Rattle.std.specs.List.{All}
@@ -68,14 +68,14 @@ with_arcs_gone-more rank p tail places i within =
     pushed q [] = refl
     pushed q (v ∷ vs) = pushed (with_arc_gone rank q v) vs
 
--- a number above 0 stands in the list
+-- a number above 0 is in the list
 pub some_inside : (xs : List ℕ) (i : ℕ) → 0 < slice_index xs i → i < length xs
 some_inside xs i some = elim (cases_lt i (length xs)) [
   | inl inside ↦ inside
   | inr past ↦ absurd (omega (arith, some, get_or_past xs i 0 past))
 ]
 
--- each of these vertices has as many arcs fewer as it is in the list
+-- each of these vertices loses one arc for each time that it is in the list
 pub remaining_after : (rank : ℕ) (vs : List ℕ) (p : Taking) → ((v : ℕ) → times vs v ≤ slice_index p.remaining v)
     → (v : ℕ) → slice_index (with_arcs_gone rank p vs).remaining v + times vs v ≡ slice_index p.remaining v
 remaining_after rank [] p enough v = omega arith
@@ -109,7 +109,7 @@ no_longer R v r below longer =
     let under = below on.0 on.1 in
     under.2 (BeginsChain-less R on.0 (under.0 + 2) (r + 1) (omega arith) (omega (arith, under.1)) on.2)
 
--- these vertices were taken off; of the arcs to w, which is one of them, those of `rest` haven't gone yet
+-- these vertices were removed; of the arcs to w, which is one of them, those of `rest` aren't gone yet
 pub record IsGoing (graph : List (List WaitArc)) (taken : List ℕ) (w : ℕ) (rest : List ℕ) (p : Taking) : Type 0 where
   pub remaining_each : length p.remaining ≡ length graph
   pub ranks_each : length p.ranks ≡ length graph
@@ -124,7 +124,7 @@ pub record IsGoing (graph : List (List WaitArc)) (taken : List ℕ) (w : ℕ) (r
   pub ended : (v : ℕ) → Contains p.order v → ¬ BeginsChain (HasArc graph) v (slice_index p.ranks v + 2)
 
 module _ (graph : List (List WaitArc)) (taken : List ℕ) (w : ℕ) (rest : List ℕ) (p : Taking) (going : IsGoing graph taken w rest p) where
-  -- what was taken off is in the order
+  -- what was removed is in the order
   taken_free : (u : ℕ) → Contains taken u → Contains p.order u
   taken_free u has =
       subst (λ (l : List ℕ). Contains l u) (take-append-drop (length taken) p.order)
@@ -136,7 +136,7 @@ module _ (graph : List (List WaitArc)) (taken : List ℕ) (w : ℕ) (rest : List
       (subst (λ (l : List ℕ). Repeats l) (take-append-drop (length taken) p.order)
       (Repeats-append_left (take (length taken) p.order) (drop (length taken) p.order) (subst (λ (l : List ℕ). Repeats l) (sym going.first) twice)))
 
-  -- as many arcs remain of each vertex as are to go
+  -- each vertex has at least as many arcs left as are still to go
   pub IsGoing-enough : (v : ℕ) → times rest v ≤ slice_index p.remaining v
   IsGoing-enough v = omega (arith, going.count v, gone-few taken (arcs_at graph v) taken_once)
 
@@ -186,7 +186,7 @@ module _ (graph : List (List WaitArc)) (taken : List ℕ) (w rank x : ℕ) (rest
   remaining_other : (v : ℕ) → v ≢ x → slice_index left v ≡ slice_index p.remaining v
   remaining_other v other = get_or-set_other p.remaining x v (slice_index p.remaining x - 1) 0 other
 
-  -- where an order fits, the rest holds whichever it is
+  -- if an order fits, the rest holds whichever it is
   with_order : (order : List ℕ) → AreFree (length graph) left order → take (length taken) order ≡ taken → length taken ≤ length order
       → ((v : ℕ) → Contains order v → ¬ BeginsChain (HasArc graph) v (slice_index raised v + 2))
       → IsGoing graph taken w rest (record { remaining = left; ranks = raised; order = order })
@@ -316,7 +316,7 @@ IsGoing-all graph taken w rank (x ∷ rest) p going own_rank below =
 
 -- ---- one vertex after another
 
--- the first vertices of the order were taken off, and their arcs have gone
+-- the first vertices of the order were removed, and the arcs to them are gone
 pub record IsTaking (graph : List (List WaitArc)) (place : ℕ) (p : Taking) : Type 0 where
   pub taken : List ℕ
   pub as_far : taken ≡ take place p.order
@@ -368,7 +368,7 @@ module _ (graph : List (List WaitArc)) (tails : List (List ℕ)) (p : Taking) (p
   IsTaking-low : slice_index p.ranks w ≤ place
   IsTaking-low = omega (arith, so_far.going.low w, taken_length)
 
-  -- the next is taken, and no arc to it has gone yet
+  -- the next is taken, and no arc to it is gone yet
   next : IsGoing graph (so_far.taken ++ (w ∷ [])) w (tails_at tails w) p
   next =
       let taken = so_far.taken in
@@ -427,7 +427,7 @@ module _ (graph : List (List WaitArc)) (tails : List (List ℕ)) (p : Taking) (p
         };
       }
 
--- all of the order was taken off already
+-- the whole order was removed already
 pub IsTaking-past : (graph : List (List WaitArc)) (p : Taking) (place : ℕ) → IsTaking graph place p → length p.order ≤ place → IsTaking graph (place + 1) p
 IsTaking-past graph p place so_far past = record {
   taken = so_far.taken;

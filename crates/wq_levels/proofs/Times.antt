@@ -130,7 +130,7 @@ pub gone-none : (arcs : List WaitArc) → gone [] arcs ≡ 0
 gone-none [] = refl
 gone-none (a ∷ arcs) = omega (arith, gone-cons [] a arcs, gone-none arcs)
 
--- one vertex more is taken
+-- one more vertex is taken
 pub gone-more : (taken : List ℕ) (w : ℕ) (arcs : List WaitArc) → gone (taken ++ (w ∷ [])) arcs ≡ gone taken arcs + arcs_to arcs w
 gone-more taken w [] = refl
 gone-more taken w (a ∷ arcs) =

@@ -10,7 +10,7 @@ use Rattle.wq_graph.specs.declared.arc.WaitArc.{WaitArc}
 use Rattle.wq_levels.specs.Walks.{Remains, IsLeastRemaining, IsWayOn, IsWalk, vertices_walked, IsWalkedCircle}
 use Rattle.wq_levels.proofs.Walks.{length-vertices_walked, vertices_walked-append, IsWalk-append, IsWalk-take, IsWalk-drop, IsWalk-remains, vertices_walked-below}
 
--- v is none of these
+-- v isn't one of these
 abbrev pub IsNew : List ℕ → ℕ → Type 0
 IsNew vs v = (k : ℕ) → k < length vs → get_or vs k 0 ≢ v
 
@@ -56,7 +56,7 @@ module _ (graph : List (List WaitArc)) (start : ℕ) where
     pub vertices_walked-push : (a : WaitArc) → vertices_walked start (walked ++ a ∷ []) ≡ vertices_walked start walked ++ at ∷ []
     vertices_walked-push a = vertices_walked-append graph start at walked (a ∷ []) so_far.walk
 
-    -- one arc more, from a vertex that was not left yet
+    -- one more arc, from a vertex that was not left yet
     pub IsUnderWay-more : (a : WaitArc) → IsNew (vertices_walked start walked) at → IsWayOn graph at a → IsUnderWay graph start (walked ++ a ∷ []) a.head
     IsUnderWay-more a new way = record {
       least = so_far.least;
@@ -70,14 +70,14 @@ module _ (graph : List (List WaitArc)) (start : ℕ) where
         let few = different_few (length graph) (vertices_walked start walked) (vertices_walked-below graph start at walked so_far.least.remains so_far.walk) so_far.once in
         omega (arith, few, length-vertices_walked start walked)
 
-    -- and fewer where there is a vertex that was not left yet
+    -- and fewer if there is a vertex that was not left yet
     pub IsUnderWay-room : IsNew (vertices_walked start walked) at → length walked < length graph
     IsUnderWay-room new =
         let vs = vertices_walked start walked in
         let below = All-push (λ (v : ℕ). v < length graph) vs at (vertices_walked-below graph start at walked so_far.least.remains so_far.walk) IsUnderWay-remains.0 in
         omega (arith, different_few (length graph) (vs ++ at ∷ []) below (different_push vs at so_far.once new), length_push vs at, length-vertices_walked start walked)
 
-    -- where the walk comes back to the vertex that the arc at k left, the arcs from there on are the circle
+    -- if the walk comes back to the vertex that the arc at k left, the arcs from there on are the circle
     pub IsWalkedCircle-drop : (k : ℕ) → k < length walked → get_or (vertices_walked start walked) k 0 ≡ at → IsWalkedCircle graph (drop k walked)
     IsWalkedCircle-drop k fits back = record {
       start = start;
@@ -92,7 +92,7 @@ module _ (graph : List (List WaitArc)) (start : ℕ) where
 
 -- ---- what is noted of each vertex
 
--- of each of n vertices: the number of the arc that left it, of these arcs, or that none did
+-- for each of n vertices: the number of the arc, among these, that left it, or that none did
 pub record TellsLeft (n : ℕ) (vs : List ℕ) (left : List (Option ℕ)) : Type 0 where
   pub one_each : length left ≡ n
   pub told : (v : ℕ) → v < n → MatchOption (get_or left v None) (IsNew vs v) (λ k. (k < length vs) × (get_or vs k 0 ≡ v))
@@ -105,7 +105,7 @@ told_more vs v u None other new = λ k fits same. elim (cases_lt k (length vs)) 
 ]
 told_more vs v u (Some k) other at = (omega (arith, at.0, length_push vs v), get_or_append_left vs (v ∷ []) 0 k at.0 ∙ at.1)
 
--- the vertex v was left by one arc more
+-- the vertex v was left by one more arc
 pub TellsLeft-set : (n : ℕ) (vs : List ℕ) (left : List (Option ℕ)) (v : ℕ) → v < n → TellsLeft n vs left → TellsLeft n (vs ++ v ∷ []) (set left v (Some (length vs)))
 TellsLeft-set n vs left v vertex tells = record {
   one_each = length-set left v (Some (length vs)) ∙ tells.one_each;
@@ -131,7 +131,7 @@ module _ (graph : List (List WaitArc)) (walked : List WaitArc) (left : List (Opt
   pub IsNoted-new : get_or left at None ≡ None → IsNew (vertices_walked noted.start walked) at
   IsNoted-new none = rw none at (noted.tells.told at IsNoted-remains.0)
 
-  -- one arc more, from a vertex that was not left yet
+  -- one more arc, from a vertex that was not left yet
   pub IsNoted-more : (a : WaitArc) → get_or left at None ≡ None → IsWayOn graph at a → IsNoted graph (walked ++ a ∷ []) (set left at (Some (length walked))) a.head
   IsNoted-more a none way =
       let vs = vertices_walked noted.start walked in

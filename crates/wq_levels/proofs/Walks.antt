@@ -12,7 +12,7 @@ pub length-vertices_walked : (v : ℕ) (arcs : List WaitArc) → length (vertice
 length-vertices_walked v [] = refl
 length-vertices_walked v (a ∷ arcs) = ap (λ (n : ℕ). suc n) (length-vertices_walked a.head arcs)
 
--- what holds of the end of a list of different numbers
+-- what holds for the end of a list of different numbers
 AllPairs-append_right : (R : ℕ → ℕ → Type 0) (xs ys : List ℕ) → AllPairs R (xs ++ ys) → AllPairs R ys
 AllPairs-append_right R xs ys pairs i j d lt fits =
     subst (λ (x : ℕ). R x (get_or ys j d)) (get_or-append-add xs ys i d)
@@ -39,7 +39,7 @@ module _ (graph : List (List WaitArc)) where
   IsWalk-drop v w (a ∷ xs) zero walk fits = walk
   IsWalk-drop v w (a ∷ xs) (suc k) walk fits = IsWalk-drop a.head w xs k walk.1 (omega arith)
 
-  -- where it begins at a vertex that remains, a walk leads to such a vertex and leaves only such vertices
+  -- if it begins at a vertex that remains, a walk leads to such a vertex and leaves only such vertices
   pub IsWalk-remains : (v w : ℕ) (xs : List WaitArc) → Remains graph v → IsWalk graph v xs w → Remains graph w
   IsWalk-remains v w [] remains walk = subst (λ x. Remains graph x) walk remains
   IsWalk-remains v w (a ∷ xs) remains walk = let way : IsWayOn graph v a = walk.0 in IsWalk-remains a.head w xs way.remains walk.1
@@ -81,7 +81,7 @@ module _ (graph : List (List WaitArc)) where
   starts_at v [] some = absurd (some refl)
   starts_at v (a ∷ xs) some = refl
 
-  -- the vertex that a circle begins at is the one that is left after what leads in
+  -- the vertex at which a circle begins is the one that is left after the walk to it
   pub IsWalk-entry : (v u : ℕ) (xs ys : List WaitArc) → IsWalk graph v xs u → ys ≢ [] → get_or (vertices_walked v (xs ++ ys)) (length xs) 0 ≡ u
   IsWalk-entry v u [] ys walk some = starts_at v ys some ∙ walk
   IsWalk-entry v u (a ∷ xs) ys walk some = IsWalk-entry a.head u xs ys walk.1 some

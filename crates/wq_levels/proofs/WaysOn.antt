@@ -12,7 +12,7 @@ use Rattle.wq_levels.proofs.Graphs.{ArcsRise, HasArc-below, arcs_at-rise}
 use Rattle.wq_levels.proofs.Endless.{IsEndless, IsEndless-next}
 use Rattle.wq_levels.proofs.First.{IsFirst, IsFirst-find, Tells, position-is}
 
--- an arc that stands further on has a greater place
+-- an arc that comes later has a greater place
 pub later_place : (arcs : List WaitArc) (i j : ℕ) (d e : WaitArc) → ArcsRise arcs → i < j → j < length arcs → (get_or arcs i d).place < (get_or arcs j e).place
 later_place arcs i j d e rise lt fits =
     let place_of : WaitArc → ℕ = λ (a : WaitArc). a.place in
@@ -20,7 +20,7 @@ later_place arcs i j d e rise lt fits =
     let other = get_or-map place_of arcs j e 0 fits in
     omega (arith, own, other, AllPairs-from_increasing (map place_of arcs) rise i j 0 lt (omega (arith, length-map arcs place_of)))
 
--- two arcs of one vertex with one place are one
+-- two arcs of a vertex with the same place are the same
 pub same_place : (arcs : List WaitArc) (a b : WaitArc) → ArcsRise arcs → Contains arcs a → Contains arcs b → a.place ≡ b.place → a ≡ b
 same_place arcs a b rise one other same = elim (cases_order one.0 other.0) [
   | inl here ↦ sym one.2 ∙ get_or_default arcs one.0 a b one.1 ∙ ap (λ (k : ℕ). get_or arcs k b) here ∙ other.2
@@ -65,7 +65,7 @@ module _ (graph : List (List WaitArc)) (sound : IsGraph graph) where
       let arc = on.1 in
       (arc.0, arc.1, arc.2, arc.3, subst (λ w. Remains graph w) (sym arc.4) (Remains-endless on.0 (HasArc-below graph sound v on.0 arc) on.2))
 
--- the ranks tell of each number whether it remains, also past the last vertex
+-- the ranks tell for each number whether it remains, also past the last vertex
 pub MarkRemaining-any : (graph : List (List WaitArc)) (ranks : List ℕ) → MarkRemaining graph ranks → (v : ℕ) → (slice_index ranks v ≡ length graph) ↔ Remains graph v
 MarkRemaining-any graph ranks marks v = elim (cases_lt v (length graph)) [
   | inl vertex ↦ marks.marked v vertex

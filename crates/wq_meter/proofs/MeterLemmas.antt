@@ -9,11 +9,11 @@ use Rattle.std.specs.Io.KnownBytes.{IsAtEnd}
 use Rattle.wq_meter.specs.Meter.{Meter, count_after, LosesPrefix}
 use Rattle.wq_meter.specs.Input.{IsInput, HasGivenBytes}
 
--- a writer that took the front of a text and then the front of the rest took a longer front
+-- a writer that took a prefix of a text and then a prefix of the rest took a longer prefix
 pub Appends-take_more : (a b c : Option (List ℕ)) (text : List ℕ) (i n : ℕ) → Appends a b (take i text) → Appends b c (take n (drop i text)) → Appends a c (take (i + n) text)
 Appends-take_more a b c text i n first second = rw (take-add i n text) (Appends-trans a b c _ _ first second)
 
--- a reader that gave a text and then the front of a chunk lost both
+-- a reader that gave a text and then a prefix of a chunk lost both
 pub LosesPrefix-more : {R : Type 0} (remaining : R → Option (List ℕ)) (old mid new : Meter R) (most n len : ℕ) (text chunk : List ℕ)
     → Consumes (remaining old.device) (remaining mid.device) text → len ≡ length text → mid.bytes ≡ count_after old.bytes len
     → Consumes (remaining mid.device) (remaining new.device) (take n chunk) → new.bytes ≡ count_after mid.bytes n
@@ -29,7 +29,7 @@ LosesPrefix-more remaining old mid new most n len text chunk first whole counted
 
 -- ---- a text that was read
 
--- what was read of the text that a reader had: all of it, or the first bytes of a longer one
+-- what was read of the text that a reader had: all of it, or a prefix of a longer one
 record IsRead (known : Option (List ℕ)) (limit : ℕ) (read : List ℕ) : Type 0 where
   text : List ℕ
   input : IsInput known text
@@ -39,7 +39,7 @@ IsRead-prefix : (known : Option (List ℕ)) (limit : ℕ) (read : List ℕ) → 
 IsRead-prefix None limit read prefix within = record { text = read; input = tt; prefix = sym (take_all (limit + 1) read within) }
 IsRead-prefix (Some bytes) limit read prefix within = record { text = bytes; input = refl; prefix = prefix }
 
--- what came up to the end is all that there was
+-- what came up to the end is everything that there was
 pub all_read : (old new : Option (List ℕ)) (read : List ℕ) (most : ℕ) → Consumes old new read → IsAtEnd new → length read ≤ most → IfSome old (λ bytes. read ≡ take most bytes)
 all_read None new read most came end within = tt
 all_read (Some xs) None read most came end within = absurd came

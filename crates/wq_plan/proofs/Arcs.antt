@@ -39,6 +39,6 @@ module _ (graph : List (List WaitArc)) (lane : List ℕ) (below v : ℕ) where
       append_assoc arcs (arc ∷ []) (chain_from graph lane below arc.head)
       ∙ ap (λ (rest : List WaitArc). arcs ++ rest) (sym (chain_from-some on arc same found)) ∙ so_far
 
-  -- no arc is left where none leads to the lane
+  -- no arc is left if none leads to the lane
   pub follow_none : (arcs total : List WaitArc) (on : ℕ) → on ≡ suc below → next_arc ≡ None → arcs ++ chain_from graph lane on v ≡ total → arcs ≡ total
   follow_none arcs total on same none so_far = sym (append-nil arcs) ∙ ap (λ (rest : List WaitArc). arcs ++ rest) (sym (chain_from-none on same none)) ∙ so_far

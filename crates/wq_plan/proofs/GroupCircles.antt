@@ -13,7 +13,7 @@ use Rattle.wq_plan.specs.CircleOfGroups.{tail_of, IsCircleOfGroups}
 use Rattle.wq_plan.proofs.Paths.{leaving-declared}
 
 module _ (d : Declaration) (is : IsDeclaration d) where
-  -- what leaves a group has it for its tail
+  -- what leaves a group has this group as its tail
   own_tails : (v : ℕ) → All (λ (a : WaitArc). tail_of d a ≡ v) (arcs_at (group_graph d) v)
   own_tails v k e fits = ((AreArcsFrom-group_graph d is v).declared k e fits).1
 
@@ -40,6 +40,6 @@ module _ (d : Declaration) (is : IsDeclaration d) where
         once = LeadsRound-once (group_graph d) circle round (tail_of d) own_tails;
       }
 
-  -- the circle of the walk goes round groups
+  -- the circle of the walk leads round groups
   pub IsCircleOfGroups-walked : (circle : List WaitArc) → IsWalkedCircle (group_graph d) circle → IsCircleOfGroups d circle
   IsCircleOfGroups-walked circle walked = IsCircleOfGroups-round circle (LeadsRound-walked (group_graph d) circle walked)

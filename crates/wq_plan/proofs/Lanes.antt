@@ -32,14 +32,14 @@ lanes_from-some start (l ∷ lane) = elim (lanes_from-some (max start (l + 1)) l
 pub lanes_of-above : (lane : List ℕ) → All (λ l. l < lanes_of lane) lane
 lanes_of-above lane = λ k d fits. lanes_from-above 0 lane k d fits
 
--- where there is an item, one is on the last lane
+-- if there is an item, one is on the last lane
 pub lanes_of-some : (lane : List ℕ) → 0 < length lane → (k : ℕ) × (k < length lane) × (slice_index lane k + 1 ≡ lanes_of lane)
 lanes_of-some lane some = elim (lanes_from-some 0 lane) [
   | inl none ↦ absurd (omega (arith, lanes_from-above 0 lane 0 0 some))
   | inr found ↦ found
 ]
 
--- the lanes are no more than a number that each is below
+-- there are no more lanes than a number that each is below
 pub lanes_of-most : (n : ℕ) (lane : List ℕ) → All (λ l. l < n) lane → lanes_of lane ≤ n
 lanes_of-most n lane below = elim (lanes_from-some 0 lane) [
   | inl none ↦ omega arith

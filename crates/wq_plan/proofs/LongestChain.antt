@@ -23,13 +23,13 @@ use Rattle.wq_plan.proofs.Places.{earlier_place}
 use Rattle.wq_plan.proofs.Plans.{length-group_graph, AreRanks-from_plan}
 use Rattle.wq_graph.proofs.Graphs.{IsGraph-group_graph, AreArcsFrom-group_graph}
 
--- an arc of v to the next lane, and of all such arcs the one of least place
+-- an arc of v to the next lane, with the least place of all such arcs
 pub record IsStep (graph : List (List WaitArc)) (lane : List ℕ) (v : ℕ) (arc : WaitArc) : Type 0 where
   pub leaves : Contains (arcs_at graph v) arc
   pub falls : slice_index lane arc.head + 1 ≡ slice_index lane v
   pub least : All (λ (b : WaitArc). slice_index lane b.head ≡ slice_index lane arc.head → arc.place ≤ b.place) (arcs_at graph v)
 
--- such arcs one after the other, the first from v
+-- such arcs one after another, the first from v
 abbrev pub AreSteps : List (List WaitArc) → List ℕ → ℕ → List WaitArc → Type 0
 AreSteps graph lane v [] = Unit {0}
 AreSteps graph lane v (a ∷ arcs) = IsStep graph lane v a × AreSteps graph lane a.head arcs
@@ -59,14 +59,14 @@ module _ (graph : List (List WaitArc)) (lane : List ℕ) (sound : IsGraph graph)
         least = λ k e fits other. earlier_place (arcs_at graph v) arc first.place k e (arcs_at-rise graph sound v) first.fits first.here (first_comes k e (other ∙ on)) fits;
       }
     where
-      -- an arc to the lane stands no earlier
+      -- an arc to the lane comes no earlier
       first_comes : (k : ℕ) (e : WaitArc) → slice_index lane (get_or (arcs_at graph v) k e).head ≡ below → first.place ≤ k
       first_comes k e here = elim (cases_lt k first.place) [
         | inl less ↦ absurd (first.earlier k e less here)
         | inr le ↦ le
       ]
 
-  -- as many arcs as lanes are below the vertex, one after the other
+  -- as many arcs as lanes are below the vertex, one after another
   pub chain_from-steps : (below v : ℕ) → v < length graph → slice_index lane v ≡ below → (length (chain_from graph lane below v) ≡ below) × AreSteps graph lane v (chain_from graph lane below v)
   chain_from-steps zero v vertex same = (refl, tt)
   chain_from-steps (suc below) v vertex same =
@@ -128,7 +128,7 @@ module _ (d : Declaration) (is : IsDeclaration d) (a : Assignment) where
         let count : 0 ≡ a.lanes - 1 = omega (arith, plan.count, ap lanes_of none) in
         rw none (record { count = count; arcs = λ k e fits. absurd (omega arith); joined = λ k e fits. absurd (omega arith); begins = tt })
 
-    -- what is printed of a plan
+    -- what is printed for a plan
     pub chain_of-longest : IsLongestChain d a (chain_of (group_graph d) a.lane_of_group)
     chain_of-longest = by_lanes a.lane_of_group refl
       where

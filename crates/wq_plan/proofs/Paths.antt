@@ -1,4 +1,4 @@
--- Paths: arcs of a wait graph, each leaving the vertex where the one before it led.
+-- Paths: arcs of a wait graph, each of which leaves the vertex that the one before it led to.
 use Rattle.std.proofs.Common.{◌≡◌, ℕ, zero, suc, ◌+◌, List, [], ◌∷◌, length, slice_index, slice_get, IfSome, sym, subst, arith}
 use Rattle.std.specs.Prelude.{Contains}
 use Rattle.std.specs.List.{AllAdjacentBelow}
@@ -14,7 +14,7 @@ abbrev pub IsPath : List (List WaitArc) → ℕ → List WaitArc → Type 0
 IsPath graph v [] = Unit {0}
 IsPath graph v (a ∷ arcs) = Contains (arcs_at graph v) a × IsPath graph a.head arcs
 
--- the first arc leaves group g, and each other one the group where the one before it led
+-- the first arc leaves group g, and each other one leaves the group that the one before it led to
 abbrev pub Follows : Declaration → ℕ → List WaitArc → Type 0
 Follows d g [] = Unit {0}
 Follows d g (a ∷ arcs) = (tail_of d a ≡ g) × Follows d (slice_index d.group_of a.dst) arcs

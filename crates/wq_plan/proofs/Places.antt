@@ -6,7 +6,7 @@ use Rattle.wq_graph.specs.declared.arc.WaitArc.{WaitArc}
 use Rattle.wq_levels.proofs.Graphs.{ArcsRise}
 use Rattle.wq_levels.proofs.WaysOn.{later_place}
 
--- one that stands no later has no greater place
+-- one that comes no later has no greater place
 pub earlier_place : (arcs : List WaitArc) (x : WaitArc) (i j : ℕ) (e : WaitArc) → ArcsRise arcs → i < length arcs → get_or arcs i x ≡ x → i ≤ j → j < length arcs → x.place ≤ (get_or arcs j e).place
 earlier_place arcs x i j e rise there is le fits =
     let own : (get_or arcs i x).place ≡ x.place = ap (λ (a : WaitArc). a.place) is in

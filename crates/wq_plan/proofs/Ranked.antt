@@ -1,4 +1,4 @@
--- Laws of lanes that are ranks, by any relation: R v w says that v waits for w.
+-- Laws of lanes that are ranks, for any relation R, where R v w says that v waits for w.
 use Rattle.std.proofs.Common.{◌≡◌, ℕ, ◌+◌, ◌<◌, ◌≤◌, inl, inr, List, [], ◌∷◌, length, slice_index, refl, arith}
 use Rattle.std.specs.List.{All}
 use Rattle.std.proofs.lemmas.Bool.{cases_lt}

@@ -1,4 +1,4 @@
--- What holds by one relation holds by another that it implies, and ranks by one that says the same.
+-- What holds for a relation holds for another that it implies; ranks hold for one that says the same.
 use Rattle.std.proofs.Common.{ℕ, ◌+◌, ◌↔◌, List, [], ◌∷◌}
 use Rattle.wq_items.specs.Chain.{IsChain, last_of, HasCircle, BeginsChain, IsRank}
 

@@ -1,4 +1,4 @@
--- Executions that are finished: what a seat counts of them, item by item and in all.
+-- Finished executions: what a seat counts of them, item by item and in all.
 use Rattle.std.proofs.Common.{◌≡◌, ◌≢◌, ℕ, zero, suc, ◌+◌, ◌*◌, ◌<◌, ◌≤◌, inl, inr, Bool, true, List, drop, refl, sym, ap, subst, arith}
 use Rattle.std.specs.Prelude.{sum, false, IsTrue, ◌↔◌}
 use Rattle.std.specs.List.{sum_by, range_with_len}
@@ -28,7 +28,7 @@ same_sum f g a zero same = refl
 same_sum f g a (suc n) same =
     omega (arith, sum_by-cons g a (range_with_len (a + 1) n), sum_by-cons f a (range_with_len (a + 1) n), same a (omega arith), same_sum f g (a + 1) n (λ j le. same j (omega arith)))
 
--- a sum of which one term is one more
+-- a sum with one term that is one higher
 one_more : (f g : ℕ → ℕ) (a n i : ℕ) → a ≤ i → i < a + n → g i ≡ f i + 1 → ((j : ℕ) → j ≢ i → g j ≡ f j)
     → sum_by g (range_with_len a n) ≡ sum_by f (range_with_len a n) + 1
 one_more f g a zero i le lt more same = absurd (omega arith)
@@ -46,7 +46,7 @@ pub finished_in_all-raised : (n : ℕ) (counts : List ℕ) (i : ℕ) → HasCoun
 finished_in_all-raised n counts i has lt =
     one_more (finished_of counts) (finished_of (raised counts i Finish true)) 0 n i (omega arith) (omega arith) (finished_of-raised n counts i has lt) (finished_of-other_item counts i)
 
--- those of the items from a on are among the counts from its place on
+-- those of the items from a on are among the counts from a's place on
 from_item : (n : ℕ) (counts : List ℕ) (a k : ℕ) → HasCountsOf n counts → a + k ≤ n
     → sum_by (finished_of counts) (range_with_len a k) ≤ sum (drop (14 * a) counts)
 from_item n counts a zero has within = omega arith
@@ -66,14 +66,14 @@ finished_of-le n counts i has lt = get_or-le-sum_by (λ (x : ℕ). x) counts (pl
 
 -- ---- a rescuer that serves a lane
 
--- what a rescuer has done so far: of each item its seat counts as finished what the body ran, in all as many as it says
+-- what a rescuer has done so far: for each item its seat counts as finished what the body ran, and in all, as many as it says
 pub record IsServing (items : ℕ) (before counts : List ℕ) (width : ℕ) (runs : ℕ → ℕ) (finished faults : ℕ) : Type 0 where
   pub wide : items ≤ width
   pub ran : CountsRuns before counts runs
   pub in_all : finished_in_all items before + finished ≡ finished_in_all items counts
   pub faults_within : faults ≤ finished
 
--- what was counted before its body ran is so after it; and then one execution more is finished
+-- what was counted before its body ran is so after it; and then one more execution is finished
 pub serving_more : (items : ℕ) (before counts after : List ℕ) (width wider : ℕ) (runs now : ℕ → ℕ) (finished faults more i : ℕ)
     → IsServing items before counts width runs finished faults → wider ≡ width → HasCountsOf items after → i < items
     → SameFinished counts after → RanOnce runs now i → more ≤ faults + 1
@@ -101,7 +101,7 @@ serving_more items before counts after width wider runs now finished faults more
   faults_within = omega (arith, serving.faults_within, few);
 })
 
--- one execution more can be counted: a seat that isn't full has counted fewer
+-- one more execution can be counted: a seat that isn't full has counted fewer
 pub few_finished : (items : ℕ) (before counts : List ℕ) (width : ℕ) (runs : ℕ → ℕ) (finished faults : ℕ)
     → IsServing items before counts width runs finished faults → HasCountsOf items counts → sum counts < seat_rows
     → (finished < 4294967295) × (faults < 4294967295)

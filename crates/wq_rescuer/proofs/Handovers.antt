@@ -1,4 +1,4 @@
--- What threads hand back: what each lane's answer says of its seat and its body, and all lanes together.
+-- What threads hand back: what each lane's answer says about its seat and its body, and all lanes together.
 use Rattle.std.proofs.Common.{◌≡◌, ℕ, zero, suc, ◌+◌, ◌≤◌, ◌⊎◌, inl, inr, List, [], ◌∷◌, ◌++◌, length, take, replicate, refl, sym, ap, subst, ◌∙◌, arith}
 use Rattle.std.specs.Prelude.{Some, Result, Ok, Err, OnOk, OnErr, IfOk, is_ok, is_err, slice_get, true, false}
 use Rattle.std.specs.List.{sum_by, range_with_len}
@@ -51,13 +51,13 @@ is_served items n before counts runs answer none all in_all few most =
 
 -- ---- all lanes
 
--- nothing stands past the end
+-- there is nothing past the end
 past : {X : Type 0} (xs : List X) (q : ℕ) (y : X) → slice_get xs q ≡ Some y → length xs ≤ q → ⊥
 past [] q y is ge = absurd cc
 past (z ∷ xs) zero y is ge = omega arith
 past (z ∷ xs) (suc q) y is ge = past xs q y is (omega arith)
 
--- what stands at a place of a list with one more value at its end
+-- what is at a place of a list with one more value at its end
 at_place : {X : Type 0} (xs : List X) (x : X) (q : ℕ) (y : X) → slice_get (xs ++ (x ∷ [])) q ≡ Some y
     → (slice_get xs q ≡ Some y) ⊎ ((q ≡ length xs) × (x ≡ y))
 at_place [] x zero y is = let same : x ≡ y = cc in inr (refl, same)
@@ -68,7 +68,7 @@ at_place (z ∷ xs) x (suc q) y is = elim (at_place xs x q y is) [
   | inr last ↦ inr (ap suc last.0, last.1)
 ]
 
--- one lane more
+-- one more lane
 pub are_served_more : (items n : ℕ) (seats : List (List ℕ)) (runs : List (ℕ → ℕ)) (rescued : List (Result Rescued CallError))
     (seat : List ℕ) (ran : ℕ → ℕ) (answer : Result Rescued CallError)
     → AreServed items n seats runs rescued → IsServed items seat ran answer
@@ -95,7 +95,7 @@ are_served_more items n seats runs rescued seat ran answer are is = record {
   ];
 }
 
--- the same of lists that are known to have one more
+-- the same for lists that are known to have one more
 pub added : (items n m : ℕ) (seats new_seats : List (List ℕ)) (runs new_runs : List (ℕ → ℕ)) (rescued new_rescued : List (Result Rescued CallError))
     (seat : List ℕ) (ran : ℕ → ℕ) (answer : Result Rescued CallError)
     → AreServed items n seats runs rescued → IsServed items seat ran answer → m ≡ n + 1
@@ -110,12 +110,12 @@ added items n m seats new_seats runs new_runs rescued new_rescued seat ran answe
 
 -- ---- all that was run
 
--- a list of no length
+-- a list of length 0
 pub nothing_in : {X : Type 0} (xs : List X) → length xs ≡ 0 → xs ≡ []
 nothing_in [] none = refl
 nothing_in (x ∷ xs) none = absurd (omega (arith, none))
 
--- a seat is wanting, where there is a body for each lane
+-- a seat is lacking, although there is a body for each lane
 pub no_seat_refused : (lanes bodies : ℕ) (why : RunWhy) → IsNoSeat why → bodies ≡ lanes → RefusesRun lanes bodies why
 no_seat_refused lanes bodies BodiesDiffer seatless same = absurd seatless
 no_seat_refused lanes bodies TooManySeats seatless same = same

@@ -1,4 +1,4 @@
--- What is packed is read again.
+-- What was packed is read back.
 use Rattle.std.proofs.Common.{◌≡◌, ℕ, suc, ◌*◌, true, false, List, [], ◌∷◌, ◌++◌, length, Option, Some, refl, ◌∙◌, ap, arith, length-append}
 use Rattle.std.specs.Prelude.{Bool, ◌==◌, option_map}
 use Rattle.std.specs.Int.{w16, w32, to_le_bytes, from_le_bytes}
@@ -24,7 +24,7 @@ event_of-same (Finish lane item) = refl
 event_of-same (Ask item) = refl
 event_of-same (Told item) = refl
 
--- the byte of an answer is 1 where the answer is yes
+-- the byte of an answer is 1 exactly if the answer is yes
 answer_byte-same : (said : Bool) → (answer_byte said == 1) ≡ said
 answer_byte-same true = refl
 answer_byte-same false = refl
@@ -33,7 +33,7 @@ answer_byte-same false = refl
 row_of : Bool → ℕ → Event → Row
 row_of said number event = record { event = event; yes = said; number = number }
 
--- what is packed, and what stands behind it, is read as the row and what the rest is read as
+-- a packed row and what comes after it are read as the row and what the rest is read as
 pub rows_of-packed : (row : Row) (rest : List ℕ) → IsRowInRange row → rows_of (packed row ++ rest) ≡ row ∷ rows_of rest
 unfolding row_of
 rows_of-packed row rest in_range =
@@ -59,6 +59,6 @@ pub length-packed_rows : (rows : List Row) → length (packed_rows rows) ≡ 12 
 length-packed_rows [] = refl
 length-packed_rows (row ∷ rows) = omega (arith, length-packed_rows rows, length-append (packed row) (packed_rows rows))
 
--- one row more
+-- one more row
 pub packed_rows-push : (rows : List Row) (row : Row) → packed_rows (rows ++ (row ∷ [])) ≡ packed_rows rows ++ packed row
 packed_rows-push rows row = flat_map-append packed rows (row ∷ []) ∙ ap (λ (l : List ℕ). packed_rows rows ++ l) (append-nil (packed row))

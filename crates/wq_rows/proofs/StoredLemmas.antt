@@ -1,4 +1,4 @@
--- What holds of bytes that hold rows.
+-- What holds for bytes that hold rows.
 use Rattle.std.proofs.Common.{◌≡◌, ℕ, suc, ◌+◌, ◌*◌, ◌<◌, ◌≤◌, List, [], ◌∷◌, ◌++◌, length, take, drop, refl, sym, ◌∙◌, ap, subst, arith, length-append, Option, Some, None, take-append-drop}
 use Rattle.std.specs.Prelude.{IfSome, IfNone, is_some, true, false}
 use Rattle.std.specs.Iterator.{YieldsFirst}
@@ -18,7 +18,7 @@ IsStored-read bytes rows stored = ap rows_of (sym stored.holds) ∙ rows_of-pack
 pub IsStored-length : (bytes : List ℕ) (rows : List Row) → IsStored bytes rows → length bytes ≡ 12 * length rows
 IsStored-length bytes rows stored = ap length (sym stored.holds) ∙ length-packed_rows rows
 
--- one row more
+-- one more row
 pub IsStored-push : (bytes : List ℕ) (rows : List Row) (row : Row) → IsStored bytes rows → IsPackable row → IsRowInRange row → IsStored (bytes ++ packed row) (rows ++ (row ∷ []))
 IsStored-push bytes rows row stored packable in_range = record {
   packable = All-push IsPackable rows row stored.packable packable;
@@ -26,19 +26,19 @@ IsStored-push bytes rows row stored packable in_range = record {
   holds = packed_rows-push rows row ∙ ap (λ (l : List ℕ). l ++ packed row) stored.holds;
 }
 
--- one row more is read as one row more
+-- one more row is read as one more row
 pub rows_of-push : (bytes : List ℕ) (row : Row) → IsStored bytes (rows_of bytes) → IsPackable row → IsRowInRange row → rows_of (bytes ++ packed row) ≡ rows_of bytes ++ (row ∷ [])
 rows_of-push bytes row stored packable in_range =
     IsStored-read (bytes ++ packed row) (rows_of bytes ++ (row ∷ [])) (IsStored-push bytes (rows_of bytes) row stored packable in_range)
 
--- where there is room, there is memory for a row
+-- if there is room, there is memory for a row
 pub IsRoomy-memory : (bytes : List ℕ) (capacity room : ℕ) → IsRoomy bytes capacity room → length (rows_of bytes) < room → length bytes + 12 ≤ capacity
 IsRoomy-memory bytes capacity room roomy below =
     let len : length bytes ≡ 12 * length (rows_of bytes) = IsStored-length bytes (rows_of bytes) roomy.stored in
     let memory = roomy.memory in
     omega arith
 
--- one row more, where there is room
+-- one more row, if there is room
 pub IsRoomy-push : (bytes : List ℕ) (capacity more room : ℕ) (row : Row) → IsRoomy bytes capacity room → length (rows_of bytes) < room → capacity ≤ more → IsPackable row → IsRowInRange row
     → IsRoomy (bytes ++ packed row) more room
 IsRoomy-push bytes capacity more room row roomy below grows packable in_range =
@@ -53,7 +53,7 @@ IsRoomy-push bytes capacity more room row roomy below grows packable in_range =
       few = roomy.few;
     }
 
--- the history that is held so
+-- the history that is held in this way
 pub IsRoomy-history : (bytes : List ℕ) (capacity room : ℕ) → IsRoomy bytes capacity room → IsHistory (record { rows = rows_of bytes; room = room })
 IsRoomy-history bytes capacity room roomy =
     let len : length bytes ≡ 12 * length (rows_of bytes) = IsStored-length bytes (rows_of bytes) roomy.stored in
@@ -65,7 +65,7 @@ IsRoomy-history bytes capacity room roomy =
       few = roomy.few;
     }
 
--- some rows behind one
+-- some rows after one
 pub IsStored-cons : (front after : List ℕ) (row : Row) (rows : List Row) → IsPackedRow front row → IsStored after rows → IsStored (front ++ after) (row ∷ rows)
 IsStored-cons front after row rows first stored = record {
   packable = All-cons IsPackable row rows first.packable stored.packable;
@@ -73,7 +73,7 @@ IsStored-cons front after row rows first stored = record {
   holds = ap (λ (l : List ℕ). l ++ packed_rows rows) first.holds ∙ ap (λ (l : List ℕ). front ++ l) stored.holds;
 }
 
--- the first 12 bytes hold a row, and those behind them hold the others
+-- the first 12 bytes hold a row, and those after them hold the others
 pub record StoredFirst (front after : List ℕ) (rows : List Row) : Type 0 where
   pub row : Row
   pub others : List Row
@@ -81,7 +81,7 @@ pub record StoredFirst (front after : List ℕ) (rows : List Row) : Type 0 where
   pub first : IsPackedRow front row
   pub stored : IsStored after others
 
--- where there are 12 bytes, the first of them hold a row
+-- if the first bytes are 12, they hold a row
 pub IsStored-first : (front after : List ℕ) (rows : List Row) → length front ≡ 12 → IsStored (front ++ after) rows → StoredFirst front after rows
 IsStored-first front after [] long stored = absurd (omega (arith, length-append front after, IsStored-length (front ++ after) [] stored))
 IsStored-first front after (row ∷ rows) long stored = record {
@@ -105,22 +105,22 @@ first_or : Row → List Row → Row
 first_or d [] = d
 first_or d (row ∷ rows) = row
 
--- the same bytes hold one row at most
+-- the same bytes hold at most one row
 pub IsPackedRow-unique : (bytes : List ℕ) (a b : Row) → IsPackedRow bytes a → IsPackedRow bytes b → a ≡ b
 unfolding first_or
 IsPackedRow-unique bytes a b of_a of_b =
     ap (first_or a) (sym (rows_of-packed a [] of_a.in_range) ∙ ap (λ (l : List ℕ). rows_of (l ++ [])) (of_a.holds ∙ sym of_b.holds) ∙ rows_of-packed b [] of_b.in_range)
 
--- the same bytes hold one list of rows at most
+-- the same bytes hold at most one list of rows
 pub IsStored-unique : (bytes : List ℕ) (a b : List Row) → IsStored bytes a → IsStored bytes b → a ≡ b
 IsStored-unique bytes a b of_a of_b = sym (IsStored-read bytes a of_a) ∙ IsStored-read bytes b of_b
 
--- where bytes are left, all of them hold rows exactly where these do
+-- if some bytes are left, all bytes hold rows exactly if these do
 pub record LeadsOn (bytes left : List ℕ) : Type 0 where
   pub on : IsStored left (rows_of left) → IsStored bytes (rows_of bytes)
   pub back : (rows : List Row) → IsStored bytes rows → (others : List Row) × IsStored left others
 
--- where some rows stand for the bytes, those that are read do
+-- if the bytes hold some rows, they hold those that are read
 pub IsStored-rows_of : (bytes : List ℕ) (rows : List Row) → IsStored bytes rows → IsStored bytes (rows_of bytes)
 IsStored-rows_of bytes rows stored = subst (IsStored bytes) (sym (IsStored-read bytes rows stored)) stored
 
@@ -128,17 +128,17 @@ IsStored-rows_of bytes rows stored = subst (IsStored bytes) (sym (IsStored-read 
 pub LeadsOn-all : (bytes : List ℕ) → LeadsOn bytes bytes
 LeadsOn-all bytes = record { on = λ stored. stored; back = λ rows stored. (rows, stored) }
 
--- what is split in two is its two parts
+-- what is split in two consists of its two parts
 pub IsSplitAt-parts : (bytes front after : List ℕ) → IsSplitAt bytes 12 front after → bytes ≡ front ++ after
 IsSplitAt-parts bytes front after split =
     sym (take-append-drop 12 bytes) ∙ ap (λ (l : List ℕ). l ++ drop 12 bytes) (sym split.1) ∙ ap (λ (l : List ℕ). front ++ l) (sym split.2)
 
--- where bytes are split behind the first 12, these hold a row
+-- if bytes are split after the first 12, these hold a row
 IsStored-split : (bytes front after : List ℕ) (rows : List Row) → IsSplitAt bytes 12 front after → IsStored bytes rows → StoredFirst front after rows
 IsStored-split bytes front after rows split stored =
     IsStored-first front after rows split.3 (subst (λ (l : List ℕ). IsStored l rows) (IsSplitAt-parts bytes front after split) stored)
 
--- one row further
+-- one more row is read
 pub LeadsOn-next : (bytes left front after : List ℕ) (row : Row) → IsSplitAt left 12 front after → IsPackedRow front row → LeadsOn bytes left → LeadsOn bytes after
 LeadsOn-next bytes left front after row split first leads = record {
   on = λ stored.
@@ -148,25 +148,25 @@ LeadsOn-next bytes left front after row split first leads = record {
   back = λ rows stored. let rest = leads.back rows stored in let at_front = IsStored-split left front after rest.0 split rest.1 in (at_front.others, at_front.stored);
 }
 
--- where the next 12 bytes hold no row, the bytes hold no rows
+-- if the next 12 bytes don't hold a row, the bytes don't hold rows
 pub LeadsOn-no_row : (bytes left front after : List ℕ) → IsSplitAt left 12 front after → ((row : Row) → ¬ IsPackedRow front row) → LeadsOn bytes left → (rows : List Row) → ¬ IsStored bytes rows
 LeadsOn-no_row bytes left front after split none leads rows stored =
     let rest = leads.back rows stored in
     let at_front = IsStored-split left front after rest.0 split rest.1 in
     none at_front.row at_front.first
 
--- a list of no length is empty
+-- a list of length 0 is empty
 pub empty_list : (l : List ℕ) → length l ≡ 0 → l ≡ []
 empty_list [] none = refl
 empty_list (x ∷ l) none = absurd (omega arith)
 
--- where nothing is left, the bytes hold rows
+-- if nothing is left, the bytes hold rows
 pub LeadsOn-done : (bytes left : List ℕ) → length left ≡ 0 → LeadsOn bytes left → IsStored bytes (rows_of bytes)
 LeadsOn-done bytes left none leads =
     leads.on
     (subst (λ (l : List ℕ). IsStored l (rows_of l)) (sym (empty_list left none)) (record { packable = All-nil IsPackable; in_range = All-nil IsRowInRange; holds = refl }))
 
--- where fewer than 12 bytes are left and the bytes hold rows, nothing is left
+-- if fewer than 12 bytes are left and the bytes hold rows, nothing is left
 pub LeadsOn-short : (bytes left : List ℕ) → length left < 12 → LeadsOn bytes left → (rows : List Row) → IsStored bytes rows → length left ≡ 0
 LeadsOn-short bytes left short leads rows stored =
     let rest = leads.back rows stored in
@@ -185,18 +185,18 @@ first_row bytes front after (Some row) split stored some none =
     ∙ ap (λ (r : Row). r ∷ at_front.others) (IsPackedRow-unique front at_front.row row at_front.first some)
     ∙ ap (λ (rows : List Row). row ∷ rows) (sym (IsStored-read after at_front.others at_front.stored))
 
--- the bytes behind the first row hold rows
+-- the bytes after the first row hold rows
 pub IsStored-after : (bytes front after : List ℕ) → IsSplitAt bytes 12 front after → IsStored bytes (rows_of bytes) → IsStored after (rows_of after)
 IsStored-after bytes front after split stored =
     let at_front = IsStored-split bytes front after (rows_of bytes) split stored in
     IsStored-rows_of after at_front.others at_front.stored
 
--- what is said of no row holds where there is none
+-- what is said for no row holds if there is none
 pub said_of_none : (result : Option Row) (P : Type 0) → is_some result ≡ false → IfNone result P → P
 said_of_none None P is said = said
 said_of_none (Some row) P is said = absurd (cc is)
 
--- a row of which something is said, where there is one
+-- a row about which something is said, if there is one
 pub said_of_some : (result : Option Row) (P : Row → Type 0) → is_some result ≡ true → IfSome result P → (row : Row) × P row
 said_of_some None P is said = absurd (cc is)
 said_of_some (Some row) P is said = (row, said)

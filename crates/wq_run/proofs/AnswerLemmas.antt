@@ -1,4 +1,4 @@
--- The answer to a text is that to what it declares.
+-- The answer to a text is the answer to what it declares.
 use Rattle.std.proofs.Common.{◌≡◌, List, ℕ, Result, Ok, sym, subst}
 use Rattle.std.specs.Prelude.{MatchResult}
 use Rattle.wq_text.specs.Refusal.{Refusal}

@@ -36,6 +36,6 @@ IsRunnableInput-read seen came same runnable = record {
   runnable = IsRunnable-same seen came.given.text (ap declaration (same ∙ came.prefix) ∙ declaration-take came.given.text) runnable;
 }
 
--- why there is no answer holds of the text
+-- the reason for no answer holds for the text
 pub stopped_by : {T : Type 0} (runnable : Type 0) (answer : Result T RunStop) (why : RunStop) → answer ≡ Err why → IfErr answer (Stops runnable) → Stops runnable why
 stopped_by runnable answer why is stops = subst (λ (r : Result _ RunStop). IfErr r (Stops runnable)) is stops

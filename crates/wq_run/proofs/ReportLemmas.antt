@@ -13,7 +13,7 @@ use Rattle.wq_commands.specs.Declaration.{Declared}
 use Rattle.wq_run.specs.Report.{item_line}
 use Rattle.wq_run.specs.Running.{yes_tally}
 
--- six words behind what is there
+-- six words after what is there
 pub six_words : (out a b c d e f : List ℕ) → (((((out ++ spaced a) ++ spaced b) ++ spaced c) ++ spaced d) ++ spaced e) ++ spaced f
     ≡ out ++ flat_map spaced (a ∷ b ∷ c ∷ d ∷ e ∷ f ∷ [])
 six_words out a b c d e f =
@@ -29,7 +29,7 @@ six_words out a b c d e f =
     ∙ append_assoc out (spaced a) (spaced b ++ (spaced c ++ (spaced d ++ (spaced e ++ tail))))
     ∙ ap (λ (last : List ℕ). out ++ (spaced a ++ (spaced b ++ (spaced c ++ (spaced d ++ (spaced e ++ last)))))) (sym (append-nil tail))
 
--- a line of four words and more
+-- a line of four words or more
 pub line_text-more : (out w a b c : List ℕ) (ws : List (List ℕ))
     → (((((out ++ w) ++ spaced a) ++ spaced b) ++ spaced c) ++ flat_map spaced ws) ++ (10 ∷ []) ≡ out ++ line_text (w ∷ a ∷ b ∷ c ∷ ws)
 line_text-more out w a b c ws =

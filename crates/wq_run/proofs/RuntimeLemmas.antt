@@ -1,4 +1,4 @@
--- Why no runtime is made for a plan, and what a runtime that was closed says of the items of a declaration.
+-- Why no runtime is made for a plan, and what a closed runtime says about the items of a declaration.
 use Rattle.std.proofs.Common.{◌≡◌, ◌≢◌, ◌↔◌, ℕ, ◌<◌, ◌≤◌, Bool, true, false, List, length, Result, Vec, refl, sym, ap, subst, ◌∙◌, arith}
 use Rattle.std.specs.Prelude.{IfOk, IsTrue}
 use Rattle.std.proofs.lemmas.Result.{IfOk-weaker}
@@ -24,7 +24,8 @@ use Rattle.wq_run.specs.Running.{RunsDeclared, rows_for}
 pub items-wiring : (w : Wiring) (s : Declared) (a : Assignment) → IsTable s.table → w ≡ wiring (declared_waits s) a → items w ≡ length s.table.names
 items-wiring w s a table is = ap items is ∙ table.one_list_each
 
--- where it isn't out of memory that no runtime is made of a plan, it has too many workqueues: it is safe, and its rows are few
+-- if no runtime is made for a plan, and not because of memory, the plan has too many workqueues: it is safe, and its rows are
+-- few
 RunsDeclared-refused : (s : Declared) (w : Wiring) (a : Assignment) (rows : ℕ) (e : NewError) (end : End) (out : List ℕ) → IsSound s → IsPlan (declared_waits s) a
     → w ≡ wiring (declared_waits s) a → rows ≡ rows_for s → RefusesRuntime w rows e → (e ≢ OutOfMemory) × IsRefused (record { code = new_code e; line = 0 }) end out → RunsDeclared s end out
 RunsDeclared-refused s w a rows TooManyLanes end out sound plan is room why refused =
@@ -35,7 +36,7 @@ RunsDeclared-refused s w a rows NotSafe end out sound plan is room why refused =
     absurd (why.2 (subst (λ (x : Wiring). IsSafe x) (sym is) (IsSafe-plan (declared_waits s) a (IsDeclaration-sound s sound) plan)))
 RunsDeclared-refused s w a rows OutOfMemory end out sound plan is room why refused = absurd (refused.0 refl)
 
--- the answer where no runtime is made
+-- the answer if no runtime is made
 pub RunsDeclared-no_runtime : {T : Type 0} {A : Type 0} (s : Declared) (w : Wiring) (a : Assignment) (rows : ℕ) (e : NewError) (answer : Result (End × Vec ℕ A) T) → IsSound s
     → IsPlan (declared_waits s) a → w ≡ wiring (declared_waits s) a → rows ≡ rows_for s → RefusesRuntime w rows e
     → IfOk answer (λ printed. (e ≢ OutOfMemory) × IsRefused (record { code = new_code e; line = 0 }) printed.0 printed.1.items)

@@ -1,4 +1,4 @@
--- A text has one end of `run`, and one answer where no plan was run.
+-- A text has one end of `run`, and one answer if no plan was run.
 use Rattle.std.proofs.Common.{◌≡◌, ◌≢◌, ℕ, ◌<◌, ◌≤◌, List, Result, Ok, Err, refl, sym, ap, ◌∙◌, arith}
 use Rattle.std.specs.Prelude.{MatchResult}
 use Rattle.wq_text.specs.Refusal.{Refusal}
@@ -14,7 +14,7 @@ use Rattle.wq_commands.proofs.AnswerLemmas.{IsSound, IsSound-declaration}
 use Rattle.wq_commands.proofs.Uniqueness.{not_both, PrintsCircle-unique}
 use Rattle.wq_run.specs.Running.{HasRuntime, IsRunnable, Runs, RunsDeclared}
 
--- a plan doesn't have both many workqueues and few
+-- a plan doesn't have both too many workqueues and few enough
 one_width : (s : Declared) (a b : Assignment) → IsPlan (declared_waits s) a → IsPlan (declared_waits s) b → a.lanes ≤ max_runtime_lanes → max_runtime_lanes < b.lanes → ⊥
 one_width s a b one two few many =
     let same : a.lanes ≡ b.lanes = ap (λ (x : Assignment). x.lanes) (IsPlan-unique (declared_waits s) a b one two) in

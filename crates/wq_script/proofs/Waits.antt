@@ -80,13 +80,13 @@ next targets k t a b c lt is before here =
     subst (λ (done : List Target). CountsWaits a c done) (ap (λ (x : Target). take k targets ++ (x ∷ [])) is ∙ sym (take_more targets k t lt))
     (CountsWaits-then a b c (take k targets) (t ∷ []) before here)
 
--- what a body has done, where it has flushed these targets: of each item its seat counts the waits, and as many
--- executions as finished as before
+-- what a body has done when it has flushed these targets: for each item its seat counts the waits, and as many finished
+-- executions as before
 pub record HasFlushed (old now : List ℕ) (targets : List Target) : Type 0 where
   pub counted : CountsWaits old now targets
   pub finished : SameFinished old now
 
--- a refusal ends it
+-- after a refusal it stops
 pub CountsFirstWaits-refused : (w : Wiring) (targets : List Target) (k : ℕ) (t : Target) (old now after : List ℕ) (q : ℕ) (e : CallError)
     → k < length targets → t ≡ get_or targets k t → HasFlushed old now (take k targets) → HasCountsOf (items w) now → RefusedWaitFor w now after q t.item e
     → CountsFirstWaits old after targets

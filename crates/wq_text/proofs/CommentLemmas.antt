@@ -1,4 +1,4 @@
--- What stands before a comment.
+-- What comes before a comment.
 use Rattle.std.proofs.Common.{◌≡◌, ℕ, ◌<◌, ◌≤◌, Bool, true, false, eqb, ltb, List, ◌∷◌, ◌++◌, length, get_or, take, drop, Some, None, refl, sym, ap, ◌∙◌, arith, inl, inr, ◌⊎◌, length-append}
 use Rattle.std.specs.List.{Contains, position_or_len, after_first}
 use Rattle.std.proofs.lemmas.Bool.{eqb-true, eq-eqb, ltb-true, ltb-false}
@@ -23,7 +23,7 @@ hash_place-le bs = prefix_len-le-length _ bs
 pub length-before_comment-le : (bs : List ℕ) → length (before_comment bs) ≤ length bs
 length-before_comment-le bs = omega (arith, length-take-le (hash_place bs) bs (hash_place-le bs), hash_place-le bs)
 
--- what stands before the comment is a front
+-- what comes before the comment is a prefix
 pub before_comment-front : (bs : List ℕ) → (rest : List ℕ) × (bs ≡ before_comment bs ++ rest)
 before_comment-front bs = (drop (hash_place bs) bs, sym (take-append-drop (hash_place bs) bs))
 
@@ -65,7 +65,7 @@ IsBeforeComment-before_comment bs = record {
   whole_or_hash = hash_follows bs (ltb (hash_place bs) (length bs)) refl;
 }
 
--- ---- no other front does
+-- ---- no other prefix does
 
 before_comment-whole : (bs : List ℕ) → (Contains bs 35 → ⊥) → before_comment bs ≡ bs
 before_comment-whole bs h =

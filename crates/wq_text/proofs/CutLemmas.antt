@@ -1,4 +1,4 @@
--- Words before a comment, as they are cut off one after the other.
+-- Words before a comment, as they are cut one after the other.
 use Rattle.std.proofs.Common.{◌≡◌, ◌≢◌, ℕ, ◌+◌, ◌<◌, ◌≤◌, Bool, true, false, eqb, not, ◌||◌, List, [], ◌∷◌, ◌++◌, length, get_or, take, Some, None, refl, sym, ap, subst, ◌∙◌, arith, append-nil, one-add, inl, inr, ◌⊎◌}
 use Rattle.std.specs.List.{prefix_len}
 use Rattle.std.proofs.lemmas.Bool.{or_parts}
@@ -11,7 +11,7 @@ use Rattle.wq_text.specs.Words.{words_from, is_blank, begins_word, in_word, AllB
 use Rattle.wq_text.proofs.PieceLemmas.{is_false}
 use Rattle.wq_text.proofs.WordLemmas.{FailsAtOnce, words_from-blank, words_from-first_word}
 
--- ---- how many bytes pass a test, where only those near the front are looked at
+-- ---- how many bytes pass a test, where only those near the beginning are looked at
 
 module _ (p : ℕ → Bool) (n : ℕ) (bs : List ℕ) (within : n ≤ length bs) where
   near : length (take n bs) ≡ n
@@ -28,7 +28,7 @@ module _ (p : ℕ → Bool) (n : ℕ) (bs : List ℕ) (within : n ≤ length bs)
   prefix_len-all_near all before =
       sym (prefix_len_is p bs (length bs) 0 (omega arith) (λ j below. near_at j (omega arith) ∙ before j below) (λ lt. absurd (omega arith)))
 
--- ---- how many bytes stand before the first that ends a word
+-- ---- how many bytes come before the first that ends a word
 
 pub prefix_len-at_end : (bs : List ℕ) (k : ℕ) → IsFirstByte (is_byte3 32 9 35) bs (Some k) → k ≡ prefix_len in_word bs
 prefix_len-at_end bs k h =
@@ -109,7 +109,7 @@ words_from-none at bs gap rest (b ∷ word) after whole blank begins cut ends no
 nonempty : (word : List ℕ) → 0 < length word → word ≢ []
 nonempty word some e = absurd (omega (arith, ap length e))
 
--- blanks, a word, and the rest behind it
+-- blanks, a word, and the rest after it
 pub words_from-cut : (at : ℕ) (bs gap rest word after : List ℕ) → bs ≡ gap ++ rest → AllBlank gap → rest ≡ word ++ after → AllInWord word → EndsAtOnce after → 0 < length word
     → words_from at (before_comment bs) ≡ record { start = at + length gap; bytes = word } ∷ words_from (at + length gap + length word) (before_comment after)
 words_from-cut at bs gap rest word after whole blank cut inside ends some =

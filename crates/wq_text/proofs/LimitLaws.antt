@@ -19,7 +19,7 @@ IsShort m line = length line.bytes ≤ m
 abbrev pub IsLongAt : ℕ → ℕ → LineView → Type 0
 IsLongAt m n line = (line.no ≡ n) × (m < length line.bytes)
 
--- the line comes no earlier than this one, or is short
+-- the line isn't before this one, or it is short
 abbrev pub IsShortBelow : ℕ → ℕ → LineView → Type 0
 IsShortBelow m n line = line.no < n → length line.bytes ≤ m
 

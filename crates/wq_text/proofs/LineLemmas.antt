@@ -6,7 +6,7 @@ use Rattle.std.proofs.lemmas.List.{take-append-drop}
 use Rattle.std.proofs.Math.Seq.{get_or-append_seam, take-append_seam}
 use Rattle.wq_text.specs.Lines.{Piece, line_bytes}
 
--- the last byte of bytes that end with this one
+-- the last of some bytes that end with this one
 last_byte : (bs : List ℕ) (b : ℕ) → get_or (bs ++ (b ∷ [])) (length (bs ++ (b ∷ [])) - 1) 0 ≡ b
 last_byte bs b =
     let place : length (bs ++ (b ∷ [])) - 1 ≡ length bs = omega (arith, length-append bs (b ∷ [])) in
@@ -23,7 +23,7 @@ strip_carriage_return-other bs b ne =
     let last : eqb (get_or (bs ++ (b ∷ [])) (length (bs ++ (b ∷ [])) - 1) 0) 13 ≡ false = ne_eqb _ 13 (λ e. ne (sym (last_byte bs b) ∙ e)) in
     rw last refl
 
--- what is dropped stands behind what is kept
+-- what is dropped comes after what is kept
 strip_front : (bs : List ℕ) (cr : Bool) → eqb (get_or bs (length bs - 1) 0) 13 ≡ cr → (dropped : List ℕ) × (bs ≡ strip_carriage_return bs ++ dropped)
 strip_front bs true e = (drop (length bs - 1) bs, rw e (sym (take-append-drop (length bs - 1) bs)))
 strip_front bs false e = ([], rw e (sym (append-nil bs)))

@@ -15,7 +15,7 @@ use Rattle.wq_text.proofs.SliceLaws.{LineStands, LineStands-lines_of, within-Sta
 abbrev pub has_long : ℕ → List ℕ → Bool
 has_long m bs = is_some (first_long_line m (lines_of bs))
 
--- some of the pieces makes a line that has
+-- some piece makes such a long line
 abbrev long_piece : ℕ → List Piece → Bool
 long_piece m [] = false
 long_piece m (p ∷ ps) = ltb m (length (line_bytes p)) || long_piece m ps
@@ -35,7 +35,7 @@ has_long-lines_from m n at (p ∷ ps) = pieces-step m n at p ps (ltb m (length (
 has_long-pieces : (m : ℕ) (bs : List ℕ) → has_long m bs ≡ long_piece m (pieces bs)
 has_long-pieces m bs = has_long-lines_from m 1 0 (pieces bs)
 
--- ---- behind a line that isn't too long
+-- ---- after a line that isn't too long
 
 short_piece : (m : ℕ) (p : Piece) (ps : List Piece) → length (line_bytes p) ≤ m → long_piece m (p ∷ ps) ≡ long_piece m ps
 short_piece m p ps h = rw (le-ltb m (length (line_bytes p)) h) refl
@@ -44,9 +44,9 @@ pub has_long-behind_first : (m : ℕ) (bs rest : List ℕ) (p : Piece) → piece
 has_long-behind_first m bs rest p cut short =
     has_long-pieces m rest ∙ sym (has_long-pieces m bs ∙ ap (long_piece m) cut ∙ short_piece m p (pieces rest) short)
 
--- ---- behind a line feed that comes early enough
+-- ---- after a line feed that comes early enough
 
--- of bytes, a line feed and more: the first piece is no longer than the bytes, and among the others what is long comes behind them
+-- for bytes, a line feed and more: the first piece is no longer than the bytes, and what is long among the others comes after them
 record IsJump (m : ℕ) (xs ys : List ℕ) : Type 0 where
   first : Piece
   others : List Piece

@@ -10,7 +10,7 @@ use Rattle.std.proofs.lemmas.Str.{IsUtf8-from_ascii}
 use Rattle.std.proofs.lemmas.Str.Parse.{IsNumeralModel, numerals_by_value, tells_digits, parse_plain, digit_at}
 use Rattle.wq_text.specs.Numbers.{Spells}
 
--- a digit, which is no `0` in front of others
+-- a digit, which isn't a `0` before others
 pub record BeginsNumber (bs : List ℕ) : Type 0 where
   pub some : 0 < length bs
   pub digit : IsInRange 48 57 (get_or bs 0 0)

@@ -1,4 +1,4 @@
--- The pieces of a text are the only ones that make it.
+-- The pieces of a text are the only ones that make it up.
 use Rattle.std.proofs.Common.{◌≡◌, ◌≢◌, ℕ, zero, suc, ◌<◌, Bool, true, false, eqb, List, [], ◌∷◌, ◌++◌, length, get_or, refl, sym, ap, subst, ◌∙◌, arith, append_assoc, append-nil, inl, inr}
 use Rattle.std.specs.List.{AllByRecursion, Contains, flat_map}
 use Rattle.std.proofs.lemmas.Bool.{eqb-true, eqb-false, false≢true}

@@ -40,13 +40,13 @@ split_at_feed bs k within feed =
     let tail : drop k bs ≡ 10 ∷ drop (k + 1) bs = drop-cons bs k 0 within ∙ ap (λ (x : ℕ). x ∷ drop (suc k) bs) feed ∙ (let e : suc k ≡ k + 1 = omega arith in ap (λ (j : ℕ). 10 ∷ drop j bs) e) in
     sym (take-append-drop k bs) ∙ ap (λ (ys : List ℕ). take k bs ++ ys) tail
 
--- the pieces, where the first line feed stands
+-- the pieces, by where the first line feed is
 pub pieces-at_feed : (bs : List ℕ) (k : ℕ) → IsFirstByte (is_byte 10) bs (Some k) → pieces bs ≡ record { bytes = take k bs; ended = true } ∷ pieces (drop (k + 1) bs)
 pieces-at_feed bs k h =
     let clear : NoFeed (take k bs) = NoFeed-take bs k (λ j lt len e. h.0.before j (omega arith) lt e) in
     ap pieces (split_at_feed bs k h.0.high (eqb-true _ _ h.1)) ∙ pieces-feed (take k bs) (drop (k + 1) bs) clear
 
--- no line feed stands in the bytes
+-- no line feed is in the bytes
 pub pieces-no_feed : (bs : List ℕ) → 0 < length bs → IsFirstByte (is_byte 10) bs None → pieces bs ≡ record { bytes = bs; ended = false } ∷ []
 pieces-no_feed bs some h =
     let clear : NoFeed (take (length bs) bs) = NoFeed-take bs (length bs) (λ j lt len e. h j (omega arith) lt e) in

@@ -13,7 +13,7 @@ use Rattle.wq_text.proofs.LineLemmas.{line_bytes-front, length-line_bytes-le}
 use Rattle.wq_text.proofs.PieceLaws.{AreThePieces-pieces, OnlyTheLastIsOpen-tail}
 use Rattle.wq_text.proofs.WordLaws.{AreTheWords-words_from}
 
--- the bytes stand in the text at this offset
+-- the bytes are in the text at this offset
 pub record StandsAt (text : List ℕ) (start : ℕ) (bytes : List ℕ) : Type 0 where
   pub front : List ℕ
   pub behind : List ℕ
@@ -37,7 +37,7 @@ within-StandsAt text start bytes s =
     let total : length text ≡ length s.front + (length bytes + length s.behind) = ap length s.parts ∙ simp length-append in
     omega (arith, s.starts)
 
--- what bytes begin with stands where they do
+-- what bytes begin with is where they are
 StandsAt-front : (text : List ℕ) (start : ℕ) (bytes front rest : List ℕ) → bytes ≡ front ++ rest → StandsAt text start bytes → StandsAt text start front
 StandsAt-front text start bytes front rest e s = record {
   front = s.front;

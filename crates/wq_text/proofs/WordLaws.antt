@@ -1,4 +1,4 @@
--- The words of bytes are the only ones, and where they stand.
+-- The words of bytes are the only ones, and where they are.
 use Rattle.std.proofs.Common.{◌≡◌, ◌≢◌, ℕ, ◌+◌, ◌<◌, ◌≤◌, Bool, true, false, List, [], ◌∷◌, ◌++◌, length, refl, sym, ap, subst, ◌∙◌, arith, length-append}
 use Rattle.std.specs.List.{All, AllPairs}
 use Rattle.std.proofs.lemmas.List.Elements.{All-nil, All-cons, All-weaker}
@@ -87,7 +87,7 @@ words_from-AreTheWords at bs [] h = sym (words_from-blank at bs h)
 words_from-AreTheWords at bs (w ∷ ws) (rest, first, more) =
     ap (λ (vs : List WordView). w ∷ vs) (words_from-AreTheWords (w.start + length w.bytes) rest ws more) ∙ sym (words_from-first_word at bs w rest first)
 
--- ---- they stand within the bytes, in order and apart
+-- ---- they are within the bytes, in order and apart
 
 -- the word begins no earlier than this offset, and ends no later than that one
 abbrev pub IsBetween : ℕ → ℕ → WordView → Type 0
@@ -114,7 +114,7 @@ some_gap (g ∷ gap) word rest filled unbroken ends = omega arith
 abbrev BeginsAfter : ℕ → WordView → Type 0
 BeginsAfter at w = at < w.start
 
--- words behind a word begin later
+-- words after a word begin later
 begin_later : (at : ℕ) (bs : List ℕ) (ws : List WordView) → EndsAWord bs → AreTheWords at bs ws → All (BeginsAfter at) ws
 begin_later at bs [] ends h = All-nil (BeginsAfter at)
 begin_later at bs (w ∷ ws) ends (rest, first, more) =

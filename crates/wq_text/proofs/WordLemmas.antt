@@ -41,19 +41,19 @@ pub words_from-blank : (at : ℕ) (bs : List ℕ) → AllBlank bs → words_from
 words_from-blank at [] h = refl
 words_from-blank at (b ∷ bs) h = let more : words_from at (b ∷ bs) ≡ words_from (at + 1) bs = rw h.0 refl in more ∙ words_from-blank (at + 1) bs h.1
 
--- ---- the longest front that passes a test
+-- ---- the longest prefix that passes a test
 
 passes-step : (p : ℕ → Bool) (x : ℕ) (xs : List ℕ) (b : Bool) → p x ≡ b → AllByRecursion (λ y. p y ≡ true) (take (prefix_len p xs) xs)
     → AllByRecursion (λ y. p y ≡ true) (take (prefix_len p (x ∷ xs)) (x ∷ xs))
 passes-step p x xs true e rest = rw (e, one-add) (e, rest)
 passes-step p x xs false e rest = rw e tt
 
--- each byte of the front passes
+-- each byte of the prefix passes
 pub AllByRecursion-take-prefix_len : (p : ℕ → Bool) (xs : List ℕ) → AllByRecursion (λ x. p x ≡ true) (take (prefix_len p xs) xs)
 AllByRecursion-take-prefix_len p [] = tt
 AllByRecursion-take-prefix_len p (x ∷ xs) = passes-step p x xs (p x) refl (AllByRecursion-take-prefix_len p xs)
 
--- what follows the front is nothing, or begins with a byte that doesn't pass
+-- what follows the prefix is nothing, or begins with a byte that doesn't pass
 abbrev pub FailsAtOnce : (ℕ → Bool) → List ℕ → Type 0
 FailsAtOnce p [] = Unit {0}
 FailsAtOnce p (x ∷ xs) = p x ≡ false

@@ -11,7 +11,7 @@ use Rattle.clap.proofs.OnLiterals.{clap_on_literals}
 use Rattle.wqplan.specs.CommandLine.{wqplan, is_no_option, Asked, Asks, AsksFor, Calls, GivesArguments, command_name}
 use Rattle.wqplan.specs.CommandLine.Asked.{plans, checks, judges, replays, finds, draws, runs, explains}
 
--- where a part that is turned around is one of those that hold, it doesn't
+-- if a negated part is one of those that hold, the part itself doesn't
 pub third_is_not : (x y z w : Bool) → x && (y && (not z && w)) ≡ true → z ≡ false
 third_is_not x y false w all = refl
 third_is_not true true true w all = cc
@@ -23,7 +23,7 @@ pub wqplan_is_simple : is_simple wqplan ≡ true
 unfolding clap_on_literals
 wqplan_is_simple = refl
 
--- a word that is no option is no long one, no short one and not `--`
+-- a word that isn't an option is neither a long nor a short one, nor `--`
 pub long_of-no_option : (word : Text) → is_no_option word ≡ true → long_of word ≡ None
 long_of-no_option [] plain = refl
 long_of-no_option (x ∷ xs) plain = go (x == 45) refl plain
@@ -113,7 +113,7 @@ asks_replay program declaration assignment run p q r =
     (rw (bytes_eq-no_option assignment q, long_of-no_option assignment q, short_of-no_option assignment q)
     (rw (bytes_eq-no_option run r, long_of-no_option run r, short_of-no_option run r) (_, refl, (refl, refl, refl))))
 
--- `wqplan circles DECL` is taken, and gives it alone
+-- `wqplan circles DECL` is taken, and gives only DECL
 pub takes_own_circles : (program declaration : Text) → is_no_option declaration ≡ true → takes wqplan (program ∷ codes "circles" ∷ declaration ∷ []) ≡ true
 unfolding clap_on_literals
 takes_own_circles program declaration p = rw (bytes_eq-no_option declaration p, long_of-no_option declaration p, short_of-no_option declaration p) refl
@@ -137,7 +137,7 @@ asks_circles program declaration assignment p q =
     rw (bytes_eq-no_option declaration p, long_of-no_option declaration p, short_of-no_option declaration p)
     (rw (bytes_eq-no_option assignment q, long_of-no_option assignment q, short_of-no_option assignment q) (_, refl, (refl, refl)))
 
--- `wqplan dot DECL` is taken, and gives it alone
+-- `wqplan dot DECL` is taken, and gives only DECL
 pub takes_own_dot : (program declaration : Text) → is_no_option declaration ≡ true → takes wqplan (program ∷ codes "dot" ∷ declaration ∷ []) ≡ true
 unfolding clap_on_literals
 takes_own_dot program declaration p = rw (bytes_eq-no_option declaration p, long_of-no_option declaration p, short_of-no_option declaration p) refl
@@ -217,7 +217,7 @@ Asks_Calls words (runs declaration) (program, are, p) = subst (λ ws. Asks ws (r
 Asks_Calls words (explains None) (program, are) = subst (λ ws. Asks ws (explains None)) (sym are) (asks_list program)
 Asks_Calls words (explains (Some code)) (program, are, p) = subst (λ ws. Asks ws (explains (Some code))) (sym are) (asks_explain program code p)
 
--- a value that a getter hands out is the first one of its rows, and where it hands out none there is none
+-- a value that a getter returns is the first one of its rows; if it returns none, there is none
 pub value_given : (r : Option (Bor Text)) (s : Bor Text) (f : Found) (id : Text) → option_map (λ b. b.now) r ≡ first_value f id → r ≡ Some s → first_of id (rows_of f) ≡ Some s.now
 value_given r s f id read is = sym (first_value-rows f id) ∙ (sym read ∙ ap (option_map (λ (b : Bor Text). b.now)) is)
 
@@ -285,7 +285,7 @@ AsksFor-unique met a b (rows, is, gives) (others, also, given) =
     let same : others ≡ rows = sym (ap (λ (p : Text × List Row). p.1) both) in
     GivesArguments-unique rows a b names gives (subst (λ (rs : List Row). GivesArguments rs b) same given)
 
--- what holds of an error holds of the result that has it
+-- what holds for an error holds for the result that has it
 pub failed_with : {T E : Type 0} (r : Result T E) (e : E) (P : T → Type 0) (Q : E → Type 0) → IsErrAnd r (λ y. y ≡ e) → Q e → MatchResult r P Q
 failed_with (Ok x) e P Q is holds = absurd is
 failed_with (Err y) e P Q is holds = subst Q (sym is) holds

@@ -12,7 +12,7 @@ use Rattle.wqplan.specs.Numbers.{IsPrintedByProgram, of_text, of_plan}
 use Rattle.wq_explain.specs.declared.explain.Explained.TheVariants.{Known}
 use Rattle.wq_explain.specs.Explaining.{Row, explanations, known_or_not, number_end, numbered, with_number}
 
--- a number of a text that is refused, or of a `no`, has an explanation
+-- the number of a refused text, or of a `no`, has an explanation
 Known-text : (code : ℕ) → IsPrinted code → number_end code ≡ Known
 Known-text code (of_limit TextTooLong) = refl
 Known-text code (of_limit (LineTooLong line)) = refl

@@ -1,4 +1,4 @@
--- The titles of the rows so far stand behind what stood there.
+-- The titles of the rows so far come after what was there.
 use Rattle.std.proofs.Common.{◌≡◌, ◌++◌, map, take}
 use Rattle.wq_explain.specs.Explaining.{row_of, titles}
 use Rattle.wq_explain.proofs.explain.push_titles.Given as goal

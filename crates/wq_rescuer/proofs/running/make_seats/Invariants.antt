@@ -3,7 +3,7 @@ use Rattle.std.specs.List.{All}
 use Rattle.wq_core.specs.Wiring.{items}
 use Rattle.wq_rescuer.proofs.running.make_seats.Given as goal
 
--- so many seats were made, all without counts
+-- this many seats were made, all without counts
 abbrev pub invariant-loop : goal.invariant-loop
 invariant-loop g l =
     (vec_len l.seats ≡ l.counter) × (l.count ≤ vec_capacity l.seats) × (l.count ≡ l.fn.lanes + l.fn.callers)

@@ -23,12 +23,12 @@ exists-answered : (old new : BookView) (i : ℕ) (answer : Ask) → AnswersAsk o
 exists-answered old new i Idle row = exists-asked old new i false row.0 row.1
 exists-answered old new i (Waiting asked) row = exists-asked old new i true asked.mark row.1
 
--- a cancellation needs one row at most
+-- a cancellation needs at most one row
 needs_one : (w : Wiring) (i : ℕ) (said : Bool) → rows_needed w (Cancel i) said ≤ 1
 needs_one w i true = omega arith
 needs_one w i false = omega arith
 
--- where a row is free, a cancellation of an item that exists isn't refused
+-- if a row is free, a cancellation of an item that exists isn't refused
 cancel-not_refused : (b : BookView) (i : ℕ) (e : BookError) → i < items b.wiring → 0 < free b → RefusesItem b i Cancel e → ⊥
 cancel-not_refused b i HistoryFull there room why = let few = why.1.3 in omega (arith, room, few, needs_one b.wiring i why.1.0)
 cancel-not_refused b i Closed there room why = why

@@ -16,7 +16,7 @@ use Rattle.wq_api.specs.Locked.{CountsAskAndCancel, CountsCancelSync, asked_and_
 use Rattle.wq_api.proofs.CallsRefused.{told_refused, told_not_counted}
 use Rattle.wq_api.proofs.runtime.WqRuntime.cancel_work_sync.Goals as goal
 
--- an item exists that has a lane
+-- an item that has a lane exists
 there : (w : Wiring) (i : ℕ) (lane : Option ℕ) (none : Bool) → IfSome lane (λ q. IsOnLane w q i) → is_some lane ≡ not none → none ≡ false → i < items w
 there w i None none some means is = absurd (let e : false ≡ true = means ∙ ap not is in cc)
 there w i (Some q) none some means is = some.0
@@ -32,12 +32,12 @@ has_room counts full means is = elim (cases_lt (sum counts) seat_rows) [
 counted-idle : (old new : List ℕ) (i : ℕ) (answer : Ask) (taken : Bool) → answer ≡ Idle → CountsAskAndCancel old new i answer taken → CountsCancelSync old new i taken
 counted-idle old new i answer taken is counted = inl (subst (λ (x : Ask). CountsAskAndCancel old new i x taken) is counted)
 
--- of one that waits, and of a cancellation
+-- counts of an ask that waits, and of a cancellation
 counted-waits : (old new : List ℕ) (i : ℕ) (answer : Ask) (asked : Asked) (taken : Bool) → answer ≡ Waiting asked → CountsAskAndCancel old new i answer taken
     → new ≡ asked_and_cancelled old i true taken
 counted-waits old new i answer asked taken is counted = subst (λ (x : Ask). CountsAskAndCancel old new i x taken) is counted
 
--- and of its end
+-- and of the end of the ask
 counted-told : (b between : BookView) (old both new : List ℕ) (i : ℕ) (answer : Ask) (asked : Asked) (taken : Bool) → answer ≡ Waiting asked → AnswersAsk b between i answer
     → both ≡ asked_and_cancelled old i true taken → new ≡ raised both asked.item ToldKind true → CountsCancelSync old new i taken
 counted-told b between old both new i answer asked taken is row counted told =

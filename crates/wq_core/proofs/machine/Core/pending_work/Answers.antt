@@ -11,7 +11,7 @@ use Rattle.wq_core.specs.Work.{whole_work}
 use Rattle.wq_core.proofs.WorkBounds.{pending_items-exist, pending_work-machine}
 use Rattle.wq_core.proofs.machine.Core.pending_work.Goals as goal
 
--- the iterator begins with all that is pending on the lane
+-- the iterator begins with everything that is pending on the lane
 all_left : (left first : Iter Entry) (lane own : Lane) → left ≡ first → deque_iter_rest first ≡ lane.pending → lane ≡ own → deque_iter_rest left ≡ own.pending
 all_left left first lane own same rest is = ap deque_iter_rest same ∙ rest ∙ ap (λ (l : Lane). l.pending) is
 

@@ -1,4 +1,4 @@
--- A block may be freed in another thread where the heap behind may free it there.
+-- A block may be freed in another thread if the inner allocator may free it there.
 use mir.Syntax.{Dict}
 use denote.RattleType.{RattleType}
 use denote.Param.Send.{Frees}

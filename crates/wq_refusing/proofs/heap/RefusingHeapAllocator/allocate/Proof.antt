@@ -1,4 +1,4 @@
--- It refuses one request, and answers to the others what the heap behind answers. Assumes `Logic`.
+-- It refuses one request, and answers the others as the inner allocator does. Assumes `Logic`.
 use Rattle.std.proofs.Common.{◌≡◌, ℕ, ◌+◌, ◌^◌, ◌<◌, true, false, List, [], ◌∷◌, Ok, Err, refl, w64, Bor}
 use seplogic.Ra.Ura.{Ura}
 use mir.Syntax.{Ty, Args, Fn, a_type, dnil, dcons}

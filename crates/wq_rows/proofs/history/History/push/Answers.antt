@@ -6,7 +6,7 @@ use Rattle.wq_rows.specs.Stored.{HistoryView, rows_of}
 use Rattle.wq_rows.proofs.StoredLemmas.{IsRoomy-memory, IsRoomy-push, rows_of-push}
 use Rattle.wq_rows.proofs.history.History.push.Goals as goal
 
--- what was to be appended stands at the end, where it was done
+-- what was to be appended is at the end, if it was appended
 appended : (done : Bool) (old new written bytes : List ℕ) → new ≡ (if done then old ++ written else old) → done ≡ true → written ≡ bytes → new ≡ old ++ bytes
 appended done old new written bytes is so same =
     is ∙ ap (λ (d : Bool). if d then old ++ written else old) so ∙ ap (λ (l : List ℕ). old ++ l) same
