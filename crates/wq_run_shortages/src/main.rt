@@ -2,9 +2,9 @@
 //!
 //! It is a program of the tests, and never installed. It prints a line for each case of `run` in `wq_cases`, and for the largest
 //! declaration of examples/: how many requests for memory there are, how many of the runs in which one of them was refused ended
-//! with out of memory or without a thread, and nothing written, and how many with the full answer all the same; and a line for
-//! the reads and the writes of each case that fail in turn. Where a run ends in another way a line says so, and the status is 1.
-//! It takes the time of all runs.
+//! with out of memory or without a thread, and nothing written, and how many with the full answer all the same; the same of the runs
+//! in which all requests from one on were refused; and a line for the reads and the writes of each case that fail in turn. Where a
+//! run ends in another way a line says so, and the status is 1. It takes the time of all runs.
 #![tactic(auto)]
 
 mod devices;

@@ -1,4 +1,4 @@
-//! Runs with a heap that refuses one request. They take the time of all of them.
+//! Runs with a heap that refuses one request, or that one and all after it. They take the time of all of them.
 
 use std::alloc::{AllocError, Global};
 use std::io;
@@ -6,7 +6,7 @@ use std::sync::Wait;
 use std::thread::Threads;
 use wq_cases::{LARGEST, SEED, run_cases};
 use wq_commands::{End, Fault, Metered};
-use wq_refusing::{Outcome, RefusingHeap};
+use wq_refusing::{Outcome, Refusing, RefusingHeap, Tally, put_tallies};
 use wq_run::{CommandFault, run_cmd};
 
 /// More requests than any run has.
@@ -18,13 +18,6 @@ struct Asked<'a> {
     text: &'a [u8],
     end: End,
     answer: &'a [u8],
-}
-
-/// How the runs ended in which a request was refused.
-#[derive(Clone, Copy)]
-struct Tally {
-    refused: u64,
-    answered: u64,
 }
 
 /// How a run ends with this heap.
@@ -55,13 +48,14 @@ fn outcome<R: Threads + Wait + Sync>(
 fn refuse_each<R: AllocGlobal + Threads + Wait + Sync>(
     rt: &R,
     asked: Asked<'_>,
+    refusing: Refusing,
 ) -> Result<Tally, u64> {
     let mut tally = Tally {
         refused: 0,
         answered: 0,
     };
     for nth in 1..=MOST {
-        let heap = RefusingHeap::new(rt.alloc(), nth);
+        let heap = RefusingHeap::new(rt.alloc(), refusing, nth);
         let outcome = outcome(rt, rt.alloc(), &heap, asked);
         match (heap.has_refused(), outcome) {
             (true, Outcome::Refused) => tally.refused = tally.refused.saturating_add(1),
@@ -73,7 +67,7 @@ fn refuse_each<R: AllocGlobal + Threads + Wait + Sync>(
     Err(MOST)
 }
 
-/// Runs a declaration with each request refused in turn. Gives whether all runs ended as they should.
+/// Runs a declaration with each request refused in turn, alone and with all after it. Gives whether all runs ended as they should.
 fn put_case<R: Print + AllocGlobal + Threads + Wait + Sync>(
     rt: &R,
     name: &str,
@@ -81,19 +75,10 @@ fn put_case<R: Print + AllocGlobal + Threads + Wait + Sync>(
     end: End,
     answer: &[u8],
 ) -> io::Result<bool> {
-    match refuse_each(rt, Asked { text, end, answer }) {
-        Ok(Tally { refused, answered }) => {
-            let requests = refused.saturating_add(answered);
-            println!(rt;
-                "run DECL, {name}: requests {requests} refused {refused} answered {answered}"
-            )?;
-            Ok(true)
-        }
-        Err(nth) => {
-            println!(rt; "run DECL, {name}: WRONG where request {nth} is refused")?;
-            Ok(false)
-        }
-    }
+    let asked = Asked { text, end, answer };
+    let one = refuse_each(rt, asked, Refusing::One);
+    let all = refuse_each(rt, asked, Refusing::AllFrom);
+    put_tallies(rt, "run DECL", name, one, all)
 }
 
 /// Runs the largest declaration of examples/ with each request refused in turn. Gives whether all runs ended as they should.

@@ -1,6 +1,6 @@
 //! The calls of a caller in one thread: a runtime, a seat and the calls that are made with it.
 //!
-//! The runtime's memory and the seat's is of the heap that refuses a request; what they are made of is of one that refuses none.
+//! The runtime's memory and the seat's is of the heap that refuses requests; what they are made of is of one that refuses none.
 //! It takes the time of all runs.
 
 ghost use Rattle.std.specs.Prelude.{◌≡◌, length};
@@ -171,7 +171,7 @@ struct Calls<'a, R: Wait> {
 
 impl<R: Wait> Trial for Calls<'_, R> {
     fn run(&self, alloc: Global, heap: &RefusingHeap<Global>) -> Outcome {
-        let ample = RefusingHeap::new(alloc, u64::MAX / 2);
+        let ample = RefusingHeap::ample(alloc);
         match read_declaration(&ample, SEED, TWO.as_bytes()) {
             Ok(declared) => play_declared(self.rt, &ample, heap, &declared),
             Err(_) => Outcome::Wrong,
@@ -179,7 +179,7 @@ impl<R: Wait> Trial for Calls<'_, R> {
     }
 }
 
-/// Makes the calls with each request refused in turn. Gives whether all runs ended as they should.
+/// Makes the calls with each request refused in turn, alone and with all after it. Gives whether all runs ended as they should.
 pub(crate) fn put_calls<R: Print + AllocGlobal + Wait>(rt: &R) -> io::Result<bool> {
     put_trial(rt, "a runtime", "a seat and its calls", &Calls { rt })
 }

@@ -1,6 +1,6 @@
 //! Rescuers and callers in threads: `run_all` of a runtime, its bodies and its callers.
 //!
-//! Its memory is of the heap that refuses a request; the runtime, the bodies and the callers are of one that refuses none. It takes
+//! Its memory is of the heap that refuses requests; the runtime, the bodies and the callers are of one that refuses none. It takes
 //! the time of all runs.
 
 ghost use Rattle.std.specs.Prelude.{◌≡◌, length};
@@ -21,22 +21,12 @@ use wq_commands::{Declaration, read_declaration};
 use wq_groups::Assignment;
 use wq_items::ItemTable;
 use wq_plan::{Answer, solve};
-use wq_refusing::{Outcome, RefusingHeap};
+use wq_refusing::{Outcome, Refusing, RefusingHeap, Tally, put_tallies};
 use wq_rescuer::{Ran, RunFault, RunWhy, run_all};
 use wq_script::{script_bodies, script_callers};
 
-/// What the lines call it.
-const NAME: &str = "a runtime, its rescuers and callers";
-
 /// More requests than any run has.
 const MOST: u64 = 1_000_000;
-
-/// How the runs ended in which a request was refused.
-#[derive(Clone, Copy)]
-struct Tally {
-    refused: u64,
-    answered: u64,
-}
 
 /// Runs all on a runtime of two lanes, and closes it. Where there is no memory for it, both bodies and both callers are handed
 /// back, and the runtime is closed with the seats that were made.
@@ -147,7 +137,7 @@ fn outcome<R: Threads + Wait + Sync>(
     alloc: Global,
     heap: &RefusingHeap<Global>,
 ) -> Outcome {
-    let ample = RefusingHeap::new(alloc, u64::MAX / 2);
+    let ample = RefusingHeap::ample(alloc);
     match read_declaration(&ample, SEED, TWO.as_bytes()) {
         Ok(declared) => play_declared(rt, &ample, heap, &declared),
         Err(_) => Outcome::Wrong,
@@ -158,13 +148,16 @@ fn outcome<R: Threads + Wait + Sync>(
 /// which it ends as it should not.
 ///
 /// It is `put_trial` of `wq_refusing`, but for the threads: a method of a trait isn't told that `R` can be shared by threads.
-fn refuse_each<R: AllocGlobal + Threads + Wait + Sync>(rt: &R) -> Result<Tally, u64> {
+fn refuse_each<R: AllocGlobal + Threads + Wait + Sync>(
+    rt: &R,
+    refusing: Refusing,
+) -> Result<Tally, u64> {
     let mut tally = Tally {
         refused: 0,
         answered: 0,
     };
     for nth in 1..=MOST {
-        let heap = RefusingHeap::new(rt.alloc(), nth);
+        let heap = RefusingHeap::new(rt.alloc(), refusing, nth);
         let outcome = outcome(rt, rt.alloc(), &heap);
         match (heap.has_refused(), outcome) {
             (true, Outcome::Refused) => tally.refused = tally.refused.saturating_add(1),
@@ -176,17 +169,9 @@ fn refuse_each<R: AllocGlobal + Threads + Wait + Sync>(rt: &R) -> Result<Tally, 
     Err(MOST)
 }
 
-/// Runs all with each request refused in turn. Gives whether all runs ended as they should.
+/// Runs all with each request refused in turn, alone and with all after it. Gives whether all runs ended as they should.
 pub(crate) fn put_crew<R: Print + AllocGlobal + Threads + Wait + Sync>(rt: &R) -> io::Result<bool> {
-    match refuse_each(rt) {
-        Ok(Tally { refused, answered }) => {
-            let requests = refused.saturating_add(answered);
-            println!(rt; "{NAME}: requests {requests} refused {refused} answered {answered}")?;
-            Ok(true)
-        }
-        Err(nth) => {
-            println!(rt; "{NAME}: WRONG where request {nth} is refused")?;
-            Ok(false)
-        }
-    }
+    let one = refuse_each(rt, Refusing::One);
+    let all = refuse_each(rt, Refusing::AllFrom);
+    put_tallies(rt, "a runtime", "its rescuers and callers", one, all)
 }

@@ -2,8 +2,9 @@
 //!
 //! It is a program of the tests, and never installed. It prints a line for the calls of a caller and one for rescuers and callers in
 //! threads: how many requests for memory there are, how many of the runs in which one of them was refused ended with out of memory
-//! and nothing done, and how many went on as with enough memory. Where a run ends in another way a line says so, and the status
-//! is 1. What each call answers was worked out by hand from "Runtimes" in docs/FORMAT.md. It takes the time of all runs.
+//! and nothing done, and how many went on as with enough memory; and the same of the runs in which all requests from one on were
+//! refused. Where a run ends in another way a line says so, and the status is 1. What each call answers was worked out by hand from
+//! "Runtimes" in docs/FORMAT.md. It takes the time of all runs.
 #![tactic(auto)]
 
 mod calls;

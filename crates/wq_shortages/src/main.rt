@@ -2,8 +2,9 @@
 //!
 //! It is a program of the tests, and never installed. It prints a line for each case of `wq_cases`, and for each command on the
 //! largest declaration of examples/: how many requests for memory there are, how many of the runs in which one of them was refused
-//! ended with out of memory and nothing written, and how many with the full answer all the same. Where a run ends in another way a
-//! line says so, and the status is 1. It takes the time of all runs.
+//! ended with out of memory and nothing written, and how many with the full answer all the same; and the same of the runs in which
+//! all requests from one on were refused. Where a run ends in another way a line says so, and the status is 1. It takes the time of
+//! all runs.
 #![tactic(auto)]
 
 mod commands;

@@ -1,5 +1,5 @@
-//! Machines and books with each request for memory refused in turn: one is refused while it is made, or goes on as with enough
-//! memory.
+//! Machines and books with each request for memory refused in turn, alone and with all after it: one is refused while it is made, or
+//! goes on as with enough memory.
 //!
 //! Each answer was worked out by hand from "Steps" and "Histories" in docs/FORMAT.md. Takes the time of making each as often as it
 //! has requests.
@@ -12,15 +12,13 @@ use std::process::Abort;
 use std::test::Fail;
 use wq_history::{Asked, Book, BookError, Told};
 use wq_items::ItemId;
-use wq_refusing::RefusingHeap;
+use wq_refusing::{Refusing, RefusingHeap};
 
 /// More requests than a machine or a book has.
 const MOST: u64 = 1000;
 
-/// A heap that refuses no request.
-fn ample(alloc: Global) -> RefusingHeap<Global> {
-    RefusingHeap::new(alloc, u64::MAX / 2)
-}
+/// The ways in which requests are refused.
+const WAYS: [Refusing; 2] = [Refusing::One, Refusing::AllFrom];
 
 /// Makes the machine of two lanes, and has it run until it is stuck. Says whether it was made.
 fn runs_until_stuck(
@@ -28,7 +26,7 @@ fn runs_until_stuck(
     alloc: Global,
     heap: &RefusingHeap<Global>,
 ) -> Result<bool, Fail> {
-    let ample = ample(alloc);
+    let ample = RefusingHeap::ample(alloc);
     match core_in(&ample, heap, CROSSED, 2, CROSSED_LANES)? {
         Ok(mut core) => {
             assert_stuck(rt, alloc, &mut core)?;
@@ -38,17 +36,25 @@ fn runs_until_stuck(
     }
 }
 
-#[test]
-fn machines_are_refused_while_they_are_made(rt: HostRuntime) -> Result<(), Fail> {
+/// Makes the machine, and has it run, with each request refused in turn.
+fn make_machines(rt: &impl Abort, alloc: Global, refusing: Refusing) -> Result<(), Fail> {
     for nth in 1..MOST {
-        let heap = RefusingHeap::new(rt.alloc(), nth);
-        let made = runs_until_stuck(&rt, rt.alloc(), &heap)?;
+        let heap = RefusingHeap::new(alloc, refusing, nth);
+        let made = runs_until_stuck(rt, alloc, &heap)?;
         if !heap.has_refused() {
             assert!(rt; made && nth > 1);
             return Ok(());
         }
     }
     Err(Fail::from("there is no end of requests"))
+}
+
+#[test]
+fn machines_are_refused_while_they_are_made(rt: HostRuntime) -> Result<(), Fail> {
+    for refusing in WAYS {
+        make_machines(&rt, rt.alloc(), refusing)?;
+    }
+    Ok(())
 }
 
 /// The ask that still waits.
@@ -137,7 +143,7 @@ fn keeps_book(
     heap: &RefusingHeap<Global>,
     plot: Plot,
 ) -> Result<bool, Fail> {
-    let ample = ample(alloc);
+    let ample = RefusingHeap::ample(alloc);
     let Ok(core) = core_in(&ample, heap, ALONE, 1, &[0])? else {
         return Ok(false);
     };
@@ -154,9 +160,9 @@ fn keeps_book(
 }
 
 /// Makes a book, and the calls of a plot, with each request refused in turn.
-fn keep_books(rt: &impl Abort, alloc: Global, plot: Plot) -> Result<(), Fail> {
+fn keep_books(rt: &impl Abort, alloc: Global, plot: Plot, refusing: Refusing) -> Result<(), Fail> {
     for nth in 1..MOST {
-        let heap = RefusingHeap::new(alloc, nth);
+        let heap = RefusingHeap::new(alloc, refusing, nth);
         let made = keeps_book(rt, alloc, &heap, plot)?;
         if !heap.has_refused() {
             assert!(rt; made && nth > 1);
@@ -168,8 +174,9 @@ fn keep_books(rt: &impl Abort, alloc: Global, plot: Plot) -> Result<(), Fail> {
 
 #[test]
 fn books_are_refused_while_they_are_made(rt: HostRuntime) -> Result<(), Fail> {
-    for plot in [Plot::WaitForBoth, Plot::CancelAndWait] {
-        keep_books(&rt, rt.alloc(), plot)?;
+    for refusing in WAYS {
+        keep_books(&rt, rt.alloc(), Plot::WaitForBoth, refusing)?;
+        keep_books(&rt, rt.alloc(), Plot::CancelAndWait, refusing)?;
     }
     Ok(())
 }
