@@ -70,7 +70,8 @@ pub fn put_tallies<R: Print>(
                 "{what}, {name}: requests {requests} refused {refused} answered {answered}"
             )?;
             println!(rt;
-                "; from there on refused {} answered {}", all.refused, all.answered
+                "; from there on refused {} answered {}",
+                all.refused, all.answered
             )?;
             Ok(true)
         }
