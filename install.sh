@@ -15,8 +15,7 @@
 #
 # The last one is a list of the other files and of the folders that were made.
 # Nothing is installed unless all that is built was proved. From a fresh clone
-# that takes some twenty to forty minutes, depending on the number of processors.
-# If nothing has changed, it takes a minute or two.
+# that takes more than an hour. If nothing has changed, it takes a minute or two.
 #
 # --uninstall removes the files on the list, the list itself, and the folders on
 # it that are then empty. If there is no list, nothing is removed, and the exit
@@ -125,7 +124,7 @@ while IFS=: read -r crate uses; do
 done < <(tac crates.txt)
 
 echo "install: wqplan will be installed to $prefix. First its ${#crates[@]} crates are proved. From a fresh clone that takes"
-echo "install: some twenty to forty minutes, depending on the number of processors; if nothing has changed, a minute or two."
+echo "install: more than an hour; if nothing has changed, a minute or two."
 
 began=$SECONDS
 for i in "${!crates[@]}"; do

@@ -122,7 +122,7 @@ prefix="$work/a place/of its own"
 run "$prefix"
 installed 'an installation' "$prefix" one
 is 'the PATH is named' "install: $prefix/bin isn't on the PATH" "$(grep PATH "$work/out")"
-is 'it says how long it takes' 1 "$(grep -c 'forty minutes' "$work/out")"
+is 'it says how long it takes' 1 "$(grep -c 'more than an hour' "$work/out")"
 
 # Each crate was checked before those that need it, the program's last, and then the program was built; no crate of the tests.
 checked=$(sed -n '$!s/ check$//p' "$work/calls")
