@@ -5,7 +5,7 @@
 //! these, without a blank before it, and are passed over by their first byte. Of another line the first word is cut, and the names on
 //! an `ordered` line are left to the caller. Going over them takes time in the length of the text.
 
-ghost use Rattle.std.specs.Prelude.{◌≡◌, ◌∷◌, List, None, IsOk, IsTrue};
+ghost use Rattle.std.specs.Prelude.{◌≡◌, ◌∷◌, ◌<◌, List, None, IsOk, IsTrue, length};
 ghost use Rattle.std.specs.List.{cons_option};
 ghost use Rattle.std.specs.Iterator.{YieldsFirst, item_count};
 ghost use Rattle.wq_text.specs.Lines.{LineView};
@@ -59,14 +59,19 @@ fn next_ordered_line<'a>(lines: &mut Lines<'a>) -> Option<(u32, Words<'a>)>
     None
 }
 
+/// How many lines are left, where that isn't known.
+const UNKNOWN: u32 = u32::MAX;
+
 /// The `ordered` lines of a view, in order: of each its number and the names on it. Contracts see the list of those that are left.
 #[derive(Drop)]
 pub struct OrderedLines<'a> {
     lines: Lines<'a>,
+    /// How many are left, if this is below `UNKNOWN`.
+    left: u32,
 }
 
 impl<'a> Model for OrderedLines<'a> {
-    ghost use Rattle.std.specs.Prelude.{◌≡◌, ℕ, List, None};
+    ghost use Rattle.std.specs.Prelude.{◌≡◌, ◌<◌, ℕ, List, None, length};
     ghost use Rattle.wq_text.specs.Words.{WordView};
 
     ghost Value = { List (ℕ × List WordView) };
@@ -75,7 +80,8 @@ impl<'a> Model for OrderedLines<'a> {
 
     ghost view = { λ o. ordered_lines (directives o.lines) };
 
-    ghost invariant = { λ o. first_fault o.lines ≡ None };
+    ghost invariant = { λ o. (first_fault o.lines ≡ None)
+        × (o.left < 4294967295 → length (ordered_lines (directives o.lines)) ≡ o.left) };
 }
 
 impl<'a> OrderedLines<'a> {
@@ -84,7 +90,30 @@ impl<'a> OrderedLines<'a> {
         requires { first_fault lines ≡ None }
         ensures { result ≡ ordered_lines (directives lines.entry) }
     {
-        OrderedLines { lines }
+        OrderedLines {
+            lines,
+            left: UNKNOWN,
+        }
+    }
+
+    /// Those among these lines, which have no fault. There are this many of them, unless it is `u32::MAX`: then it isn't known how
+    /// many there are. Behind the last of them no line is looked at.
+    pub fn counted(lines: Lines<'a>, count: u32) -> OrderedLines<'a>
+        requires faultless { first_fault lines ≡ None }
+        requires count { count < 4294967295 → length (ordered_lines (directives lines)) ≡ count }
+        ensures { result ≡ ordered_lines (directives lines.entry) }
+    {
+        OrderedLines { lines, left: count }
+    }
+
+    /// The same lines again.
+    pub fn again(&self) -> OrderedLines<'a>
+        ensures { result ≡ self.now }
+    {
+        OrderedLines {
+            lines: self.lines.again(),
+            left: self.left,
+        }
     }
 }
 
@@ -96,6 +125,12 @@ impl<'a> Iterator for OrderedLines<'a> {
     ghost remaining = { item_count (λ rest. rest) };
 
     fn next(&mut self) -> Option<(u32, Words<'a>)> {
+        if self.left == 0 {
+            return None;
+        }
+        if self.left < UNKNOWN {
+            self.left -= 1;
+        }
         next_ordered_line(&mut self.lines)
     }
 }

@@ -11,11 +11,22 @@ use crate::directive::Directive;
 use crate::fault::DeclError;
 use wq_text::{Line, Words};
 
-/// Whether a name may have this byte: an ASCII letter, a digit, `_`, `-` or `.`.
+/// Each byte that a name may have stands at its own place, and a comma at every other place.
+static NAME_BYTES: [u8; 256] = *b"\
+    ,,,,,,,,,,,,,,,,,,,,,,,,,,,,,,,,\
+    ,,,,,,,,,,,,,-.,0123456789,,,,,,\
+    ,ABCDEFGHIJKLMNOPQRSTUVWXYZ,,,,_\
+    ,abcdefghijklmnopqrstuvwxyz,,,,,\
+    ,,,,,,,,,,,,,,,,,,,,,,,,,,,,,,,,\
+    ,,,,,,,,,,,,,,,,,,,,,,,,,,,,,,,,\
+    ,,,,,,,,,,,,,,,,,,,,,,,,,,,,,,,,\
+    ,,,,,,,,,,,,,,,,,,,,,,,,,,,,,,,,";
+
+/// Whether a name may have this byte: an ASCII letter, a digit, `_`, `-` or `.`. One look at the table tells.
 fn is_name_byte(byte: u8) -> bool
     ensures { result ≡ is_name_byte byte }
 {
-    byte.is_ascii_alphanumeric() || byte == b'_' || byte == b'-' || byte == b'.'
+    NAME_BYTES[byte as usize] != b','
 }
 
 /// Whether each byte may be in a name.

@@ -26,6 +26,7 @@ pub struct DeclView<'a> {
     text: Text<'a>,
     /// Whether some line is an `ordered` line.
     orders: bool,
+    ordered: OrderedLines<'a>,
 }
 
 impl<'a> Model for DeclView<'a> {
@@ -35,12 +36,13 @@ impl<'a> Model for DeclView<'a> {
 
     ghost Value = { List (ℕ × Directive) };
 
-    ghost use Rattle.wq_decl.specs.Reading.{directives, first_fault, has_ordered};
+    ghost use Rattle.wq_decl.specs.Reading.{directives, first_fault, has_ordered, ordered_lines};
 
     ghost view = { λ d. directives (lines_of d.text) };
 
     ghost invariant = { λ d. (first_fault (lines_of d.text) ≡ None)
-        × (d.orders ≡ has_ordered (directives (lines_of d.text))) };
+        × (d.orders ≡ has_ordered (directives (lines_of d.text)))
+        × (d.ordered ≡ ordered_lines (directives (lines_of d.text))) };
 }
 
 impl<'a> DeclView<'a> {
@@ -58,7 +60,12 @@ impl<'a> DeclView<'a> {
                 orders = orders || directive.is_ordered();
             }
         }
-        Ok(DeclView { text, orders })
+        let ordered = OrderedLines::of(text.lines());
+        Ok(DeclView {
+            text,
+            orders,
+            ordered,
+        })
     }
 
     /// The directives of a text of which is known that no line has a fault, and whether some line is an `ordered` line:
@@ -68,7 +75,26 @@ impl<'a> DeclView<'a> {
         requires orders { orders ≡ has_ordered (directives (lines_of text)) }
         ensures { result ≡ directives (lines_of text.entry) }
     {
-        DeclView { text, orders }
+        let ordered = OrderedLines::of(text.lines());
+        DeclView {
+            text,
+            orders,
+            ordered,
+        }
+    }
+
+    /// The same, where the `ordered` lines were found already, and nothing before or behind them is to be looked at for them again.
+    pub fn of_ordered(text: Text<'a>, orders: bool, ordered: OrderedLines<'a>) -> DeclView<'a>
+        requires faultless { first_fault (lines_of text) ≡ None }
+        requires orders { orders ≡ has_ordered (directives (lines_of text)) }
+        requires ordered { ordered ≡ ordered_lines (directives (lines_of text)) }
+        ensures { result ≡ directives (lines_of text.entry) }
+    {
+        DeclView {
+            text,
+            orders,
+            ordered,
+        }
     }
 
     /// Whether some line is an `ordered` line.
@@ -93,7 +119,7 @@ impl<'a> DeclView<'a> {
         ensures value { result ≡ ordered_lines self.now }
         ensures names { AllByRecursion (λ (l : ℕ × List WordView). HasNames (Ordered l.1)) (ordered_lines self.now) }
     {
-        OrderedLines::of(self.text.lines())
+        self.ordered.again()
     }
 }
 

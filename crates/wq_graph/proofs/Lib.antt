@@ -2,3 +2,4 @@ pub mod ListLemmas
 pub mod Arcs
 pub mod BuildingLemmas
 pub mod Graphs
+mod OwnVertices

@@ -10,7 +10,7 @@ ghost use Rattle.wq_groups.specs.Declaration.{declaration_of};
 ghost use Rattle.wq_graph.specs.Graph.{IsGraph, arcs_at, graph_of, group_graph, lane_graph};
 
 use crate::arc::WaitArc;
-use crate::building::{arcs_by_place, arcs_by_vertex, groups_of_items, item_lanes};
+use crate::building::{groups_of_items, item_lanes, sorted_arcs};
 use std::alloc::{AllocError, Allocator};
 use std::marker::Model;
 use wq_buckets::piece;
@@ -54,8 +54,7 @@ impl<A: Allocator + Copy> WaitGraph<A> {
         ensures graph { IfOk result (λ g. g ≡ graph_of table.now.waits vertex_of.now vertices) }
         ensures memory { IfErr result (λ _. 0 < vertices) }
     {
-        let arcs = arcs_by_place(alloc, table, vertex_of)?;
-        let (arcs, begins) = arcs_by_vertex(alloc, arcs.as_slice(), vertex_of, vertices)?;
+        let (arcs, begins) = sorted_arcs(alloc, table, vertex_of, vertices)?;
         Ok(WaitGraph { arcs, begins })
     }
 

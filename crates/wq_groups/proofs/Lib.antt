@@ -1,4 +1,3 @@
-pub mod MemberLemmas
 pub mod Declarations
 pub mod Lanes
 pub mod Heads

@@ -15,6 +15,7 @@ ghost use Rattle.wq_groups.specs.OutOfMemory.{RanOutOfGroups};
 
 use crate::fault::GroupError;
 use crate::group_id::GroupId;
+use crate::members::Members;
 use crate::numbering::number;
 use crate::reading::first_members;
 use std::alloc::Allocator;
@@ -25,8 +26,8 @@ use wq_items::{ItemId, ItemTable};
 /// The groups of a table's items. Contracts see the number of each item's group, and how many groups there are.
 #[derive(Drop)]
 pub struct Groups<A: Allocator> {
-    group_of: Vec<GroupId, A>,
-    members: Vec<Vec<ItemId, A>, A>,
+    group_of: Vec<u16, A>,
+    members: Members<A>,
 }
 
 impl<A: Allocator> Model for Groups<A> {
@@ -37,10 +38,10 @@ impl<A: Allocator> Model for Groups<A> {
 
     ghost Value = { Partition };
 
-    ghost view = { λ g. record { group_of = g.group_of.items; groups = length g.members.items } };
+    ghost view = { λ g. record { group_of = g.group_of.items; groups = length g.members } };
 
-    ghost invariant = { λ g. IsPartition (record { group_of = g.group_of.items; groups = length g.members.items })
-        × (map (λ m. m.items) g.members.items ≡ map (items_at g.group_of.items) (range_with_len 0 (length g.members.items))) };
+    ghost invariant = { λ g. IsPartition (record { group_of = g.group_of.items; groups = length g.members })
+        × (g.members ≡ map (items_at g.group_of.items) (range_with_len 0 (length g.members))) };
 }
 
 impl<A: Allocator + Copy> Groups<A> {
@@ -56,7 +57,8 @@ impl<A: Allocator + Copy> Groups<A> {
         ensures memory { IfErr result (λ e. e ≡ OutOfMemory → RanOutOfGroups view.now table.now.names) }
     {
         let first = first_members(view, table)?;
-        let (group_of, members) = number(alloc, first.as_slice())?;
+        let (group_of, groups) = number(alloc, first.as_slice())?;
+        let members = Members::new(alloc, group_of.as_slice(), groups)?;
         Ok(Groups { group_of, members })
     }
 
@@ -75,7 +77,7 @@ impl<A: Allocator + Copy> Groups<A> {
         ensures group { slice_get self.now.group_of item ≡ Some result }
         ensures within { result < self.now.groups }
     {
-        self.group_of[usize::from(item.get())]
+        GroupId::new(self.group_of[usize::from(item.get())])
     }
 
     /// The items of a group below `len()`, in declaration order. There is at least one.
@@ -83,6 +85,6 @@ impl<A: Allocator + Copy> Groups<A> {
         requires { group < self.now.groups }
         ensures { result.now ≡ items_at self.now.group_of group }
     {
-        self.members[usize::from(group.get())].as_slice()
+        self.members.get(group.get())
     }
 }

@@ -14,6 +14,7 @@ mod group_id;
 mod groups;
 mod lane_id;
 pub mod laws;
+mod members;
 mod numbering;
 mod reading;
 

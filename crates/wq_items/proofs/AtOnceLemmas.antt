@@ -1,9 +1,9 @@
 -- Reading a text at once: what a line seems to say compared with what it says, and what the lines so far have made.
-use Rattle.std.proofs.Common.{◌≡◌, ◌≢◌, ℕ, ◌+◌, ◌<◌, Bool, true, false, cond, ◌||◌, List, [], ◌∷◌, ◌++◌, length, Option, Some, None, Result, Ok, Err, IsOk, refl, sym, ap, subst, ◌∙◌, arith}
+use Rattle.std.proofs.Common.{◌≡◌, ◌≢◌, ℕ, ◌+◌, ◌<◌, Bool, true, false, cond, ◌||◌, inl, inr, List, [], ◌∷◌, ◌++◌, length, Option, Some, None, Result, Ok, Err, IsOk, refl, sym, ap, subst, ◌∙◌, arith}
 use Rattle.std.specs.Prelude.{IsTrue, IfNone, codes, bytes_eq, option_map}
 use Rattle.std.specs.List.{AllByRecursion, list_all, cons_option}
 use Rattle.std.specs.Option.{option_or}
-use Rattle.std.proofs.lemmas.Bool.{and_from}
+use Rattle.std.proofs.lemmas.Bool.{and_from, cases_eq}
 use Rattle.wq_text.specs.Lines.{LineView}
 use Rattle.wq_text.specs.Comments.{before_comment}
 use Rattle.wq_text.specs.Words.{WordView, words_of}
@@ -12,7 +12,7 @@ use Rattle.wq_decl.specs.declared.directive.Directive.TheVariants.{Item, Flush, 
 use Rattle.wq_decl.specs.declared.fault.DeclError.{DeclError}
 use Rattle.wq_decl.specs.declared.fault.DeclError.TheVariants.{BadByte, BadName}
 use Rattle.wq_decl.specs.Names.{is_name, are_names}
-use Rattle.wq_decl.specs.Reading.{is_text_byte, item_reading, flush_reading, ordered_reading, words_reading, reading, directives, first_fault, fault_in, directive_in, is_ordered, has_ordered, HasNames}
+use Rattle.wq_decl.specs.Reading.{is_text_byte, item_reading, flush_reading, ordered_reading, words_reading, reading, directives, first_fault, fault_in, directive_in, is_ordered, has_ordered, ordered_lines, HasNames}
 use Rattle.wq_decl.proofs.NameLemmas.{HasNames-directives}
 use Rattle.wq_decl.proofs.TextLemmas.{reading-text, reading-words}
 use Rattle.wq_items.specs.declared.fault.ItemError.{ItemError}
@@ -197,6 +197,97 @@ pub SoFar-all : (t : Table) (orders : Bool) (left all : List LineView) → left 
 SoFar-all t orders left all none h =
     let at = at_lines t orders left [] all none h in
     (sym at.sound, sym at.whole, or_false orders ∙ at.order)
+
+-- ---- the `ordered` lines so far
+
+-- from `first` on are all `ordered` lines of the text, of which so many are before those that are left
+pub record OrdersSoFar (first : List LineView) (count : ℕ) (left all : List LineView) : Type 0 where
+  pub same : ordered_lines (directives first) ≡ ordered_lines (directives all)
+  pub sound : first_fault first ≡ first_fault all
+  pub counted : count < 4294967295 → length (ordered_lines (directives first)) ≡ count + length (ordered_lines (directives left))
+  pub start : count ≡ 0 → ordered_lines (directives left) ≡ ordered_lines (directives all)
+
+abbrev orders_of : List LineView → List (ℕ × List WordView)
+orders_of lines = ordered_lines (directives lines)
+
+pub OrdersSoFar-none : (first left all : List LineView) → first ≡ all → left ≡ all → OrdersSoFar first 0 left all
+OrdersSoFar-none first left all f l = record {
+  same = ap orders_of f;
+  sound = ap first_fault f;
+  counted = λ lt. omega (arith, ap (λ (ls : List LineView). length (orders_of ls)) f, ap (λ (ls : List LineView). length (orders_of ls)) l);
+  start = λ none. ap orders_of l;
+}
+
+-- no `ordered` line more
+passed_line : (first : List LineView) (count : ℕ) (line : LineView) (left rest all : List LineView) → left ≡ line ∷ rest → orders_of (line ∷ rest) ≡ orders_of rest → OrdersSoFar first count left all
+    → OrdersSoFar first count rest all
+passed_line first count line left rest all step same h =
+    let on : orders_of left ≡ orders_of rest = ap orders_of step ∙ same in
+    record {
+      same = h.same;
+      sound = h.sound;
+      counted = λ lt. omega (arith, h.counted lt, ap (λ (xs : List (ℕ × List WordView)). length xs) on);
+      start = λ none. sym on ∙ h.start none;
+    }
+
+pub OrdersSoFar-blank : (first : List LineView) (count : ℕ) (line : LineView) (left rest all : List LineView) → left ≡ line ∷ rest → reading line ≡ Ok None → OrdersSoFar first count left all
+    → OrdersSoFar first count rest all
+OrdersSoFar-blank first count line left rest all step said h = passed_line first count line left rest all step (ap ordered_lines (blank_directives line rest said)) h
+
+other_order : (n : ℕ) (d : Directive) (ds : List (ℕ × Directive)) → is_ordered d ≡ false → ordered_lines ((n, d) ∷ ds) ≡ ordered_lines ds
+other_order n (Item name) ds e = refl
+other_order n (Flush name targets) ds e = refl
+other_order n (Ordered names) ds e = absurd cc
+
+one_order : (n : ℕ) (d : Directive) (ds : List (ℕ × Directive)) → is_ordered d ≡ true → length (ordered_lines ((n, d) ∷ ds)) ≡ 1 + length (ordered_lines ds)
+one_order n (Item name) ds e = absurd cc
+one_order n (Flush name targets) ds e = absurd cc
+one_order n (Ordered names) ds e = omega arith
+
+-- what is noted of a line with a directive
+pub record IsNoted (ordered : Bool) (first : List LineView) (count : ℕ) (here new_first : List LineView) (new_count : ℕ) : Type 0 where
+  pub other : ordered ≡ false → (new_first ≡ first) × (new_count ≡ count)
+  pub begins : ordered ≡ true → count ≡ 0 → new_first ≡ here
+  pub later : 0 < count → new_first ≡ first
+  pub some : ordered ≡ true → 0 < new_count
+  pub more : ordered ≡ true → new_count < 4294967295 → new_count ≡ count + 1
+
+pub OrdersSoFar-noted : (first : List LineView) (count : ℕ) (here new_first : List LineView) (new_count : ℕ) (line : LineView) (d : Directive) (left rest all : List LineView) → left ≡ line ∷ rest
+    → reading line ≡ Ok (Some d) → here ≡ left → first_fault left ≡ first_fault all → IsNoted (is_ordered d) first count here new_first new_count → OrdersSoFar first count left all
+    → OrdersSoFar new_first new_count rest all
+OrdersSoFar-noted first count here new_first new_count line d left rest all step said at fault noted h = by (is_ordered d) refl
+  where
+    ds : directives (line ∷ rest) ≡ (line.no, d) ∷ directives rest
+    ds = more_directives line d rest said
+
+    -- the lines from the first one on, as they were before this line or begin with it
+    begun : is_ordered d ≡ true → (orders_of new_first ≡ orders_of all) × (first_fault new_first ≡ first_fault all) × (count < 4294967295 → length (orders_of new_first) ≡ count + length (orders_of left))
+    begun is = elim (cases_eq count 0) [
+      | inl none ↦
+          let now : new_first ≡ left = noted.begins is none ∙ at in
+          (ap orders_of now ∙ h.start none, ap first_fault now ∙ fault, λ lt. omega (arith, none, ap (λ (ls : List LineView). length (orders_of ls)) now))
+      | inr some ↦
+          let now : new_first ≡ first = noted.later (omega arith) in
+          (ap orders_of now ∙ h.same, ap first_fault now ∙ h.sound, λ lt. omega (arith, h.counted lt, ap (λ (ls : List LineView). length (orders_of ls)) now))
+    ]
+
+    by : (b : Bool) → is_ordered d ≡ b → OrdersSoFar new_first new_count rest all
+    by false isnt =
+        let kept = noted.other isnt in
+        subst (λ (f : List LineView). OrdersSoFar f new_count rest all) (sym kept.0) (
+        subst (λ (n : ℕ). OrdersSoFar first n rest all) (sym kept.1) (
+        passed_line first count line left rest all step (ap ordered_lines ds ∙ other_order line.no d (directives rest) isnt) h
+        )
+        )
+    by true is =
+        let new = begun is in
+        let long : length (orders_of left) ≡ 1 + length (orders_of rest) = ap (λ (ls : List LineView). length (orders_of ls)) step ∙ ap (λ (xs : List (ℕ × Directive)). length (ordered_lines xs)) ds ∙ one_order line.no d (directives rest) is in
+        record {
+          same = new.0;
+          sound = new.1;
+          counted = λ lt. let up = noted.more is lt in omega (arith, up, long, new.2 (omega (arith, up, lt)));
+          start = λ none. absurd (omega (arith, none, noted.some is));
+        }
 
 -- ---- names that are found
 

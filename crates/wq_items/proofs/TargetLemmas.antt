@@ -1,7 +1,7 @@
 -- Going through the words of a `flush` or an `ordered` line: how many were known, and what the targets of a flush added.
-use Rattle.std.proofs.Common.{◌≡◌, ℕ, zero, suc, ◌+◌, ◌<◌, List, [], ◌∷◌, ◌++◌, length, set, Option, Some, None, refl, sym, ap, ◌∙◌, arith, append_assoc}
+use Rattle.std.proofs.Common.{◌≡◌, ℕ, zero, suc, ◌+◌, ◌<◌, List, [], ◌∷◌, ◌++◌, length, set, Option, Some, None, refl, sym, ap, ◌∙◌, arith, append_assoc, append-nil}
 use Rattle.std.specs.Prelude.{option_map}
-use Rattle.std.proofs.lemmas.List.{get_or-set_same, length-append}
+use Rattle.std.proofs.lemmas.List.{get_or-set_same, length-append, set-get_or}
 use Rattle.wq_text.specs.Words.{WordView}
 use Rattle.wq_items.specs.declared.target.Target.{Target}
 use Rattle.wq_items.specs.Table.{item_named, targets_of}
@@ -38,6 +38,20 @@ set-set (x ∷ xs) (suc i) a b = ap (λ (ys : List _). x ∷ ys) (set-set xs i a
 one_in_front : (i : ℕ) (front : List ℕ) (o : Option (List ℕ)) → option_map (λ (is : List ℕ). (front ++ (i ∷ [])) ++ is) o ≡ option_map (λ (is : List ℕ). front ++ is) (and_item (Some i) o)
 one_in_front i front None = refl
 one_in_front i front (Some is) = ap (λ (ys : List ℕ). Some ys) (append_assoc front (i ∷ []) is)
+
+kept : (o : Option (List ℕ)) → option_map (λ (is : List ℕ). [] ++ is) o ≡ o
+kept None = refl
+kept (Some is) = refl
+
+-- before the first word nothing was added
+pub Added-none : (names : List (List ℕ)) (old : List (List Target)) (item place : ℕ) (rest words : List WordView) → rest ≡ words → Added names old old item place place rest words
+Added-none names old item place rest words same = record {
+  front = [];
+  known = kept (items_named names rest) ∙ ap (λ (ws : List WordView). items_named names ws) same;
+  lists = sym (ap (set old item) (append-nil (targets_of old item)) ∙ set-get_or old item []);
+  next = omega arith;
+  all = omega (arith, ap length same);
+}
 
 pub Added-more : (names : List (List ℕ)) (old mid new : List (List Target)) (item first place : ℕ) (w : WordView) (rest words : List WordView) (i : ℕ) → item < length old
     → item_named names w.bytes ≡ Some i → new ≡ set mid item (targets_of mid item ++ (record { item = i; place = place } ∷ [])) → Added names old mid item first place (w ∷ rest) words

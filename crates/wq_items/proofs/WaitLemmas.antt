@@ -7,8 +7,6 @@ use Rattle.std.proofs.lemmas.List.{length_push, length-set, map-append, get_or-s
 use Rattle.std.proofs.lemmas.List.Elements.{All-head, All-tail, All-push, All-weaker, filter-append}
 use Rattle.std.proofs.lemmas.List.FromFn.{length-map-range_with_len, get_or-map-range_with_len, map-range_with_len_more, fill_by_all}
 use Rattle.std.proofs.lemmas.List.Sums.{sum_by_push, sum_by-set}
-use Rattle.wq_buckets.specs.Places.{places_of}
-use Rattle.wq_buckets.proofs.Picking.{picked}
 use Rattle.wq_items.specs.declared.target.Target.{Target}
 use Rattle.wq_items.specs.declared.flush.Flush.{Flush}
 use Rattle.wq_items.specs.Table.{targets_of, flush_count}
@@ -121,15 +119,3 @@ module _ (flushes new : List Flush) (items i number : ℕ) (target : Target) (wa
         ap flush_count waits_of-added,
         count-push waits i target inside,
       )
-
--- ---- laid out
-
-map-map : {X Y Z : Type 0} (f : X → Y) (g : Y → Z) (xs : List X) → map g (map f xs) ≡ map (λ x. g (f x)) xs
-map-map f g [] = refl
-map-map f g (x ∷ xs) = ap (λ (l : List _). g (f x) ∷ l) (map-map f g xs)
-
--- the flushes at the places of an item are its own
-pub targets-picked : (flushes : List Flush) (d : Flush) (i : ℕ) → map (λ (p : ℕ). (get_or flushes p d).target) (places_of (map (λ (f : Flush). f.item) flushes) i) ≡ targets_among flushes i
-targets-picked flushes d i =
-    sym (map-map (λ (p : ℕ). get_or flushes p d) (λ (f : Flush). f.target) (places_of (map (λ (f : Flush). f.item) flushes) i))
-    ∙ ap (map (λ (f : Flush). f.target)) (picked (λ (f : Flush). f.item) i flushes d)

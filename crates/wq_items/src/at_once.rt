@@ -5,9 +5,11 @@
 //! judged, since the table holds only names; the name on an `item` line is. Which fault a text has isn't asked: where there is one,
 //! there is no answer, and whoever wants to know it reads the text by the two passes.
 //!
+//! The view of the directives knows where the `ordered` lines are, so that the groups are read without a look at most other lines.
+//!
 //! It takes time in the length of the text, on average, and memory in the number of items and flushes: each name is looked up once.
 
-ghost use Rattle.std.specs.Prelude.{◌≡◌, ◌∷◌, ℕ, ◌<◌, length, Ok, IsOk, IfSome, IfNone, IsTrue, None};
+ghost use Rattle.std.specs.Prelude.{◌≡◌, ◌∷◌, ℕ, ◌+◌, ◌<◌, length, Ok, IsOk, IfSome, IfNone, IsTrue, None, true, false};
 ghost use Rattle.wq_text.specs.Lines.{lines_of};
 ghost use Rattle.wq_text.specs.Words.{words_of};
 ghost use Rattle.wq_decl.specs.declared.directive.Directive.TheVariants.{Item, Flush, Ordered};
@@ -22,8 +24,8 @@ use crate::names::Names;
 use crate::table::{Building, ItemTable, MAX_ITEMS, count_known, push_targets};
 use std::alloc::Allocator;
 use std::marker::Model;
-use wq_decl::{DeclView, Directive, is_name};
-use wq_text::{Line, Span, Text, Word, Words};
+use wq_decl::{DeclView, Directive, OrderedLines, is_name};
+use wq_text::{Line, Lines, Span, Text, Word, Words};
 
 /// The words after `item` as a directive, if there is exactly one.
 fn item_unjudged<'a>(mut words: Words<'a>) -> Option<Option<Directive<'a>>>
@@ -170,6 +172,33 @@ impl<'a, A: Allocator + Copy> Parts<'a, A> {
     }
 }
 
+/// The `ordered` lines that were seen so far.
+#[derive(Drop)]
+struct Orders<'a> {
+    /// The lines from the first of them on; all lines, before there is one.
+    lines: Lines<'a>,
+    /// How many there are, or `u32::MAX` where there are as many or more.
+    count: u32,
+}
+
+impl<'a> Orders<'a> {
+    /// Notes whether the first of these lines is one more.
+    fn note(&mut self, here: &Lines<'a>, is_ordered: bool)
+        ensures other { is_ordered ≡ false → self.new ≡ self.old }
+        ensures first { is_ordered ≡ true → self.old.count ≡ 0 → self.new.lines ≡ here.now }
+        ensures later { 0 < self.old.count → self.new.lines ≡ self.old.lines }
+        ensures some { is_ordered ≡ true → 0 < self.new.count }
+        ensures count { is_ordered ≡ true → self.new.count < 4294967295 → self.new.count ≡ self.old.count + 1 }
+    {
+        if is_ordered {
+            if self.count == 0 {
+                self.lines = here.again();
+            }
+            self.count = self.count.saturating_add(1);
+        }
+    }
+}
+
 /// The directives of a text and the table that they declare, if no line has a fault: what `DeclView::new` and
 /// `ItemTable::read_seeded` answer, in one pass. The names are hashed with this seed, on which no answer depends.
 ///
@@ -188,12 +217,22 @@ pub fn read_at_once<'a, A: Allocator + Copy>(
 {
     let mut parts = Parts::new(alloc, seed);
     let mut orders = false;
-    for line in text.lines() {
+    let mut seen = Orders {
+        lines: text.lines(),
+        count: 0,
+    };
+    let mut here = text.lines();
+    let mut lines = text.lines();
+    while let Some(line) = lines.next() {
         if let Some(directive) = line_unjudged(&line)? {
-            orders = orders || directive.is_ordered();
+            let is_ordered = directive.is_ordered();
+            orders |= is_ordered;
+            seen.note(&here, is_ordered);
             parts.take(directive)?;
         }
+        here = lines.again();
     }
     let table = parts.finish(alloc)?;
-    Some((DeclView::of_faultless(text.again(), orders), table))
+    let ordered = OrderedLines::counted(seen.lines, seen.count);
+    Some((DeclView::of_ordered(text.again(), orders, ordered), table))
 }

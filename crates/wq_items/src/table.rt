@@ -93,6 +93,7 @@ pub(crate) fn count_known<'a, A: Allocator + Copy>(
 
 /// Adds targets of one item, at the places from `place` on, and returns the place after them. It returns nothing where a name is
 /// unknown, where there are too many flushes, or where memory ran out; `refusal` says which it is.
+#[inline(always)]
 pub(crate) fn push_targets<'a, A: Allocator + Copy>(
     names: &Names<'a, A>,
     waits: &mut Flushes<A>,

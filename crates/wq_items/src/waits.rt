@@ -49,19 +49,20 @@ fn items_flushing<A: Allocator + Copy>(
     Ok(items)
 }
 
-/// Adds the targets of the flushes at these places.
-fn add_targets<A: Allocator + Copy>(
-    targets: &mut Vec<Target, A>,
+/// The targets of the flushes at these places, in turn.
+fn targets_at<A: Allocator + Copy>(
+    alloc: A,
     flushes: &[Flush],
     places: &[u32],
-) -> Result<(), AllocError>
+) -> Result<Vec<Target, A>, AllocError>
     requires { All (λ p. p < length flushes.now) places.now }
-    ensures { IfOk result (λ _. (d : Flush) → targets.new.items ≡ targets.old.items ++ map (λ p. (get_or flushes.now p d).target) places.now) }
+    ensures { IfOk result (λ targets. (d : Flush) → targets.items ≡ map (λ p. (get_or flushes.now p d).target) places.now) }
 {
+    let mut targets = Vec::with_capacity(alloc, places.len())?;
     for place in places {
         targets.push(flushes[*place as usize].target)?;
     }
-    Ok(())
+    Ok(targets)
 }
 
 impl<A: Allocator + Copy> Waits<A> {
@@ -81,14 +82,8 @@ impl<A: Allocator + Copy> Waits<A> {
             });
         }
         let flushing = items_flushing(alloc, flushes)?;
-        let buckets = Buckets::new(alloc, flushing.as_slice(), items)?;
-        let mut targets = Vec::with_capacity(alloc, flushes.len())?;
-        let mut begins = Vec::with_capacity(alloc, usize::from(items) + 1)?;
-        begins.push(0)?;
-        for item in 0..items {
-            add_targets(&mut targets, flushes, buckets.places(item))?;
-            begins.push(targets.len())?;
-        }
+        let (places, begins) = Buckets::new(alloc, flushing.as_slice(), items)?.into_parts();
+        let targets = targets_at(alloc, flushes, &places)?;
         Ok(Waits { targets, begins })
     }
 

@@ -1,43 +1,40 @@
 -- Words before a comment, as they are cut one after the other.
-use Rattle.std.proofs.Common.{◌≡◌, ◌≢◌, ℕ, ◌+◌, ◌<◌, ◌≤◌, Bool, true, false, eqb, not, ◌||◌, List, [], ◌∷◌, ◌++◌, length, get_or, take, Some, None, refl, sym, ap, subst, ◌∙◌, arith, append-nil, one-add, inl, inr, ◌⊎◌}
+use Rattle.std.proofs.Common.{◌≡◌, ◌≢◌, ℕ, ◌+◌, ◌-◌, ◌<◌, ◌≤◌, Bool, true, false, eqb, not, ◌||◌, List, [], ◌∷◌, ◌++◌, length, get_or, take, drop, refl, sym, ap, subst, ◌∙◌, arith, append-nil, one-add, inl, inr, ◌⊎◌}
 use Rattle.std.specs.List.{prefix_len}
 use Rattle.std.proofs.lemmas.Bool.{or_parts}
 use Rattle.std.proofs.lemmas.Bool.Decides.{nat_tests}
-use Rattle.std.proofs.lemmas.List.{get_or-take, length-take-le}
-use Rattle.std.proofs.lemmas.List.Sums.{position_or_len_is, prefix_len_is}
-use Rattle.memchr.specs.Find.{IsFirstByte, is_byte3}
+use Rattle.std.proofs.lemmas.List.{get_or-take, length-take-le, length-append, drop_at, drop-take, take_rest}
+use Rattle.std.proofs.lemmas.List.Sums.{prefix_len_is}
 use Rattle.wq_text.specs.Comments.{before_comment}
 use Rattle.wq_text.specs.Words.{words_from, is_blank, begins_word, in_word, AllBlank, NoBlank, EndsAWord, AllInWord, EndsAtOnce}
-use Rattle.wq_text.proofs.PieceLemmas.{is_false}
 use Rattle.wq_text.proofs.WordLemmas.{FailsAtOnce, words_from-blank, words_from-first_word}
 
--- ---- how many bytes pass a test, where only those near the beginning are looked at
+-- ---- how many of the first bytes of a text stand before the first that ends a word
 
-module _ (p : ℕ → Bool) (n : ℕ) (bs : List ℕ) (within : n ≤ length bs) where
-  near : length (take n bs) ≡ n
-  near = length-take-le n bs within
+module _ (text : List ℕ) (left : ℕ) (within : left ≤ length text) where
+  long : length (take left text) ≡ left
+  long = length-take-le left text within
 
-  near_at : (j : ℕ) → j < length (take n bs) → p (get_or bs j 0) ≡ p (get_or (take n bs) j 0)
-  near_at j lt = ap p (sym (get_or-take n bs j 0 (omega (arith, near))))
+  at : (n : ℕ) → n ≤ left → ((k : ℕ) → k < n → in_word (get_or text k 0) ≡ true) → (k : ℕ) → k < n → in_word (get_or (take left text) k 0) ≡ true
+  at n le before k lt = ap in_word (get_or-take left text k 0 (omega arith)) ∙ before k lt
 
-  pub prefix_len-near : (k : ℕ) → k < length (take n bs) → ((j : ℕ) → j < k → p (get_or (take n bs) j 0) ≡ true) → p (get_or (take n bs) k 0) ≡ false → k ≡ prefix_len p bs
-  prefix_len-near k lt before stops =
-      sym (prefix_len_is p bs k 0 (omega (arith, near)) (λ j below. near_at j (omega arith) ∙ before j below) (λ _. near_at k lt ∙ stops))
+  -- all of them may stand in a word
+  pub prefix_len-all : (n : ℕ) → left ≤ n → ((k : ℕ) → k < n → in_word (get_or text k 0) ≡ true) → left ≡ prefix_len in_word (take left text)
+  prefix_len-all n le before =
+      sym (prefix_len_is in_word (take left text) left 0 (omega (arith, long)) (at left (omega arith) (λ k lt. before k (omega arith))) (λ lt. absurd (omega (arith, long))))
 
-  pub prefix_len-all_near : length bs ≤ length (take n bs) → ((j : ℕ) → j < length bs → p (get_or (take n bs) j 0) ≡ true) → length bs ≡ prefix_len p bs
-  prefix_len-all_near all before =
-      sym (prefix_len_is p bs (length bs) 0 (omega arith) (λ j below. near_at j (omega arith) ∙ before j below) (λ lt. absurd (omega arith)))
+  -- one of them ends the word
+  pub prefix_len-at_end : (n : ℕ) → n < left → ((k : ℕ) → k < n → in_word (get_or text k 0) ≡ true) → in_word (get_or text n 0) ≡ false → n ≡ prefix_len in_word (take left text)
+  prefix_len-at_end n lt before stops =
+      sym (prefix_len_is in_word (take left text) n 0 (omega (arith, long)) (at n (omega arith) before) (λ _. ap in_word (get_or-take left text n 0 lt) ∙ stops))
 
--- ---- how many bytes come before the first that ends a word
-
-pub prefix_len-at_end : (bs : List ℕ) (k : ℕ) → IsFirstByte (is_byte3 32 9 35) bs (Some k) → k ≡ prefix_len in_word bs
-prefix_len-at_end bs k h =
-    let within : k < length bs = h.0.high in
-    sym (position_or_len_is (λ b. is_byte3 32 9 35 b) bs k 0 (omega arith) (λ j lt. is_false _ (λ e. h.0.before j (omega arith) lt e)) (λ lt. h.1))
-
-pub prefix_len-no_end : (bs : List ℕ) → IsFirstByte (is_byte3 32 9 35) bs None → length bs ≡ prefix_len in_word bs
-prefix_len-no_end bs h =
-    sym (position_or_len_is (λ b. is_byte3 32 9 35 b) bs (length bs) 0 (omega arith) (λ j lt. is_false _ (λ e. h j (omega arith) lt e)) (λ lt. absurd (omega arith)))
+-- what is left of the first bytes of a text behind some of them is a front of the text behind these
+pub rest_of : (n : ℕ) (text front rest : List ℕ) → take n text ≡ front ++ rest → n ≤ length text
+    → rest ≡ take (length rest) (take (length text - length front) (drop (length front) text))
+rest_of n text front rest cut within =
+    let sizes : n ≡ length front + length rest = sym (length-take-le n text within) ∙ ap length cut ∙ length-append front rest in
+    sym (drop_at front rest (length front) refl) ∙ ap (drop (length front)) (sym cut) ∙ ap (λ (k : ℕ). drop (length front) (take k text)) sizes ∙ drop-take (length front) (length rest) text
+    ∙ ap (take (length rest)) (sym (take_rest text (length front)))
 
 pub EndsAtOnce-from_fails : (bs : List ℕ) → FailsAtOnce in_word bs → EndsAtOnce bs
 EndsAtOnce-from_fails [] h = tt

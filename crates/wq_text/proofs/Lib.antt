@@ -9,3 +9,4 @@ pub mod PieceLemmas
 pub mod SliceLaws
 pub mod WordLaws
 pub mod WordLemmas
+mod RunLemmas

@@ -10,6 +10,7 @@ pub mod laws;
 mod limits;
 mod line;
 mod numeral;
+mod run;
 mod span;
 mod text;
 mod word;

@@ -4,15 +4,17 @@
 //! (CR, the byte 13) directly before a line feed isn't part of the line. A comment begins at the first `#` of a line and reaches
 //! to the line's end. The rules are those of "Lines, words and numbers" in docs/FORMAT.md.
 //!
-//! Going through the lines looks at each byte of the text once, by `memchr`, and so does looking for the comment of a line.
+//! Going through the lines looks at each byte of the text once, sixteen at a time, and so does looking for the comment of a line, by
+//! `memchr`.
 
-ghost use Rattle.std.specs.Prelude.{◌≡◌, ◌+◌, ◌<◌, ◌≤◌, ◌^◌, ◌∷◌, List, ℕ, length, find, nat_lt, option_map};
+ghost use Rattle.std.specs.Prelude.{◌≡◌, ◌+◌, ◌<◌, ◌≤◌, ◌^◌, ◌∷◌, List, ℕ, length, take, find, nat_lt, option_map};
 ghost use Rattle.std.specs.Iterator.{YieldsFirst, item_count};
 ghost use Rattle.wq_text.specs.Lines.{LineView, pieces, taken, line_bytes, lines_of};
 ghost use Rattle.wq_text.specs.Comments.{before_comment};
 ghost use Rattle.wq_text.specs.Words.{words_of};
 ghost use Rattle.wq_text.specs.Limits.{first_long_line};
 
+use crate::run::first_feed;
 use crate::span::Span;
 use crate::word::Words;
 use memchr::memchr;
@@ -24,18 +26,21 @@ use std::marker::Model;
 pub struct Line<'a> {
     no: u32,
     start: u32,
-    bytes: &'a [u8],
+    /// How many bytes it has.
+    len: u32,
+    /// The text from its first byte on.
+    text: &'a [u8],
 }
 
 impl<'a> Model for Line<'a> {
-    ghost use Rattle.std.specs.Prelude.{length, ◌+◌, ◌<◌, ◌^◌};
+    ghost use Rattle.std.specs.Prelude.{length, take, ◌+◌, ◌<◌, ◌≤◌, ◌^◌};
     ghost use Rattle.wq_text.specs.Lines.{LineView};
 
     ghost Value = { LineView };
 
-    ghost view = { λ l. record { no = l.no; start = l.start; bytes = l.bytes.now } };
+    ghost view = { λ l. record { no = l.no; start = l.start; bytes = take l.len l.text.now } };
 
-    ghost invariant = { λ l. l.start + length l.bytes.now < 2 ^ 32 };
+    ghost invariant = { λ l. (l.len ≤ length l.text.now) × (l.start + l.len < 2 ^ 32) };
 }
 
 impl<'a> Line<'a> {
@@ -53,7 +58,7 @@ impl<'a> Line<'a> {
     {
         Span {
             start: self.start,
-            end: self.start + self.bytes.len() as u32,
+            end: self.start + self.len,
         }
     }
 
@@ -61,7 +66,7 @@ impl<'a> Line<'a> {
     pub fn bytes(&self) -> &'a [u8]
         ensures { result.now ≡ self.now.bytes }
     {
-        self.bytes
+        &self.text[..self.len as usize]
     }
 
     /// The bytes of the line before its comment, which begins at the first `#` and reaches to the line's end. They are all bytes
@@ -69,9 +74,10 @@ impl<'a> Line<'a> {
     pub fn content(&self) -> &'a [u8]
         ensures { result.now ≡ before_comment self.now.bytes }
     {
-        match memchr(b'#', self.bytes) {
-            Some(hash) => &self.bytes[..hash],
-            None => self.bytes,
+        let bytes = self.bytes();
+        match memchr(b'#', bytes) {
+            Some(hash) => &bytes[..hash],
+            None => bytes,
         }
     }
 
@@ -79,7 +85,7 @@ impl<'a> Line<'a> {
     pub fn words(&self) -> Words<'a>
         ensures { result ≡ words_of self.now }
     {
-        Words::of(self.start, self.bytes)
+        Words::of(self.start, self.text, self.len)
     }
 }
 
@@ -97,8 +103,9 @@ pub(crate) fn first_cut<'a>(bytes: &'a [u8]) -> Cut<'a>
     ensures first { pieces bytes.now ≡ record { bytes = result.piece.now; ended = result.ended } ∷ pieces result.rest.now }
     ensures whole { taken (record { bytes = result.piece.now; ended = result.ended }) + length result.rest.now ≡ length bytes.now }
     ensures shorter { length result.rest.now < length bytes.now }
+    ensures front { result.piece.now ≡ take (length result.piece.now) bytes.now }
 {
-    match memchr(b'\n', bytes) {
+    match first_feed(bytes) {
         Some(feed) => Cut {
             piece: &bytes[..feed],
             ended: true,
@@ -116,6 +123,7 @@ pub(crate) fn first_cut<'a>(bytes: &'a [u8]) -> Cut<'a>
 pub(crate) fn line_bytes(piece: &[u8], ended: bool) -> &[u8]
     ensures bytes { result.now ≡ line_bytes (record { bytes = piece.now; ended = ended }) }
     ensures no_longer { length result.now ≤ length piece.now }
+    ensures front { result.now ≡ take (length result.now) piece.now }
 {
     match piece {
         [front @ .., b'\r'] if ended => front,
@@ -156,6 +164,17 @@ impl<'a> Lines<'a> {
         }
     }
 
+    /// The same lines again.
+    pub fn again(&self) -> Lines<'a>
+        ensures { result ≡ self.now }
+    {
+        Lines {
+            before: self.before,
+            start: self.start,
+            rest: self.rest,
+        }
+    }
+
     /// The number of the first line that has more bytes than the limit, including its comment.
     pub(crate) fn first_longer_than(self, limit: u32) -> Option<u32>
         ensures { result ≡ option_map (λ (line : LineView). line.no) (first_long_line limit self.entry) }
@@ -184,7 +203,8 @@ impl<'a> Iterator for Lines<'a> {
         let line = Line {
             no: self.before + 1,
             start: self.start,
-            bytes: line_bytes(cut.piece, cut.ended),
+            len: line_bytes(cut.piece, cut.ended).len() as u32,
+            text: self.rest,
         };
         self.start += (self.rest.len() - cut.rest.len()) as u32;
         self.before += 1;

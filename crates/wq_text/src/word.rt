@@ -1,22 +1,18 @@
 //! Words: the longest runs of bytes other than space and TAB.
 //!
 //! The rule is that of "Lines, words and numbers" in docs/FORMAT.md. A `#` ends the word before it and all words of a line, so
-//! there is no search for the comment before the words are cut. Each byte before it is looked at once, the first ones of a long
-//! word twice.
+//! there is no search for the comment before the words are cut. Blanks are looked at one by one, and the bytes of a word sixteen
+//! at a time.
 
-ghost use Rattle.std.specs.Prelude.{◌≡◌, ◌+◌, ◌<◌, ◌^◌, ◌⊎◌, true, [], ◌++◌, length};
+ghost use Rattle.std.specs.Prelude.{◌≡◌, ◌+◌, ◌<◌, ◌≤◌, ◌^◌, ◌⊎◌, true, [], ◌++◌, length, take};
 ghost use Rattle.std.specs.List.{prefix_len};
 ghost use Rattle.std.specs.Iterator.{YieldsFirst, item_count};
 ghost use Rattle.wq_text.specs.Comments.{before_comment};
 ghost use Rattle.wq_text.specs.Words.{words_from, is_blank, in_word, begins_word, AllBlank, AllInWord, EndsAtOnce};
 
+use crate::run::greater_at;
 use crate::span::Span;
-use memchr::memchr3;
 use std::marker::Model;
-
-/// How many bytes of a word are looked at one by one, before the search for its end looks at many bytes at a time. The words that
-/// begin a directive are shorter.
-const MANY: usize = 8;
 
 /// A word of a line. Contracts see its offset in the text and its bytes.
 #[derive(Drop)]
@@ -93,33 +89,24 @@ fn blanks_in_front(bytes: &[u8]) -> usize
     bytes.len()
 }
 
-/// How many bytes at the front may be in a word. The search for the end of a long word looks at many bytes at a time.
-fn word_in_front(bytes: &[u8]) -> usize
-    ensures { result ≡ prefix_len in_word bytes.now }
+/// How many of the first `left` bytes of a text may be in a word, before one that may not. Sixteen are looked at at a time, also
+/// past these, where what is found doesn't count.
+fn word_in_front(text: &[u8], left: usize) -> usize
+    requires { left ≤ length text.now }
+    ensures { result ≡ prefix_len in_word (take left text.now) }
 {
-    let near = &bytes[..bytes.len().min(MANY)];
-    for (len, byte) in near.iter().enumerate() {
-        if !in_word(*byte) {
+    let mut len = 0;
+    while len < left {
+        len += greater_at(text, len);
+        if len >= left {
+            return left;
+        }
+        if !in_word(text[len]) {
             return len;
         }
+        len += 1;
     }
-    if near.len() < bytes.len() {
-        long_word_in_front(bytes)
-    } else {
-        bytes.len()
-    }
-}
-
-/// The same, many bytes at a time. It is kept out of its callers: a search by vectors makes a function save what it overwrites,
-/// and its callers would do so in each call, for short words too.
-#[inline(never)]
-fn long_word_in_front(bytes: &[u8]) -> usize
-    ensures { result ≡ prefix_len in_word bytes.now }
-{
-    match memchr3(b' ', b'\t', b'#', bytes) {
-        Some(end) => end,
-        None => bytes.len(),
-    }
+    left
 }
 
 /// Separates the blanks at the front from what follows them.
@@ -132,13 +119,15 @@ fn split_blanks(bytes: &[u8]) -> (&[u8], &[u8])
     bytes.split_at(len)
 }
 
-/// Separates the word at the front from what follows it. There is none where the comment or the end comes at once.
-fn split_word(bytes: &[u8]) -> (&[u8], &[u8])
+/// Separates the word at the front of these bytes from what follows it. There is none where the comment or the end comes at once.
+/// The text begins with these bytes.
+fn split_word<'a>(bytes: &'a [u8], text: &[u8]) -> (&'a [u8], &'a [u8])
+    requires { bytes.now ≡ take (length bytes.now) text.now }
     ensures whole { bytes.now ≡ result.0.now ++ result.1.now }
     ensures unbroken { AllInWord result.0.now }
     ensures longest { EndsAtOnce result.1.now }
 {
-    let len = word_in_front(bytes);
+    let len = word_in_front(text, bytes.len());
     bytes.split_at(len)
 }
 
@@ -146,28 +135,32 @@ fn split_word(bytes: &[u8]) -> (&[u8], &[u8])
 #[derive(Drop)]
 pub struct Words<'a> {
     start: u32,
-    rest: &'a [u8],
+    /// How many bytes of the line are left.
+    left: u32,
+    /// The text from there on: those bytes, and what follows the line.
+    text: &'a [u8],
 }
 
 impl<'a> Model for Words<'a> {
-    ghost use Rattle.std.specs.Prelude.{List, length, ◌+◌, ◌<◌, ◌^◌};
+    ghost use Rattle.std.specs.Prelude.{List, length, take, ◌+◌, ◌<◌, ◌≤◌, ◌^◌};
     ghost use Rattle.wq_text.specs.Comments.{before_comment};
     ghost use Rattle.wq_text.specs.Words.{WordView, words_from};
 
     ghost Value = { List WordView };
 
-    ghost view = { λ s. words_from s.start (before_comment s.rest.now) };
+    ghost view = { λ s. words_from s.start (before_comment (take s.left s.text.now)) };
 
-    ghost invariant = { λ s. s.start + length s.rest.now < 2 ^ 32 };
+    ghost invariant = { λ s. (s.left ≤ length s.text.now) × (s.start + s.left < 2 ^ 32) };
 }
 
 impl<'a> Words<'a> {
-    /// The words of these bytes before their comment. The first of the bytes is at this offset.
-    pub(crate) fn of(start: u32, bytes: &'a [u8]) -> Words<'a>
-        requires { start + length bytes.now < 2 ^ 32 }
-        ensures { result ≡ words_from start (before_comment bytes.now) }
+    /// The words of the first bytes of a text, so many, before their comment. The first of the bytes is at this offset.
+    pub(crate) fn of(start: u32, text: &'a [u8], left: u32) -> Words<'a>
+        requires within { left ≤ length text.now }
+        requires few { start + left < 2 ^ 32 }
+        ensures { result ≡ words_from start (before_comment (take left text.now)) }
     {
-        Words { start, rest: bytes }
+        Words { start, left, text }
     }
 
     /// The same words again. There are fewer than 2^32.
@@ -177,7 +170,8 @@ impl<'a> Words<'a> {
     {
         Words {
             start: self.start,
-            rest: self.rest,
+            left: self.left,
+            text: self.text,
         }
     }
 }
@@ -190,14 +184,16 @@ impl<'a> Iterator for Words<'a> {
     ghost remaining = { item_count (λ rest. rest) };
 
     fn next(&mut self) -> Option<Word<'a>> {
-        let (gap, rest) = split_blanks(self.rest);
-        let (bytes, rest) = split_word(rest);
+        let (gap, rest) = split_blanks(&self.text[..self.left as usize]);
+        let text = &self.text[gap.len()..];
+        let (bytes, rest) = split_word(rest, text);
         if bytes.is_empty() {
             return None;
         }
         let start = self.start + gap.len() as u32;
         self.start = start + bytes.len() as u32;
-        self.rest = rest;
+        self.left = rest.len() as u32;
+        self.text = &text[bytes.len()..];
         Some(Word { start, bytes })
     }
 }

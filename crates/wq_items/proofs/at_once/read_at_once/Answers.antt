@@ -3,36 +3,73 @@ use Rattle.wq_text.specs.Lines.{lines_of}
 use Rattle.wq_decl.specs.declared.directive.Directive.{Directive}
 use Rattle.wq_decl.specs.Reading.{reading, is_ordered}
 use Rattle.wq_items.specs.AtOnce.{Foretells}
-use Rattle.wq_items.proofs.AtOnceLemmas.{SoFar, SoFar-none, SoFar-blank, SoFar-more, SoFar-ran_out, SoFar-out_at_end, IfNone-always, IsTable-SoFar}
+use Rattle.wq_items.specs.Table.{Table}
+use Rattle.wq_items.specs.declared.at_once.Orders.{Orders}
+use Rattle.wq_items.proofs.AtOnceLemmas.{SoFar, SoFar-none, SoFar-blank, SoFar-more, SoFar-ran_out, SoFar-out_at_end, IfNone-always, IsTable-SoFar, OrdersSoFar, OrdersSoFar-none, OrdersSoFar-blank, OrdersSoFar-noted, IsNoted}
 use Rattle.wq_items.proofs.at_once.read_at_once.Goals as goal
-use Rattle.wq_items.proofs.at_once.read_at_once.Goals.{then-orders, else-orders}
+use Rattle.wq_items.proofs.at_once.read_at_once.Goals.{in-Some-2+in_ok-take, in_default-2}
 
 pub loop-line-init : goal.loop-line-init
 loop-line-init g c =
-    SoFar-none c.new-parts.result c.into_iter-line-iterator.result (lines_of c.args.text.now) c.new-parts.ensures (c.into_iter-line-iterator.ensures.into_iter_gives ∙ c.lines-line-items.ensures)
+    let all = lines_of c.args.text.now in
+    let start : c.lines-lines.result ≡ all = c.lines-lines.ensures in
+    record {
+      made = SoFar-none c.new-parts.result c.lines-lines.result all c.new-parts.ensures start;
+      ordered = OrdersSoFar-none c.lines.result c.lines-lines.result all c.lines.ensures start;
+      at = c.lines-here.ensures ∙ sym start;
+    }
 
 pub loop-line-preserved : goal.loop-line-preserved
 loop-line-preserved g c =
     let line = c.in-Some.line in
-    let blank : reading line ≡ Ok None = subst (λ (o : Option Directive). Foretells (Some o) (reading line)) c.in_default.is c.in_ok-directive.ensures in
-    SoFar-blank c.loop-line.parts c.loop-line.orders line c.loop-line.line-iterator c.next.new.self (lines_of c.args.text.now) c.in-Some.ensures.steps blank c.loop-line.invariant
-
-pub loop-line-preserved-in-Continue-branch-3 : goal.loop-line-preserved-in-Continue-branch-3
-loop-line-preserved-in-Continue-branch-3 g c =
-    let line = c.in-Some.line in
-    let d = c.in-Some-2.directive in
-    let before = c.loop-line.parts in
-    let after = c.take.new.self in
+    let before = c.loop-line in
+    let rest = c.next.new.self in
     let all = lines_of c.args.text.now in
-    let orders : c.if-orders.orders ≡ (c.loop-line.orders || is_ordered d) =
-    elim c.if-orders.branch [
-      | then-orders w ↦ w.orders-is ∙ w.if-orders.true ∙ ap (λ (b : Bool). b || is_ordered d) (sym w.if-orders.true)
-      | else-orders w ↦ w.orders-is ∙ w.is_ordered-orders.ensures ∙ ap (λ (b : Bool). b || is_ordered d) (sym w.if-orders.false)
-    ] in
-    let said : Foretells (Some (Some d)) (reading line) = subst (λ (o : Option Directive). Foretells (Some o) (reading line)) c.in-Some-2.is c.in_ok-directive.ensures in
-    subst (λ (b : Bool). SoFar after b c.next.new.self all) (sym orders) (
-    SoFar-more before after c.loop-line.orders line d c.loop-line.line-iterator c.next.new.self all c.in-Some.ensures.steps (said.0 c.in_ok-take.ensures.whole) (c.in_ok-take.ensures.table line.no) c.loop-line.invariant
-    )
+    let step = c.in-Some.ensures.steps in
+    elim c.match-branch-2.branch [
+      | in-Some-2+in_ok-take w ↦
+          let d = w.in-Some-2.directive in
+          let said : Foretells (Some (Some d)) (reading line) = subst (λ (o : Option Directive). Foretells (Some o) (reading line)) w.in-Some-2.is c.in_ok-directive.ensures in
+          let is : reading line ≡ Ok (Some d) = said.0 w.in_ok-take.ensures.whole in
+          let taken = w.take.new.self in
+          let noted = w.note.new.self in
+          let ordered : w.is_ordered-is_ordered.result ≡ is_ordered d = w.is_ordered-is_ordered.ensures in
+          let notes : IsNoted (is_ordered d) before.seen.lines before.seen.count before.here noted.lines noted.count = record {
+            other = λ isnt. let same = w.note.ensures.other (ordered ∙ isnt) in (ap (λ (o : Orders). o.lines) same, ap (λ (o : Orders). o.count) same);
+            begins = λ is none. w.note.ensures.first (ordered ∙ is) none;
+            later = λ some. w.note.ensures.later some;
+            some = λ is. w.note.ensures.some (ordered ∙ is);
+            more = λ is lt. w.note.ensures.count (ordered ∙ is) lt;
+          } in
+          record {
+            made =
+                subst (λ (t : Table). SoFar t c.match-branch-2.orders rest all) (sym w.parts-is) (
+                subst (λ (b : Bool). SoFar taken b rest all) (sym (w.orders-is ∙ ap (λ (b : Bool). before.orders || b) ordered)) (
+                SoFar-more before.parts taken before.orders line d before.lines rest all step is (w.in_ok-take.ensures.table line.no) before.invariant.made
+                )
+                );
+            ordered =
+                subst (λ (o : Orders). OrdersSoFar o.lines o.count rest all) (sym w.seen-is) (
+                OrdersSoFar-noted before.seen.lines before.seen.count before.here noted.lines noted.count line d before.lines rest all step is before.invariant.at before.invariant.made.sound notes before.invariant.ordered
+                );
+            at = c.again-here.ensures;
+          }
+      | in_default-2 w ↦
+          let blank : reading line ≡ Ok None = subst (λ (o : Option Directive). Foretells (Some o) (reading line)) w.in_default-2.is c.in_ok-directive.ensures in
+          record {
+            made =
+                subst (λ (t : Table). SoFar t c.match-branch-2.orders rest all) (sym w.parts-is) (
+                subst (λ (b : Bool). SoFar before.parts b rest all) (sym w.orders-is) (
+                SoFar-blank before.parts before.orders line before.lines rest all step blank before.invariant.made
+                )
+                );
+            ordered =
+                subst (λ (o : Orders). OrdersSoFar o.lines o.count rest all) (sym w.seen-is) (
+                OrdersSoFar-blank before.seen.lines before.seen.count line before.lines rest all step blank before.invariant.ordered
+                );
+            at = c.again-here.ensures;
+          }
+    ]
 
 pub returns-in_err-take-clause-memory : goal.returns-in_err-take-clause-memory
 returns-in_err-take-clause-memory g c =
@@ -40,16 +77,16 @@ returns-in_err-take-clause-memory g c =
     let d = c.in-Some-2.directive in
     let said : Foretells (Some (Some d)) (reading line) = subst (λ (o : Option Directive). Foretells (Some o) (reading line)) c.in-Some-2.is c.in_ok-directive.ensures in
     IfNone-always c.from_residual-in_err-take.result _ (
-    SoFar-ran_out c.loop-line.parts c.loop-line.orders line d c.loop-line.line-iterator c.next.new.self (lines_of c.args.text.now) c.in-Some.ensures.steps said (c.in_err-take.ensures.memory line.no) c.loop-line.invariant
+    SoFar-ran_out c.loop-line.parts c.loop-line.orders line d c.loop-line.lines c.next.new.self (lines_of c.args.text.now) c.in-Some.ensures.steps said (c.in_err-take.ensures.memory line.no) c.loop-line.invariant.made
     )
 
 pub returns-in_err-table-clause-memory : goal.returns-in_err-table-clause-memory
 returns-in_err-table-clause-memory g c =
     IfNone-always c.from_residual-in_err-table.result _ (λ sound made.
-    SoFar-out_at_end c.loop-line.parts c.loop-line.orders c.loop-line.line-iterator (lines_of c.args.text.now) c.in-None.ensures.steps.0 (search rules) c.loop-line.invariant)
+    SoFar-out_at_end c.loop-line.parts c.loop-line.orders c.loop-line.lines (lines_of c.args.text.now) c.in_default.ensures.steps.0 (search rules) c.loop-line.invariant.made)
 
 pub take-requires : goal.take-requires
-take-requires g c = IsTable-SoFar c.loop-line.parts c.loop-line.orders c.loop-line.line-iterator (lines_of c.args.text.now) c.loop-line.invariant
+take-requires g c = IsTable-SoFar c.loop-line.parts c.loop-line.orders c.loop-line.lines (lines_of c.args.text.now) c.loop-line.invariant.made
 
 pub finish-requires : goal.finish-requires
-finish-requires g c = IsTable-SoFar c.loop-line.parts c.loop-line.orders c.loop-line.line-iterator (lines_of c.args.text.now) c.loop-line.invariant
+finish-requires g c = IsTable-SoFar c.loop-line.parts c.loop-line.orders c.loop-line.lines (lines_of c.args.text.now) c.loop-line.invariant.made

@@ -2,8 +2,11 @@ use Rattle.std.proofs.Common.{◌≡◌, ◌∷◌, [], ◌++◌, ℕ, List, Som
 use Rattle.std.specs.Prelude.{slice_set}
 use Rattle.wq_text.specs.Words.{WordView}
 use Rattle.wq_items.specs.Table.{item_named, targets_of}
-use Rattle.wq_items.proofs.TargetLemmas.{Added, Added-more}
+use Rattle.wq_items.proofs.TargetLemmas.{Added, Added-none, Added-more}
 use Rattle.wq_items.proofs.table.push_targets.Goals as goal
+
+pub loop-word-init : goal.loop-word-init
+loop-word-init g c = (Added-none c.args.names.now c.args.waits.now c.args.item c.args.place c.into_iter-word-iterator.result c.args.targets c.into_iter-word-iterator.ensures.into_iter_gives, c.requires.room)
 
 pub loop-word-preserved : goal.loop-word-preserved
 loop-word-preserved g c =

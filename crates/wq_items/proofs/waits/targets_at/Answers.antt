@@ -1,9 +1,9 @@
 use Rattle.std.proofs.Common.{◌≡◌, ℕ, ◌++◌, ◌∷◌, [], List, map, get_or, take, sym, ap, ◌∙◌, arith}
 use Rattle.std.specs.Prelude.{slice_index}
-use Rattle.std.proofs.lemmas.List.{append_assoc, get_or_default, take_more, map_push, take_all}
+use Rattle.std.proofs.lemmas.List.{get_or_default, take_more, map_push, take_all}
 use Rattle.wq_items.specs.declared.target.Target.{Target}
 use Rattle.wq_items.specs.declared.flush.Flush.{Flush}
-use Rattle.wq_items.proofs.waits.add_targets.Goals as goal
+use Rattle.wq_items.proofs.waits.targets_at.Goals as goal
 
 pub loop-place-preserved : goal.loop-place-preserved
 loop-place-preserved g c d =
@@ -17,12 +17,9 @@ loop-place-preserved g c d =
     let here : target ≡ at place = ap (λ (f : Flush). f.target) (get_or_default flushes place flush d (c.requires i 0 c.loop-place-test.true)) in
     c.in_ok-push.ensures.items
     ∙ ap (λ (l : List Target). l ++ (target ∷ [])) (c.loop-place.invariant d)
-    ∙ append_assoc c.args.targets.now.items (map at (take i places)) (target ∷ [])
-    ∙ ap (λ (l : List Target). c.args.targets.now.items ++ l) (
-    ap (λ (t : Target). map at (take i places) ++ (t ∷ [])) here
+    ∙ ap (λ (t : Target). map at (take i places) ++ (t ∷ [])) here
     ∙ sym (ap (map at) (take_more places i 0 c.loop-place-test.true) ∙ map_push at (take i places) place)
-    )
 
 pub returns : goal.returns
 returns g c d =
-    c.loop-place.invariant d ∙ ap (λ ps. c.args.targets.now.items ++ map (λ p. (get_or c.args.flushes.now p d).target) ps) (take_all c.loop-place.place-index c.args.places.now (omega (arith, c.loop-place-test.false)))
+    c.loop-place.invariant d ∙ ap (λ ps. map (λ p. (get_or c.args.flushes.now p d).target) ps) (take_all c.loop-place.place-index c.args.places.now (omega (arith, c.loop-place-test.false)))

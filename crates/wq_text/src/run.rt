@@ -1,0 +1,78 @@
+//! Runs of bytes of one kind, sixteen at a time: bytes greater than `#`, and bytes other than a line feed.
+//!
+//! All bytes of a name are greater than `#`, and so are those of most words. A space, a TAB, a line feed and the `#` itself aren't
+//! (docs/FORMAT.md, "Lines, words and numbers"). A run of n bytes takes time in n / 16.
+
+ghost use Rattle.std.specs.Prelude.{◌≡◌, ◌+◌, ◌<◌, ◌≤◌, ◌==◌, ℕ, true, false, nat_le, length, slice_index};
+ghost use Rattle.memchr.specs.Find.{IsFirstByte, is_byte};
+ghost use Rattle.wq_text.specs.Runs.{first_set};
+
+use std::simd::prelude::*;
+
+/// How many bytes a vector has.
+const LANES: usize = 16;
+
+/// The place of the lowest bit that is set, or 16 where none is.
+fn first_set(mask: u64) -> usize
+    ensures { result ≡ first_set mask }
+{
+    if mask == 0 {
+        LANES
+    } else {
+        mask.trailing_zeros() as usize
+    }
+}
+
+/// How many of the sixteen bytes from this place on come before the first that isn't greater than `#`.
+fn greater_of_sixteen(text: &[u8], at: usize) -> usize
+    requires { at + 16 ≤ length text.now }
+    ensures short { result ≤ 16 }
+    ensures greater { (k : ℕ) → at ≤ k → k < at + result → nat_le (slice_index text.now k) 35 ≡ false }
+{
+    let others = u8x16::from_slice(&text[at..]).simd_le(u8x16::splat(b'#'));
+    first_set(others.to_bitmask())
+}
+
+/// How many of the sixteen bytes from this place on come before the first line feed.
+fn feedless_of_sixteen(text: &[u8], at: usize) -> usize
+    requires { at + 16 ≤ length text.now }
+    ensures short { result ≤ 16 }
+    ensures feedless { (k : ℕ) → at ≤ k → k < at + result → (slice_index text.now k == 10) ≡ false }
+    ensures feed { result < 16 → (slice_index text.now (at + result) == 10) ≡ true }
+{
+    let feeds = u8x16::from_slice(&text[at..]).simd_eq(u8x16::splat(b'\n'));
+    first_set(feeds.to_bitmask())
+}
+
+/// So many of the bytes from this place on, at least, are greater than `#`. Where the text ends within sixteen bytes, none is looked
+/// at.
+pub(crate) fn greater_at(text: &[u8], at: usize) -> usize
+    requires { at ≤ length text.now }
+    ensures within { at + result ≤ length text.now }
+    ensures greater { (k : ℕ) → at ≤ k → k < at + result → nat_le (slice_index text.now k) 35 ≡ false }
+{
+    if text.len() - at < LANES {
+        return 0;
+    }
+    greater_of_sixteen(text, at)
+}
+
+/// The place of the first line feed.
+pub(crate) fn first_feed(text: &[u8]) -> Option<usize>
+    ensures { IsFirstByte (is_byte 10) text.now result }
+{
+    let mut at = 0;
+    while LANES <= text.len() - at {
+        let run = feedless_of_sixteen(text, at);
+        at += run;
+        if run < LANES {
+            return Some(at);
+        }
+    }
+    for place in at..text.len() {
+        if text[place] == b'\n' {
+            return Some(place);
+        }
+    }
+    None
+}
