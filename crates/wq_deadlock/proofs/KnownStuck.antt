@@ -1,6 +1,6 @@
 -- What is known about stuck lanes while a machine is played: that they can't move, and where they are listed.
 use Rattle.std.proofs.Common.{◌≡◌, ◌≢◌, ℕ, zero, suc, ◌+◌, ◌<◌, ◌≤◌, inl, inr, Bool, true, false, List, [], ◌∷◌, ◌++◌, length, get_or, map, set, replicate, Some, None, Option, refl, sym, ap, subst, ◌∙◌, arith}
-use Rattle.std.specs.Prelude.{Contains, IfSome, Vec}
+use Rattle.std.specs.Prelude.{Contains, IfSome}
 use Rattle.std.proofs.lemmas.Bool.{cases_eq}
 use Rattle.std.proofs.lemmas.List.{get_or-map, get_or-set_same, get_or-set_other, length-map, length-set, length-replicate, map-set}
 use Rattle.std.proofs.lemmas.List.Elements.{Contains-push, Contains-push_cases, Contains-append_left}
@@ -14,7 +14,7 @@ use Rattle.wq_core.specs.Played.{IsDeclaredStep, HasNoDeclaredStep}
 use Rattle.wq_core.proofs.LaneLemmas.{Contains-nil, lane_at-with_lane_other}
 use Rattle.wq_core.proofs.LawfulSteps.{waiting-target}
 use Rattle.wq_core.proofs.Machines.{running-item}
-use Rattle.wq_graph.proofs.BuildingLemmas.{lists_grown}
+use Rattle.smallvec.specs.SmallVec.{SmallVec}
 use Rattle.wq_deadlock.specs.Stuck.{StuckLanes, Awaits, IsKnown, IsAfter, IsReleased, waiting_for, with_waiting, with_stuck}
 use Rattle.wq_deadlock.proofs.Kept.{HasNoDeclaredStep-other}
 
@@ -199,30 +199,33 @@ awaited-within w s wiring sound q i awaits = subst (λ k. k < items w) awaits.ta
 
 -- ---- how it is kept
 
-module _ {A : Type 0} (known : List Bool) (lists : List (Vec ℕ A)) (now : StuckLanes) (view : record { known = known; waiting = map (λ (v : Vec ℕ A). v.items) lists } ≡ now) where
+module _ (known : List Bool) (lists : List (SmallVec ℕ)) (now : StuckLanes) (view : record { known = known; waiting = map (λ (v : SmallVec ℕ). v.items) lists } ≡ now) where
   abbrev shown : List (List ℕ)
-  shown = map (λ (v : Vec ℕ A). v.items) lists
+  shown = map (λ (v : SmallVec ℕ). v.items) lists
 
   long : length shown ≡ length now.waiting
   long = ap (λ (s : StuckLanes). length s.waiting) view
 
-  pub noted-view : (q place_q i place : ℕ) (list new : Vec ℕ A) (awaited : Option ℕ) → place_q ≡ q → place ≡ i → awaited ≡ Some i → IfSome awaited (λ j. j < length now.waiting) → list ≡ get_or lists place list
-      → new.items ≡ list.items ++ (q ∷ []) → record { known = set known place_q true; waiting = map (λ (v : Vec ℕ A). v.items) (set lists place new) } ≡ with_stuck now q awaited
+  pub noted-view : (q place_q i place : ℕ) (list new : SmallVec ℕ) (awaited : Option ℕ) → place_q ≡ q → place ≡ i → awaited ≡ Some i → IfSome awaited (λ j. j < length now.waiting) → list ≡ get_or lists place list
+      → new.items ≡ list.items ++ (q ∷ []) → record { known = set known place_q true; waiting = map (λ (v : SmallVec ℕ). v.items) (set lists place new) } ≡ with_stuck now q awaited
   noted-view q place_q i place list new awaited at_q at is within read pushed =
       let fits : i < length now.waiting = subst (λ (o : Option ℕ). IfSome o (λ j. j < length now.waiting)) is within in
-      let grown = lists_grown lists place list new shown (q ∷ []) refl (omega (arith, fits, at, long)) read pushed in
+      let inside : place < length lists = omega (arith, fits, at, long, length-map lists (λ (v : SmallVec ℕ). v.items)) in
+      let was : list.items ≡ get_or shown place [] = ap (λ (v : SmallVec ℕ). v.items) read ∙ sym (get_or-map (λ (v : SmallVec ℕ). v.items) lists place list [] inside) in
+      let grown : map (λ (v : SmallVec ℕ). v.items) (set lists place new) ≡ set shown place (get_or shown place [] ++ (q ∷ [])) =
+      map-set (λ (v : SmallVec ℕ). v.items) lists place new ∙ ap (λ (l : List ℕ). set shown place l) (pushed ∙ ap (λ (l : List ℕ). l ++ (q ∷ [])) was) in
       let first : set known place_q true ≡ set known q true = ap (λ n. set known n true) at_q in
-      let second : map (λ (v : Vec ℕ A). v.items) (set lists place new) ≡ with_waiting shown q awaited =
+      let second : map (λ (v : SmallVec ℕ). v.items) (set lists place new) ≡ with_waiting shown q awaited =
       grown ∙ ap (λ n. set shown n (get_or shown n [] ++ (q ∷ []))) at ∙ ap (λ (o : Option ℕ). with_waiting shown q o) (sym is) in
-      let both : record { known = set known place_q true; waiting = map (λ (v : Vec ℕ A). v.items) (set lists place new) } ≡ with_stuck (record { known = known; waiting = shown }) q awaited =
+      let both : record { known = set known place_q true; waiting = map (λ (v : SmallVec ℕ). v.items) (set lists place new) } ≡ with_stuck (record { known = known; waiting = shown }) q awaited =
       λ t. record { known = first t; waiting = second t } in
       both ∙ ap (λ (s : StuckLanes). with_stuck s q awaited) view
 
-  pub released-view : (i place : ℕ) (list new : Vec ℕ A) (lanes : List ℕ) (left : List Bool) → place ≡ i → i < length now.waiting → list ≡ get_or lists place list → lanes ≡ list.items → new.items ≡ []
-      → ((q : ℕ) → get_or left q false ≡ true → (get_or known q false ≡ true) × (¬ Contains lanes q)) → IsReleased now i (record { known = left; waiting = map (λ (v : Vec ℕ A). v.items) (set lists place new) })
+  pub released-view : (i place : ℕ) (list new : SmallVec ℕ) (lanes : List ℕ) (left : List Bool) → place ≡ i → i < length now.waiting → list ≡ get_or lists place list → lanes ≡ list.items → new.items ≡ []
+      → ((q : ℕ) → get_or left q false ≡ true → (get_or known q false ≡ true) × (¬ Contains lanes q)) → IsReleased now i (record { known = left; waiting = map (λ (v : SmallVec ℕ). v.items) (set lists place new) })
   released-view i place list new lanes left at within read all emptied each =
-      let fits : place < length lists = omega (arith, within, at, long, length-map lists (λ (v : Vec ℕ A). v.items)) in
-      let listed : get_or shown i [] ≡ lanes = ap (λ n. get_or shown n []) (sym at) ∙ get_or-map (λ (v : Vec ℕ A). v.items) lists place list [] fits ∙ ap (λ (v : Vec ℕ A). v.items) (sym read) ∙ sym all in
-      let waiting : map (λ (v : Vec ℕ A). v.items) (set lists place new) ≡ set shown i [] = map-set (λ (v : Vec ℕ A). v.items) lists place new ∙ ap (λ n. set shown n new.items) at ∙ ap (λ (l : List ℕ). set shown i l) emptied in
-      subst (λ (s : StuckLanes). IsReleased s i (record { known = left; waiting = map (λ (v : Vec ℕ A). v.items) (set lists place new) })) view
+      let fits : place < length lists = omega (arith, within, at, long, length-map lists (λ (v : SmallVec ℕ). v.items)) in
+      let listed : get_or shown i [] ≡ lanes = ap (λ n. get_or shown n []) (sym at) ∙ get_or-map (λ (v : SmallVec ℕ). v.items) lists place list [] fits ∙ ap (λ (v : SmallVec ℕ). v.items) (sym read) ∙ sym all in
+      let waiting : map (λ (v : SmallVec ℕ). v.items) (set lists place new) ≡ set shown i [] = map-set (λ (v : SmallVec ℕ). v.items) lists place new ∙ ap (λ n. set shown n new.items) at ∙ ap (λ (l : List ℕ). set shown i l) emptied in
+      subst (λ (s : StuckLanes). IsReleased s i (record { known = left; waiting = map (λ (v : SmallVec ℕ). v.items) (set lists place new) })) view
       (record { known = λ q is. let h = each q is in (h.0, subst (λ (l : List ℕ). ¬ Contains l q) (sym listed) h.1); waiting = waiting })

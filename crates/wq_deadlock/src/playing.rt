@@ -58,7 +58,7 @@ fn awaited<A: Allocator>(core: &Core<A>, q: LaneId) -> Option<ItemId>
 }
 
 /// Has lanes that are known to be stuck asked again after a step that may let them move.
-fn release_after<A: Allocator + Copy>(stuck: &mut Stuck<A>, step: &Step)
+fn release_after<A: Allocator>(stuck: &mut Stuck<'_, A>, step: &Step)
     requires { (q i : ℕ) → step.now ≡ Finish q i → i < length stuck.old.waiting }
     ensures after { IsAfter stuck.old step.now stuck.new }
     ensures len { length stuck.new.known ≡ length stuck.old.known }
@@ -77,7 +77,7 @@ pub(crate) fn play<A: Allocator + Copy>(
     ensures { IfOk result (λ steps. IsPlayedFrom core.old.wiring core.old.state steps.items) }
 {
     let lanes = core.lanes() as u16;
-    let mut stuck = Stuck::new(alloc, lanes, core.items() as u16)?;
+    let mut stuck = Stuck::new(&alloc, lanes, core.items() as u16)?;
     let mut steps = Vec::new(alloc);
     let mut q = 0;
     while q < lanes {

@@ -2,25 +2,31 @@
 //!
 //! A lane that can't move waits for an item, or has nothing to start. Where nothing is queued, it can move again only once that
 //! item is finished. So it isn't asked again before. Each call takes constant time, except for two: `new` takes time in the
-//! number of lanes and items, and `release` in the number of lanes that are released. Memory is taken for each lane and each
-//! item, and for the lanes that wait.
+//! number of lanes and items, and `release` in the number of lanes that are released. Memory is taken once for all lanes and
+//! once for all items; then only where more than eight lanes are found to wait for one item.
 
 ghost use Rattle.std.specs.Prelude.{◌≡◌, ◌<◌, ◌↔◌, ℕ, length, map, replicate, slice_index_or, true, false, [], Contains, IfOk, OnOk, IfSome, IsTrue};
 ghost use Rattle.wq_deadlock.specs.Stuck.{IsKnown, IsReleased, with_stuck};
 
+use smallvec::SmallVec;
 use std::alloc::{AllocError, Allocator};
 use std::marker::Model;
 use wq_groups::LaneId;
 use wq_items::ItemId;
 
+/// The numbers of the lanes that were found to wait for one item: nearly always none or a few. Up to eight lie in the list
+/// itself, which takes as many bytes as with room for four. They are numbers, since a place that isn't used holds a default.
+/// A list keeps its allocator, and the size of that has to be known: that of a reference is.
+type Waiting<'a, A> = SmallVec<u16, 8, &'a A>;
+
 /// For each lane whether it is known to be stuck, and for each item the lanes that were found to wait for it.
 #[derive(Drop)]
-pub(crate) struct Stuck<A: Allocator> {
-    known: Vec<bool, A>,
-    waiting: Vec<Vec<LaneId, A>, A>,
+pub(crate) struct Stuck<'a, A: Allocator> {
+    known: Vec<bool, &'a A>,
+    waiting: Vec<Waiting<'a, A>, &'a A>,
 }
 
-impl<A: Allocator> Model for Stuck<A> {
+impl<'a, A: Allocator> Model for Stuck<'a, A> {
     ghost use Rattle.std.specs.Prelude.{map};
     ghost use Rattle.wq_deadlock.specs.Stuck.{StuckLanes};
 
@@ -30,34 +36,31 @@ impl<A: Allocator> Model for Stuck<A> {
 }
 
 /// This many empty lists.
-fn empty_lists<A: Allocator + Copy>(
-    alloc: A,
-    items: u16,
-) -> Result<Vec<Vec<LaneId, A>, A>, AllocError>
+fn empty_lists<A: Allocator>(alloc: &A, items: u16) -> Result<Vec<Waiting<'_, A>, &A>, AllocError>
     ensures { IfOk result (λ lists. map (λ l. l.items) lists.items ≡ replicate items []) }
 {
     let mut lists = Vec::with_capacity(alloc, usize::from(items))?;
     for _ in 0..items {
-        lists.push(Vec::new(alloc))?;
+        lists.push(SmallVec::new(alloc))?;
     }
     Ok(lists)
 }
 
 /// Forgets that any of these lanes was known to be stuck.
-fn forget<A: Allocator>(known: &mut Vec<bool, A>, lanes: &[LaneId])
+fn forget<A: Allocator>(known: &mut Vec<bool, A>, lanes: &[u16])
     ensures known { (q : ℕ) → slice_index_or known.new.items q false ≡ true → (slice_index_or known.old.items q false ≡ true) × (¬ Contains lanes.now q) }
     ensures len { length known.new.items ≡ length known.old.items }
 {
     for q in lanes {
-        if let Some(known) = known.get_mut(usize::from(q.get())) {
+        if let Some(known) = known.get_mut(usize::from(*q)) {
             *known = false;
         }
     }
 }
 
-impl<A: Allocator + Copy> Stuck<A> {
+impl<'a, A: Allocator> Stuck<'a, A> {
     /// For this many lanes and items. No lane is known to be stuck.
-    pub(crate) fn new(alloc: A, lanes: u16, items: u16) -> Result<Self, AllocError>
+    pub(crate) fn new(alloc: &'a A, lanes: u16, items: u16) -> Result<Self, AllocError>
         ensures known { IfOk result (λ stuck. stuck.known ≡ replicate lanes false) }
         ensures waiting { IfOk result (λ stuck. stuck.waiting ≡ replicate items []) }
     {
@@ -83,7 +86,7 @@ impl<A: Allocator + Copy> Stuck<A> {
     {
         self.known[usize::from(q.get())] = true;
         if let Some(item) = awaited {
-            self.waiting[usize::from(item.get())].push(q)?;
+            self.waiting[usize::from(item.get())].push(q.get())?;
         }
         Ok(())
     }
