@@ -3,8 +3,8 @@
 //! The format is that of "Plan texts" and "Circle texts" in docs/FORMAT.md. Printing takes time and memory in the length of what
 //! is printed.
 
-ghost use Rattle.std.specs.Prelude.{◌≡◌, ◌<◌, ◌++◌, ℕ, length, OnOk};
-ghost use Rattle.wq_lines.specs.LineText.{line_text};
+ghost use Rattle.std.specs.Prelude.{◌≡◌, ◌<◌, ◌++◌, ℕ, length, OnErr, OnOk};
+ghost use Rattle.wq_lines.specs.LineText.{IsBegun, line_text};
 ghost use Rattle.wq_cert.specs.PlanText.{arc_line};
 
 use std::alloc::{AllocError, Allocator};
@@ -21,7 +21,8 @@ pub fn put_arc_line<A: Allocator + Copy>(
 ) -> Result<(), AllocError>
     requires source { arc.0 < length table.now.names }
     requires target { arc.1 < length table.now.names }
-    ensures { OnOk result (out.new.items ≡ out.old.items ++ line_text (arc_line table.now.names arc)) }
+    ensures added { OnOk result (out.new.items ≡ out.old.items ++ line_text (arc_line table.now.names arc)) }
+    ensures part { OnErr result (IsBegun (line_text (arc_line table.now.names arc)) out.old.items out.new.items) }
 {
     put(out, b"arc")?;
     put_word(out, table.name(arc.0))?;

@@ -2,7 +2,8 @@
 //!
 //! It takes time and memory in the number of digits.
 
-ghost use Rattle.std.specs.Prelude.{◌≡◌, ◌++◌, ◌∷◌, OnOk, decimal};
+ghost use Rattle.std.specs.Prelude.{◌≡◌, ◌++◌, ◌∷◌, OnErr, OnOk, decimal};
+ghost use Rattle.wq_lines.specs.LineText.{IsBegun};
 ghost use Rattle.wq_findings.specs.Shown.{place_text};
 
 use std::alloc::{AllocError, Allocator};
@@ -13,7 +14,8 @@ pub fn put_place<A: Allocator + Copy>(
     out: &mut Vec<u8, A>,
     place: &[u32],
 ) -> Result<(), AllocError>
-    ensures { OnOk result (out.new.items ≡ out.old.items ++ place_text place.now) }
+    ensures added { OnOk result (out.new.items ≡ out.old.items ++ place_text place.now) }
+    ensures part { OnErr result (IsBegun (place_text place.now) out.old.items out.new.items) }
 {
     for number in place {
         put_part(alloc, out, *number)?;
@@ -27,7 +29,8 @@ fn put_part<A: Allocator + Copy>(
     out: &mut Vec<u8, A>,
     number: u32,
 ) -> Result<(), AllocError>
-    ensures { OnOk result (out.new.items ≡ out.old.items ++ (58 ∷ decimal number)) }
+    ensures added { OnOk result (out.new.items ≡ out.old.items ++ (58 ∷ decimal number)) }
+    ensures part { OnErr result (IsBegun (58 ∷ decimal number) out.old.items out.new.items) }
 {
     let digits = number.to_string(alloc)?;
     out.push(b':')?;

@@ -4,15 +4,16 @@
 //! commands. Each call takes time in the length of what it adds, and memory for nothing else. Where memory runs out, a part of it
 //! may have been added.
 
-ghost use Rattle.std.specs.Prelude.{◌≡◌, ◌++◌, ◌∷◌, [], OnOk, decimal};
-ghost use Rattle.wq_lines.specs.LineText.{spaced};
+ghost use Rattle.std.specs.Prelude.{◌≡◌, ◌++◌, ◌∷◌, [], OnErr, OnOk, decimal};
+ghost use Rattle.wq_lines.specs.LineText.{IsBegun, spaced};
 
 use itoa::Buffer;
 use std::alloc::{AllocError, Allocator};
 
 /// Adds bytes. The only error is out of memory (20).
 pub fn put<A: Allocator + Copy>(out: &mut Vec<u8, A>, bytes: &[u8]) -> Result<(), AllocError>
-    ensures { OnOk result (out.new.items ≡ out.old.items ++ bytes.now) }
+    ensures added { OnOk result (out.new.items ≡ out.old.items ++ bytes.now) }
+    ensures part { OnErr result (IsBegun bytes.now out.old.items out.new.items) }
 {
     out.extend_from_slice(bytes)?;
     Ok(())
@@ -20,7 +21,8 @@ pub fn put<A: Allocator + Copy>(out: &mut Vec<u8, A>, bytes: &[u8]) -> Result<()
 
 /// Adds a space and a word. The only error is out of memory (20).
 pub fn put_word<A: Allocator + Copy>(out: &mut Vec<u8, A>, word: &[u8]) -> Result<(), AllocError>
-    ensures { OnOk result (out.new.items ≡ out.old.items ++ spaced word.now) }
+    ensures added { OnOk result (out.new.items ≡ out.old.items ++ spaced word.now) }
+    ensures part { OnErr result (IsBegun (spaced word.now) out.old.items out.new.items) }
 {
     out.push(b' ')?;
     out.extend_from_slice(word)?;
@@ -29,7 +31,8 @@ pub fn put_word<A: Allocator + Copy>(out: &mut Vec<u8, A>, word: &[u8]) -> Resul
 
 /// Adds a space and a number. The only error is out of memory (20).
 pub fn put_number<A: Allocator + Copy>(out: &mut Vec<u8, A>, number: u32) -> Result<(), AllocError>
-    ensures { OnOk result (out.new.items ≡ out.old.items ++ spaced (decimal number)) }
+    ensures added { OnOk result (out.new.items ≡ out.old.items ++ spaced (decimal number)) }
+    ensures part { OnErr result (IsBegun (spaced (decimal number)) out.old.items out.new.items) }
 {
     let mut digits = Buffer::new();
     put_word(out, digits.format(number).as_bytes())
@@ -37,7 +40,8 @@ pub fn put_number<A: Allocator + Copy>(out: &mut Vec<u8, A>, number: u32) -> Res
 
 /// Adds a space and a count, a number of up to 64 bits. The only error is out of memory (20).
 pub fn put_count<A: Allocator + Copy>(out: &mut Vec<u8, A>, count: u64) -> Result<(), AllocError>
-    ensures { OnOk result (out.new.items ≡ out.old.items ++ spaced (decimal count)) }
+    ensures added { OnOk result (out.new.items ≡ out.old.items ++ spaced (decimal count)) }
+    ensures part { OnErr result (IsBegun (spaced (decimal count)) out.old.items out.new.items) }
 {
     let mut digits = Buffer::new();
     put_word(out, digits.format(count).as_bytes())
@@ -45,7 +49,8 @@ pub fn put_count<A: Allocator + Copy>(out: &mut Vec<u8, A>, count: u64) -> Resul
 
 /// Ends a line. The only error is out of memory (20).
 pub fn put_end<A: Allocator + Copy>(out: &mut Vec<u8, A>) -> Result<(), AllocError>
-    ensures { OnOk result (out.new.items ≡ out.old.items ++ (10 ∷ [])) }
+    ensures added { OnOk result (out.new.items ≡ out.old.items ++ (10 ∷ [])) }
+    ensures part { OnErr result (IsBegun (10 ∷ []) out.old.items out.new.items) }
 {
     out.push(b'\n')?;
     Ok(())

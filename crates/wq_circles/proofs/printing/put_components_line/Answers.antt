@@ -7,5 +7,5 @@ use Rattle.wq_circles.proofs.printing.put_components_line.Goals as goal
 pub returns : goal.returns
 returns g c =
     on_ok_weaker c.put_end.result
-    (line_text-written c.args.out.now.items (codes "components") (decimal (length c.args.components.now)) c.put.new.out.items c.put_number.new.out.items c.put_end.new.out.items c.in_ok-put.ensures c.in_ok-put_number.ensures)
-    c.put_end.ensures
+    (line_text-written c.args.out.now.items (codes "components") (decimal (length c.args.components.now)) c.put.new.out.items c.put_number.new.out.items c.put_end.new.out.items c.in_ok-put.ensures.added c.in_ok-put_number.ensures.added)
+    c.put_end.ensures.added

@@ -11,7 +11,7 @@ returns g c =
     let before = c.args.out.now.items in
     let item = name_of names c.args.item in
     let first : c.put_word.new.out.items ≡ before ++ spaced item =
-    c.in_ok-put_word.ensures ∙ ap (λ (n : List ℕ). before ++ spaced n) (sym (get_or_from_slice_get names c.args.item c.name.result.now [] c.name.ensures)) in
-    c.in_ok-put_word-2.ensures ∙ ap (λ (o : List ℕ). o ++ spaced c.name-2.result.now) first
+    c.in_ok-put_word.ensures.added ∙ ap (λ (n : List ℕ). before ++ spaced n) (sym (get_or_from_slice_get names c.args.item c.name.result.now [] c.name.ensures)) in
+    c.in_ok-put_word-2.ensures.added ∙ ap (λ (o : List ℕ). o ++ spaced c.name-2.result.now) first
     ∙ ap (λ (n : List ℕ). (before ++ spaced item) ++ spaced n) (sym (get_or_from_slice_get names c.args.target c.name-2.result.now [] c.name-2.ensures))
     ∙ spaced-two before item (name_of names c.args.target)

@@ -79,4 +79,4 @@ returns g c =
     let arcs = take_all c.loop-flush.flush-index drawn (omega (arith, c.loop-flush-test.false, c.loop-flush.auto.flush-index-end)) ∙ c.deref-flush-items.ensures.value ∙ c.in_ok-flushes.ensures.arcs in
     let arrows = c.loop-flush.invariant ∙ ap (λ (l : List WaitArc). c.loop-number.out.items ++ text_of (map (flush_line t.names looks) l)) arcs in
     let head = c.in_ok-put_head.ensures ∙ ap (λ (o : List ℕ). o ++ text_of (head_lines c.args.title.now)) c.new-out.ensures.items in
-    text_of-whole (head_lines c.args.title.now) (flat_map workqueues (range_with_len 0 a.lanes)) (map (flush_line t.names looks) _) (codes "}") _ _ _ _ head boxes arrows c.in_ok-put.ensures
+    text_of-whole (head_lines c.args.title.now) (flat_map workqueues (range_with_len 0 a.lanes)) (map (flush_line t.names looks) _) (codes "}") _ _ _ _ head boxes arrows c.in_ok-put.ensures.added

@@ -18,9 +18,9 @@ returns g c =
     let front = codes "  \"" in
     let to = codes "\" -> \"" in
     let quote = codes "\"" in
-    let h2 = put_more out front _ item _ _ c.in_ok-put.ensures c.in_ok-put-2.ensures item_is in
-    let h3 = put_more out (front ++ item) _ to _ _ h2 c.in_ok-put-3.ensures refl in
-    let h4 = put_more out (front ++ item ++ to) _ target _ _ h3 c.in_ok-put-4.ensures target_is in
-    let h5 = put_more out (front ++ item ++ to ++ target) _ quote _ _ h4 c.in_ok-put-5.ensures refl in
-    let h6 = put_more out (front ++ item ++ to ++ target ++ quote) _ look _ _ h5 c.in_ok-put-6.ensures c.look_text.ensures in
-    on_ok_weaker c.put-7.result (λ e. put_end out (front ++ item ++ to ++ target ++ quote ++ look) (codes ";") _ _ h6 e) c.put-7.ensures
+    let h2 = put_more out front _ item _ _ c.in_ok-put.ensures.added c.in_ok-put-2.ensures.added item_is in
+    let h3 = put_more out (front ++ item) _ to _ _ h2 c.in_ok-put-3.ensures.added refl in
+    let h4 = put_more out (front ++ item ++ to) _ target _ _ h3 c.in_ok-put-4.ensures.added target_is in
+    let h5 = put_more out (front ++ item ++ to ++ target) _ quote _ _ h4 c.in_ok-put-5.ensures.added refl in
+    let h6 = put_more out (front ++ item ++ to ++ target ++ quote) _ look _ _ h5 c.in_ok-put-6.ensures.added c.look_text.ensures in
+    on_ok_weaker c.put-7.result (λ e. put_end out (front ++ item ++ to ++ target ++ quote ++ look) (codes ";") _ _ h6 e) c.put-7.ensures.added

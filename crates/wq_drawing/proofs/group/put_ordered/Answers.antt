@@ -19,9 +19,9 @@ returns g c =
     let back = codes "\" {" in
     let first : List ℕ = front ++ name ++ back in
     let second = codes "      graph [label=\"ordered\", style=dashed, color=black];" in
-    let h2 = put_more out front _ name _ _ c.in_ok-put.ensures c.in_ok-put-2.ensures name_is in
-    let h3 = put_end out (front ++ name) back _ _ h2 c.in_ok-put-3.ensures in
-    let h4 = put_line out (ended first) (ended second) _ _ h3 c.in_ok-put-4.ensures in
+    let h2 = put_more out front _ name _ _ c.in_ok-put.ensures.added c.in_ok-put-2.ensures.added name_is in
+    let h3 = put_end out (front ++ name) back _ _ h2 c.in_ok-put-3.ensures.added in
+    let h4 = put_line out (ended first) (ended second) _ _ h3 c.in_ok-put-4.ensures.added in
     let all : take c.loop-item.item-index members ≡ members = take_all c.loop-item.item-index members (omega (arith, c.loop-item-test.false, c.loop-item.auto.item-index-end)) in
     let filled = c.loop-item.invariant ∙ ap (λ (is : List ℕ). c.put-4.new.out.items ++ text_of (map (member_line names) is)) all in
-    on_ok_weaker c.put-5.result (λ e. box_closed out first second (codes "    }") (map (member_line names) members) _ _ _ h4 filled e) c.put-5.ensures
+    on_ok_weaker c.put-5.result (λ e. box_closed out first second (codes "    }") (map (member_line names) members) _ _ _ h4 filled e) c.put-5.ensures.added

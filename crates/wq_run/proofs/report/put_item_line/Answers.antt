@@ -25,12 +25,12 @@ returns g c =
     ap (group_lane a) group ∙ get_or_from_slice_get a.lane_of_group c.of.result c.lane-lane.result 0 c.lane-lane.ensures in
     let printed : c.from.result ≡ item_lane a group_of i = c.from.ensures ∙ c.get.ensures ∙ sym served in
     let one : c.put_word.new.out.items ≡ (out ++ codes "item") ++ spaced name =
-    c.in_ok-put_word.ensures ∙ ap (λ (o : List ℕ). o ++ spaced c.name.result.now) c.in_ok-put.ensures
+    c.in_ok-put_word.ensures.added ∙ ap (λ (o : List ℕ). o ++ spaced c.name.result.now) c.in_ok-put.ensures.added
     ∙ ap (λ (n : List ℕ). (out ++ codes "item") ++ spaced n) (sym (get_or_from_slice_get c.args.table.now.names i c.name.result.now [] c.name.ensures)) in
     let two : c.put_word-2.new.out.items ≡ ((out ++ codes "item") ++ spaced name) ++ spaced (codes "wq") =
-    c.in_ok-put_word-2.ensures ∙ ap (λ (o : List ℕ). o ++ spaced (codes "wq")) one in
+    c.in_ok-put_word-2.ensures.added ∙ ap (λ (o : List ℕ). o ++ spaced (codes "wq")) one in
     let three : c.put_number.new.out.items ≡ (((out ++ codes "item") ++ spaced name) ++ spaced (codes "wq")) ++ spaced lane =
-    c.in_ok-put_number.ensures ∙ ap (λ (n : ℕ). c.put_word-2.new.out.items ++ spaced (decimal n)) printed ∙ ap (λ (o : List ℕ). o ++ spaced lane) two in
+    c.in_ok-put_number.ensures.added ∙ ap (λ (n : ℕ). c.put_word-2.new.out.items ++ spaced (decimal n)) printed ∙ ap (λ (o : List ℕ). o ++ spaced lane) two in
     on_ok_weaker c.put_end.result (λ e.
     e ∙ ap (λ (o : List ℕ). o ++ (10 ∷ [])) (c.in_ok-put_counts.ensures ∙ ap (λ (o : List ℕ). o ++ flat_map spaced words) three)
-    ∙ line_text-more out (codes "item") name (codes "wq") lane words) c.put_end.ensures
+    ∙ line_text-more out (codes "item") name (codes "wq") lane words) c.put_end.ensures.added
