@@ -1,12 +1,25 @@
 -- Serving: what a rescuer hands back, and what all threads together do.
-use Rattle.std.specs.Prelude.{◌≡◌, ◌≢◌, ℕ, ◌+◌, ◌≤◌, List, length, take, slice_get, Some, Result, Ok, Err}
+use Rattle.std.specs.Prelude.{⊤, ◌≡◌, ◌≢◌, ℕ, ◌+◌, ◌*◌, ◌<◌, ◌≤◌, List, length, replicate, take, sum, slice_get, Some, Result, Ok, Err}
 use Rattle.std.specs.Result.{ForOk, ForErr}
-use Rattle.std.specs.List.{sum_by}
+use Rattle.std.specs.List.{All, sum_by}
 use Rattle.wq_api.specs.declared.fault.CallError.{CallError}
+use Rattle.wq_api.specs.declared.fault.CallError.TheVariants.{HistoryFull, WrongLane, NoItem, Closed, Undeclared, TooManyWaits, NotAsked}
+use Rattle.wq_api.specs.Refusals.{seat_rows}
 use Rattle.wq_rescuer.specs.declared.rescuing.Rescued.{Rescued}
 use Rattle.wq_rescuer.specs.declared.running.RunWhy.{RunWhy}
 use Rattle.wq_rescuer.specs.declared.running.RunWhy.TheVariants.{BodiesDiffer, TooManySeats, OutOfMemory, NoThread}
 use Rattle.wq_rescuer.specs.Executing.{finished_of, finished_in_all}
+
+-- why a rescuer is refused, whose seat has these counts when it ends: the seat is full; or there is no such lane, or another caller
+-- drove the same one
+abbrev pub RefusesRescue : List ℕ → CallError → Type 0
+RefusesRescue seat HistoryFull = seat_rows ≤ sum seat
+RefusesRescue seat WrongLane = ⊤
+RefusesRescue seat NoItem = ⊥
+RefusesRescue seat Closed = ⊥
+RefusesRescue seat Undeclared = ⊥
+RefusesRescue seat TooManyWaits = ⊥
+RefusesRescue seat NotAsked = ⊥
 
 -- a rescuer whose seat had no counts, and whose body had run nothing: for each item, the seat counts as finished what the body
 -- ran, and in all, what the rescuer says; after a refusal, no more than the body ran
@@ -50,6 +63,10 @@ RefusesRun lanes bodies BodiesDiffer = bodies ≢ lanes
 RefusesRun lanes bodies TooManySeats = bodies ≡ lanes
 RefusesRun lanes bodies OutOfMemory = bodies ≡ lanes
 RefusesRun lanes bodies NoThread = bodies ≡ lanes
+
+-- the seats that were made before a thread starts: fewer than this many, and none of them has counted anything
+abbrev pub AreFirstSeats : ℕ → ℕ → List (List ℕ) → Type 0
+AreFirstSeats items wanted seats = (length seats < wanted) × All (λ seat. seat ≡ replicate (14 * items) 0) seats
 
 -- a seat couldn't be made
 abbrev pub IsNoSeat : RunWhy → Type 0

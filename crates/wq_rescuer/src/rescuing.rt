@@ -4,10 +4,10 @@
 //! The loop ends when the runtime is closed and nothing is pending on the workqueue. It takes no memory. Apart from the bodies
 //! and what it waits for, it takes the time of the runtime's calls.
 
-ghost use Rattle.std.specs.Prelude.{◌≡◌, ℕ, ◌+◌, ◌<◌, ◌≤◌, IfOk, OnOk, OnErr};
+ghost use Rattle.std.specs.Prelude.{◌≡◌, ℕ, ◌+◌, ◌<◌, ◌≤◌, IfOk, OnOk, IfErr, OnErr};
 ghost use Rattle.wq_core.specs.Wiring.{items};
 ghost use Rattle.wq_rescuer.specs.Executing.{NeverRan, RanOnce, SameFinished, CountsRuns, CountsAtMost, finished_in_all};
-ghost use Rattle.wq_rescuer.specs.Serving.{finished_by, faults_by};
+ghost use Rattle.wq_rescuer.specs.Serving.{RefusesRescue, finished_by, faults_by};
 
 use crate::body::{Body, BodyFault};
 use crate::work::Work;
@@ -85,6 +85,8 @@ pub fn rescue<N: Naming, A: Allocator, R: Wait, B: Body>(
     ensures ran { OnOk result (CountsRuns seat.old seat.new (B.runs body.new)) }
     ensures finished { IfOk result (λ r. finished_in_all (items N.wiring) seat.old + r.finished ≡ finished_in_all (items N.wiring) seat.new) }
     ensures faults { IfOk result (λ r. r.faults ≤ r.finished) }
+    ensures lane { OnOk result (q < N.wiring.lanes) }
+    ensures why { IfErr result (λ e. RefusesRescue seat.new e) }
     ensures refused { OnErr result (CountsAtMost seat.old seat.new (B.runs body.new)) }
 {
     let mut finished = 0u32;

@@ -7,7 +7,7 @@ ghost use Rattle.std.specs.Prelude.{◌≡◌, ◌≢◌, ℕ, ◌+◌, ◌*◌,
 ghost use Rattle.std.specs.List.{All};
 ghost use Rattle.wq_core.specs.Wiring.{items};
 ghost use Rattle.wq_rescuer.specs.Executing.{NeverRan};
-ghost use Rattle.wq_rescuer.specs.Serving.{IsNoSeat, IsRan, RefusesRun, run_code};
+ghost use Rattle.wq_rescuer.specs.Serving.{AreFirstSeats, IsNoSeat, IsRan, RefusesRun, run_code};
 ghost use Rattle.wq_rescuer.specs.declared.running.RunWhy.TheVariants.{BodiesDiffer, OutOfMemory, NoThread};
 
 use crate::board::{Board, add_callers, add_lanes};
@@ -98,6 +98,7 @@ fn make_seats<N: Naming, A: Allocator + Copy, R: Wait>(
     ensures room { IfOk result (λ seats. lanes + callers ≤ vec_capacity seats) }
     ensures no_counts { IfOk result (λ seats. All (λ seat. seat ≡ replicate (14 * items N.wiring) 0) seats.items) }
     ensures refused { IfErr result (λ e. IsNoSeat e.1) }
+    ensures made { IfErr result (λ e. AreFirstSeats (items N.wiring) (lanes + callers) e.0.items) }
     ensures some { OnErr result (0 < lanes + callers) }
 {
     let Some(count) = lanes.checked_add(callers) else {
@@ -144,6 +145,7 @@ pub fn run_all<
     ensures ran { IfOk result (λ r. (vec_len bodies ≡ N.wiring.lanes) × IsRan (items N.wiring) N.wiring.lanes (vec_len callers) r.seats.items (map B.runs r.bodies.items) (vec_len r.callers) (vec_len r.results) r.rescued.items r.finished r.faults) }
     ensures refused { IfErr result (λ f. RefusesRun N.wiring.lanes (vec_len bodies) f.why) }
     ensures no_seats { IfErr result (λ f. f.why ≡ BodiesDiffer → f.seats.items ≡ []) }
+    ensures made { IfErr result (λ f. IsNoSeat f.why → AreFirstSeats (items N.wiring) (vec_len bodies + vec_len callers) f.seats.items) }
     ensures memory { IfErr result (λ f. f.why ≡ OutOfMemory → 0 < vec_len bodies + vec_len callers) }
     ensures kept { IfErr result (λ f. f.why ≢ NoThread → (f.bodies.items ≡ bodies.items) × (f.callers.items ≡ callers.items)) }
 {
