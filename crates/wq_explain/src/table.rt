@@ -10,7 +10,6 @@ ghost use Rattle.wq_explain.specs.Explaining.{numbered};
 /// An explanation: the number that the program prints, or none for a fault; its name, or that of the fault; its line in a list;
 /// and what it means. This last part says what was found, in which section of docs/FORMAT.md the rule is, shell commands, the
 /// last of which is answered like this, and how to mend it.
-/// commands of which the last one is answered so, and how to mend it.
 pub type Explanation = (Option<u32>, &'static str, &'static str, &'static str);
 
 const TEXT_TOO_LONG: Explanation = (
@@ -57,8 +56,8 @@ const BAD_BYTE: Explanation = (
     "BadByte",
     "3 BadByte\n",
     "\
-`refused 3 line N`: before the comment of line N stands a byte that is neither a
-tab nor one of 0x20 to 0x7E: a part of a character that isn't ASCII, a control
+`refused 3 line N`: line N has, before its comment, a byte that is neither a tab
+nor one of 0x20 to 0x7E: a part of a character that isn't ASCII, a control
 character, or a carriage return that isn't directly before the line feed.
 
 The rule: docs/FORMAT.md, \"Directives\"
@@ -67,8 +66,8 @@ To see it:
     printf 'item caf\\303\\251\\n' | wqplan plan
 
 To mend it:
-Write names in ASCII, and blanks as spaces or tabs. Behind a `#` any byte may
-stand.
+Write names in ASCII, and blanks as spaces or tabs. After a `#` any byte is
+allowed.
 ",
 );
 
@@ -96,8 +95,8 @@ const MISSING_NAME: Explanation = (
     "MissingName",
     "5 MissingName\n",
     "\
-`refused 5 line N`: line N has too few words. `item` and `ordered` want at least
-one name, `flush` wants an item and at least one target.
+`refused 5 line N`: line N has too few words. `item` and `ordered` need at least
+one name, `flush` needs an item and at least one target.
 
 The rule: docs/FORMAT.md, \"Directives\"
 
@@ -106,7 +105,7 @@ To see it:
 
 To mend it:
 Add the name, or take out the line. An item that flushes nothing has no `flush`
-line. What stands behind a `#` is a comment, and no name.
+line. What follows a `#` is a comment, not a name.
 ",
 );
 
@@ -115,7 +114,7 @@ const BAD_NAME: Explanation = (
     "BadName",
     "6 BadName\n",
     "\
-`refused 6 line N`: a word of line N, behind the first one, isn't a name. A name
+`refused 6 line N`: a word of line N, after the first one, isn't a name. A name
 is 1 to 63 ASCII letters, digits, `_`, `-` and `.`.
 
 The rule: docs/FORMAT.md, \"Names\"
@@ -125,7 +124,7 @@ To see it:
 
 To mend it:
 Write `_` or `-` in place of other characters, and shorten a name of more than
-63. Names are parted by spaces or tabs, not by commas.
+63. Spaces or tabs separate names, not commas.
 ",
 );
 
@@ -134,8 +133,8 @@ const ITEM_TWICE: Explanation = (
     "ItemTwice",
     "7 ItemTwice\n",
     "\
-`refused 7 line N`: line N declares an item of a name that an `item` line above
-it declares too.
+`refused 7 line N`: line N declares an item that an `item` line above it
+declares already.
 
 The rule: docs/FORMAT.md, \"Items and groups\"
 
@@ -171,8 +170,8 @@ const TOO_MANY_ITEMS: Explanation = (
     "TooManyItems",
     "9 TooManyItems\n",
     "\
-`refused 9 line N`: line N declares one more item than the 4,096 that there may
-be.
+`refused 9 line N`: line N declares one more item than the 4,096 that are
+allowed.
 
 The rule: docs/FORMAT.md, \"Limits\"
 
@@ -229,7 +228,7 @@ const EXTRA_WORD: Explanation = (
     "ExtraWord",
     "12 ExtraWord\n",
     "\
-`refused 12 line N`: line N, an `item` line, has more than one word behind
+`refused 12 line N`: line N, an `item` line, has more than one word after
 `item`.
 
 The rule: docs/FORMAT.md, \"Directives\"
@@ -247,11 +246,11 @@ const BAD_CERT_LINE: Explanation = (
     "BadCertLine",
     "40 BadCertLine\n",
     "\
-`refused 40 line N`: line N of a plan, a circle, an assignment or a run isn't of
-the form that stands next: another first word, too few or too many words, no
-number where one belongs, a name that the declaration doesn't have, a line
-behind the end, or a line that is too long. With line 0 the text is too long, or
-ends too early.
+`refused 40 line N`: line N of a plan, a circle, an assignment or a run doesn't
+have the form that is expected there: it has another first word, too few or too
+many words, no number where one belongs, or a name that isn't declared; it comes
+after the end; or it is too long. With line 0 the text is too long, or ends too
+early.
 
 The rule: docs/FORMAT.md, \"Certificates\"
 
@@ -314,9 +313,9 @@ const NUMBER_OUT_OF_RANGE: Explanation = (
     "NumberOutOfRange",
     "43 NumberOutOfRange\n",
     "\
-`refused 43 line N`: a number of line N is none that may stand there. The `wq`
-lines are numbered 0, 1, 2 and so on; `plan`, `chain` and `circle` have at most
-4,096, `circle` at least 1; and no step is on a workqueue above 4,095.
+`refused 43 line N`: a number of line N is out of its range. The `wq` lines are
+numbered 0, 1, 2 and so on; `plan`, `chain` and `circle` have at most 4,096,
+`circle` at least 1; and no step is on a workqueue above 4,095.
 
 The rule: docs/FORMAT.md, \"Certificates\"
 
@@ -358,7 +357,7 @@ const CHAIN_BROKEN: Explanation = (
     "ChainBroken",
     "51 ChainBroken\n",
     "\
-`no 51 AT`: arc AT of the chain, counted from 1, is no declared flush, or its
+`no 51 AT`: arc AT of the chain, counted from 1, isn't a declared flush, or its
 item isn't in the group of the target of the arc before it. With AT 0 the chain
 is one group, and the declaration has none.
 
@@ -380,8 +379,8 @@ const LENGTH_DIFFERS: Explanation = (
     "LengthDiffers",
     "52 LengthDiffers\n",
     "\
-`no 52`: the chain hasn't as many groups as there are workqueues, so it doesn't
-show that fewer workqueues aren't enough.
+`no 52`: the chain doesn't have as many groups as there are workqueues, so it
+doesn't show that fewer workqueues aren't enough.
 
 The rule: docs/FORMAT.md, \"The command `check`\"
 
@@ -401,7 +400,7 @@ const CIRCLE_BROKEN: Explanation = (
     "CircleBroken",
     "53 CircleBroken\n",
     "\
-`no 53 AT`: arc AT of the circle, counted from 1, is no declared flush, or its
+`no 53 AT`: arc AT of the circle, counted from 1, isn't a declared flush, or its
 item isn't in the group of the target of the arc before it. The arc before the
 first one is the last.
 
@@ -423,7 +422,7 @@ const RUN_BROKEN: Explanation = (
     "RunBroken",
     "54 RunBroken\n",
     "\
-`no 54`: the circle goes round, but the run behind it doesn't deadlock where
+`no 54`: the circle goes round, but the run after it doesn't deadlock where
 each group has a workqueue of its own, numbered as the groups are.
 
 The rule: docs/FORMAT.md, \"The command `check`\"
@@ -445,7 +444,7 @@ const TOO_MANY_LANES: Explanation = (
     "69 TooManyLanes\n",
     "\
 `refused 69 line 0`: the plan has more than 256 workqueues, the most that a
-runtime has. It is answered by `run` alone: `wqplan plan` prints this plan.
+runtime has. Only `run` answers it: `wqplan plan` prints this plan.
 
 The rule: docs/FORMAT.md, \"The command `run`\"
 
@@ -476,8 +475,8 @@ To see it:
     wqplan plan none.wq
 
 To mend it:
-See that each path names a file that exists and that you may read, and is no
-directory. A read that was interrupted has failed too: give the command again.
+See that each path names a file, not a directory, and that you may read it. A
+read that was interrupted has failed too: give the command again.
 ",
 );
 
@@ -533,7 +532,8 @@ const TALLY: Explanation = (
     "tally fault\n",
     "\
 `fault tally`, with status 3: in `run`, the runtime couldn't be closed with
-counts that agree. No input meets it. Nothing was printed to standard output.
+counts that agree. No input is known to cause it. Nothing was printed to
+standard output.
 
 The rule: docs/FORMAT.md, \"Faults and exit statuses\"
 
