@@ -15,8 +15,7 @@
 #
 # The last one is a list of the other files and of the folders that were made.
 # Nothing is installed unless all that is built was proved. From a fresh clone
-# that takes half an hour or more, with as many proofs at a time as there are
-# processors. If nothing has changed, it takes a minute or two.
+# that takes more than an hour. If nothing has changed, it takes a minute or two.
 #
 # --uninstall removes the files on the list, the list itself, and the folders on
 # it that are then empty. If there is no list, nothing is removed, and the exit
@@ -81,16 +80,11 @@ fi
 cd -- "$(dirname -- "$0")"
 
 newlist=$(mktemp)
-logs=$(mktemp -d)
-declare -A running=() proved=()
+log=$(mktemp)
 staged=()
 made=()
 cleanup() {
-    for pid in "${running[@]}"; do
-        kill -- "-$pid" 2>/dev/null || true
-    done
-    rm -f -- "$newlist" "${staged[@]}"
-    rm -rf -- "$logs"
+    rm -f -- "$newlist" "$log" "${staged[@]}"
     for ((i = ${#made[@]} - 1; i >= 0; i--)); do
         rmdir -- "${made[i]}" 2>/dev/null || true
     done
@@ -118,65 +112,38 @@ for place in "${places[@]}"; do
 done
 command -v rt >/dev/null || fail 'rt, the toolchain of Rattle, is not on the PATH'
 
-# The libraries that the program needs, from the lowest up, as crates.txt lists them, and for each of them those that it needs.
-declare -A needed=([wqplan]=1) below=()
-libraries=()
+# The crates that the program needs, and itself, from the lowest up, as crates.txt lists them.
+declare -A needed=([wqplan]=1)
+crates=()
 while IFS=: read -r crate uses; do
     [ -n "${needed[$crate]-}" ] || continue
-    [ "$crate" = wqplan ] || libraries=("$crate" "${libraries[@]}")
+    crates=("$crate" "${crates[@]}")
     for use in $uses; do
-        [ ! -d "crates/$use" ] || { needed[$use]=1 && below[$crate]+=" $use"; }
+        needed[$use]=1
     done
 done < <(tac crates.txt)
-count=$((${#libraries[@]} + 1))
 
-# How many are proved at a time: one on each processor, with 3 GiB of free memory each.
-at_a_time=$(nproc)
-room=$(awk '/^MemAvailable:/ { print int($2 / 3145728) }' /proc/meminfo 2>/dev/null || true)
-[ -z "$room" ] || [ "$room" -ge "$at_a_time" ] || at_a_time=$((room > 1 ? room : 1))
-
-echo "install: wqplan will be installed to $prefix. First its $count crates are proved, $at_a_time at a time. From a fresh"
-echo "install: clone that takes half an hour or more; if nothing has changed, a minute or two."
-
-# start CRATE: begins to prove a library, in a session of its own. What is said goes to a file, and then its status to another one.
-start() {
-    setsid bash -c 'cd "crates/$1" && rt lib --jobs 1 >"$2" 2>&1; echo $? >"$2.status"' _ "$1" "$logs/$1" </dev/null &
-    running[$1]=$!
-}
-
-# can_start CRATE: whether all that it needs is proved.
-can_start() {
-    local use
-    for use in ${below[$1]-}; do
-        [ -n "${proved[$use]-}" ] || return 1
-    done
-}
-
-# refuse CRATE WHY: shows the end of what was said of it; nothing is installed.
-refuse() {
-    tail -n 20 "$logs/$1" >&2
-    fail "$2; nothing is installed"
-}
+echo "install: wqplan will be installed to $prefix. First its ${#crates[@]} crates are proved. From a fresh clone that takes"
+echo "install: more than an hour; if nothing has changed, a minute or two."
 
 began=$SECONDS
-while [ "${#proved[@]}" -lt "${#libraries[@]}" ]; do
-    for crate in "${libraries[@]}"; do
-        if [ "${#running[@]}" -lt "$at_a_time" ] && [ -z "${running[$crate]-}${proved[$crate]-}" ] && can_start "$crate"; then
-            start "$crate"
-        fi
-    done
-    wait -n || true
-    for crate in "${!running[@]}"; do
-        if [ -s "$logs/$crate.status" ] || ! kill -0 "${running[$crate]}" 2>/dev/null; then
-            [ "$(cat "$logs/$crate.status" 2>/dev/null)" = 0 ] || refuse "$crate" "$crate isn't proved"
-            unset "running[$crate]"
-            proved[$crate]=1
-            echo "[${#proved[@]}/$count] $crate .. proved ($((SECONDS - began)) s so far)"
-        fi
-    done
+for i in "${!crates[@]}"; do
+    crate=${crates[i]}
+    printf '[%d/%d] %s .. ' $((i + 1)) "${#crates[@]}" "$crate"
+    (cd "crates/$crate" && rt check) >"$log" 2>&1 || {
+        echo 'not proved'
+        tail -n 20 "$log" >&2
+        fail "$crate isn't proved; nothing is installed"
+    }
+    echo "proved ($((SECONDS - began)) s so far)"
 done
-(cd crates/wqplan && rt run -- --version) >"$logs/wqplan" 2>&1 </dev/null || refuse wqplan "the program isn't built"
-echo "[$count/$count] wqplan .. proved and built ($((SECONDS - began)) s so far)"
+printf 'building the program .. '
+(cd crates/wqplan && rt run -- --version) >"$log" 2>&1 </dev/null || {
+    echo 'failed'
+    tail -n 20 "$log" >&2
+    fail "the program isn't built; nothing is installed"
+}
+echo "built ($((SECONDS - began)) s so far)"
 
 # make FOLDER: makes a folder and those above it, and notes those that weren't there.
 make() {

@@ -18,26 +18,13 @@ while IFS=: read -r crate _; do
     mkdir -- "$clone/crates/$crate"
 done <"$clone/crates.txt"
 
-# `rt lib` proves all libraries but $UNPROVED, and doesn't end for $SLOW. `rt run` makes a program that prints $BUILT, unless that is
-# empty, and then does what $AFTER says.
+# `rt check` proves all crates but $UNPROVED. `rt run` makes a program that prints $BUILT, unless that is empty, and then does
+# what $AFTER says.
 cat >"$work/toolchain/rt" <<'END'
 #!/usr/bin/env bash
-crate=${PWD##*/}
-echo "$crate $*" >>"$CALLS"
+echo "${PWD##*/} $*" >>"$CALLS"
 case $1 in
-    lib)
-        echo "begins $crate" >>"$CALLS.order"
-        [ "$crate" != "${SLOW-}" ] || { echo $$ >"$CALLS.slow" && exec sleep 1000; }
-        if [ "$crate" = "${UNPROVED-}" ]; then
-            for ((i = 0; i < 50; i++)); do
-                [ -n "${SLOW-}" ] && [ ! -s "$CALLS.slow" ] || break
-                sleep 0.1
-            done
-            echo "not proved: $crate"
-            exit 1
-        fi
-        echo "ends $crate" >>"$CALLS.order"
-        ;;
+    check) [ "${PWD##*/}" != "${UNPROVED-}" ] || { echo "not proved: $UNPROVED"; exit 1; } ;;
     run)
         [ -n "${BUILT-}" ] || exit 1
         mkdir -p out
@@ -52,7 +39,7 @@ chmod 755 "$work/toolchain/rt"
 
 # run ARGS..: runs install.sh, from a folder elsewhere, and keeps what it writes, its status and the calls of `rt`.
 run() {
-    rm -f -- "$work/calls" "$work/calls.order" "$work/calls.slow"
+    rm -f -- "$work/calls"
     touch "$work/calls"
     (cd -- "$work" && umask 077 && CALLS=$work/calls HOME=${HOUSE-$work/home} TMPDIR=$work/tmp BUILT=${BUILT-one} \
         PATH=${TOOLS-$work/toolchain:$PATH} bash "$clone/install.sh" "$@") >"$work/out" 2>"$work/err" </dev/null
@@ -74,19 +61,6 @@ is() {
 ends() {
     is "$1" "$2: $3" "$status: $(cat "$work/err")"
     is "$1: no file is left in TMPDIR" '' "$(ls -A -- "$work/tmp")"
-}
-
-# fate FILE: whether the process whose number is in the file ends within ten seconds. One that has ended may be listed for a while, as a
-# zombie, until its parent or init has asked for its status.
-fate() {
-    local pid state
-    pid=$(cat -- "$1" 2>/dev/null) || { echo 'never begun'; return; }
-    for ((i = 0; i < 100; i++)); do
-        state=$(ps -o stat= -p "$pid" 2>/dev/null)
-        case ${state:-Z} in Z*) echo ended; return ;; esac
-        sleep 0.1
-    done
-    echo running
 }
 
 # tree FOLDER: all that is in it, with modes of files; nothing where it isn't there.
@@ -148,25 +122,23 @@ prefix="$work/a place/of its own"
 run "$prefix"
 installed 'an installation' "$prefix" one
 is 'the PATH is named' "install: $prefix/bin isn't on the PATH" "$(grep PATH "$work/out")"
-is 'it says how long it takes' 1 "$(grep -c 'half an hour or more' "$work/out")"
+is 'it says how long it takes' 1 "$(grep -c 'more than an hour' "$work/out")"
 
-# Each library was proved before any that needs it was begun, and then the program was built; no crate of the tests.
-proved=$(sed -n 's/ lib --jobs 1$//p' "$work/calls")
+# Each crate was checked before those that need it, the program's last, and then the program was built; no crate of the tests.
+checked=$(sed -n '$!s/ check$//p' "$work/calls")
 is 'the last call builds the program' 'wqplan run -- --version' "$(tail -n 1 "$work/calls")"
-is 'all calls before prove a library' "$(($(wc -l <"$work/calls") - 1))" "$(wc -w <<<"$proved")"
-is 'what the program needs is proved' '' "$(for use in $(sed -n 's/^wqplan://p' "$repository/crates.txt"); do
-    [ ! -d "$repository/crates/$use" ] || grep -qx -- "$use" <<<"$proved" || echo "$use"
-done)"
-is 'no crate is proved twice' '' "$(sort <<<"$proved" | uniq -d)"
-is 'no crate of the tests or of an example is proved' '' "$(grep -xE 'wq_(book|stress|guide|bench|tests)' <<<"$proved")"
+is 'all calls before check a crate' "$(($(wc -l <"$work/calls") - 1))" "$(wc -w <<<"$checked")"
+is 'the program is checked last' wqplan "$(tail -n 1 <<<"$checked")"
+is 'no crate is checked twice' '' "$(sort <<<"$checked" | uniq -d)"
+is 'no crate of the tests or of an example is checked' '' "$(grep -xE 'wq_(book|stress|guide|bench|tests)' <<<"$checked")"
 early=''
-for crate in $proved; do
+for crate in $checked; do
     for use in $(sed -n "s/^$crate://p" "$repository/crates.txt"); do
         [ ! -d "$repository/crates/$use" ] ||
-            sed "/^begins $crate\$/q" "$work/calls.order" | grep -qx -- "ends $use" || early="$early $crate:$use"
+            sed "/^$crate\$/q" <<<"$checked" | grep -qx -- "$use" || early="$early $crate:$use"
     done
 done
-is 'each crate is begun after those that it needs are proved' '' "$early"
+is 'each crate is checked after those that it needs' '' "$early"
 
 # Again, over the first one; then what was installed is removed, with the folders.
 BUILT=two run "$prefix"
@@ -234,13 +206,7 @@ UNPROVED=wq_groups run "$prefix"
 ends "a crate that isn't proved" 1 "not proved: wq_groups
 install: wq_groups isn't proved; nothing is installed"
 is "a crate that isn't proved: nothing is installed" '' "$(ls -d -- "$prefix" 2>/dev/null)"
-is "a crate that isn't proved: none that needs it is begun" '' "$(sed 's/ .*//' "$work/calls" | while read -r crate; do
-    grep -xE "$crate:.* wq_groups( .*)?" "$repository/crates.txt"
-done)"
-SLOW=wq_lines UNPROVED=wq_text run "$prefix"
-ends "a crate that isn't proved beside one that takes long" 1 "not proved: wq_text
-install: wq_text isn't proved; nothing is installed"
-is "a crate that isn't proved beside one that takes long: the other is ended" ended "$(fate "$work/calls.slow")"
+is "a crate that isn't proved: it is the last one" 'wq_groups check' "$(tail -n 1 "$work/calls")"
 BUILT='' run "$prefix"
 ends "a program that isn't built" 1 "install: the program isn't built; nothing is installed"
 is "a program that isn't built: nothing is installed" '' "$(ls -d -- "$prefix" 2>/dev/null)"
