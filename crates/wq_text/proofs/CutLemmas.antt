@@ -1,5 +1,5 @@
 -- Words before a comment, as they are cut one after the other.
-use Rattle.std.proofs.Common.{◌≡◌, ◌≢◌, ℕ, ◌+◌, ◌-◌, ◌<◌, ◌≤◌, Bool, true, false, eqb, not, ◌||◌, List, [], ◌∷◌, ◌++◌, length, get_or, take, drop, refl, sym, ap, subst, ◌∙◌, arith, append-nil, one-add, inl, inr, ◌⊎◌}
+use Rattle.std.proofs.Common.{◌≡◌, ◌≢◌, ℕ, ◌+◌, ◌-◌, ◌<◌, ◌≤◌, Bool, true, false, eqb, not, ◌||◌, List, [], ◌∷◌, ◌++◌, length, get_or, take, drop, refl, sym, ap, subst, ◌∙◌, arith, append-nil, append_assoc, one-add, inl, inr, ◌⊎◌}
 use Rattle.std.specs.List.{prefix_len}
 use Rattle.std.proofs.lemmas.Bool.{or_parts}
 use Rattle.std.proofs.lemmas.Bool.Decides.{nat_tests}
@@ -119,3 +119,20 @@ words_from-cut at bs gap rest word after whole blank cut inside ends some =
       unbroken = NoBlank-in_word word inside;
       longest = EndsAWord-before_comment after ends;
     })
+
+-- what is left of the first bytes of a text after a word and one byte
+pub rest_after : (n : ℕ) (text word : List ℕ) (b : ℕ) (rest : List ℕ) → take n text ≡ word ++ (b ∷ rest) → n ≤ length text
+    → rest ≡ take (length rest) (take (length text - (length word + 1)) (drop (length word + 1) text))
+rest_after n text word b rest cut within =
+    subst (λ (k : ℕ). rest ≡ take (length rest) (take (length text - k) (drop k text))) (length-append word (b ∷ []))
+    (rest_of n text (word ++ (b ∷ [])) rest (cut ∙ sym (append_assoc word (b ∷ []) rest)) within)
+
+-- a word at the front, a space, and the rest
+pub words_from-space : (at : ℕ) (word rest : List ℕ) → AllInWord word → 0 < length word
+    → words_from at (before_comment (word ++ (32 ∷ rest))) ≡ record { start = at; bytes = word } ∷ words_from (at + (length word + 1)) (before_comment rest)
+words_from-space at word rest inside some =
+    let bs = word ++ (32 ∷ rest) in
+    words_from-cut at bs [] bs word (32 ∷ rest) refl tt refl inside refl some
+    ∙ ap (λ (n : ℕ). record { start = n; bytes = word } ∷ words_from (n + length word) (before_comment (32 ∷ rest))) {x = at + 0} {y = at} (omega arith)
+    ∙ ap (λ (l : List ℕ). record { start = at; bytes = word } ∷ words_from (at + length word) l) (before_comment-more 32 rest refl)
+    ∙ ap (λ (n : ℕ). record { start = at; bytes = word } ∷ words_from n (before_comment rest)) {x = at + length word + 1} {y = at + (length word + 1)} (omega arith)

@@ -7,11 +7,11 @@
 //! Going through the lines looks at each byte of the text once, sixteen at a time, and so does looking for the comment of a line, by
 //! `memchr`.
 
-ghost use Rattle.std.specs.Prelude.{◌≡◌, ◌+◌, ◌<◌, ◌≤◌, ◌^◌, ◌∷◌, List, ℕ, length, take, find, nat_lt, option_map};
+ghost use Rattle.std.specs.Prelude.{◌≡◌, ◌+◌, ◌<◌, ◌≤◌, ◌^◌, ◌∷◌, List, ℕ, length, take, find, nat_lt, option_map, IfSome};
 ghost use Rattle.std.specs.Iterator.{YieldsFirst, item_count};
 ghost use Rattle.wq_text.specs.Lines.{LineView, pieces, taken, line_bytes, lines_of};
 ghost use Rattle.wq_text.specs.Comments.{before_comment};
-ghost use Rattle.wq_text.specs.Words.{words_of};
+ghost use Rattle.wq_text.specs.Words.{words_of, AllInWord};
 ghost use Rattle.wq_text.specs.Limits.{first_long_line};
 
 use crate::run::first_feed;
@@ -86,6 +86,23 @@ impl<'a> Line<'a> {
         ensures { result ≡ words_of self.now }
     {
         Words::of(self.start, self.text, self.len)
+    }
+
+    /// The words after the first, if the line begins with this word and a space. There is no answer otherwise, even if the first
+    /// word is this one.
+    pub fn words_after(&self, word: &[u8]) -> Option<Words<'a>>
+        requires some { 0 < length word.now }
+        requires unbroken { AllInWord word.now }
+        ensures { IfSome result (λ words. words_of self.now ≡ record { start = self.now.start; bytes = word.now } ∷ words) }
+    {
+        let after = self.bytes().strip_prefix(word)?;
+        let (first, rest) = after.split_first()?;
+        if *first != b' ' {
+            return None;
+        }
+        let begin = word.len() + 1;
+        let text = &self.text[begin..];
+        Some(Words::of(self.start + begin as u32, text, rest.len() as u32))
     }
 }
 
