@@ -15,6 +15,9 @@ use std::io::Read;
 /// How many bytes one call of the reader asks for, at most.
 const CHUNK_SIZE: usize = 4096;
 
+/// For how many bytes there is room once the first chunk is full: 128 KiB.
+const LONG_TEXT: usize = 131_072;
+
 /// Reads to the end of the input, but at most `limit + 1` bytes, in at most as many calls. A result that is longer than `limit`
 /// means that the input is too long.
 ///
@@ -46,9 +49,20 @@ pub fn read_text<R: Read, A: Allocator + Copy>(
             return Ok(text);
         }
         text.extend_from_slice(&chunk[..count])?;
+        make_room(&mut text);
         room -= count;
     }
     Ok(text)
+}
+
+/// Makes room for a long text where exactly the first chunk is full, so that few growths move it. If this memory is refused, the text
+/// asks for less as it grows.
+fn make_room<A: Allocator>(text: &mut Vec<u8, A>)
+    ensures { text.new.items ≡ text.old.items }
+{
+    if text.len() == CHUNK_SIZE {
+        text.reserve(LONG_TEXT - CHUNK_SIZE).ok();
+    }
 }
 
 /// Reads once, at most `most` bytes, to the front of `chunk`.
