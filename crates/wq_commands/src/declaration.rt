@@ -17,7 +17,7 @@ ghost use Rattle.wq_commands.specs.declared.declaration.Stop.TheVariants.{Refuse
 use std::alloc::Allocator;
 use wq_decl::{DeclError, DeclView};
 use wq_groups::{GroupError, Groups};
-use wq_items::{ItemError, ItemTable, read_at_once};
+use wq_items::{ItemError, ItemId, ItemTable, read_at_once};
 use wq_text::{Text, TextError};
 
 /// How many bytes a declaration may have.
@@ -100,7 +100,7 @@ fn read_table<A: Allocator + Copy>(
     alloc: A,
     seed: u64,
     text: Text<'_>,
-) -> Result<(DeclView<'_>, ItemTable<'_, A>), Stop>
+) -> Result<(DeclView<'_>, ItemTable<'_, A>, Vec<ItemId, A>), Stop>
     ensures view { IfOk result (λ r. r.0 ≡ directives (lines_of text.entry)) }
     ensures faultless { IfOk result (λ _. first_fault (lines_of text.entry) ≡ None) }
     ensures table { IfOk result (λ r. table_of (directives (lines_of text.entry)) ≡ Ok r.1) }
@@ -114,7 +114,7 @@ fn read_table<A: Allocator + Copy>(
     }
     let view = DeclView::new(text)?;
     let table = ItemTable::read_seeded(alloc, seed, &view)?;
-    Ok((view, table))
+    Ok((view, table, Vec::new(alloc)))
 }
 
 /// Reads what a text declares. The names are hashed with this seed; no answer depends on it.
@@ -135,7 +135,7 @@ pub fn read_declaration<A: Allocator + Copy>(
     ensures memory { result ≡ Err OutOfMemory → RanOutReading (directives (lines_of text.now)) }
 {
     let text = Text::new(text, MAX_DECLARATION, MAX_DECLARATION_LINE)?;
-    let (view, table) = read_table(alloc, seed, text)?;
-    let groups = Groups::read(alloc, &view, &table)?;
+    let (view, table, guesses) = read_table(alloc, seed, text)?;
+    let groups = Groups::read_guessed(alloc, &view, &table, guesses.as_slice())?;
     Ok(Declaration { table, groups })
 }

@@ -56,7 +56,23 @@ impl<A: Allocator + Copy> Groups<A> {
         ensures fault { IfErr result (λ e. IsGroupFaultOf e (groups_of view.now table.now.names)) }
         ensures memory { IfErr result (λ e. e ≡ OutOfMemory → RanOutOfGroups view.now table.now.names) }
     {
-        let first = first_members(view, table)?;
+        Groups::read_guessed(alloc, view, table, &[])
+    }
+
+    /// Reads the same groups, and looks at these guesses first: one for each name on an `ordered` line, in turn, as
+    /// `read_at_once` hands them out. A guess that is right saves a look-up, and a wrong one does no harm.
+    pub fn read_guessed(
+        alloc: A,
+        view: &DeclView<'_>,
+        table: &ItemTable<'_, A>,
+        guesses: &[ItemId],
+    ) -> Result<Self, GroupError>
+        requires { table_of view.now ≡ Ok table.now }
+        ensures groups { IfOk result (λ g. groups_of view.now table.now.names ≡ Ok g) }
+        ensures fault { IfErr result (λ e. IsGroupFaultOf e (groups_of view.now table.now.names)) }
+        ensures memory { IfErr result (λ e. e ≡ OutOfMemory → RanOutOfGroups view.now table.now.names) }
+    {
+        let first = first_members(view, table, guesses)?;
         let (group_of, groups) = number(alloc, first.as_slice())?;
         let members = Members::new(alloc, group_of.as_slice(), groups)?;
         Ok(Groups { group_of, members })

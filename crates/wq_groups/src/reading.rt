@@ -25,12 +25,28 @@ use wq_text::Words;
 /// How many items a table has, at most.
 const MAX_ITEMS: usize = 4096;
 
+/// Items that are likely to be looked up next. Nothing is promised of them.
+#[derive(Drop)]
+struct Guesses<'a> {
+    left: &'a [ItemId],
+}
+
+impl<'a> Guesses<'a> {
+    /// The next guess.
+    fn guess(&mut self) -> Option<ItemId> {
+        let (first, left) = self.left.split_first()?;
+        self.left = left;
+        Some(*first)
+    }
+}
+
 /// Marks the items with these names and lists them in `items`, which is empty. It returns the first-declared of them, or `None`
 /// where one is marked already or is there twice. In that case those before it are marked.
 fn mark<A: Allocator + Copy>(
     table: &ItemTable<'_, A>,
     ordered: &mut [bool],
     items: &mut ArrayVec<ItemId, MAX_ITEMS>,
+    guesses: &mut Guesses<'_>,
     names: Words<'_>,
 ) -> Option<ItemId>
     requires table { IsTable table.now }
@@ -44,7 +60,7 @@ fn mark<A: Allocator + Copy>(
 {
     let mut lowest = table.len();
     for word in names {
-        let found = table.find(word.bytes()).unwrap();
+        let found = table.find_guessed(guesses.guess(), word.bytes()).unwrap();
         let item = found.get();
         let i = usize::from(item);
         let is_marked = ordered[i];
@@ -79,6 +95,7 @@ fn put_together<A: Allocator + Copy>(
     first: &mut [ItemId],
     ordered: &mut [bool],
     items: &mut ArrayVec<ItemId, MAX_ITEMS>,
+    guesses: &mut Guesses<'_>,
     names: Words<'_>,
 ) -> bool
     requires table { IsTable table.now }
@@ -89,19 +106,21 @@ fn put_together<A: Allocator + Copy>(
     ensures apart { (ds : List (ℕ × Directive)) → IsNoted ds table.now.names first.old ordered.old → IsTrue result ↔ AllPairs (λ (a b : List ℕ). a ≢ b) (all_ordered ds ++ names_in names.entry) }
 {
     items.clear();
-    let Some(lowest) = mark(table, ordered, items, names) else {
+    let Some(lowest) = mark(table, ordered, items, guesses, names) else {
         return false;
     };
     set_first(first, items.as_slice(), lowest);
     true
 }
 
-/// For each item of a table, the first-declared item of its group. The table was read from this view.
+/// For each item of a table, the first-declared item of its group. The table was read from this view. The guesses are those of
+/// `Groups::read_guessed`.
 ///
 /// The error is the `GroupedTwice` of `Groups::read`.
 pub(crate) fn first_members<A: Allocator + Copy>(
     view: &DeclView<'_>,
     table: &ItemTable<'_, A>,
+    guesses: &[ItemId],
 ) -> Result<ArrayVec<ItemId, MAX_ITEMS>, GroupError>
     requires { table_of view.now ≡ Ok table.now }
     ensures once { IfOk result (λ _. first_regrouped [] view.now ≡ None) }
@@ -119,12 +138,14 @@ pub(crate) fn first_members<A: Allocator + Copy>(
         return Ok(first);
     }
     let mut items = ArrayVec::new();
+    let mut guesses = Guesses { left: guesses };
     for (line, names) in view.ordered_lines() {
         if !put_together(
             table,
             first.as_mut_slice(),
             ordered.as_mut_slice(),
             &mut items,
+            &mut guesses,
             names,
         ) {
             return Err(GroupError::GroupedTwice { line });

@@ -1,9 +1,9 @@
 -- Reading a text at once: what a line seems to say compared with what it says, and what the lines so far have made.
-use Rattle.std.proofs.Common.{◌≡◌, ◌≢◌, ℕ, ◌+◌, ◌<◌, Bool, true, false, cond, ◌||◌, inl, inr, List, [], ◌∷◌, ◌++◌, length, Option, Some, None, Result, Ok, Err, IsOk, refl, sym, ap, subst, ◌∙◌, arith}
+use Rattle.std.proofs.Common.{◌≡◌, ◌≢◌, ℕ, ◌+◌, ◌<◌, Bool, true, false, cond, ltb, ◌||◌, inl, inr, List, [], ◌∷◌, ◌++◌, length, Option, Some, None, Result, Ok, Err, IsOk, refl, sym, ap, subst, ◌∙◌, arith}
 use Rattle.std.specs.Prelude.{IsTrue, IfNone, codes, bytes_eq, option_map}
 use Rattle.std.specs.List.{AllByRecursion, list_all, cons_option}
 use Rattle.std.specs.Option.{option_or}
-use Rattle.std.proofs.lemmas.Bool.{and_from, cases_eq}
+use Rattle.std.proofs.lemmas.Bool.{and_from, cases_eq, lt-ltb, or_right}
 use Rattle.wq_text.specs.Lines.{LineView}
 use Rattle.wq_text.specs.Comments.{before_comment}
 use Rattle.wq_text.specs.Words.{WordView, words_of}
@@ -251,6 +251,11 @@ pub record IsNoted (ordered : Bool) (first : List LineView) (count : ℕ) (here 
   pub later : 0 < count → new_first ≡ first
   pub some : ordered ≡ true → 0 < new_count
   pub more : ordered ≡ true → new_count < 4294967295 → new_count ≡ count + 1
+
+-- there is an `ordered` line among those so far where there was one before, or this line is one
+pub IsNoted-some : (ordered : Bool) (first : List LineView) (count : ℕ) (here new_first : List LineView) (new_count : ℕ) → IsNoted ordered first count here new_first new_count → ltb 0 new_count ≡ (ltb 0 count || ordered)
+IsNoted-some true first count here new_first new_count h = lt-ltb 0 new_count (h.some refl) ∙ sym (or_right (ltb 0 count) true refl)
+IsNoted-some false first count here new_first new_count h = ap (ltb 0) (h.other refl).1 ∙ or_false (ltb 0 count)
 
 pub OrdersSoFar-noted : (first : List LineView) (count : ℕ) (here new_first : List LineView) (new_count : ℕ) (line : LineView) (d : Directive) (left rest all : List LineView) → left ≡ line ∷ rest
     → reading line ≡ Ok (Some d) → here ≡ left → first_fault left ≡ first_fault all → IsNoted (is_ordered d) first count here new_first new_count → OrdersSoFar first count left all

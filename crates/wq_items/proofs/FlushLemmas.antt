@@ -1,8 +1,8 @@
 -- The targets in a table are the flushes that the lines declare.
-use Rattle.std.proofs.Common.{◌≡◌, ◌≢◌, inl, inr, ℕ, zero, suc, ◌+◌, ◌<◌, Bool, true, false, cond, List, [], ◌∷◌, ◌++◌, length, map, get_or, set, Some, None, Ok, refl, sym, ap, subst, ◌∙◌, arith, append_assoc, append-nil}
+use Rattle.std.proofs.Common.{◌≡◌, ◌≢◌, inl, inr, ℕ, zero, suc, ◌+◌, ◌<◌, Bool, true, false, cond, List, [], ◌∷◌, ◌++◌, length, map, get_or, set, Option, Some, None, Ok, refl, sym, ap, subst, ◌∙◌, arith, append_assoc, append-nil}
 use Rattle.std.specs.Prelude.{bytes_eq, AllPairs, slice_get}
 use Rattle.std.specs.List.{filter_map, cons_option, enumerate_from}
-use Rattle.std.proofs.lemmas.Bool.{cases_order, false_from_ne_true}
+use Rattle.std.proofs.lemmas.Bool.{cases_eq, cases_order, false_from_ne_true}
 use Rattle.std.proofs.lemmas.List.{length_push, length-set, length-append, length-map, map-append, get_or_append_left, get_or-set_same, get_or-set_other}
 use Rattle.std.proofs.lemmas.List.Elements.{filter_map-append}
 use Rattle.std.proofs.lemmas.List.Quantifiers.{all_pairs_push, position-Some}
@@ -137,6 +137,18 @@ ne_places names i j distinct in-i in-j differ =
       | inr (inl lt) ↦ λ (e : get_or names j [] ≡ get_or names i []). distinct i j [] lt in-j (sym e)
       | inr (inr lt) ↦ distinct j i [] lt in-i
     ]
+
+-- the name of item i names it
+pub item_named-at : (names : List (List ℕ)) (name : List ℕ) (i : ℕ) → AllPairs (λ (a b : List ℕ). a ≢ b) names → i < length names → get_or names i [] ≡ name → item_named names name ≡ Some i
+item_named-at names name i distinct lt is = by (item_named names name) refl
+  where
+    by : (o : Option ℕ) → item_named names name ≡ o → o ≡ Some i
+    by None none = absurd (differs-from-item_named names name none i [] lt is)
+    by (Some j) found =
+        elim (cases_eq j i) [
+          | inl same ↦ ap Some same
+          | inr other ↦ absurd (ne_places names i j distinct lt (item_named-below names name j found) other (item_named-is names name j found ∙ sym is))
+        ]
 
 module _ (names rest : List (List ℕ)) (t : Table) (even : IsEven t) (front : names ≡ t.names ++ rest) (distinct : AllPairs (λ (a b : List ℕ). a ≢ b) names) where
   same_name : (j : ℕ) → j < length t.names → get_or names j [] ≡ get_or t.names j []

@@ -1,4 +1,5 @@
 pub mod Lists
+pub mod ShortNames
 pub mod FoundNames
 pub mod WaitLemmas
 pub mod TargetLemmas

@@ -5,11 +5,12 @@
 //! judged, since the table holds only names; the name on an `item` line is. Which fault a text has isn't asked: where there is one,
 //! there is no answer, and whoever wants to know it reads the text by the two passes.
 //!
-//! The view of the directives knows where the `ordered` lines are, so that the groups are read without a look at most other lines.
+//! The view of the directives knows where the `ordered` lines are, so that the groups are read without a look at most other lines. The
+//! items that these lines name are noted and handed out, so that the groups needn't look most of them up again.
 //!
 //! It takes time in the length of the text, on average, and memory in the number of items and flushes: each name is looked up once.
 
-ghost use Rattle.std.specs.Prelude.{◌≡◌, ◌∷◌, ℕ, ◌+◌, ◌<◌, length, Ok, IsOk, IfSome, IfNone, IsTrue, None, true, false};
+ghost use Rattle.std.specs.Prelude.{◌≡◌, ◌∷◌, ℕ, ◌+◌, ◌<◌, ◌≤◌, ◌^◌, length, option_map, Ok, IsOk, IfSome, IfNone, IsTrue, None, true, false};
 ghost use Rattle.wq_text.specs.Lines.{lines_of};
 ghost use Rattle.wq_text.specs.Words.{words_of};
 ghost use Rattle.wq_decl.specs.declared.directive.Directive.TheVariants.{Item, Flush, Ordered};
@@ -21,13 +22,15 @@ ghost use Rattle.wq_items.specs.FirstFault.{RanOut, DeclaresMore};
 
 use crate::flush::Flushes;
 use crate::names::Names;
-use crate::table::{Building, ItemTable, MAX_ITEMS, count_known, push_targets};
+use crate::table::{Building, ItemTable, MAX_ITEMS, push_targets};
+use crate::target::ItemId;
 use std::alloc::Allocator;
 use std::marker::Model;
 use wq_decl::{DeclView, Directive, OrderedLines, is_name};
 use wq_text::{Line, Lines, Span, Text, Word, Words};
 
 /// The words after `item` as a directive, if there is exactly one.
+#[inline(always)]
 fn item_unjudged<'a>(mut words: Words<'a>) -> Option<Option<Directive<'a>>>
     ensures { result ≡ item_unjudged words.entry }
 {
@@ -39,6 +42,7 @@ fn item_unjudged<'a>(mut words: Words<'a>) -> Option<Option<Directive<'a>>>
 }
 
 /// The words after `flush` as a directive, which may lack a target.
+#[inline(always)]
 fn flush_unjudged<'a>(mut words: Words<'a>) -> Option<Option<Directive<'a>>>
     ensures { result ≡ flush_unjudged words.entry }
 {
@@ -61,12 +65,32 @@ fn words_unjudged<'a>(mut words: Words<'a>) -> Option<Option<Directive<'a>>>
     }
 }
 
+/// The words of a line that is no `flush` line as a directive, whatever they are. Most such lines are `item` lines.
+fn other_unjudged<'a>(line: &Line<'a>) -> Option<Option<Directive<'a>>>
+    ensures { result ≡ unjudged (words_of line.now) }
+{
+    match line.words_after(b"item") {
+        Some(words) => item_unjudged(words),
+        None => words_unjudged(line.words()),
+    }
+}
+
+/// The words of a line as a directive, whatever they are. Most lines are `flush` lines.
+fn any_unjudged<'a>(line: &Line<'a>) -> Option<Option<Directive<'a>>>
+    ensures { result ≡ unjudged (words_of line.now) }
+{
+    match line.words_after(b"flush") {
+        Some(words) => flush_unjudged(words),
+        None => other_unjudged(line),
+    }
+}
+
 /// What a line says, if its words are enough and names: nothing where no word stands before its comment, else a directive.
 /// There is no answer where it has a fault, whatever its words are.
 fn line_unjudged<'a>(line: &Line<'a>) -> Option<Option<Directive<'a>>>
     ensures { Foretells result (reading line.now) }
 {
-    words_unjudged(line.words())
+    any_unjudged(line)
 }
 
 /// The parts of a table while its lines are read. Contracts see what they see of a table, but the parts needn't make one:
@@ -76,6 +100,8 @@ struct Parts<'a, A: Allocator> {
     names: Names<'a, A>,
     spans: Vec<Span, A>,
     waits: Flushes<A>,
+    /// The items that `ordered` lines name, in turn. Nothing is promised of them.
+    noted: Vec<ItemId, A>,
 }
 
 impl<'a, A: Allocator> Model for Parts<'a, A> {
@@ -95,6 +121,7 @@ impl<'a, A: Allocator + Copy> Parts<'a, A> {
             names: Names::new(alloc, seed),
             spans: Vec::new(alloc),
             waits: Flushes::new(alloc),
+            noted: Vec::new(alloc),
         }
     }
 
@@ -145,31 +172,60 @@ impl<'a, A: Allocator + Copy> Parts<'a, A> {
     }
 
     /// Adds nothing, if there are words and each of them names an item.
-    fn take_order(&self, names: Words<'a>) -> Option<()>
-        requires { IsTable self.now }
-        ensures table { IfSome result (λ _. (n : ℕ) → items_ordered self.now n (items_named self.now.names names.entry) ≡ Ok self.now) }
+    fn take_order(&mut self, names: Words<'a>) -> Option<()>
+        requires { IsTable self.old }
+        ensures table { IfSome result (λ _. (n : ℕ) → items_ordered self.old n (items_named self.old.names names.entry) ≡ Ok self.new) }
         ensures whole { IfSome result (λ _. IsTrue (is_whole (Ordered names.entry))) }
-        ensures none { IfNone result ((n : ℕ) → IsTrue (is_whole (Ordered names.entry)) → ¬ IsOk (items_ordered self.now n (items_named self.now.names names.entry))) }
+        ensures none { IfNone result ((n : ℕ) → IsTrue (is_whole (Ordered names.entry)) → ¬ IsOk (items_ordered self.old n (items_named self.old.names names.entry))) }
     {
-        if count_known(&self.names, names.again())? == 0 {
+        if note_known(&self.names, &mut self.noted, names.again())? == 0 {
             return None;
         }
         Some(())
     }
 
-    /// The table of the parts. There is no answer where memory ran out.
-    fn finish(self, alloc: A) -> Option<ItemTable<'a, A>>
+    /// The table of the parts, and the items that were noted. There is no answer where memory ran out.
+    fn finish(self, alloc: A) -> Option<(ItemTable<'a, A>, Vec<ItemId, A>)>
         requires { IsTable self }
-        ensures table { IfSome result (λ t. t ≡ self.entry) }
+        ensures table { IfSome result (λ r. r.0 ≡ self.entry) }
         ensures memory { IfNone result (0 < length self.entry.names) }
     {
         let Parts {
             names,
             spans,
             waits,
+            noted,
         } = self;
-        Building::of(names, spans, waits).finish(alloc).ok()
+        let table = Building::of(names, spans, waits).finish(alloc).ok()?;
+        Some((table, noted))
     }
+}
+
+/// Notes an item that an `ordered` line names, if there is memory for it. Of more names than a table has items one is there twice, so
+/// no more are noted.
+fn note<A: Allocator>(noted: &mut Vec<ItemId, A>, item: ItemId) {
+    if noted.len() < MAX_ITEMS {
+        noted.push(item).ok();
+    }
+}
+
+/// How many words there are, if each names an item. These items are noted in turn.
+fn note_known<'a, A: Allocator + Copy>(
+    names: &Names<'a, A>,
+    noted: &mut Vec<ItemId, A>,
+    words: Words<'a>,
+) -> Option<u32>
+    requires words { length words < 2 ^ 32 }
+    requires items { length names.now ≤ 4096 }
+    ensures { result ≡ option_map length (items_named names.now words.entry) }
+{
+    let mut count = 0u32;
+    for word in words {
+        let item = names.find(word.bytes())?;
+        note(noted, ItemId::new(item as u16));
+        count += 1;
+    }
+    Some(count)
 }
 
 /// The `ordered` lines that were seen so far.
@@ -202,13 +258,16 @@ impl<'a> Orders<'a> {
 /// The directives of a text and the table that they declare, if no line has a fault: what `DeclView::new` and
 /// `ItemTable::read_seeded` answer, in one pass. The names are hashed with this seed, on which no answer depends.
 ///
+/// The items that the `ordered` lines name are handed out, too, in turn: a guess for each name that `Groups::read_guessed` looks
+/// up. Nothing is promised of them.
+///
 /// There is no answer where some line has a fault, of the grammar or of the items; or where a growth was refused, at a line
 /// that declares an item or a flush.
 pub fn read_at_once<'a, A: Allocator + Copy>(
     alloc: A,
     seed: u64,
     text: &Text<'a>,
-) -> Option<(DeclView<'a>, ItemTable<'a, A>)>
+) -> Option<(DeclView<'a>, ItemTable<'a, A>, Vec<ItemId, A>)>
     ensures faultless { IfSome result (λ _. first_fault (lines_of text.now) ≡ None) }
     ensures view { IfSome result (λ r. r.0 ≡ directives (lines_of text.now)) }
     ensures table { IfSome result (λ r. table_of (directives (lines_of text.now)) ≡ Ok r.1) }
@@ -216,7 +275,6 @@ pub fn read_at_once<'a, A: Allocator + Copy>(
         → RanOut (directives (lines_of text.now))) }
 {
     let mut parts = Parts::new(alloc, seed);
-    let mut orders = false;
     let mut seen = Orders {
         lines: text.lines(),
         count: 0,
@@ -226,13 +284,14 @@ pub fn read_at_once<'a, A: Allocator + Copy>(
     while let Some(line) = lines.next() {
         if let Some(directive) = line_unjudged(&line)? {
             let is_ordered = directive.is_ordered();
-            orders |= is_ordered;
             seen.note(&here, is_ordered);
             parts.take(directive)?;
         }
         here = lines.again();
     }
-    let table = parts.finish(alloc)?;
+    let (table, noted) = parts.finish(alloc)?;
+    let orders = seen.count > 0;
     let ordered = OrderedLines::counted(seen.lines, seen.count);
-    Some((DeclView::of_ordered(text.again(), orders, ordered), table))
+    let view = DeclView::of_ordered(text.again(), orders, ordered);
+    Some((view, table, noted))
 }

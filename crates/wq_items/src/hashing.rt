@@ -4,14 +4,17 @@
 //! them is then found only after all the others. So a hash depends on a seed, which the program chooses. No answer depends on the
 //! seed: what a map finds is defined without its hashes.
 //!
-//! A name is hashed in time in its length, in one pass.
+//! A name is hashed in time in its length, in one pass. Most names are short, of four to eight bytes: of these the first four and the
+//! last four are hashed and compared, which are all of their bytes (`short`).
 
-ghost use Rattle.std.specs.Prelude.{◌∷◌, [], List, ℕ, fold, bytes_eq};
+ghost use Rattle.std.specs.Prelude.{◌≡◌, ◌∷◌, [], List, ℕ, fold, bytes_eq};
 ghost use Rattle.std.specs.Hash as fed;
 ghost use Rattle.std.specs.Hash.FoldHasher as folding;
 ghost use Rattle.std.specs.Cmp.Rules.{comparing, hashing};
 ghost use Rattle.std.proofs.Common.{rules};
+ghost use Rattle.wq_items.specs.Short.{taken};
 
+use crate::short::{are_same_short, is_short, short_number};
 use std::hash::{BuildHasher, FoldHasher, Hash, Hasher};
 
 /// A name, as a slice of the text.
@@ -20,13 +23,34 @@ pub(crate) struct Name<'a> {
     pub(crate) bytes: &'a [u8],
 }
 
+/// Whether two names are the same that aren't short. It stands apart, so that the look-up of a short name is small.
+#[inline(never)]
+fn are_same_long(a: &[u8], b: &[u8]) -> bool
+    ensures { result ≡ bytes_eq a.now b.now }
+{
+    a == b
+}
+
+/// Whether two names are the same.
+pub(crate) fn are_same(a: &[u8], b: &[u8]) -> bool
+    ensures { result ≡ bytes_eq a.now b.now }
+{
+    if a.len() != b.len() {
+        return false;
+    }
+    if is_short(a) {
+        return are_same_short(a, b);
+    }
+    are_same_long(a, b)
+}
+
 impl<'a> PartialEq for Name<'a> {
     ghost eq = { λ x y. bytes_eq x.bytes.now y.bytes.now };
 
     ghost laws = { Prim.search (comparing, rules) };
 
     fn eq(&self, other: &Self) -> bool {
-        self.bytes == other.bytes
+        are_same(self.bytes, other.bytes)
     }
 }
 
@@ -44,22 +68,31 @@ impl<'a> Hash for Name<'a> {
     }
 }
 
-/// Makes the hasher of each name, with this seed.
+/// Makes the hasher of each name, with one seed.
 #[derive(Clone, Copy)]
 pub(crate) struct Seeded {
-    pub(crate) seed: u64,
+    /// The state after the seed, with which each name begins.
+    begun: FoldHasher,
+    seed: u64,
+}
+
+impl Seeded {
+    /// Makes hashers with this seed.
+    pub(crate) fn new(seed: u64) -> Seeded {
+        let mut begun = FoldHasher::default();
+        begun.write_u64(seed);
+        Seeded { begun, seed }
+    }
 }
 
 impl BuildHasher for Seeded {
     type Hasher = SeededHasher;
 
-    ghost build_hasher = { λ s. record { hasher = fold folding.write folding.initial (fed.u64 s.seed); seed = s.seed } };
+    ghost build_hasher = { λ s. record { hasher = s.begun; seed = s.seed } };
 
     fn build_hasher(&self) -> SeededHasher {
-        let mut hasher = FoldHasher::default();
-        hasher.write_u64(self.seed);
         SeededHasher {
-            hasher,
+            hasher: self.begun,
             seed: self.seed,
         }
     }
@@ -72,8 +105,16 @@ pub(crate) struct SeededHasher {
     seed: u64,
 }
 
+/// Hashes a name that isn't short. It stands apart, so that the look-up of a short name is small.
+#[inline(never)]
+fn write_long(hasher: &mut FoldHasher, bytes: &[u8])
+    ensures { hasher.new ≡ folding.write hasher.old bytes.now }
+{
+    hasher.write(bytes);
+}
+
 impl Hasher for SeededHasher {
-    ghost write = { λ s bytes. record { hasher = folding.write s.hasher bytes; seed = s.seed } };
+    ghost write = { λ s bytes. record { hasher = fold folding.write s.hasher (taken bytes); seed = s.seed } };
 
     ghost finish = { λ s. folding.finish (fold folding.write s.hasher (fed.u64 s.seed)) };
 
@@ -84,6 +125,10 @@ impl Hasher for SeededHasher {
     }
 
     fn write(&mut self, bytes: &[u8]) {
-        self.hasher.write(bytes);
+        if is_short(bytes) {
+            self.hasher.write_u64(short_number(bytes));
+        } else {
+            write_long(&mut self.hasher, bytes);
+        }
     }
 }

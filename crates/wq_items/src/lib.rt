@@ -14,6 +14,7 @@ mod flush;
 mod hashing;
 pub mod laws;
 mod names;
+mod short;
 mod table;
 mod target;
 mod waits;

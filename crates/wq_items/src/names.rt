@@ -1,7 +1,7 @@
 //! Names, each with its number.
 //!
 //! No name is declared twice, by "Items and groups" in docs/FORMAT.md. A name is found in constant time on average, by its hash,
-//! which depends on a seed. The names themselves stay in the text. Each call hashes its name once.
+//! which depends on a seed. The names themselves stay in the text. `find` and `add` hash their name once.
 
 ghost use Rattle.std.specs.Prelude.{◌≡◌, ◌<◌, ◌+◌, ◌++◌, ◌∷◌, [], List, ℕ, length, is_some, not, false, Some, slice_get, IfOk, OnErr, if◌then◌else◌};
 ghost use Rattle.wq_items.specs.Table.{item_named};
@@ -31,7 +31,7 @@ impl<'a, A: Allocator + Copy> Names<'a, A> {
         ensures { result ≡ [] }
     {
         Names {
-            set: IndexSet::with_hasher(alloc, Seeded { seed }),
+            set: IndexSet::with_hasher(alloc, Seeded::new(seed)),
         }
     }
 
@@ -64,6 +64,18 @@ impl<'a, A: Allocator + Copy> Names<'a, A> {
         ensures absent { OnErr result (is_some (item_named self.old name.now) ≡ false) }
     {
         let added = self.set.insert(Name { bytes: name })?;
+        self.make_room();
         Ok(added)
+    }
+
+    /// Makes room for eight times as many names where there is none for another, so that few growths move them all. If this memory
+    /// is refused, the next name that is added asks for less.
+    fn make_room(&mut self)
+        ensures { self.new ≡ self.old }
+    {
+        let len = self.set.len();
+        if len == self.set.capacity() {
+            self.set.reserve(len.saturating_mul(7)).ok();
+        }
     }
 }

@@ -18,6 +18,7 @@ ghost use Rattle.wq_items.specs.Building.{table_of, declared, item_declared, flu
 
 use crate::fault::ItemError;
 use crate::flush::Flushes;
+use crate::hashing::are_same;
 use crate::names::Names;
 use crate::target::{ItemId, Target};
 use crate::waits::Waits;
@@ -76,10 +77,7 @@ impl<'a, A: Allocator> Model for Building<'a, A> {
 }
 
 /// How many words there are, if each names an item.
-pub(crate) fn count_known<'a, A: Allocator + Copy>(
-    names: &Names<'a, A>,
-    words: Words<'a>,
-) -> Option<u32>
+fn count_known<'a, A: Allocator + Copy>(names: &Names<'a, A>, words: Words<'a>) -> Option<u32>
     requires { length words < 2 ^ 32 }
     ensures { result ≡ option_map length (items_named names.now words.entry) }
 {
@@ -372,6 +370,23 @@ impl<'a, A: Allocator + Copy> ItemTable<'a, A> {
     {
         let i = self.names.find(name)?;
         Some(ItemId::new(i as u16))
+    }
+
+    /// Whether an item has this name.
+    fn is_named(&self, i: ItemId, name: &[u8]) -> bool
+        ensures { IsTrue result → item_named self.now.names name.now ≡ Some i }
+    {
+        i.get() < self.len() && are_same(self.name(i), name)
+    }
+
+    /// The item with this name, if there is one. A guess that is right saves the look-up, and a wrong one does no harm.
+    pub fn find_guessed(&self, guess: Option<ItemId>, name: &[u8]) -> Option<ItemId>
+        ensures { result ≡ item_named self.now.names name.now }
+    {
+        match guess {
+            Some(i) if self.is_named(i, name) => Some(i),
+            _ => self.find(name),
+        }
     }
 
     /// The targets of the flushes that an item below `len()` declares, in order of place.

@@ -14,7 +14,7 @@ pub returns-then-is_marked-clause-apart : goal.returns-then-is_marked-clause-apa
 returns-then-is_marked-clause-apart g c =
     let names = c.args.table.now.names in
     let found : item_named names c.in-Some.word.bytes ≡ Some c.from-i.result =
-    found_item names c.in-Some.word.bytes c.bytes.result.now c.find.result c.unwrap-found.result c.get-item.result c.from-i.result c.bytes.ensures c.find.ensures c.unwrap-found.ensures c.get-item.ensures c.from-i.ensures in
+    found_item names c.in-Some.word.bytes c.bytes.result.now c.find_guessed.result c.unwrap-found.result c.get-item.result c.from-i.result c.bytes.ensures c.find_guessed.ensures c.unwrap-found.ensures c.get-item.ensures c.from-i.ensures in
     let so_far = subst (λ (ws : List WordView). Marked names c.args.ordered.now c.loop-word.ordered c.loop-word.items.items c.loop-word.lowest ws c.args.names) c.in-Some.ensures.steps c.loop-word.invariant in
     let marked : get_or c.loop-word.ordered c.from-i.result false ≡ true = c.if-is_marked.true in
     λ before is apart. (
@@ -26,7 +26,7 @@ pub push-requires : goal.push-requires
 push-requires g c =
     let names = c.args.table.now.names in
     let found : item_named names c.in-Some.word.bytes ≡ Some c.from-i.result =
-    found_item names c.in-Some.word.bytes c.bytes.result.now c.find.result c.unwrap-found.result c.get-item.result c.from-i.result c.bytes.ensures c.find.ensures c.unwrap-found.ensures c.get-item.ensures c.from-i.ensures in
+    found_item names c.in-Some.word.bytes c.bytes.result.now c.find_guessed.result c.unwrap-found.result c.get-item.result c.from-i.result c.bytes.ensures c.find_guessed.ensures c.unwrap-found.ensures c.get-item.ensures c.from-i.ensures in
     omega (
       arith,
       c.requires.table.few_items,
@@ -38,7 +38,7 @@ pub loop-word-preserved-then-item-lowest : goal.loop-word-preserved-then-item-lo
 loop-word-preserved-then-item-lowest g c =
     let names = c.args.table.now.names in
     let found : item_named names c.in-Some.word.bytes ≡ Some c.from-i.result =
-    found_item names c.in-Some.word.bytes c.bytes.result.now c.find.result c.unwrap-found.result c.get-item.result c.from-i.result c.bytes.ensures c.find.ensures c.unwrap-found.ensures c.get-item.ensures c.from-i.ensures in
+    found_item names c.in-Some.word.bytes c.bytes.result.now c.find_guessed.result c.unwrap-found.result c.get-item.result c.from-i.result c.bytes.ensures c.find_guessed.ensures c.unwrap-found.ensures c.get-item.ensures c.from-i.ensures in
     let so_far = subst (λ (ws : List WordView). Marked names c.args.ordered.now c.loop-word.ordered c.loop-word.items.items c.loop-word.lowest ws c.args.names) c.in-Some.ensures.steps c.loop-word.invariant in
     let fresh : get_or c.loop-word.ordered c.from-i.result false ≡ false = c.if-is_marked.false in
     Marked-more names c.args.ordered.now c.loop-word.ordered c.loop-word.items.items c.push.new.self.items c.loop-word.lowest c.get-item.result c.in-Some.word c.next.new.self c.args.names c.from-i.result c.unwrap-found.result c.requires.table.distinct found fresh
@@ -49,7 +49,7 @@ pub loop-word-preserved : goal.loop-word-preserved
 loop-word-preserved g c =
     let names = c.args.table.now.names in
     let found : item_named names c.in-Some.word.bytes ≡ Some c.from-i.result =
-    found_item names c.in-Some.word.bytes c.bytes.result.now c.find.result c.unwrap-found.result c.get-item.result c.from-i.result c.bytes.ensures c.find.ensures c.unwrap-found.ensures c.get-item.ensures c.from-i.ensures in
+    found_item names c.in-Some.word.bytes c.bytes.result.now c.find_guessed.result c.unwrap-found.result c.get-item.result c.from-i.result c.bytes.ensures c.find_guessed.ensures c.unwrap-found.ensures c.get-item.ensures c.from-i.ensures in
     let so_far = subst (λ (ws : List WordView). Marked names c.args.ordered.now c.loop-word.ordered c.loop-word.items.items c.loop-word.lowest ws c.args.names) c.in-Some.ensures.steps c.loop-word.invariant in
     let fresh : get_or c.loop-word.ordered c.from-i.result false ≡ false = c.if-is_marked.false in
     Marked-more names c.args.ordered.now c.loop-word.ordered c.loop-word.items.items c.push.new.self.items c.loop-word.lowest c.loop-word.lowest c.in-Some.word c.next.new.self c.args.names c.from-i.result c.unwrap-found.result c.requires.table.distinct found fresh

@@ -1,11 +1,11 @@
-use Rattle.std.proofs.Common.{rules, ◌≡◌, ◌||◌, Bool, Option, Ok, Some, None, sym, ap, subst, ◌∙◌}
+use Rattle.std.proofs.Common.{rules, ◌≡◌, ltb, Bool, Option, Ok, Some, None, sym, ap, subst, ◌∙◌}
 use Rattle.wq_text.specs.Lines.{lines_of}
 use Rattle.wq_decl.specs.declared.directive.Directive.{Directive}
 use Rattle.wq_decl.specs.Reading.{reading, is_ordered}
 use Rattle.wq_items.specs.AtOnce.{Foretells}
 use Rattle.wq_items.specs.Table.{Table}
 use Rattle.wq_items.specs.declared.at_once.Orders.{Orders}
-use Rattle.wq_items.proofs.AtOnceLemmas.{SoFar, SoFar-none, SoFar-blank, SoFar-more, SoFar-ran_out, SoFar-out_at_end, IfNone-always, IsTable-SoFar, OrdersSoFar, OrdersSoFar-none, OrdersSoFar-blank, OrdersSoFar-noted, IsNoted}
+use Rattle.wq_items.proofs.AtOnceLemmas.{SoFar, SoFar-none, SoFar-blank, SoFar-more, SoFar-ran_out, SoFar-out_at_end, IfNone-always, IsTable-SoFar, OrdersSoFar, OrdersSoFar-none, OrdersSoFar-blank, OrdersSoFar-noted, IsNoted, IsNoted-some}
 use Rattle.wq_items.proofs.at_once.read_at_once.Goals as goal
 use Rattle.wq_items.proofs.at_once.read_at_once.Goals.{in-Some-2+in_ok-take, in_default-2}
 
@@ -43,9 +43,9 @@ loop-line-preserved g c =
           } in
           record {
             made =
-                subst (λ (t : Table). SoFar t c.match-branch-2.orders rest all) (sym w.parts-is) (
-                subst (λ (b : Bool). SoFar taken b rest all) (sym (w.orders-is ∙ ap (λ (b : Bool). before.orders || b) ordered)) (
-                SoFar-more before.parts taken before.orders line d before.lines rest all step is (w.in_ok-take.ensures.table line.no) before.invariant.made
+                subst (λ (t : Table). SoFar t (ltb 0 c.match-branch-2.seen.count) rest all) (sym w.parts-is) (
+                subst (λ (b : Bool). SoFar taken b rest all) (sym (ap (λ (o : Orders). ltb 0 o.count) w.seen-is ∙ IsNoted-some (is_ordered d) before.seen.lines before.seen.count before.here noted.lines noted.count notes)) (
+                SoFar-more before.parts taken (ltb 0 before.seen.count) line d before.lines rest all step is (w.in_ok-take.ensures.table line.no) before.invariant.made
                 )
                 );
             ordered =
@@ -58,9 +58,9 @@ loop-line-preserved g c =
           let blank : reading line ≡ Ok None = subst (λ (o : Option Directive). Foretells (Some o) (reading line)) w.in_default-2.is c.in_ok-directive.ensures in
           record {
             made =
-                subst (λ (t : Table). SoFar t c.match-branch-2.orders rest all) (sym w.parts-is) (
-                subst (λ (b : Bool). SoFar before.parts b rest all) (sym w.orders-is) (
-                SoFar-blank before.parts before.orders line before.lines rest all step blank before.invariant.made
+                subst (λ (t : Table). SoFar t (ltb 0 c.match-branch-2.seen.count) rest all) (sym w.parts-is) (
+                subst (λ (b : Bool). SoFar before.parts b rest all) (sym (ap (λ (o : Orders). ltb 0 o.count) w.seen-is)) (
+                SoFar-blank before.parts (ltb 0 before.seen.count) line before.lines rest all step blank before.invariant.made
                 )
                 );
             ordered =
@@ -77,16 +77,16 @@ returns-in_err-take-clause-memory g c =
     let d = c.in-Some-2.directive in
     let said : Foretells (Some (Some d)) (reading line) = subst (λ (o : Option Directive). Foretells (Some o) (reading line)) c.in-Some-2.is c.in_ok-directive.ensures in
     IfNone-always c.from_residual-in_err-take.result _ (
-    SoFar-ran_out c.loop-line.parts c.loop-line.orders line d c.loop-line.lines c.next.new.self (lines_of c.args.text.now) c.in-Some.ensures.steps said (c.in_err-take.ensures.memory line.no) c.loop-line.invariant.made
+    SoFar-ran_out c.loop-line.parts (ltb 0 c.loop-line.seen.count) line d c.loop-line.lines c.next.new.self (lines_of c.args.text.now) c.in-Some.ensures.steps said (c.in_err-take.ensures.memory line.no) c.loop-line.invariant.made
     )
 
 pub returns-in_err-table-clause-memory : goal.returns-in_err-table-clause-memory
 returns-in_err-table-clause-memory g c =
     IfNone-always c.from_residual-in_err-table.result _ (λ sound made.
-    SoFar-out_at_end c.loop-line.parts c.loop-line.orders c.loop-line.lines (lines_of c.args.text.now) c.in_default.ensures.steps.0 (search rules) c.loop-line.invariant.made)
+    SoFar-out_at_end c.loop-line.parts (ltb 0 c.loop-line.seen.count) c.loop-line.lines (lines_of c.args.text.now) c.in_default.ensures.steps.0 (search rules) c.loop-line.invariant.made)
 
 pub take-requires : goal.take-requires
-take-requires g c = IsTable-SoFar c.loop-line.parts c.loop-line.orders c.loop-line.lines (lines_of c.args.text.now) c.loop-line.invariant.made
+take-requires g c = IsTable-SoFar c.loop-line.parts (ltb 0 c.loop-line.seen.count) c.loop-line.lines (lines_of c.args.text.now) c.loop-line.invariant.made
 
 pub finish-requires : goal.finish-requires
-finish-requires g c = IsTable-SoFar c.loop-line.parts c.loop-line.orders c.loop-line.lines (lines_of c.args.text.now) c.loop-line.invariant.made
+finish-requires g c = IsTable-SoFar c.loop-line.parts (ltb 0 c.loop-line.seen.count) c.loop-line.lines (lines_of c.args.text.now) c.loop-line.invariant.made

@@ -5,7 +5,7 @@ use Rattle.wq_items.specs.Table.{items_at}
 use Rattle.wq_groups.specs.Partition.{Partition, IsPartition}
 use Rattle.wq_groups.proofs.Partitions.{IsPartition-partition_of, groups_of-none}
 use Rattle.wq_groups.proofs.FirstLists.{few-firsts, AreHeads-firsts, headed-firsts}
-use Rattle.wq_groups.proofs.groups.Groups.read.Goals as goal
+use Rattle.wq_groups.proofs.groups.Groups.read_guessed.Goals as goal
 
 pub number-requires-clause-few : goal.number-requires-clause-few
 number-requires-clause-few g c = few-firsts c.args.view.now c.args.table.now c.as_slice.result.now c.requires (c.as_slice.ensures.value ∙ c.in_ok-first.ensures.first)

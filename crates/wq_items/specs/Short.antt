@@ -1,0 +1,20 @@
+-- Short names: their first four bytes and their last four are all of them.
+use Rattle.std.specs.Prelude.{ℕ, ◌+◌, ◌-◌, ◌*◌, ◌^◌, ◌&&◌, nat_le, Bool, List, [], ◌∷◌, length, take, drop, if◌then◌else◌}
+use Rattle.std.specs.Int.{w32, from_le_bytes}
+use Rattle.std.specs.Hash.{HashWrites, u64}
+
+-- a short name has four to eight bytes
+abbrev pub is_short : List ℕ → Bool
+is_short name = nat_le 4 (length name) && nat_le (length name) 8
+
+-- the last four bytes
+abbrev pub last_four : List ℕ → List ℕ
+last_four name = drop (length name - 4) name
+
+-- the first four bytes and the last four as one number
+abbrev pub short_number : List ℕ → ℕ
+short_number name = from_le_bytes w32 (take 4 name) * 2 ^ 32 + from_le_bytes w32 (last_four name)
+
+-- what of a name a hasher takes: the number of a short one, else all bytes
+abbrev pub taken : List ℕ → HashWrites
+taken name = if is_short name then u64 (short_number name) else name ∷ []

@@ -1,0 +1,48 @@
+//! Short names, of four to eight bytes: their first four bytes and their last four, which may overlap, are all of them.
+//!
+//! So a short name is read as two numbers of four bytes, whatever its length. Each call takes constant time.
+
+ghost use Rattle.std.specs.Prelude.{◌≡◌, ◌≤◌, length, take, IsTrue, bytes_eq};
+ghost use Rattle.wq_items.specs.Short.{is_short, last_four, short_number};
+
+/// Whether there are four to eight bytes.
+pub(crate) fn is_short(bytes: &[u8]) -> bool
+    ensures { result ≡ is_short bytes.now }
+{
+    4 <= bytes.len() && bytes.len() <= 8
+}
+
+/// The first four bytes.
+fn first_four(bytes: &[u8]) -> [u8; 4]
+    requires { 4 ≤ length bytes.now }
+    ensures { result ≡ take 4 bytes.now }
+{
+    [bytes[0], bytes[1], bytes[2], bytes[3]]
+}
+
+/// The last four bytes.
+fn last_four(bytes: &[u8]) -> [u8; 4]
+    requires { 4 ≤ length bytes.now }
+    ensures { result ≡ last_four bytes.now }
+{
+    first_four(&bytes[bytes.len() - 4..])
+}
+
+/// The first four bytes and the last four as one number.
+pub(crate) fn short_number(bytes: &[u8]) -> u64
+    requires { 4 ≤ length bytes.now }
+    ensures { result ≡ short_number bytes.now }
+{
+    let first = u32::from_le_bytes(first_four(bytes));
+    let last = u32::from_le_bytes(last_four(bytes));
+    u64::from(first) * 0x1_0000_0000 + u64::from(last)
+}
+
+/// Whether two short names of one length are the same.
+pub(crate) fn are_same_short(a: &[u8], b: &[u8]) -> bool
+    requires long { length a.now ≡ length b.now }
+    requires short { IsTrue (is_short a.now) }
+    ensures { result ≡ bytes_eq a.now b.now }
+{
+    first_four(a) == first_four(b) && last_four(a) == last_four(b)
+}
