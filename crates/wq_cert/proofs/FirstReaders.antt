@@ -14,7 +14,7 @@ use Rattle.wq_cert.specs.FirstFaults.{line_of, NoLineIsAtFault}
 use Rattle.wq_cert.specs.Forms.{begins_with, count_form, wq_form, arc_form, step_form}
 use Rattle.wq_cert.specs.Lines.{CertLine}
 use Rattle.wq_items.specs.Building.{and_then}
-use Rattle.wq_cert.specs.Reading.{and_read, next_line, next_lines, at_end, count_reading, circle_count_reading, arc_reading, names_far_lane, step_reading, has_stood, splits_group, fresh_items, wq_items, wq_reading, next_workqueues, all_workqueues, hold_all, assignment_of, whole_assignment, chain_reading, counted_assignment, plan_reading, run_reading, run_behind, circle_reading, answer_reading, workqueues_reading, assignment_reading}
+use Rattle.wq_cert.specs.Reading.{and_read, next_line, next_lines, at_end, count_reading, circle_count_reading, arc_reading, names_far_lane, step_reading, has_stood, splits_group, fresh_items, wq_items, wq_reading, next_workqueues, all_workqueues, hold_all, assignment_of, whole_assignment, chain_reading, counted_assignment, plan_reading, run_reading, run_after, circle_reading, answer_reading, workqueues_reading, assignment_reading}
 
 -- ---- what is made of what is read
 
@@ -113,25 +113,25 @@ module _ (names : List (List ℕ)) where
   run_if_some : List CertLine → Result (Option (List Step)) CertError
   run_if_some lines = and_then (λ steps. Ok (Some steps)) (run_reading names lines)
 
-  pub Settles-run_behind : Settles (run_behind names)
+  pub Settles-run_after : Settles (run_after names)
   unfolding run_if_some
-  Settles-run_behind = record { refuses = refused }
+  Settles-run_after = record { refuses = refused }
     where
-      refused : (lines : List CertLine) (fault : CertError) → run_behind names lines ≡ Err fault → 0 < line_of fault → IsSettled (run_behind names) lines fault
+      refused : (lines : List CertLine) (fault : CertError) → run_after names lines ≡ Err fault → 0 < line_of fault → IsSettled (run_after names) lines fault
       refused [] fault e some = absurd cc
       refused (line ∷ lines) fault e some =
-          IsSettled-first run_if_some (run_behind names) line lines fault (λ rest. refl)
+          IsSettled-first run_if_some (run_after names) line lines fault (λ rest. refl)
           ((Settles-and_then (run_reading names) (λ (steps : List Step). Some steps) Settles-run_reading).refuses (line ∷ lines) fault e some)
 
   -- what is read after the arcs of a circle, and after its number
   abbrev pub behind_arcs : List (ℕ × ℕ) → List CertLine → Result CircleCertificate CertError
-  behind_arcs arcs rest = and_then (λ steps. Ok (circle_made arcs steps)) (run_behind names rest)
+  behind_arcs arcs rest = and_then (λ steps. Ok (circle_made arcs steps)) (run_after names rest)
 
   abbrev pub behind_circle : ℕ → List CertLine → Result CircleCertificate CertError
   behind_circle n lines = and_read behind_arcs (next_lines (arc_reading names) n lines)
 
   pub Settles-behind_arcs : (arcs : List (ℕ × ℕ)) → Settles (behind_arcs arcs)
-  Settles-behind_arcs arcs = Settles-and_then (run_behind names) (circle_made arcs) Settles-run_behind
+  Settles-behind_arcs arcs = Settles-and_then (run_after names) (circle_made arcs) Settles-run_after
 
   pub Settles-behind_circle : (n : ℕ) → Settles (behind_circle n)
   Settles-behind_circle n = Settles-and_read (next_lines (arc_reading names) n) behind_arcs (ReadsInOrder-next_lines (arc_reading names) (at-arc names) n) Settles-behind_arcs

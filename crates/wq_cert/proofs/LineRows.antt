@@ -14,7 +14,7 @@ use Rattle.wq_cert.specs.Lines.{CertLine}
 use Rattle.wq_cert.specs.PlanText.{plan_line, arc_line}
 use Rattle.wq_cert.specs.Ranges.{IsArcOf, IsStepOf}
 use Rattle.wq_items.specs.Building.{and_then}
-use Rattle.wq_cert.specs.Reading.{and_read, next_line, next_lines, at_end, count_reading, circle_count_reading, arc_reading, names_far_lane, step_reading, assignment_of, whole_assignment, counted_assignment, chain_reading, plan_reading, run_reading, run_behind, circle_reading}
+use Rattle.wq_cert.specs.Reading.{and_read, next_line, next_lines, at_end, count_reading, circle_count_reading, arc_reading, names_far_lane, step_reading, assignment_of, whole_assignment, counted_assignment, chain_reading, plan_reading, run_reading, run_after, circle_reading}
 use Rattle.wq_cert.specs.RunText.{step_line}
 use Rattle.wq_cert.specs.Spelled.{words_in, workqueue_lines, count_line, AreWorkqueues}
 use Rattle.wq_cert.proofs.FirstLines.{ReadsInOrder-next_line, ReadsInOrder-next_lines, Settles-at_end}
@@ -181,10 +181,10 @@ module _ (names : List (List ℕ)) (line : CertLine) where
 
     -- ---- circles
 
-    Judges-run_behind : (form : LineForm) (before : List CertLine) → StandsInRun names (words_in before) form → JudgesForm form (run_behind names) before
-    Judges-run_behind form before stands = nonempty before (Judges-and_then line (Breaks form) (KeepsLine names form line) (run_reading names) (λ (steps : List Step). Some steps) before (Judges-run form before stands))
+    Judges-run_after : (form : LineForm) (before : List CertLine) → StandsInRun names (words_in before) form → JudgesForm form (run_after names) before
+    Judges-run_after form before stands = nonempty before (Judges-and_then line (Breaks form) (KeepsLine names form line) (run_reading names) (λ (steps : List Step). Some steps) before (Judges-run form before stands))
       where
-        nonempty : (front : List CertLine) → JudgesForm form (λ lines. and_then (λ (steps : List Step). Ok (Some steps)) (run_reading names lines)) front → JudgesForm form (run_behind names) front
+        nonempty : (front : List CertLine) → JudgesForm form (λ lines. and_then (λ (steps : List Step). Ok (Some steps)) (run_reading names lines)) front → JudgesForm form (run_after names) front
         nonempty [] h = record { refused = h.refused; kept = h.kept }
         nonempty (other ∷ front) h = record { refused = h.refused; kept = h.kept }
 
@@ -195,8 +195,8 @@ module _ (names : List (List ℕ)) (line : CertLine) where
         let said = begun_lines (arc_reading names) (arc_line names) (IsArcOf (length names)) (IsReadBy-arc names differ) all.arcs first.rest run first.behind (recursion_from_All (IsArcOf (length names)) all.arcs all.known) in
         Judges-behind line (Breaks form) (KeepsLine names form line) (next_line circle_count_reading) before n first.rest (ReadsInOrder-next_line circle_count_reading at-circle) first.is_read (behind_circle names)
         (Judges-behind line (Breaks form) (KeepsLine names form line) (next_lines (arc_reading names) n) first.rest all.arcs said.rest (ReadsInOrder-next_lines (arc_reading names) (at-arc names) n) said.is_read (behind_arcs names)
-        (Judges-and_then line (Breaks form) (KeepsLine names form line) (run_behind names) (circle_made all.arcs) said.rest
-        (Judges-run_behind form said.rest (subst (λ (ws : List (List (List ℕ))). StandsInRun names ws form) (sym said.behind) stands))))
+        (Judges-and_then line (Breaks form) (KeepsLine names form line) (run_after names) (circle_made all.arcs) said.rest
+        (Judges-run_after form said.rest (subst (λ (ws : List (List (List ℕ))). StandsInRun names ws form) (sym said.behind) stands))))
 
     Judges-circle : (form : LineForm) (before : List CertLine) → StandsInCircle names (words_in before) form → JudgesForm form (circle_reading names) before
     Judges-circle PlanLine before stands = absurd stands

@@ -12,7 +12,7 @@ use Rattle.wq_cert.specs.declared.fault.CertError.TheVariants.{BadCertLine}
 use Rattle.wq_cert.specs.Forms.{count_form}
 use Rattle.wq_cert.specs.Lines.{CertLine}
 use Rattle.wq_items.specs.Building.{and_then}
-use Rattle.wq_cert.specs.Reading.{Read, and_read, next_line, next_lines, at_end, count_reading, circle_count_reading, arc_reading, step_reading, chain_reading, counted_assignment, plan_reading, run_reading, run_behind, circle_reading}
+use Rattle.wq_cert.specs.Reading.{Read, and_read, next_line, next_lines, at_end, count_reading, circle_count_reading, arc_reading, step_reading, chain_reading, counted_assignment, plan_reading, run_reading, run_after, circle_reading}
 
 -- ---- what ends
 
@@ -83,10 +83,10 @@ module _ (names : List (List ℕ)) where
   pub run_reading-behind : (lines : List CertLine) (steps : List Step) (line : CertLine) (behind : List CertLine) → run_reading names lines ≡ Ok steps → run_reading names (lines ++ (line ∷ behind)) ≡ Err (BadCertLine line.no)
   run_reading-behind lines steps line behind e = Ends-run_reading.refused lines steps line behind e tt
 
-  Ends-run_behind : Ends (λ steps. steps ≢ None) (run_behind names)
-  Ends-run_behind = record { refused = refused }
+  Ends-run_after : Ends (λ steps. steps ≢ None) (run_after names)
+  Ends-run_after = record { refused = refused }
     where
-      refused : (lines : List CertLine) (steps : Option (List Step)) (line : CertLine) (behind : List CertLine) → run_behind names lines ≡ Ok steps → steps ≢ None → run_behind names (lines ++ (line ∷ behind)) ≡ Err (BadCertLine line.no)
+      refused : (lines : List CertLine) (steps : Option (List Step)) (line : CertLine) (behind : List CertLine) → run_after names lines ≡ Ok steps → steps ≢ None → run_after names (lines ++ (line ∷ behind)) ≡ Err (BadCertLine line.no)
       refused [] steps line behind e some =
           let none : Option (List Step) = None in
           absurd (some (sym (same_ok none steps e)))
@@ -99,8 +99,8 @@ module _ (names : List (List ℕ)) where
       ends : Ends (λ (d : CircleCertificate). d.steps ≢ None) (circle_reading names)
       ends =
           Ends-and_read (λ (d : CircleCertificate). d.steps ≢ None) (next_line circle_count_reading)
-          (λ n behind_circle. and_read (λ arcs rest. and_then (λ steps. Ok (circle_made arcs steps)) (run_behind names rest)) (next_lines (arc_reading names) n behind_circle))
+          (λ n behind_circle. and_read (λ arcs rest. and_then (λ steps. Ok (circle_made arcs steps)) (run_after names rest)) (next_lines (arc_reading names) n behind_circle))
           (ReadsInOrder-next_line circle_count_reading at-circle)
-          (λ n. Ends-and_read (λ (d : CircleCertificate). d.steps ≢ None) (next_lines (arc_reading names) n) (λ arcs rest. and_then (λ steps. Ok (circle_made arcs steps)) (run_behind names rest))
+          (λ n. Ends-and_read (λ (d : CircleCertificate). d.steps ≢ None) (next_lines (arc_reading names) n) (λ arcs rest. and_then (λ steps. Ok (circle_made arcs steps)) (run_after names rest))
           (ReadsInOrder-next_lines (arc_reading names) (at-arc names) n)
-          (λ arcs. Ends-and_then (λ (steps : Option (List Step)). steps ≢ None) (λ (d : CircleCertificate). d.steps ≢ None) (run_behind names) (circle_made arcs) (λ steps h. h) Ends-run_behind))
+          (λ arcs. Ends-and_then (λ (steps : Option (List Step)). steps ≢ None) (λ (d : CircleCertificate). d.steps ≢ None) (run_after names) (circle_made arcs) (λ steps h. h) Ends-run_after))

@@ -16,7 +16,7 @@ use Rattle.wq_cert.specs.PlanText.{arc_line}
 use Rattle.wq_cert.specs.Ranges.{IsArcOf, IsStepOf}
 use Rattle.wq_cert.specs.Reading.{answer_reading}
 use Rattle.wq_cert.specs.RunText.{run_lines, step_line}
-use Rattle.wq_cert.specs.Spelled.{SpellsCircle, SpellsRunBehind}
+use Rattle.wq_cert.specs.Spelled.{SpellsCircle, SpellsRunAfter}
 use Rattle.wq_cert.specs.Texts.{max_certificate, answer_of}
 use Rattle.wq_cert.proofs.ListLemmas.{AllByRecursion-append}
 use Rattle.wq_cert.proofs.PrintedArcs.{IsPrintableLine-arcs}
@@ -31,10 +31,10 @@ module _ (t : Table) (table : IsTable t) where
   abbrev behind_arcs : Option (List Step) → List (List (List ℕ))
   behind_arcs steps = option_map_or (run_lines t.names) steps []
 
-  SpellsRunBehind-printed : (steps : Option (List Step)) → IfSome steps (All (IsStepOf (length t.names))) → IfSome steps (λ run. length run < 2 ^ 32)
-      → SpellsRunBehind t.names (behind_arcs steps) steps
-  SpellsRunBehind-printed None known few = refl
-  SpellsRunBehind-printed (Some run) known few = record { words = refl; few = few; known = known }
+  SpellsRunAfter-printed : (steps : Option (List Step)) → IfSome steps (All (IsStepOf (length t.names))) → IfSome steps (λ run. length run < 2 ^ 32)
+      → SpellsRunAfter t.names (behind_arcs steps) steps
+  SpellsRunAfter-printed None known few = refl
+  SpellsRunAfter-printed (Some run) known few = record { words = refl; few = few; known = known }
 
   IsPrintableLine-behind : (steps : Option (List Step)) → IfSome steps (All (IsStepOf (length t.names))) → IfSome steps (λ run. length run < 2 ^ 32) → AllByRecursion IsPrintableLine (behind_arcs steps)
   IsPrintableLine-behind None named few = tt
@@ -74,7 +74,7 @@ module _ (t : Table) (table : IsTable t) where
         some = some;
         few = few;
         known = named;
-        run = SpellsRunBehind-printed steps steps_named few_steps;
+        run = SpellsRunAfter-printed steps steps_named few_steps;
       } in
       text_reading-KeepsLimits (answer_reading t.names p) text (OfCircle circle) (KeepsLimits-printed lines printable most)
       (answer_reading-circle t.names p table.distinct (cert_lines (lines_of text)) circle (subst (λ (ws : List (List (List ℕ))). SpellsCircle t.names ws circle) (sym (words_in-text text ∙ words_of_text-printed lines printable)) spells))

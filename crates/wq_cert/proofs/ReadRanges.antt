@@ -19,7 +19,7 @@ use Rattle.wq_cert.specs.RunText.{step_line}
 use Rattle.wq_cert.specs.Ranges.{IsAssignmentOf, IsRunOf, IsPlanOf, IsCircleOf, IsCertificateOf}
 use Rattle.wq_items.specs.Building.{and_then}
 use Rattle.wq_cert.specs.Reading.{plan_reading, circle_reading, run_reading, workqueues_reading, answer_reading, assignment_reading, assignment_of}
-use Rattle.wq_cert.specs.Spelled.{words_in, AreWorkqueues, SpellsPlan, SpellsRun, SpellsRunBehind, SpellsCircle}
+use Rattle.wq_cert.specs.Spelled.{words_in, AreWorkqueues, SpellsPlan, SpellsRun, SpellsRunAfter, SpellsCircle}
 use Rattle.wq_cert.specs.Texts.{max_certificate, max_certificate_line, unless_too_long, text_reading, answer_of, assignment_of_text, run_of}
 use Rattle.wq_cert.proofs.ListLemmas.{length-filter-le}
 use Rattle.wq_cert.proofs.SpelledLines.{Follows-and_then, same_ok}
@@ -144,16 +144,16 @@ module _ (names : List (List ℕ)) (p : Partition) (partition : IsPartition p) (
     arcs = spells.known;
   }
 
-  run_behind : (behind : List (List (List ℕ))) (run : Option (List Step)) (steps : List Step) → length behind ≤ 8388608 → SpellsRunBehind names behind run → run ≡ Some steps → IsRunOf (length names) steps
-  run_behind behind None steps few spells is = absurd cc
-  run_behind behind (Some others) steps few spells is =
+  run_after : (behind : List (List (List ℕ))) (run : Option (List Step)) (steps : List Step) → length behind ≤ 8388608 → SpellsRunAfter names behind run → run ≡ Some steps → IsRunOf (length names) steps
+  run_after behind None steps few spells is = absurd cc
+  run_after behind (Some others) steps few spells is =
       let same : others ≡ steps = cc in
       subst (IsRunOf (length names)) same (IsRunOf-spelled names behind others few spells)
 
   IsCircleOf-spelled : (lines : List (List (List ℕ))) (c : CircleCertificate) → length lines ≤ 8388608 → SpellsCircle names lines c → IsCircleOf (length names) c
   IsCircleOf-spelled lines c few spells =
       let behind : length spells.behind ≤ 8388608 = omega (arith, few, ap length spells.words, length-append (map (arc_line names) c.arcs) spells.behind) in
-      record { some = spells.some; few = spells.few; arcs = spells.known; run = λ steps is. run_behind spells.behind c.steps steps behind spells.run is }
+      record { some = spells.some; few = spells.few; arcs = spells.known; run = λ steps is. run_after spells.behind c.steps steps behind spells.run is }
 
   IsCertificateOf-read : (lines : List CertLine) (c : Certificate) → length lines ≤ 8388608 → IsReadAs names p lines c → IsCertificateOf (length names) p.groups c
   IsCertificateOf-read lines (OfPlan c) few e = IsPlanOf-spelled (words_in lines) c (SpellsPlan-plan_reading names p one_group_each lines c e)

@@ -14,9 +14,9 @@ use Rattle.wq_cert.specs.PlanText.{arc_line}
 use Rattle.wq_cert.specs.RunText.{step_line}
 use Rattle.wq_cert.specs.Ranges.{IsArcOf, IsStepOf}
 use Rattle.wq_items.specs.Building.{and_then}
-use Rattle.wq_cert.specs.Reading.{next_line, next_lines, at_end, count_reading, circle_count_reading, arc_reading, step_reading, next_workqueues, all_workqueues, assignment_of, whole_assignment, plan_reading, run_reading, run_behind, circle_reading, workqueues_reading}
+use Rattle.wq_cert.specs.Reading.{next_line, next_lines, at_end, count_reading, circle_count_reading, arc_reading, step_reading, next_workqueues, all_workqueues, assignment_of, whole_assignment, plan_reading, run_reading, run_after, circle_reading, workqueues_reading}
 use Rattle.wq_cert.specs.LineRows.{count_words}
-use Rattle.wq_cert.specs.Spelled.{words_in, workqueue_lines, count_line, SpellsPlan, SpellsRun, SpellsRunBehind, SpellsCircle, SpellsWorkqueues}
+use Rattle.wq_cert.specs.Spelled.{words_in, workqueue_lines, count_line, SpellsPlan, SpellsRun, SpellsRunAfter, SpellsCircle, SpellsWorkqueues}
 use Rattle.wq_cert.proofs.SpelledLines.{Follows-and_then, FollowsRead-and_read, and_read-Ok, same_ok, at_end-Ok, no_words, shown_line, shown_lines, begun_line, begun_lines, IsCount, IsCircleCount, IsNumber, run_count, Shows-count, IsReadBy-count, Shows-circle, IsReadBy-circle, Shows-run, IsReadBy-run, Shows-arc, IsReadBy-arc, Shows-step, IsReadBy-step}
 use Rattle.wq_cert.proofs.WorkqueueLists.{AreGrown-none, AreGrown-workqueues}
 use Rattle.wq_cert.proofs.SpelledWorkqueues.{Grows-next_workqueues, Grows-all_workqueues, GrowsTo-lines, all_workqueues-lines, AreWhole-grown, whole_assignment-workqueues}
@@ -58,13 +58,13 @@ module _ (names : List (List ℕ)) where
   abbrev some_run : List Step → Result (Option (List Step)) CertError
   some_run steps = Ok (Some steps)
 
-  SpellsRunBehind-run_behind : (lines : List CertLine) (steps : Option (List Step)) → run_behind names lines ≡ Ok steps → SpellsRunBehind names (words_in lines) steps
-  SpellsRunBehind-run_behind [] steps e =
+  SpellsRunAfter-run_after : (lines : List CertLine) (steps : Option (List Step)) → run_after names lines ≡ Ok steps → SpellsRunAfter names (words_in lines) steps
+  SpellsRunAfter-run_after [] steps e =
       let none : Option (List Step) = None in
-      subst (SpellsRunBehind names []) (same_ok none steps e) refl
-  SpellsRunBehind-run_behind (line ∷ lines) steps e =
+      subst (SpellsRunAfter names []) (same_ok none steps e) refl
+  SpellsRunAfter-run_after (line ∷ lines) steps e =
       let found = Follows-and_then some_run (run_reading names (line ∷ lines)) steps e in
-      subst (SpellsRunBehind names (words_in (line ∷ lines))) (same_ok (Some found.value) steps found.then) (SpellsRun-run_reading (line ∷ lines) found.value found.first)
+      subst (SpellsRunAfter names (words_in (line ∷ lines))) (same_ok (Some found.value) steps found.then) (SpellsRun-run_reading (line ∷ lines) found.value found.first)
 
   abbrev circle_with : List (ℕ × ℕ) → Option (List Step) → Result CircleCertificate CertError
   circle_with arcs steps = Ok (circle_made arcs steps)
@@ -73,7 +73,7 @@ module _ (names : List (List ℕ)) where
   SpellsCircle-circle_reading lines c e =
       let count = FollowsRead-and_read (behind_circle names) (next_line circle_count_reading lines) c e in
       let said = FollowsRead-and_read (behind_arcs names) (next_lines (arc_reading names) count.value count.rest) c count.then in
-      let run = Follows-and_then (circle_with said.value) (run_behind names said.rest) c said.then in
+      let run = Follows-and_then (circle_with said.value) (run_after names said.rest) c said.then in
       let first = shown_line circle_count_reading (count_words (codes "circle")) IsCircleCount Shows-circle lines count.rest count.value count.first in
       let others = shown_lines (arc_reading names) (arc_line names) (IsArcOf (length names)) (Shows-arc names) count.value count.rest said.rest said.value said.first in
       let made : CircleCertificate = record { arcs = said.value; steps = run.value } in
@@ -83,15 +83,15 @@ module _ (names : List (List ℕ)) where
         some = omega (arith, first.1.0, others.count);
         few = omega (arith, first.1.1, others.count);
         known = All-from_recursion (IsArcOf (length names)) said.value others.hold;
-        run = SpellsRunBehind-run_behind said.rest run.value run.first;
+        run = SpellsRunAfter-run_after said.rest run.value run.first;
       })
 
   module _ (differ : AllPairs (λ (a b : List ℕ). a ≢ b) names) where
-    run_behind-SpellsRunBehind : (lines : List CertLine) (steps : Option (List Step)) → SpellsRunBehind names (words_in lines) steps → run_behind names lines ≡ Ok steps
-    run_behind-SpellsRunBehind [] None spells = refl
-    run_behind-SpellsRunBehind (line ∷ lines) None spells = absurd cc
-    run_behind-SpellsRunBehind [] (Some steps) spells = absurd (let words = spells.words in cc)
-    run_behind-SpellsRunBehind (line ∷ lines) (Some steps) spells = ap (and_then some_run) (run_reading-SpellsRun differ (line ∷ lines) steps spells)
+    run_after-SpellsRunAfter : (lines : List CertLine) (steps : Option (List Step)) → SpellsRunAfter names (words_in lines) steps → run_after names lines ≡ Ok steps
+    run_after-SpellsRunAfter [] None spells = refl
+    run_after-SpellsRunAfter (line ∷ lines) None spells = absurd cc
+    run_after-SpellsRunAfter [] (Some steps) spells = absurd (let words = spells.words in cc)
+    run_after-SpellsRunAfter (line ∷ lines) (Some steps) spells = ap (and_then some_run) (run_reading-SpellsRun differ (line ∷ lines) steps spells)
 
     pub circle_reading-SpellsCircle : (lines : List CertLine) (c : CircleCertificate) → SpellsCircle names (words_in lines) c → circle_reading names lines ≡ Ok c
     circle_reading-SpellsCircle lines c spells =
@@ -99,8 +99,8 @@ module _ (names : List (List ℕ)) where
         let count = begun_line circle_count_reading (count_words (codes "circle")) IsCircleCount IsReadBy-circle lines n (map (arc_line names) c.arcs ++ spells.behind) spells.words (spells.some, spells.few) in
         let said = begun_lines (arc_reading names) (arc_line names) (IsArcOf (length names)) (IsReadBy-arc names differ) c.arcs count.rest spells.behind count.behind
         (recursion_from_All (IsArcOf (length names)) c.arcs spells.known) in
-        let run : run_behind names said.rest ≡ Ok c.steps =
-        run_behind-SpellsRunBehind said.rest c.steps (subst (λ (ws : List (List (List ℕ))). SpellsRunBehind names ws c.steps) (sym said.behind) spells.run) in
+        let run : run_after names said.rest ≡ Ok c.steps =
+        run_after-SpellsRunAfter said.rest c.steps (subst (λ (ws : List (List (List ℕ))). SpellsRunAfter names ws c.steps) (sym said.behind) spells.run) in
         and_read-Ok (behind_circle names) (next_line circle_count_reading lines) n count.rest count.is_read
         ∙ and_read-Ok (behind_arcs names) (next_lines (arc_reading names) n count.rest) c.arcs said.rest said.is_read
         ∙ ap (and_then (circle_with c.arcs)) run

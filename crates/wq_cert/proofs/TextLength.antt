@@ -172,9 +172,9 @@ module _ (names : List (List ℕ)) (named : All (λ (name : List ℕ). IsTrue (i
   length-run_text-le steps each few =
       omega (arith, length-append (line_text (run_line steps)) (flat_map line_text (map (step_line names) steps)), length-run steps few, length-step_lines steps each)
 
-  length-run_behind : (steps : Option (List Step)) → IfSome steps (All (IsStepOf (length names))) → IfSome steps (λ run. length run ≤ 65536) → length (flat_map line_text (option_map_or (run_lines names) steps [])) ≤ 5000000
-  length-run_behind None each few = omega arith
-  length-run_behind (Some run) each few = omega (arith, length-run_text-le run each few)
+  length-run_after : (steps : Option (List Step)) → IfSome steps (All (IsStepOf (length names))) → IfSome steps (λ run. length run ≤ 65536) → length (flat_map line_text (option_map_or (run_lines names) steps [])) ≤ 5000000
+  length-run_after None each few = omega arith
+  length-run_after (Some run) each few = omega (arith, length-run_text-le run each few)
 
   pub length-run_text : (steps : List Step) → All (IsStepOf (length names)) steps → length steps ≤ 65536 → length (run_text names steps) ≤ 8388608
   length-run_text steps each few = omega (arith, length-run_text-le steps each few)
@@ -191,7 +191,7 @@ module _ (names : List (List ℕ)) (named : All (λ (name : List ℕ). IsTrue (i
         length-append (flat_map line_text lines) (flat_map line_text behind),
         length-circle arcs few,
         length-arc_lines arcs,
-        length-run_behind steps each few_steps,
+        length-run_after steps each few_steps,
       )
 
 -- ---- plans

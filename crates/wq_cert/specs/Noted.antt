@@ -44,10 +44,10 @@ abbrev pub first_number : List CertLine → Option ℕ
 first_number [] = None
 first_number (line ∷ lines) = Some line.no
 
--- all workqueues are read from these lines, and this is noted about them; `behind` is the number of the line after them
-pub record AreAllRead (names : List (List ℕ)) (p : Partition) (lines : List CertLine) (count : ℕ) (stood : List Bool) (lanes : List (Option ℕ)) (behind : Option ℕ) : Type 0 where
+-- all workqueues are read from these lines, and this is noted about them; `after` is the number of the line after them
+pub record AreAllRead (names : List (List ℕ)) (p : Partition) (lines : List CertLine) (count : ℕ) (stood : List Bool) (lanes : List (Option ℕ)) (after : Option ℕ) : Type 0 where
   pub workqueues : List (List ℕ)
   pub rest : List CertLine
   pub noted : AreNoted p workqueues count stood lanes
   pub read : all_workqueues names p.group_of [] lines ≡ Ok (workqueues, rest)
-  pub line : behind ≡ first_number rest
+  pub line : after ≡ first_number rest

@@ -32,7 +32,7 @@ next_line read (line ∷ lines) = and_then (λ v. Ok (v, lines)) (read line)
 -- this many lines, each read in this way
 abbrev pub next_lines : {V : Type 0} → (CertLine → Result V CertError) → ℕ → List CertLine → Read (List V)
 next_lines read zero lines = Ok ([], lines)
-next_lines read (suc n) lines = and_read (λ v rest. and_read (λ vs behind. Ok (v ∷ vs, behind)) (next_lines read n rest)) (next_line read lines)
+next_lines read (suc n) lines = and_read (λ v rest. and_read (λ vs after. Ok (v ∷ vs, after)) (next_lines read n rest)) (next_line read lines)
 
 -- a value that no line follows
 abbrev pub at_end : {V : Type 0} → V → List CertLine → Result V CertError
@@ -173,9 +173,9 @@ run_reading names lines =
     (next_line (λ line. ok_or (count_form (codes "run") line.words) (BadCertLine line.no)) lines)
 
 -- the run after a circle, if there is one
-abbrev pub run_behind : List (List ℕ) → List CertLine → Result (Option (List Step)) CertError
-run_behind names [] = Ok None
-run_behind names (line ∷ lines) = and_then (λ steps. Ok (Some steps)) (run_reading names (line ∷ lines))
+abbrev pub run_after : List (List ℕ) → List CertLine → Result (Option (List Step)) CertError
+run_after names [] = Ok None
+run_after names (line ∷ lines) = and_then (λ steps. Ok (Some steps)) (run_reading names (line ∷ lines))
 
 -- `circle N`, where N isn't 0
 abbrev pub circle_count_reading : CertLine → Result ℕ CertError
@@ -185,7 +185,7 @@ circle_count_reading line = and_then (λ n. if n == 0 then Err (NumberOutOfRange
 abbrev pub circle_reading : List (List ℕ) → List CertLine → Result CircleCertificate CertError
 circle_reading names lines =
     and_read (λ n behind_circle.
-    and_read (λ arcs rest. and_then (λ steps. Ok (record { arcs = arcs; steps = steps })) (run_behind names rest))
+    and_read (λ arcs rest. and_then (λ steps. Ok (record { arcs = arcs; steps = steps })) (run_after names rest))
     (next_lines (arc_reading names) n behind_circle))
     (next_line circle_count_reading lines)
 

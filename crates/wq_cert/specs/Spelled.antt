@@ -71,9 +71,9 @@ pub record SpellsRun (names : List (List ℕ)) (lines : List (List (List ℕ))) 
   pub known : All (IsStepOf (length names)) steps
 
 -- no line, or a run
-abbrev pub SpellsRunBehind : List (List ℕ) → List (List (List ℕ)) → Option (List Step) → Type 0
-SpellsRunBehind names lines None = lines ≡ []
-SpellsRunBehind names lines (Some steps) = SpellsRun names lines steps
+abbrev pub SpellsRunAfter : List (List ℕ) → List (List (List ℕ)) → Option (List Step) → Type 0
+SpellsRunAfter names lines None = lines ≡ []
+SpellsRunAfter names lines (Some steps) = SpellsRun names lines steps
 
 -- a circle: `circle N` and the arcs, and perhaps a run after them
 pub record SpellsCircle (names : List (List ℕ)) (lines : List (List (List ℕ))) (c : CircleCertificate) : Type 0 where
@@ -82,7 +82,7 @@ pub record SpellsCircle (names : List (List ℕ)) (lines : List (List (List ℕ)
   pub some : 0 < length c.arcs
   pub few : length c.arcs ≤ max_count
   pub known : All (IsArcOf (length names)) c.arcs
-  pub run : SpellsRunBehind names behind c.steps
+  pub run : SpellsRunAfter names behind c.steps
 
 -- an answer: a plan or a circle
 abbrev pub SpellsCertificate : List (List ℕ) → Partition → List (List (List ℕ)) → Certificate → Type 0

@@ -12,7 +12,7 @@ ghost use Rattle.wq_cert.specs.declared.fault.CertError.TheVariants.{OutOfMemory
 
 use crate::fault::CertError;
 use crate::line_reading::{read_arc, read_circle_count, read_count};
-use crate::run_reading::read_run_behind;
+use crate::run_reading::read_run_after;
 use crate::view::CertLines;
 use std::alloc::Allocator;
 use wq_core::Step;
@@ -75,6 +75,6 @@ pub(crate) fn read_circle<A: Allocator + Copy>(
     };
     let count = read_circle_count(&first)?;
     let arcs = read_arcs(alloc, table, count, &mut lines)?;
-    let steps = read_run_behind(alloc, table, lines)?;
+    let steps = read_run_after(alloc, table, lines)?;
     Ok((arcs, steps))
 }

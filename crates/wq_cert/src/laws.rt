@@ -102,32 +102,32 @@ pub fn a_refusal_is_of_the_first_line_at_fault()
 /// comes after it: its form (40), its number (43), an item that is already on a workqueue (41), a group that is split (42).
 pub fn the_line_of_a_workqueue_is_refused_by_its_first_row()
     ensures plan { (names : List (List ℕ)) (p : Partition) (k : ℕ) (workqueues : List (List ℕ)) (before : List CertLine)
-        (line : CertLine) (behind : List CertLine) (fault : CertError) → AllPairs (λ (a b : List ℕ). a ≢ b) names →
+        (line : CertLine) (after : List CertLine) (fault : CertError) → AllPairs (λ (a b : List ℕ). a ≢ b) names →
         k ≤ 4096 → length workqueues < k → words_in before ≡ plan_line k ∷ workqueue_lines names workqueues →
         AreFirstWorkqueues (length names) p.group_of workqueues → BreaksRow names p.group_of workqueues line fault →
-        plan_reading names p (before ++ (line ∷ behind)) ≡ Err fault }
+        plan_reading names p (before ++ (line ∷ after)) ≡ Err fault }
     ensures workqueues { (names : List (List ℕ)) (p : Partition) (workqueues : List (List ℕ)) (before : List CertLine)
-        (line : CertLine) (behind : List CertLine) (fault : CertError) → AllPairs (λ (a b : List ℕ). a ≢ b) names →
+        (line : CertLine) (after : List CertLine) (fault : CertError) → AllPairs (λ (a b : List ℕ). a ≢ b) names →
         words_in before ≡ workqueue_lines names workqueues → begins_with (codes "wq") line.words ≡ true →
         AreFirstWorkqueues (length names) p.group_of workqueues → BreaksRow names p.group_of workqueues line fault →
-        workqueues_reading names p (before ++ (line ∷ behind)) ≡ Err fault }
+        workqueues_reading names p (before ++ (line ∷ after)) ≡ Err fault }
 {}
 
 /// Where a `plan`, `chain`, `circle`, `arc` or `run` line comes next, or that of a step, a line is refused by the first row that
 /// it breaks, whatever comes after it: its form (40), its number (43).
 pub fn each_other_line_is_refused_by_its_first_row()
     ensures plan { (names : List (List ℕ)) (p : Partition) (form : LineForm) (before : List CertLine) (line : CertLine)
-        (behind : List CertLine) (fault : CertError) → AllPairs (λ (a b : List ℕ). a ≢ b) names → length names ≡ length p.group_of →
+        (after : List CertLine) (fault : CertError) → AllPairs (λ (a b : List ℕ). a ≢ b) names → length names ≡ length p.group_of →
         StandsInPlan names p (words_in before) form → BreaksLine names form line fault →
-        plan_reading names p (before ++ (line ∷ behind)) ≡ Err fault }
+        plan_reading names p (before ++ (line ∷ after)) ≡ Err fault }
     ensures circle { (names : List (List ℕ)) (form : LineForm) (before : List CertLine) (line : CertLine)
-        (behind : List CertLine) (fault : CertError) → AllPairs (λ (a b : List ℕ). a ≢ b) names →
+        (after : List CertLine) (fault : CertError) → AllPairs (λ (a b : List ℕ). a ≢ b) names →
         StandsInCircle names (words_in before) form → BreaksLine names form line fault →
-        circle_reading names (before ++ (line ∷ behind)) ≡ Err fault }
+        circle_reading names (before ++ (line ∷ after)) ≡ Err fault }
     ensures run { (names : List (List ℕ)) (form : LineForm) (before : List CertLine) (line : CertLine)
-        (behind : List CertLine) (fault : CertError) → AllPairs (λ (a b : List ℕ). a ≢ b) names →
+        (after : List CertLine) (fault : CertError) → AllPairs (λ (a b : List ℕ). a ≢ b) names →
         StandsInRun names (words_in before) form → BreaksLine names form line fault →
-        run_reading names (before ++ (line ∷ behind)) ≡ Err fault }
+        run_reading names (before ++ (line ∷ after)) ≡ Err fault }
 {}
 
 /// A line that is there and breaks no row isn't at fault, nor is any line before it.
@@ -146,35 +146,35 @@ pub fn a_line_that_breaks_no_row_is_no_fault()
 
 /// After the lines of the workqueues, an item that is on none is answered first (41, of no line), whatever comes there. In an
 /// assignment by `wq` lines alone, a line with another first word is refused there (40), where no item is missing.
-pub fn missing_items_are_answered_behind_the_workqueues()
+pub fn missing_items_are_answered_after_the_workqueues()
     ensures plan { (names : List (List ℕ)) (p : Partition) (workqueues : List (List ℕ)) (lines : List CertLine)
-        (behind : List (List (List ℕ))) → AllPairs (λ (a b : List ℕ). a ≢ b) names → length names ≡ length p.group_of →
-        words_in lines ≡ plan_line (length workqueues) ∷ (workqueue_lines names workqueues ++ behind) →
+        (after : List (List (List ℕ))) → AllPairs (λ (a b : List ℕ). a ≢ b) names → length names ≡ length p.group_of →
+        words_in lines ≡ plan_line (length workqueues) ∷ (workqueue_lines names workqueues ++ after) →
         AreFirstWorkqueues (length names) p.group_of workqueues → ¬ (AllStand (length names) workqueues) →
         plan_reading names p lines ≡ Err (NotAllItems 0) }
-    ensures workqueues { (names : List (List ℕ)) (p : Partition) (workqueues : List (List ℕ)) (before behind : List CertLine) →
+    ensures workqueues { (names : List (List ℕ)) (p : Partition) (workqueues : List (List ℕ)) (before after : List CertLine) →
         AllPairs (λ (a b : List ℕ). a ≢ b) names → length names ≡ length p.group_of →
-        words_in before ≡ workqueue_lines names workqueues → begins_workqueue behind ≡ false →
+        words_in before ≡ workqueue_lines names workqueues → begins_workqueue after ≡ false →
         AreFirstWorkqueues (length names) p.group_of workqueues → ¬ (AllStand (length names) workqueues) →
-        workqueues_reading names p (before ++ behind) ≡ Err (NotAllItems 0) }
+        workqueues_reading names p (before ++ after) ≡ Err (NotAllItems 0) }
     ensures other { (names : List (List ℕ)) (p : Partition) (workqueues : List (List ℕ)) (before : List CertLine)
-        (line : CertLine) (behind : List CertLine) → AllPairs (λ (a b : List ℕ). a ≢ b) names →
+        (line : CertLine) (after : List CertLine) → AllPairs (λ (a b : List ℕ). a ≢ b) names →
         length names ≡ length p.group_of → words_in before ≡ workqueue_lines names workqueues →
         begins_with (codes "wq") line.words ≡ false → AreWorkqueues (length names) p.group_of workqueues →
-        workqueues_reading names p (before ++ (line ∷ behind)) ≡ Err (BadCertLine line.no) }
+        workqueues_reading names p (before ++ (line ∷ after)) ≡ Err (BadCertLine line.no) }
 {}
 
 /// A line after the end of a plan, of a run, or of a circle with a run is refused (40).
-pub fn a_line_behind_the_end_is_refused()
+pub fn a_line_after_the_end_is_refused()
     ensures plan { (names : List (List ℕ)) (p : Partition) (lines : List CertLine) (c : PlanCertificate) (line : CertLine)
-        (behind : List CertLine) → plan_reading names p lines ≡ Ok c →
-        plan_reading names p (lines ++ (line ∷ behind)) ≡ Err (BadCertLine line.no) }
+        (after : List CertLine) → plan_reading names p lines ≡ Ok c →
+        plan_reading names p (lines ++ (line ∷ after)) ≡ Err (BadCertLine line.no) }
     ensures circle { (names : List (List ℕ)) (lines : List CertLine) (c : CircleCertificate) (line : CertLine)
-        (behind : List CertLine) → circle_reading names lines ≡ Ok c → c.steps ≢ None →
-        circle_reading names (lines ++ (line ∷ behind)) ≡ Err (BadCertLine line.no) }
+        (after : List CertLine) → circle_reading names lines ≡ Ok c → c.steps ≢ None →
+        circle_reading names (lines ++ (line ∷ after)) ≡ Err (BadCertLine line.no) }
     ensures run { (names : List (List ℕ)) (lines : List CertLine) (steps : List Step) (line : CertLine)
-        (behind : List CertLine) → run_reading names lines ≡ Ok steps →
-        run_reading names (lines ++ (line ∷ behind)) ≡ Err (BadCertLine line.no) }
+        (after : List CertLine) → run_reading names lines ≡ Ok steps →
+        run_reading names (lines ++ (line ∷ after)) ≡ Err (BadCertLine line.no) }
 {}
 
 /// A plan or a run that is cut before its last line ends too early (40, of no line).

@@ -8,7 +8,7 @@ ghost use Rattle.wq_text.specs.Limits.{limit_fault};
 ghost use Rattle.wq_text.specs.Lines.{lines_of};
 ghost use Rattle.wq_cert.specs.Growth.{ReadsOne, BeginsWell};
 ghost use Rattle.wq_cert.specs.Lines.{cert_line, cert_lines};
-ghost use Rattle.wq_cert.specs.Reading.{next_lines, step_reading, run_reading, run_behind};
+ghost use Rattle.wq_cert.specs.Reading.{next_lines, step_reading, run_reading, run_after};
 ghost use Rattle.wq_cert.specs.Texts.{max_certificate, max_certificate_line, run_of, IsCertFaultOf};
 ghost use Rattle.wq_cert.specs.declared.fault.CertError.TheVariants.{OutOfMemory};
 
@@ -63,13 +63,13 @@ fn read_run_from<A: Allocator + Copy>(
 }
 
 /// Reads the run on these lines, if there is a line.
-pub(crate) fn read_run_behind<A: Allocator + Copy>(
+pub(crate) fn read_run_after<A: Allocator + Copy>(
     alloc: A,
     table: &ItemTable<'_, A>,
     mut lines: CertLines<'_>,
 ) -> Result<Option<Vec<Step, A>>, CertError>
-    ensures steps { IfOk result (λ steps. run_behind table.now.names (map cert_line lines.entry) ≡ Ok (option_map (λ s. s.items) steps)) }
-    ensures fault { IfErr result (λ e. IsCertFaultOf e (run_behind table.now.names (map cert_line lines.entry))) }
+    ensures steps { IfOk result (λ steps. run_after table.now.names (map cert_line lines.entry) ≡ Ok (option_map (λ s. s.items) steps)) }
+    ensures fault { IfErr result (λ e. IsCertFaultOf e (run_after table.now.names (map cert_line lines.entry))) }
 {
     let Some(first) = lines.next() else {
         return Ok(None);

@@ -87,9 +87,9 @@ pub(crate) fn read_workqueue_lines<A: Allocator + Copy>(
     ensures assignment { IfOk result (λ a. workqueues_reading table.now.names groups.now (map cert_line lines.entry) ≡ Ok a) }
     ensures fault { IfErr result (λ e. IsCertFaultOf e (workqueues_reading table.now.names groups.now (map cert_line lines.entry))) }
 {
-    let (workqueues, behind) = read_all_workqueues(alloc, table, groups, lines)?;
+    let (workqueues, after) = read_all_workqueues(alloc, table, groups, lines)?;
     let assignment = workqueues.assignment(alloc, groups)?;
-    match behind {
+    match after {
         Some(line) => Err(CertError::BadCertLine { line }),
         None => Ok(assignment),
     }

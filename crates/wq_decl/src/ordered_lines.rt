@@ -5,7 +5,7 @@
 //! these, without a blank before it, and are passed over by their first byte. Of another line the first word is cut, and the names on
 //! an `ordered` line are left to the caller. Going over them takes time in the length of the text.
 
-ghost use Rattle.std.specs.Prelude.{◌≡◌, ◌∷◌, ◌<◌, List, None, IsOk, IsTrue, length};
+ghost use Rattle.std.specs.Prelude.{◌≡◌, ◌∷◌, ℕ, List, None, Some, IsOk, IsTrue, length};
 ghost use Rattle.std.specs.List.{cons_option};
 ghost use Rattle.std.specs.Iterator.{YieldsFirst, item_count};
 ghost use Rattle.wq_text.specs.Lines.{LineView};
@@ -44,7 +44,7 @@ fn read_ordered_line<'a>(line: &Line<'a>) -> Option<(u32, Words<'a>)>
     }
 }
 
-/// The first `ordered` line of some lines, and the lines behind it.
+/// The first `ordered` line of some lines, and the lines after it.
 fn next_ordered_line<'a>(lines: &mut Lines<'a>) -> Option<(u32, Words<'a>)>
     requires { first_fault lines.old ≡ None }
     ensures steps { YieldsFirst (λ rest. ordered_lines (directives rest)) lines.old result lines.new }
@@ -59,19 +59,16 @@ fn next_ordered_line<'a>(lines: &mut Lines<'a>) -> Option<(u32, Words<'a>)>
     None
 }
 
-/// How many lines are left, where that isn't known.
-const UNKNOWN: u32 = u32::MAX;
-
 /// The `ordered` lines of a view, in order: of each its number and the names on it. Contracts see the list of those that are left.
 #[derive(Drop)]
 pub struct OrderedLines<'a> {
     lines: Lines<'a>,
-    /// How many are left, if this is below `UNKNOWN`.
-    left: u32,
+    /// How many are left, where that is known.
+    left: Option<u32>,
 }
 
 impl<'a> Model for OrderedLines<'a> {
-    ghost use Rattle.std.specs.Prelude.{◌≡◌, ◌<◌, ℕ, List, None, length};
+    ghost use Rattle.std.specs.Prelude.{◌≡◌, ℕ, List, None, Some, length};
     ghost use Rattle.wq_text.specs.Words.{WordView};
 
     ghost Value = { List (ℕ × List WordView) };
@@ -81,7 +78,7 @@ impl<'a> Model for OrderedLines<'a> {
     ghost view = { λ o. ordered_lines (directives o.lines) };
 
     ghost invariant = { λ o. (first_fault o.lines ≡ None)
-        × (o.left < 4294967295 → length (ordered_lines (directives o.lines)) ≡ o.left) };
+        × ((n : ℕ) → o.left ≡ Some n → length (ordered_lines (directives o.lines)) ≡ n) };
 }
 
 impl<'a> OrderedLines<'a> {
@@ -90,17 +87,14 @@ impl<'a> OrderedLines<'a> {
         requires { first_fault lines ≡ None }
         ensures { result ≡ ordered_lines (directives lines.entry) }
     {
-        OrderedLines {
-            lines,
-            left: UNKNOWN,
-        }
+        OrderedLines { lines, left: None }
     }
 
-    /// Those among these lines, which have no fault. There are this many of them, unless it is `u32::MAX`: then it isn't known how
-    /// many there are. Behind the last of them no line is looked at.
-    pub fn counted(lines: Lines<'a>, count: u32) -> OrderedLines<'a>
+    /// Those among these lines, which have no fault, and how many there are, where that is known. Then no line after the last of them
+    /// is looked at.
+    pub fn counted(lines: Lines<'a>, count: Option<u32>) -> OrderedLines<'a>
         requires faultless { first_fault lines ≡ None }
-        requires count { count < 4294967295 → length (ordered_lines (directives lines)) ≡ count }
+        requires count { (n : ℕ) → count ≡ Some n → length (ordered_lines (directives lines)) ≡ n }
         ensures { result ≡ ordered_lines (directives lines.entry) }
     {
         OrderedLines { lines, left: count }
@@ -125,11 +119,10 @@ impl<'a> Iterator for OrderedLines<'a> {
     ghost remaining = { item_count (λ rest. rest) };
 
     fn next(&mut self) -> Option<(u32, Words<'a>)> {
-        if self.left == 0 {
-            return None;
-        }
-        if self.left < UNKNOWN {
-            self.left -= 1;
+        match self.left {
+            Some(0) => return None,
+            Some(left) => self.left = Some(left - 1),
+            None => {}
         }
         next_ordered_line(&mut self.lines)
     }

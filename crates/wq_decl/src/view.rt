@@ -83,7 +83,7 @@ impl<'a> DeclView<'a> {
         }
     }
 
-    /// The same, where the `ordered` lines were found already, and nothing before or behind them is to be looked at for them again.
+    /// The same, where the `ordered` lines were found already, and nothing before or after them is to be looked at for them again.
     pub fn of_ordered(text: Text<'a>, orders: bool, ordered: OrderedLines<'a>) -> DeclView<'a>
         requires faultless { first_fault (lines_of text) ≡ None }
         requires orders { orders ≡ has_ordered (directives (lines_of text)) }

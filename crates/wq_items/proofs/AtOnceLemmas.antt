@@ -1,9 +1,9 @@
 -- Reading a text at once: what a line seems to say compared with what it says, and what the lines so far have made.
-use Rattle.std.proofs.Common.{◌≡◌, ◌≢◌, ℕ, ◌+◌, ◌<◌, Bool, true, false, cond, ltb, ◌||◌, inl, inr, List, [], ◌∷◌, ◌++◌, length, Option, Some, None, Result, Ok, Err, IsOk, refl, sym, ap, subst, ◌∙◌, arith}
+use Rattle.std.proofs.Common.{◌≡◌, ◌≢◌, ℕ, ◌+◌, ◌-◌, ◌<◌, Bool, true, false, cond, ◌||◌, inl, inr, List, [], ◌∷◌, ◌++◌, length, Option, Some, None, Result, Ok, Err, IsOk, refl, sym, ap, subst, ◌∙◌, arith}
 use Rattle.std.specs.Prelude.{IsTrue, IfNone, codes, bytes_eq, option_map}
 use Rattle.std.specs.List.{AllByRecursion, list_all, cons_option}
 use Rattle.std.specs.Option.{option_or}
-use Rattle.std.proofs.lemmas.Bool.{and_from, cases_eq, lt-ltb, or_right}
+use Rattle.std.proofs.lemmas.Bool.{and_from, cases_eq, or_right}
 use Rattle.wq_text.specs.Lines.{LineView}
 use Rattle.wq_text.specs.Comments.{before_comment}
 use Rattle.wq_text.specs.Words.{WordView, words_of}
@@ -200,39 +200,42 @@ SoFar-all t orders left all none h =
 
 -- ---- the `ordered` lines so far
 
--- from `first` on are all `ordered` lines of the text, of which so many are before those that are left
-pub record OrdersSoFar (first : List LineView) (count : ℕ) (left all : List LineView) : Type 0 where
+-- from `first` on are all `ordered` lines of the text; `count` of them, where that is known, are before the lines that are left
+pub record OrdersSoFar (any : Bool) (first : List LineView) (count : Option ℕ) (left all : List LineView) : Type 0 where
   pub same : ordered_lines (directives first) ≡ ordered_lines (directives all)
   pub sound : first_fault first ≡ first_fault all
-  pub counted : count < 4294967295 → length (ordered_lines (directives first)) ≡ count + length (ordered_lines (directives left))
-  pub start : count ≡ 0 → ordered_lines (directives left) ≡ ordered_lines (directives all)
+  pub counted : (n : ℕ) → count ≡ Some n → length (ordered_lines (directives first)) ≡ n + length (ordered_lines (directives left))
+  pub none : any ≡ false → count ≡ Some 0
+  pub start : any ≡ false → ordered_lines (directives left) ≡ ordered_lines (directives all)
 
 abbrev orders_of : List LineView → List (ℕ × List WordView)
 orders_of lines = ordered_lines (directives lines)
 
-pub OrdersSoFar-none : (first left all : List LineView) → first ≡ all → left ≡ all → OrdersSoFar first 0 left all
-OrdersSoFar-none first left all f l = record {
+pub OrdersSoFar-none : (any : Bool) (first : List LineView) (count : Option ℕ) (left all : List LineView) → count ≡ Some 0 → first ≡ all → left ≡ all → OrdersSoFar any first count left all
+OrdersSoFar-none any first count left all zero f l = record {
   same = ap orders_of f;
   sound = ap first_fault f;
-  counted = λ lt. omega (arith, ap (λ (ls : List LineView). length (orders_of ls)) f, ap (λ (ls : List LineView). length (orders_of ls)) l);
-  start = λ none. ap orders_of l;
+  counted = λ n is. let no : n ≡ 0 = cc in omega (arith, no, ap (λ (ls : List LineView). length (orders_of ls)) f, ap (λ (ls : List LineView). length (orders_of ls)) l);
+  none = λ e. zero;
+  start = λ e. ap orders_of l;
 }
 
 -- no `ordered` line more
-passed_line : (first : List LineView) (count : ℕ) (line : LineView) (left rest all : List LineView) → left ≡ line ∷ rest → orders_of (line ∷ rest) ≡ orders_of rest → OrdersSoFar first count left all
-    → OrdersSoFar first count rest all
-passed_line first count line left rest all step same h =
+passed_line : (any : Bool) (first : List LineView) (count : Option ℕ) (line : LineView) (left rest all : List LineView) → left ≡ line ∷ rest → orders_of (line ∷ rest) ≡ orders_of rest
+    → OrdersSoFar any first count left all → OrdersSoFar any first count rest all
+passed_line any first count line left rest all step same h =
     let on : orders_of left ≡ orders_of rest = ap orders_of step ∙ same in
     record {
       same = h.same;
       sound = h.sound;
-      counted = λ lt. omega (arith, h.counted lt, ap (λ (xs : List (ℕ × List WordView)). length xs) on);
-      start = λ none. sym on ∙ h.start none;
+      counted = λ n is. omega (arith, h.counted n is, ap (λ (xs : List (ℕ × List WordView)). length xs) on);
+      none = h.none;
+      start = λ e. sym on ∙ h.start e;
     }
 
-pub OrdersSoFar-blank : (first : List LineView) (count : ℕ) (line : LineView) (left rest all : List LineView) → left ≡ line ∷ rest → reading line ≡ Ok None → OrdersSoFar first count left all
-    → OrdersSoFar first count rest all
-OrdersSoFar-blank first count line left rest all step said h = passed_line first count line left rest all step (ap ordered_lines (blank_directives line rest said)) h
+pub OrdersSoFar-blank : (any : Bool) (first : List LineView) (count : Option ℕ) (line : LineView) (left rest all : List LineView) → left ≡ line ∷ rest → reading line ≡ Ok None
+    → OrdersSoFar any first count left all → OrdersSoFar any first count rest all
+OrdersSoFar-blank any first count line left rest all step said h = passed_line any first count line left rest all step (ap ordered_lines (blank_directives line rest said)) h
 
 other_order : (n : ℕ) (d : Directive) (ds : List (ℕ × Directive)) → is_ordered d ≡ false → ordered_lines ((n, d) ∷ ds) ≡ ordered_lines ds
 other_order n (Item name) ds e = refl
@@ -245,53 +248,56 @@ one_order n (Flush name targets) ds e = absurd cc
 one_order n (Ordered names) ds e = omega arith
 
 -- what is noted of a line with a directive
-pub record IsNoted (ordered : Bool) (first : List LineView) (count : ℕ) (here new_first : List LineView) (new_count : ℕ) : Type 0 where
+pub record IsNoted (ordered any : Bool) (first : List LineView) (count : Option ℕ) (here : List LineView) (new_any : Bool) (new_first : List LineView) (new_count : Option ℕ) : Type 0 where
+  pub some : new_any ≡ (any || ordered)
   pub other : ordered ≡ false → (new_first ≡ first) × (new_count ≡ count)
-  pub begins : ordered ≡ true → count ≡ 0 → new_first ≡ here
-  pub later : 0 < count → new_first ≡ first
-  pub some : ordered ≡ true → 0 < new_count
-  pub more : ordered ≡ true → new_count < 4294967295 → new_count ≡ count + 1
+  pub begins : ordered ≡ true → any ≡ false → new_first ≡ here
+  pub later : any ≡ true → new_first ≡ first
+  pub more : ordered ≡ true → (n : ℕ) → new_count ≡ Some n → (0 < n) × (count ≡ Some (n - 1))
 
--- there is an `ordered` line among those so far where there was one before, or this line is one
-pub IsNoted-some : (ordered : Bool) (first : List LineView) (count : ℕ) (here new_first : List LineView) (new_count : ℕ) → IsNoted ordered first count here new_first new_count → ltb 0 new_count ≡ (ltb 0 count || ordered)
-IsNoted-some true first count here new_first new_count h = lt-ltb 0 new_count (h.some refl) ∙ sym (or_right (ltb 0 count) true refl)
-IsNoted-some false first count here new_first new_count h = ap (ltb 0) (h.other refl).1 ∙ or_false (ltb 0 count)
-
-pub OrdersSoFar-noted : (first : List LineView) (count : ℕ) (here new_first : List LineView) (new_count : ℕ) (line : LineView) (d : Directive) (left rest all : List LineView) → left ≡ line ∷ rest
-    → reading line ≡ Ok (Some d) → here ≡ left → first_fault left ≡ first_fault all → IsNoted (is_ordered d) first count here new_first new_count → OrdersSoFar first count left all
-    → OrdersSoFar new_first new_count rest all
-OrdersSoFar-noted first count here new_first new_count line d left rest all step said at fault noted h = by (is_ordered d) refl
+pub OrdersSoFar-noted : (any : Bool) (first : List LineView) (count : Option ℕ) (here : List LineView) (new_any : Bool) (new_first : List LineView) (new_count : Option ℕ) (line : LineView) (d : Directive)
+    (left rest all : List LineView) → left ≡ line ∷ rest → reading line ≡ Ok (Some d) → here ≡ left → first_fault left ≡ first_fault all
+    → IsNoted (is_ordered d) any first count here new_any new_first new_count → OrdersSoFar any first count left all → OrdersSoFar new_any new_first new_count rest all
+OrdersSoFar-noted any first count here new_any new_first new_count line d left rest all step said at fault noted h = by (is_ordered d) refl
   where
     ds : directives (line ∷ rest) ≡ (line.no, d) ∷ directives rest
     ds = more_directives line d rest said
 
     -- the lines from the first one on, as they were before this line or begin with it
-    begun : is_ordered d ≡ true → (orders_of new_first ≡ orders_of all) × (first_fault new_first ≡ first_fault all) × (count < 4294967295 → length (orders_of new_first) ≡ count + length (orders_of left))
-    begun is = elim (cases_eq count 0) [
-      | inl none ↦
-          let now : new_first ≡ left = noted.begins is none ∙ at in
-          (ap orders_of now ∙ h.start none, ap first_fault now ∙ fault, λ lt. omega (arith, none, ap (λ (ls : List LineView). length (orders_of ls)) now))
-      | inr some ↦
-          let now : new_first ≡ first = noted.later (omega arith) in
-          (ap orders_of now ∙ h.same, ap first_fault now ∙ h.sound, λ lt. omega (arith, h.counted lt, ap (λ (ls : List LineView). length (orders_of ls)) now))
-    ]
+    begun : (b : Bool) → any ≡ b → is_ordered d ≡ true
+        → (orders_of new_first ≡ orders_of all) × (first_fault new_first ≡ first_fault all) × ((n : ℕ) → count ≡ Some n → length (orders_of new_first) ≡ n + length (orders_of left))
+    begun false none is =
+        let now : new_first ≡ left = noted.begins is none ∙ at in
+        let zero : count ≡ Some 0 = h.none none in (
+          ap orders_of now ∙ h.start none,
+          ap first_fault now ∙ fault,
+          λ n e. let no : n ≡ 0 = cc in omega (arith, no, ap (λ (ls : List LineView). length (orders_of ls)) now),
+        )
+    begun true some is =
+        let now : new_first ≡ first = noted.later some in
+        (ap orders_of now ∙ h.same, ap first_fault now ∙ h.sound, λ n e. omega (arith, h.counted n e, ap (λ (ls : List LineView). length (orders_of ls)) now))
 
-    by : (b : Bool) → is_ordered d ≡ b → OrdersSoFar new_first new_count rest all
+    by : (b : Bool) → is_ordered d ≡ b → OrdersSoFar new_any new_first new_count rest all
     by false isnt =
         let kept = noted.other isnt in
-        subst (λ (f : List LineView). OrdersSoFar f new_count rest all) (sym kept.0) (
-        subst (λ (n : ℕ). OrdersSoFar first n rest all) (sym kept.1) (
-        passed_line first count line left rest all step (ap ordered_lines ds ∙ other_order line.no d (directives rest) isnt) h
+        let same : new_any ≡ any = noted.some ∙ ap (λ (b : Bool). any || b) isnt ∙ sym (or_false any) in
+        subst (λ (a : Bool). OrdersSoFar a new_first new_count rest all) (sym same) (
+        subst (λ (f : List LineView). OrdersSoFar any f new_count rest all) (sym kept.0) (
+        subst (λ (n : Option ℕ). OrdersSoFar any first n rest all) (sym kept.1) (
+        passed_line any first count line left rest all step (ap ordered_lines ds ∙ other_order line.no d (directives rest) isnt) h
+        )
         )
         )
     by true is =
-        let new = begun is in
+        let new = begun any refl is in
         let long : length (orders_of left) ≡ 1 + length (orders_of rest) = ap (λ (ls : List LineView). length (orders_of ls)) step ∙ ap (λ (xs : List (ℕ × Directive)). length (ordered_lines xs)) ds ∙ one_order line.no d (directives rest) is in
+        let seen : new_any ≡ true = noted.some ∙ ap (λ (b : Bool). any || b) is ∙ or_right any true refl in
         record {
           same = new.0;
           sound = new.1;
-          counted = λ lt. let up = noted.more is lt in omega (arith, up, long, new.2 (omega (arith, up, lt)));
-          start = λ none. absurd (omega (arith, none, noted.some is));
+          counted = λ n e. let up = noted.more is n e in omega (arith, up.0, long, new.2 (n - 1) up.1);
+          none = λ e. absurd cc;
+          start = λ e. absurd cc;
         }
 
 -- ---- names that are found

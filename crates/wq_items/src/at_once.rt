@@ -10,7 +10,7 @@
 //!
 //! It takes time in the length of the text, on average, and memory in the number of items and flushes: each name is looked up once.
 
-ghost use Rattle.std.specs.Prelude.{◌≡◌, ◌∷◌, ℕ, ◌+◌, ◌<◌, ◌≤◌, ◌^◌, length, option_map, Ok, IsOk, IfSome, IfNone, IsTrue, None, true, false};
+ghost use Rattle.std.specs.Prelude.{◌≡◌, ◌∷◌, ℕ, ◌-◌, ◌<◌, ◌≤◌, ◌^◌, ◌||◌, length, option_map, Ok, IsOk, IfSome, IfNone, IsTrue, None, Some, true, false};
 ghost use Rattle.wq_text.specs.Lines.{lines_of};
 ghost use Rattle.wq_text.specs.Words.{words_of};
 ghost use Rattle.wq_decl.specs.declared.directive.Directive.TheVariants.{Item, Flush, Ordered};
@@ -231,26 +231,40 @@ fn note_known<'a, A: Allocator + Copy>(
 /// The `ordered` lines that were seen so far.
 #[derive(Drop)]
 struct Orders<'a> {
+    /// Whether there is one.
+    any: bool,
     /// The lines from the first of them on; all lines, before there is one.
     lines: Lines<'a>,
-    /// How many there are, or `u32::MAX` where there are as many or more.
-    count: u32,
+    /// How many there are, where that many can be counted.
+    count: Option<u32>,
 }
 
 impl<'a> Orders<'a> {
+    /// None of these lines.
+    fn none(lines: Lines<'a>) -> Self
+        ensures { (result.any ≡ false) × (result.lines ≡ lines.entry) × (result.count ≡ Some 0) }
+    {
+        Orders {
+            any: false,
+            lines,
+            count: Some(0),
+        }
+    }
+
     /// Notes whether the first of these lines is one more.
     fn note(&mut self, here: &Lines<'a>, is_ordered: bool)
+        ensures any { self.new.any ≡ (self.old.any || is_ordered) }
         ensures other { is_ordered ≡ false → self.new ≡ self.old }
-        ensures first { is_ordered ≡ true → self.old.count ≡ 0 → self.new.lines ≡ here.now }
-        ensures later { 0 < self.old.count → self.new.lines ≡ self.old.lines }
-        ensures some { is_ordered ≡ true → 0 < self.new.count }
-        ensures count { is_ordered ≡ true → self.new.count < 4294967295 → self.new.count ≡ self.old.count + 1 }
+        ensures first { is_ordered ≡ true → self.old.any ≡ false → self.new.lines ≡ here.now }
+        ensures later { self.old.any ≡ true → self.new.lines ≡ self.old.lines }
+        ensures count { is_ordered ≡ true → (n : ℕ) → self.new.count ≡ Some n → (0 < n) × (self.old.count ≡ Some (n - 1)) }
     {
         if is_ordered {
-            if self.count == 0 {
+            if !self.any {
                 self.lines = here.again();
             }
-            self.count = self.count.saturating_add(1);
+            self.any = true;
+            self.count = self.count.and_then(|count| count.checked_add(1));
         }
     }
 }
@@ -275,10 +289,7 @@ pub fn read_at_once<'a, A: Allocator + Copy>(
         → RanOut (directives (lines_of text.now))) }
 {
     let mut parts = Parts::new(alloc, seed);
-    let mut seen = Orders {
-        lines: text.lines(),
-        count: 0,
-    };
+    let mut seen = Orders::none(text.lines());
     let mut here = text.lines();
     let mut lines = text.lines();
     while let Some(line) = lines.next() {
@@ -290,8 +301,7 @@ pub fn read_at_once<'a, A: Allocator + Copy>(
         here = lines.again();
     }
     let (table, noted) = parts.finish(alloc)?;
-    let orders = seen.count > 0;
     let ordered = OrderedLines::counted(seen.lines, seen.count);
-    let view = DeclView::of_ordered(text.again(), orders, ordered);
+    let view = DeclView::of_ordered(text.again(), seen.any, ordered);
     Some((view, table, noted))
 }

@@ -1,11 +1,11 @@
-use Rattle.std.proofs.Common.{rules, ◌≡◌, ltb, Bool, Option, Ok, Some, None, sym, ap, subst, ◌∙◌}
+use Rattle.std.proofs.Common.{rules, ◌≡◌, ◌||◌, Bool, Option, Ok, Some, None, sym, ap, subst, ◌∙◌}
 use Rattle.wq_text.specs.Lines.{lines_of}
 use Rattle.wq_decl.specs.declared.directive.Directive.{Directive}
 use Rattle.wq_decl.specs.Reading.{reading, is_ordered}
 use Rattle.wq_items.specs.AtOnce.{Foretells}
 use Rattle.wq_items.specs.Table.{Table}
 use Rattle.wq_items.specs.declared.at_once.Orders.{Orders}
-use Rattle.wq_items.proofs.AtOnceLemmas.{SoFar, SoFar-none, SoFar-blank, SoFar-more, SoFar-ran_out, SoFar-out_at_end, IfNone-always, IsTable-SoFar, OrdersSoFar, OrdersSoFar-none, OrdersSoFar-blank, OrdersSoFar-noted, IsNoted, IsNoted-some}
+use Rattle.wq_items.proofs.AtOnceLemmas.{SoFar, SoFar-none, SoFar-blank, SoFar-more, SoFar-ran_out, SoFar-out_at_end, IfNone-always, IsTable-SoFar, OrdersSoFar, OrdersSoFar-none, OrdersSoFar-blank, OrdersSoFar-noted, IsNoted}
 use Rattle.wq_items.proofs.at_once.read_at_once.Goals as goal
 use Rattle.wq_items.proofs.at_once.read_at_once.Goals.{in-Some-2+in_ok-take, in_default-2}
 
@@ -14,8 +14,8 @@ loop-line-init g c =
     let all = lines_of c.args.text.now in
     let start : c.lines-lines.result ≡ all = c.lines-lines.ensures in
     record {
-      made = SoFar-none c.new-parts.result c.lines-lines.result all c.new-parts.ensures start;
-      ordered = OrdersSoFar-none c.lines.result c.lines-lines.result all c.lines.ensures start;
+      made = subst (λ (b : Bool). SoFar c.new-parts.result b c.lines-lines.result all) (sym c.none-seen.ensures.0) (SoFar-none c.new-parts.result c.lines-lines.result all c.new-parts.ensures start);
+      ordered = OrdersSoFar-none c.none-seen.result.any c.none-seen.result.lines c.none-seen.result.count c.lines-lines.result all c.none-seen.ensures.2 (c.none-seen.ensures.1 ∙ c.lines.ensures) start;
       at = c.lines-here.ensures ∙ sym start;
     }
 
@@ -34,23 +34,24 @@ loop-line-preserved g c =
           let taken = w.take.new.self in
           let noted = w.note.new.self in
           let ordered : w.is_ordered-is_ordered.result ≡ is_ordered d = w.is_ordered-is_ordered.ensures in
-          let notes : IsNoted (is_ordered d) before.seen.lines before.seen.count before.here noted.lines noted.count = record {
+          let any : noted.any ≡ (before.seen.any || is_ordered d) = w.note.ensures.any ∙ ap (λ (b : Bool). before.seen.any || b) ordered in
+          let notes : IsNoted (is_ordered d) before.seen.any before.seen.lines before.seen.count before.here noted.any noted.lines noted.count = record {
+            some = any;
             other = λ isnt. let same = w.note.ensures.other (ordered ∙ isnt) in (ap (λ (o : Orders). o.lines) same, ap (λ (o : Orders). o.count) same);
             begins = λ is none. w.note.ensures.first (ordered ∙ is) none;
             later = λ some. w.note.ensures.later some;
-            some = λ is. w.note.ensures.some (ordered ∙ is);
-            more = λ is lt. w.note.ensures.count (ordered ∙ is) lt;
+            more = λ is n e. w.note.ensures.count (ordered ∙ is) n e;
           } in
           record {
             made =
-                subst (λ (t : Table). SoFar t (ltb 0 c.match-branch-2.seen.count) rest all) (sym w.parts-is) (
-                subst (λ (b : Bool). SoFar taken b rest all) (sym (ap (λ (o : Orders). ltb 0 o.count) w.seen-is ∙ IsNoted-some (is_ordered d) before.seen.lines before.seen.count before.here noted.lines noted.count notes)) (
-                SoFar-more before.parts taken (ltb 0 before.seen.count) line d before.lines rest all step is (w.in_ok-take.ensures.table line.no) before.invariant.made
+                subst (λ (t : Table). SoFar t c.match-branch-2.seen.any rest all) (sym w.parts-is) (
+                subst (λ (b : Bool). SoFar taken b rest all) (sym (ap (λ (o : Orders). o.any) w.seen-is ∙ any)) (
+                SoFar-more before.parts taken before.seen.any line d before.lines rest all step is (w.in_ok-take.ensures.table line.no) before.invariant.made
                 )
                 );
             ordered =
-                subst (λ (o : Orders). OrdersSoFar o.lines o.count rest all) (sym w.seen-is) (
-                OrdersSoFar-noted before.seen.lines before.seen.count before.here noted.lines noted.count line d before.lines rest all step is before.invariant.at before.invariant.made.sound notes before.invariant.ordered
+                subst (λ (o : Orders). OrdersSoFar o.any o.lines o.count rest all) (sym w.seen-is) (
+                OrdersSoFar-noted before.seen.any before.seen.lines before.seen.count before.here noted.any noted.lines noted.count line d before.lines rest all step is before.invariant.at before.invariant.made.sound notes before.invariant.ordered
                 );
             at = c.again-here.ensures;
           }
@@ -58,14 +59,14 @@ loop-line-preserved g c =
           let blank : reading line ≡ Ok None = subst (λ (o : Option Directive). Foretells (Some o) (reading line)) w.in_default-2.is c.in_ok-directive.ensures in
           record {
             made =
-                subst (λ (t : Table). SoFar t (ltb 0 c.match-branch-2.seen.count) rest all) (sym w.parts-is) (
-                subst (λ (b : Bool). SoFar before.parts b rest all) (sym (ap (λ (o : Orders). ltb 0 o.count) w.seen-is)) (
-                SoFar-blank before.parts (ltb 0 before.seen.count) line before.lines rest all step blank before.invariant.made
+                subst (λ (t : Table). SoFar t c.match-branch-2.seen.any rest all) (sym w.parts-is) (
+                subst (λ (b : Bool). SoFar before.parts b rest all) (sym (ap (λ (o : Orders). o.any) w.seen-is)) (
+                SoFar-blank before.parts before.seen.any line before.lines rest all step blank before.invariant.made
                 )
                 );
             ordered =
-                subst (λ (o : Orders). OrdersSoFar o.lines o.count rest all) (sym w.seen-is) (
-                OrdersSoFar-blank before.seen.lines before.seen.count line before.lines rest all step blank before.invariant.ordered
+                subst (λ (o : Orders). OrdersSoFar o.any o.lines o.count rest all) (sym w.seen-is) (
+                OrdersSoFar-blank before.seen.any before.seen.lines before.seen.count line before.lines rest all step blank before.invariant.ordered
                 );
             at = c.again-here.ensures;
           }
@@ -77,16 +78,16 @@ returns-in_err-take-clause-memory g c =
     let d = c.in-Some-2.directive in
     let said : Foretells (Some (Some d)) (reading line) = subst (λ (o : Option Directive). Foretells (Some o) (reading line)) c.in-Some-2.is c.in_ok-directive.ensures in
     IfNone-always c.from_residual-in_err-take.result _ (
-    SoFar-ran_out c.loop-line.parts (ltb 0 c.loop-line.seen.count) line d c.loop-line.lines c.next.new.self (lines_of c.args.text.now) c.in-Some.ensures.steps said (c.in_err-take.ensures.memory line.no) c.loop-line.invariant.made
+    SoFar-ran_out c.loop-line.parts c.loop-line.seen.any line d c.loop-line.lines c.next.new.self (lines_of c.args.text.now) c.in-Some.ensures.steps said (c.in_err-take.ensures.memory line.no) c.loop-line.invariant.made
     )
 
 pub returns-in_err-table-clause-memory : goal.returns-in_err-table-clause-memory
 returns-in_err-table-clause-memory g c =
     IfNone-always c.from_residual-in_err-table.result _ (λ sound made.
-    SoFar-out_at_end c.loop-line.parts (ltb 0 c.loop-line.seen.count) c.loop-line.lines (lines_of c.args.text.now) c.in_default.ensures.steps.0 (search rules) c.loop-line.invariant.made)
+    SoFar-out_at_end c.loop-line.parts c.loop-line.seen.any c.loop-line.lines (lines_of c.args.text.now) c.in_default.ensures.steps.0 (search rules) c.loop-line.invariant.made)
 
 pub take-requires : goal.take-requires
-take-requires g c = IsTable-SoFar c.loop-line.parts (ltb 0 c.loop-line.seen.count) c.loop-line.lines (lines_of c.args.text.now) c.loop-line.invariant.made
+take-requires g c = IsTable-SoFar c.loop-line.parts c.loop-line.seen.any c.loop-line.lines (lines_of c.args.text.now) c.loop-line.invariant.made
 
 pub finish-requires : goal.finish-requires
-finish-requires g c = IsTable-SoFar c.loop-line.parts (ltb 0 c.loop-line.seen.count) c.loop-line.lines (lines_of c.args.text.now) c.loop-line.invariant.made
+finish-requires g c = IsTable-SoFar c.loop-line.parts c.loop-line.seen.any c.loop-line.lines (lines_of c.args.text.now) c.loop-line.invariant.made

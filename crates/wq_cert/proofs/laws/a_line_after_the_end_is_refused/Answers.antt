@@ -1,5 +1,5 @@
 use Rattle.wq_cert.proofs.LinesBehind.{plan_reading-behind, circle_reading-behind, run_reading-behind}
-use Rattle.wq_cert.proofs.laws.a_line_behind_the_end_is_refused.Goals as goal
+use Rattle.wq_cert.proofs.laws.a_line_after_the_end_is_refused.Goals as goal
 
 pub returns-clause-plan : goal.returns-clause-plan
 returns-clause-plan c = λ names p lines plan line behind e. plan_reading-behind names p lines plan line behind e

@@ -1,5 +1,5 @@
 use Rattle.wq_cert.proofs.MissingItems.{plan_reading-missing, workqueues_reading-missing, workqueues_reading-other}
-use Rattle.wq_cert.proofs.laws.missing_items_are_answered_behind_the_workqueues.Goals as goal
+use Rattle.wq_cert.proofs.laws.missing_items_are_answered_after_the_workqueues.Goals as goal
 
 pub returns-clause-plan : goal.returns-clause-plan
 returns-clause-plan c = λ names p workqueues lines behind differ each words first missing. plan_reading-missing names p each differ workqueues lines behind words first missing
