@@ -14,8 +14,11 @@
 #     PREFIX/share/wqplan/installed
 #
 # The last one is a list of the other files and of the folders that were made.
-# Nothing is installed unless all that is built was proved. From a fresh clone
-# that takes more than an hour. If nothing has changed, it takes a minute or two.
+# Nothing is installed unless all that is built was proved. That is done in a
+# folder of its own, ~/.cache/wqplan or $XDG_CACHE_HOME/wqplan, on all processors.
+# From a fresh clone it takes about an hour. What was proved stays in that folder
+# (8 GB): if nothing has changed, the next time takes a minute or two. You may
+# remove it at any time.
 #
 # --uninstall removes the files on the list, the list itself, and the folders on
 # it that are then empty. If there is no list, nothing is removed, and the exit
@@ -92,9 +95,13 @@ cleanup() {
 trap cleanup EXIT
 trap 'exit 1' INT TERM
 
+# Where the crates are proved.
+cache=${XDG_CACHE_HOME:-${HOME:+$HOME/.cache}}
+build=$(realpath -m -- "${cache:-${TMPDIR:-/tmp}}/wqplan")
+
 # What is installed: the file, its place as seen from PREFIX, and its mode. The list comes first, so that --uninstall finds what
 # there is however this ends.
-sources=("$newlist" crates/wqplan/out/wqplan man/wqplan.1 man/wqplan.5 man/wqplan.bash)
+sources=("$newlist" "$build/crates/wqplan/out/wqplan" man/wqplan.1 man/wqplan.5 man/wqplan.bash)
 places=(share/wqplan/installed bin/wqplan share/man/man1/wqplan.1 share/man/man5/wqplan.5 share/bash-completion/completions/wqplan)
 modes=(644 755 644 644 644)
 
@@ -105,7 +112,7 @@ for place in "${places[@]}"; do
     while [ ! -e "$nearest" ] && [ ! -L "$nearest" ]; do
         nearest=$(dirname -- "$nearest")
     done
-    [ -d "$nearest" ] || fail "can't install to $folder: $nearest is no folder"
+    [ -d "$nearest" ] || fail "can't install to $folder: $nearest isn't a folder"
     trial=$(mktemp -d "$nearest/.wqplan.XXXXXX" 2>/dev/null) || fail "can't install to $folder: $nearest can't be written"
     rmdir -- "$trial"
     [ ! -d "$prefix/$place" ] || fail "can't install: $prefix/$place is a folder"
@@ -115,30 +122,65 @@ command -v rt >/dev/null || fail 'rt, the toolchain of Rattle, is not on the PAT
 # The crates that the program needs, and itself, from the lowest up, as crates.txt lists them.
 declare -A needed=([wqplan]=1)
 crates=()
-while IFS=: read -r crate uses; do
+listed=()
+while read -r line; do
+    IFS=: read -r crate uses <<<"$line"
     [ -n "${needed[$crate]-}" ] || continue
     crates=("$crate" "${crates[@]}")
+    listed=("$line" "${listed[@]}")
     for use in $uses; do
         needed[$use]=1
     done
 done < <(tac crates.txt)
 
-echo "install: wqplan will be installed to $prefix. First its ${#crates[@]} crates are proved. From a fresh clone that takes"
-echo "install: more than an hour; if nothing has changed, a minute or two."
+# They are copied to that folder, since `rt all check` proves each crate that it finds below a folder. What it proved stays there, in
+# out/.
+copy() {
+    printf '%s\n' "${listed[@]}" >"$build/crates.txt" && cp -- HANDLES "$build" || return
+    for old in "$build"/crates/*; do
+        [ -n "${needed[$(basename -- "$old")]-}" ] || rm -rf -- "$old" || return
+    done
+    for crate in "${crates[@]}"; do
+        mkdir -p -- "$build/crates/$crate" || return
+        for part in src specs proofs; do
+            rm -rf -- "$build/crates/$crate/$part" || return
+            [ ! -d "crates/$crate/$part" ] || cp -a -- "crates/$crate/$part" "$build/crates/$crate" || return
+        done
+    done
+}
+mkdir -p -- "$build" 2>"$log" && touch -- "$build/lock" 2>"$log" || fail "can't build in $build: $(tail -n 1 "$log")"
+exec 9<"$build/lock"
+flock -n 9 || fail "another install.sh is at work in $build"
+copy 2>"$log" || fail "can't build in $build: $(tail -n 1 "$log")"
 
+# One check for each processor, if each can have 3 GiB of memory.
+jobs=$(nproc)
+room=$(awk '$1 == "MemAvailable:" { print int($2 / (3 * 1024 * 1024)) }' /proc/meminfo)
+[ "$room" -ge "$jobs" ] || jobs=$((room > 0 ? room : 1))
+
+echo "install: wqplan will be installed to $prefix. First its ${#crates[@]} crates are proved in $build, up to $jobs at a time."
+echo "install: From a fresh clone that takes about an hour; if nothing has changed, a minute or two."
+
+# `rt all check` tells of each crate when it has ended with it: first a line `== NAME`. At the end comes `== summary`.
 began=$SECONDS
-for i in "${!crates[@]}"; do
-    crate=${crates[i]}
-    printf '[%d/%d] %s .. ' $((i + 1)) "${#crates[@]}" "$crate"
-    (cd "crates/$crate" && rt check) >"$log" 2>&1 || {
-        echo 'not proved'
-        tail -n 20 "$log" >&2
-        fail "$crate isn't proved; nothing is installed"
-    }
-    echo "proved ($((SECONDS - began)) s so far)"
-done
+tell() {
+    local count=0 line
+    while IFS= read -r line; do
+        case $line in
+            '== summary') ;;
+            '== '*)
+                count=$((count + 1))
+                echo "[$count/${#crates[@]}] ${line#== } checked ($((SECONDS - began)) s so far)"
+                ;;
+        esac
+    done
+}
+(cd -- "$build" && rt all check --jobs "$jobs") 2>&1 | tee "$log" | tell || {
+    tail -n 20 "$log" >&2
+    fail "not all crates are proved; nothing is installed"
+}
 printf 'building the program .. '
-(cd crates/wqplan && rt run -- --version) >"$log" 2>&1 </dev/null || {
+(cd -- "$build/crates/wqplan" && rt run -- --version) >"$log" 2>&1 </dev/null || {
     echo 'failed'
     tail -n 20 "$log" >&2
     fail "the program isn't built; nothing is installed"

@@ -10,21 +10,33 @@ passed=0
 failed=0
 status=0
 
-# A clone: install.sh, crates.txt, the pages, and a folder for each crate.
+# A clone: install.sh, crates.txt, HANDLES, the pages, and of each crate a file in src/, in specs/ and (but for wq_text) in proofs/, and
+# what install.sh has no use for.
 clone="$work/the clone"
 mkdir -p -- "$clone/crates" "$work/toolchain" "$work/home" "$work/tmp"
-cp -r -- "$repository/install.sh" "$repository/crates.txt" "$repository/man" "$clone"
+cp -r -- "$repository/install.sh" "$repository/crates.txt" "$repository/HANDLES" "$repository/man" "$clone"
 while IFS=: read -r crate _; do
-    mkdir -- "$clone/crates/$crate"
+    mkdir -p -- "$clone/crates/$crate"/{src,specs,proofs,must-fail,out}
+    echo "$crate" | tee -- "$clone/crates/$crate"/{src/lib.rt,specs/Lib.antt} >"$clone/crates/$crate/proofs/Lib.antt"
 done <"$clone/crates.txt"
+rm -r -- "$clone/crates/wq_text/proofs"
 
-# `rt check` proves all crates but $UNPROVED. `rt run` makes a program that prints $BUILT, unless that is empty, and then does
-# what $AFTER says.
+# `rt all check` says of each crate that it is proved, and of $UNPROVED that it isn't. `rt run` makes a program that prints $BUILT,
+# unless that is empty, and then does what $AFTER says.
 cat >"$work/toolchain/rt" <<'END'
 #!/usr/bin/env bash
-echo "${PWD##*/} $*" >>"$CALLS"
+echo "$PWD $*" >>"$CALLS"
 case $1 in
-    check) [ "${PWD##*/}" != "${UNPROVED-}" ] || { echo "not proved: $UNPROVED"; exit 1; } ;;
+    all)
+        [ "$2 $3" = 'check --jobs' ] && [ "$4" -ge 1 ] || exit 2
+        for crate in crates/*/; do
+            crate=${crate#crates/}
+            printf '== %s\nfn f: proved\nlogic=%s functions=1\n' "${crate%/}" \
+                "$([ "${crate%/}" = "${UNPROVED-}" ] && echo not-proved || echo proved)"
+        done
+        echo '== summary'
+        [ -z "${UNPROVED-}" ] || { echo "$UNPROVED: not proved"; exit 1; }
+        ;;
     run)
         [ -n "${BUILT-}" ] || exit 1
         mkdir -p out
@@ -41,8 +53,8 @@ chmod 755 "$work/toolchain/rt"
 run() {
     rm -f -- "$work/calls"
     touch "$work/calls"
-    (cd -- "$work" && umask 077 && CALLS=$work/calls HOME=${HOUSE-$work/home} TMPDIR=$work/tmp BUILT=${BUILT-one} \
-        PATH=${TOOLS-$work/toolchain:$PATH} bash "$clone/install.sh" "$@") >"$work/out" 2>"$work/err" </dev/null
+    (cd -- "$work" && umask 077 && CALLS=$work/calls HOME=${HOUSE-$work/home} XDG_CACHE_HOME=${CACHE-$work/cache} \
+        TMPDIR=$work/tmp BUILT=${BUILT-one} PATH=${TOOLS-$work/toolchain:$PATH} bash "$clone/install.sh" "$@") >"$work/out" 2>"$work/err" </dev/null
     status=$?
 }
 
@@ -122,23 +134,48 @@ prefix="$work/a place/of its own"
 run "$prefix"
 installed 'an installation' "$prefix" one
 is 'the PATH is named' "install: $prefix/bin isn't on the PATH" "$(grep PATH "$work/out")"
-is 'it says how long it takes' 1 "$(grep -c 'more than an hour' "$work/out")"
+is 'it says how long it takes' 1 "$(grep -c 'about an hour' "$work/out")"
 
-# Each crate was checked before those that need it, the program's last, and then the program was built; no crate of the tests.
-checked=$(sed -n '$!s/ check$//p' "$work/calls")
-is 'the last call builds the program' 'wqplan run -- --version' "$(tail -n 1 "$work/calls")"
-is 'all calls before check a crate' "$(($(wc -l <"$work/calls") - 1))" "$(wc -w <<<"$checked")"
-is 'the program is checked last' wqplan "$(tail -n 1 <<<"$checked")"
-is 'no crate is checked twice' '' "$(sort <<<"$checked" | uniq -d)"
-is 'no crate of the tests or of an example is checked' '' "$(grep -xE 'wq_(book|stress|guide|bench|tests)' <<<"$checked")"
-early=''
-for crate in $checked; do
+# What was proved is in a folder of its own: the crates that the program needs, as the clone has them, and no crate of the tests.
+build=$work/cache/wqplan
+crates=$(ls -- "$build/crates")
+is 'all crates are proved there, and then the program is built' "$build all check --jobs N
+$build/crates/wqplan run -- --version" "$(sed 's/--jobs [0-9]*$/--jobs N/' "$work/calls")"
+is 'each crate is named as checked, once' "$crates" "$(sed -n 's|^\[[0-9]*/[0-9]*\] \(.*\) checked (.*|\1|p' "$work/out" | LC_ALL=C sort)"
+is 'they are counted' "$(wc -w <<<"$crates")" "$(sed -n 's|^\[\([0-9]*\)/\([0-9]*\)\] .*|\1 \2|p' "$work/out" | awk '$1 == NR { n = $2 } END { print n }')"
+is 'the program is among them' wqplan "$(grep -x wqplan <<<"$crates")"
+is 'no crate of the tests or of an example is' '' "$(grep -xE 'wq_(book|stress|guide|bench|tests|cases)' <<<"$crates")"
+lacking=''
+for crate in $crates; do
     for use in $(sed -n "s/^$crate://p" "$repository/crates.txt"); do
-        [ ! -d "$repository/crates/$use" ] ||
-            sed "/^$crate\$/q" <<<"$checked" | grep -qx -- "$use" || early="$early $crate:$use"
+        [ ! -d "$repository/crates/$use" ] || grep -qx -- "$use" <<<"$crates" || lacking="$lacking $crate:$use"
     done
 done
-is 'each crate is checked after those that it needs' '' "$early"
+is 'what they need is there' '' "$lacking"
+is 'their list is a part of crates.txt' '' "$(grep -vxFf "$repository/crates.txt" "$build/crates.txt")"
+is 'their list has each of them' "$crates" "$(sed 's/:.*//' "$build/crates.txt" | LC_ALL=C sort)"
+is 'HANDLES is as in the clone' '' "$(cmp -- "$clone/HANDLES" "$build/HANDLES" 2>&1)"
+for crate in $crates; do
+    diff -r -x must-fail -x out -- "$clone/crates/$crate" "$build/crates/$crate"
+    [ ! -e "$build/crates/$crate/must-fail" ] || echo "$build/crates/$crate/must-fail"
+done >"$work/differ" 2>&1
+is 'of each crate there are src/, specs/ and proofs/ as in the clone' '' "$(cat "$work/differ")"
+
+# A file, a part and a crate that are no longer there go from that folder, too, and what was proved of the others stays.
+touch -- "$build/crates/wq_text/src/old.rt" "$build/crates/wqplan/out/kept"
+mkdir -p -- "$build/crates/wq_text/proofs" "$build/crates/wq_old/src"
+run "$prefix"
+installed 'an installation after crates have changed' "$prefix" one
+is 'what is no longer there is not proved' '' "$(ls -d -- "$build/crates/wq_old" "$build/crates/wq_text/src/old.rt" "$build/crates/wq_text/proofs" 2>/dev/null)"
+is 'what was proved stays' "$build/crates/wqplan/out/kept" "$(ls -- "$build/crates/wqplan/out/kept")"
+
+# Two of them don't work in one folder at once.
+exec 8<"$build/lock"
+flock -n 8
+run "$prefix"
+ends 'a second one at the same time' 1 "install: another install.sh is at work in $build"
+is 'a second one at the same time: nothing is built' '' "$(cat "$work/calls")"
+exec 8<&-
 
 # Again, over the first one; then what was installed is removed, with the folders.
 BUILT=two run "$prefix"
@@ -200,13 +237,28 @@ ends 'without PREFIX and home' 1 'install: name a PREFIX: there is no home folde
 HOUSE='' run --uninstall
 ends 'uninstall without PREFIX and home' 1 'install: name a PREFIX: there is no home folder'
 
+# Where there is no XDG_CACHE_HOME, the crates are proved below the home folder; without that, below TMPDIR.
+CACHE='' run
+installed 'proved below the home folder' "$work/home/.local" one
+is 'proved below the home folder: there' "$work/home/.cache/wqplan run" "$(sed -n '2s|/crates/wqplan run -- --version| run|p' "$work/calls")"
+CACHE='' run --uninstall
+ends 'what was proved stays after uninstall' 0 ''
+is 'what was proved stays after uninstall: there' "$work/home/.cache/wqplan/crates/wqplan/out/wqplan" "$(ls -- "$work/home/.cache/wqplan/crates/wqplan/out/wqplan")"
+CACHE='' HOUSE='' run "$work/homeless"
+is 'without a home folder: it is proved below TMPDIR' "0: $work/tmp/wqplan run" "$status: $(sed -n '2s|/crates/wqplan run -- --version| run|p' "$work/calls")"
+rm -r -- "$work/tmp/wqplan" "$work/homeless"
+touch -- "$work/file"
+CACHE=$work/file run "$work/refused"
+is "a folder that can't be made to prove the crates in" "1: install: can't build in $work/file/wqplan: mkdir" "$status: $(sed 's/\(: mkdir\): .*/\1/' "$work/err")"
+untouched "a folder that can't be made to prove the crates in" '' "$work/refused"
+
 # Refusals. Each leaves nothing, and what can be known before is refused before anything is built.
 prefix=$work/refused
 UNPROVED=wq_groups run "$prefix"
-ends "a crate that isn't proved" 1 "not proved: wq_groups
-install: wq_groups isn't proved; nothing is installed"
+is "a crate that isn't proved" "1: install: not all crates are proved; nothing is installed" "$status: $(tail -n 1 "$work/err")"
+is "a crate that isn't proved: it is named" 'wq_groups: not proved' "$(tail -n 2 "$work/err" | head -n 1)"
 is "a crate that isn't proved: nothing is installed" '' "$(ls -d -- "$prefix" 2>/dev/null)"
-is "a crate that isn't proved: it is the last one" 'wq_groups check' "$(tail -n 1 "$work/calls")"
+is "a crate that isn't proved: the program isn't built" 1 "$(wc -l <"$work/calls")"
 BUILT='' run "$prefix"
 ends "a program that isn't built" 1 "install: the program isn't built; nothing is installed"
 is "a program that isn't built: nothing is installed" '' "$(ls -d -- "$prefix" 2>/dev/null)"
@@ -223,7 +275,7 @@ cp -- "$repository/man/wqplan.5" "$clone/man"
 
 touch "$prefix"
 run "$prefix"
-ends 'a PREFIX that is a file' 1 "install: can't install to $prefix/share/wqplan: $prefix is no folder"
+ends 'a PREFIX that is a file' 1 "install: can't install to $prefix/share/wqplan: $prefix isn't a folder"
 untouched 'a PREFIX that is a file' '' "$prefix"
 rm -- "$prefix"
 mkdir -p -- "$prefix/bin/wqplan"
