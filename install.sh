@@ -155,8 +155,8 @@ copy 2>"$log" || fail "can't build in $build: $(tail -n 1 "$log")"
 
 # One check for each processor, if each can have 3 GiB of memory.
 jobs=$(nproc)
-room=$(awk '$1 == "MemAvailable:" { print int($2 / (3 * 1024 * 1024)) }' /proc/meminfo)
-[ "$room" -ge "$jobs" ] || jobs=$((room > 0 ? room : 1))
+room=$(awk '$1 == "MemAvailable:" { print int($2 / (3 * 1024 * 1024)) }' /proc/meminfo 2>/dev/null || true)
+[ "${room:-$jobs}" -ge "$jobs" ] || jobs=$((room > 0 ? room : 1))
 
 echo "install: wqplan will be installed to $prefix. First its ${#crates[@]} crates are proved in $build, up to $jobs at a time."
 echo "install: From a fresh clone that takes about an hour; if nothing has changed, a minute or two."
