@@ -252,6 +252,7 @@ impl<'a> Orders<'a> {
     }
 
     /// Notes whether the first of these lines is one more.
+    #[inline(always)]
     fn note(&mut self, here: &Lines<'a>, is_ordered: bool)
         ensures any { self.new.any ≡ (self.old.any || is_ordered) }
         ensures other { is_ordered ≡ false → self.new ≡ self.old }

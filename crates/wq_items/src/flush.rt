@@ -77,7 +77,19 @@ impl<A: Allocator + Copy> Flushes<A> {
             item: ItemId::new(i as u16),
             target,
         })?;
+        self.make_room();
         Ok(())
+    }
+
+    /// Makes room for four times as many flushes where there is none for another, so that few growths move them all. If this memory is
+    /// refused, the next flush that is added asks for less.
+    fn make_room(&mut self)
+        ensures { self.new ≡ self.old }
+    {
+        let len = self.flushes.len();
+        if len == self.flushes.capacity() {
+            self.flushes.reserve(len.saturating_mul(3)).ok();
+        }
     }
 
     /// The targets, item by item. The only error is out of memory, which can't occur where there is no item.

@@ -4,8 +4,8 @@
 //! them is then found only after all the others. So a hash depends on a seed, which the program chooses. No answer depends on the
 //! seed: what a map finds is defined without its hashes.
 //!
-//! A name is hashed in time in its length, in one pass. Most names are short, of four to eight bytes: of these the first four and the
-//! last four are hashed and compared, which are all of their bytes (`short`).
+//! A name is hashed in time in its length, in one pass. Most names have at most eight bytes: of these a number is hashed and
+//! compared that stands for all of their bytes (`short`).
 
 ghost use Rattle.std.specs.Prelude.{◌≡◌, ◌∷◌, [], List, ℕ, fold, bytes_eq};
 ghost use Rattle.std.specs.Hash as fed;
@@ -14,7 +14,7 @@ ghost use Rattle.std.specs.Cmp.Rules.{comparing, hashing};
 ghost use Rattle.std.proofs.Common.{rules};
 ghost use Rattle.wq_items.specs.Short.{taken};
 
-use crate::short::{are_same_short, is_short, short_number};
+use crate::short::{are_same_short, are_same_tiny, is_short, is_tiny, short_number, tiny_number};
 use std::hash::{BuildHasher, FoldHasher, Hash, Hasher};
 
 /// A name, as a slice of the text.
@@ -23,7 +23,7 @@ pub(crate) struct Name<'a> {
     pub(crate) bytes: &'a [u8],
 }
 
-/// Whether two names are the same that aren't short. It stands apart, so that the look-up of a short name is small.
+/// Whether two longer names are the same. It stands apart, so that the look-up of a short name is small.
 #[inline(never)]
 fn are_same_long(a: &[u8], b: &[u8]) -> bool
     ensures { result ≡ bytes_eq a.now b.now }
@@ -40,6 +40,9 @@ pub(crate) fn are_same(a: &[u8], b: &[u8]) -> bool
     }
     if is_short(a) {
         return are_same_short(a, b);
+    }
+    if is_tiny(a) {
+        return are_same_tiny(a, b);
     }
     are_same_long(a, b)
 }
@@ -105,7 +108,7 @@ pub(crate) struct SeededHasher {
     seed: u64,
 }
 
-/// Hashes a name that isn't short. It stands apart, so that the look-up of a short name is small.
+/// Hashes a longer name. It stands apart, so that the look-up of a short name is small.
 #[inline(never)]
 fn write_long(hasher: &mut FoldHasher, bytes: &[u8])
     ensures { hasher.new ≡ folding.write hasher.old bytes.now }
@@ -127,6 +130,8 @@ impl Hasher for SeededHasher {
     fn write(&mut self, bytes: &[u8]) {
         if is_short(bytes) {
             self.hasher.write_u64(short_number(bytes));
+        } else if is_tiny(bytes) {
+            self.hasher.write_u64(u64::from(tiny_number(bytes)));
         } else {
             write_long(&mut self.hasher, bytes);
         }

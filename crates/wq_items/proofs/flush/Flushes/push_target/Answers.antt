@@ -1,4 +1,4 @@
-use Rattle.std.proofs.Common.{length, ap, arith}
+use Rattle.std.proofs.Common.{length, ap, ◌∙◌, arith}
 use Rattle.wq_items.proofs.WaitLemmas.{length-waits_of, waits_of-added, below-added, count-added}
 use Rattle.wq_items.proofs.flush.Flushes.push_target.Goals as goal
 
@@ -15,4 +15,5 @@ invariant_of-self-2 g c =
 pub returns-clause-ok : goal.returns-clause-ok
 returns-clause-ok g c =
     let s = c.self.inside in
-    waits_of-added s.flushes.items c.push.new.self.items s.items c.args.i c.new.result c.args.target c.args.self.now c.self.view_is c.requires c.new.ensures c.in_ok-push.ensures.items
+    c.make_room.ensures
+    ∙ waits_of-added s.flushes.items c.push.new.self.items s.items c.args.i c.new.result c.args.target c.args.self.now c.self.view_is c.requires c.new.ensures c.in_ok-push.ensures.items
