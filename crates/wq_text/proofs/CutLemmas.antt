@@ -3,7 +3,8 @@ use Rattle.std.proofs.Common.{◌≡◌, ◌≢◌, ℕ, ◌+◌, ◌-◌, ◌<�
 use Rattle.std.specs.List.{prefix_len}
 use Rattle.std.proofs.lemmas.Bool.{or_parts}
 use Rattle.std.proofs.lemmas.Bool.Decides.{nat_tests}
-use Rattle.std.proofs.lemmas.List.{get_or-take, length-take-le, length-append, drop_at, drop-take, take_rest}
+use Rattle.std.proofs.lemmas.List.{get_or-take, length-take-le, length-append, take-append-drop, drop_at, drop-take, take_rest}
+use lib.Seq.{take-append_seam, drop-append_seam}
 use Rattle.std.proofs.lemmas.List.Sums.{prefix_len_is}
 use Rattle.wq_text.specs.Comments.{before_comment}
 use Rattle.wq_text.specs.Words.{words_from, is_blank, begins_word, in_word, AllBlank, NoBlank, EndsAWord, AllInWord, EndsAtOnce}
@@ -136,3 +137,18 @@ words_from-space at word rest inside some =
     ∙ ap (λ (n : ℕ). record { start = n; bytes = word } ∷ words_from (n + length word) (before_comment (32 ∷ rest))) {x = at + 0} {y = at} (omega arith)
     ∙ ap (λ (l : List ℕ). record { start = at; bytes = word } ∷ words_from (at + length word) l) (before_comment-more 32 rest refl)
     ∙ ap (λ (n : ℕ). record { start = at; bytes = word } ∷ words_from n (before_comment rest)) {x = at + length word + 1} {y = at + (length word + 1)} (omega arith)
+
+-- bytes that begin with a word and one byte
+pub starts_with-rest : (bytes word : List ℕ) (b : ℕ) → take (length word + 1) bytes ≡ word ++ (b ∷ []) → bytes ≡ word ++ (b ∷ drop (length word + 1) bytes)
+starts_with-rest bytes word b first =
+    let rest = drop (length word + 1) bytes in
+    sym (take-append-drop (length word + 1) bytes) ∙ ap (λ (l : List ℕ). l ++ rest) first ∙ append_assoc word (b ∷ []) rest
+
+-- such bytes have the word as their first bytes
+pub starts_with-word : (bytes word : List ℕ) (b : ℕ) → take (length word + 1) bytes ≡ word ++ (b ∷ []) → take (length word) bytes ≡ word
+starts_with-word bytes word b first = ap (λ (l : List ℕ). take (length word) l) (starts_with-rest bytes word b first) ∙ take-append_seam word _
+
+-- the byte follows the word in them
+pub starts_with-byte : (bytes word : List ℕ) (b x : ℕ) (rest : List ℕ) → take (length word + 1) bytes ≡ word ++ (b ∷ []) → drop (length word) bytes ≡ x ∷ rest → x ≡ b
+starts_with-byte bytes word b x rest first back =
+    ap (λ (l : List ℕ). get_or l 0 0) (sym back ∙ ap (λ (l : List ℕ). drop (length word) l) (starts_with-rest bytes word b first) ∙ drop-append_seam word _)

@@ -7,7 +7,7 @@
 //! Going through the lines looks at each byte of the text once, sixteen at a time, and so does looking for the comment of a line, by
 //! `memchr`.
 
-ghost use Rattle.std.specs.Prelude.{◌≡◌, ◌+◌, ◌<◌, ◌≤◌, ◌^◌, ◌∷◌, List, ℕ, length, take, find, nat_lt, option_map, IfSome};
+ghost use Rattle.std.specs.Prelude.{◌≡◌, ◌+◌, ◌<◌, ◌≤◌, ◌^◌, ◌∷◌, ◌++◌, [], List, ℕ, length, take, find, nat_lt, option_map, IfSome, IfNone};
 ghost use Rattle.std.specs.Iterator.{YieldsFirst, item_count};
 ghost use Rattle.wq_text.specs.Lines.{LineView, pieces, taken, line_bytes, lines_of};
 ghost use Rattle.wq_text.specs.Comments.{before_comment};
@@ -93,7 +93,8 @@ impl<'a> Line<'a> {
     pub fn words_after(&self, word: &[u8]) -> Option<Words<'a>>
         requires some { 0 < length word.now }
         requires unbroken { AllInWord word.now }
-        ensures { IfSome result (λ words. words_of self.now ≡ record { start = self.now.start; bytes = word.now } ∷ words) }
+        ensures after { IfSome result (λ words. words_of self.now ≡ record { start = self.now.start; bytes = word.now } ∷ words) }
+        ensures none { IfNone result (¬ (take (length word.now + 1) self.now.bytes ≡ word.now ++ (32 ∷ []))) }
     {
         let after = self.bytes().strip_prefix(word)?;
         let (first, rest) = after.split_first()?;

@@ -1,14 +1,15 @@
-use Rattle.std.proofs.Common.{◌≡◌, ◌+◌, ◌∷◌, ◌++◌, List, ℕ, length, take, drop, sym, ap, ◌∙◌}
+use Rattle.std.proofs.Common.{◌≡◌, ◌+◌, ◌∷◌, ◌++◌, [], List, ℕ, length, take, drop, sym, ap, ◌∙◌, rules}
 use Rattle.std.proofs.lemmas.List.{take-append-drop}
+use Rattle.std.proofs.lemmas.Bool.Decides.{not_from_Decides}
 use Rattle.std.proofs.lemmas.Slice.Eq.{bytes_eq-Decides}
 use Rattle.wq_text.specs.Comments.{before_comment}
 use Rattle.wq_text.specs.Lines.{LineView}
 use Rattle.wq_text.specs.Words.{WordView, words_from, words_of}
-use Rattle.wq_text.proofs.CutLemmas.{words_from-space, rest_after}
+use Rattle.wq_text.proofs.CutLemmas.{words_from-space, rest_after, starts_with-word, starts_with-byte}
 use Rattle.wq_text.proofs.line.Line.words_after.Goals as goal
 
-pub returns : goal.returns
-returns c =
+pub returns-clause-after : goal.returns-clause-after
+returns-clause-after c =
     let l = c.self.inside in
     let word = c.args.word.now in
     let rest = c.in_ok-first.rest.now in
@@ -26,3 +27,20 @@ returns c =
     ∙ ap (λ (bs : List ℕ). first ∷ words_from (l.start + (length word + 1)) (before_comment bs)) (rest_after l.len l.text.now word 32 rest (whole ∙ cut) c.self.invariant.0)
     ∙ ap (λ (ws : List WordView). first ∷ ws) (sym c.of.ensures)
     ∙ ap (λ (v : LineView). record { start = v.start; bytes = word } ∷ c.of.result) c.self.view_is
+
+pub returns-in_err-after-clause-none : goal.returns-in_err-after-clause-none
+returns-in_err-after-clause-none c =
+    let word = c.args.word.now in
+    let bytes = c.bytes.result.now in
+    let other = not_from_Decides _ (bytes_eq-Decides (take (length word) bytes) word) c.in_err-after.ensures.cases in
+    let differs : ¬ (take (length word + 1) c.args.self.now.bytes ≡ word ++ (32 ∷ [])) =
+    λ first. other (starts_with-word bytes word 32 (ap (λ (l : List ℕ). take (length word + 1) l) c.bytes.ensures ∙ first)) in
+    Prim.search (rules, differs)
+
+pub returns-then-first-ne32-clause-none : goal.returns-then-first-ne32-clause-none
+returns-then-first-ne32-clause-none c first =
+    let word = c.args.word.now in
+    let bytes = c.bytes.result.now in
+    let back : drop (length word) bytes ≡ c.in_ok-first.first.now ∷ c.in_ok-first.rest.now = sym c.in_ok-after.ensures.cases.1 ∙ c.in_ok-first.ensures.cases.0 in
+    let space = starts_with-byte bytes word 32 _ _ (ap (λ (l : List ℕ). take (length word + 1) l) c.bytes.ensures ∙ first) back in
+    Prim.search (rules, space)
