@@ -11,8 +11,8 @@ use crate::hint::Hint;
 use crate::names::nearest;
 use crate::placed::{find_split, find_twice, find_unplaced};
 use crate::quoted::Quoted;
-use crate::stage::{Kind, Shape, Stage, stage_at};
-use crate::token::{Mark, Token, bytes_at, first_mark, line_at, word_at};
+use crate::stage::{Kind, Shape, Stage, line_and_stage};
+use crate::token::{Mark, Token, bytes_at, first_mark, word_at};
 use crate::what::What;
 use std::alloc::{AllocError, Allocator};
 use wq_groups::Groups;
@@ -43,8 +43,8 @@ pub fn in_certificate<'a, A: Allocator + Copy>(
 ) -> Result<Finding<'a>, AllocError>
     requires { length groups.now.group_of ≡ length table.now.names }
 {
-    let stage = stage_at(kind, text, no);
-    match line_at(text, no) {
+    let (line, stage) = line_and_stage(kind, text, no);
+    match line {
         Some(line) => on_line(
             alloc,
             kind,

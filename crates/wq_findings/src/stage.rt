@@ -213,19 +213,23 @@ fn is_step(word: &[u8]) -> bool {
         || word == b"finish".as_slice()
 }
 
-/// What should be on a line of a text, judging by the lines above. The line 0 means the end of the text.
-pub(crate) fn stage_at(kind: Kind, text: &Text<'_>, no: u32) -> Stage {
+/// The line of this number, and what should be on it, judging by the lines above. Where there is no such line, that is what should
+/// come at the end of the text.
+pub(crate) fn line_and_stage<'a>(
+    kind: Kind,
+    text: &Text<'a>,
+    no: u32,
+) -> (Option<Line<'a>>, Stage) {
     let mut stage = None;
     for line in text.lines() {
         let word = bytes_at(&line, 0);
-        if word.is_empty() {
-            continue;
-        }
         let here = stage.unwrap_or(Stage::first(kind, word));
         if line.no() == no {
-            return here;
+            return (Some(line), here);
         }
-        stage = Some(here.behind(&line));
+        if !word.is_empty() {
+            stage = Some(here.behind(&line));
+        }
     }
-    stage.unwrap_or(Stage::first(kind, b""))
+    (None, stage.unwrap_or(Stage::first(kind, b"")))
 }
