@@ -168,3 +168,31 @@ SCRIPTS = [
      "finished 2 faults 0\nlane 0 finished 1 faults 0\nlane 1 finished 1 faults 0\ncaller ok\ncaller ok\nagree true\n"
      + item("a") + r"made b queue yes 1\n(?:made b wait yes [12]\n)?(?:made b wait no [12]\n)?made b over yes 2\n"),
 ]
+
+# What `wq_crew script` prints where one caller makes the calls of a text: the whole of it as this regular expression says, with the
+# status. The bodies make the declared flushes. Whether an item was still unfinished when it was asked about is up to the schedule.
+ACTS = [
+    # The waits of a body stand in the order of its flushes, and nobody else asks.
+    (*THREE, 19, "queue a / flush a",
+     "finished 1 faults 0\nlane 0 finished 0 faults 0\nlane 1 finished 1 faults 0\ncaller ok\nagree true\n"
+     + item("a") + "made b wait no 1\nmade b over yes 1\nmade c wait no 1\nmade c over yes 1\n" + r"total [78]\nrows [89]"
+     + rows_of("010100000000", "030100000100", "040002000100", "050102000100", "040001000100", "050101000100", "060100000100")
+     + r"(?s:.*)$", 0),
+    # A pending entry of an item is cancelled before its workqueue can start it, or not; each is queued once, and ends once.
+    (*ONE, 100, "queue a / sync a",
+     r"finished [01] faults 0\nlane 0 finished [01] faults 0\ncaller ok\nagree true\nmade a queue yes 1\n"
+     r"(?:made a cancel yes 1\nmade a ask yes 1\nmade a told yes 1\ntotal 4\nrows 4|"
+     r"made a cancel no 1\nmade a ask yes 1\nmade a told yes 1\nmade a finish yes 1\ntotal 5\nrows 6|"
+     r"made a cancel no 1\nmade a ask no 1\nmade a finish yes 1\ntotal 4\nrows 5)(?:\n[0-9a-f]{24}){4,6}\n$", 0),
+    # It stops at the first refusal.
+    (*ONE, 10, "flush a / cancel a / sync a / queue nobody / flush a",
+     "finished 0 faults 0\nlane 0 finished 0 faults 0\ncaller refused 66\nagree true\nmade a cancel no 2\nmade a ask no 2\ntotal 4\n"
+     "rows 4\n070000000000000000000000\n020000000000000000000000\n070000000000000000000000\n020000000000000000000000\n$", 0),
+    (*ONE, 2, "sync a / flush a",
+     "finished 0 faults 0\nlane 0 finished 0 faults 0\ncaller refused 60\nagree true\ntotal 0\nrows 0\n$", 0),
+    (*ONE, 10, "# nothing", "finished 0 faults 0\nlane 0 finished 0 faults 0\ncaller ok\nagree true\ntotal 0\nrows 0\n$", 0),
+    # Mistakes of the input.
+    (*ONE, 10, "queue a / meet", "mistake line 2\n$", 2),
+    (*ONE, 10, "caller / queue a", "mistake line 1\n$", 2),
+    (*ONE, 10, "queue a a", "mistake line 1\n$", 2),
+]

@@ -99,6 +99,9 @@ def table_cases():
     for declaration, assignment, rows, pattern in crews.SCRIPTS:
         texts = [text_of(text) for text in (declaration, assignment)]
         yield crew("scripts", ["script", 0, 1, str(rows)], texts, pattern.encode("latin-1"), 0, is_pattern=True)
+    for declaration, assignment, rows, acts, pattern, status in crews.ACTS:
+        texts = [text_of(text) for text in (declaration, assignment, acts)]
+        yield crew("scripts", ["script", 0, 1, str(rows), 2], texts, pattern.encode("latin-1"), status, is_pattern=True)
     for declaration, assignment, rows, answer, status in [
         (*crews.ONE, 16_777_217, "refused 68", 2),
         ("item a / flush a a", "wq 0 a", 10, "refused 67", 2),

@@ -18,8 +18,8 @@ use wq_testbed::{Bed, SEED, Texts, refuse_text};
 pub(crate) enum Task<'a> {
     /// What this text says.
     Deeds(&'a [u8]),
-    /// The declared flushes of all items.
-    Script,
+    /// The declared flushes of all items, with the calls that this text asks for; without one, those that queue and flush all items.
+    Script(Option<&'a [u8]>),
 }
 
 /// Has rescuers and callers do what is asked. Returns the status.
@@ -32,7 +32,7 @@ fn play<R: Threads + Wait + Sync>(
 ) -> Result<u8, AllocError> {
     match task {
         Task::Deeds(text) => crew::play(rt, alloc, bed, text, out),
-        Task::Script => scripted::play(rt, alloc, bed, out),
+        Task::Script(text) => scripted::play(rt, alloc, bed, text, out),
     }
 }
 

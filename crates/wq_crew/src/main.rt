@@ -5,6 +5,7 @@
 //! prints; no contract does. It takes the time of the bodies and the callers.
 #![tactic(auto)]
 
+mod acts;
 mod answering;
 mod crew;
 mod deed;
@@ -24,27 +25,30 @@ use wq_testbed::{
     MAX_TEXT, Setting, Texts, ended, misused, print_answer, read_file, read_texts, unread, words,
 };
 
-const USAGE: &str = "usage: wq_crew run DECL ASSIGN ROWS DEEDS | wq_crew script DECL ASSIGN ROWS";
+const USAGE: &str =
+    "usage: wq_crew run DECL ASSIGN ROWS DEEDS | wq_crew script DECL ASSIGN ROWS [ACTS]";
 
 /// What the command line asks for.
 #[derive(Drop)]
 enum Request<'a> {
     /// Rescuers and callers do what the text in this file says.
     Run(Setting<'a>, &'a str),
-    /// Rescuers make the declared flushes, and callers queue and flush all items.
-    Script(Setting<'a>),
+    /// Rescuers make the declared flushes, and a caller the calls of the text in this file; without one, two callers queue and
+    /// flush all items.
+    Script(Setting<'a>, Option<&'a str>),
 }
 
 /// The request that this word makes, with those after its setting.
 fn request_of<'a>(task: &str, setting: Setting<'a>, rest: &'a [String]) -> Option<Request<'a>> {
     match (task, rest) {
         ("run", [deeds]) => Some(Request::Run(setting, deeds.as_str())),
-        ("script", []) => Some(Request::Script(setting)),
+        ("script", []) => Some(Request::Script(setting, None)),
+        ("script", [acts]) => Some(Request::Script(setting, Some(acts.as_str()))),
         _ => None,
     }
 }
 
-/// `run DECL ASSIGN ROWS DEEDS` or `script DECL ASSIGN ROWS`, after the program's name.
+/// `run DECL ASSIGN ROWS DEEDS` or `script DECL ASSIGN ROWS [ACTS]`, after the program's name.
 fn parse(words: &[String]) -> Option<Request<'_>> {
     match words {
         [_, task, declaration, assignment, rows, rest @ ..] => {
@@ -87,6 +91,16 @@ fn run_deeds<R: Files + Print + AllocGlobal + Threads + Wait + Sync>(
     run_task(rt, setting, Task::Deeds(&text))
 }
 
+/// Has a caller make the calls of the text in a file, and prints what happened. Returns the status.
+fn run_acts<R: Files + Print + AllocGlobal + Threads + Wait + Sync>(
+    rt: &R,
+    setting: &Setting<'_>,
+    path: &str,
+) -> Result<u8, Fault> {
+    let text = read_file(rt, path, MAX_TEXT)?;
+    run_task(rt, setting, Task::Script(Some(&text)))
+}
+
 /// Does what is asked for, and prints what happened. Returns the status.
 fn perform<R: Files + Print + AllocGlobal + Threads + Wait + Sync>(
     rt: &R,
@@ -94,7 +108,8 @@ fn perform<R: Files + Print + AllocGlobal + Threads + Wait + Sync>(
 ) -> Result<u8, Fault> {
     match request {
         Request::Run(setting, deeds) => run_deeds(rt, setting, *deeds),
-        Request::Script(setting) => run_task(rt, setting, Task::Script),
+        Request::Script(setting, None) => run_task(rt, setting, Task::Script(None)),
+        Request::Script(setting, Some(acts)) => run_acts(rt, setting, *acts),
     }
 }
 

@@ -32,7 +32,7 @@ use wq_commands::{End, MAX_DECLARATION, Metered, read_text};
 /// be closed with counts that agree. After a write that failed, a prefix of the answer is written, and after the other errors
 /// nothing. It isn't promised that the calls of the threads ever return.
 ///
-/// The names are hashed with `seed`. No answer depends on it. The names are hashed with `seed`. No answer depends on it.
+/// The names are hashed with `seed`. No answer depends on it.
 pub fn run_cmd<R: Threads + Wait + Sync, D: Read, W: Write, A: Allocator + Copy + Send + Sync>(
     rt: &R,
     alloc: A,

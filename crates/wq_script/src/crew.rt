@@ -15,12 +15,14 @@ use crate::flushing::ScriptBody;
 use std::alloc::{AllocError, Allocator};
 use wq_items::{ItemId, ItemTable};
 
-/// Makes a body for each of this many workqueues. None has run anything. The only error is out of memory (20).
+/// Makes a body for each of this many workqueues, which makes the flushes that the items of the table declare. None has run
+/// anything. The only error is out of memory (20).
 pub fn script_bodies<'t, 'a, A: Allocator + Copy>(
     alloc: A,
     table: &'t ItemTable<'a, A>,
     lanes: u16,
 ) -> Result<Vec<ScriptBody<'t, 'a, A>, A>, AllocError>
+    ensures waits { IfOk result (λ bs. All (λ b. b.waits ≡ table.now.waits) bs.items) }
     ensures width { IfOk result (λ bs. All (λ b. length b.runs ≡ length table.now.names) bs.items) }
     ensures never_ran { IfOk result (λ bs. All (λ b. NeverRan (runs_of b)) bs.items) }
     ensures one_each { IfOk result (λ bs. vec_len bs ≡ lanes) }
