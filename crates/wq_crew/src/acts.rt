@@ -1,19 +1,27 @@
 //! The calls of a scripted caller, line by line of a text. Reading takes time and memory in the length of the text.
 
-use crate::deed::{Deed, Entry, read_entry};
+use crate::deed::item_of;
 use std::alloc::{AllocError, Global};
-use wq_items::ItemTable;
+use wq_items::{ItemId, ItemTable};
 use wq_script::Act;
 use wq_testbed::{MAX_LINE, MAX_TEXT};
-use wq_text::Text;
+use wq_text::{Text, Words};
 
-/// The call that an entry asks for, if it is one that a scripted caller makes.
-fn act_of(entry: Entry) -> Option<Act> {
-    match entry {
-        Entry::Deed(Deed::Queue(item)) => Some(Act::Queue(item)),
-        Entry::Deed(Deed::Flush(item)) => Some(Act::Flush(item)),
-        Entry::Deed(Deed::Cancel(item)) => Some(Act::Cancel(item)),
-        Entry::Deed(Deed::CancelSync(item)) => Some(Act::CancelSync(item)),
+/// The call that this word asks for, of an item.
+fn act_of(word: &[u8], item: ItemId) -> Option<Act> {
+    match word {
+        b"queue" => Some(Act::Queue(item)),
+        b"flush" => Some(Act::Flush(item)),
+        b"cancel" => Some(Act::Cancel(item)),
+        b"sync" => Some(Act::CancelSync(item)),
+        _ => None,
+    }
+}
+
+/// The call that a line asks for by its first word and the words after it; none where it doesn't have the form of any.
+fn read_act(table: &ItemTable<'_, Global>, word: &[u8], mut words: Words<'_>) -> Option<Act> {
+    match (words.next(), words.next()) {
+        (Some(name), None) => act_of(word, item_of(table, name.bytes())),
         _ => None,
     }
 }
@@ -29,7 +37,7 @@ fn add_lines(
         let Some(word) = words.next() else {
             continue;
         };
-        let Some(act) = read_entry(table, word.bytes(), words).and_then(act_of) else {
+        let Some(act) = read_act(table, word.bytes(), words) else {
             return Ok(Some(line.no()));
         };
         acts.push(act)?;

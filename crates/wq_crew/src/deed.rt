@@ -33,7 +33,7 @@ pub(crate) enum Entry {
 }
 
 /// The item of this name; where there is none, the first number past the items.
-fn item_of(table: &ItemTable<'_, Global>, name: &[u8]) -> ItemId {
+pub(crate) fn item_of(table: &ItemTable<'_, Global>, name: &[u8]) -> ItemId {
     table.find(name).unwrap_or(ItemId::new(table.len()))
 }
 
