@@ -143,7 +143,7 @@ def table_cases():
         (STRESS, [0, 0, "x", "1", "1"]), (STRESS, [0, 0, "1", "1", "4294967296"]),
         (STRESS, [0, 0, "1", "1", "1", "count"]), (STRESS, [0, 0, "1", "1", "1", "counts", "counts"]),
         (CREW, []), (CREW, ["run", 0, 0, "1"]), (CREW, ["run", 0, 0, "x", 0]), (CREW, ["run", 0, 0, "1", 0, 0]),
-        (CREW, ["go", 0, 0, "1", 0]), (CREW, ["script", 0, 0]), (CREW, ["script", 0, 0, "1", 0]),
+        (CREW, ["go", 0, 0, "1", 0]), (CREW, ["script", 0, 0]), (CREW, ["script", 0, 0, "1", 0, 0]),
     ]:
         yield Case("command lines", words, [b""], b"", 2, complains=True, program=program)
     for program, words in [
