@@ -1,4 +1,3 @@
-pub mod RankedLanes
 pub mod Locking
 pub mod Refused
 pub mod CallsRefused

@@ -11,7 +11,6 @@ mod fault;
 mod held;
 mod naming;
 mod runtime;
-mod safety;
 mod seat;
 mod serving;
 mod tallies;

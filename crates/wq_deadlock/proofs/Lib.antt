@@ -11,3 +11,4 @@ pub mod Renumbered
 pub mod OnlyRun
 pub mod Named
 pub mod RunLengths
+pub mod RankedLanes

@@ -14,8 +14,10 @@ pub mod laws;
 mod outcome;
 mod playing;
 mod queueing;
+mod safety;
 mod stuck;
 
 pub use circles::{circle_run, own_lanes};
 pub use judging::verdict;
 pub use outcome::Verdict;
+pub use safety::is_safe;

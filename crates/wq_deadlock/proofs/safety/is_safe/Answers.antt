@@ -1,8 +1,8 @@
 use Rattle.std.proofs.Common.{arith}
 use Rattle.wq_groups.specs.Declaration.{declaration_of}
 use Rattle.wq_groups.proofs.Declarations.{IsDeclaration-of}
-use Rattle.wq_api.proofs.RankedLanes.{IsSafe-ranked, IsSafe-walked}
-use Rattle.wq_api.proofs.safety.is_safe.Goals as goal
+use Rattle.wq_deadlock.proofs.RankedLanes.{IsSafe-ranked, IsSafe-walked}
+use Rattle.wq_deadlock.proofs.safety.is_safe.Goals as goal
 
 pub returns-in-Ranks-clause-safe : goal.returns-in-Ranks-clause-safe
 returns-in-Ranks-clause-safe g c =
