@@ -138,11 +138,16 @@ def backwards():
     return workqueues([i] for i in reversed(range(ITEMS)))
 
 
-def run_text(first, again, most):
-    """The first steps, and then the others again and again, as often as a text of so many bytes has room for."""
-    head, body = "".join(first), "".join(again)
-    turns = (most - len(head) - len("run 99999999\n")) // len(body)
-    return f"run {len(first) + turns * len(again)}\n" + head + body * turns
+def run_text(first, again, most, last=()):
+    """The first steps, and then the others again and again, as often as a text of so many bytes has room for, and then the last ones."""
+    head, body, tail = "".join(first), "".join(again), "".join(last)
+    turns = (most - len(head) - len(tail) - len("run 99999999\n")) // len(body)
+    return f"run {len(first) + turns * len(again) + len(last)}\n" + head + body * turns + tail
+
+
+def late(text, most):
+    """A text after as many empty lines as it leaves room for. Its last line is of no form."""
+    return padded("\n", most, most - len(text) - 2) + text + "?\n"
 
 
 def queued(items, name=short):
@@ -173,7 +178,21 @@ def runs(most):
     yield "the longest names", names, workqueues([range(ITEMS)], long), run_text(queued(range(ITEMS), long), [f"cancel {long(LAST)}\n", f"queue {long(LAST)}\n"], most)
     yield "the longest text of empty lines", nothing, one(), padded("\n", most, most - 6) + "run 0\n"
     yield "the longest lines of comments", nothing, one(), padded("#" * MOST_CERTIFICATE_LINE + "\n", 16, most - 6) + "run 0\n"
-    yield "not lawful at the last step", nothing, one(), run_text(everything, ["cancel fff\n", "queue fff\n"], most - 16) + "start 1 0\n"
+    turn = ["cancel fff\n", "queue fff\n"]
+    yield "not lawful at the last step", nothing, one(), run_text(everything, turn, most, ["start 1 0\n"])
+    yield "refused at the last line", nothing, one(), run_text(everything, turn, most, ["start 1 ?\n"])
+    yield "an assignment refused at its last line, after empty ones", nothing, late(one(), most), "run 0\n"
+
+
+def certificates(circle, plan, most):
+    """Of each a name and the certificate, which has at most so many bytes. `circle` and `plan` are such texts, without a run."""
+    everything, turn = queued(range(ITEMS)), ["cancel fff\n", "queue fff\n"]
+    room = most - len(circle)
+    yield "a circle whose run doesn't end stuck", circle + run_text(everything, turn, room)
+    yield "a circle whose run isn't lawful at its last step", circle + run_text(everything, turn, room, ["start 4095 0\n"])
+    yield "a circle whose run is refused at its last line", circle + run_text(everything, turn, room, ["start 1 ?\n"])
+    yield "a plan after empty lines", padded("\n", most, most - len(plan)) + plan
+    yield "a plan refused at its last line, after empty ones", late(plan, most)
 
 
 def declarations():
@@ -235,6 +254,13 @@ def cases(program, folder, write, most_run=MOST_CERTIFICATE):
     for name, text in texts():
         path = write(text)
         yield "plan", name, [path]
+    path = write(declaration(ITEMS, [(0, 1), (1, 0)]))
+    circle_alone = program.answer("plan", folder, path).partition("run ")[0]
+    plan_alone = program.answer("plan", folder, write(declaration(ITEMS, [])))
+    for name, text in certificates(circle_alone, plan_alone, most_run):
+        yield "check", name, [write(declaration(ITEMS, [])) if "plan" in name else path, write(text)]
+    for command in "deadlock", "circles", "dot":
+        yield command, "an assignment refused at its last line, after empty ones", [path, write(late(one(), most_run))]
     for name, text, assignment, run in runs(most_run):
         yield "replay", name, [write(text), write(assignment), write(run)]
     path, queues = write(declaration(ITEMS, circle())), write(one())

@@ -6,6 +6,9 @@
 ghost use Rattle.std.specs.Prelude.{◌≡◌, IfOk, length, map};
 ghost use Rattle.wq_groups.specs.Declaration.{declaration_of};
 ghost use Rattle.wq_core.specs.Wiring.{own_lanes};
+ghost use Rattle.wq_cert.specs.Texts.{assignment_of_text};
+ghost use Rattle.wq_commands.specs.declared.why.Which.TheVariants.{Certificate};
+ghost use Rattle.wq_commands.specs.Why.{SaysFault, SaysAssigned};
 ghost use Rattle.wq_circles.specs.Components.{AreComponents};
 ghost use Rattle.wq_circles.specs.Circling.{CirclesAssigned, CirclesDeclared, Circles, OwnCircles};
 
@@ -13,7 +16,7 @@ use crate::joining::components;
 use crate::printing::components_text;
 use std::alloc::{AllocError, Allocator};
 use wq_cert::{CertError, read_assignment};
-use wq_commands::{End, Stop, read_declaration, refuse, safe_text};
+use wq_commands::{Answered, End, Stop, Which, read_declaration, refuse, safe_text};
 use wq_deadlock::own_lanes;
 use wq_graph::WaitArc;
 use wq_groups::{Assignment, Groups};
@@ -65,9 +68,10 @@ fn circle_declared<A: Allocator + Copy>(
     table: &ItemTable<'_, A>,
     groups: &Groups<A>,
     text: &[u8],
-) -> Result<(End, Vec<u8, A>), AllocError>
+) -> Result<Answered<A>, AllocError>
     requires { length groups.now.group_of ≡ length table.now.names }
-    ensures { IfOk result (λ printed. CirclesDeclared (record { table = table.now; partition = groups.now }) text.now printed.0 printed.1.items) }
+    ensures answer { IfOk result (λ a. CirclesDeclared (record { table = table.now; partition = groups.now }) text.now a.end a.text.items) }
+    ensures why { IfOk result (λ a. SaysFault Certificate (assignment_of_text table.now.names groups.now text.now) a.why) }
 {
     // What holds of all groups.
     let _groups = groups.len();
@@ -76,10 +80,11 @@ fn circle_declared<A: Allocator + Copy>(
             let answer = circle_assigned(alloc, table, groups, &assignment);
             // Written as a call, so that the proof has one step for it.
             drop(assignment);
-            answer
+            let (end, text) = answer?;
+            Ok(Answered::plain(end, text))
         }
         Err(CertError::OutOfMemory) => Err(AllocError),
-        Err(fault) => refuse(alloc, fault.code(), fault.line()),
+        Err(fault) => { Answered::refused(alloc, Which::Certificate, fault.code(), fault.line()) }
     }
 }
 
@@ -96,6 +101,31 @@ fn circle_groups<A: Allocator + Copy>(
     circle_assigned(alloc, table, groups, &assignment)
 }
 
+/// The components of the texts of a declaration and an assignment, and which of them is refused, if one is.
+///
+/// The only error is out of memory (20). The names are hashed with `seed`. No answer depends on it.
+pub fn circles_texts<A: Allocator + Copy>(
+    alloc: A,
+    seed: u64,
+    text: &[u8],
+    assigned: &[u8],
+) -> Result<Answered<A>, AllocError>
+    ensures answer { IfOk result (λ a. Circles text.now assigned.now a.end a.text.items) }
+    ensures why { IfOk result (λ a. SaysAssigned text.now assigned.now a.why) }
+{
+    match read_declaration(alloc, seed, text) {
+        Ok(declared) => {
+            let answer = circle_declared(alloc, &declared.table, &declared.groups, assigned);
+            drop(declared);
+            answer
+        }
+        Err(Stop::Refused { code, line }) => {
+            Answered::refused(alloc, Which::Declaration, code, line)
+        }
+        Err(Stop::OutOfMemory) => Err(AllocError),
+    }
+}
+
 /// How a run of the program that is given the texts of a declaration and an assignment ends, and what it prints.
 pub(crate) fn circle<A: Allocator + Copy>(
     alloc: A,
@@ -105,15 +135,8 @@ pub(crate) fn circle<A: Allocator + Copy>(
 ) -> Result<(End, Vec<u8, A>), AllocError>
     ensures { IfOk result (λ printed. Circles text.now assigned.now printed.0 printed.1.items) }
 {
-    match read_declaration(alloc, seed, text) {
-        Ok(declared) => {
-            let answer = circle_declared(alloc, &declared.table, &declared.groups, assigned);
-            drop(declared);
-            answer
-        }
-        Err(Stop::Refused { code, line }) => refuse(alloc, code, line),
-        Err(Stop::OutOfMemory) => Err(AllocError),
-    }
+    let Answered { end, text, .. } = circles_texts(alloc, seed, text, assigned)?;
+    Ok((end, text))
 }
 
 /// How a run of the program that is given the text of a declaration alone ends, and what it prints.

@@ -13,5 +13,6 @@ pub mod laws;
 mod printing;
 
 pub use circles::{circles_cmd, own_circles_cmd};
+pub use circling::circles_texts;
 pub use joining::components;
 pub use printing::components_text;

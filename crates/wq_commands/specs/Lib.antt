@@ -20,4 +20,5 @@ pub mod Declaration
 pub mod End
 pub mod Run
 pub mod Stop
+pub mod Why
 pub mod Numbers

@@ -9,10 +9,11 @@ ghost use Rattle.wq_cert.specs.Certificate.{certificate};
 ghost use Rattle.wq_checker.specs.Answers.{IsAsked};
 ghost use Rattle.wq_checker.specs.declared.answer.No.TheVariants.{NotFalling};
 ghost use Rattle.wq_commands.specs.Checking.{yes_words, no_details, no_words, NamesItems, PrintsCheck, AnswersCheck, ChecksDeclared, Checks};
+ghost use Rattle.wq_commands.specs.Why.{lack, SaysLack, SaysCertificate, SaysChecked};
 
 use crate::declaration::{Stop, read_declaration};
 use crate::end::End;
-use crate::refusal::refuse;
+use crate::why::{Answered, Which};
 use std::alloc::{AllocError, Allocator};
 use wq_cert::{CertAnswer, CertError, read_answer};
 use wq_checker::{No, Yes, check_answer};
@@ -98,50 +99,52 @@ fn put_details<A: Allocator + Copy>(
 fn no_line<A: Allocator + Copy>(
     alloc: A,
     table: &ItemTable<'_, A>,
-    no: No,
+    no: &No,
 ) -> Result<Vec<u8, A>, AllocError>
-    requires { NamesItems table.now.names no }
-    ensures { IfOk result (λ text. text.items ≡ line_text (no_words table.now.names no)) }
+    requires { NamesItems table.now.names no.now }
+    ensures { IfOk result (λ text. text.items ≡ line_text (no_words table.now.names no.now)) }
 {
     let mut out = Vec::new(alloc);
     put(&mut out, b"no")?;
     put_number(&mut out, no.code())?;
-    put_details(table, &mut out, &no)?;
+    put_details(table, &mut out, no)?;
     put_end(&mut out)?;
     Ok(out)
 }
 
-/// How a run that has this answer ends, and what it prints.
+/// What is printed of this answer of the checker.
 fn print_check<A: Allocator + Copy>(
     alloc: A,
     table: &ItemTable<'_, A>,
     answer: Result<Yes, No>,
-) -> Result<(End, Vec<u8, A>), AllocError>
+) -> Result<Answered<A>, AllocError>
     requires { IfErr answer (NamesItems table.now.names) }
-    ensures { IfOk result (λ printed. PrintsCheck table.now.names answer printed.0 printed.1.items) }
+    ensures printed { IfOk result (λ a. PrintsCheck table.now.names answer a.end a.text.items) }
+    ensures why { IfOk result (λ a. a.why ≡ lack answer) }
 {
     match answer {
         Ok(yes) => {
-            let line = yes_line(alloc, yes)?;
-            Ok((End::Good, line))
+            let text = yes_line(alloc, yes)?;
+            Ok(Answered::plain(End::Good, text))
         }
         Err(no) => {
-            let line = no_line(alloc, table, no)?;
-            Ok((End::Bad, line))
+            let text = no_line(alloc, table, &no)?;
+            Ok(Answered::lacking(text, no))
         }
     }
 }
 
-/// How a run that is given this claim about these items and their groups ends, and what it prints.
+/// The answer to this claim about these items and their groups.
 fn check_certificate<A: Allocator + Copy>(
     alloc: A,
     table: &ItemTable<'_, A>,
     groups: &Groups<A>,
     claim: &CertAnswer<A>,
-) -> Result<(End, Vec<u8, A>), AllocError>
+) -> Result<Answered<A>, AllocError>
     requires grouped { length groups.now.group_of ≡ length table.now.names }
     requires asked { IsAsked (declaration_of table.now groups.now) (certificate claim.now) }
-    ensures { IfOk result (λ printed. AnswersCheck (record { table = table.now; partition = groups.now }) (certificate claim.now) printed.0 printed.1.items) }
+    ensures answer { IfOk result (λ a. AnswersCheck (record { table = table.now; partition = groups.now }) (certificate claim.now) a.end a.text.items) }
+    ensures why { IfOk result (λ a. SaysLack (record { table = table.now; partition = groups.now }) (certificate claim.now) a.why) }
 {
     // What holds of every table and of all groups.
     let _items = table.len();
@@ -150,15 +153,16 @@ fn check_certificate<A: Allocator + Copy>(
     print_check(alloc, table, answer)
 }
 
-/// How a run that is given the text of a certificate of these items and their groups ends, and what it prints.
+/// The answer to the text of a certificate of these items and their groups.
 fn check_declared<A: Allocator + Copy>(
     alloc: A,
     table: &ItemTable<'_, A>,
     groups: &Groups<A>,
     text: &[u8],
-) -> Result<(End, Vec<u8, A>), AllocError>
+) -> Result<Answered<A>, AllocError>
     requires { length groups.now.group_of ≡ length table.now.names }
-    ensures { IfOk result (λ printed. ChecksDeclared (record { table = table.now; partition = groups.now }) text.now printed.0 printed.1.items) }
+    ensures answer { IfOk result (λ a. ChecksDeclared (record { table = table.now; partition = groups.now }) text.now a.end a.text.items) }
+    ensures why { IfOk result (λ a. SaysCertificate (record { table = table.now; partition = groups.now }) text.now a.why) }
 {
     // What holds of every table and of all groups.
     let _items = table.len();
@@ -171,7 +175,33 @@ fn check_declared<A: Allocator + Copy>(
             answer
         }
         Err(CertError::OutOfMemory) => Err(AllocError),
-        Err(fault) => refuse(alloc, fault.code(), fault.line()),
+        Err(fault) => { Answered::refused(alloc, Which::Certificate, fault.code(), fault.line()) }
+    }
+}
+
+/// The checker's answer to the texts of a declaration and a certificate, and why it is no good one: which text is refused, or what
+/// the certificate lacks.
+///
+/// The only error is out of memory (20). The names are hashed with `seed`. No answer depends on it.
+pub fn check_texts<A: Allocator + Copy>(
+    alloc: A,
+    seed: u64,
+    text: &[u8],
+    certificate: &[u8],
+) -> Result<Answered<A>, AllocError>
+    ensures answer { IfOk result (λ a. Checks text.now certificate.now a.end a.text.items) }
+    ensures why { IfOk result (λ a. SaysChecked text.now certificate.now a.why) }
+{
+    match read_declaration(alloc, seed, text) {
+        Ok(declared) => {
+            let answer = check_declared(alloc, &declared.table, &declared.groups, certificate);
+            drop(declared);
+            answer
+        }
+        Err(Stop::Refused { code, line }) => {
+            Answered::refused(alloc, Which::Declaration, code, line)
+        }
+        Err(Stop::OutOfMemory) => Err(AllocError),
     }
 }
 
@@ -184,13 +214,6 @@ pub(crate) fn check<A: Allocator + Copy>(
 ) -> Result<(End, Vec<u8, A>), AllocError>
     ensures { IfOk result (λ printed. Checks text.now certificate.now printed.0 printed.1.items) }
 {
-    match read_declaration(alloc, seed, text) {
-        Ok(declared) => {
-            let answer = check_declared(alloc, &declared.table, &declared.groups, certificate);
-            drop(declared);
-            answer
-        }
-        Err(Stop::Refused { code, line }) => refuse(alloc, code, line),
-        Err(Stop::OutOfMemory) => Err(AllocError),
-    }
+    let Answered { end, text, .. } = check_texts(alloc, seed, text, certificate)?;
+    Ok((end, text))
 }

@@ -3,15 +3,18 @@
 //! The rule is that of "Deadlocking runs" in docs/FORMAT.md. It takes the time and the memory of reading the two texts and of the
 //! verdict, whose run has 45,056 steps at most.
 
-ghost use Rattle.std.specs.Prelude.{◌≡◌, IfOk, length};
+ghost use Rattle.std.specs.Prelude.{◌≡◌, IfOk, None, length};
 ghost use Rattle.wq_groups.specs.Declaration.{declaration_of};
 ghost use Rattle.wq_cert.specs.RunText.{run_text};
 ghost use Rattle.wq_deadlock.specs.Verdict.{IsDeadlock, IsVerdict};
 ghost use Rattle.wq_commands.specs.Deadlocking.{safe_text, JudgesAssigned, JudgesDeclared, Judges};
+ghost use Rattle.wq_cert.specs.Texts.{assignment_of_text};
+ghost use Rattle.wq_commands.specs.declared.why.Which.TheVariants.{Certificate};
+ghost use Rattle.wq_commands.specs.Why.{SaysFault, SaysAssigned};
 
 use crate::declaration::{Stop, read_declaration};
 use crate::end::End;
-use crate::refusal::refuse;
+use crate::why::{Answered, Which};
 use std::alloc::{AllocError, Allocator};
 use wq_cert::{CertError, read_assignment, run_text};
 use wq_core::Step;
@@ -52,55 +55,58 @@ fn deadlock_text<A: Allocator + Copy>(
     run_text(alloc, table, steps)
 }
 
-/// How a run of the program that has this verdict on an assignment ends, and what it prints.
+/// What is printed of this verdict on an assignment.
 fn print_verdict<A: Allocator + Copy>(
     alloc: A,
     table: &ItemTable<'_, A>,
     groups: &Groups<A>,
     assignment: &Assignment<A>,
     verdict: &Verdict<A>,
-) -> Result<(End, Vec<u8, A>), AllocError>
+) -> Result<Answered<A>, AllocError>
     requires grouped { length groups.now.group_of ≡ length table.now.names }
     requires assigned { length assignment.now.lane_of_group ≡ groups.now.groups }
     requires judged { IsVerdict (declaration_of table.now groups.now) assignment.now verdict.now }
-    ensures { IfOk result (λ printed. JudgesAssigned (record { table = table.now; partition = groups.now }) assignment.now printed.0 printed.1.items) }
+    ensures answer { IfOk result (λ a. JudgesAssigned (record { table = table.now; partition = groups.now }) assignment.now a.end a.text.items) }
+    ensures why { IfOk result (λ a. a.why ≡ None) }
 {
     match verdict {
         Verdict::Safe(_) => {
             let text = safe_text(alloc)?;
-            Ok((End::Good, text))
+            Ok(Answered::plain(End::Good, text))
         }
         Verdict::Deadlock(steps) => {
             let text = deadlock_text(alloc, table, groups, assignment, steps)?;
-            Ok((End::Bad, text))
+            Ok(Answered::plain(End::Bad, text))
         }
     }
 }
 
-/// How a run of the program that is given an assignment of these groups ends, and what it prints.
+/// The answer to an assignment of these groups.
 fn judge_assigned<A: Allocator + Copy>(
     alloc: A,
     table: &ItemTable<'_, A>,
     groups: &Groups<A>,
     assignment: &Assignment<A>,
-) -> Result<(End, Vec<u8, A>), AllocError>
+) -> Result<Answered<A>, AllocError>
     requires grouped { length groups.now.group_of ≡ length table.now.names }
     requires assigned { length assignment.now.lane_of_group ≡ groups.now.groups }
-    ensures { IfOk result (λ printed. JudgesAssigned (record { table = table.now; partition = groups.now }) assignment.now printed.0 printed.1.items) }
+    ensures answer { IfOk result (λ a. JudgesAssigned (record { table = table.now; partition = groups.now }) assignment.now a.end a.text.items) }
+    ensures why { IfOk result (λ a. a.why ≡ None) }
 {
     let verdict = verdict(alloc, table, groups, assignment)?;
     print_verdict(alloc, table, groups, assignment, &verdict)
 }
 
-/// How a run of the program that is given the text of an assignment of these groups ends, and what it prints.
+/// The answer to the text of an assignment of these groups.
 fn judge_declared<A: Allocator + Copy>(
     alloc: A,
     table: &ItemTable<'_, A>,
     groups: &Groups<A>,
     text: &[u8],
-) -> Result<(End, Vec<u8, A>), AllocError>
+) -> Result<Answered<A>, AllocError>
     requires { length groups.now.group_of ≡ length table.now.names }
-    ensures { IfOk result (λ printed. JudgesDeclared (record { table = table.now; partition = groups.now }) text.now printed.0 printed.1.items) }
+    ensures answer { IfOk result (λ a. JudgesDeclared (record { table = table.now; partition = groups.now }) text.now a.end a.text.items) }
+    ensures why { IfOk result (λ a. SaysFault Certificate (assignment_of_text table.now.names groups.now text.now) a.why) }
 {
     // What holds of all groups.
     let _groups = groups.len();
@@ -112,7 +118,32 @@ fn judge_declared<A: Allocator + Copy>(
             answer
         }
         Err(CertError::OutOfMemory) => Err(AllocError),
-        Err(fault) => refuse(alloc, fault.code(), fault.line()),
+        Err(fault) => { Answered::refused(alloc, Which::Certificate, fault.code(), fault.line()) }
+    }
+}
+
+/// The verdict on the texts of a declaration and an assignment, and which of them is refused, if one is.
+///
+/// The only error is out of memory (20). The names are hashed with `seed`. No answer depends on it.
+pub fn deadlock_texts<A: Allocator + Copy>(
+    alloc: A,
+    seed: u64,
+    text: &[u8],
+    assigned: &[u8],
+) -> Result<Answered<A>, AllocError>
+    ensures answer { IfOk result (λ a. Judges text.now assigned.now a.end a.text.items) }
+    ensures why { IfOk result (λ a. SaysAssigned text.now assigned.now a.why) }
+{
+    match read_declaration(alloc, seed, text) {
+        Ok(declared) => {
+            let answer = judge_declared(alloc, &declared.table, &declared.groups, assigned);
+            drop(declared);
+            answer
+        }
+        Err(Stop::Refused { code, line }) => {
+            Answered::refused(alloc, Which::Declaration, code, line)
+        }
+        Err(Stop::OutOfMemory) => Err(AllocError),
     }
 }
 
@@ -125,13 +156,6 @@ pub(crate) fn judge<A: Allocator + Copy>(
 ) -> Result<(End, Vec<u8, A>), AllocError>
     ensures { IfOk result (λ printed. Judges text.now assigned.now printed.0 printed.1.items) }
 {
-    match read_declaration(alloc, seed, text) {
-        Ok(declared) => {
-            let answer = judge_declared(alloc, &declared.table, &declared.groups, assigned);
-            drop(declared);
-            answer
-        }
-        Err(Stop::Refused { code, line }) => refuse(alloc, code, line),
-        Err(Stop::OutOfMemory) => Err(AllocError),
-    }
+    let Answered { end, text, .. } = deadlock_texts(alloc, seed, text, assigned)?;
+    Ok((end, text))
 }

@@ -2,13 +2,16 @@
 //!
 //! It takes the time and the memory of reading the three texts and of making the steps.
 
-ghost use Rattle.std.specs.Prelude.{◌≡◌, ◌∷◌, [], ◌<◌, IfOk, length, codes, decimal};
+ghost use Rattle.std.specs.Prelude.{◌≡◌, ◌∷◌, [], ◌<◌, IfOk, None, length, codes, decimal};
 ghost use Rattle.wq_lines.specs.LineText.{line_text};
+ghost use Rattle.wq_cert.specs.Texts.{run_of};
 ghost use Rattle.wq_commands.specs.Replaying.{replay_words, replay_end, AnswersReplay, ReplaysAssigned, ReplaysDeclared, Replays};
+ghost use Rattle.wq_commands.specs.declared.why.Which.TheVariants.{Run};
+ghost use Rattle.wq_commands.specs.Why.{SaysFault, SaysRun, SaysReplayed};
 
 use crate::declaration::{Stop, read_declaration};
 use crate::end::End;
-use crate::refusal::refuse;
+use crate::why::{Answered, Which};
 use std::alloc::{AllocError, Allocator};
 use wq_cert::{CertError, read_assignment, read_run};
 use wq_checker::{RunEnd, check_run};
@@ -60,35 +63,37 @@ fn replay_end(end: RunEnd) -> End
     }
 }
 
-/// How a run of the program that makes these steps ends, and what it prints.
+/// The answer to a run that makes these steps.
 fn replay_steps<A: Allocator + Copy>(
     alloc: A,
     table: &ItemTable<'_, A>,
     groups: &Groups<A>,
     assignment: &Assignment<A>,
     steps: &[Step],
-) -> Result<(End, Vec<u8, A>), AllocError>
+) -> Result<Answered<A>, AllocError>
     requires grouped { length groups.now.group_of ≡ length table.now.names }
     requires assigned { length assignment.now.lane_of_group ≡ groups.now.groups }
     requires few { length steps.now < 4294967295 }
-    ensures { IfOk result (λ printed. AnswersReplay (record { table = table.now; partition = groups.now }) assignment.now steps.now printed.0 printed.1.items) }
+    ensures answer { IfOk result (λ a. AnswersReplay (record { table = table.now; partition = groups.now }) assignment.now steps.now a.end a.text.items) }
+    ensures why { IfOk result (λ a. a.why ≡ None) }
 {
     let end = check_run(alloc, table, groups, assignment, steps)?;
     let text = replay_text(alloc, end)?;
-    Ok((replay_end(end), text))
+    Ok(Answered::plain(replay_end(end), text))
 }
 
-/// How a run of the program that is given an assignment of these groups and the text of a run ends, and what it prints.
+/// The answer to an assignment of these groups and the text of a run.
 fn replay_assigned<A: Allocator + Copy>(
     alloc: A,
     table: &ItemTable<'_, A>,
     groups: &Groups<A>,
     assignment: &Assignment<A>,
     text: &[u8],
-) -> Result<(End, Vec<u8, A>), AllocError>
+) -> Result<Answered<A>, AllocError>
     requires grouped { length groups.now.group_of ≡ length table.now.names }
     requires assigned { length assignment.now.lane_of_group ≡ groups.now.groups }
-    ensures { IfOk result (λ printed. ReplaysAssigned (record { table = table.now; partition = groups.now }) assignment.now text.now printed.0 printed.1.items) }
+    ensures answer { IfOk result (λ a. ReplaysAssigned (record { table = table.now; partition = groups.now }) assignment.now text.now a.end a.text.items) }
+    ensures why { IfOk result (λ a. SaysFault Run (run_of table.now.names text.now) a.why) }
 {
     // What holds of every table and of all groups.
     let _items = table.len();
@@ -101,20 +106,21 @@ fn replay_assigned<A: Allocator + Copy>(
             answer
         }
         Err(CertError::OutOfMemory) => Err(AllocError),
-        Err(fault) => refuse(alloc, fault.code(), fault.line()),
+        Err(fault) => Answered::refused(alloc, Which::Run, fault.code(), fault.line()),
     }
 }
 
-/// How a run of the program that is given the texts of an assignment of these groups and of a run ends, and what it prints.
+/// The answer to the texts of an assignment of these groups and of a run.
 fn replay_declared<A: Allocator + Copy>(
     alloc: A,
     table: &ItemTable<'_, A>,
     groups: &Groups<A>,
     assigned: &[u8],
     text: &[u8],
-) -> Result<(End, Vec<u8, A>), AllocError>
+) -> Result<Answered<A>, AllocError>
     requires { length groups.now.group_of ≡ length table.now.names }
-    ensures { IfOk result (λ printed. ReplaysDeclared (record { table = table.now; partition = groups.now }) assigned.now text.now printed.0 printed.1.items) }
+    ensures answer { IfOk result (λ a. ReplaysDeclared (record { table = table.now; partition = groups.now }) assigned.now text.now a.end a.text.items) }
+    ensures why { IfOk result (λ a. SaysRun (record { table = table.now; partition = groups.now }) assigned.now text.now a.why) }
 {
     // What holds of every table and of all groups.
     let _items = table.len();
@@ -126,7 +132,34 @@ fn replay_declared<A: Allocator + Copy>(
             answer
         }
         Err(CertError::OutOfMemory) => Err(AllocError),
-        Err(fault) => refuse(alloc, fault.code(), fault.line()),
+        Err(fault) => { Answered::refused(alloc, Which::Certificate, fault.code(), fault.line()) }
+    }
+}
+
+/// How the run in the third text ends, for the declaration and the assignment in the first two, and which of them is refused, if
+/// one is.
+///
+/// The only error is out of memory (20). The names are hashed with `seed`. No answer depends on it.
+pub fn replay_texts<A: Allocator + Copy>(
+    alloc: A,
+    seed: u64,
+    text: &[u8],
+    assigned: &[u8],
+    run: &[u8],
+) -> Result<Answered<A>, AllocError>
+    ensures answer { IfOk result (λ a. Replays text.now assigned.now run.now a.end a.text.items) }
+    ensures why { IfOk result (λ a. SaysReplayed text.now assigned.now run.now a.why) }
+{
+    match read_declaration(alloc, seed, text) {
+        Ok(declared) => {
+            let answer = replay_declared(alloc, &declared.table, &declared.groups, assigned, run);
+            drop(declared);
+            answer
+        }
+        Err(Stop::Refused { code, line }) => {
+            Answered::refused(alloc, Which::Declaration, code, line)
+        }
+        Err(Stop::OutOfMemory) => Err(AllocError),
     }
 }
 
@@ -140,13 +173,6 @@ pub(crate) fn replay<A: Allocator + Copy>(
 ) -> Result<(End, Vec<u8, A>), AllocError>
     ensures { IfOk result (λ printed. Replays text.now assigned.now run.now printed.0 printed.1.items) }
 {
-    match read_declaration(alloc, seed, text) {
-        Ok(declared) => {
-            let answer = replay_declared(alloc, &declared.table, &declared.groups, assigned, run);
-            drop(declared);
-            answer
-        }
-        Err(Stop::Refused { code, line }) => refuse(alloc, code, line),
-        Err(Stop::OutOfMemory) => Err(AllocError),
-    }
+    let Answered { end, text, .. } = replay_texts(alloc, seed, text, assigned, run)?;
+    Ok((end, text))
 }

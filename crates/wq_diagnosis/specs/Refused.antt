@@ -67,3 +67,7 @@ SaysNo file (Some why) said = (text : List ℕ) × (line : ℕ) × (said ≡ Som
 -- the same for two texts; nothing if the declaration is refused
 abbrev pub DiagnosesNo : List ℕ → List ℕ → List ℕ → Option (List ℕ) → Type 0
 DiagnosesNo file declared text said = MatchResult (declaration declared) (λ s. (why : Option No) × IsNoTo s text why × SaysNo file why said) (λ r. said ≡ None)
+
+-- what is said of a certificate whose declaration is one; nothing is said if the declaration is refused
+abbrev pub SaysIfDeclared : List ℕ → (Option (List ℕ) → Type 0) → Option (List ℕ) → Type 0
+SaysIfDeclared declared Says said = MatchResult (declaration declared) (λ _. Says said) (λ _. said ≡ None)

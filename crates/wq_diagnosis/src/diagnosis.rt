@@ -1,14 +1,14 @@
 //! The text of a diagnosis, and the diagnoses of the texts of a command.
 //!
-//! The form is that of "Diagnoses" in docs/FORMAT.md. A text is read again to find its refusal. So a call takes the time and the
-//! memory of reading the texts and of searching them for the fault.
+//! The form is that of "Diagnoses" in docs/FORMAT.md. A call that is told the refusal, or what a certificate lacks, takes the time and
+//! the memory of reading the declaration and of searching the text for the fault. The others read the texts first to learn it.
 
-ghost use Rattle.std.specs.Prelude.{◌≡◌, ◌++◌, ◌∷◌, [], ◌<◌, codes, length, map, option_map, ℕ, IfOk, OnOk, Option};
+ghost use Rattle.std.specs.Prelude.{◌≡◌, ◌++◌, ◌∷◌, [], ◌<◌, codes, length, map, option_map, ℕ, IfOk, OnOk, Option, Some};
 ghost use Rattle.wq_findings.specs.Shown.{place_text, shown};
 ghost use Rattle.wq_diagnosis.specs.Diagnosis.{head, shown_lines, IsDiagnosis};
 ghost use Rattle.wq_checker.specs.Codes.{no_code};
 ghost use Rattle.wq_checker.specs.declared.answer.No.{No};
-ghost use Rattle.wq_diagnosis.specs.Refused.{Diagnoses, DiagnosesNo, IsFaultOfCertificate, IsNoTo, SaysNo, certificate_refusal, declaration_refusal, refusal_with};
+ghost use Rattle.wq_diagnosis.specs.Refused.{Diagnoses, DiagnosesNo, IsFaultOfCertificate, IsNoTo, SaysIfDeclared, SaysNo, certificate_refusal, declaration_refusal, refusal_with};
 
 use std::alloc::{AllocError, Allocator};
 use wq_cert::{CertError, read_answer, read_assignment, read_run};
@@ -282,6 +282,20 @@ fn of_refused<A: Allocator + Copy>(
     diagnosis(alloc, declaration.file, &text, refusal, finding)
 }
 
+/// The diagnosis of a declaration that is refused for the fault of this number on this line.
+///
+/// The only error is out of memory (20).
+pub fn of_refused_declaration<A: Allocator + Copy>(
+    alloc: A,
+    declaration: Source<'_>,
+    code: u32,
+    line: u32,
+) -> Result<Vec<u8, A>, AllocError>
+    ensures { IfOk result (λ said. IsDiagnosis declaration.entry.file.now (codes "refused") code line said.items) }
+{
+    of_refused(alloc, declaration, Refusal::new(code, line))
+}
+
 /// Diagnoses a declaration: nothing where it is one, or else the diagnosis of its refusal.
 ///
 /// The only error is out of memory (20).
@@ -354,6 +368,33 @@ fn of_fault<A: Allocator + Copy>(
     let text = lines_of(certificate.text);
     let finding = find_fault(alloc, kind, declared, declaration, &text, refusal)?;
     diagnosis(alloc, certificate.file, &text, refusal, finding)
+}
+
+/// The diagnosis of a certificate of a declaration that is refused for the fault of this number on this line; nothing where the
+/// declaration itself is refused.
+///
+/// The only error is out of memory (20). The names are hashed with `seed`. No answer depends on it.
+pub fn of_refused_certificate<A: Allocator + Copy>(
+    alloc: A,
+    seed: u64,
+    kind: Kind,
+    declaration: &[u8],
+    certificate: Source<'_>,
+    code: u32,
+    line: u32,
+) -> Result<Option<Vec<u8, A>>, AllocError>
+    ensures { IfOk result (λ said. SaysIfDeclared declaration.now
+        (Diagnoses certificate.entry.file.now (Some (record { code = code; line = line }))) (option_map (λ text. text.items) said)) }
+{
+    match read_declaration(alloc, seed, declaration) {
+        Ok(declared) => {
+            let refusal = Refusal::new(code, line);
+            let said = of_fault(alloc, kind, &declared, declaration, certificate, refusal)?;
+            Ok(Some(said))
+        }
+        Err(Stop::Refused { .. }) => Ok(None),
+        Err(Stop::OutOfMemory) => Err(AllocError),
+    }
 }
 
 /// Diagnoses a certificate of this declaration: nothing where it has its form, or else the diagnosis of its refusal.
@@ -455,6 +496,29 @@ fn of_lack<A: Allocator + Copy>(
     let lack = in_answer(&declared.table, &text, no);
     let refusal = Refusal::no(no.code(), lack.line);
     diagnosis(alloc, certificate.file, &text, refusal, lack.finding)
+}
+
+/// The diagnosis of a certificate of a declaration to which the checker answered this no; nothing where the declaration is refused.
+///
+/// The only error is out of memory (20). The names are hashed with `seed`. No answer depends on it.
+pub fn of_answered_no<A: Allocator + Copy>(
+    alloc: A,
+    seed: u64,
+    declaration: &[u8],
+    certificate: Source<'_>,
+    no: &No,
+) -> Result<Option<Vec<u8, A>>, AllocError>
+    ensures { IfOk result (λ said. SaysIfDeclared declaration.now
+        (SaysNo certificate.entry.file.now (Some no.now)) (option_map (λ text. text.items) said)) }
+{
+    match read_declaration(alloc, seed, declaration) {
+        Ok(declared) => {
+            let said = of_lack(alloc, &declared, certificate, no)?;
+            Ok(Some(said))
+        }
+        Err(Stop::Refused { .. }) => Ok(None),
+        Err(Stop::OutOfMemory) => Err(AllocError),
+    }
 }
 
 /// Diagnoses a certificate of this declaration to which the checker says no. For any other it gives nothing.

@@ -8,5 +8,8 @@
 
 mod diagnosis;
 
-pub use diagnosis::{Source, of_certificate, of_declaration, of_no, of_too_many};
+pub use diagnosis::{
+    Source, of_answered_no, of_certificate, of_declaration, of_no, of_refused_certificate,
+    of_refused_declaration, of_too_many,
+};
 pub use wq_findings::Kind;

@@ -10,6 +10,9 @@ ghost use Rattle.wq_items.specs.Table.{flush_count};
 ghost use Rattle.wq_groups.specs.Declaration.{GroupWaits, declaration_of};
 ghost use Rattle.wq_core.specs.Wiring.{own_lanes};
 ghost use Rattle.wq_plan.specs.Solve.{IsPlanned, Solves};
+ghost use Rattle.wq_cert.specs.Texts.{assignment_of_text};
+ghost use Rattle.wq_commands.specs.declared.why.Which.TheVariants.{Certificate};
+ghost use Rattle.wq_commands.specs.Why.{SaysFault, SaysAssigned};
 ghost use Rattle.wq_circles.specs.Components.{AreComponents};
 ghost use Rattle.wq_drawing.specs.declared.look.FlushLook.{FlushLook};
 ghost use Rattle.wq_dot.specs.Flushes.{AreMarkable, all_arcs};
@@ -20,7 +23,7 @@ use crate::titles::{components_title, plan_title};
 use std::alloc::{AllocError, Allocator};
 use wq_cert::{CertError, read_assignment};
 use wq_circles::components;
-use wq_commands::{End, Stop, read_declaration, refuse};
+use wq_commands::{Answered, End, Stop, Which, read_declaration, refuse};
 use wq_deadlock::own_lanes;
 use wq_drawing::drawing_text;
 use wq_graph::WaitArc;
@@ -207,9 +210,10 @@ fn draw_declared<A: Allocator + Copy>(
     table: &ItemTable<'_, A>,
     groups: &Groups<A>,
     text: &[u8],
-) -> Result<(End, Vec<u8, A>), AllocError>
+) -> Result<Answered<A>, AllocError>
     requires { length groups.now.group_of ≡ length table.now.names }
-    ensures { IfOk result (λ printed. DrawsDeclared (record { table = table.now; partition = groups.now }) text.now printed.0 printed.1.items) }
+    ensures answer { IfOk result (λ a. DrawsDeclared (record { table = table.now; partition = groups.now }) text.now a.end a.text.items) }
+    ensures why { IfOk result (λ a. SaysFault Certificate (assignment_of_text table.now.names groups.now text.now) a.why) }
 {
     // What holds of all groups.
     let _groups = groups.len();
@@ -218,10 +222,36 @@ fn draw_declared<A: Allocator + Copy>(
             let answer = draw_assigned(alloc, table, groups, &assignment);
             // Written as a call, so that the proof has one step for it.
             drop(assignment);
-            answer
+            let (end, text) = answer?;
+            Ok(Answered::plain(end, text))
         }
         Err(CertError::OutOfMemory) => Err(AllocError),
-        Err(fault) => refuse(alloc, fault.code(), fault.line()),
+        Err(fault) => { Answered::refused(alloc, Which::Certificate, fault.code(), fault.line()) }
+    }
+}
+
+/// The drawing of the texts of a declaration and an assignment, and which of them is refused, if one is.
+///
+/// The only error is out of memory (20). The names are hashed with `seed`. No answer depends on it.
+pub fn dot_texts<A: Allocator + Copy>(
+    alloc: A,
+    seed: u64,
+    text: &[u8],
+    assigned: &[u8],
+) -> Result<Answered<A>, AllocError>
+    ensures answer { IfOk result (λ a. Draws text.now assigned.now a.end a.text.items) }
+    ensures why { IfOk result (λ a. SaysAssigned text.now assigned.now a.why) }
+{
+    match read_declaration(alloc, seed, text) {
+        Ok(declared) => {
+            let answer = draw_declared(alloc, &declared.table, &declared.groups, assigned);
+            drop(declared);
+            answer
+        }
+        Err(Stop::Refused { code, line }) => {
+            Answered::refused(alloc, Which::Declaration, code, line)
+        }
+        Err(Stop::OutOfMemory) => Err(AllocError),
     }
 }
 
@@ -234,15 +264,8 @@ pub(crate) fn draw<A: Allocator + Copy>(
 ) -> Result<(End, Vec<u8, A>), AllocError>
     ensures { IfOk result (λ printed. Draws text.now assigned.now printed.0 printed.1.items) }
 {
-    match read_declaration(alloc, seed, text) {
-        Ok(declared) => {
-            let answer = draw_declared(alloc, &declared.table, &declared.groups, assigned);
-            drop(declared);
-            answer
-        }
-        Err(Stop::Refused { code, line }) => refuse(alloc, code, line),
-        Err(Stop::OutOfMemory) => Err(AllocError),
-    }
+    let Answered { end, text, .. } = dot_texts(alloc, seed, text, assigned)?;
+    Ok((end, text))
 }
 
 /// How a run of the program that is given the text of a declaration alone ends, and what it prints.

@@ -13,3 +13,4 @@ pub mod laws;
 mod titles;
 
 pub use dot::{dot_cmd, own_dot_cmd};
+pub use dotting::dot_texts;

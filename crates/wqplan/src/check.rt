@@ -10,12 +10,14 @@ ghost use Rattle.wq_meter.specs.Input.{IsInput};
 ghost use Rattle.wqplan.specs.Kept.{IsKept};
 ghost use Rattle.wq_meter.specs.Meter.{WritesWhole};
 
-use crate::diagnosis::{say_of_certificate, say_of_declaration, say_of_no};
+use crate::diagnosis::say_why;
 use crate::files::{MAX_CERTIFICATE, open};
 use std::alloc::Global;
 use std::io::{self, Read, Write};
 use std::rt::Files;
-use wq_commands::{End, Fault, MAX_DECLARATION, Metered, check_cmd, read_text};
+use wq_commands::{
+    Answered, End, Fault, MAX_DECLARATION, Metered, Why, check_texts, read_text, write_text,
+};
 use wq_diagnosis::{Kind, Source};
 
 /// Checks the certificate in the file at the second path against the declaration in that at the first, and prints the answer.
@@ -33,47 +35,24 @@ pub(crate) fn check<R: Files + Print + Eprint + AllocGlobal>(
     let declared = open(rt, declaration)?;
     let certified = open(rt, certificate)?;
     let mut writer = Metered::new(io::writer(rt));
-    let (end, text, claim) = check_input(rt.alloc(), seed, declared, certified, &mut writer)?;
-    match end {
-        End::Good => {}
-        End::Bad => {
-            let file = certificate;
-            say_of_no(rt, seed, &text, Source { file, text: &claim });
-        }
-        End::Refused => say_of(rt, seed, declaration, &text, certificate, &claim),
+    let (end, why, text, claim) = check_input(rt.alloc(), seed, declared, certified, &mut writer)?;
+    if let Some(why) = why {
+        say_why(
+            rt,
+            seed,
+            why,
+            Source {
+                file: declaration,
+                text: &text,
+            },
+            Kind::Answer,
+            Source {
+                file: certificate,
+                text: &claim,
+            },
+        );
     }
     Ok(end)
-}
-
-/// Says on standard error what is wrong with the first text that is refused.
-fn say_of<R: Eprint + AllocGlobal>(
-    rt: &R,
-    seed: u64,
-    declaration: &str,
-    declared: &[u8],
-    certificate: &str,
-    certified: &[u8],
-) {
-    let file = declaration;
-    say_of_declaration(
-        rt,
-        seed,
-        Source {
-            file,
-            text: declared,
-        },
-    );
-    let file = certificate;
-    say_of_certificate(
-        rt,
-        seed,
-        Kind::Answer,
-        declared,
-        Source {
-            file,
-            text: certified,
-        },
-    );
 }
 
 /// Writes the answer to the declaration in the first input and the certificate in the second. It also hands back both texts, as
@@ -84,17 +63,20 @@ fn check_input<D: Read + Drop, C: Read + Drop, W: Write>(
     declaration: D,
     certificate: C,
     writer: &mut Metered<W>,
-) -> Result<(End, Vec<u8>, Vec<u8>), Fault>
+) -> Result<(End, Option<Why>, Vec<u8>, Vec<u8>), Fault>
     ensures { IfOk result (λ answered. (text claim out : List ℕ) × IsInput (D.remaining declaration) text
-        × IsInput (C.remaining certificate) claim × IsKept max_declaration text answered.1.items × IsKept max_certificate claim answered.2.items
+        × IsInput (C.remaining certificate) claim × IsKept max_declaration text answered.2.items × IsKept max_certificate claim answered.3.items
         × Checks text claim answered.0 out × WritesWhole W.contents writer.old writer.new out) }
 {
     let mut declared = Metered::new(declaration);
     let mut certified = Metered::new(certificate);
     let text = read_text(alloc, &mut declared, MAX_DECLARATION)?;
     let claim = read_text(alloc, &mut certified, MAX_CERTIFICATE)?;
-    let mut kept = Metered::new(text.as_slice());
-    let mut kept_claim = Metered::new(claim.as_slice());
-    let end = check_cmd(alloc, seed, &mut kept, &mut kept_claim, writer)?;
-    Ok((end, text, claim))
+    let Answered {
+        end,
+        text: answer,
+        why,
+    } = check_texts(alloc, seed, &text, &claim)?;
+    write_text(writer, &answer)?;
+    Ok((end, why, text, claim))
 }

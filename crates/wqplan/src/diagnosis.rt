@@ -1,24 +1,24 @@
 //! What standard error says of a text that was refused.
 //!
 //! It is written after the refusal, and changes neither standard output nor the status. Where memory for it runs out, or standard
-//! error can't be written, it is left out. It takes the time and the memory of reading the texts once more.
+//! error can't be written, it is left out. It takes the time and the memory of reading the declaration once more, and of searching the
+//! text that is meant for what is wrong.
 
 use std::alloc::{AllocError, Global};
 use std::str;
-use wq_diagnosis::{Kind, Source, of_certificate, of_declaration, of_no, of_too_many};
+use wq_commands::{Which, Why};
+use wq_diagnosis::{
+    Kind, Source, of_answered_no, of_declaration, of_refused_certificate, of_refused_declaration,
+    of_too_many,
+};
 
 /// The name of standard input in a diagnosis.
 pub(crate) const STDIN: &str = "<stdin>";
 
-/// Prints what is wrong, if anything is. It returns whether there was anything to say, and true where memory ran out.
-fn say(rt: &impl Eprint, said: Result<Option<Vec<u8>>, AllocError>) -> bool {
-    match said {
-        Ok(Some(text)) => {
-            let _ = rt.eprint(str::from_utf8(&text).unwrap_or(""));
-            true
-        }
-        Ok(None) => false,
-        Err(_) => true,
+/// Prints what is wrong, if anything is, and memory for it didn't run out.
+fn say(rt: &impl Eprint, said: Result<Option<Vec<u8>>, AllocError>) {
+    if let Ok(Some(text)) = said {
+        let _ = rt.eprint(str::from_utf8(&text).unwrap_or(""));
     }
 }
 
@@ -31,30 +31,29 @@ pub(crate) fn say_of_declaration<R: Eprint + AllocGlobal>(
     say(rt, of_declaration(rt.alloc(), seed, declaration));
 }
 
-/// Says what is wrong with a certificate of a declaration, unless the declaration itself is refused. It returns whether there was
-/// anything to say.
-pub(crate) fn say_of_certificate<R: Eprint + AllocGlobal>(
+/// Says why the answer to a declaration and a certificate, an assignment or a run is no good one.
+pub(crate) fn say_why<R: Eprint + AllocGlobal>(
     rt: &R,
     seed: u64,
-    kind: Kind,
-    declaration: &[u8],
-    certificate: Source<'_>,
-) -> bool {
-    say(
-        rt,
-        of_certificate(rt.alloc(), seed, kind, declaration, certificate),
-    )
-}
-
-/// Says what is wrong with the first of two texts that is refused: a declaration, and an assignment of it.
-pub(crate) fn say_of_assignment<R: Eprint + AllocGlobal>(
-    rt: &R,
-    seed: u64,
+    why: Why,
     declaration: Source<'_>,
-    assignment: Source<'_>,
+    kind: Kind,
+    certificate: Source<'_>,
 ) {
-    say_of_declaration(rt, seed, declaration);
-    say_of_certificate(rt, seed, Kind::Assignment, declaration.text, assignment);
+    let alloc: Global = rt.alloc();
+    let text = declaration.text;
+    let said = match why {
+        Why::Refused {
+            which: Which::Declaration,
+            code,
+            line,
+        } => of_refused_declaration(alloc, declaration, code, line).map(Some),
+        Why::Refused { code, line, .. } => {
+            of_refused_certificate(alloc, seed, kind, text, certificate, code, line)
+        }
+        Why::No(no) => of_answered_no(alloc, seed, text, certificate, &no),
+    };
+    say(rt, said);
 }
 
 /// Says why a declaration wasn't run: the text isn't a declaration, or its plan is too large.
@@ -65,14 +64,4 @@ pub(crate) fn say_of_run<R: Eprint + AllocGlobal>(rt: &R, seed: u64, declaration
         said => said,
     };
     say(rt, said);
-}
-
-/// Says what a certificate of a declaration lacks, where the answer to it is no.
-pub(crate) fn say_of_no<R: Eprint + AllocGlobal>(
-    rt: &R,
-    seed: u64,
-    declaration: &[u8],
-    certificate: Source<'_>,
-) {
-    say(rt, of_no(rt.alloc(), seed, declaration, certificate));
 }

@@ -11,14 +11,14 @@ ghost use Rattle.wq_meter.specs.Meter.{WritesWhole};
 ghost use Rattle.wqplan.specs.Ended.{EndsDot};
 ghost use Rattle.wqplan.specs.Kept.{IsKept};
 
-use crate::diagnosis::{say_of_assignment, say_of_declaration};
+use crate::diagnosis::{say_of_declaration, say_why};
 use crate::files::{MAX_CERTIFICATE, open};
 use std::alloc::Global;
 use std::io::{self, Read, Write};
 use std::rt::Files;
-use wq_commands::{End, Fault, MAX_DECLARATION, Metered, read_text};
-use wq_diagnosis::Source;
-use wq_dot::{dot_cmd, own_dot_cmd};
+use wq_commands::{Answered, End, Fault, MAX_DECLARATION, Metered, Why, read_text, write_text};
+use wq_diagnosis::{Kind, Source};
+use wq_dot::{dot_texts, own_dot_cmd};
 
 /// Draws the declaration in the file at the first path, on the workqueues of the assignment in that at the second, or, if there
 /// is none, on those of its plan.
@@ -50,15 +50,17 @@ fn of_assignment<R: Files + Print + Eprint + AllocGlobal>(
     let declared = open(rt, declaration)?;
     let assigned = open(rt, assignment)?;
     let mut writer = Metered::new(io::writer(rt));
-    let (end, text, lanes) = dot_input(rt.alloc(), seed, declared, assigned, &mut writer)?;
-    if end == End::Refused {
-        say_of_assignment(
+    let (end, why, text, lanes) = dot_input(rt.alloc(), seed, declared, assigned, &mut writer)?;
+    if let Some(why) = why {
+        say_why(
             rt,
             seed,
+            why,
             Source {
                 file: declaration,
                 text: &text,
             },
+            Kind::Assignment,
             Source {
                 file: assignment,
                 text: &lanes,
@@ -94,19 +96,22 @@ fn dot_input<D: Read + Drop, A: Read + Drop, W: Write>(
     declaration: D,
     assignment: A,
     writer: &mut Metered<W>,
-) -> Result<(End, Vec<u8>, Vec<u8>), Fault>
+) -> Result<(End, Option<Why>, Vec<u8>, Vec<u8>), Fault>
     ensures { IfOk result (λ answered. (text lanes out : List ℕ) × IsInput (D.remaining declaration) text
-        × IsInput (A.remaining assignment) lanes × IsKept max_declaration text answered.1.items × IsKept max_certificate lanes answered.2.items
+        × IsInput (A.remaining assignment) lanes × IsKept max_declaration text answered.2.items × IsKept max_certificate lanes answered.3.items
         × Draws text lanes answered.0 out × WritesWhole W.contents writer.old writer.new out) }
 {
     let mut declared = Metered::new(declaration);
     let mut assigned = Metered::new(assignment);
     let text = read_text(alloc, &mut declared, MAX_DECLARATION)?;
     let lanes = read_text(alloc, &mut assigned, MAX_CERTIFICATE)?;
-    let mut kept = Metered::new(text.as_slice());
-    let mut kept_lanes = Metered::new(lanes.as_slice());
-    let end = dot_cmd(alloc, seed, &mut kept, &mut kept_lanes, writer)?;
-    Ok((end, text, lanes))
+    let Answered {
+        end,
+        text: answer,
+        why,
+    } = dot_texts(alloc, seed, &text, &lanes)?;
+    write_text(writer, &answer)?;
+    Ok((end, why, text, lanes))
 }
 
 /// Writes the drawing of the declaration in `input`. It also hands back the text, as far as it was read.

@@ -10,12 +10,14 @@ ghost use Rattle.wqplan.specs.Kept.{IsKept};
 ghost use Rattle.wq_meter.specs.Meter.{WritesWhole};
 ghost use Rattle.wq_commands.specs.Replaying.{Replays};
 
-use crate::diagnosis::{say_of_certificate, say_of_declaration};
+use crate::diagnosis::say_why;
 use crate::files::{MAX_CERTIFICATE, open};
 use std::alloc::Global;
 use std::io::{self, Read, Write};
 use std::rt::Files;
-use wq_commands::{End, Fault, MAX_DECLARATION, Metered, read_text, replay_cmd};
+use wq_commands::{
+    Answered, End, Fault, MAX_DECLARATION, Metered, Which, Why, read_text, replay_texts, write_text,
+};
 use wq_diagnosis::{Kind, Source};
 
 /// Answers for the declaration, the assignment and the run in the files at these paths.
@@ -34,9 +36,16 @@ pub(crate) fn replay<R: Files + Print + Eprint + AllocGlobal>(
     let assigned = open(rt, assignment)?;
     let listed = open(rt, run)?;
     let mut writer = Metered::new(io::writer(rt));
-    let (end, texts) = replay_input(rt.alloc(), seed, declared, assigned, listed, &mut writer)?;
-    if end == End::Refused {
-        say_of(rt, seed, declaration, assignment, run, &texts);
+    let (end, why, texts) = replay_input(
+        rt.alloc(),
+        seed,
+        declared,
+        assigned,
+        listed,
+        &mut writer,
+    )?;
+    if let Some(why) = why {
+        say_of(rt, seed, why, declaration, assignment, run, &texts);
     }
     Ok(end)
 }
@@ -49,25 +58,20 @@ struct Texts {
     run: Vec<u8>,
 }
 
-/// Says on standard error what is wrong with the first text that is refused.
+/// Says on standard error what is wrong with the text that is refused.
 fn say_of<R: Eprint + AllocGlobal>(
     rt: &R,
     seed: u64,
+    why: Why,
     declaration: &str,
     assignment: &str,
     run: &str,
     texts: &Texts,
 ) {
-    let declared = &texts.declaration;
-    let file = declaration;
-    say_of_declaration(
-        rt,
-        seed,
-        Source {
-            file,
-            text: declared,
-        },
-    );
+    let declared = Source {
+        file: declaration,
+        text: &texts.declaration,
+    };
     let assigned = Source {
         file: assignment,
         text: &texts.assignment,
@@ -76,8 +80,12 @@ fn say_of<R: Eprint + AllocGlobal>(
         file: run,
         text: &texts.run,
     };
-    if !say_of_certificate(rt, seed, Kind::Assignment, declared, assigned) {
-        say_of_certificate(rt, seed, Kind::Run, declared, listed);
+    match why {
+        Why::Refused {
+            which: Which::Run,
+            ..
+        } => say_why(rt, seed, why, declared, Kind::Run, listed),
+        _ => say_why(rt, seed, why, declared, Kind::Assignment, assigned),
     }
 }
 
@@ -90,10 +98,10 @@ fn replay_input<D: Read + Drop, A: Read + Drop, S: Read + Drop, W: Write>(
     assignment: A,
     run: S,
     writer: &mut Metered<W>,
-) -> Result<(End, Texts), Fault>
+) -> Result<(End, Option<Why>, Texts), Fault>
     ensures { IfOk result (λ answered. (text lanes steps out : List ℕ) × IsInput (D.remaining declaration) text
-        × IsInput (A.remaining assignment) lanes × IsInput (S.remaining run) steps × IsKept max_declaration text answered.1.declaration.items
-        × IsKept max_certificate lanes answered.1.assignment.items × IsKept max_certificate steps answered.1.run.items
+        × IsInput (A.remaining assignment) lanes × IsInput (S.remaining run) steps × IsKept max_declaration text answered.2.declaration.items
+        × IsKept max_certificate lanes answered.2.assignment.items × IsKept max_certificate steps answered.2.run.items
         × Replays text lanes steps answered.0 out × WritesWhole W.contents writer.old writer.new out) }
 {
     let mut declared = Metered::new(declaration);
@@ -104,16 +112,17 @@ fn replay_input<D: Read + Drop, A: Read + Drop, S: Read + Drop, W: Write>(
         assignment: read_text(alloc, &mut assigned, MAX_CERTIFICATE)?,
         run: read_text(alloc, &mut listed, MAX_CERTIFICATE)?,
     };
-    let mut kept = Metered::new(texts.declaration.as_slice());
-    let mut kept_lanes = Metered::new(texts.assignment.as_slice());
-    let mut kept_steps = Metered::new(texts.run.as_slice());
-    let end = replay_cmd(
+    let Answered {
+        end,
+        text: answer,
+        why,
+    } = replay_texts(
         alloc,
         seed,
-        &mut kept,
-        &mut kept_lanes,
-        &mut kept_steps,
-        writer,
+        &texts.declaration,
+        &texts.assignment,
+        &texts.run,
     )?;
-    Ok((end, texts))
+    write_text(writer, &answer)?;
+    Ok((end, why, texts))
 }

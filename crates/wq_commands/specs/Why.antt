@@ -1,0 +1,55 @@
+-- Why an answer isn't a good one.
+use Rattle.std.specs.Prelude.{◌≡◌, List, ℕ, Option, Some, None, Result, Ok, Err, MatchResult}
+use Rattle.wq_text.specs.Refusal.{Refusal}
+use Rattle.wq_cert.specs.declared.fault.CertError.{CertError}
+use Rattle.wq_cert.specs.Certificate.{Certificate}
+use Rattle.wq_cert.specs.Texts.{answer_of, assignment_of_text, run_of, cert_refusal}
+use Rattle.wq_checker.specs.declared.answer.Yes.{Yes}
+use Rattle.wq_checker.specs.declared.answer.No.{No}
+use Rattle.wq_checker.specs.Answers.{AnswersCertificate}
+use Rattle.wq_commands.specs.declared.why.Which.{Which}
+use Rattle.wq_commands.specs.declared.why.Which.TheVariants.{Declaration, Certificate as SecondText, Run}
+use Rattle.wq_commands.specs.declared.why.Why.{Why}
+use Rattle.wq_commands.specs.declared.why.Why.TheVariants.{Refused, No as Lacks}
+use Rattle.wq_commands.specs.Answer.{declared_waits}
+use Rattle.wq_commands.specs.Declaration.{Declared, declaration}
+
+-- this text is refused
+abbrev pub refused_for : Which → Refusal → Option Why
+refused_for which r = Some (Refused which r.code r.line)
+
+-- a text was read: it is refused for the fault that it has, or there is nothing to say
+abbrev pub SaysFault : {V : Type 0} → Which → Result V CertError → Option Why → Type 0
+SaysFault which read why = MatchResult read (λ _. why ≡ None) (λ fault. why ≡ refused_for which (cert_refusal fault))
+
+-- a declaration and an assignment of it: the first of them that is refused
+abbrev pub SaysAssigned : List ℕ → List ℕ → Option Why → Type 0
+SaysAssigned declared assigned why =
+    MatchResult (declaration declared) (λ s. SaysFault SecondText (assignment_of_text s.table.names s.partition assigned) why) (λ r. why ≡ refused_for Declaration r)
+
+-- an assignment of a declaration, and a run
+abbrev pub SaysRun : Declared → List ℕ → List ℕ → Option Why → Type 0
+SaysRun s assigned run why =
+    MatchResult (assignment_of_text s.table.names s.partition assigned) (λ _. SaysFault Run (run_of s.table.names run) why)
+    (λ fault. why ≡ refused_for SecondText (cert_refusal fault))
+
+-- a declaration, an assignment of it, and a run: the first of them that is refused
+abbrev pub SaysReplayed : List ℕ → List ℕ → List ℕ → Option Why → Type 0
+SaysReplayed declared assigned run why = MatchResult (declaration declared) (λ s. SaysRun s assigned run why) (λ r. why ≡ refused_for Declaration r)
+
+-- what a certificate lacks, if the checker answers this
+abbrev pub lack : Result Yes No → Option Why
+lack (Ok _) = None
+lack (Err why) = Some (Lacks why)
+
+-- what the checker answers to a certificate says what it lacks
+abbrev pub SaysLack : Declared → Certificate → Option Why → Type 0
+SaysLack s c why = (answer : Result Yes No) × AnswersCertificate (declared_waits s) c answer × (why ≡ lack answer)
+
+-- a certificate of a declaration: it is refused, or lacks something, or there is nothing to say
+abbrev pub SaysCertificate : Declared → List ℕ → Option Why → Type 0
+SaysCertificate s text why = MatchResult (answer_of s.table.names s.partition text) (λ c. SaysLack s c why) (λ fault. why ≡ refused_for SecondText (cert_refusal fault))
+
+-- a declaration and a certificate: the first of them that is refused, or what the certificate lacks
+abbrev pub SaysChecked : List ℕ → List ℕ → Option Why → Type 0
+SaysChecked declared text why = MatchResult (declaration declared) (λ s. SaysCertificate s text why) (λ r. why ≡ refused_for Declaration r)
