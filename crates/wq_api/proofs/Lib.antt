@@ -1,4 +1,1 @@
-pub mod Locking
-pub mod Refused
-pub mod CallsRefused
-pub mod Closings
+pub mod WaitsRefused

@@ -1,6 +1,7 @@
 pub use Rattle.wq_groups.specs.Declaration
 pub use Rattle.wq_groups.specs.Assignment
 pub use Rattle.wq_core.specs.Deadlock
-pub mod Refusals
-pub mod Locked
-pub mod Closing
+pub use Rattle.wq_held.specs.Locked
+pub use Rattle.wq_held.specs.Closing
+pub use Rattle.wq_under_lock.specs.Refusals
+pub mod WaitingCalls

@@ -1,39 +1,14 @@
-//! What is handed back when a runtime is closed: its history, and the sums of all that its callers counted.
+//! Closing a runtime: first nothing is queued any more, and then, where nothing is unfinished, all is handed back.
 //!
-//! Where the sums agree with the tallies of the history, all callers together counted, for each item, kind and answer, as many
-//! rows as were written. Starts aren't counted. Closing takes time in the number of seats and their counts, and no memory.
+//! `destroy` waits until no entry is unfinished. `close` takes time in the number of seats and their counts, and no memory.
 
-ghost use Rattle.std.specs.Prelude.{◌≡◌, ℕ, ◌+◌, ◌<◌, ◌≤◌, ◌*◌, sum, replicate, vec_len};
-ghost use Rattle.std.specs.List.{sum_by};
-ghost use Rattle.wq_core.specs.Wiring.{items};
-ghost use Rattle.wq_counts.specs.Counting.{HasCountsOf, counted_rows};
-ghost use Rattle.wq_api.specs.Locked.{Closes};
-ghost use Rattle.wq_api.specs.Closing.{SumsSeats, IsClosed};
+ghost use Rattle.std.specs.Prelude.{◌≡◌, IfOk, IfErr};
+ghost use Rattle.wq_held.specs.Closing.{IsClosed};
 
-use crate::fault::CloseWhy;
-use crate::held::Held;
-use crate::naming::Naming;
 use crate::runtime::WqRuntime;
-use crate::seat::Seat;
-use crate::tallies::Tallies;
 use std::alloc::Allocator;
-use std::marker::PhantomData;
-use std::sync::ledger;
-use std::sync::ledger::Share;
-use wq_counts::Counts;
-use wq_history::Book;
-
-/// A runtime that was closed.
-#[derive(Drop)]
-pub struct Closed<N: Naming, A: Allocator> {
-    /// Its book: all that happened.
-    pub book: Book<A>,
-    /// The sums of the counts of all its seats.
-    pub counts: Counts<A>,
-    /// Whether each sum is the number of rows that it counts.
-    pub agree: bool,
-    of: PhantomData<N>,
-}
+use std::sync::{Mutex, Wait};
+use wq_held::{CloseWhy, Closed, Naming, Seat};
 
 /// A runtime that isn't closed, and the seats that were handed in.
 #[derive(Drop)]
@@ -46,53 +21,40 @@ pub struct CloseRefused<N: Naming, A: Allocator> {
     pub why: CloseWhy,
 }
 
-/// Adds the counts of all seats to sums that are empty, and joins their parts of the ledger to those that are left.
-fn gather<N: Naming, A: Allocator>(
-    sums: &mut Counts<A>,
-    ledger: &mut ledger::Book<N>,
-    rest: &mut Share<N>,
-    mut seats: Vec<Seat<N, A>, A>,
-)
-    requires empty { sums.old ≡ replicate (14 * items N.wiring) 0 }
-    requires few { ledger.old.total < 4294967296 }
-    requires parts { rest.old.parts + vec_len seats ≡ N.parts }
-    requires amount { rest.old.amount ≡ 0 }
-    ensures sums { SumsSeats seats.items sums.new }
-    ensures length { HasCountsOf (items N.wiring) sums.new }
-    ensures total { sum sums.new ≡ ledger.old.total }
-    ensures ledger { ledger.new.total ≡ ledger.old.total }
-{
-    while let Some(seat) = seats.pop() {
-        let Seat { counts, share } = seat;
-        rest.merge(share);
-        ledger.audit(rest);
-        sums.add(&counts);
+impl<N: Naming, A: Allocator> WqRuntime<N, A> {
+    /// Refuses queueings from now on, and waits until no entry is unfinished (`destroy_workqueue`, for all workqueues).
+    pub fn destroy<R: Wait>(&self, rt: &R) {
+        let mut held = self.held.lock(rt);
+        held.close();
+        self.changed.notify_all();
+        for _ in rt.forever() {
+            if held.is_idle() {
+                return;
+            }
+            held = self.changed.wait(rt, held);
+        }
     }
-    ledger.audit(rest);
-}
 
-impl<N: Naming, A: Allocator> Held<N, A> {
-    /// Closes a runtime, which may be closed with these seats.
-    pub(crate) fn closed(self, seats: Vec<Seat<N, A>, A>) -> Closed<N, A>
-        requires { Closes self (vec_len seats) }
-        ensures { IsClosed N.wiring N.rows seats.items result.book result.counts result.agree }
+    /// Closes an idle runtime, given all of its seats, and returns its book and the sums of their counts.
+    ///
+    /// The error is `NotIdle` (71) where an entry is unfinished or a caller waits, or else `SeatsMissing` (72) where not all
+    /// seats are handed in. Then the runtime and the seats are handed back as they were.
+    pub fn close(self, seats: Vec<Seat<N, A>, A>) -> Result<Closed<N, A>, CloseRefused<N, A>>
+        ensures closed { IfOk result (λ c. IsClosed N.wiring N.rows seats.items c.book c.counts c.agree) }
+        ensures refused { IfErr result (λ e. e.seats.items ≡ seats.items) }
     {
-        self.book.legal();
-        let Held {
-            book,
-            tallies,
-            mut sums,
-            seats: _,
-            mut rest,
-        } = self;
-        let Tallies { counts, mut ledger } = tallies;
-        gather(&mut sums, &mut ledger, &mut rest, seats);
-        let agree = sums.is_same(&counts);
-        Closed {
-            book,
-            counts: sums,
-            agree,
-            of: PhantomData,
+        let WqRuntime { held, changed } = self;
+        let held = held.into_inner();
+        match held.closable(seats.len()) {
+            Ok(()) => Ok(held.closed(seats)),
+            Err(why) => Err(CloseRefused {
+                runtime: WqRuntime {
+                    held: Mutex::new(held),
+                    changed,
+                },
+                seats,
+                why,
+            }),
         }
     }
 }

@@ -2,39 +2,31 @@
 //!
 //! A call takes the lock, makes its events, and lets the lock go. A call that has to wait sleeps on the one condition variable,
 //! and each event that changes the state of the machine wakes all that sleep. No caller sleeps with the lock held. The contracts
-//! of `Held`, whose calls are made under the lock, say what a call does to the book. The contracts here say what the caller can
-//! know: its answer, and its own counts.
+//! of `wq_under_lock` and of `Held` say what a call does to the book. The contracts here say what the caller can know: its answer,
+//! and its own counts.
 //!
 //! Apart from what it waits for, a call takes the time of the book's events. `new` takes that of the wait graph of the workqueues
-//! and its ranks, and of the rows, for which it takes room. `close` takes time in the number of seats and their counts.
+//! and its ranks, and of the rows, for which it takes room.
 
-ghost use Rattle.std.specs.Prelude.{◌≡◌, ℕ, ◌+◌, ◌<◌, ◌≤◌, length, sum, replicate, ◌*◌, true, false, IfOk, IfErr, OnOk, OnErr, IfSome, IfNone};
+ghost use Rattle.std.specs.Prelude.{◌≡◌, ◌<◌, ◌≤◌, ◌*◌, length, replicate, true, IfOk, IfErr, OnOk, IfSome, IfNone};
 ghost use Rattle.wq_groups.specs.Declaration.{declaration_of};
 ghost use Rattle.wq_core.specs.Wiring.{wiring, items};
 ghost use Rattle.wq_counts.specs.declared.kind.Kind.TheVariants.{Queue, Cancel, Told as ToldKind};
 ghost use Rattle.wq_counts.specs.Counting.{raised};
-ghost use Rattle.wq_api.specs.Refusals.{max_runtime_lanes, RefusesRuntime, MakesRuntime, IsOnLane, HasRoom, RefusesQueueWork, RefusesCancelWork, RefusesFlushWork};
-ghost use Rattle.wq_api.specs.Locked.{flushed, flush_refused, CountsCancelSync, RefusedCancelSync};
-ghost use Rattle.wq_api.specs.Closing.{IsClosed};
-ghost use Rattle.wq_api.specs.declared.fault.CallError.TheVariants.{NotAsked};
-ghost use Rattle.wq_api.specs.declared.fault.SeatError.TheVariants.{OutOfMemory as SeatOutOfMemory};
+ghost use Rattle.wq_held.specs.declared.fault.CallError.TheVariants.{NotAsked};
+ghost use Rattle.wq_held.specs.declared.fault.SeatError.TheVariants.{OutOfMemory as SeatOutOfMemory};
+ghost use Rattle.wq_held.specs.Locked.{max_runtime_lanes, IsOnLane, HasRoom};
+ghost use Rattle.wq_under_lock.specs.Refusals.{RefusesRuntime, MakesRuntime, RefusesQueueWork, RefusesCancelWork};
+ghost use Rattle.wq_api.specs.WaitingCalls.{RefusesFlushWork, flushed, flush_refused, CountsCancelSync, RefusedCancelSync};
 
-use crate::closing::{CloseRefused, Closed};
-use crate::fault::{CallError, NewError, SeatError};
-use crate::held::Held;
-use crate::naming::Naming;
-use crate::seat::Seat;
 use std::alloc::Allocator;
 use std::sync::ledger::Blank;
 use std::sync::{Condvar, Mutex, MutexGuard, Wait};
-use wq_core::Core;
-use wq_deadlock::is_safe;
 use wq_groups::{Assignment, Groups, LaneId};
-use wq_history::{Ask, Asked, Book, MAX_ROWS, Told};
+use wq_held::{CallError, Held, Naming, Seat, SeatError};
+use wq_history::{Ask, Asked, Told};
 use wq_items::{ItemId, ItemTable};
-
-/// The most workqueues that a runtime has: 256.
-pub const MAX_LANES: u16 = 256;
+use wq_under_lock::{NewError, new_held};
 
 /// A runtime: the workqueues of one assignment, which any number of threads share by reference.
 #[derive(Drop)]
@@ -50,7 +42,6 @@ impl<N: Naming, A: Allocator + Copy> WqRuntime<N, A> {
     /// The error is the first of these that holds: `TooManyLanes` (69), more than 256 workqueues; `TooManyRows` (68), more than
     /// 16,777,216; `NotSafe` (67), some run of the assignment ends stuck. Out of memory (20) may come in place of the last, or
     /// where none holds.
-    #[tactic(auto, using(crate::proofs::CallsRefused::book_refused, crate::proofs::CallsRefused::some_lanes))]
     pub fn new(
         alloc: A,
         blank: Blank,
@@ -69,21 +60,7 @@ impl<N: Naming, A: Allocator + Copy> WqRuntime<N, A> {
         ensures made { OnOk result (MakesRuntime N.wiring rows) }
         ensures refused { IfErr result (RefusesRuntime N.wiring rows) }
     {
-        if assignment.lanes() > MAX_LANES {
-            return Err(NewError::TooManyLanes);
-        }
-        if rows > MAX_ROWS {
-            return Err(NewError::TooManyRows);
-        }
-        let safe = is_safe(alloc, table, groups, assignment)?;
-        if !safe {
-            return Err(NewError::NotSafe);
-        }
-        let core = Core::new(alloc, table, groups, assignment)?;
-        let Ok(book) = Book::new(alloc, core, rows) else {
-            return Err(NewError::OutOfMemory);
-        };
-        let held = Held::new(alloc, blank, book)?;
+        let held = new_held(alloc, blank, table, groups, assignment, rows)?;
         Ok(WqRuntime {
             held: Mutex::new(held),
             changed: Condvar::new(),
@@ -123,7 +100,6 @@ impl<N: Naming, A: Allocator> WqRuntime<N, A> {
     /// The error is the first of these that holds: `NoItem` (66); `WrongLane` (64), where the item belongs to another workqueue;
     /// `HistoryFull` (60), where the seat is full; `Closed` (61); `HistoryFull` (60), where too few rows are free. After an error
     /// nothing is changed or counted.
-    #[tactic(auto, using(crate::proofs::CallsRefused::queue_refused))]
     pub fn queue_work<R: Wait>(
         &self,
         rt: &R,
@@ -134,19 +110,7 @@ impl<N: Naming, A: Allocator> WqRuntime<N, A> {
         ensures counted { IfOk result (λ accepted. IsOnLane N.wiring q item × HasRoom seat.old × (seat.new ≡ raised seat.old item Queue accepted)) }
         ensures refused { IfErr result (λ e. RefusesQueueWork N.wiring seat.old q item e × (seat.new ≡ seat.old)) }
     {
-        let mut held = self.held.lock(rt);
-        let Some(lane) = held.lane_of(item) else {
-            return Err(CallError::NoItem);
-        };
-        if lane != q {
-            return Err(CallError::WrongLane);
-        }
-        if seat.is_full() {
-            return Err(CallError::HistoryFull);
-        }
-        held.holds();
-        let accepted = held.queue(seat, item)?;
-        drop(held);
+        let accepted = wq_under_lock::queue(&mut self.held.lock(rt), seat, q, item)?;
         if accepted {
             self.changed.notify_all();
         }
@@ -156,7 +120,6 @@ impl<N: Naming, A: Allocator> WqRuntime<N, A> {
     /// Removes the pending entry of an item (`cancel_work`): true where one was pending.
     ///
     /// The error is `NoItem` (66), or else `HistoryFull` (60). After an error nothing is changed or counted.
-    #[tactic(auto, using(crate::proofs::CallsRefused::cancel_refused))]
     pub fn cancel_work<R: Wait>(
         &self,
         rt: &R,
@@ -166,16 +129,7 @@ impl<N: Naming, A: Allocator> WqRuntime<N, A> {
         ensures counted { IfOk result (λ taken. (item < items N.wiring) × HasRoom seat.old × (seat.new ≡ raised seat.old item Cancel taken)) }
         ensures refused { IfErr result (λ e. RefusesCancelWork N.wiring item e × (seat.new ≡ seat.old)) }
     {
-        let mut held = self.held.lock(rt);
-        if held.lane_of(item).is_none() {
-            return Err(CallError::NoItem);
-        }
-        if seat.is_full() {
-            return Err(CallError::HistoryFull);
-        }
-        held.holds();
-        let taken = held.cancel(seat, item)?;
-        drop(held);
+        let taken = wq_under_lock::cancel(&mut self.held.lock(rt), seat, item)?;
         if taken {
             self.changed.notify_all();
         }
@@ -214,7 +168,7 @@ impl<N: Naming, A: Allocator> WqRuntime<N, A> {
     ///
     /// The error is `NoItem` (66), or else `HistoryFull` (60). Then nothing is changed or counted. Once it has asked, the only
     /// error could be `NotAsked` (65); then its ask stays counted.
-    #[tactic(auto, using(crate::proofs::CallsRefused::ask_refused, crate::proofs::CallsRefused::ask_not_counted))]
+    #[tactic(auto, using(crate::proofs::WaitsRefused::ask_refused, crate::proofs::WaitsRefused::ask_not_counted))]
     pub fn flush_work<R: Wait>(
         &self,
         rt: &R,
@@ -225,14 +179,7 @@ impl<N: Naming, A: Allocator> WqRuntime<N, A> {
         ensures refused { IfErr result (λ e. RefusesFlushWork N.wiring seat.old item e × (seat.new ≡ flush_refused seat.old item e)) }
     {
         let mut held = self.held.lock(rt);
-        if held.lane_of(item).is_none() {
-            return Err(CallError::NoItem);
-        }
-        if seat.is_full() {
-            return Err(CallError::HistoryFull);
-        }
-        held.holds();
-        match held.ask(seat, item)? {
+        match wq_under_lock::ask(&mut held, seat, item)? {
             Ask::Idle => Ok(false),
             Ask::Waiting(asked) => {
                 self.be_told(rt, held, seat, asked)?;
@@ -247,7 +194,7 @@ impl<N: Naming, A: Allocator> WqRuntime<N, A> {
     /// The error is `NoItem` (66), or else `HistoryFull` (60), where the seat is full or fewer than 3 rows are free. Then nothing
     /// is changed or counted. Once it has asked, the only error could be `NotAsked` (65); then its ask and its cancellation stay
     /// counted.
-    #[tactic(auto, using(crate::proofs::CallsRefused::both_refused, crate::proofs::CallsRefused::both_not_counted))]
+    #[tactic(auto, using(crate::proofs::WaitsRefused::ask_refused, crate::proofs::WaitsRefused::both_not_counted))]
     pub fn cancel_work_sync<R: Wait>(
         &self,
         rt: &R,
@@ -258,14 +205,7 @@ impl<N: Naming, A: Allocator> WqRuntime<N, A> {
         ensures refused { IfErr result (λ e. RefusesFlushWork N.wiring seat.old item e × RefusedCancelSync seat.old seat.new item e) }
     {
         let mut held = self.held.lock(rt);
-        if held.lane_of(item).is_none() {
-            return Err(CallError::NoItem);
-        }
-        if seat.is_full() {
-            return Err(CallError::HistoryFull);
-        }
-        held.holds();
-        let (answer, taken) = held.ask_and_cancel(seat, item)?;
+        let (answer, taken) = wq_under_lock::ask_and_cancel(&mut held, seat, item)?;
         if taken {
             self.changed.notify_all();
         }
@@ -274,41 +214,5 @@ impl<N: Naming, A: Allocator> WqRuntime<N, A> {
             Ask::Waiting(asked) => self.be_told(rt, held, seat, asked)?,
         }
         Ok(taken)
-    }
-
-    /// Refuses queueings from now on, and waits until no entry is unfinished (`destroy_workqueue`, for all workqueues).
-    pub fn destroy<R: Wait>(&self, rt: &R) {
-        let mut held = self.held.lock(rt);
-        held.close();
-        self.changed.notify_all();
-        for _ in rt.forever() {
-            if held.is_idle() {
-                return;
-            }
-            held = self.changed.wait(rt, held);
-        }
-    }
-
-    /// Closes an idle runtime, given all of its seats, and returns its book and the sums of their counts.
-    ///
-    /// The error is `NotIdle` (71) where an entry is unfinished or a caller waits, or else `SeatsMissing` (72) where not all
-    /// seats are handed in. Then the runtime and the seats are handed back as they were.
-    pub fn close(self, seats: Vec<Seat<N, A>, A>) -> Result<Closed<N, A>, CloseRefused<N, A>>
-        ensures closed { IfOk result (λ c. IsClosed N.wiring N.rows seats.items c.book c.counts c.agree) }
-        ensures refused { IfErr result (λ e. e.seats.items ≡ seats.items) }
-    {
-        let WqRuntime { held, changed } = self;
-        let held = held.into_inner();
-        match held.closable(seats.len()) {
-            Ok(()) => Ok(held.closed(seats)),
-            Err(why) => Err(CloseRefused {
-                runtime: WqRuntime {
-                    held: Mutex::new(held),
-                    changed,
-                },
-                seats,
-                why,
-            }),
-        }
     }
 }

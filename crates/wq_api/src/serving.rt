@@ -8,17 +8,16 @@ ghost use Rattle.std.specs.Prelude.{◌≡◌, ◌<◌, sum, true, IfOk, IfErr, 
 ghost use Rattle.wq_core.specs.Wiring.{items};
 ghost use Rattle.wq_counts.specs.declared.kind.Kind.TheVariants.{Wait as WaitKind, Over as OverKind, Finish as FinishKind};
 ghost use Rattle.wq_counts.specs.Counting.{raised};
-ghost use Rattle.wq_api.specs.Refusals.{IsOnLane, HasRoom, RefusesWaitFor};
-ghost use Rattle.wq_api.specs.Locked.{waited_for, RefusedWaitFor};
-ghost use Rattle.wq_api.specs.declared.fault.CallError.TheVariants.{WrongLane};
+ghost use Rattle.wq_held.specs.declared.fault.CallError.TheVariants.{WrongLane};
+ghost use Rattle.wq_held.specs.Locked.{IsOnLane, HasRoom};
+ghost use Rattle.wq_under_lock.specs.Refusals.{RefusesWaitFor};
+ghost use Rattle.wq_api.specs.WaitingCalls.{waited_for, RefusedWaitFor};
 
-use crate::fault::CallError;
-use crate::naming::Naming;
 use crate::runtime::WqRuntime;
-use crate::seat::Seat;
 use std::alloc::Allocator;
 use std::sync::Wait;
 use wq_groups::LaneId;
+use wq_held::{CallError, Naming, Seat};
 use wq_items::ItemId;
 
 impl<N: Naming, A: Allocator> WqRuntime<N, A> {
@@ -27,15 +26,13 @@ impl<N: Naming, A: Allocator> WqRuntime<N, A> {
     ///
     /// The only error is `WrongLane` (64), where there is no such workqueue or it runs an entry. After an error nothing is
     /// changed.
-    #[tactic(auto, using(crate::proofs::CallsRefused::start_refused, crate::proofs::CallsRefused::start_none, crate::proofs::CallsRefused::lane_known))]
     pub fn next<R: Wait>(&self, rt: &R, q: LaneId) -> Result<Option<ItemId>, CallError>
         ensures started { IfOk result (λ next. (q < N.wiring.lanes) × IfSome next (λ item. IsOnLane N.wiring q item)) }
         ensures refused { IfErr result (λ e. e ≡ WrongLane) }
     {
         let mut held = self.held.lock(rt);
         for _ in rt.forever() {
-            held.holds();
-            if let Some(item) = held.start(q)? {
+            if let Some(item) = wq_under_lock::start(&mut held, q)? {
                 drop(held);
                 self.changed.notify_all();
                 return Ok(Some(item));
@@ -55,7 +52,7 @@ impl<N: Naming, A: Allocator> WqRuntime<N, A> {
     /// the seat is full; `WrongLane` (64), where the workqueue runs nothing or waits; `Undeclared` (62); `TooManyWaits` (63).
     /// Then nothing is changed or counted. Once it waits, the only error could be `WrongLane`, where another caller drove this
     /// workqueue on; then the wait stays counted.
-    #[tactic(auto, using(crate::proofs::CallsRefused::wait_refused, crate::proofs::CallsRefused::wait_not_counted, crate::proofs::CallsRefused::over_refused, crate::proofs::CallsRefused::over_counted))]
+    #[tactic(auto, using(crate::proofs::WaitsRefused::wait_not_counted, crate::proofs::WaitsRefused::over_refused, crate::proofs::WaitsRefused::over_counted))]
     pub fn wait_for<R: Wait>(
         &self,
         rt: &R,
@@ -67,13 +64,7 @@ impl<N: Naming, A: Allocator> WqRuntime<N, A> {
         ensures refused { IfErr result (λ e. RefusesWaitFor N.wiring seat.old q e × RefusedWaitFor N.wiring seat.old seat.new q target e) }
     {
         let mut held = self.held.lock(rt);
-        if usize::from(q.get()) >= held.lanes() {
-            return Err(CallError::WrongLane);
-        }
-        if seat.is_full() {
-            return Err(CallError::HistoryFull);
-        }
-        let unfinished = held.wait(seat, q, target)?;
+        let unfinished = wq_under_lock::wait(&mut held, seat, q, target)?;
         self.changed.notify_all();
         for _ in rt.forever() {
             if held.over(seat, q, target)? {

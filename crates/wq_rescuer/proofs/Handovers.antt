@@ -7,7 +7,7 @@ use Rattle.std.proofs.lemmas.List.Sums.{sum_by-cons}
 use Rattle.std.proofs.lemmas.List.{get_or-replicate, get_or_past, length-replicate, length-append}
 use Rattle.wq_counts.specs.declared.kind.Kind.TheVariants.{Finish}
 use Rattle.wq_counts.specs.Counting.{place}
-use Rattle.wq_api.specs.declared.fault.CallError.{CallError}
+use Rattle.wq_held.specs.declared.fault.CallError.{CallError}
 use Rattle.wq_rescuer.specs.declared.rescuing.Rescued.{Rescued}
 use Rattle.wq_rescuer.specs.Executing.{finished_of, finished_in_all, CountsRuns, CountsAtMost}
 use Rattle.wq_rescuer.specs.declared.running.RunWhy.{RunWhy}

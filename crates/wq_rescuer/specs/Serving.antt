@@ -2,9 +2,9 @@
 use Rattle.std.specs.Prelude.{⊤, ◌≡◌, ◌≢◌, ℕ, ◌+◌, ◌*◌, ◌<◌, ◌≤◌, List, length, replicate, take, sum, slice_get, Some, Result, Ok, Err}
 use Rattle.std.specs.Result.{ForOk, ForErr}
 use Rattle.std.specs.List.{All, sum_by}
-use Rattle.wq_api.specs.declared.fault.CallError.{CallError}
-use Rattle.wq_api.specs.declared.fault.CallError.TheVariants.{HistoryFull, WrongLane, NoItem, Closed, Undeclared, TooManyWaits, NotAsked}
-use Rattle.wq_api.specs.Refusals.{seat_rows}
+use Rattle.wq_held.specs.declared.fault.CallError.{CallError}
+use Rattle.wq_held.specs.declared.fault.CallError.TheVariants.{HistoryFull, WrongLane, NoItem, Closed, Undeclared, TooManyWaits, NotAsked}
+use Rattle.wq_held.specs.Locked.{seat_rows}
 use Rattle.wq_rescuer.specs.declared.rescuing.Rescued.{Rescued}
 use Rattle.wq_rescuer.specs.declared.running.RunWhy.{RunWhy}
 use Rattle.wq_rescuer.specs.declared.running.RunWhy.TheVariants.{BodiesDiffer, TooManySeats, OutOfMemory, NoThread}

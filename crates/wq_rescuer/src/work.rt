@@ -8,8 +8,9 @@ ghost use Rattle.std.specs.Prelude.{◌≡◌, ◌<◌, IfOk, IfErr};
 ghost use Rattle.wq_core.specs.Wiring.{items};
 ghost use Rattle.wq_counts.specs.declared.kind.Kind.TheVariants.{Queue, Cancel};
 ghost use Rattle.wq_counts.specs.Counting.{HasCountsOf, raised};
-ghost use Rattle.wq_api.specs.Refusals.{HasRoom, RefusesCancelWork, RefusesWaitFor};
-ghost use Rattle.wq_api.specs.Locked.{waited_for, RefusedWaitFor};
+ghost use Rattle.wq_held.specs.Locked.{HasRoom};
+ghost use Rattle.wq_under_lock.specs.Refusals.{RefusesCancelWork, RefusesWaitFor};
+ghost use Rattle.wq_api.specs.WaitingCalls.{waited_for, RefusedWaitFor};
 ghost use Rattle.wq_rescuer.specs.Executing.{SameFinished, RefusesQueueByBody};
 
 use std::alloc::Allocator;

@@ -8,7 +8,7 @@ use Rattle.wq_counts.specs.declared.kind.Kind.{Kind}
 use Rattle.wq_counts.specs.declared.kind.Kind.TheVariants.{Queue, Cancel, Finish}
 use Rattle.wq_counts.specs.Counting.{made}
 use Rattle.wq_history.specs.Book.{BookView}
-use Rattle.wq_api.specs.Closing.{Agrees}
+use Rattle.wq_held.specs.Closing.{Agrees}
 use Rattle.wq_commands.specs.Declaration.{Declared}
 use Rattle.wq_run.specs.Report.{item_line}
 use Rattle.wq_run.specs.Running.{yes_tally}

@@ -9,10 +9,11 @@ use Rattle.wq_core.specs.Deadlock.{IsSafe}
 use Rattle.wq_plan.specs.Plan.{IsPlan}
 use Rattle.wq_plan.proofs.Plans.{IsSafe-plan}
 use Rattle.wq_history.specs.Book.{BookView}
-use Rattle.wq_api.specs.declared.fault.NewError.{NewError}
-use Rattle.wq_api.specs.declared.fault.NewError.TheVariants.{TooManyLanes, TooManyRows, NotSafe, OutOfMemory}
-use Rattle.wq_api.specs.Refusals.{max_runtime_lanes, RefusesRuntime, new_code}
-use Rattle.wq_api.specs.Closing.{IsClosed, Agrees}
+use Rattle.wq_under_lock.specs.declared.fault.NewError.{NewError}
+use Rattle.wq_under_lock.specs.declared.fault.NewError.TheVariants.{TooManyLanes, TooManyRows, NotSafe, OutOfMemory}
+use Rattle.wq_held.specs.Locked.{max_runtime_lanes}
+use Rattle.wq_under_lock.specs.Refusals.{RefusesRuntime, new_code}
+use Rattle.wq_held.specs.Closing.{IsClosed, Agrees}
 use Rattle.wq_commands.specs.declared.end.End.{End}
 use Rattle.wq_commands.specs.declared.end.End.TheVariants.{Refused}
 use Rattle.wq_commands.specs.Answer.{declared_waits, IsRefused}

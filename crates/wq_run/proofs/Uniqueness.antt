@@ -5,7 +5,7 @@ use Rattle.wq_text.specs.Refusal.{Refusal}
 use Rattle.wq_groups.specs.Assignment.{Assignment}
 use Rattle.wq_plan.specs.Plan.{IsPlan}
 use Rattle.wq_plan.proofs.Plans.{IsPlan-unique}
-use Rattle.wq_api.specs.Refusals.{max_runtime_lanes}
+use Rattle.wq_held.specs.Locked.{max_runtime_lanes}
 use Rattle.wq_commands.specs.declared.end.End.{End}
 use Rattle.wq_commands.specs.declared.end.End.TheVariants.{Good, Bad, Refused}
 use Rattle.wq_commands.specs.Answer.{Answers, AnswersDeclared, IsRefused, declared_waits}

@@ -7,7 +7,7 @@ ghost use Rattle.std.specs.Prelude.{◌≡◌, ◌++◌, ◌<◌, ℕ, length, t
 ghost use Rattle.wq_lines.specs.LineText.{spaced, line_text};
 ghost use Rattle.wq_counts.specs.declared.kind.Kind.{Kind};
 ghost use Rattle.wq_counts.specs.Counting.{made};
-ghost use Rattle.wq_api.specs.Closing.{Agrees};
+ghost use Rattle.wq_held.specs.Closing.{Agrees};
 ghost use Rattle.wq_run.specs.Report.{workqueues_line, count_words, item_line, faults_line, report_text};
 ghost use Rattle.wq_run.specs.Running.{yes_tally};
 

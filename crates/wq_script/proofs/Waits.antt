@@ -9,9 +9,9 @@ use Rattle.wq_counts.specs.declared.kind.Kind.{Kind}
 use Rattle.wq_counts.specs.declared.kind.Kind.TheVariants.{Wait}
 use Rattle.wq_counts.specs.Counting.{place, HasCountsOf, made, raised}
 use Rattle.wq_counts.proofs.Places.{place-same, made-raised_same, made-raised_other}
-use Rattle.wq_api.specs.declared.fault.CallError.{CallError}
-use Rattle.wq_api.specs.declared.fault.CallError.TheVariants.{HistoryFull, Closed, Undeclared, TooManyWaits, WrongLane, NotAsked, NoItem}
-use Rattle.wq_api.specs.Locked.{RefusedWaitFor}
+use Rattle.wq_held.specs.declared.fault.CallError.{CallError}
+use Rattle.wq_held.specs.declared.fault.CallError.TheVariants.{HistoryFull, Closed, Undeclared, TooManyWaits, WrongLane, NotAsked, NoItem}
+use Rattle.wq_api.specs.WaitingCalls.{RefusedWaitFor}
 use Rattle.wq_rescuer.specs.Executing.{SameFinished}
 use Rattle.wq_script.specs.Scripts.{waits_of, times_among, CountsWaits, CountsFirstWaits}
 

@@ -1,6 +1,6 @@
 use Rattle.std.proofs.Common.{◌+◌, arith}
 use Rattle.wq_core.specs.Wiring.{items}
-use Rattle.wq_api.specs.Refusals.{seat_rows}
+use Rattle.wq_held.specs.Locked.{seat_rows}
 use Rattle.std.specs.Prelude.{sum}
 use Rattle.wq_rescuer.proofs.Executions.{serving_more, few_finished, below_limit}
 use Rattle.wq_rescuer.proofs.rescuing.rescue.Goals as goal

@@ -1,9 +1,5 @@
-use Rattle.std.proofs.Common.{◌≡◌, ◌↔◌, ℕ, ◌<◌, ◌≤◌, Bool, true, false, List, Option, Some, None, not, ap, subst, ◌∙◌, inl, inr}
-use Rattle.std.specs.Prelude.{IfSome, IsTrue, sum}
-use Rattle.std.specs.Option.{is_some}
-use Rattle.std.proofs.lemmas.Bool.{cases_lt}
+use Rattle.std.proofs.Common.{◌≡◌, ℕ, Bool, true, List, ap, subst, ◌∙◌, inl, inr}
 use Rattle.std.proofs.lemmas.Result.{err_from_is_err_and}
-use Rattle.wq_core.specs.Wiring.{Wiring, items}
 use Rattle.wq_counts.specs.declared.kind.Kind.TheVariants.{Told as ToldKind}
 use Rattle.wq_counts.specs.Counting.{raised}
 use Rattle.wq_history.specs.declared.asking.Ask.{Ask}
@@ -11,22 +7,10 @@ use Rattle.wq_history.specs.declared.asking.Ask.TheVariants.{Idle, Waiting}
 use Rattle.wq_history.specs.declared.asking.Asked.{Asked}
 use Rattle.wq_history.specs.Book.{BookView}
 use Rattle.wq_history.specs.Answers.{AnswersAsk}
-use Rattle.wq_api.specs.Refusals.{IsOnLane, HasRoom, seat_rows}
-use Rattle.wq_api.specs.Locked.{CountsAskAndCancel, CountsCancelSync, asked_and_cancelled}
-use Rattle.wq_api.proofs.CallsRefused.{told_refused, told_not_counted}
+use Rattle.wq_held.specs.Locked.{CountsAskAndCancel, asked_and_cancelled}
+use Rattle.wq_api.specs.WaitingCalls.{CountsCancelSync}
+use Rattle.wq_api.proofs.WaitsRefused.{told_refused, told_not_counted}
 use Rattle.wq_api.proofs.runtime.WqRuntime.cancel_work_sync.Goals as goal
-
--- an item that has a lane exists
-there : (w : Wiring) (i : ℕ) (lane : Option ℕ) (none : Bool) → IfSome lane (λ q. IsOnLane w q i) → is_some lane ≡ not none → none ≡ false → i < items w
-there w i None none some means is = absurd (let e : false ≡ true = means ∙ ap not is in cc)
-there w i (Some q) none some means is = some.0
-
--- a seat that isn't full has room
-has_room : (counts : List ℕ) (full : Bool) → IsTrue full ↔ (seat_rows ≤ sum counts) → full ≡ false → HasRoom counts
-has_room counts full means is = elim (cases_lt (sum counts) seat_rows) [
-  | inl room ↦ room
-  | inr many ↦ absurd (let said : full ≡ true = means.1 many in cc)
-]
 
 -- counts of an ask that didn't wait, and of a cancellation
 counted-idle : (old new : List ℕ) (i : ℕ) (answer : Ask) (taken : Bool) → answer ≡ Idle → CountsAskAndCancel old new i answer taken → CountsCancelSync old new i taken
@@ -50,27 +34,25 @@ returns-in_err-be_told-in-Waiting-clause-refused g c =
     let i = c.args.item in
     let e = c.in_err-be_told-in-Waiting.field-0.0 in
     let why = c.in_err-be_told-in-Waiting.ensures.refused in
-    let both = counted-waits old c.ask_and_cancel.new.seat i c.in_ok-answer.answer c.in-Waiting.asked c.in_ok-answer.taken c.in-Waiting.is c.in_ok-answer.ensures.counted in
-    let is = there g.N.Naming.wiring i c.lane_of.result c.is_none.result c.lane_of.ensures.some c.is_none.ensures c.if-is_none.false in
-    let room = has_room old c.is_full.result c.is_full.ensures c.if-is_full.false in
+    let known = c.in_ok-answer.ensures.counted in
+    let both = counted-waits old c.ask_and_cancel.new.seat i c.in_ok-answer.answer c.in-Waiting.asked c.in_ok-answer.taken c.in-Waiting.is known.2 in
     let p = err_from_is_err_and c.from_residual-in_err-be_told-in-Waiting.result c.from_residual-in_err-be_told-in-Waiting.ensures.1 in
-    rw (p.1, p.2) (told_refused g.N.Naming.wiring old i e is room why.0, told_not_counted old c.ask_and_cancel.new.seat c.be_told.new.seat i c.in_ok-answer.taken e both why.1 why.0)
+    rw (p.1, p.2) (told_refused g.N.Naming.wiring old i e known.0 known.1 why.0, told_not_counted old c.ask_and_cancel.new.seat c.be_told.new.seat i c.in_ok-answer.taken e both why.1 why.0)
 
 pub returns-in-Idle-clause-counted : goal.returns-in-Idle-clause-counted
-returns-in-Idle-clause-counted g c = (
-  there g.N.Naming.wiring c.args.item c.lane_of.result c.is_none.result c.lane_of.ensures.some c.is_none.ensures c.if-is_none.false,
-  has_room c.args.seat.now c.is_full.result c.is_full.ensures c.if-is_full.false,
-  search (counted-idle, c.in-Idle.is, c.in_ok-answer.ensures.counted),
-)
+returns-in-Idle-clause-counted g c =
+    let known = c.in_ok-answer.ensures.counted in
+    (known.0, known.1, search (counted-idle, c.in-Idle.is, known.2))
 
 pub returns-in_ok-be_told-in-Waiting-clause-counted : goal.returns-in_ok-be_told-in-Waiting-clause-counted
 returns-in_ok-be_told-in-Waiting-clause-counted g c =
     let old = c.args.seat.now in
     let i = c.args.item in
     let rows = c.in_ok-answer.ensures.rows in
-    let both = counted-waits old c.ask_and_cancel.new.seat i c.in_ok-answer.answer c.in-Waiting.asked c.in_ok-answer.taken c.in-Waiting.is c.in_ok-answer.ensures.counted in (
-      there g.N.Naming.wiring i c.lane_of.result c.is_none.result c.lane_of.ensures.some c.is_none.ensures c.if-is_none.false,
-      has_room old c.is_full.result c.is_full.ensures c.if-is_full.false,
+    let known = c.in_ok-answer.ensures.counted in
+    let both = counted-waits old c.ask_and_cancel.new.seat i c.in_ok-answer.answer c.in-Waiting.asked c.in_ok-answer.taken c.in-Waiting.is known.2 in (
+      known.0,
+      known.1,
       counted-told c.deref_mut.result.now.book rows.between old c.ask_and_cancel.new.seat c.be_told.new.seat i c.in_ok-answer.answer c.in-Waiting.asked c.in_ok-answer.taken
           c.in-Waiting.is rows.asks both c.in_ok-be_told-in-Waiting.ensures.told,
     )

@@ -2,7 +2,7 @@ use Rattle.std.proofs.Common.{◌≡◌, ◌<◌}
 use Rattle.wq_core.specs.Wiring.{items}
 use Rattle.wq_counts.specs.declared.kind.Kind.TheVariants.{Wait as WaitKind}
 use Rattle.wq_counts.specs.Counting.{raised}
-use Rattle.wq_api.specs.Refusals.{HasRoom}
+use Rattle.wq_held.specs.Locked.{HasRoom}
 use Rattle.wq_api.proofs.runtime.WqRuntime.wait_for.Given as goal
 
 abbrev pub invariant-loop : goal.invariant-loop

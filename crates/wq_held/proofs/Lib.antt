@@ -1,0 +1,3 @@
+pub mod Locking
+pub mod Refused
+pub mod Closings

@@ -1,0 +1,19 @@
+use Rattle.std.proofs.Common.{◌≡◌, ◌↔◌, ℕ, List, sym, ap, subst, ◌∙◌}
+use Rattle.std.specs.Prelude.{IsTrue, sum}
+use Rattle.wq_core.specs.State.{HasUnfinished}
+use Rattle.wq_history.specs.History.{all_asks_waiting}
+use Rattle.wq_history.specs.Book.{state}
+use Rattle.wq_held.specs.Locked.{HeldView}
+use Rattle.wq_held.proofs.Closings.{IsClosed-held}
+use Rattle.wq_held.proofs.held.Held.closed.Goals as goal
+
+pub returns : goal.returns
+returns g c =
+    let h = c.self.inside in
+    IsClosed-held g.N.Naming.wiring g.N.Naming.rows g.N.Ledger.parts h.book h.tallies h.sums h.seats h.rest.parts h.rest.amount c.args.seats.items c.gather.new.sums c.is_same-agree.result
+    c.self.invariant c.legal.ensures
+    (subst (λ (v : HeldView). ¬ HasUnfinished (state v.book)) (sym c.self.view_is) c.requires.idle)
+    (subst (λ (v : HeldView). all_asks_waiting v.book.rows ≡ 0) (sym c.self.view_is) c.requires.nobody_waits)
+    c.gather.ensures.sums c.gather.ensures.length
+    (c.gather.ensures.total ∙ c.tallies.invariant.total_is ∙ ap sum c.tallies.view_is)
+    (subst (λ (ts : List ℕ). IsTrue c.is_same-agree.result ↔ (c.gather.new.sums ≡ ts)) c.tallies.view_is c.is_same-agree.ensures)

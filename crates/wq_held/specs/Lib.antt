@@ -1,0 +1,5 @@
+pub use Rattle.wq_core.specs.Deadlock
+pub use Rattle.wq_history.specs.Book
+pub mod Errors
+pub mod Locked
+pub mod Closing

@@ -1,0 +1,85 @@
+//! What is handed back when a runtime is closed: its history, and the sums of all that its callers counted.
+//!
+//! Where the sums agree with the tallies of the history, all callers together counted, for each item, kind and answer, as many
+//! rows as were written. Starts aren't counted. Closing takes time in the number of seats and their counts, and no memory.
+
+ghost use Rattle.std.specs.Prelude.{◌≡◌, ℕ, ◌+◌, ◌<◌, ◌≤◌, ◌*◌, sum, replicate, vec_len};
+ghost use Rattle.std.specs.List.{sum_by};
+ghost use Rattle.wq_core.specs.Wiring.{items};
+ghost use Rattle.wq_counts.specs.Counting.{HasCountsOf, counted_rows};
+ghost use Rattle.wq_held.specs.Locked.{Closes};
+ghost use Rattle.wq_held.specs.Closing.{SumsSeats, IsClosed};
+
+use crate::held::Held;
+use crate::naming::Naming;
+use crate::seat::Seat;
+use crate::tallies::Tallies;
+use std::alloc::Allocator;
+use std::marker::PhantomData;
+use std::sync::ledger;
+use std::sync::ledger::Share;
+use wq_counts::Counts;
+use wq_history::Book;
+
+/// A runtime that was closed.
+#[derive(Drop)]
+pub struct Closed<N: Naming, A: Allocator> {
+    /// Its book: all that happened.
+    pub book: Book<A>,
+    /// The sums of the counts of all its seats.
+    pub counts: Counts<A>,
+    /// Whether each sum is the number of rows that it counts.
+    pub agree: bool,
+    of: PhantomData<N>,
+}
+
+/// Adds the counts of all seats to sums that are empty, and joins their parts of the ledger to those that are left.
+fn gather<N: Naming, A: Allocator>(
+    sums: &mut Counts<A>,
+    ledger: &mut ledger::Book<N>,
+    rest: &mut Share<N>,
+    mut seats: Vec<Seat<N, A>, A>,
+)
+    requires empty { sums.old ≡ replicate (14 * items N.wiring) 0 }
+    requires few { ledger.old.total < 4294967296 }
+    requires parts { rest.old.parts + vec_len seats ≡ N.parts }
+    requires amount { rest.old.amount ≡ 0 }
+    ensures sums { SumsSeats seats.items sums.new }
+    ensures length { HasCountsOf (items N.wiring) sums.new }
+    ensures total { sum sums.new ≡ ledger.old.total }
+    ensures ledger { ledger.new.total ≡ ledger.old.total }
+{
+    while let Some(seat) = seats.pop() {
+        let Seat { counts, share } = seat;
+        rest.merge(share);
+        ledger.audit(rest);
+        sums.add(&counts);
+    }
+    ledger.audit(rest);
+}
+
+impl<N: Naming, A: Allocator> Held<N, A> {
+    /// Closes a runtime, which may be closed with these seats.
+    pub fn closed(self, seats: Vec<Seat<N, A>, A>) -> Closed<N, A>
+        requires { Closes self (vec_len seats) }
+        ensures { IsClosed N.wiring N.rows seats.items result.book result.counts result.agree }
+    {
+        self.book.legal();
+        let Held {
+            book,
+            tallies,
+            mut sums,
+            seats: _,
+            mut rest,
+        } = self;
+        let Tallies { counts, mut ledger } = tallies;
+        gather(&mut sums, &mut ledger, &mut rest, seats);
+        let agree = sums.is_same(&counts);
+        Closed {
+            book,
+            counts: sums,
+            agree,
+            of: PhantomData,
+        }
+    }
+}

@@ -1,0 +1,21 @@
+//! What the lock of a runtime protects: the book, and the counts of what each caller did, which add up to those of its rows.
+//! The code calls a workqueue a lane.
+//!
+//! What the layer above relies on: whenever the lock is taken, the rows are a legal history under the runtime's assignment, which
+//! is safe. Each call under the lock makes one event, or an ask and a cancellation, and counts its rows in its caller's seat,
+//! except for starts. All seats together count as many rows as the history has, starts left out.
+#![tactic(auto)]
+
+mod closing;
+mod fault;
+mod held;
+mod naming;
+mod seat;
+mod tallies;
+
+pub use closing::Closed;
+pub use fault::{CallError, CloseWhy, SeatError};
+pub use held::{Held, MAX_SEATS};
+pub use naming::Naming;
+pub use seat::{SEAT_ROWS, Seat};
+pub use wq_counts::{Counts, Kind};

@@ -1,0 +1,140 @@
+-- What a book refuses, as causes that a caller of a runtime can know; and why making a runtime can be refused.
+use Rattle.std.proofs.Common.{◌≡◌, ℕ, ◌<◌, ◌≤◌, ◌⊎◌, inl, inr, Bool, true, false, List, refl, sym, subst, ◌∙◌, arith}
+use Rattle.std.specs.Prelude.{Some, None, IsTrue, ◌↔◌}
+use Rattle.wq_core.specs.Wiring.{Wiring, IsWiring, items, lane_of}
+use Rattle.wq_core.specs.Deadlock.{IsSafe}
+use Rattle.wq_rows.specs.declared.event.Event.{Event}
+use Rattle.wq_rows.specs.Stored.{max_rows}
+use Rattle.wq_history.specs.declared.fault.BookError.{BookError}
+use Rattle.wq_history.specs.declared.fault.BookError.TheVariants.{HistoryFull, Closed, Undeclared, TooManyWaits, WrongLane, NoItem, TooManyRows, OutOfMemory}
+use Rattle.wq_history.specs.Book.{BookView, IsBook, RefusesNew, RefusesQueue, RefusesItem, RefusesLane, RefusesWait}
+use Rattle.wq_history.specs.Answers.{AnswersStart}
+use Rattle.wq_held.specs.declared.fault.CallError.{CallError}
+use Rattle.wq_held.specs.declared.fault.CallError.TheVariants.{HistoryFull as CallFull, Closed as CallClosed, Undeclared as CallUndeclared, TooManyWaits as CallTooManyWaits, WrongLane as CallWrongLane, NotAsked as CallNotAsked, NoItem as CallNoItem}
+use Rattle.wq_under_lock.specs.declared.fault.NewError.TheVariants.{NotSafe}
+use Rattle.wq_held.specs.Errors.{call_error, RefusedAs}
+use Rattle.wq_held.specs.Locked.{max_runtime_lanes, IsOnLane, HasRoom, RefusesAskAndCancel}
+use Rattle.wq_under_lock.specs.Refusals.{RefusesRuntime, RefusesQueueWork, RefusesCancelWork, RefusesWaitFor}
+
+-- what holds for a refusal holds for the same refusal
+moved : (P : CallError → Type 0) (x e : CallError) → Some x ≡ Some e → P x → P e
+moved P x e is holds = let same : x ≡ e = cc in subst P same holds
+
+-- if an item exists, its lane does
+pub lane_exists : (w : Wiring) (i : ℕ) → IsWiring w → i < items w → lane_of w i < w.lanes
+lane_exists w i wiring there = wiring.within i 0 (omega (arith, there, wiring.one_lane_each))
+
+pub lane_known : (w : Wiring) (b : BookView) (q i : ℕ) → b.wiring ≡ w → IsBook b → IsOnLane w q i → q < w.lanes
+lane_known w b q i of_wiring book on =
+    let sound : IsWiring w = subst (λ (x : Wiring). IsWiring x) of_wiring book.wiring in
+    let below : lane_of w i < w.lanes = lane_exists w i sound on.0 in
+    omega (arith, below, on.1)
+
+-- ---- queue
+
+queue_cases : (w : Wiring) (b : BookView) (counts : List ℕ) (q i : ℕ) (e : CallError) → b.wiring ≡ w → IsOnLane w q i → HasRoom counts
+    → (x : BookError) → RefusesQueue b i x → call_error x ≡ Some e → RefusesQueueWork w counts q i e
+queue_cases w b counts q i e of_wiring on room HistoryFull why is = moved (λ y. RefusesQueueWork w counts q i y) CallFull e is on
+queue_cases w b counts q i e of_wiring on room Closed why is = moved (λ y. RefusesQueueWork w counts q i y) CallClosed e is (on, room)
+queue_cases w b counts q i e of_wiring on room Undeclared why is = absurd why
+queue_cases w b counts q i e of_wiring on room TooManyWaits why is = absurd why
+queue_cases w b counts q i e of_wiring on room WrongLane why is = absurd why
+queue_cases w b counts q i e of_wiring on room NoItem why is = moved (λ y. RefusesQueueWork w counts q i y) CallNoItem e is (subst (λ (x : Wiring). items x ≤ i) of_wiring why)
+queue_cases w b counts q i e of_wiring on room TooManyRows why is = absurd why
+queue_cases w b counts q i e of_wiring on room OutOfMemory why is = absurd why
+
+pub queue_refused : (w : Wiring) (b : BookView) (counts : List ℕ) (q i : ℕ) (e : CallError) → b.wiring ≡ w → IsOnLane w q i → HasRoom counts
+    → RefusedAs (RefusesQueue b i) e → RefusesQueueWork w counts q i e
+queue_refused w b counts q i e of_wiring on room why = queue_cases w b counts q i e of_wiring on room why.0 why.1 why.2
+
+-- ---- cancel, ask
+
+-- the refusals of `cancel` and `ask`: whatever holds if the history is full, and if there is no such item
+item_cases : (P : CallError → Type 0) (b : BookView) (i : ℕ) (event : ℕ → Event) (e : CallError) → (i < items b.wiring → P CallFull) → (items b.wiring ≤ i → P CallNoItem)
+    → (x : BookError) → RefusesItem b i event x → call_error x ≡ Some e → P e
+item_cases P b i event e full missing HistoryFull why is = moved P CallFull e is (full why.0)
+item_cases P b i event e full missing Closed why is = absurd why
+item_cases P b i event e full missing Undeclared why is = absurd why
+item_cases P b i event e full missing TooManyWaits why is = absurd why
+item_cases P b i event e full missing WrongLane why is = absurd why
+item_cases P b i event e full missing NoItem why is = moved P CallNoItem e is (missing why)
+item_cases P b i event e full missing TooManyRows why is = absurd why
+item_cases P b i event e full missing OutOfMemory why is = absurd why
+
+pub cancel_refused : (w : Wiring) (b : BookView) (i : ℕ) (event : ℕ → Event) (e : CallError) → b.wiring ≡ w → RefusedAs (RefusesItem b i event) e → RefusesCancelWork w i e
+cancel_refused w b i event e of_wiring why =
+    item_cases (λ y. RefusesCancelWork w i y) b i event e (subst (λ (x : Wiring). i < items x) of_wiring) (subst (λ (x : Wiring). items x ≤ i) of_wiring) why.0 why.1 why.2
+
+-- ---- an ask and a cancellation
+
+pub both_refused : (w : Wiring) (b : BookView) (i : ℕ) (e : CallError) → b.wiring ≡ w → RefusesAskAndCancel b i e → RefusesCancelWork w i e
+both_refused w b i CallFull of_wiring why = subst (λ (x : Wiring). i < items x) of_wiring why.0
+both_refused w b i CallClosed of_wiring why = absurd why
+both_refused w b i CallUndeclared of_wiring why = absurd why
+both_refused w b i CallTooManyWaits of_wiring why = absurd why
+both_refused w b i CallWrongLane of_wiring why = absurd why
+both_refused w b i CallNotAsked of_wiring why = absurd why
+both_refused w b i CallNoItem of_wiring why = subst (λ (x : Wiring). items x ≤ i) of_wiring why
+
+-- ---- start
+
+lane_cases : (wrong : Type 0) (e : CallError) (x : BookError) → RefusesLane wrong x → call_error x ≡ Some e → e ≡ CallWrongLane
+lane_cases wrong e HistoryFull why is = absurd why
+lane_cases wrong e Closed why is = absurd why
+lane_cases wrong e Undeclared why is = absurd why
+lane_cases wrong e TooManyWaits why is = absurd why
+lane_cases wrong e WrongLane why is = moved (λ y. y ≡ CallWrongLane) CallWrongLane e is refl
+lane_cases wrong e NoItem why is = absurd why
+lane_cases wrong e TooManyRows why is = absurd why
+lane_cases wrong e OutOfMemory why is = absurd why
+
+pub start_refused : (wrong : Type 0) (e : CallError) → RefusedAs (RefusesLane wrong) e → e ≡ CallWrongLane
+start_refused wrong e why = lane_cases wrong e why.0 why.1 why.2
+
+pub start_none : (w : Wiring) (old new : BookView) (q : ℕ) → old.wiring ≡ w → AnswersStart old new q None → q < w.lanes
+start_none w old new q of_wiring answer = subst (λ (x : Wiring). q < x.lanes) of_wiring answer.0.0
+
+-- ---- wait
+
+wait_cases : (P : CallError → Type 0) (b : BookView) (q target : ℕ) (e : CallError) → P CallWrongLane → P CallUndeclared → P CallTooManyWaits
+    → (x : BookError) → RefusesWait b q target x → call_error x ≡ Some e → P e
+wait_cases P b q target e wrong undeclared many HistoryFull why is = absurd why
+wait_cases P b q target e wrong undeclared many Closed why is = absurd why
+wait_cases P b q target e wrong undeclared many Undeclared why is = moved P CallUndeclared e is undeclared
+wait_cases P b q target e wrong undeclared many TooManyWaits why is = moved P CallTooManyWaits e is many
+wait_cases P b q target e wrong undeclared many WrongLane why is = moved P CallWrongLane e is wrong
+wait_cases P b q target e wrong undeclared many NoItem why is = absurd why
+wait_cases P b q target e wrong undeclared many TooManyRows why is = absurd why
+wait_cases P b q target e wrong undeclared many OutOfMemory why is = absurd why
+
+pub wait_refused : (w : Wiring) (b : BookView) (counts : List ℕ) (q target : ℕ) (e : CallError) → q < w.lanes → HasRoom counts → RefusedAs (RefusesWait b q target) e
+    → RefusesWaitFor w counts q e
+wait_refused w b counts q target e lane room why = wait_cases (λ y. RefusesWaitFor w counts q y) b q target e (inr room) (lane, room) (lane, room) why.0 why.1 why.2
+
+-- ---- making a runtime
+
+-- the assignment isn't safe
+pub not_safe_refused : (w v : Wiring) (rows : ℕ) (safe : Bool) → w ≡ v → v.lanes ≤ max_runtime_lanes → rows ≤ max_rows → IsTrue safe ↔ IsSafe v → safe ≡ false
+    → RefusesRuntime w rows NotSafe
+not_safe_refused w v rows safe same few_lanes few_rows means is = (
+  subst (λ (x : Wiring). x.lanes ≤ max_runtime_lanes) (sym same) few_lanes,
+  few_rows,
+  (λ holds. let bad : safe ≡ true = means.1 (subst (λ (x : Wiring). IsSafe x) same holds) in let worse : false ≡ true = sym is ∙ bad in absurd cc),
+)
+
+-- a book of few rows can only lack memory
+pub book_refused : (w : Wiring) (rows : ℕ) (x : BookError) → IsWiring w → rows ≤ max_rows → RefusesNew w rows x → (0 < w.lanes) ⊎ (0 < rows)
+book_refused w rows TooManyRows sound few why = absurd (omega (arith, few, why))
+book_refused w rows OutOfMemory sound few why = by_cause why.1 where
+  by_cause : (0 < rows) ⊎ (0 < items w) → (0 < w.lanes) ⊎ (0 < rows)
+  by_cause (inl some_rows) = inr some_rows
+  by_cause (inr some_items) = let below : lane_of w 0 < w.lanes = lane_exists w 0 sound some_items in inl (omega (arith, below))
+book_refused w rows HistoryFull sound few why = absurd why
+book_refused w rows Closed sound few why = absurd why
+book_refused w rows Undeclared sound few why = absurd why
+book_refused w rows TooManyWaits sound few why = absurd why
+book_refused w rows WrongLane sound few why = absurd why
+book_refused w rows NoItem sound few why = absurd why
+
+pub some_lanes : (w : Wiring) → IsWiring w → 0 < items w → 0 < w.lanes
+some_lanes w sound some_items = let below : lane_of w 0 < w.lanes = lane_exists w 0 sound some_items in omega (arith, below)

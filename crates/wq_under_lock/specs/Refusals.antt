@@ -1,0 +1,67 @@
+-- Why a runtime isn't made, and why its calls are refused, by what their callers can know.
+use Rattle.std.specs.Prelude.{◌≢◌, ℕ, ◌<◌, ◌≤◌, ◌⊎◌, List, sum}
+use Rattle.wq_core.specs.Wiring.{Wiring, items, lane_of}
+use Rattle.wq_core.specs.Deadlock.{IsSafe}
+use Rattle.wq_rows.specs.Stored.{max_rows}
+use Rattle.wq_held.specs.declared.fault.CallError.{CallError}
+use Rattle.wq_held.specs.declared.fault.CallError.TheVariants.{HistoryFull, Closed, Undeclared, TooManyWaits, WrongLane, NotAsked, NoItem}
+use Rattle.wq_held.specs.Locked.{max_runtime_lanes, IsOnLane, seat_rows, HasRoom}
+use Rattle.wq_under_lock.specs.declared.fault.NewError.{NewError}
+use Rattle.wq_under_lock.specs.declared.fault.NewError.TheVariants.{TooManyLanes, TooManyRows, NotSafe, OutOfMemory}
+
+-- ---- making
+
+-- why no runtime is made: the numbers
+abbrev pub new_code : NewError → ℕ
+new_code OutOfMemory = 20
+new_code NotSafe = 67
+new_code TooManyRows = 68
+new_code TooManyLanes = 69
+
+-- making a runtime of a wiring with this many rows: too many lanes; too many rows; some run ends stuck; out of memory, but
+-- never if there is nothing to keep
+abbrev pub RefusesRuntime : Wiring → ℕ → NewError → Type 0
+RefusesRuntime w rows TooManyLanes = max_runtime_lanes < w.lanes
+RefusesRuntime w rows TooManyRows = (w.lanes ≤ max_runtime_lanes) × (max_rows < rows)
+RefusesRuntime w rows NotSafe = (w.lanes ≤ max_runtime_lanes) × (rows ≤ max_rows) × (¬ IsSafe w)
+RefusesRuntime w rows OutOfMemory = (w.lanes ≤ max_runtime_lanes) × (rows ≤ max_rows) × ((0 < w.lanes) ⊎ (0 < rows))
+
+-- a runtime is made: no such cause holds
+pub record MakesRuntime (w : Wiring) (rows : ℕ) : Type 0 where
+  pub few_lanes : w.lanes ≤ max_runtime_lanes
+  pub few_rows : rows ≤ max_rows
+  pub safe : IsSafe w
+
+-- ---- causes that a caller can know, since they are in its arguments
+
+-- `queue_work` of item i on lane q, through a seat with these counts: no such item; it belongs to another lane; the seat is
+-- full (60, too); the runtime is closed; the history is full
+abbrev pub RefusesQueueWork : Wiring → List ℕ → ℕ → ℕ → CallError → Type 0
+RefusesQueueWork w counts q i NoItem = items w ≤ i
+RefusesQueueWork w counts q i WrongLane = (i < items w) × (lane_of w i ≢ q)
+RefusesQueueWork w counts q i Closed = IsOnLane w q i × HasRoom counts
+RefusesQueueWork w counts q i HistoryFull = IsOnLane w q i
+RefusesQueueWork w counts q i Undeclared = ⊥
+RefusesQueueWork w counts q i TooManyWaits = ⊥
+RefusesQueueWork w counts q i NotAsked = ⊥
+
+-- `cancel_work` of item i, or an ask about it: no such item; the seat or the history is full
+abbrev pub RefusesCancelWork : Wiring → ℕ → CallError → Type 0
+RefusesCancelWork w i NoItem = items w ≤ i
+RefusesCancelWork w i HistoryFull = i < items w
+RefusesCancelWork w i Closed = ⊥
+RefusesCancelWork w i Undeclared = ⊥
+RefusesCancelWork w i TooManyWaits = ⊥
+RefusesCancelWork w i WrongLane = ⊥
+RefusesCancelWork w i NotAsked = ⊥
+
+-- `wait_for` on lane q, through a seat with these counts: no such lane, or it can't make this step; the seat is full; what the
+-- lane runs declares no such flush, or has made as many waits as it declares
+abbrev pub RefusesWaitFor : Wiring → List ℕ → ℕ → CallError → Type 0
+RefusesWaitFor w counts q WrongLane = (w.lanes ≤ q) ⊎ HasRoom counts
+RefusesWaitFor w counts q HistoryFull = (q < w.lanes) × (seat_rows ≤ sum counts)
+RefusesWaitFor w counts q Undeclared = (q < w.lanes) × HasRoom counts
+RefusesWaitFor w counts q TooManyWaits = (q < w.lanes) × HasRoom counts
+RefusesWaitFor w counts q Closed = ⊥
+RefusesWaitFor w counts q NotAsked = ⊥
+RefusesWaitFor w counts q NoItem = ⊥

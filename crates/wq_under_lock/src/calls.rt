@@ -1,0 +1,191 @@
+//! The calls of kernel/workqueue.c, as far as they are made under the lock.
+//!
+//! What the caller can know comes first: whether there is such an item or workqueue, and whether its seat has room. Then the book
+//! answers. A call takes the time of the book's events, and no memory.
+
+ghost use Rattle.std.specs.Prelude.{◌≡◌, ◌<◌, IfOk, IfErr, OnOk, IfSome, true};
+ghost use Rattle.wq_core.specs.Wiring.{items};
+ghost use Rattle.wq_rows.specs.declared.event.Event.TheVariants.{Queue, Cancel, Wait};
+ghost use Rattle.wq_counts.specs.declared.kind.Kind.TheVariants.{Queue as QueueKind, Cancel as CancelKind, Wait as WaitKind};
+ghost use Rattle.wq_counts.specs.Counting.{raised};
+ghost use Rattle.wq_history.specs.Book.{AppendsOne};
+ghost use Rattle.wq_history.specs.Answers.{AnswersAsk, AnswersStart};
+ghost use Rattle.wq_held.specs.declared.fault.CallError.TheVariants.{WrongLane};
+ghost use Rattle.wq_held.specs.Locked.{IsOnLane, HasRoom, CountsAsk, AsksAndCancels, CountsAskAndCancel};
+ghost use Rattle.wq_under_lock.specs.Refusals.{RefusesQueueWork, RefusesCancelWork, RefusesWaitFor};
+
+use std::alloc::Allocator;
+use wq_groups::LaneId;
+use wq_held::{CallError, Held, Naming, Seat};
+use wq_history::Ask;
+use wq_items::ItemId;
+
+/// Whether there is such an item, and room in the seat of whoever calls.
+///
+/// The error is `NoItem` (66), or else `HistoryFull` (60).
+fn admit<N: Naming, A: Allocator>(
+    held: &Held<N, A>,
+    seat: &Seat<N, A>,
+    item: ItemId,
+) -> Result<(), CallError>
+    ensures admitted { OnOk result ((item < items N.wiring) × HasRoom seat.now) }
+    ensures refused { IfErr result (λ e. RefusesCancelWork N.wiring item e) }
+{
+    if held.lane_of(item).is_none() {
+        return Err(CallError::NoItem);
+    }
+    if seat.is_full() {
+        return Err(CallError::HistoryFull);
+    }
+    Ok(())
+}
+
+/// Whether there is such an item, on this workqueue, and room in the seat of whoever calls.
+///
+/// The error is the first of these that holds: `NoItem` (66), `WrongLane` (64), `HistoryFull` (60).
+fn admit_on<N: Naming, A: Allocator>(
+    held: &Held<N, A>,
+    seat: &Seat<N, A>,
+    q: LaneId,
+    item: ItemId,
+) -> Result<(), CallError>
+    ensures admitted { OnOk result (IsOnLane N.wiring q item × HasRoom seat.now) }
+    ensures refused { IfErr result (λ e. RefusesQueueWork N.wiring seat.now q item e) }
+{
+    let Some(lane) = held.lane_of(item) else {
+        return Err(CallError::NoItem);
+    };
+    if lane != q {
+        return Err(CallError::WrongLane);
+    }
+    if seat.is_full() {
+        return Err(CallError::HistoryFull);
+    }
+    Ok(())
+}
+
+/// Queues an item on its workqueue: true where it wasn't pending, false where it was.
+///
+/// The error is the first of these that holds: `NoItem` (66); `WrongLane` (64), where the item belongs to another workqueue;
+/// `HistoryFull` (60), where the seat is full; `Closed` (61); `HistoryFull` (60), where too few rows are free. After an error
+/// nothing is changed or counted.
+#[tactic(auto, using(crate::proofs::CallsRefused::queue_refused))]
+pub fn queue<N: Naming, A: Allocator>(
+    held: &mut Held<N, A>,
+    seat: &mut Seat<N, A>,
+    q: LaneId,
+    item: ItemId,
+) -> Result<bool, CallError>
+    ensures row { IfOk result (λ accepted. AppendsOne held.old.book held.new.book (Queue item) accepted) }
+    ensures counted { IfOk result (λ accepted. IsOnLane N.wiring q item × HasRoom seat.old × (seat.new ≡ raised seat.old item QueueKind accepted)) }
+    ensures refused { IfErr result (λ e. RefusesQueueWork N.wiring seat.old q item e × (held.new ≡ held.old) × (seat.new ≡ seat.old)) }
+{
+    admit_on(held, seat, q, item)?;
+    held.holds();
+    let accepted = held.queue(seat, item)?;
+    Ok(accepted)
+}
+
+/// Removes the pending entry of an item: true where one was pending.
+///
+/// The error is `NoItem` (66), or else `HistoryFull` (60). After an error nothing is changed or counted.
+#[tactic(auto, using(crate::proofs::CallsRefused::cancel_refused))]
+pub fn cancel<N: Naming, A: Allocator>(
+    held: &mut Held<N, A>,
+    seat: &mut Seat<N, A>,
+    item: ItemId,
+) -> Result<bool, CallError>
+    ensures row { IfOk result (λ taken. AppendsOne held.old.book held.new.book (Cancel item) taken) }
+    ensures counted { IfOk result (λ taken. (item < items N.wiring) × HasRoom seat.old × (seat.new ≡ raised seat.old item CancelKind taken)) }
+    ensures refused { IfErr result (λ e. RefusesCancelWork N.wiring item e × (held.new ≡ held.old) × (seat.new ≡ seat.old)) }
+{
+    admit(held, seat, item)?;
+    held.holds();
+    let taken = held.cancel(seat, item)?;
+    Ok(taken)
+}
+
+/// Asks whether an item has an unfinished entry. Where it has, the caller waits for it.
+///
+/// The error is `NoItem` (66), or else `HistoryFull` (60). After an error nothing is changed or counted.
+#[tactic(auto, using(crate::proofs::CallsRefused::cancel_refused))]
+pub fn ask<N: Naming, A: Allocator>(
+    held: &mut Held<N, A>,
+    seat: &mut Seat<N, A>,
+    item: ItemId,
+) -> Result<Ask, CallError>
+    ensures row { IfOk result (λ answer. AnswersAsk held.old.book held.new.book item answer) }
+    ensures counted { IfOk result (λ answer. (item < items N.wiring) × HasRoom seat.old × CountsAsk seat.old seat.new item answer) }
+    ensures refused { IfErr result (λ e. RefusesCancelWork N.wiring item e × (held.new ≡ held.old) × (seat.new ≡ seat.old)) }
+{
+    admit(held, seat, item)?;
+    held.holds();
+    let answer = held.ask(seat, item)?;
+    Ok(answer)
+}
+
+/// Asks whether an item has an unfinished entry, then removes its pending one, and gives both answers.
+///
+/// The error is `NoItem` (66), or else `HistoryFull` (60), where the seat is full or fewer than 3 rows are free. After an error
+/// nothing is changed or counted.
+#[tactic(auto, using(crate::proofs::CallsRefused::both_refused))]
+pub fn ask_and_cancel<N: Naming, A: Allocator>(
+    held: &mut Held<N, A>,
+    seat: &mut Seat<N, A>,
+    item: ItemId,
+) -> Result<(Ask, bool), CallError>
+    ensures rows { IfOk result (λ r. AsksAndCancels held.old.book held.new.book item r.0 r.1) }
+    ensures counted { IfOk result (λ r. (item < items N.wiring) × HasRoom seat.old × CountsAskAndCancel seat.old seat.new item r.0 r.1) }
+    ensures refused { IfErr result (λ e. RefusesCancelWork N.wiring item e × (held.new ≡ held.old) × (seat.new ≡ seat.old)) }
+{
+    admit(held, seat, item)?;
+    held.holds();
+    let both = held.ask_and_cancel(seat, item)?;
+    Ok(both)
+}
+
+/// Starts the first pending entry of a workqueue, and gives its item. Where none is pending it gives nothing, and nothing is
+/// changed.
+///
+/// The only error is `WrongLane` (64), where there is no such workqueue or it runs an entry. After an error nothing is changed.
+#[tactic(auto, using(crate::proofs::CallsRefused::start_refused, crate::proofs::CallsRefused::start_none, crate::proofs::CallsRefused::lane_known))]
+pub fn start<N: Naming, A: Allocator>(
+    held: &mut Held<N, A>,
+    q: LaneId,
+) -> Result<Option<ItemId>, CallError>
+    ensures row { IfOk result (λ next. AnswersStart held.old.book held.new.book q next) }
+    ensures known { IfOk result (λ next. (q < N.wiring.lanes) × IfSome next (λ item. IsOnLane N.wiring q item)) }
+    ensures refused { IfErr result (λ e. (e ≡ WrongLane) × (held.new ≡ held.old)) }
+{
+    held.holds();
+    match held.start(q)? {
+        Some(item) => Ok(Some(item)),
+        None => Ok(None),
+    }
+}
+
+/// Makes what a workqueue runs begin to wait for an item: true where that item has an unfinished entry.
+///
+/// The error is the first of these that holds: `WrongLane` (64), where there is no such workqueue; `HistoryFull` (60), where
+/// the seat is full; `WrongLane` (64), where the workqueue runs nothing or waits; `Undeclared` (62); `TooManyWaits` (63). After an
+/// error nothing is changed or counted.
+#[tactic(auto, using(crate::proofs::CallsRefused::wait_refused))]
+pub fn wait<N: Naming, A: Allocator>(
+    held: &mut Held<N, A>,
+    seat: &mut Seat<N, A>,
+    q: LaneId,
+    target: ItemId,
+) -> Result<bool, CallError>
+    ensures row { IfOk result (λ unfinished. AppendsOne held.old.book held.new.book (Wait q target) unfinished) }
+    ensures counted { IfOk result (λ unfinished. (q < N.wiring.lanes) × (target < items N.wiring) × HasRoom seat.old × (seat.new ≡ raised seat.old target WaitKind unfinished)) }
+    ensures refused { IfErr result (λ e. RefusesWaitFor N.wiring seat.old q e × (held.new ≡ held.old) × (seat.new ≡ seat.old)) }
+{
+    if usize::from(q.get()) >= held.lanes() {
+        return Err(CallError::WrongLane);
+    }
+    if seat.is_full() {
+        return Err(CallError::HistoryFull);
+    }
+    let unfinished = held.wait(seat, q, target)?;
+    Ok(unfinished)
+}

@@ -1,0 +1,49 @@
+//! Why no runtime is made.
+//!
+//! The numbers are those of "Runtimes" in docs/FORMAT.md. Every call takes constant time.
+
+ghost use Rattle.std.specs.Prelude.{◌≡◌};
+ghost use Rattle.wq_under_lock.specs.Refusals.{new_code};
+ghost use Rattle.wq_under_lock.specs.declared.fault.NewError.TheVariants.{OutOfMemory};
+
+use std::alloc::AllocError;
+use thiserror::Error;
+
+/// Why no runtime is made: the first cause that holds.
+#[derive(Clone, Copy, Debug, PartialEq, Eq, Error)]
+pub enum NewError {
+    /// More than 256 workqueues (69).
+    #[error("more workqueues than a runtime may have")]
+    TooManyLanes,
+    /// More than 16,777,216 rows (68).
+    #[error("more rows than a history may have")]
+    TooManyRows,
+    /// The assignment isn't safe: some run ends stuck (67).
+    #[error("the assignment can deadlock")]
+    NotSafe,
+    /// Memory ran out (20).
+    #[error("out of memory")]
+    OutOfMemory,
+}
+
+impl NewError {
+    /// The number of the refusal: 20, 67, 68 or 69.
+    pub fn code(self) -> u32
+        ensures { result ≡ new_code self }
+    {
+        match self {
+            NewError::OutOfMemory => 20,
+            NewError::NotSafe => 67,
+            NewError::TooManyRows => 68,
+            NewError::TooManyLanes => 69,
+        }
+    }
+}
+
+impl From<AllocError> for NewError {
+    ghost from_gives = { λ _ e. e ≡ OutOfMemory };
+
+    fn from(_e: AllocError) -> NewError {
+        NewError::OutOfMemory
+    }
+}

@@ -1,0 +1,15 @@
+//! What a call of a runtime does while it has the lock: why it is refused, and which events it makes. The code calls a workqueue
+//! a lane.
+//!
+//! What the layer above relies on: a runtime begins only with an assignment that is safe. Each call says which counts of its
+//! caller's seat it raises, and is refused for the causes that its caller can know before any that is under the lock. A call that
+//! is refused leaves all as it was. No call here waits: the layer above takes the lock, sleeps without it, and wakes who sleeps.
+#![tactic(auto)]
+
+mod calls;
+mod fault;
+mod making;
+
+pub use calls::{ask, ask_and_cancel, cancel, queue, start, wait};
+pub use fault::NewError;
+pub use making::{MAX_LANES, new_held};

@@ -1,0 +1,64 @@
+//! What the lock of a new runtime protects.
+//!
+//! It takes the time of the wait graph of the workqueues and its ranks, and of the rows, for which it takes room.
+
+ghost use Rattle.std.specs.Prelude.{◌≡◌, length, OnOk, IfErr};
+ghost use Rattle.wq_groups.specs.Declaration.{declaration_of};
+ghost use Rattle.wq_core.specs.Wiring.{wiring};
+ghost use Rattle.wq_under_lock.specs.Refusals.{RefusesRuntime, MakesRuntime};
+
+use crate::fault::NewError;
+use std::alloc::Allocator;
+use std::sync::ledger::Blank;
+use wq_core::Core;
+use wq_deadlock::is_safe;
+use wq_groups::{Assignment, Groups};
+use wq_held::{Held, Naming};
+use wq_history::{Book, MAX_ROWS};
+use wq_items::ItemTable;
+
+/// The most workqueues that a runtime has: 256.
+pub const MAX_LANES: u16 = 256;
+
+/// Makes what the lock of a runtime protects, for the runtime of a table, the groups of its items and a workqueue for each group,
+/// with room for `rows` rows. The blank ledger has 65,536 parts, and its name says what the runtime is made of.
+///
+/// The error is the first of these that holds: `TooManyLanes` (69), more than 256 workqueues; `TooManyRows` (68), more than
+/// 16,777,216; `NotSafe` (67), some run of the assignment ends stuck. Out of memory (20) may come in place of the last, or
+/// where none holds.
+#[tactic(auto, using(crate::proofs::CallsRefused::book_refused, crate::proofs::CallsRefused::some_lanes))]
+pub fn new_held<N: Naming, A: Allocator + Copy>(
+    alloc: A,
+    blank: Blank,
+    table: &ItemTable<'_, A>,
+    groups: &Groups<A>,
+    assignment: &Assignment<A>,
+    rows: u32,
+) -> Result<Held<N, A>, NewError>
+    requires name { blank.name ≡ N.name }
+    requires parts { blank.parts ≡ N.parts }
+    requires all_parts { N.parts ≡ 65536 }
+    requires grouped { length groups.now.group_of ≡ length table.now.names }
+    requires assigned { length assignment.now.lane_of_group ≡ groups.now.groups }
+    requires of_wiring { N.wiring ≡ wiring (declaration_of table.now groups.now) assignment.now }
+    requires of_rows { N.rows ≡ rows }
+    ensures made { OnOk result (MakesRuntime N.wiring rows) }
+    ensures refused { IfErr result (RefusesRuntime N.wiring rows) }
+{
+    if assignment.lanes() > MAX_LANES {
+        return Err(NewError::TooManyLanes);
+    }
+    if rows > MAX_ROWS {
+        return Err(NewError::TooManyRows);
+    }
+    let safe = is_safe(alloc, table, groups, assignment)?;
+    if !safe {
+        return Err(NewError::NotSafe);
+    }
+    let core = Core::new(alloc, table, groups, assignment)?;
+    let Ok(book) = Book::new(alloc, core, rows) else {
+        return Err(NewError::OutOfMemory);
+    };
+    let held = Held::new(alloc, blank, book)?;
+    Ok(held)
+}
