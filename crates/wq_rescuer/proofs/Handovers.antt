@@ -3,13 +3,13 @@ use Rattle.std.proofs.Common.{◌≡◌, ℕ, zero, suc, ◌+◌, ◌≤◌, ◌
 use Rattle.std.specs.Prelude.{Some, Result, Ok, Err, OnOk, OnErr, IfOk, is_ok, is_err, slice_get, true, false}
 use Rattle.std.specs.List.{sum_by, range_with_len}
 use Rattle.std.proofs.lemmas.Bool.{cases_lt}
-use Rattle.std.proofs.lemmas.List.Sums.{sum_by-cons}
+use Rattle.std.proofs.lemmas.List.Sums.{sum_by-cons, sum_by_push}
 use Rattle.std.proofs.lemmas.List.{get_or-replicate, get_or_past, length-replicate, length-append}
 use Rattle.wq_counts.specs.declared.kind.Kind.TheVariants.{Finish}
 use Rattle.wq_counts.specs.Counting.{place}
 use Rattle.wq_held.specs.declared.fault.CallError.{CallError}
-use Rattle.wq_rescuer.specs.declared.rescuing.Rescued.{Rescued}
-use Rattle.wq_rescuer.specs.Executing.{finished_of, finished_in_all, CountsRuns, CountsAtMost}
+use Rattle.wq_execution.specs.declared.rescuing.Rescued.{Rescued}
+use Rattle.wq_execution.specs.Executing.{finished_of, finished_in_all, CountsRuns, CountsAtMost}
 use Rattle.wq_rescuer.specs.declared.running.RunWhy.{RunWhy}
 use Rattle.wq_rescuer.specs.declared.running.RunWhy.TheVariants.{BodiesDiffer, TooManySeats, OutOfMemory, NoThread}
 use Rattle.wq_rescuer.specs.Serving.{IsServed, AreServed, IsNoSeat, RefusesRun}
@@ -107,6 +107,10 @@ added items n m seats new_seats runs new_runs rescued new_rescued seat ran answe
     (subst (λ fs. AreServed items (n + 1) (seats ++ (seat ∷ [])) fs new_rescued) (sym runs_are)
     (subst (λ rs. AreServed items (n + 1) (seats ++ (seat ∷ [])) (runs ++ (ran ∷ [])) rs) (sym rescued_are)
     (are_served_more items n seats runs rescued seat ran answer are is))))
+
+-- a sum over a list that is known to have one more
+pub sum_by-added : {X : Type 0} (f : X → ℕ) (xs ys : List X) (x : X) → ys ≡ xs ++ (x ∷ []) → sum_by f ys ≡ sum_by f xs + f x
+sum_by-added f xs ys x more = ap (sum_by f) more ∙ sum_by_push f xs x
 
 -- ---- all that was run
 

@@ -1,2 +1,1 @@
-pub mod Executions
 pub mod Handovers

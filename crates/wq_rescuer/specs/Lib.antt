@@ -1,2 +1,2 @@
-pub mod Executing
+pub use Rattle.wq_execution.specs.Executing
 pub mod Serving

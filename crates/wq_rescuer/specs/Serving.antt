@@ -1,25 +1,12 @@
 -- Serving: what a rescuer hands back, and what all threads together do.
-use Rattle.std.specs.Prelude.{⊤, ◌≡◌, ◌≢◌, ℕ, ◌+◌, ◌*◌, ◌<◌, ◌≤◌, List, length, replicate, take, sum, slice_get, Some, Result, Ok, Err}
+use Rattle.std.specs.Prelude.{◌≡◌, ◌≢◌, ℕ, ◌+◌, ◌*◌, ◌<◌, ◌≤◌, List, length, replicate, take, slice_get, Some, Result, Ok, Err}
 use Rattle.std.specs.Result.{ForOk, ForErr}
 use Rattle.std.specs.List.{All, sum_by}
 use Rattle.wq_held.specs.declared.fault.CallError.{CallError}
-use Rattle.wq_held.specs.declared.fault.CallError.TheVariants.{HistoryFull, WrongLane, NoItem, Closed, Undeclared, TooManyWaits, NotAsked}
-use Rattle.wq_held.specs.Locked.{seat_rows}
-use Rattle.wq_rescuer.specs.declared.rescuing.Rescued.{Rescued}
+use Rattle.wq_execution.specs.declared.rescuing.Rescued.{Rescued}
 use Rattle.wq_rescuer.specs.declared.running.RunWhy.{RunWhy}
 use Rattle.wq_rescuer.specs.declared.running.RunWhy.TheVariants.{BodiesDiffer, TooManySeats, OutOfMemory, NoThread}
-use Rattle.wq_rescuer.specs.Executing.{finished_of, finished_in_all}
-
--- why a rescuer is refused, whose seat has these counts when it ends: the seat is full; or there is no such lane, or another caller
--- drove the same one
-abbrev pub RefusesRescue : List ℕ → CallError → Type 0
-RefusesRescue seat HistoryFull = seat_rows ≤ sum seat
-RefusesRescue seat WrongLane = ⊤
-RefusesRescue seat NoItem = ⊥
-RefusesRescue seat Closed = ⊥
-RefusesRescue seat Undeclared = ⊥
-RefusesRescue seat TooManyWaits = ⊥
-RefusesRescue seat NotAsked = ⊥
+use Rattle.wq_execution.specs.Executing.{finished_of, finished_in_all}
 
 -- a rescuer whose seat had no counts, and whose body had run nothing: for each item, the seat counts as finished what the body
 -- ran, and in all, what the rescuer says; after a refusal, no more than the body ran

@@ -2,45 +2,84 @@
 //!
 //! Making the jobs takes time in the number of lanes and callers. It takes no memory, since room for them was made before.
 
-ghost use Rattle.std.specs.Prelude.{◌≡◌, ℕ, ◌+◌, ◌*◌, ◌<◌, ◌≤◌, replicate, [], vec_len, vec_capacity};
+ghost use Rattle.std.specs.Prelude.{◌≡◌, ℕ, ◌+◌, ◌*◌, ◌<◌, ◌≤◌, replicate, vec_len, vec_capacity, IfOk, OnErr};
 ghost use Rattle.std.specs.List.{All};
 ghost use Rattle.wq_core.specs.Wiring.{items};
-ghost use Rattle.wq_rescuer.specs.Executing.{NeverRan};
+ghost use Rattle.wq_execution.specs.Executing.{NeverRan};
 
-use crate::body::{Body, Caller};
-use crate::calling::{CallerEnd, CallerJob};
+use crate::calling::{Caller, CallerEnd, CallerJob};
 use crate::lane::{LaneEnd, LaneJob};
-use std::alloc::Allocator;
+use std::alloc::{AllocError, Allocator};
 use wq_api::{Naming, Seat};
+use wq_execution::Body;
 use wq_groups::LaneId;
 
-/// The jobs that no thread has taken yet (the next one is last), and what came back (the latest is last).
+/// Jobs, and what comes back of them.
 #[derive(Drop)]
-pub(crate) struct Board<N: Naming, A: Allocator, B: Body + Drop, C: Caller + Drop> {
-    pub(crate) lane_jobs: Vec<LaneJob<N, A, B>, A>,
-    pub(crate) caller_jobs: Vec<CallerJob<N, A, C>, A>,
-    pub(crate) lane_ends: Vec<LaneEnd<N, A, B>, A>,
-    pub(crate) caller_ends: Vec<CallerEnd<N, A, C>, A>,
-    ghost lane_room: { vec_len lane_jobs + vec_len lane_ends ≤ vec_capacity lane_ends },
-    ghost caller_room: { vec_len caller_jobs + vec_len caller_ends ≤ vec_capacity caller_ends },
+pub(crate) struct Jobs<J: Drop, E: Drop, A: Allocator> {
+    /// Those that no thread has taken yet. The next one is last.
+    pub(crate) waiting: Vec<J, A>,
+    /// What came back. The latest is last.
+    pub(crate) ends: Vec<E, A>,
+    ghost room: { vec_len waiting + vec_len ends ≤ vec_capacity ends },
 }
 
-/// Adds the jobs of the lanes, that of the first lane last. Each job takes the last seat that is left.
+impl<J: Drop, E: Drop, A: Allocator + Copy> Jobs<J, E, A> {
+    /// Room for this many jobs, of which there is none yet. The only error is out of memory (20), and never where there is to be
+    /// no job.
+    pub(crate) fn new(alloc: A, count: usize) -> Result<Self, AllocError>
+        ensures waiting { IfOk result (λ r. (vec_len r.waiting ≡ 0) × (count ≤ vec_capacity r.waiting)) }
+        ensures ends { IfOk result (λ r. (vec_len r.ends ≡ 0) × (count ≤ vec_capacity r.ends)) }
+        ensures memory { OnErr result (0 < count) }
+    {
+        Ok(Jobs {
+            waiting: Vec::with_capacity(alloc, count)?,
+            ends: Vec::with_capacity(alloc, count)?,
+        })
+    }
+}
+
+/// All jobs.
+#[derive(Drop)]
+pub(crate) struct Board<N: Naming, A: Allocator, B: Body + Drop, C: Caller + Drop> {
+    pub(crate) lanes: Jobs<LaneJob<N, A, B>, LaneEnd<N, A, B>, A>,
+    pub(crate) callers: Jobs<CallerJob<N, A, C>, CallerEnd<N, A, C>, A>,
+}
+
+impl<N: Naming, A: Allocator + Copy, B: Body + Drop, C: Caller + Drop> Board<N, A, B, C> {
+    /// Room for the jobs of this many lanes and callers, of which there is none yet. The only error is out of memory (20), and
+    /// never where there is to be no job.
+    pub(crate) fn new(alloc: A, lanes: usize, callers: usize) -> Result<Self, AllocError>
+        ensures lane_jobs { IfOk result (λ r. (vec_len r.lanes.waiting ≡ 0) × (lanes ≤ vec_capacity r.lanes.waiting)) }
+        ensures lane_ends { IfOk result (λ r. (vec_len r.lanes.ends ≡ 0) × (lanes ≤ vec_capacity r.lanes.ends)) }
+        ensures caller_jobs { IfOk result (λ r. (vec_len r.callers.waiting ≡ 0) × (callers ≤ vec_capacity r.callers.waiting)) }
+        ensures caller_ends { IfOk result (λ r. (vec_len r.callers.ends ≡ 0) × (callers ≤ vec_capacity r.callers.ends)) }
+        ensures memory { OnErr result (0 < lanes + callers) }
+    {
+        Ok(Board {
+            lanes: Jobs::new(alloc, lanes)?,
+            callers: Jobs::new(alloc, callers)?,
+        })
+    }
+}
+
+/// Makes the jobs of the lanes, that of the first lane last. Each job takes the last seat that is left. No body is left.
 pub(crate) fn add_lanes<N: Naming, A: Allocator, B: Body + Drop>(
     jobs: &mut Vec<LaneJob<N, A, B>, A>,
     seats: &mut Vec<Seat<N, A>, A>,
-    mut bodies: Vec<B, A>,
+    bodies: &mut Vec<B, A>,
 )
-    requires few { vec_len bodies ≤ 256 }
-    requires room { vec_len jobs.old + vec_len bodies ≤ vec_capacity jobs.old }
-    requires seats { vec_len bodies ≤ vec_len seats.old }
+    requires few { vec_len bodies.old ≤ 256 }
+    requires room { vec_len jobs.old + vec_len bodies.old ≤ vec_capacity jobs.old }
+    requires seats { vec_len bodies.old ≤ vec_len seats.old }
     requires no_counts { All (λ seat. seat ≡ replicate (14 * items N.wiring) 0) seats.old.items }
-    requires width { All (λ body. items N.wiring ≤ B.width body) bodies.items }
-    requires never_ran { All (λ body. NeverRan (B.runs body)) bodies.items }
-    ensures jobs { vec_len jobs.new ≡ vec_len jobs.old + vec_len bodies }
-    ensures room { vec_capacity jobs.new ≡ vec_capacity jobs.old }
-    ensures seats { vec_len seats.new + vec_len bodies ≡ vec_len seats.old }
+    requires width { All (λ body. items N.wiring ≤ B.width body) bodies.old.items }
+    requires never_ran { All (λ body. NeverRan (B.runs body)) bodies.old.items }
+    ensures jobs { vec_len jobs.new ≡ vec_len jobs.old + vec_len bodies.old }
+    ensures seats { vec_len seats.new + vec_len bodies.old ≡ vec_len seats.old }
     ensures seat_room { vec_capacity seats.new ≡ vec_capacity seats.old }
+    ensures no_bodies { vec_len bodies.new ≡ 0 }
+    ensures body_room { vec_capacity bodies.new ≡ vec_capacity bodies.old }
 {
     while let Some(body) = bodies.pop() {
         let lane = LaneId::new(bodies.len() as u16);
@@ -51,20 +90,21 @@ pub(crate) fn add_lanes<N: Naming, A: Allocator, B: Body + Drop>(
     }
 }
 
-/// Adds the jobs of the callers, that of the first caller last. Each job takes the last seat that is left.
+/// Makes the jobs of the callers, that of the first caller last. Each job takes the last seat that is left. No caller is left.
 pub(crate) fn add_callers<N: Naming, A: Allocator, C: Caller + Drop>(
     jobs: &mut Vec<CallerJob<N, A, C>, A>,
     seats: &mut Vec<Seat<N, A>, A>,
-    mut callers: Vec<C, A>,
+    callers: &mut Vec<C, A>,
 )
-    requires room { vec_len jobs.old + vec_len callers ≤ vec_capacity jobs.old }
-    requires seats { vec_len callers ≤ vec_len seats.old }
+    requires room { vec_len jobs.old + vec_len callers.old ≤ vec_capacity jobs.old }
+    requires seats { vec_len callers.old ≤ vec_len seats.old }
     requires no_counts { All (λ seat. seat ≡ replicate (14 * items N.wiring) 0) seats.old.items }
-    ensures jobs { vec_len jobs.new ≡ vec_len jobs.old + vec_len callers }
-    ensures room { vec_capacity jobs.new ≡ vec_capacity jobs.old }
-    ensures seats { vec_len seats.new + vec_len callers ≡ vec_len seats.old }
+    ensures jobs { vec_len jobs.new ≡ vec_len jobs.old + vec_len callers.old }
+    ensures seats { vec_len seats.new + vec_len callers.old ≡ vec_len seats.old }
     ensures seat_room { vec_capacity seats.new ≡ vec_capacity seats.old }
     ensures no_counts { All (λ seat. seat ≡ replicate (14 * items N.wiring) 0) seats.new.items }
+    ensures no_callers { vec_len callers.new ≡ 0 }
+    ensures caller_room { vec_capacity callers.new ≡ vec_capacity callers.old }
 {
     while let Some(caller) = callers.pop() {
         let Some(seat) = seats.pop() else {

@@ -1,11 +1,19 @@
-//! What the thread of a caller is given, and what it hands back.
+//! Who calls the runtime; what the thread of a caller is given, and what it hands back.
 
-ghost use Rattle.std.specs.Prelude.{◌≡◌, ◌<◌, ◌≤◌, vec_len, vec_capacity, IfOk, OnErr};
-
-use crate::body::Caller;
-use std::alloc::{AllocError, Allocator};
+use std::alloc::Allocator;
 use std::sync::Wait;
 use wq_api::{CallError, Naming, Seat, WqRuntime};
+
+/// Who calls a runtime, in a thread of its own.
+pub trait Caller {
+    /// Makes the calls. The error is the first refusal that the caller doesn't handle.
+    fn call<N: Naming, A: Allocator, R: Wait>(
+        &mut self,
+        rt: &R,
+        runtime: &WqRuntime<N, A>,
+        seat: &mut Seat<N, A>,
+    ) -> Result<(), CallError>;
+}
 
 /// A caller that is to make its calls, with a seat.
 #[derive(Drop)]
@@ -39,32 +47,5 @@ impl<N: Naming, A: Allocator, C: Caller + Drop> CallerJob<N, A, C> {
             caller,
             result,
         }
-    }
-}
-
-/// Room for the jobs of this many callers, and for what they leave. All of it is empty.
-#[derive(Drop)]
-pub(crate) struct CallerRoom<N: Naming, A: Allocator, C: Caller + Drop> {
-    pub(crate) jobs: Vec<CallerJob<N, A, C>, A>,
-    pub(crate) ends: Vec<CallerEnd<N, A, C>, A>,
-    pub(crate) callers: Vec<C, A>,
-    pub(crate) results: Vec<Result<(), CallError>, A>,
-}
-
-impl<N: Naming, A: Allocator + Copy, C: Caller + Drop> CallerRoom<N, A, C> {
-    /// Makes room for this many callers. The only error is out of memory (20), which can't occur where there is no caller.
-    pub(crate) fn new(alloc: A, callers: usize) -> Result<Self, AllocError>
-        ensures jobs { IfOk result (λ r. (vec_len r.jobs ≡ 0) × (callers ≤ vec_capacity r.jobs)) }
-        ensures ends { IfOk result (λ r. (vec_len r.ends ≡ 0) × (callers ≤ vec_capacity r.ends)) }
-        ensures callers { IfOk result (λ r. (vec_len r.callers ≡ 0) × (callers ≤ vec_capacity r.callers)) }
-        ensures results { IfOk result (λ r. (vec_len r.results ≡ 0) × (callers ≤ vec_capacity r.results)) }
-        ensures memory { OnErr result (0 < callers) }
-    {
-        Ok(CallerRoom {
-            jobs: Vec::with_capacity(alloc, callers)?,
-            ends: Vec::with_capacity(alloc, callers)?,
-            callers: Vec::with_capacity(alloc, callers)?,
-            results: Vec::with_capacity(alloc, callers)?,
-        })
     }
 }

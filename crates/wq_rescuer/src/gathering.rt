@@ -2,20 +2,51 @@
 //!
 //! It takes time in the number of lanes and callers. It takes no memory, since room for all was made before any thread started.
 
-ghost use Rattle.std.specs.Prelude.{◌≡◌, ℕ, ◌+◌, ◌≤◌, [], map, take, vec_len, vec_capacity};
+ghost use Rattle.std.specs.Prelude.{◌≡◌, ℕ, ◌+◌, ◌<◌, ◌≤◌, [], map, take, vec_len, vec_capacity};
 ghost use Rattle.std.specs.List.{sum_by};
 ghost use Rattle.wq_core.specs.Wiring.{items};
-ghost use Rattle.wq_rescuer.specs.Serving.{AreServed, finished_by, faults_by};
+ghost use Rattle.wq_rescuer.specs.Serving.{AreServed, IsRan, finished_by, faults_by};
 ghost use Rattle.wq_rescuer.specs.declared.running.RunWhy.TheVariants.{NoThread};
 
-use crate::board::Board;
-use crate::body::{Body, Caller};
-use crate::calling::{CallerEnd, CallerJob};
+use crate::board::{Board, Jobs};
+use crate::calling::{Caller, CallerEnd, CallerJob};
 use crate::lane::{LaneEnd, LaneJob};
-use crate::rescuing::{Rescued, count_faults, count_finished};
-use crate::running::{RunFault, RunWhy};
+use crate::running::{Ran, RunFault, RunWhy};
 use std::alloc::Allocator;
 use wq_api::{CallError, Naming, Seat};
+use wq_execution::{Body, Rescued};
+
+/// Lists for what comes back. They are empty while the threads run. Those of the bodies and callers are the ones that were handed in.
+#[derive(Drop)]
+pub(crate) struct Back<N: Naming, A: Allocator, B: Body + Drop, C: Caller + Drop> {
+    pub(crate) seats: Vec<Seat<N, A>, A>,
+    pub(crate) bodies: Vec<B, A>,
+    pub(crate) callers: Vec<C, A>,
+    pub(crate) rescued: Vec<Result<Rescued, CallError>, A>,
+    pub(crate) results: Vec<Result<(), CallError>, A>,
+}
+
+/// How many executions a rescuer finished: none where it was refused.
+fn count_finished(answer: &Result<Rescued, CallError>) -> u64
+    ensures count { result ≡ finished_by answer.now }
+    ensures few { result < 4294967296 }
+{
+    match answer {
+        Ok(rescued) => u64::from(rescued.finished),
+        Err(_) => 0,
+    }
+}
+
+/// How many of these executions ended with a fault.
+fn count_faults(answer: &Result<Rescued, CallError>) -> u64
+    ensures count { result ≡ faults_by answer.now }
+    ensures few { result < 4294967296 }
+{
+    match answer {
+        Ok(rescued) => u64::from(rescued.faults),
+        Err(_) => 0,
+    }
+}
 
 /// What the lanes leave.
 #[derive(Drop)]
@@ -96,46 +127,117 @@ pub(crate) fn gather_callers<N: Naming, A: Allocator, C: Caller + Drop>(
     }
 }
 
+/// Puts together what came back of the lanes and the callers, where all of it came back.
+pub(crate) fn gather<N: Naming, A: Allocator, B: Body + Drop, C: Caller + Drop>(
+    board: Board<N, A, B, C>,
+    back: Back<N, A, B, C>,
+) -> Ran<N, A, B, C>
+    requires few { vec_len board.lanes.ends ≤ 256 }
+    requires seats { (vec_len back.seats ≡ 0) × (vec_len board.lanes.ends + vec_len board.callers.ends ≤ vec_capacity back.seats) }
+    requires bodies { (vec_len back.bodies ≡ 0) × (vec_len board.lanes.ends ≤ vec_capacity back.bodies) }
+    requires callers { (vec_len back.callers ≡ 0) × (vec_len board.callers.ends ≤ vec_capacity back.callers) }
+    requires rescued { (vec_len back.rescued ≡ 0) × (vec_len board.lanes.ends ≤ vec_capacity back.rescued) }
+    requires results { (vec_len back.results ≡ 0) × (vec_len board.callers.ends ≤ vec_capacity back.results) }
+    ensures { IsRan (items N.wiring) (vec_len board.lanes.ends) (vec_len board.callers.ends) result.seats.items (map B.runs result.bodies.items) (vec_len result.callers) (vec_len result.results) result.rescued.items result.finished result.faults }
+{
+    let Board {
+        lanes,
+        callers: calls,
+    } = board;
+    let Back {
+        seats,
+        bodies,
+        mut callers,
+        rescued,
+        mut results,
+    } = back;
+    let Served {
+        mut seats,
+        bodies,
+        rescued,
+        finished,
+        faults,
+    } = gather_lanes(lanes.ends, seats, bodies, rescued);
+    gather_callers(calls.ends, &mut seats, &mut callers, &mut results);
+    Ran {
+        seats,
+        bodies,
+        callers,
+        results,
+        rescued,
+        finished,
+        faults,
+    }
+}
+
 /// Keeps a value in a list that has room for it.
 fn keep<T: Drop, A: Allocator>(list: &mut Vec<T, A>, value: T) {
     let _kept = list.push(value);
 }
 
+/// Hands back the lanes: what came back, and the jobs that no thread took.
+fn hand_back_lanes<N: Naming, A: Allocator, B: Body + Drop>(
+    lanes: Jobs<LaneJob<N, A, B>, LaneEnd<N, A, B>, A>,
+    seats: &mut Vec<Seat<N, A>, A>,
+    bodies: &mut Vec<B, A>,
+) {
+    let Jobs {
+        mut waiting,
+        mut ends,
+    } = lanes;
+    while let Some(end) = ends.pop() {
+        let LaneEnd { seat, body, .. } = end;
+        keep(seats, seat);
+        keep(bodies, body);
+    }
+    while let Some(job) = waiting.pop() {
+        let LaneJob { seat, body, .. } = job;
+        keep(seats, seat);
+        keep(bodies, body);
+    }
+}
+
+/// Hands back the callers in the same way.
+fn hand_back_callers<N: Naming, A: Allocator, C: Caller + Drop>(
+    calls: Jobs<CallerJob<N, A, C>, CallerEnd<N, A, C>, A>,
+    seats: &mut Vec<Seat<N, A>, A>,
+    callers: &mut Vec<C, A>,
+) {
+    let Jobs {
+        mut waiting,
+        mut ends,
+    } = calls;
+    while let Some(end) = ends.pop() {
+        let CallerEnd { seat, caller, .. } = end;
+        keep(seats, seat);
+        keep(callers, caller);
+    }
+    while let Some(job) = waiting.pop() {
+        let CallerJob { seat, caller } = job;
+        keep(seats, seat);
+        keep(callers, caller);
+    }
+}
+
 /// Hands back, where a thread couldn't be made, what came back and the jobs that no thread took. There is room for all of it.
 pub(crate) fn hand_back<N: Naming, A: Allocator, B: Body + Drop, C: Caller + Drop>(
     board: Board<N, A, B, C>,
-    mut seats: Vec<Seat<N, A>, A>,
-    mut bodies: Vec<B, A>,
-    mut callers: Vec<C, A>,
+    back: Back<N, A, B, C>,
 ) -> RunFault<N, A, B, C>
     ensures { result.why ≡ NoThread }
 {
     let Board {
-        mut lane_jobs,
-        mut caller_jobs,
-        mut lane_ends,
-        mut caller_ends,
+        lanes,
+        callers: calls,
     } = board;
-    while let Some(end) = lane_ends.pop() {
-        let LaneEnd { seat, body, .. } = end;
-        keep(&mut seats, seat);
-        keep(&mut bodies, body);
-    }
-    while let Some(job) = lane_jobs.pop() {
-        let LaneJob { seat, body, .. } = job;
-        keep(&mut seats, seat);
-        keep(&mut bodies, body);
-    }
-    while let Some(end) = caller_ends.pop() {
-        let CallerEnd { seat, caller, .. } = end;
-        keep(&mut seats, seat);
-        keep(&mut callers, caller);
-    }
-    while let Some(job) = caller_jobs.pop() {
-        let CallerJob { seat, caller } = job;
-        keep(&mut seats, seat);
-        keep(&mut callers, caller);
-    }
+    let Back {
+        mut seats,
+        mut bodies,
+        mut callers,
+        ..
+    } = back;
+    hand_back_lanes(lanes, &mut seats, &mut bodies);
+    hand_back_callers(calls, &mut seats, &mut callers);
     RunFault {
         seats,
         bodies,

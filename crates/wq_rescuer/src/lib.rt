@@ -1,20 +1,18 @@
-//! Rescuers: a thread for each workqueue, which runs the bodies of its items, and threads that meanwhile call the runtime. The
-//! code calls a workqueue a lane.
+//! Rescuers in threads: one for each workqueue, which runs the bodies of its items, and threads that meanwhile call the runtime.
+//! The code calls a workqueue a lane.
 //!
-//! What the layer above relies on: for each item, a rescuer's seat counts as finished what its body ran.
+//! What the layer above relies on: each seat that is handed back with a body counts as finished what this body ran, item by item,
+//! and the sums are those of the rescuers.
 #![tactic(auto)]
 
 mod board;
-mod body;
 mod calling;
 mod gathering;
 mod lane;
-mod rescuing;
 mod running;
+mod space;
 mod threads;
-mod work;
 
-pub use body::{Body, BodyFault, Caller};
-pub use rescuing::{Rescued, rescue};
+pub use calling::Caller;
 pub use running::{Ran, RunFault, RunWhy, run_all};
-pub use work::Work;
+pub use wq_execution::{Body, BodyFault, Rescued, Work, rescue};

@@ -3,25 +3,24 @@
 //!
 //! All memory is taken, and all seats are made, before any thread starts.
 
-ghost use Rattle.std.specs.Prelude.{◌≡◌, ◌≢◌, ℕ, ◌+◌, ◌*◌, ◌<◌, ◌≤◌, [], replicate, map, vec_len, vec_capacity, IfOk, IfErr, OnErr};
+ghost use Rattle.std.specs.Prelude.{◌≡◌, ◌≢◌, ℕ, ◌+◌, ◌<◌, ◌≤◌, [], map, vec_len, IfOk, IfErr};
 ghost use Rattle.std.specs.List.{All};
 ghost use Rattle.wq_core.specs.Wiring.{items};
-ghost use Rattle.wq_rescuer.specs.Executing.{NeverRan};
+ghost use Rattle.wq_execution.specs.Executing.{NeverRan};
 ghost use Rattle.wq_rescuer.specs.Serving.{AreFirstSeats, IsNoSeat, IsRan, RefusesRun, run_code};
 ghost use Rattle.wq_rescuer.specs.declared.running.RunWhy.TheVariants.{BodiesDiffer, OutOfMemory, NoThread};
 
-use crate::board::{Board, add_callers, add_lanes};
-use crate::body::{Body, Caller};
-use crate::calling::CallerRoom;
-use crate::gathering::{Served, gather_callers, gather_lanes, hand_back};
-use crate::lane::LaneRoom;
-use crate::rescuing::Rescued;
+use crate::board::{add_callers, add_lanes};
+use crate::calling::Caller;
+use crate::gathering::{Back, gather, hand_back};
+use crate::space::{NoSpace, Space, reserve};
 use crate::threads::run_threads;
 use std::alloc::Allocator;
 use std::sync::Wait;
 use std::thread::Threads;
 use thiserror::Error;
-use wq_api::{CallError, Naming, Seat, SeatError, WqRuntime};
+use wq_api::{CallError, Naming, Seat, WqRuntime};
+use wq_execution::{Body, Rescued};
 
 /// Why not everything was run.
 #[derive(Clone, Copy, Debug, PartialEq, Eq, Error)]
@@ -86,37 +85,6 @@ pub struct RunFault<N: Naming, A: Allocator, B: Body + Drop, C: Caller + Drop> {
     pub why: RunWhy,
 }
 
-/// A seat for each lane and each caller. The error hands back those that were made before it.
-fn make_seats<N: Naming, A: Allocator + Copy, R: Wait>(
-    rt: &R,
-    alloc: A,
-    runtime: &WqRuntime<N, A>,
-    lanes: usize,
-    callers: usize,
-) -> Result<Vec<Seat<N, A>, A>, (Vec<Seat<N, A>, A>, RunWhy)>
-    ensures seats { IfOk result (λ seats. vec_len seats ≡ lanes + callers) }
-    ensures room { IfOk result (λ seats. lanes + callers ≤ vec_capacity seats) }
-    ensures no_counts { IfOk result (λ seats. All (λ seat. seat ≡ replicate (14 * items N.wiring) 0) seats.items) }
-    ensures refused { IfErr result (λ e. IsNoSeat e.1) }
-    ensures made { IfErr result (λ e. AreFirstSeats (items N.wiring) (lanes + callers) e.0.items) }
-    ensures some { OnErr result (0 < lanes + callers) }
-{
-    let Some(count) = lanes.checked_add(callers) else {
-        return Err((Vec::new(alloc), RunWhy::OutOfMemory));
-    };
-    let Ok(mut seats) = Vec::with_capacity(alloc, count) else {
-        return Err((Vec::new(alloc), RunWhy::OutOfMemory));
-    };
-    for _ in 0..count {
-        match runtime.seat(rt, alloc) {
-            Ok(seat) => seats.push_reserved(seat),
-            Err(SeatError::TooManySeats) => return Err((seats, RunWhy::TooManySeats)),
-            Err(SeatError::OutOfMemory) => return Err((seats, RunWhy::OutOfMemory)),
-        }
-    }
-    Ok(seats)
-}
-
 /// Runs everything: makes a seat for each workqueue and each caller, starts a thread that serves each workqueue and then a thread
 /// that makes the calls of each caller, waits for the callers, closes the runtime by `destroy`, and waits for the threads of the
 /// workqueues.
@@ -137,8 +105,8 @@ pub fn run_all<
     rt: &R,
     alloc: A,
     runtime: &WqRuntime<N, A>,
-    bodies: Vec<B, A>,
-    callers: Vec<C, A>,
+    mut bodies: Vec<B, A>,
+    mut callers: Vec<C, A>,
 ) -> Result<Ran<N, A, B, C>, RunFault<N, A, B, C>>
     requires width { All (λ body. items N.wiring ≤ B.width body) bodies.items }
     requires never_ran { All (λ body. NeverRan (B.runs body)) bodies.items }
@@ -151,78 +119,32 @@ pub fn run_all<
 {
     let lanes = bodies.len();
     let count = callers.len();
-    if lanes != usize::from(runtime.lanes(rt)) {
-        return Err(RunFault {
-            seats: Vec::new(alloc),
-            bodies,
-            callers,
-            why: RunWhy::BodiesDiffer,
-        });
-    }
-    let (Ok(lane), Ok(caller)) = (LaneRoom::new(alloc, lanes), CallerRoom::new(alloc, count)) else {
-        return Err(RunFault {
-            seats: Vec::new(alloc),
-            bodies,
-            callers,
-            why: RunWhy::OutOfMemory,
-        });
-    };
-    let mut seats = match make_seats(rt, alloc, runtime, lanes, count) {
-        Ok(seats) => seats,
-        Err((seats, why)) => return Err(RunFault {
+    let Space {
+        mut board,
+        mut seats,
+        rescued,
+        results,
+    } = match reserve(rt, alloc, runtime, lanes, count) {
+        Ok(space) => space,
+        Err(NoSpace { seats, why }) => return Err(RunFault {
             seats,
             bodies,
             callers,
             why,
         }),
     };
-    let LaneRoom {
-        jobs: mut lane_jobs,
-        ends: lane_ends,
-        bodies: bodies_back,
-        rescued,
-    } = lane;
-    let CallerRoom {
-        jobs: mut caller_jobs,
-        ends: caller_ends,
-        callers: mut callers_back,
-        mut results,
-    } = caller;
-    add_callers(&mut caller_jobs, &mut seats, callers);
-    add_lanes(&mut lane_jobs, &mut seats, bodies);
-    let board = run_threads(
-        rt,
-        runtime,
-        Board {
-            lane_jobs,
-            caller_jobs,
-            lane_ends,
-            caller_ends,
-        },
-    );
-    if board.lane_ends.len() != lanes || board.caller_ends.len() != count {
-        return Err(hand_back(board, seats, bodies_back, callers_back));
-    }
-    let Board {
-        lane_ends,
-        caller_ends,
-        ..
-    } = board;
-    let Served {
-        mut seats,
-        bodies,
-        rescued,
-        finished,
-        faults,
-    } = gather_lanes(lane_ends, seats, bodies_back, rescued);
-    gather_callers(caller_ends, &mut seats, &mut callers_back, &mut results);
-    Ok(Ran {
+    add_callers(&mut board.callers.waiting, &mut seats, &mut callers);
+    add_lanes(&mut board.lanes.waiting, &mut seats, &mut bodies);
+    let board = run_threads(rt, runtime, board);
+    let back = Back {
         seats,
         bodies,
-        callers: callers_back,
-        results,
+        callers,
         rescued,
-        finished,
-        faults,
-    })
+        results,
+    };
+    if board.lanes.ends.len() != lanes || board.callers.ends.len() != count {
+        return Err(hand_back(board, back));
+    }
+    Ok(gather(board, back))
 }

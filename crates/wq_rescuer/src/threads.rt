@@ -5,13 +5,14 @@
 
 ghost use Rattle.std.specs.Prelude.{◌≡◌, ℕ, ◌+◌, ◌≤◌, vec_len, vec_capacity};
 
-use crate::board::Board;
-use crate::body::{Body, Caller};
+use crate::board::{Board, Jobs};
+use crate::calling::{Caller, CallerEnd, CallerJob};
 use std::alloc::Allocator;
 use std::sync::Wait;
 use std::thread;
 use std::thread::{Scope, Threads};
 use wq_api::{Naming, WqRuntime};
+use wq_execution::Body;
 
 /// Starts the callers that no thread has taken yet, and waits until all of them have made their calls.
 fn run_callers<
@@ -20,26 +21,28 @@ fn run_callers<
     N: Naming + Send + Sync + 's,
     A: Allocator + Send + Sync + 's,
     R: Threads + Wait + Sync + 's,
-    B: Body + Send + Drop + 's,
     C: Caller + Send + Drop + 's,
->(scope: &Scope<'s, E>, rt: &'s R, runtime: &'s WqRuntime<N, A>, board: &mut Board<N, A, B, C>)
-    ensures lanes { vec_len board.new.lane_jobs + vec_len board.new.lane_ends ≤ vec_len board.old.lane_jobs + vec_len board.old.lane_ends }
-    ensures lane_room { vec_capacity board.new.lane_ends ≡ vec_capacity board.old.lane_ends }
-    ensures callers { vec_len board.new.caller_jobs + vec_len board.new.caller_ends ≤ vec_len board.old.caller_jobs + vec_len board.old.caller_ends }
-    ensures caller_room { vec_capacity board.new.caller_ends ≡ vec_capacity board.old.caller_ends }
+>(
+    scope: &Scope<'s, E>,
+    rt: &'s R,
+    runtime: &'s WqRuntime<N, A>,
+    jobs: &mut Jobs<CallerJob<N, A, C>, CallerEnd<N, A, C>, A>,
+)
+    ensures callers { vec_len jobs.new.waiting + vec_len jobs.new.ends ≤ vec_len jobs.old.waiting + vec_len jobs.old.ends }
+    ensures room { vec_capacity jobs.new.ends ≡ vec_capacity jobs.old.ends }
 {
-    let Some(job) = board.caller_jobs.pop() else {
+    let Some(job) = jobs.waiting.pop() else {
         return;
     };
     if let Ok(thread) = scope.spawn(move || job.make_calls(rt, runtime)) {
-        run_callers(scope, rt, runtime, board);
-        board.caller_ends.push_reserved(thread.join(rt));
+        run_callers(scope, rt, runtime, jobs);
+        jobs.ends.push_reserved(thread.join(rt));
     }
 }
 
 /// Starts the lanes that no thread has taken yet, and then the callers. It waits until the callers have made their calls and the
 /// lanes have nothing left to do.
-pub(crate) fn run_lanes<
+fn run_lanes<
     's,
     E,
     N: Naming + Send + Sync + 's,
@@ -48,20 +51,18 @@ pub(crate) fn run_lanes<
     B: Body + Send + Drop + 's,
     C: Caller + Send + Drop + 's,
 >(scope: &Scope<'s, E>, rt: &'s R, runtime: &'s WqRuntime<N, A>, board: &mut Board<N, A, B, C>)
-    ensures lanes { vec_len board.new.lane_jobs + vec_len board.new.lane_ends ≤ vec_len board.old.lane_jobs + vec_len board.old.lane_ends }
-    ensures lane_room { vec_capacity board.new.lane_ends ≡ vec_capacity board.old.lane_ends }
-    ensures callers { vec_len board.new.caller_jobs + vec_len board.new.caller_ends ≤ vec_len board.old.caller_jobs + vec_len board.old.caller_ends }
-    ensures caller_room { vec_capacity board.new.caller_ends ≡ vec_capacity board.old.caller_ends }
+    ensures lanes { vec_len board.new.lanes.waiting + vec_len board.new.lanes.ends ≤ vec_len board.old.lanes.waiting + vec_len board.old.lanes.ends }
+    ensures room { vec_capacity board.new.lanes.ends ≡ vec_capacity board.old.lanes.ends }
 {
-    let Some(job) = board.lane_jobs.pop() else {
-        run_callers(scope, rt, runtime, board);
+    let Some(job) = board.lanes.waiting.pop() else {
+        run_callers(scope, rt, runtime, &mut board.callers);
         runtime.destroy(rt);
         return;
     };
     match scope.spawn(move || job.serve(rt, runtime)) {
         Ok(thread) => {
             run_lanes(scope, rt, runtime, board);
-            board.lane_ends.push_reserved(thread.join(rt));
+            board.lanes.ends.push_reserved(thread.join(rt));
         }
         Err(_) => runtime.destroy(rt),
     }

@@ -10,7 +10,7 @@ use Rattle.wq_history.specs.Book.{BookView}
 use Rattle.wq_held.specs.declared.fault.CallError.{CallError}
 use Rattle.wq_held.specs.Locked.{max_runtime_lanes}
 use Rattle.wq_held.specs.Closing.{IsClosed}
-use Rattle.wq_rescuer.specs.declared.rescuing.Rescued.{Rescued}
+use Rattle.wq_execution.specs.declared.rescuing.Rescued.{Rescued}
 use Rattle.wq_rescuer.specs.Serving.{IsRan}
 use Rattle.wq_commands.specs.declared.end.End.{End}
 use Rattle.wq_commands.specs.declared.end.End.TheVariants.{Good, Bad, Refused}

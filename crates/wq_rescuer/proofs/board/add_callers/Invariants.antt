@@ -11,6 +11,7 @@ invariant-loop-caller g l =
     × (vec_len l.seats + vec_len l.fn.callers ≡ vec_len l.fn.seats + vec_len l.callers)
     × (vec_capacity l.seats ≡ vec_capacity l.fn.seats)
     × All (λ seat. seat ≡ replicate (14 * items g.N.Naming.wiring) 0) l.seats.items
+    × (vec_capacity l.callers ≡ vec_capacity l.fn.callers)
 
 abbrev pub decreases-loop-caller : goal.decreases-loop-caller
 decreases-loop-caller g l = vec_len l.callers

@@ -1,7 +1,7 @@
 use Rattle.std.proofs.Common.{◌≡◌, ◌+◌, ◌*◌, ◌≤◌, replicate, vec_len, vec_capacity}
 use Rattle.std.specs.List.{All}
 use Rattle.wq_core.specs.Wiring.{items}
-use Rattle.wq_rescuer.specs.Executing.{NeverRan}
+use Rattle.wq_execution.specs.Executing.{NeverRan}
 use Rattle.wq_rescuer.proofs.board.add_lanes.Given as goal
 
 -- each body that is gone has a job, and took a seat
@@ -15,6 +15,7 @@ invariant-loop-body g l =
     × All (λ body. items g.N.Naming.wiring ≤ g.B.Body.width body) l.bodies.items
     × All (λ body. NeverRan (g.B.Body.runs body)) l.bodies.items
     × (vec_len l.bodies ≤ vec_len l.fn.bodies)
+    × (vec_capacity l.bodies ≡ vec_capacity l.fn.bodies)
 
 abbrev pub decreases-loop-body : goal.decreases-loop-body
 decreases-loop-body g l = vec_len l.bodies

@@ -1,10 +1,8 @@
 use Rattle.std.proofs.Common.{[], ◌∷◌, map, vec_len, ap, ◌∙◌, arith}
-use Rattle.std.specs.List.{sum_by}
 use Rattle.std.proofs.lemmas.List.{map-append}
-use Rattle.std.proofs.lemmas.List.Sums.{sum_by_push}
 use Rattle.wq_core.specs.Wiring.{items}
 use Rattle.wq_rescuer.specs.Serving.{finished_by, faults_by}
-use Rattle.wq_rescuer.proofs.Handovers.{added}
+use Rattle.wq_rescuer.proofs.Handovers.{added, sum_by-added}
 use Rattle.wq_rescuer.proofs.gathering.gather_lanes.Goals as goal
 
 pub loop-end-preserved : goal.loop-end-preserved
@@ -17,14 +15,14 @@ loop-end-preserved g c =
       omega (arith, old.0, seat.len, c.in-Some.ensures.cases),
       omega (arith, old.1, body.len, c.in-Some.ensures.cases),
       omega (arith, old.2, answer.len, c.in-Some.ensures.cases),
-      seat.capacity ∙ old.3,
-      body.capacity ∙ old.4,
-      answer.capacity ∙ old.5,
+      omega (arith, seat.capacity, old.3),
+      omega (arith, body.capacity, old.4),
+      omega (arith, answer.capacity, old.5),
       added (items g.N.Naming.wiring) (vec_len c.loop-end.seats) (vec_len c.push_reserved.new.self) c.loop-end.seats.items c.push_reserved.new.self.items (map g.B.Body.runs c.loop-end.bodies.items) (map g.B.Body.runs c.push_reserved-in-Some.new.self.items)
           c.loop-end.rescued.items c.push_reserved-in-Some-2.new.self.items c.in-Some.end.seat (g.B.Body.runs c.in-Some.end.body) c.in-Some.end.rescued old.6 c.in-Some.end.served seat.len seat.items
           (ap (map g.B.Body.runs) body.items ∙ map-append g.B.Body.runs c.loop-end.bodies.items (c.in-Some.end.body ∷ [])) answer.items,
-      omega (arith, old.7, c.count_finished-finished.ensures.count, ap (sum_by finished_by) answer.items, sum_by_push finished_by c.loop-end.rescued.items c.in-Some.end.rescued),
-      omega (arith, old.8, c.count_faults-faults.ensures.count, ap (sum_by faults_by) answer.items, sum_by_push faults_by c.loop-end.rescued.items c.in-Some.end.rescued),
+      omega (arith, old.7, c.count_finished-finished.ensures.count, sum_by-added finished_by c.loop-end.rescued.items c.push_reserved-in-Some-2.new.self.items c.in-Some.end.rescued answer.items),
+      omega (arith, old.8, c.count_faults-faults.ensures.count, sum_by-added faults_by c.loop-end.rescued.items c.push_reserved-in-Some-2.new.self.items c.in-Some.end.rescued answer.items),
       omega (arith, old.9, c.count_finished-finished.ensures.few, seat.len),
       omega (arith, old.10, c.count_faults-faults.ensures.few, seat.len),
     )

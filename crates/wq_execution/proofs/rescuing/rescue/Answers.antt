@@ -2,8 +2,8 @@ use Rattle.std.proofs.Common.{◌+◌, arith}
 use Rattle.wq_core.specs.Wiring.{items}
 use Rattle.wq_held.specs.Locked.{seat_rows}
 use Rattle.std.specs.Prelude.{sum}
-use Rattle.wq_rescuer.proofs.Executions.{serving_more, few_finished, below_limit}
-use Rattle.wq_rescuer.proofs.rescuing.rescue.Goals as goal
+use Rattle.wq_execution.proofs.Executions.{serving_more, few_finished, below_limit}
+use Rattle.wq_execution.proofs.rescuing.rescue.Goals as goal
 
 pub overflow_add-finished : goal.overflow_add-finished
 overflow_add-finished g c =

@@ -11,7 +11,7 @@ ghost use Rattle.wq_counts.specs.Counting.{HasCountsOf, raised};
 ghost use Rattle.wq_held.specs.Locked.{HasRoom};
 ghost use Rattle.wq_under_lock.specs.Refusals.{RefusesCancelWork, RefusesWaitFor};
 ghost use Rattle.wq_api.specs.WaitingCalls.{waited_for, RefusedWaitFor};
-ghost use Rattle.wq_rescuer.specs.Executing.{SameFinished, RefusesQueueByBody};
+ghost use Rattle.wq_execution.specs.Executing.{SameFinished, RefusesQueueByBody};
 
 use std::alloc::Allocator;
 use std::sync::Wait;

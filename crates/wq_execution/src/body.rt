@@ -1,16 +1,16 @@
-//! What runs when an item is executed, and who calls the runtime.
+//! What runs when an item is executed.
 //!
 //! A body belongs to one rescuer, which calls it for each execution of an item of its workqueue (`work_func_t` in
 //! include/linux/workqueue.h). The body counts its runs, and the rescuer's seat is compared with these counts.
 
 ghost use Rattle.std.specs.Prelude.{◌≡◌, ◌<◌};
-ghost use Rattle.wq_rescuer.specs.Executing.{RanOnce, SameFinished};
+ghost use Rattle.wq_execution.specs.Executing.{RanOnce, SameFinished};
 
 use crate::work::Work;
 use std::alloc::Allocator;
 use std::sync::Wait;
 use thiserror::Error;
-use wq_api::{CallError, Naming, Seat, WqRuntime};
+use wq_api::Naming;
 use wq_items::ItemId;
 
 /// Why a body gave up. A fault ends its execution, which counts as finished.
@@ -50,15 +50,4 @@ pub trait Body {
     /// How often an item ran.
     fn ran(&self, item: ItemId) -> u32
         ensures { result ≡ runs self.now item };
-}
-
-/// Who calls a runtime, in a thread of its own.
-pub trait Caller {
-    /// Makes the calls. The error is the first refusal that the caller doesn't handle.
-    fn call<N: Naming, A: Allocator, R: Wait>(
-        &mut self,
-        rt: &R,
-        runtime: &WqRuntime<N, A>,
-        seat: &mut Seat<N, A>,
-    ) -> Result<(), CallError>;
 }

@@ -1,6 +1,6 @@
 use Rattle.wq_core.specs.Wiring.{items}
-use Rattle.wq_rescuer.proofs.Executions.{IsServing}
-use Rattle.wq_rescuer.proofs.rescuing.rescue.Given as goal
+use Rattle.wq_execution.proofs.Executions.{IsServing}
+use Rattle.wq_execution.proofs.rescuing.rescue.Given as goal
 
 -- the seat counts as finished what the body ran
 abbrev pub invariant-loop : goal.invariant-loop

@@ -6,8 +6,7 @@
 
 ghost use Rattle.std.specs.Prelude.{◌≡◌, ℕ, ◌+◌, ◌<◌, ◌≤◌, IfOk, OnOk, IfErr, OnErr};
 ghost use Rattle.wq_core.specs.Wiring.{items};
-ghost use Rattle.wq_rescuer.specs.Executing.{NeverRan, RanOnce, SameFinished, CountsRuns, CountsAtMost, finished_in_all};
-ghost use Rattle.wq_rescuer.specs.Serving.{RefusesRescue, finished_by, faults_by};
+ghost use Rattle.wq_execution.specs.Executing.{NeverRan, RanOnce, SameFinished, CountsRuns, CountsAtMost, finished_in_all, RefusesRescue};
 
 use crate::body::{Body, BodyFault};
 use crate::work::Work;
@@ -24,28 +23,6 @@ pub struct Rescued {
     pub finished: u32,
     /// How many of them ended with a fault of the body.
     pub faults: u32,
-}
-
-/// How many executions a rescuer finished: none where it was refused.
-pub(crate) fn count_finished(answer: &Result<Rescued, CallError>) -> u64
-    ensures count { result ≡ finished_by answer.now }
-    ensures few { result < 4294967296 }
-{
-    match answer {
-        Ok(rescued) => u64::from(rescued.finished),
-        Err(_) => 0,
-    }
-}
-
-/// How many of these executions ended with a fault.
-pub(crate) fn count_faults(answer: &Result<Rescued, CallError>) -> u64
-    ensures count { result ≡ faults_by answer.now }
-    ensures few { result < 4294967296 }
-{
-    match answer {
-        Ok(rescued) => u64::from(rescued.faults),
-        Err(_) => 0,
-    }
 }
 
 /// Runs the body of an item that a lane has started.

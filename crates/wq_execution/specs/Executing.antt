@@ -1,12 +1,12 @@
--- Executing: what bodies run, and what the seats of their rescuers count.
-use Rattle.std.specs.Prelude.{◌≡◌, ◌≢◌, ℕ, ◌+◌, ◌<◌, ◌≤◌, List, true}
+-- Executing: what bodies run, what the seats of their rescuers count, and why they are refused.
+use Rattle.std.specs.Prelude.{⊤, ◌≡◌, ◌≢◌, ℕ, ◌+◌, ◌<◌, ◌≤◌, List, true, sum}
 use Rattle.std.specs.List.{sum_by, range_with_len}
 use Rattle.wq_core.specs.Wiring.{Wiring, items}
 use Rattle.wq_counts.specs.declared.kind.Kind.TheVariants.{Finish}
 use Rattle.wq_counts.specs.Counting.{made}
 use Rattle.wq_held.specs.declared.fault.CallError.{CallError}
 use Rattle.wq_held.specs.declared.fault.CallError.TheVariants.{HistoryFull, Closed, Undeclared, TooManyWaits, WrongLane, NotAsked, NoItem}
-use Rattle.wq_held.specs.Locked.{HasRoom}
+use Rattle.wq_held.specs.Locked.{HasRoom, seat_rows}
 
 -- ---- what a body runs: how often each item ran
 
@@ -52,3 +52,14 @@ RefusesQueueByBody w counts i Undeclared = ⊥
 RefusesQueueByBody w counts i TooManyWaits = ⊥
 RefusesQueueByBody w counts i WrongLane = ⊥
 RefusesQueueByBody w counts i NotAsked = ⊥
+
+-- a rescuer whose seat has these counts when it ends: the seat is full; or there is no such lane, or another caller drove the same
+-- one
+abbrev pub RefusesRescue : List ℕ → CallError → Type 0
+RefusesRescue seat HistoryFull = seat_rows ≤ sum seat
+RefusesRescue seat WrongLane = ⊤
+RefusesRescue seat NoItem = ⊥
+RefusesRescue seat Closed = ⊥
+RefusesRescue seat Undeclared = ⊥
+RefusesRescue seat TooManyWaits = ⊥
+RefusesRescue seat NotAsked = ⊥

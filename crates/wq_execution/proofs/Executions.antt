@@ -9,7 +9,7 @@ use Rattle.wq_counts.specs.declared.kind.Kind.TheVariants.{Finish}
 use Rattle.wq_counts.specs.Counting.{place, HasCountsOf, raised}
 use Rattle.wq_counts.proofs.Places.{place-same, made-raised_same, made-raised_other}
 use Rattle.wq_held.specs.Locked.{seat_rows}
-use Rattle.wq_rescuer.specs.Executing.{RanOnce, finished_of, finished_in_all, SameFinished, CountsRuns}
+use Rattle.wq_execution.specs.Executing.{RanOnce, finished_of, finished_in_all, SameFinished, CountsRuns}
 
 -- ---- one item
 

@@ -1,0 +1,131 @@
+//! What a run takes before any thread starts: a seat for each lane and each caller, and memory for their jobs, for what comes
+//! back of them and for their answers.
+//!
+//! It takes time and memory in the number of lanes and callers.
+
+ghost use Rattle.std.specs.Prelude.{◌≡◌, ℕ, ◌+◌, ◌*◌, ◌<◌, ◌≤◌, ◌^◌, [], replicate, vec_len, vec_capacity, IfOk, OnOk, IfErr, OnErr};
+ghost use Rattle.std.specs.List.{All};
+ghost use Rattle.wq_core.specs.Wiring.{items};
+ghost use Rattle.wq_rescuer.specs.Serving.{AreFirstSeats, IsNoSeat, RefusesRun};
+ghost use Rattle.wq_rescuer.specs.declared.running.RunWhy.TheVariants.{BodiesDiffer, OutOfMemory};
+
+use crate::board::Board;
+use crate::calling::Caller;
+use crate::running::RunWhy;
+use std::alloc::{AllocError, Allocator};
+use std::sync::Wait;
+use wq_api::{CallError, Naming, Seat, SeatError, WqRuntime};
+use wq_execution::{Body, Rescued};
+
+/// Seats, and room: for the jobs, for what comes back of them, and for the answers.
+#[derive(Drop)]
+pub(crate) struct Space<N: Naming, A: Allocator, B: Body + Drop, C: Caller + Drop> {
+    pub(crate) board: Board<N, A, B, C>,
+    pub(crate) seats: Vec<Seat<N, A>, A>,
+    pub(crate) rescued: Vec<Result<Rescued, CallError>, A>,
+    pub(crate) results: Vec<Result<(), CallError>, A>,
+}
+
+/// Why there is no space for a run, and the seats that were made before.
+#[derive(Drop)]
+pub(crate) struct NoSpace<N: Naming, A: Allocator> {
+    pub(crate) seats: Vec<Seat<N, A>, A>,
+    pub(crate) why: RunWhy,
+}
+
+impl<N: Naming, A: Allocator + Copy, B: Body + Drop, C: Caller + Drop> Space<N, A, B, C> {
+    /// Room for this many lanes and callers, without a seat. The only error is out of memory (20), and never where there is
+    /// neither a lane nor a caller.
+    fn new(alloc: A, lanes: usize, callers: usize) -> Result<Self, AllocError>
+        requires { lanes + callers < 2 ^ 64 }
+        ensures lane_jobs { IfOk result (λ r. (vec_len r.board.lanes.waiting ≡ 0) × (lanes ≤ vec_capacity r.board.lanes.waiting)) }
+        ensures lane_ends { IfOk result (λ r. (vec_len r.board.lanes.ends ≡ 0) × (lanes ≤ vec_capacity r.board.lanes.ends)) }
+        ensures caller_jobs { IfOk result (λ r. (vec_len r.board.callers.waiting ≡ 0) × (callers ≤ vec_capacity r.board.callers.waiting)) }
+        ensures caller_ends { IfOk result (λ r. (vec_len r.board.callers.ends ≡ 0) × (callers ≤ vec_capacity r.board.callers.ends)) }
+        ensures seats { IfOk result (λ r. (r.seats.items ≡ []) × (lanes + callers ≤ vec_capacity r.seats)) }
+        ensures rescued { IfOk result (λ r. (vec_len r.rescued ≡ 0) × (lanes ≤ vec_capacity r.rescued)) }
+        ensures results { IfOk result (λ r. (vec_len r.results ≡ 0) × (callers ≤ vec_capacity r.results)) }
+        ensures memory { OnErr result (0 < lanes + callers) }
+    {
+        let seats = Vec::with_capacity(alloc, lanes + callers)?;
+        let rescued = Vec::with_capacity(alloc, lanes)?;
+        let results = Vec::with_capacity(alloc, callers)?;
+        let board = Board::new(alloc, lanes, callers)?;
+        Ok(Space {
+            board,
+            seats,
+            rescued,
+            results,
+        })
+    }
+}
+
+/// Makes as many seats as are wanted, until one is refused.
+fn make_seats<N: Naming, A: Allocator + Copy, R: Wait>(
+    rt: &R,
+    alloc: A,
+    runtime: &WqRuntime<N, A>,
+    seats: &mut Vec<Seat<N, A>, A>,
+    wanted: usize,
+) -> Result<(), RunWhy>
+    requires none { seats.old.items ≡ [] }
+    requires room { wanted ≤ vec_capacity seats.old }
+    ensures room { vec_capacity seats.new ≡ vec_capacity seats.old }
+    ensures no_counts { All (λ seat. seat ≡ replicate (14 * items N.wiring) 0) seats.new.items }
+    ensures all { OnOk result (vec_len seats.new ≡ wanted) }
+    ensures few { OnErr result (vec_len seats.new < wanted) }
+    ensures refused { IfErr result (λ why. IsNoSeat why) }
+{
+    for _ in 0..wanted {
+        match runtime.seat(rt, alloc) {
+            Ok(seat) => seats.push_reserved(seat),
+            Err(SeatError::TooManySeats) => return Err(RunWhy::TooManySeats),
+            Err(SeatError::OutOfMemory) => return Err(RunWhy::OutOfMemory),
+        }
+    }
+    Ok(())
+}
+
+/// Seats and room for this many lanes and callers. The error is that of `run_all`, up to the first thread.
+pub(crate) fn reserve<N: Naming, A: Allocator + Copy, R: Wait, B: Body + Drop, C: Caller + Drop>(
+    rt: &R,
+    alloc: A,
+    runtime: &WqRuntime<N, A>,
+    lanes: usize,
+    callers: usize,
+) -> Result<Space<N, A, B, C>, NoSpace<N, A>>
+    requires { lanes + callers < 2 ^ 64 }
+    ensures lanes { OnOk result ((lanes ≡ N.wiring.lanes) × (lanes ≤ 256)) }
+    ensures lane_jobs { IfOk result (λ r. (vec_len r.board.lanes.waiting ≡ 0) × (lanes ≤ vec_capacity r.board.lanes.waiting)) }
+    ensures lane_ends { IfOk result (λ r. (vec_len r.board.lanes.ends ≡ 0) × (lanes ≤ vec_capacity r.board.lanes.ends)) }
+    ensures caller_jobs { IfOk result (λ r. (vec_len r.board.callers.waiting ≡ 0) × (callers ≤ vec_capacity r.board.callers.waiting)) }
+    ensures caller_ends { IfOk result (λ r. (vec_len r.board.callers.ends ≡ 0) × (callers ≤ vec_capacity r.board.callers.ends)) }
+    ensures seats { IfOk result (λ r. (vec_len r.seats ≡ lanes + callers) × (lanes + callers ≤ vec_capacity r.seats)) }
+    ensures no_counts { IfOk result (λ r. All (λ seat. seat ≡ replicate (14 * items N.wiring) 0) r.seats.items) }
+    ensures rescued { IfOk result (λ r. (vec_len r.rescued ≡ 0) × (lanes ≤ vec_capacity r.rescued)) }
+    ensures results { IfOk result (λ r. (vec_len r.results ≡ 0) × (callers ≤ vec_capacity r.results)) }
+    ensures refused { IfErr result (λ e. RefusesRun N.wiring.lanes lanes e.why) }
+    ensures no_seats { IfErr result (λ e. e.why ≡ BodiesDiffer → e.seats.items ≡ []) }
+    ensures made { IfErr result (λ e. IsNoSeat e.why → AreFirstSeats (items N.wiring) (lanes + callers) e.seats.items) }
+    ensures memory { IfErr result (λ e. e.why ≡ OutOfMemory → 0 < lanes + callers) }
+{
+    if lanes != usize::from(runtime.lanes(rt)) {
+        return Err(NoSpace {
+            seats: Vec::new(alloc),
+            why: RunWhy::BodiesDiffer,
+        });
+    }
+    let Ok(mut space) = Space::new(alloc, lanes, callers) else {
+        return Err(NoSpace {
+            seats: Vec::new(alloc),
+            why: RunWhy::OutOfMemory,
+        });
+    };
+    match make_seats(rt, alloc, runtime, &mut space.seats, lanes + callers) {
+        Ok(()) => Ok(space),
+        Err(why) => Err(NoSpace {
+            seats: space.seats,
+            why,
+        }),
+    }
+}
