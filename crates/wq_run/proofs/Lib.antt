@@ -1,5 +1,4 @@
 pub mod AnswerLemmas
 pub mod InputLemmas
-pub mod ReportLemmas
 pub mod RuntimeLemmas
 pub mod Uniqueness

@@ -1,25 +1,30 @@
 -- Why no runtime is made for a plan, and what a closed runtime says about the items of a declaration.
-use Rattle.std.proofs.Common.{◌≡◌, ◌≢◌, ◌↔◌, ℕ, ◌<◌, ◌≤◌, Bool, true, false, List, length, Result, Vec, refl, sym, ap, subst, ◌∙◌, arith}
-use Rattle.std.specs.Prelude.{IfOk, IsTrue}
+use Rattle.std.proofs.Common.{◌≡◌, ◌≢◌, ℕ, ◌<◌, ◌≤◌, true, List, length, Result, Vec, refl, sym, ap, subst, ◌∙◌, arith}
+use Rattle.std.specs.Prelude.{IfOk}
 use Rattle.std.proofs.lemmas.Result.{IfOk-weaker}
-use Rattle.wq_items.specs.Table.{Table, IsTable}
+use Rattle.wq_items.specs.Table.{IsTable}
 use Rattle.wq_groups.specs.Assignment.{Assignment}
 use Rattle.wq_core.specs.Wiring.{Wiring, items, wiring}
 use Rattle.wq_core.specs.Deadlock.{IsSafe}
 use Rattle.wq_plan.specs.Plan.{IsPlan}
 use Rattle.wq_plan.proofs.Plans.{IsSafe-plan}
+use Rattle.wq_counts.specs.Counting.{made}
 use Rattle.wq_history.specs.Book.{BookView}
+use Rattle.wq_held.specs.declared.fault.CallError.{CallError}
 use Rattle.wq_under_lock.specs.declared.fault.NewError.{NewError}
 use Rattle.wq_under_lock.specs.declared.fault.NewError.TheVariants.{TooManyLanes, TooManyRows, NotSafe, OutOfMemory}
 use Rattle.wq_held.specs.Locked.{max_runtime_lanes}
 use Rattle.wq_under_lock.specs.Refusals.{RefusesRuntime, new_code}
 use Rattle.wq_held.specs.Closing.{IsClosed, Agrees}
+use Rattle.wq_execution.specs.declared.rescuing.Rescued.{Rescued}
+use Rattle.wq_rescuer.specs.Serving.{IsRan}
 use Rattle.wq_commands.specs.declared.end.End.{End}
-use Rattle.wq_commands.specs.declared.end.End.TheVariants.{Refused}
 use Rattle.wq_commands.specs.Answer.{declared_waits, IsRefused}
 use Rattle.wq_commands.specs.Declaration.{Declared}
 use Rattle.wq_commands.proofs.AnswerLemmas.{IsSound, IsDeclaration-sound}
-use Rattle.wq_run.specs.Running.{RunsDeclared, rows_for}
+use Rattle.wq_report.specs.Report.{report_text}
+use Rattle.wq_report.proofs.ReportLemmas.{report_text-same}
+use Rattle.wq_run.specs.Running.{PrintsRun, RunsDeclared, rows_for, yes_tally}
 
 -- a runtime has as many items as the declaration
 pub items-wiring : (w : Wiring) (s : Declared) (a : Assignment) → IsTable s.table → w ≡ wiring (declared_waits s) a → items w ≡ length s.table.names
@@ -45,7 +50,25 @@ pub RunsDeclared-no_runtime : {T : Type 0} {A : Type 0} (s : Declared) (w : Wiri
 RunsDeclared-no_runtime s w a rows e answer sound plan is room why refused =
     IfOk-weaker answer _ _ (λ printed said. RunsDeclared-refused s w a rows e printed.0 printed.1.items sound plan is room why said) refused
 
--- counts that agree
-pub Agrees-closed : (w : Wiring) (rows : ℕ) (seats : List (List ℕ)) (book : BookView) (counts : List ℕ) (agree : Bool) (n : ℕ) → IsClosed w rows seats book counts agree
-    → agree ≡ true → items w ≡ n → Agrees n book counts
-Agrees-closed w rows seats book counts agree n closed said is = subst (λ (k : ℕ). Agrees k book counts) is (closed.agrees.0 said)
+-- a runtime of a plan was closed with all seats of its crew, and its counts are printed
+pub PrintsRun-closed : (s : Declared) (w : Wiring) (a : Assignment) (rows : ℕ) (seats : List (List ℕ)) (faults : ℕ) (book : BookView) (counts out : List ℕ) → items w ≡ length s.table.names
+    → IsPlan (declared_waits s) a → a.lanes ≤ max_runtime_lanes → w ≡ wiring (declared_waits s) a → rows ≡ rows_for s
+    → (runs : List (ℕ → ℕ)) × (rescued : List (Result Rescued CallError)) × (finished : ℕ) × IsRan (length s.table.names) w.lanes 2 seats runs 2 2 rescued finished faults
+    → IsClosed w rows seats book counts true → out ≡ report_text s a (λ i kind. made counts i kind true) faults → PrintsRun s out
+PrintsRun-closed s w a rows seats faults book counts out of_items plan few is room ran closed text =
+    let agrees : Agrees (items w) book counts = closed.agrees.0 refl in
+    record {
+      assignment = a;
+      plan = plan;
+      few = few;
+      seats = seats;
+      runs = ran.0;
+      rescued = ran.1;
+      finished = ran.2;
+      faults = faults;
+      ran = subst (λ (x : Wiring). IsRan (length s.table.names) x.lanes 2 seats ran.0 2 2 ran.1 ran.2 faults) is ran.3;
+      book = book;
+      counts = counts;
+      closed = subst (λ (n : ℕ). IsClosed (wiring (declared_waits s) a) n seats book counts true) room (subst (λ (x : Wiring). IsClosed x rows seats book counts true) is closed);
+      text = text ∙ report_text-same s a (λ i kind. made counts i kind true) (yes_tally book) faults (λ i kind below. agrees i kind true (subst (λ (n : ℕ). i < n) (sym of_items) below));
+    }

@@ -9,9 +9,9 @@
 mod fault;
 pub mod laws;
 mod outputs;
-mod report;
 mod run;
 mod running;
+mod serving;
 
 pub use fault::CommandFault;
 pub use run::run_cmd;

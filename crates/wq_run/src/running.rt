@@ -3,22 +3,21 @@
 //! The runtime is named here, in the call of the function that makes it and works with it. It takes the time of planning and of
 //! all executions, and memory in the number of rows of the history.
 
-ghost use Rattle.std.specs.Prelude.{◌≡◌, ◌≢◌, ◌≤◌, ◌+◌, ◌*◌, IfOk, IfErr, length};
+ghost use Rattle.std.specs.Prelude.{◌≡◌, ◌≢◌, ◌+◌, ◌*◌, IfOk, IfErr, length};
 ghost use Rattle.wq_groups.specs.Declaration.{declaration_of};
 ghost use Rattle.wq_core.specs.Wiring.{wiring};
 ghost use Rattle.wq_plan.specs.Plan.{IsPlan};
 ghost use Rattle.wq_items.specs.Table.{flush_count};
 ghost use Rattle.wq_plan.specs.Solve.{IsCircled};
 ghost use Rattle.wq_under_lock.specs.declared.fault.NewError.TheVariants.{OutOfMemory as NoMemory};
-ghost use Rattle.wq_held.specs.Locked.{max_runtime_lanes};
 ghost use Rattle.wq_under_lock.specs.Refusals.{new_code};
 ghost use Rattle.wq_commands.specs.Answer.{IsRefused};
 ghost use Rattle.wq_run.specs.declared.fault.RunStop.TheVariants.{OutOfMemory};
 ghost use Rattle.wq_run.specs.Fault.{Stops};
-ghost use Rattle.wq_run.specs.Running.{PrintsRun, Runs, RunsDeclared, HasRuntime, IsRunnable, rows_for};
+ghost use Rattle.wq_run.specs.Running.{Runs, RunsDeclared, HasRuntime, IsRunnable, rows_for};
 
 use crate::fault::RunStop;
-use crate::report::report_text;
+use crate::serving::serve;
 use std::alloc::Allocator;
 use std::marker::Brand;
 use std::sync::Wait;
@@ -30,49 +29,12 @@ use wq_graph::WaitArc;
 use wq_groups::{Assignment, Groups};
 use wq_items::ItemTable;
 use wq_plan::{Answer, solve};
-use wq_rescuer::{Ran, run_all};
-use wq_script::{script_bodies, script_callers};
 
 /// How many rows a history needs where each item is queued, flushed by a caller and executed once.
 fn rows_for<A: Allocator + Copy>(table: &ItemTable<'_, A>) -> u32
     ensures { result ≡ 5 * length table.now.names + 2 * flush_count table.now.waits }
 {
     5 * u32::from(table.len()) + 2 * table.flushes()
-}
-
-/// Runs what is on the lanes of a runtime, closes the runtime, and makes the text of what happened.
-fn serve<N: Naming + Send + Sync, A: Allocator + Copy + Send + Sync, R: Threads + Wait + Sync>(
-    rt: &R,
-    alloc: A,
-    runtime: WqRuntime<N, A>,
-    table: &ItemTable<'_, A>,
-    groups: &Groups<A>,
-    assignment: &Assignment<A>,
-) -> Result<Vec<u8, A>, RunStop>
-    requires grouped { length groups.now.group_of ≡ length table.now.names }
-    requires assigned { length assignment.now.lane_of_group ≡ groups.now.groups }
-    requires plan { IsPlan (declaration_of table.now groups.now) assignment.now }
-    requires few { assignment.now.lanes ≤ max_runtime_lanes }
-    requires of_wiring { N.wiring ≡ wiring (declaration_of table.now groups.now) assignment.now }
-    requires of_rows { N.rows ≡ rows_for (record { table = table.now; partition = groups.now }) }
-    ensures ran { IfOk result (λ text. PrintsRun (record { table = table.now; partition = groups.now }) text.items) }
-    ensures stopped { IfErr result (Stops (HasRuntime (record { table = table.now; partition = groups.now }))) }
-{
-    let bodies = script_bodies(alloc, table, runtime.lanes(rt))?;
-    let callers = script_callers(alloc, table.len())?;
-    let ran = match run_all(rt, alloc, &runtime, bodies, callers) {
-        Ok(ran) => ran,
-        Err(refused) => return Err(RunStop::from(refused.why)),
-    };
-    let Ran { seats, faults, .. } = ran;
-    let Ok(closed) = runtime.close(seats) else {
-        return Err(RunStop::Tally);
-    };
-    if !closed.agree {
-        return Err(RunStop::Tally);
-    }
-    let text = report_text(alloc, table, groups, assignment, &closed, faults)?;
-    Ok(text)
 }
 
 /// Refuses a plan for which no runtime can be made, by the number of the refusal.
@@ -168,10 +130,13 @@ fn run_declared<A: Allocator + Copy + Send + Sync, R: Threads + Wait + Sync>(
     ensures ran { IfOk result (λ printed. RunsDeclared (record { table = table.now; partition = groups.now }) printed.0 printed.1.items) }
     ensures stopped { IfErr result (Stops (HasRuntime (record { table = table.now; partition = groups.now }))) }
 {
-    match solve(alloc, table, groups)? {
-        Answer::Plan { assignment, .. } => run_plan(rt, alloc, table, groups, &assignment),
-        Answer::Circle { arcs } => print_circle(alloc, table, groups, &arcs),
-    }
+    let answer = solve(alloc, table, groups)?;
+    let printed = match &answer {
+        Answer::Plan { assignment, .. } => run_plan(rt, alloc, table, groups, assignment),
+        Answer::Circle { arcs } => print_circle(alloc, table, groups, arcs),
+    };
+    drop(answer);
+    printed
 }
 
 /// How a run that is given this text ends, and what it prints.

@@ -7,12 +7,10 @@ ghost use Rattle.std.specs.Prelude.{◌≡◌, ◌++◌, ◌<◌, ℕ, length, t
 ghost use Rattle.wq_lines.specs.LineText.{spaced, line_text};
 ghost use Rattle.wq_counts.specs.declared.kind.Kind.{Kind};
 ghost use Rattle.wq_counts.specs.Counting.{made};
-ghost use Rattle.wq_held.specs.Closing.{Agrees};
-ghost use Rattle.wq_run.specs.Report.{workqueues_line, count_words, item_line, faults_line, report_text};
-ghost use Rattle.wq_run.specs.Running.{yes_tally};
+ghost use Rattle.wq_report.specs.Report.{workqueues_line, count_words, item_line, faults_line, report_text};
 
 use std::alloc::{AllocError, Allocator};
-use wq_api::{Closed, Counts, Naming};
+use wq_counts::Counts;
 use wq_groups::{Assignment, Groups};
 use wq_items::{ItemId, ItemTable};
 use wq_lines::{put, put_count, put_end, put_number, put_word};
@@ -78,27 +76,27 @@ fn put_faults_line<A: Allocator + Copy>(out: &mut Vec<u8, A>, faults: u64) -> Re
     put_end(out)
 }
 
-/// The text about a plan that was run: its workqueues, and for each item its workqueue and the counts of the closed runtime,
-/// which agree with the history. The only error is out of memory (20).
-pub(crate) fn report_text<N: Naming, A: Allocator + Copy>(
+/// The text about a plan that was run: its workqueues, for each item its workqueue and how often it was queued, cancelled and
+/// finished, and the number of faults. The groups are those of the table's items, and the assignment is one of these groups. The
+/// only error is out of memory (20).
+pub fn report_text<A: Allocator + Copy>(
     alloc: A,
     table: &ItemTable<'_, A>,
     groups: &Groups<A>,
     assignment: &Assignment<A>,
-    closed: &Closed<N, A>,
+    counts: &Counts<A>,
     faults: u64,
 ) -> Result<Vec<u8, A>, AllocError>
     requires grouped { length groups.now.group_of ≡ length table.now.names }
     requires assigned { length assignment.now.lane_of_group ≡ groups.now.groups }
-    requires agrees { Agrees (length table.now.names) closed.now.book closed.now.counts }
     ensures { IfOk result (λ text. text.items
-        ≡ report_text (record { table = table.now; partition = groups.now }) assignment.now (yes_tally closed.now.book) faults) }
+        ≡ report_text (record { table = table.now; partition = groups.now }) assignment.now (λ i kind. made counts.now i kind true) faults) }
 {
     let mut out = Vec::new(alloc);
     put_workqueues_line(&mut out, assignment.lanes())?;
     for i in 0..table.len() {
         let item = ItemId::new(i);
-        put_item_line(&mut out, table, groups, assignment, &closed.counts, item)?;
+        put_item_line(&mut out, table, groups, assignment, counts, item)?;
     }
     put_faults_line(&mut out, faults)?;
     Ok(out)

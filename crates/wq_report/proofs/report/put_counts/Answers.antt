@@ -4,8 +4,8 @@ use Rattle.std.proofs.lemmas.Result.{on_ok_weaker}
 use Rattle.wq_lines.specs.LineText.{spaced}
 use Rattle.wq_counts.specs.declared.kind.Kind.TheVariants.{Queue, Cancel, Finish}
 use Rattle.wq_counts.specs.Counting.{made}
-use Rattle.wq_run.proofs.ReportLemmas.{six_words}
-use Rattle.wq_run.proofs.report.put_counts.Goals as goal
+use Rattle.wq_report.proofs.ReportLemmas.{six_words}
+use Rattle.wq_report.proofs.report.put_counts.Goals as goal
 
 pub returns : goal.returns
 returns g c =

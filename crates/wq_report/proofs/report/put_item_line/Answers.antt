@@ -7,9 +7,9 @@ use Rattle.wq_lines.specs.LineText.{spaced}
 use Rattle.wq_cert.specs.PlanText.{name_of}
 use Rattle.wq_counts.specs.declared.kind.Kind.{Kind}
 use Rattle.wq_counts.specs.Counting.{made}
-use Rattle.wq_run.specs.Report.{count_words}
-use Rattle.wq_run.proofs.ReportLemmas.{line_text-more}
-use Rattle.wq_run.proofs.report.put_item_line.Goals as goal
+use Rattle.wq_report.specs.Report.{count_words}
+use Rattle.wq_report.proofs.ReportLemmas.{line_text-more}
+use Rattle.wq_report.proofs.report.put_item_line.Goals as goal
 
 pub returns : goal.returns
 returns g c =

@@ -1,0 +1,5 @@
+use Rattle.std.proofs.Common.{arith}
+use Rattle.wq_run.proofs.serving.run_crew.Goals as goal
+
+pub run_all-requires-clause-width : goal.run_all-requires-clause-width
+run_all-requires-clause-width g c = λ κs within k d below. omega (arith, c.requires.items, c.in_ok-bodies.ensures.width k d below)
