@@ -105,13 +105,9 @@ fn circles_input<D: Read + Drop, A: Read + Drop, W: Write>(
     let mut assigned = Metered::new(assignment);
     let text = read_text(alloc, &mut declared, MAX_DECLARATION)?;
     let lanes = read_text(alloc, &mut assigned, MAX_CERTIFICATE)?;
-    let Answered {
-        end,
-        text: answer,
-        why,
-    } = circles_texts(alloc, seed, &text, &lanes)?;
-    write_text(writer, &answer)?;
-    Ok((end, why, text, lanes))
+    let answer = circles_texts(alloc, seed, &text, &lanes)?;
+    write_text(writer, &answer.text)?;
+    Ok((answer.end, answer.why, text, lanes))
 }
 
 /// Writes the components of the declaration in `input`. It also hands back the text, as far as it was read.

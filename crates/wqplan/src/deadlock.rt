@@ -16,7 +16,7 @@ use std::alloc::Global;
 use std::io::{self, Read, Write};
 use std::rt::Files;
 use wq_commands::{
-    Answered, End, Fault, MAX_DECLARATION, Metered, Why, deadlock_texts, read_text, write_text,
+    End, Fault, MAX_DECLARATION, Metered, Why, deadlock_texts, read_text, write_text,
 };
 use wq_diagnosis::{Kind, Source};
 
@@ -77,11 +77,7 @@ fn deadlock_input<D: Read + Drop, A: Read + Drop, W: Write>(
     let mut assigned = Metered::new(assignment);
     let text = read_text(alloc, &mut declared, MAX_DECLARATION)?;
     let lanes = read_text(alloc, &mut assigned, MAX_CERTIFICATE)?;
-    let Answered {
-        end,
-        text: answer,
-        why,
-    } = deadlock_texts(alloc, seed, &text, &lanes)?;
-    write_text(writer, &answer)?;
-    Ok((end, why, text, lanes))
+    let answer = deadlock_texts(alloc, seed, &text, &lanes)?;
+    write_text(writer, &answer.text)?;
+    Ok((answer.end, answer.why, text, lanes))
 }

@@ -105,13 +105,9 @@ fn dot_input<D: Read + Drop, A: Read + Drop, W: Write>(
     let mut assigned = Metered::new(assignment);
     let text = read_text(alloc, &mut declared, MAX_DECLARATION)?;
     let lanes = read_text(alloc, &mut assigned, MAX_CERTIFICATE)?;
-    let Answered {
-        end,
-        text: answer,
-        why,
-    } = dot_texts(alloc, seed, &text, &lanes)?;
-    write_text(writer, &answer)?;
-    Ok((end, why, text, lanes))
+    let answer = dot_texts(alloc, seed, &text, &lanes)?;
+    write_text(writer, &answer.text)?;
+    Ok((answer.end, answer.why, text, lanes))
 }
 
 /// Writes the drawing of the declaration in `input`. It also hands back the text, as far as it was read.

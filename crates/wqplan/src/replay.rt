@@ -16,7 +16,7 @@ use std::alloc::Global;
 use std::io::{self, Read, Write};
 use std::rt::Files;
 use wq_commands::{
-    Answered, End, Fault, MAX_DECLARATION, Metered, Which, Why, read_text, replay_texts, write_text,
+    End, Fault, MAX_DECLARATION, Metered, Which, Why, read_text, replay_texts, write_text,
 };
 use wq_diagnosis::{Kind, Source};
 
@@ -112,17 +112,13 @@ fn replay_input<D: Read + Drop, A: Read + Drop, S: Read + Drop, W: Write>(
         assignment: read_text(alloc, &mut assigned, MAX_CERTIFICATE)?,
         run: read_text(alloc, &mut listed, MAX_CERTIFICATE)?,
     };
-    let Answered {
-        end,
-        text: answer,
-        why,
-    } = replay_texts(
+    let answer = replay_texts(
         alloc,
         seed,
         &texts.declaration,
         &texts.assignment,
         &texts.run,
     )?;
-    write_text(writer, &answer)?;
-    Ok((end, why, texts))
+    write_text(writer, &answer.text)?;
+    Ok((answer.end, answer.why, texts))
 }

@@ -1,5 +1,6 @@
-use Rattle.std.proofs.Common.{◌≡◌, ◌+◌, ap, subst}
+use Rattle.std.proofs.Common.{◌+◌, ap, subst, ◌∙◌}
 use Rattle.std.specs.Prelude.{take}
+use Rattle.wq_meter.specs.Meter.{WritesWhole}
 use Rattle.wq_meter.specs.Input.{IsInput}
 use Rattle.wq_cert.specs.Texts.{max_certificate}
 use Rattle.wq_circles.specs.Circling.{Circles}
@@ -12,8 +13,8 @@ returns g c =
     let came_too = c.in_ok-lanes.ensures.given in
     let text = came.given.text in
     let lanes = came_too.given.text in
-    let end = c.in_ok-circles_texts.field-0.end in
-    let out = c.in_ok-circles_texts.field-0.text.items in (
+    let end = c.in_ok-answer.answer.end in
+    let out = c.in_ok-answer.answer.text.items in (
       text,
       lanes,
       out,
@@ -22,7 +23,7 @@ returns g c =
       came.prefix,
       came_too.prefix,
       Circles-take end out text lanes
-          (subst (λ t. Circles t (take (max_certificate + 1) lanes) end out) came.prefix
-          (subst (λ t. Circles c.in_ok-text.text.items t end out) came_too.prefix c.in_ok-circles_texts.ensures.answer)),
-      c.in_ok-write_text.ensures.whole,
+          (subst (λ t. Circles t (take (max_certificate + 1) lanes) end out) (c.deref.ensures.value ∙ came.prefix)
+          (subst (λ t. Circles c.deref.result.now t end out) (c.deref-2.ensures.value ∙ came_too.prefix) c.in_ok-answer.ensures.answer)),
+      subst (λ t. WritesWhole g.W.Write.contents c.args.writer.now c.write_text.new.writer t) c.deref-3.ensures.value c.in_ok-write_text.ensures.whole,
     )

@@ -1,5 +1,6 @@
-use Rattle.std.proofs.Common.{◌≡◌, ◌+◌, ap, subst}
+use Rattle.std.proofs.Common.{◌+◌, ap, subst, ◌∙◌}
 use Rattle.std.specs.Prelude.{take}
+use Rattle.wq_meter.specs.Meter.{WritesWhole}
 use Rattle.wq_meter.specs.Input.{IsInput}
 use Rattle.wq_cert.specs.Texts.{max_certificate}
 use Rattle.wq_commands.specs.Replaying.{Replays}
@@ -14,8 +15,8 @@ returns g c =
     let text = came.given.text in
     let lanes = came_lanes.given.text in
     let steps = came_steps.given.text in
-    let end = c.in_ok-replay_texts.field-0.end in
-    let out = c.in_ok-replay_texts.field-0.text.items in (
+    let end = c.in_ok-answer.answer.end in
+    let out = c.in_ok-answer.answer.text.items in (
       text,
       lanes,
       steps,
@@ -27,8 +28,8 @@ returns g c =
       came_lanes.prefix,
       came_steps.prefix,
       Replays-take end out text lanes steps
-          (subst (λ t. Replays t (take (max_certificate + 1) lanes) (take (max_certificate + 1) steps) end out) came.prefix
-          (subst (λ t. Replays c.in_ok-read_text.field-0.items t (take (max_certificate + 1) steps) end out) came_lanes.prefix
-          (subst (λ t. Replays c.in_ok-read_text.field-0.items c.in_ok-read_text-2.field-0.items t end out) came_steps.prefix c.in_ok-replay_texts.ensures.answer))),
-      c.in_ok-write_text.ensures.whole,
+          (subst (λ t. Replays t (take (max_certificate + 1) lanes) (take (max_certificate + 1) steps) end out) (c.deref.ensures.value ∙ came.prefix)
+          (subst (λ t. Replays c.deref.result.now t (take (max_certificate + 1) steps) end out) (c.deref-2.ensures.value ∙ came_lanes.prefix)
+          (subst (λ t. Replays c.deref.result.now c.deref-2.result.now t end out) (c.deref-3.ensures.value ∙ came_steps.prefix) c.in_ok-answer.ensures.answer))),
+      subst (λ t. WritesWhole g.W.Write.contents c.args.writer.now c.write_text.new.writer t) c.deref-4.ensures.value c.in_ok-write_text.ensures.whole,
     )
