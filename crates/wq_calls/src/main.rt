@@ -4,15 +4,11 @@
 //! prints; no contract does. It takes the time of the calls.
 #![tactic(auto)]
 
-mod answering;
-mod asking;
-mod session;
-
-use answering::answer;
 use std::process::ExitCode;
 use std::rt::{Env, Files};
 use std::sync::Wait;
 use wq_commands::Fault;
+use wq_session::answer;
 use wq_testbed::{
     MAX_TEXT, Setting, Texts, ended, misused, print_answer, read_file, read_texts, unread, words,
 };

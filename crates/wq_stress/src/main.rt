@@ -5,24 +5,12 @@
 //! prints; no contract does. It takes the time of the calls, and that of judging the history that they leave.
 #![tactic(auto)]
 
-mod answering;
-mod busy;
-mod calling;
-mod closing;
-mod judging;
-mod load;
-mod random;
-mod serving;
-mod tally;
-mod worker;
-
-use answering::answer;
-use load::Load;
 use std::process::ExitCode;
 use std::rt::{Env, Files};
 use std::sync::Wait;
 use std::thread::Threads;
 use wq_commands::Fault;
+use wq_storm::{Load, answer};
 use wq_testbed::{Setting, Texts, ended, misused, print_answer, read_texts, unread, words};
 
 const USAGE: &str = "usage: wq_stress DECL ASSIGN ROWS SEED CALLS [counts]";

@@ -1,6 +1,6 @@
 use Rattle.wq_groups.specs.Declaration.{declaration_of}
 use Rattle.wq_core.specs.Wiring.{wiring}
-use Rattle.wq_stress.proofs.busy.play.Given as goal
+use Rattle.wq_storm.proofs.busy.play.Given as goal
 
 abbrev pub ghosts-check_busy-N-Naming : goal.ghosts-check_busy-N-Naming
 ghosts-check_busy-N-Naming g a = record {

@@ -1,12 +1,10 @@
-//! The answer to a declaration and an assignment: they are judged, and then threads work on a runtime. It takes the time of both.
+//! The answer to a declaration and an assignment: they are judged, and then the calls are made. It takes the time of these.
 
 ghost use Rattle.std.specs.Prelude.{◌≡◌, length};
 
-use crate::busy::play;
-use crate::load::Load;
+use crate::session::play;
 use std::alloc::{AllocError, Global};
 use std::sync::Wait;
-use std::thread::Threads;
 use wq_cert::{CertError, read_assignment};
 use wq_commands::{Stop, read_declaration};
 use wq_groups::Groups;
@@ -14,14 +12,14 @@ use wq_items::ItemTable;
 use wq_testbed::{Bed, SEED, Texts, refuse_text};
 
 /// Answers for the items of a table, in these groups, under the assignment in a text. Returns the status.
-fn answer_declared<R: Threads + Wait + Sync>(
+fn answer_declared<R: Wait>(
     rt: &R,
     alloc: Global,
     rows: u32,
     table: &ItemTable<'_, Global>,
     groups: &Groups<Global>,
     assigned: &[u8],
-    load: &Load,
+    calls: &[u8],
     out: &mut String,
 ) -> Result<u8, AllocError>
     requires { length groups.now.group_of ≡ length table.now.names }
@@ -36,7 +34,7 @@ fn answer_declared<R: Threads + Wait + Sync>(
                 assignment: &assignment,
                 rows,
             };
-            play(rt, alloc, &bed, load, out)
+            play(rt, alloc, &bed, calls, out)
         }
         Err(CertError::OutOfMemory) => Err(AllocError),
         Err(fault) => refuse_text(out, fault.code(), fault.line()),
@@ -44,12 +42,12 @@ fn answer_declared<R: Threads + Wait + Sync>(
 }
 
 /// Answers, or refuses the first text that has to be refused. Returns the status.
-pub(crate) fn answer<R: Threads + Wait + Sync>(
+pub fn answer<R: Wait>(
     rt: &R,
     alloc: Global,
     rows: u32,
     texts: &Texts,
-    load: &Load,
+    calls: &[u8],
     out: &mut String,
 ) -> Result<u8, AllocError> {
     match read_declaration(alloc, SEED, &texts.declared) {
@@ -60,7 +58,7 @@ pub(crate) fn answer<R: Threads + Wait + Sync>(
             &d.table,
             &d.groups,
             &texts.assigned,
-            load,
+            calls,
             out,
         ),
         Err(Stop::Refused { code, line }) => refuse_text(out, code, line),

@@ -1,6 +1,6 @@
 use Rattle.wq_groups.specs.Declaration.{declaration_of}
 use Rattle.wq_core.specs.Wiring.{wiring}
-use Rattle.wq_stress.proofs.load.play.Given as goal
+use Rattle.wq_storm.proofs.load.play.Given as goal
 
 abbrev pub ghosts-play_named-N-Naming : goal.ghosts-play_named-N-Naming
 ghosts-play_named-N-Naming g a = record {

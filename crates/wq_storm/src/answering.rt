@@ -1,10 +1,12 @@
-//! The answer to a declaration and an assignment: they are judged, and then the calls are made. It takes the time of these.
+//! The answer to a declaration and an assignment: they are judged, and then threads work on a runtime. It takes the time of both.
 
 ghost use Rattle.std.specs.Prelude.{◌≡◌, length};
 
-use crate::session::play;
+use crate::busy::play;
+use crate::load::Load;
 use std::alloc::{AllocError, Global};
 use std::sync::Wait;
+use std::thread::Threads;
 use wq_cert::{CertError, read_assignment};
 use wq_commands::{Stop, read_declaration};
 use wq_groups::Groups;
@@ -12,14 +14,14 @@ use wq_items::ItemTable;
 use wq_testbed::{Bed, SEED, Texts, refuse_text};
 
 /// Answers for the items of a table, in these groups, under the assignment in a text. Returns the status.
-fn answer_declared<R: Wait>(
+fn answer_declared<R: Threads + Wait + Sync>(
     rt: &R,
     alloc: Global,
     rows: u32,
     table: &ItemTable<'_, Global>,
     groups: &Groups<Global>,
     assigned: &[u8],
-    calls: &[u8],
+    load: &Load,
     out: &mut String,
 ) -> Result<u8, AllocError>
     requires { length groups.now.group_of ≡ length table.now.names }
@@ -34,7 +36,7 @@ fn answer_declared<R: Wait>(
                 assignment: &assignment,
                 rows,
             };
-            play(rt, alloc, &bed, calls, out)
+            play(rt, alloc, &bed, load, out)
         }
         Err(CertError::OutOfMemory) => Err(AllocError),
         Err(fault) => refuse_text(out, fault.code(), fault.line()),
@@ -42,12 +44,12 @@ fn answer_declared<R: Wait>(
 }
 
 /// Answers, or refuses the first text that has to be refused. Returns the status.
-pub(crate) fn answer<R: Wait>(
+pub fn answer<R: Threads + Wait + Sync>(
     rt: &R,
     alloc: Global,
     rows: u32,
     texts: &Texts,
-    calls: &[u8],
+    load: &Load,
     out: &mut String,
 ) -> Result<u8, AllocError> {
     match read_declaration(alloc, SEED, &texts.declared) {
@@ -58,7 +60,7 @@ pub(crate) fn answer<R: Wait>(
             &d.table,
             &d.groups,
             &texts.assigned,
-            calls,
+            load,
             out,
         ),
         Err(Stop::Refused { code, line }) => refuse_text(out, code, line),

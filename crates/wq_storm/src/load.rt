@@ -28,7 +28,7 @@ const CALLERS: u32 = 4;
 
 /// How much many threads have to do.
 #[derive(Drop)]
-pub(crate) struct Load {
+pub struct Load {
     /// The seed of their pseudo-random numbers.
     pub(crate) seed: u32,
     /// How many calls each caller makes.
@@ -39,7 +39,7 @@ pub(crate) struct Load {
 
 impl Load {
     /// The load of this seed and this many calls, if these words are numbers.
-    pub(crate) fn parse(seed: &str, calls: &str, with_counts: bool) -> Option<Self> {
+    pub fn parse(seed: &str, calls: &str, with_counts: bool) -> Option<Self> {
         Some(Load {
             seed: number(seed.as_bytes())?,
             calls: number(calls.as_bytes())?,
