@@ -5,24 +5,13 @@
 //! time of the calls.
 #![tactic(auto)]
 
-mod answering;
-mod body;
-mod client;
-mod concluding;
-mod declaring;
-mod fault;
-mod load;
-mod random;
-mod running;
-
-use fault::Fault;
-use load::Load;
 use std::process::ExitCode;
 use std::rt::Env;
 use std::sync::Wait;
 use std::thread::Threads;
 use std::time::Clock;
 use std::{env, io};
+use wq_load::{Fault, Load, answer};
 
 /// The loads that run where nothing is asked for: a small one of each kind.
 fn samples() -> [Load; 3] {
@@ -42,7 +31,7 @@ fn run_loads<R: Print + AllocGlobal + Threads + Wait + Clock + Sync>(
     let mut status = 0;
     for load in loads {
         if status == 0 {
-            status = answering::answer(rt, rt.alloc(), *load, &mut out)?;
+            status = answer(rt, rt.alloc(), *load, &mut out)?;
         }
     }
     match rt.print(out.as_str()) {

@@ -5,22 +5,12 @@
 //! prints; no contract does. It takes the time of the bodies and the callers.
 #![tactic(auto)]
 
-mod acts;
-mod answering;
-mod crew;
-mod deed;
-mod doer;
-mod meeting;
-mod plot;
-mod ran;
-mod scripted;
-
-use answering::{Task, answer};
 use std::process::ExitCode;
 use std::rt::{Env, Files};
 use std::sync::Wait;
 use std::thread::Threads;
 use wq_commands::Fault;
+use wq_deeds::{Task, answer};
 use wq_testbed::{
     MAX_TEXT, Setting, Texts, ended, misused, print_answer, read_file, read_texts, unread, words,
 };

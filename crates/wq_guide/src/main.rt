@@ -5,29 +5,23 @@
 //! explains it.
 #![tactic(auto)]
 
-mod disk;
-mod rdisk;
-mod writer;
-
 ghost use Rattle.std.specs.Prelude.{◌≡◌, length};
 ghost use Rattle.wq_groups.specs.Declaration.{declaration_of};
 ghost use Rattle.wq_core.specs.Wiring.{wiring};
 
 use anyhow::{Context, Result, anyhow, bail};
-use disk::REQUESTS;
-use rdisk::{Rdisk, RdiskBody, make_bodies};
 use std::alloc::Global;
 use std::marker::Brand;
 use std::sync::Wait;
 use std::sync::ledger::Blank;
 use std::thread::Threads;
-use wq_api::{CallError, Closed, Counts, Kind, Naming, Seat, WqRuntime};
+use wq_api::{Counts, Kind, Naming, Seat, WqRuntime};
 use wq_commands::{Declaration, read_declaration};
 use wq_groups::Assignment;
 use wq_items::ItemId;
 use wq_plan::{Answer, solve};
+use wq_rdisk::{REQUESTS, Rdisk, RdiskBody, Writer, make_bodies, make_writers};
 use wq_rescuer::{Body, Ran, run_all};
-use writer::Writer;
 
 /// The declaration of `rdisk.c`.
 const DECLARATION: &[u8] = b"\
@@ -115,44 +109,33 @@ fn put_destroyed<N: Naming, R: Wait + Print>(
     Ok(())
 }
 
-/// Prints what came of the calls and of the requests, and the answers after `destroy`.
-fn put_ran<N: Naming, R: Wait + Print>(
+/// Prints what came of the calls and of the requests, and the answers after `destroy`. The seat for these is added to the others.
+fn put_ran<N: Naming, R: Wait + Print + AllocGlobal>(
     rt: &R,
     runtime: &WqRuntime<N, Global>,
-    seat: &mut Seat<N, Global>,
     rdisk: &Rdisk,
-    results: &[Result<(), CallError>],
-    faults: u64,
+    ran: &mut Ran<N, Global, RdiskBody<'_>, Writer<'_>>,
 ) -> Result<()> {
-    for result in results {
+    for result in ran.results.as_slice() {
         (*result)?;
     }
-    put_disk(rt, rdisk, faults)?;
-    put_destroyed(rt, runtime, seat, rdisk)
+    put_disk(rt, rdisk, ran.faults)?;
+    let mut seat = runtime.seat(rt, rt.alloc())?;
+    put_destroyed(rt, runtime, &mut seat, rdisk)?;
+    ran.seats.push(seat)?;
+    Ok(())
 }
 
-/// Closes the runtime with all of its seats.
-fn close<N: Naming>(
-    runtime: WqRuntime<N, Global>,
-    mut seats: Vec<Seat<N, Global>>,
-    seat: Seat<N, Global>,
-) -> Result<Closed<N, Global>> {
-    seats.push(seat)?;
-    let closed = runtime.close(seats).map_err(|refused| refused.why)?;
-    Ok(closed)
-}
-
-/// Prints what all threads left, closes the runtime, and prints what its book counts.
-fn conclude<N: Naming, R: Wait + Print>(
+/// Prints what all threads left, closes the runtime with all of its seats, and prints what its book counts.
+fn conclude<N: Naming, R: Wait + Print + AllocGlobal>(
     rt: &R,
     runtime: WqRuntime<N, Global>,
-    mut seat: Seat<N, Global>,
     rdisk: &Rdisk,
-    ran: Ran<N, Global, RdiskBody<'_>, Writer<'_>>,
+    mut ran: Ran<N, Global, RdiskBody<'_>, Writer<'_>>,
 ) -> Result<()> {
-    put_ran(rt, &runtime, &mut seat, rdisk, &ran.results, ran.faults)?;
-    let Closed { counts, agree, .. } = close(runtime, ran.seats, seat)?;
-    put_closed(rt, rdisk, &counts, &ran.bodies, agree)
+    put_ran(rt, &runtime, rdisk, &mut ran)?;
+    let closed = runtime.close(ran.seats).map_err(|refused| refused.why)?;
+    put_closed(rt, rdisk, &closed.counts, &ran.bodies, closed.agree)
 }
 
 /// Makes a runtime under a plan, runs bodies and callers, closes the runtime, and prints what came of it.
@@ -172,17 +155,12 @@ fn run<N: Naming + Send + Sync, R: Threads + Wait + Sync + Print + AllocGlobal>(
 {
     let alloc = rt.alloc();
     let Declaration { table, groups } = declared;
-    let runtime = WqRuntime::<N, Global>::new(alloc, blank, table, groups, plan, ROWS)?;
-    let seat = runtime.seat(rt, alloc)?;
     let rdisk = Rdisk::new(table).context("an item is missing")?;
     let bodies = make_bodies(alloc, &rdisk, plan.lanes(), table.len())?;
-    let middle = REQUESTS / 2;
-    let writers = vec![in alloc;
-        Writer::new(&rdisk, 0, middle),
-        Writer::new(&rdisk, middle, REQUESTS),
-    ]?;
+    let writers = make_writers(alloc, &rdisk)?;
+    let runtime = WqRuntime::<N, Global>::new(alloc, blank, table, groups, plan, ROWS)?;
     let ran = run_all(rt, alloc, &runtime, bodies, writers).map_err(|refused| refused.why)?;
-    conclude(rt, runtime, seat, &rdisk, ran)
+    conclude(rt, runtime, &rdisk, ran)
 }
 
 /// Runs a plan in a runtime that is named here.

@@ -1,4 +1,4 @@
-//! What is printed of a load, in the lines of `crates/wq_bench`.
+//! What is printed of a load, in the lines of `crates/wq_load`.
 
 use crate::book::{Book, Seat};
 use crate::load::{Load, Task};
