@@ -138,7 +138,23 @@ fn conclude<N: Naming, R: Wait + Print + AllocGlobal>(
     put_closed(rt, rdisk, &closed.counts, &ran.bodies, closed.agree)
 }
 
-/// Makes a runtime under a plan, runs bodies and callers, closes the runtime, and prints what came of it.
+/// Has a rescuer for each workqueue run the driver's work functions, while two callers make their requests.
+fn serve<'a, N: Naming + Send + Sync, R: Threads + Wait + Sync + AllocGlobal>(
+    rt: &R,
+    runtime: &WqRuntime<N, Global>,
+    rdisk: &'a Rdisk,
+    items: u16,
+) -> Result<Ran<N, Global, RdiskBody<'a>, Writer<'a>>>
+    requires { length N.wiring.waits ≡ items }
+{
+    let alloc = rt.alloc();
+    let bodies = make_bodies(alloc, rdisk, runtime.lanes(rt), items)?;
+    let writers = make_writers(alloc, rdisk)?;
+    let ran = run_all(rt, alloc, runtime, bodies, writers).map_err(|refused| refused.why)?;
+    Ok(ran)
+}
+
+/// Makes a runtime under a plan, has it served, closes it, and prints what came of it.
 fn run<N: Naming + Send + Sync, R: Threads + Wait + Sync + Print + AllocGlobal>(
     rt: &R,
     blank: Blank,
@@ -153,13 +169,10 @@ fn run<N: Naming + Send + Sync, R: Threads + Wait + Sync + Print + AllocGlobal>(
     requires of_wiring { N.wiring ≡ wiring (declaration_of declared.now.table declared.now.groups) plan.now }
     requires of_rows { N.rows ≡ ROWS }
 {
-    let alloc = rt.alloc();
     let Declaration { table, groups } = declared;
     let rdisk = Rdisk::new(table).context("an item is missing")?;
-    let bodies = make_bodies(alloc, &rdisk, plan.lanes(), table.len())?;
-    let writers = make_writers(alloc, &rdisk)?;
-    let runtime = WqRuntime::<N, Global>::new(alloc, blank, table, groups, plan, ROWS)?;
-    let ran = run_all(rt, alloc, &runtime, bodies, writers).map_err(|refused| refused.why)?;
+    let runtime = WqRuntime::<N, Global>::new(rt.alloc(), blank, table, groups, plan, ROWS)?;
+    let ran = serve(rt, &runtime, &rdisk, table.len())?;
     conclude(rt, runtime, &rdisk, ran)
 }
 
