@@ -62,11 +62,11 @@ impl<'c> Model for CertLines<'c> {
     ghost view = { λ l. filled l.lines };
 }
 
-/// Whether a line holds a word.
+/// Whether a line holds a word. An empty line, of which a text may have millions, is told at once.
 fn holds_word(line: &Line<'_>) -> bool
     ensures { result ≡ holds_word line.now }
 {
-    line.words().next().is_some()
+    !line.bytes().is_empty() && line.words().next().is_some()
 }
 
 /// The first line that holds a word, and the lines after it.

@@ -1,8 +1,8 @@
 //! How a list of steps ends.
 //!
 //! The ends are those of "The command `replay`" in docs/FORMAT.md. The steps are made on the core machine, from the empty state
-//! on, by the rules of "Steps". This takes time in the number of steps, and for each step in that of the entries that are pending
-//! on a workqueue or of the flushes of an item. It also takes time and memory in the number of items, flushes and workqueues.
+//! on, by the rules of "Steps". This takes the time of the core machine's steps, and also time and memory in the number of items,
+//! flushes and workqueues.
 
 ghost use Rattle.std.specs.Prelude.{◌≡◌, ◌<◌, ◌↔◌, IsTrue, IfOk, OnErr, IfErr, length};
 ghost use Rattle.wq_groups.specs.Declaration.{declaration_of};

@@ -1,6 +1,7 @@
-//! The commands of the program, over any reader and any writer.
+//! The commands of the program, over any reader and any writer, and some of them over texts in memory.
 //!
 //! What the program relies on: the bytes written are the answer text to the bytes read. The commands are those of docs/FORMAT.md.
+//! Those over texts in memory also say why they answer a refusal or a `no`.
 //! What a run reads and writes is bounded and counted. A command takes the time of reading its texts, of answering them and of
 //! writing the answer.
 #![tactic(auto)]

@@ -2,8 +2,8 @@
 //!
 //! A lane moves by the steps of its rescuer, by the rules of "Rules" in the specs of this crate: an idle lane starts what is
 //! queued, what waits goes on once its wait is over, and anything else that runs can finish. What flushes as declared waits for
-//! the targets of its item in their order, and finishes after the last one. `declared` takes time in the number of entries that
-//! are pending on one lane; `enabled` takes that much for each lane. Nothing takes memory.
+//! the targets of its item in their order, and finishes after the last one. `declared` takes constant time, and `enabled` takes
+//! time in the number of lanes. Nothing takes memory.
 
 ghost use Rattle.std.specs.Prelude.{◌≡◌, ◌<◌, ◌↔◌, ℕ, IsTrue, IfSome, IfNone, None, slice_get};
 ghost use Rattle.wq_core.specs.declared.step.Step.{Step};

@@ -241,18 +241,18 @@ fn diagnosis_at<A: Allocator + Copy>(
     }
 }
 
-/// The diagnosis of a text's refusal, from what was found in the text.
+/// The diagnosis of a text's refusal, from the line that is meant, if there is one, and what was found.
 fn diagnosis<A: Allocator + Copy>(
     alloc: A,
     file: &str,
-    text: &Text<'_>,
+    line: Option<Line<'_>>,
     refusal: Refusal,
     finding: Finding<'_>,
 ) -> Result<Vec<u8, A>, AllocError>
     ensures { IfOk result (λ said. IsDiagnosis file.now refusal.word.now refusal.code refusal.line said.items) }
 {
     let what = finding.what.to_string(alloc)?;
-    let details = details(alloc, line_at(text, refusal.line), finding)?;
+    let details = details(alloc, line, finding)?;
     diagnosis_at(alloc, file, refusal, finding.mark, &what, &details)
 }
 
@@ -279,7 +279,8 @@ fn of_refused<A: Allocator + Copy>(
 {
     let text = lines_of(declaration.text);
     let finding = in_declaration(alloc, &text, refusal.code, refusal.line)?;
-    diagnosis(alloc, declaration.file, &text, refusal, finding)
+    let line = line_at(&text, refusal.line);
+    diagnosis(alloc, declaration.file, line, refusal, finding)
 }
 
 /// The diagnosis of a declaration that is refused for the fault of this number on this line.
@@ -336,7 +337,7 @@ fn fault_of<A: Allocator + Copy>(
     }
 }
 
-/// Finds what is wrong in a certificate that is refused like this.
+/// Finds what is wrong in a certificate that is refused like this, and the line that is meant, if there is one.
 fn find_fault<'a, A: Allocator + Copy>(
     alloc: A,
     kind: Kind,
@@ -344,7 +345,7 @@ fn find_fault<'a, A: Allocator + Copy>(
     declaration: &'a [u8],
     text: &Text<'a>,
     refusal: Refusal,
-) -> Result<Finding<'a>, AllocError>
+) -> Result<(Option<Line<'a>>, Finding<'a>), AllocError>
     requires { length declared.now.groups.group_of ≡ length declared.now.table.names }
 {
     let Declaration { table, groups } = declared;
@@ -366,8 +367,8 @@ fn of_fault<A: Allocator + Copy>(
     ensures { IfOk result (λ said. IsDiagnosis certificate.entry.file.now refusal.word.now refusal.code refusal.line said.items) }
 {
     let text = lines_of(certificate.text);
-    let finding = find_fault(alloc, kind, declared, declaration, &text, refusal)?;
-    diagnosis(alloc, certificate.file, &text, refusal, finding)
+    let (line, finding) = find_fault(alloc, kind, declared, declaration, &text, refusal)?;
+    diagnosis(alloc, certificate.file, line, refusal, finding)
 }
 
 /// The diagnosis of a certificate of a declaration that is refused for the fault of this number on this line; nothing where the
@@ -454,7 +455,7 @@ pub fn of_too_many<A: Allocator + Copy>(
     diagnosis(
         alloc,
         declaration.file,
-        &no_text(),
+        None,
         Refusal::new(TOO_MANY, 0),
         Finding::whole(what),
     )
@@ -495,7 +496,8 @@ fn of_lack<A: Allocator + Copy>(
     let text = lines_of(certificate.text);
     let lack = in_answer(&declared.table, &text, no);
     let refusal = Refusal::no(no.code(), lack.line);
-    diagnosis(alloc, certificate.file, &text, refusal, lack.finding)
+    let line = line_at(&text, lack.line);
+    diagnosis(alloc, certificate.file, line, refusal, lack.finding)
 }
 
 /// The diagnosis of a certificate of a declaration to which the checker answered this no; nothing where the declaration is refused.

@@ -28,7 +28,8 @@ const MAX_LINE: usize = 524_288;
 /// How many workqueues an assignment may have.
 const MAX_WORKQUEUES: u32 = 4096;
 
-/// What is wrong in a certificate of this declaration that is refused with this number for this line.
+/// What is wrong in a certificate of this declaration that is refused with this number for this line, and that line, if there is
+/// one.
 ///
 /// The only error is out of memory (20).
 pub fn in_certificate<'a, A: Allocator + Copy>(
@@ -40,11 +41,11 @@ pub fn in_certificate<'a, A: Allocator + Copy>(
     text: &Text<'a>,
     code: u32,
     no: u32,
-) -> Result<Finding<'a>, AllocError>
+) -> Result<(Option<Line<'a>>, Finding<'a>), AllocError>
     requires { length groups.now.group_of ≡ length table.now.names }
 {
     let (line, stage) = line_and_stage(kind, text, no);
-    match line {
+    let finding = match &line {
         Some(line) => on_line(
             alloc,
             kind,
@@ -52,13 +53,14 @@ pub fn in_certificate<'a, A: Allocator + Copy>(
             table,
             groups,
             text,
-            &line,
+            line,
             stage,
             code,
-        ),
-        None if code == 41 => find_unplaced(alloc, kind, table, text),
-        None => Ok(cut_short(text, stage)),
-    }
+        )?,
+        None if code == 41 => find_unplaced(alloc, kind, table, text)?,
+        None => cut_short(text, stage),
+    };
+    Ok((line, finding))
 }
 
 /// What is wrong on this line of a certificate that is refused with this number for it.

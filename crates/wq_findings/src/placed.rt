@@ -8,7 +8,7 @@ use crate::finding::Finding;
 use crate::hint::Hint;
 use crate::quoted::Quoted;
 use crate::stage::{Kind, Stage};
-use crate::token::{Token, bytes_at, stands_before};
+use crate::token::{Token, first_word, stands_before};
 use crate::what::{Unplaced, What};
 use std::alloc::{AllocError, Allocator};
 use wq_groups::Groups;
@@ -41,7 +41,7 @@ impl<A: Allocator + Copy> Places<A> {
     fn add_lines(&mut self, kind: Kind, table: &ItemTable<'_, A>, text: &Text<'_>, no: u32) {
         let mut stage = None;
         for line in text.lines() {
-            let word = bytes_at(&line, 0);
+            let word = first_word(&line);
             if word.is_empty() {
                 continue;
             }

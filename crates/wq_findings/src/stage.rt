@@ -5,7 +5,7 @@
 
 ghost use Rattle.std.specs.Prelude.{None};
 
-use crate::token::bytes_at;
+use crate::token::{bytes_at, first_word};
 use std::fmt;
 use wq_text::{Line, Text, number};
 
@@ -222,14 +222,15 @@ pub(crate) fn line_and_stage<'a>(
 ) -> (Option<Line<'a>>, Stage) {
     let mut stage = None;
     for line in text.lines() {
-        let word = bytes_at(&line, 0);
+        let word = first_word(&line);
+        if word.is_empty() && line.no() != no {
+            continue;
+        }
         let here = stage.unwrap_or(Stage::first(kind, word));
         if line.no() == no {
             return (Some(line), here);
         }
-        if !word.is_empty() {
-            stage = Some(here.behind(&line));
-        }
+        stage = Some(here.behind(&line));
     }
     (None, stage.unwrap_or(Stage::first(kind, b"")))
 }

@@ -77,6 +77,15 @@ pub(crate) fn bytes_at<'a>(line: &Line<'a>, place: usize) -> &'a [u8] {
     }
 }
 
+/// The bytes of the first word of a line; none where it has no word. An empty line, of which a text may have millions, is told at
+/// once.
+pub(crate) fn first_word<'a>(line: &Line<'a>) -> &'a [u8] {
+    if line.bytes().is_empty() {
+        return b"";
+    }
+    bytes_at(line, 0)
+}
+
 /// The place of the first word of a line.
 pub(crate) fn first_mark(line: &Line<'_>) -> Mark {
     match word_at(line, 0) {

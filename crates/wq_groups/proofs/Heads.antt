@@ -7,14 +7,9 @@ use Rattle.std.proofs.lemmas.List.{length-append, length-take-le, get_or-take}
 use Rattle.std.proofs.lemmas.List.FromFn.{length-map-range_with_len, fill_by_all, get_or-map-range_with_len}
 use Rattle.std.proofs.lemmas.List.Elements.{filter-append}
 use Rattle.std.proofs.lemmas.List.Sums.{length-filter}
-use Rattle.wq_items.proofs.TableLemmas.{range_with_len-append}
+use Rattle.wq_items.proofs.TableLemmas.{range_with_len-push}
 use Rattle.wq_groups.specs.Partition.{IsPartition}
 use Rattle.wq_groups.specs.Numbering.{AreHeads, heads_below, head_number, headed}
-
-pub range_with_len-push : (n : ℕ) → range_with_len 0 (n + 1) ≡ range_with_len 0 n ++ (n ∷ [])
-range_with_len-push n =
-    let end : 0 + n ≡ n = omega arith in
-    range_with_len-append 0 n 1 ∙ ap (λ k. range_with_len 0 n ++ range_with_len k 1) end
 
 module _ (F : ℕ → ℕ) where
   pub heads_below-head : (m : ℕ) → F m ≡ m → heads_below F (suc m) ≡ heads_below F m + 1

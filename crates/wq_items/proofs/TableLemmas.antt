@@ -58,6 +58,11 @@ range_with_len-append a (suc m) n =
     let start : (a + 1) + m ≡ a + suc m = omega arith in
     ap (range_with_len a) long ∙ ap (λ (l : List ℕ). a ∷ l) (range_with_len-append (a + 1) m n ∙ ap (λ (b : ℕ). range_with_len (a + 1) m ++ range_with_len b n) start)
 
+pub range_with_len-push : (n : ℕ) → range_with_len 0 (n + 1) ≡ range_with_len 0 n ++ (n ∷ [])
+range_with_len-push n =
+    let end : 0 + n ≡ n = omega arith in
+    range_with_len-append 0 n 1 ∙ ap (λ k. range_with_len 0 n ++ range_with_len k 1) end
+
 pub places-targets_from : (place : ℕ) (items : List ℕ) → map (λ (t : Target). t.place) (targets_from place items) ≡ range_with_len place (length items)
 places-targets_from place [] = refl
 places-targets_from place (item ∷ items) = ap (λ (l : List ℕ). place ∷ l) (places-targets_from (place + 1) items)

@@ -9,7 +9,7 @@ use Rattle.std.proofs.lemmas.List.FromFn.{length-map-range_with_len, get_or-map-
 use Rattle.std.proofs.lemmas.Grind.{flat_map-append}
 use Rattle.wq_buckets.specs.Places.{places_of, buckets_of}
 use Rattle.wq_buckets.proofs.Picking.{places-at, places-below}
-use Rattle.wq_items.proofs.TableLemmas.{range_with_len-append}
+use Rattle.wq_items.proofs.TableLemmas.{range_with_len-push}
 use Rattle.wq_graph.specs.declared.arc.WaitArc.{WaitArc}
 use Rattle.wq_graph.specs.Graph.{IsGraph, arcs_at}
 use Rattle.wq_levels.specs.Taking.{AreTails, arcs_to, heads_of, tails_of, tails_by_head, times}
@@ -75,11 +75,6 @@ times-places : (hs ts : List ℕ) (w v : ℕ) → length ts ≡ length hs → ti
 times-places hs ts w v same = times-beside (slice_index hs) (slice_index ts) w v 0 hs ts same (λ k lt. ap (slice_index hs) (omega arith)) (λ k lt. ap (slice_index ts) (omega arith))
 
 -- ---- the arcs of the first n vertices
-
-range_with_len-push : (n : ℕ) → range_with_len 0 (n + 1) ≡ range_with_len 0 n ++ (n ∷ [])
-range_with_len-push n =
-    let end : 0 + n ≡ n = omega arith in
-    range_with_len-append 0 n 1 ∙ ap (λ k. range_with_len 0 n ++ range_with_len k 1) end
 
 module _ (graph : List (List WaitArc)) where
   -- those that each of them leaves

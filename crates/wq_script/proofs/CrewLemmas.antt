@@ -5,19 +5,14 @@ use Rattle.std.specs.Prelude.{◌==◌, map, cond}
 use Rattle.std.specs.List.{filter, range_with_len}
 use Rattle.std.proofs.lemmas.List.{append-nil, append_assoc, map-append}
 use Rattle.std.proofs.lemmas.List.Elements.{filter-append}
-use Rattle.wq_items.proofs.TableLemmas.{range_with_len-append}
+use Rattle.wq_items.proofs.TableLemmas.{range_with_len-push}
 use Rattle.wq_script.specs.declared.acting.Act.{Act}
 use Rattle.wq_script.specs.Crews.{every_second}
-
-range-more : (i : ℕ) → range_with_len 0 (i + 1) ≡ range_with_len 0 i ++ (i ∷ [])
-range-more i =
-    let same : 0 + i ≡ i = omega arith in
-    range_with_len-append 0 i 1 ∙ ap (λ (a : ℕ). range_with_len 0 i ++ (a ∷ [])) same
 
 every_second-more : (first i : ℕ) (is : Bool) → ((i % 2) == first) ≡ is → every_second first (i + 1) ≡ every_second first i ++ cond is (i ∷ []) []
 every_second-more first i is decided =
     let p = λ (n : ℕ). (n % 2) == first in
-    ap (filter p) (range-more i) ∙ filter-append p (range_with_len 0 i) (i ∷ []) ∙ ap (λ (b : Bool). every_second first i ++ cond b (i ∷ []) []) decided
+    ap (filter p) (range_with_len-push i) ∙ filter-append p (range_with_len 0 i) (i ∷ []) ∙ ap (λ (b : Bool). every_second first i ++ cond b (i ∷ []) []) decided
 
 -- the item is one of every second
 pub calls-more : (f : ℕ → Act) (first i : ℕ) (before calls more : List Act) → i % 2 ≡ first → calls ≡ before ++ map f (every_second first i) → more ≡ calls ++ (f i ∷ [])

@@ -1,7 +1,7 @@
 use Rattle.std.proofs.Common.{◌≡◌, ◌<◌, ℕ, List, [], ◌∷◌, ◌++◌, sym, ap, subst, ◌∙◌, arith}
 use Rattle.std.specs.List.{All, range_with_len}
 use Rattle.std.proofs.lemmas.List.FromFn.{length-range_with_len, get_or-range_with_len}
-use Rattle.wq_groups.proofs.Heads.{range_with_len-push}
+use Rattle.wq_items.proofs.TableLemmas.{range_with_len-push}
 use Rattle.wq_checker.proofs.checking.own_lanes.Goals as goal
 
 -- the numbers below n are below n

@@ -1,6 +1,6 @@
 use Rattle.std.proofs.Common.{ℕ, List, ◌++◌, ◌∷◌, [], sym, ap, ◌∙◌}
 use Rattle.std.specs.List.{range_with_len}
-use Rattle.wq_groups.proofs.Heads.{range_with_len-push}
+use Rattle.wq_items.proofs.TableLemmas.{range_with_len-push}
 use Rattle.wq_deadlock.proofs.circles.lanes_in_turn.Goals as goal
 
 pub loop-q-preserved : goal.loop-q-preserved

@@ -3,7 +3,7 @@ use Rattle.std.specs.Prelude.{codes, flat_map}
 use Rattle.std.specs.List.{All, range_with_len}
 use Rattle.std.proofs.lemmas.List.{take_all}
 use Rattle.std.proofs.lemmas.List.FromFn.{length-map-range_with_len}
-use Rattle.wq_groups.proofs.Heads.{range_with_len-push}
+use Rattle.wq_items.proofs.TableLemmas.{range_with_len-push}
 use Rattle.wq_buckets.specs.Places.{places_of, buckets_of}
 use Rattle.wq_graph.specs.declared.arc.WaitArc.{WaitArc}
 use Rattle.wq_drawing.specs.Drawing.{box_lines, flush_line, head_lines, workqueue_lines}

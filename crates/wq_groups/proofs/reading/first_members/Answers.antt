@@ -9,7 +9,7 @@ use Rattle.wq_decl.specs.declared.directive.Directive.{Directive}
 use Rattle.wq_decl.specs.Reading.{has_ordered}
 use Rattle.wq_groups.specs.Reading.{IsNoted}
 use Rattle.wq_groups.proofs.Among.{Differ}
-use Rattle.wq_groups.proofs.Heads.{range_with_len-push}
+use Rattle.wq_items.proofs.TableLemmas.{range_with_len-push}
 use Rattle.wq_groups.proofs.Regrouped.{first_regrouped-none}
 use Rattle.wq_groups.proofs.NoteLemmas.{NotedSoFar, NotedSoFar-none, NotedSoFar-known, NotedSoFar-more, NotedSoFar-twice, NotedSoFar-all, IsNoted-unordered, written_back}
 use Rattle.wq_groups.proofs.reading.first_members.Goals as goal
