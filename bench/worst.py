@@ -19,6 +19,8 @@ MOST_CERTIFICATE = 8388608
 MOST_CERTIFICATE_LINE = 524288
 HALF = ITEMS // 2
 LAST = ITEMS - 1
+# Lines that hold no word, of as few bytes as can be.
+WORDLESS = {"empty lines": "\n", "comments": "#\n", "lines of a space": " \n"}
 # A run that takes longer than this many seconds of processor time is ended.
 LIMIT = 60
 # Where GNU time is.
@@ -145,9 +147,9 @@ def run_text(first, again, most, last=()):
     return f"run {len(first) + turns * len(again) + len(last)}\n" + head + body * turns + tail
 
 
-def late(text, most):
-    """A text after as many empty lines as it leaves room for. Its last line is of no form."""
-    return padded("\n", most, most - len(text) - 2) + text + "?\n"
+def below(line, text, most):
+    """A text below as many of these lines as it leaves room for."""
+    return padded(line, most, most - len(text)) + text
 
 
 def queued(items, name=short):
@@ -176,12 +178,14 @@ def runs(most):
     yield "4,096 workqueues start and finish", nothing, own(), run_text([], [s for i in range(ITEMS) for s in (f"queue {i:x}\n", f"start {i} {i:x}\n", f"finish {i} {i:x}\n")], most)
     names = declaration(ITEMS, [], name=long)
     yield "the longest names", names, workqueues([range(ITEMS)], long), run_text(queued(range(ITEMS), long), [f"cancel {long(LAST)}\n", f"queue {long(LAST)}\n"], most)
-    yield "the longest text of empty lines", nothing, one(), padded("\n", most, most - 6) + "run 0\n"
+    yield "the longest text of empty lines", nothing, one(), below("\n", "run 0\n", most)
     yield "the longest lines of comments", nothing, one(), padded("#" * MOST_CERTIFICATE_LINE + "\n", 16, most - 6) + "run 0\n"
     turn = ["cancel fff\n", "queue fff\n"]
     yield "not lawful at the last step", nothing, one(), run_text(everything, turn, most, ["start 1 0\n"])
     yield "refused at the last line", nothing, one(), run_text(everything, turn, most, ["start 1 ?\n"])
-    yield "an assignment refused at its last line, after empty ones", nothing, late(one(), most), "run 0\n"
+    for kind, line in WORDLESS.items():
+        yield f"an assignment below {kind}, refused at its last line", nothing, below(line, one() + "?\n", most), "run 0\n"
+        yield f"an assignment and a run below {kind}, refused at the last line", nothing, below(line, one(), most), below(line, "run 0\n?\n", most)
 
 
 def certificates(circle, plan, most):
@@ -191,8 +195,10 @@ def certificates(circle, plan, most):
     yield "a circle whose run doesn't end stuck", circle + run_text(everything, turn, room)
     yield "a circle whose run isn't lawful at its last step", circle + run_text(everything, turn, room, ["start 4095 0\n"])
     yield "a circle whose run is refused at its last line", circle + run_text(everything, turn, room, ["start 1 ?\n"])
-    yield "a plan after empty lines", padded("\n", most, most - len(plan)) + plan
-    yield "a plan refused at its last line, after empty ones", late(plan, most)
+    for kind, line in WORDLESS.items():
+        yield f"a plan below {kind}", below(line, plan, most)
+        yield f"a plan below {kind}, refused at its last line", below(line, plan + "?\n", most)
+        yield f"a plan below {kind}, whose chain isn't one", below(line, plan.replace("chain 1", "chain 2\narc 0 1"), most)
 
 
 def declarations():
@@ -259,8 +265,14 @@ def cases(program, folder, write, most_run=MOST_CERTIFICATE):
     plan_alone = program.answer("plan", folder, write(declaration(ITEMS, [])))
     for name, text in certificates(circle_alone, plan_alone, most_run):
         yield "check", name, [write(declaration(ITEMS, [])) if "plan" in name else path, write(text)]
-    for command in "deadlock", "circles", "dot":
-        yield command, "an assignment refused at its last line, after empty ones", [path, write(late(one(), most_run))]
+    for kind, line in WORDLESS.items():
+        refused = write(below(line, one() + "?\n", most_run))
+        for command in "deadlock", "circles", "dot":
+            yield command, f"an assignment below {kind}, refused at its last line", [path, refused]
+    falling = write(declaration(ITEMS, [(0, 1)]))
+    low = f"plan 1\n{one()}chain 1\n"
+    for kind, line in WORDLESS.items():
+        yield "check", f"a plan below {kind}, with an item that isn't above its target", [falling, write(below(line, low, most_run))]
     for name, text, assignment, run in runs(most_run):
         yield "replay", name, [write(text), write(assignment), write(run)]
     path, queues = write(declaration(ITEMS, circle())), write(one())

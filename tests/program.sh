@@ -537,7 +537,7 @@ shows replay RUN step
 shows run DECL declaration
 shows explain CODE number
 run --version </dev/null
-check '--version' 0 'wqplan 0.1.0\n' ''
+check '--version' 0 'wqplan 0.2.0-dev\n' ''
 
 echo "program: $passed passed, $failed failed"
 [ "$failed" -eq 0 ]

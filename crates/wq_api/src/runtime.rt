@@ -5,8 +5,8 @@
 //! of `wq_under_lock` and of `Held` say what a call does to the book. The contracts here say what the caller can know: its answer,
 //! and its own counts.
 //!
-//! Apart from what it waits for, a call takes the time of the book's events. `new` takes that of the wait graph of the workqueues
-//! and its ranks, and of the rows, for which it takes room.
+//! Apart from what it waits for, a call takes the time of the book's events. `seat` takes time and memory in the number of items,
+//! and `new` also the time of the wait graph of the workqueues and of its ranks, and room for the rows, 12 bytes for each.
 
 ghost use Rattle.std.specs.Prelude.{◌≡◌, ◌<◌, ◌≤◌, ◌*◌, length, replicate, true, IfOk, IfErr, OnOk, IfSome, IfNone};
 ghost use Rattle.wq_groups.specs.Declaration.{declaration_of};
@@ -98,8 +98,8 @@ impl<N: Naming, A: Allocator> WqRuntime<N, A> {
     /// Queues an item on its workqueue (`queue_work`): true where it wasn't pending, false where it was.
     ///
     /// The error is the first of these that holds: `NoItem` (66); `WrongLane` (64), where the item belongs to another workqueue;
-    /// `HistoryFull` (60), where the seat is full; `Closed` (61); `HistoryFull` (60), where too few rows are free. After an error
-    /// nothing is changed or counted.
+    /// `HistoryFull` (60), where the seat is full; `Closed` (61); `HistoryFull` (60), where fewer rows are free than it needs: 1
+    /// where the item is pending, or else 3 and 2 for each flush that it declares. After an error nothing is changed or counted.
     pub fn queue_work<R: Wait>(
         &self,
         rt: &R,
@@ -119,7 +119,8 @@ impl<N: Naming, A: Allocator> WqRuntime<N, A> {
 
     /// Removes the pending entry of an item (`cancel_work`): true where one was pending.
     ///
-    /// The error is `NoItem` (66), or else `HistoryFull` (60). After an error nothing is changed or counted.
+    /// The error is `NoItem` (66), or else `HistoryFull` (60), where the seat is full, or nothing is pending and no row is free.
+    /// After an error nothing is changed or counted.
     pub fn cancel_work<R: Wait>(
         &self,
         rt: &R,
@@ -166,8 +167,9 @@ impl<N: Naming, A: Allocator> WqRuntime<N, A> {
     /// Waits until none of an item's entries that were queued before the call is unfinished (`flush_work`): true where it had to
     /// wait, false where the item was idle.
     ///
-    /// The error is `NoItem` (66), or else `HistoryFull` (60). Then nothing is changed or counted. Once it has asked, the only
-    /// error could be `NotAsked` (65); then its ask stays counted.
+    /// The error is `NoItem` (66), or else `HistoryFull` (60), where the seat is full, or fewer than 2 rows are free, or none where
+    /// the item is idle. Then nothing is changed or counted. Once it has asked, the only error could be `NotAsked` (65); then its
+    /// ask stays counted.
     #[tactic(auto, using(crate::proofs::WaitsRefused::ask_refused, crate::proofs::WaitsRefused::ask_not_counted))]
     pub fn flush_work<R: Wait>(
         &self,

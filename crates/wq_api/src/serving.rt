@@ -45,8 +45,8 @@ impl<N: Naming, A: Allocator> WqRuntime<N, A> {
         unreachable!()
     }
 
-    /// Makes what a workqueue runs wait for an item, until each of its entries that was queued before is finished (`flush_work`
-    /// in a work function): true where there was one.
+    /// Makes what a workqueue runs wait for an item (`flush_work` in a work function), until none of its entries that were queued
+    /// before the call is unfinished: true where one was when the wait began.
     ///
     /// The error is the first of these that holds: `WrongLane` (64), where there is no such workqueue; `HistoryFull` (60), where
     /// the seat is full; `WrongLane` (64), where the workqueue runs nothing or waits; `Undeclared` (62); `TooManyWaits` (63).

@@ -62,11 +62,14 @@ impl<'c> Model for CertLines<'c> {
     ghost view = { λ l. filled l.lines };
 }
 
-/// Whether a line holds a word. An empty line, of which a text may have millions, is told at once.
+/// Whether a line holds a word. Empty lines and comments, of which a text may have millions, are told by their first byte.
 fn holds_word(line: &Line<'_>) -> bool
     ensures { result ≡ holds_word line.now }
 {
-    !line.bytes().is_empty() && line.words().next().is_some()
+    match line.bytes() {
+        [] | [b'#', ..] => false,
+        _ => line.words().next().is_some(),
+    }
 }
 
 /// The first line that holds a word, and the lines after it.

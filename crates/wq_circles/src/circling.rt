@@ -11,6 +11,7 @@ ghost use Rattle.wq_commands.specs.declared.why.Which.TheVariants.{Certificate};
 ghost use Rattle.wq_commands.specs.Why.{SaysFault, SaysAssigned};
 ghost use Rattle.wq_circles.specs.Components.{AreComponents};
 ghost use Rattle.wq_circles.specs.Circling.{CirclesAssigned, CirclesDeclared, Circles, OwnCircles};
+ghost use Rattle.wq_circles.specs.CirclesPromise.{KeepsCircles};
 
 use crate::joining::components;
 use crate::printing::components_text;
@@ -101,10 +102,8 @@ fn circle_groups<A: Allocator + Copy>(
     circle_assigned(alloc, table, groups, &assignment)
 }
 
-/// The components of the texts of a declaration and an assignment, and which of them is refused, if one is.
-///
-/// The only error is out of memory (20). The names are hashed with `seed`. No answer depends on it.
-pub fn circles_texts<A: Allocator + Copy>(
+/// The answer to both texts.
+fn circle_both<A: Allocator + Copy>(
     alloc: A,
     seed: u64,
     text: &[u8],
@@ -126,6 +125,23 @@ pub fn circles_texts<A: Allocator + Copy>(
     }
 }
 
+/// The components of the texts of a declaration and an assignment, and beside them which text is refused, if one is. The answer is
+/// true, as `circles_cmd` says.
+///
+/// The only error is out of memory (20). The names are hashed with `seed`. No answer depends on it.
+pub fn circles_texts<A: Allocator + Copy>(
+    alloc: A,
+    seed: u64,
+    text: &[u8],
+    assigned: &[u8],
+) -> Result<Answered<A>, AllocError>
+    ensures answer { IfOk result (λ a. Circles text.now assigned.now a.end a.text.items) }
+    ensures promised { IfOk result (λ a. KeepsCircles text.now assigned.now a.end a.text.items) }
+    ensures why { IfOk result (λ a. SaysAssigned text.now assigned.now a.why) }
+{
+    circle_both(alloc, seed, text, assigned)
+}
+
 /// How a run of the program that is given the texts of a declaration and an assignment ends, and what it prints.
 pub(crate) fn circle<A: Allocator + Copy>(
     alloc: A,
@@ -135,7 +151,7 @@ pub(crate) fn circle<A: Allocator + Copy>(
 ) -> Result<(End, Vec<u8, A>), AllocError>
     ensures { IfOk result (λ printed. Circles text.now assigned.now printed.0 printed.1.items) }
 {
-    let Answered { end, text, .. } = circles_texts(alloc, seed, text, assigned)?;
+    let Answered { end, text, .. } = circle_both(alloc, seed, text, assigned)?;
     Ok((end, text))
 }
 

@@ -1,4 +1,4 @@
--- Why an answer isn't a good one.
+-- What is said beside an answer: which text is refused, and for what; or what a certificate lacks.
 use Rattle.std.specs.Prelude.{◌≡◌, List, ℕ, Option, Some, None, Result, Ok, Err, MatchResult}
 use Rattle.wq_text.specs.Refusal.{Refusal}
 use Rattle.wq_cert.specs.declared.fault.CertError.{CertError}

@@ -1,4 +1,4 @@
-//! Why an answer isn't a good one: which text is refused, and for what; or what a certificate lacks.
+//! What is said beside an answer: which text is refused, and for what; or what a certificate lacks.
 //!
 //! A command on texts in memory hands it out beside the answer. So whoever says it in more words than the answer has
 //! (`wq_diagnosis`) needn't read the texts again to learn it. It takes constant time.
@@ -25,7 +25,7 @@ pub enum Which {
     Run,
 }
 
-/// Why an answer isn't a good one.
+/// What is said beside an answer.
 #[derive(Clone, Copy, Debug, PartialEq, Eq)]
 pub enum Why {
     /// This text is refused, for the fault of this number on this line. The line is 0 where no line is meant.

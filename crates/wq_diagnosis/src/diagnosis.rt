@@ -15,8 +15,8 @@ use wq_cert::{CertError, read_answer, read_assignment, read_run};
 use wq_checker::{No, check_answer};
 use wq_commands::{Declaration, Stop, read_declaration};
 use wq_findings::{
-    Excerpt, Finding, Kind, Mark, Marks, What, in_answer, in_certificate, in_declaration, line_at,
-    put_place, shown,
+    Excerpt, Finding, Kind, Lack, Mark, Marks, What, in_answer, in_certificate, in_declaration,
+    line_at, put_place, shown,
 };
 use wq_lines::put;
 use wq_text::{Line, Text};
@@ -484,6 +484,14 @@ fn no_to<A: Allocator + Copy>(
     }
 }
 
+/// The number of the line that is meant; 0 where none is.
+fn number_of(line: &Option<Line<'_>>) -> u32 {
+    match line {
+        Some(line) => line.no(),
+        None => 0,
+    }
+}
+
 /// The diagnosis of a certificate with this answer.
 fn of_lack<A: Allocator + Copy>(
     alloc: A,
@@ -494,10 +502,9 @@ fn of_lack<A: Allocator + Copy>(
     ensures { IfOk result (λ said. (line : ℕ) × IsDiagnosis certificate.entry.file.now (codes "no") (no_code no.now) line said.items) }
 {
     let text = lines_of(certificate.text);
-    let lack = in_answer(&declared.table, &text, no);
-    let refusal = Refusal::no(no.code(), lack.line);
-    let line = line_at(&text, lack.line);
-    diagnosis(alloc, certificate.file, line, refusal, lack.finding)
+    let Lack { line, finding } = in_answer(&declared.table, &text, no);
+    let refusal = Refusal::no(no.code(), number_of(&line));
+    diagnosis(alloc, certificate.file, line, refusal, finding)
 }
 
 /// The diagnosis of a certificate of a declaration to which the checker answered this no; nothing where the declaration is refused.

@@ -66,7 +66,8 @@ impl<'a, N: Naming, A: Allocator> Work<'a, N, A> {
     /// Queues an item: true where it wasn't pending, false where it was.
     ///
     /// The error is the first of these that holds: `NoItem` (66); `HistoryFull` (60), where the seat is full; `Closed` (61);
-    /// `HistoryFull` (60), where too few rows are free. After an error nothing is changed or counted.
+    /// `HistoryFull` (60), where fewer rows are free than it needs: 1 where the item is pending, or else 3 and 2 for each flush that
+    /// it declares. After an error nothing is changed or counted.
     pub fn queue<R: Wait>(&mut self, rt: &R, item: ItemId) -> Result<bool, CallError>
         ensures counted { IfOk result (λ accepted. (item < items N.wiring) × HasRoom self.old.seat.now × (self.new.seat.now ≡ raised self.old.seat.now item Queue accepted)) }
         ensures refused { IfErr result (λ e. RefusesQueueByBody N.wiring self.old.seat.now item e × (self.new.seat.now ≡ self.old.seat.now)) }
@@ -83,7 +84,8 @@ impl<'a, N: Naming, A: Allocator> Work<'a, N, A> {
 
     /// Removes the pending entry of an item: true where one was pending.
     ///
-    /// The error is `NoItem` (66), or else `HistoryFull` (60). After an error nothing is changed or counted.
+    /// The error is `NoItem` (66), or else `HistoryFull` (60), where the seat is full, or nothing is pending and no row is free.
+    /// After an error nothing is changed or counted.
     pub fn cancel<R: Wait>(&mut self, rt: &R, item: ItemId) -> Result<bool, CallError>
         ensures counted { IfOk result (λ taken. (item < items N.wiring) × HasRoom self.old.seat.now × (self.new.seat.now ≡ raised self.old.seat.now item Cancel taken)) }
         ensures refused { IfErr result (λ e. RefusesCancelWork N.wiring item e × (self.new.seat.now ≡ self.old.seat.now)) }
@@ -95,7 +97,7 @@ impl<'a, N: Naming, A: Allocator> Work<'a, N, A> {
         self.runtime.cancel_work(rt, self.seat, item)
     }
 
-    /// Waits until each entry of an item that was queued before is finished: true where there was one.
+    /// Waits until none of an item's entries that were queued before the call is unfinished: true where one was when the wait began.
     ///
     /// The error is the first of these that holds: `HistoryFull` (60), where the seat is full; `Undeclared` (62), where the
     /// running item declares no flush of this one; `TooManyWaits` (63), where it has made as many as it declares. Then nothing is

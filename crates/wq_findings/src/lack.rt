@@ -5,7 +5,7 @@
 use crate::finding::Finding;
 use crate::hint::Hint;
 use crate::quoted::Quoted;
-use crate::token::{Mark, Token, begins_with, bytes_at, word_at};
+use crate::token::{Mark, Token, bytes_at, first_word, word_at};
 use crate::what::What;
 use std::alloc::Allocator;
 use wq_checker::No;
@@ -15,11 +15,11 @@ use wq_text::{Line, Text};
 /// What is wrong with an arc whose names aren't known.
 const WRONG_ARC: &str = "an arc isn't a flush, or doesn't begin where the one before it ends";
 
-/// What is found, and the number of its line; the number is 0 where no line is meant.
-#[derive(Clone, Copy)]
+/// What is found, and the line that is meant, if there is one.
+#[derive(Drop)]
 pub struct Lack<'a> {
-    /// The number of the line.
-    pub line: u32,
+    /// The line.
+    pub line: Option<Line<'a>>,
     /// What is found on it.
     pub finding: Finding<'a>,
 }
@@ -28,26 +28,18 @@ impl<'a> Lack<'a> {
     /// What a whole certificate lacks.
     fn whole(what: What<'a>) -> Lack<'a> {
         Lack {
-            line: 0,
+            line: None,
             finding: Finding::whole(what),
         }
     }
 
     /// What is wrong with these bytes of a line, with a hint.
-    fn marked(line: u32, mark: Mark, what: What<'a>, hint: Hint<'a>) -> Lack<'a> {
+    fn marked(line: Line<'a>, mark: Mark, what: What<'a>, hint: Hint<'a>) -> Lack<'a> {
         Lack {
-            line,
+            line: Some(line),
             finding: Finding::marked(mark, what, hint),
         }
     }
-}
-
-/// An item on its `wq` line: the number of the line, the workqueue, and the word.
-#[derive(Clone, Copy)]
-struct Placed<'a> {
-    line: u32,
-    workqueue: &'a [u8],
-    word: Token<'a>,
 }
 
 /// What a certificate of these items lacks, from the answer to it.
@@ -92,26 +84,6 @@ fn word_of<'a, A: Allocator + Copy>(
     None
 }
 
-/// Where an item is.
-fn place_of<'a, A: Allocator + Copy>(
-    table: &ItemTable<'_, A>,
-    text: &Text<'a>,
-    item: ItemId,
-) -> Option<Placed<'a>> {
-    for line in text.lines() {
-        if begins_with(&line, b"wq")
-            && let Some(word) = word_of(table, &line, item)
-        {
-            return Some(Placed {
-                line: line.no(),
-                workqueue: bytes_at(&line, 1),
-                word,
-            });
-        }
-    }
-    None
-}
-
 /// An item that isn't above what it flushes.
 fn not_falling<'a, A: Allocator + Copy>(
     table: &ItemTable<'_, A>,
@@ -119,28 +91,36 @@ fn not_falling<'a, A: Allocator + Copy>(
     item: ItemId,
     target: ItemId,
 ) -> Lack<'a> {
-    match (place_of(table, text, item), place_of(table, text, target)) {
-        (Some(item), Some(target)) => too_low(item, target),
+    let mut low = None;
+    let mut flushed = None;
+    for line in text.lines() {
+        if first_word(&line) != b"wq" {
+            continue;
+        }
+        if let Some(word) = word_of(table, &line, target) {
+            flushed = Some((word.quoted(), Quoted(bytes_at(&line, 1))));
+        }
+        if let Some(word) = word_of(table, &line, item) {
+            low = Some((line, word));
+        }
+    }
+    match (low, flushed) {
+        (Some((line, word)), Some((target, workqueue))) => {
+            let what = What::TooLow(word.quoted(), target);
+            let hint = Hint::OnWorkqueue(target, workqueue);
+            Lack::marked(line, word.mark, what, hint)
+        }
         _ => Lack::whole(What::Said(
             "an item isn't on a higher workqueue than all that it flushes",
         )),
     }
 }
 
-/// An item that should be above its target.
-fn too_low<'a>(item: Placed<'a>, target: Placed<'a>) -> Lack<'a> {
-    let Placed { line, word, .. } = item;
-    let flushed = target.word.quoted();
-    let what = What::TooLow(word.quoted(), flushed);
-    let hint = Hint::OnWorkqueue(flushed, Quoted(target.workqueue));
-    Lack::marked(line, word.mark, what, hint)
-}
-
 /// The line of this number, counted from 1, among those that begin with this word.
 fn nth_line<'a>(text: &Text<'a>, first: &[u8], number: u32) -> Option<Line<'a>> {
     let mut left = number;
     for line in text.lines() {
-        if begins_with(&line, first) {
+        if first_word(&line) == first {
             left = left.saturating_sub(1);
             if left == 0 {
                 return Some(line);
@@ -153,15 +133,15 @@ fn nth_line<'a>(text: &Text<'a>, first: &[u8], number: u32) -> Option<Line<'a>> 
 /// What is wrong with the number on the line that begins with this word.
 fn counted<'a>(text: &Text<'a>, first: &[u8], what: &'static str) -> Lack<'a> {
     match nth_line(text, first, 1) {
-        Some(line) => wrong_number(&line, what),
+        Some(line) => wrong_number(line, what),
         None => Lack::whole(What::Said(what)),
     }
 }
 
 /// What is wrong with the number on a line.
-fn wrong_number<'a>(line: &Line<'a>, what: &'static str) -> Lack<'a> {
-    match word_at(line, 1) {
-        Some(word) => Lack::marked(line.no(), word.mark, What::Said(what), Hint::Nothing),
+fn wrong_number<'a>(line: Line<'a>, what: &'static str) -> Lack<'a> {
+    match word_at(&line, 1) {
+        Some(word) => Lack::marked(line, word.mark, What::Said(what), Hint::Nothing),
         None => Lack::whole(What::Said(what)),
     }
 }
@@ -169,17 +149,17 @@ fn wrong_number<'a>(line: &Line<'a>, what: &'static str) -> Lack<'a> {
 /// An arc that isn't a flush, or doesn't begin where the one before it ends.
 fn broken_arc<'a>(text: &Text<'a>, at: u32, before: &'static str) -> Lack<'a> {
     match nth_line(text, b"arc", at) {
-        Some(line) => wrong_arc(&line, before),
+        Some(line) => wrong_arc(line, before),
         None => Lack::whole(What::Said(WRONG_ARC)),
     }
 }
 
 /// The line of such an arc.
-fn wrong_arc<'a>(line: &Line<'a>, before: &'static str) -> Lack<'a> {
-    match (word_at(line, 1), word_at(line, 2)) {
+fn wrong_arc<'a>(line: Line<'a>, before: &'static str) -> Lack<'a> {
+    match (word_at(&line, 1), word_at(&line, 2)) {
         (Some(item), Some(target)) => {
             let what = What::WrongArc(item.quoted(), target.quoted(), before);
-            Lack::marked(line.no(), item.mark, what, Hint::Nothing)
+            Lack::marked(line, item.mark, what, Hint::Nothing)
         }
         _ => Lack::whole(What::Said(WRONG_ARC)),
     }

@@ -4,7 +4,7 @@
 //! names; there are at most 4,096 above a line that is refused.
 
 use crate::guess::{edits_between, letters};
-use crate::token::{begins_with, bytes_at};
+use crate::token::{bytes_at, first_word};
 use std::alloc::{AllocError, Allocator};
 use wq_text::{Line, Text};
 
@@ -39,7 +39,7 @@ impl<'a, A: Allocator + Copy> Names<'a, A> {
     /// Adds the names on such lines of a text.
     fn add_lines(&mut self, text: &Text<'a>, directive: &[u8], no: u32) -> Result<(), AllocError> {
         for line in text.lines() {
-            if line.no() < no && begins_with(&line, directive) {
+            if line.no() < no && first_word(&line) == directive {
                 self.add(&line)?;
             }
         }
@@ -71,7 +71,7 @@ impl<'a, A: Allocator + Copy> Names<'a, A> {
 
 /// The name on a line that declares an item.
 fn item_on<'a>(line: &Line<'a>) -> Option<Named<'a>> {
-    if begins_with(line, b"item") {
+    if first_word(line) == b"item" {
         Some(Named {
             name: bytes_at(line, 1),
             line: line.no(),

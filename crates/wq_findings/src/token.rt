@@ -77,13 +77,13 @@ pub(crate) fn bytes_at<'a>(line: &Line<'a>, place: usize) -> &'a [u8] {
     }
 }
 
-/// The bytes of the first word of a line; none where it has no word. An empty line, of which a text may have millions, is told at
-/// once.
+/// The bytes of the first word of a line; none where it has no word. Empty lines and comments, of which a text may have millions,
+/// are told by their first byte.
 pub(crate) fn first_word<'a>(line: &Line<'a>) -> &'a [u8] {
-    if line.bytes().is_empty() {
-        return b"";
+    match line.bytes() {
+        [] | [b'#', ..] => b"",
+        _ => bytes_at(line, 0),
     }
-    bytes_at(line, 0)
 }
 
 /// The place of the first word of a line.
@@ -91,14 +91,6 @@ pub(crate) fn first_mark(line: &Line<'_>) -> Mark {
     match word_at(line, 0) {
         Some(word) => word.mark,
         None => Mark { at: 0, len: 1 },
-    }
-}
-
-/// Whether this is the first word of a line.
-pub(crate) fn begins_with(line: &Line<'_>, word: &[u8]) -> bool {
-    match line.words().next() {
-        Some(first) => first.bytes() == word,
-        None => false,
     }
 }
 

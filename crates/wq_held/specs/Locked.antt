@@ -107,7 +107,7 @@ pub record AsksAndCancels (old new : BookView) (i : ℕ) (answer : Ask) (taken :
 abbrev pub asked_and_cancelled : List ℕ → ℕ → Bool → Bool → List ℕ
 asked_and_cancelled old i waits taken = raised (raised old i AskKind waits) i CancelKind taken
 
--- counts after both
+-- what a seat counts after both: an ask of item i with this answer, and a cancellation that took its entry or didn't
 abbrev pub CountsAskAndCancel : List ℕ → List ℕ → ℕ → Ask → Bool → Type 0
 CountsAskAndCancel old new i Idle taken = new ≡ asked_and_cancelled old i false taken
 CountsAskAndCancel old new i (Waiting asked) taken = new ≡ asked_and_cancelled old i true taken
@@ -128,15 +128,15 @@ RefusesAskAndCancel b i NotAsked = ⊥
 abbrev pub IsOnLane : Wiring → ℕ → ℕ → Type 0
 IsOnLane w q i = (i < items w) × (lane_of w i ≡ q)
 
--- lane q waits for item b
+-- lane q waits for item `target`
 abbrev pub WaitsFor : BookView → ℕ → ℕ → Type 0
 WaitsFor b q target = (f : WaitingOf) × IsWaiting b q f × (f.target ≡ target)
 
--- lane q doesn't wait for item b
+-- lane q doesn't wait for item `target`
 abbrev pub IsWrongToGoOn : BookView → ℕ → ℕ → Type 0
 IsWrongToGoOn b q target = ¬ WaitsFor b q target
 
--- whether the wait of lane q for item b is over: a row says that it is; or nothing is changed, because the wait goes on
+-- whether the wait of lane q for item `target` is over: a row says that it is; or nothing is changed, because the wait goes on
 abbrev pub AnswersOverOf : BookView → BookView → ℕ → ℕ → Bool → Type 0
 AnswersOverOf old new q target true = AppendsOne old new (Over q target) true
 AnswersOverOf old new q target false = (f : WaitingOf) × IsWaiting old q f × (f.target ≡ target) × HasUnfinishedBelow (state old) target f.mark × (new ≡ old)

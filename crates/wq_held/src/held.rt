@@ -2,7 +2,8 @@
 //!
 //! Each event of a book is one call here, with the same name. The call makes the event. Where the event writes a row that is
 //! counted, the call counts it in the tallies and in the caller's seat. Whoever calls holds the lock. A call takes the time of
-//! the book's own call, and no memory except for a new seat.
+//! the book's own call, and no memory. Only `new` and `seat` take more: time and memory in the number of items, 224 and 112 bytes
+//! for each.
 
 ghost use Rattle.std.specs.Prelude.{◌≡◌, ℕ, ◌+◌, ◌<◌, ◌≤◌, ◌↔◌, [], sum, replicate, ◌*◌, true, false, IsTrue, IfOk, IfErr, OnOk, OnErr, IfSome, IfNone};
 ghost use Rattle.wq_core.specs.Wiring.{items, lane_of};
@@ -137,13 +138,6 @@ impl<N: Naming, A: Allocator> Held<N, A> {
         ensures few { result ≤ max_runtime_lanes }
     {
         self.book.lanes()
-    }
-
-    /// The number of items.
-    pub fn items(&self) -> usize
-        ensures { result ≡ items N.wiring }
-    {
-        self.book.items()
     }
 
     /// The workqueue of an item, where there is such an item.
@@ -304,11 +298,10 @@ impl<N: Naming, A: Allocator> Held<N, A> {
         ensures seats { self.new.seats ≡ self.old.seats }
         ensures refused { IfErr result (λ e. RefusedAs (RefusesLane (IsWrongToStart self.old.book q)) e × (self.new ≡ self.old)) }
     {
-        let started = match self.book.start(q) {
-            Ok(started) => started,
-            Err(e) => return Err(CallError::of(e)),
-        };
-        Ok(started)
+        match self.book.start(q) {
+            Ok(started) => Ok(started),
+            Err(e) => Err(CallError::of(e)),
+        }
     }
 
     /// Makes what a workqueue runs begin to wait for an item: true where that item has an unfinished entry.

@@ -1,6 +1,6 @@
 //! What is printed about a plan that was run.
 //!
-//! The format is that of "`run`" in docs/FORMAT.md. It takes time and memory in the number of items and the length of their
+//! The format is that of "The command `run`" in docs/FORMAT.md. It takes time and memory in the number of items and the length of their
 //! names.
 
 ghost use Rattle.std.specs.Prelude.{◌≡◌, ◌++◌, ◌<◌, ℕ, length, true, OnOk, IfOk, decimal, flat_map};

@@ -55,7 +55,7 @@ RefusesRun lanes bodies NoThread = bodies ≡ lanes
 abbrev pub AreFirstSeats : ℕ → ℕ → List (List ℕ) → Type 0
 AreFirstSeats items wanted seats = (length seats < wanted) × All (λ seat. seat ≡ replicate (14 * items) 0) seats
 
--- a seat couldn't be made
+-- seats or memory were lacking, before any thread was started
 abbrev pub IsNoSeat : RunWhy → Type 0
 IsNoSeat BodiesDiffer = ⊥
 IsNoSeat TooManySeats = Unit {0}

@@ -50,16 +50,16 @@ fn count_faults(answer: &Result<Rescued, CallError>) -> u64
 
 /// What the lanes leave.
 #[derive(Drop)]
-pub(crate) struct Served<N: Naming, A: Allocator, B: Body + Drop> {
-    pub(crate) seats: Vec<Seat<N, A>, A>,
-    pub(crate) bodies: Vec<B, A>,
-    pub(crate) rescued: Vec<Result<Rescued, CallError>, A>,
-    pub(crate) finished: u64,
-    pub(crate) faults: u64,
+struct Served<N: Naming, A: Allocator, B: Body + Drop> {
+    seats: Vec<Seat<N, A>, A>,
+    bodies: Vec<B, A>,
+    rescued: Vec<Result<Rescued, CallError>, A>,
+    finished: u64,
+    faults: u64,
 }
 
 /// Takes back the lanes that were served, the last one first. The lists are empty and have room for them.
-pub(crate) fn gather_lanes<N: Naming, A: Allocator, B: Body + Drop>(
+fn gather_lanes<N: Naming, A: Allocator, B: Body + Drop>(
     mut ends: Vec<LaneEnd<N, A, B>, A>,
     mut seats: Vec<Seat<N, A>, A>,
     mut bodies: Vec<B, A>,
@@ -101,7 +101,7 @@ pub(crate) fn gather_lanes<N: Naming, A: Allocator, B: Body + Drop>(
 }
 
 /// Takes back the callers, the last one first. Their seats come after those of the lanes.
-pub(crate) fn gather_callers<N: Naming, A: Allocator, C: Caller + Drop>(
+fn gather_callers<N: Naming, A: Allocator, C: Caller + Drop>(
     mut ends: Vec<CallerEnd<N, A, C>, A>,
     seats: &mut Vec<Seat<N, A>, A>,
     callers: &mut Vec<C, A>,
@@ -170,7 +170,7 @@ pub(crate) fn gather<N: Naming, A: Allocator, B: Body + Drop, C: Caller + Drop>(
     }
 }
 
-/// Keeps a value in a list that has room for it.
+/// Keeps a value in a list. There is room for it, which no proof says: without room it would be dropped.
 fn keep<T: Drop, A: Allocator>(list: &mut Vec<T, A>, value: T) {
     let _kept = list.push(value);
 }

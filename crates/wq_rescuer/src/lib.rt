@@ -1,8 +1,8 @@
 //! Rescuers in threads: one for each workqueue, which runs the bodies of its items, and threads that meanwhile call the runtime.
 //! The code calls a workqueue a lane.
 //!
-//! What the layer above relies on: each seat that is handed back with a body counts as finished what this body ran, item by item,
-//! and the sums are those of the rescuers.
+//! What the layer above relies on: where everything was run, the seat of each rescuer counts as finished what its body ran, item by
+//! item, or no more than that if the rescuer was refused, and the sums are those of the rescuers that weren't.
 #![tactic(auto)]
 
 mod board;

@@ -66,7 +66,7 @@ pub struct Ran<N: Naming, A: Allocator, B: Body + Drop, C: Caller + Drop> {
     pub results: Vec<Result<(), CallError>, A>,
     /// What the rescuers answered, lane by lane.
     pub rescued: Vec<Result<Rescued, CallError>, A>,
-    /// How many executions were finished in total.
+    /// How many executions were finished, by the rescuers that weren't refused.
     pub finished: u64,
     /// How many of these executions ended with a fault.
     pub faults: u64,
@@ -92,9 +92,11 @@ pub struct RunFault<N: Naming, A: Allocator, B: Body + Drop, C: Caller + Drop> {
 /// No body has run anything yet, and each can count all items. The error is the first of these that holds: `BodiesDiffer` (73),
 /// where there isn't one body for each workqueue; `TooManySeats` (70) or `OutOfMemory` (20), before any thread starts; `NoThread`
 /// (22), where a thread can't be made. Then no further thread is started, and those that run are ended as above. All bodies and
-/// callers are handed back, except that after `NoThread` those of the thread that couldn't be made are lost. If that is the
-/// thread of a workqueue on which something is pending already, the runtime can't be closed, and the call waits forever. On a
-/// runtime that was just made nothing is pending.
+/// callers are handed back, except that after `NoThread` what that thread was to take is lost: its seat, so that
+/// `WqRuntime::close` refuses from then on (72), and its body or its caller.
+///
+/// Nobody serves a workqueue whose rescuer was refused or couldn't be started. If something is pending on it, the call waits
+/// forever. That can't be in a runtime that nobody else uses and on which nothing was pending before.
 pub fn run_all<
     N: Naming + Send + Sync,
     A: Allocator + Copy + Send + Sync,

@@ -1,7 +1,7 @@
 //! What a run takes before any thread starts: a seat for each lane and each caller, and memory for their jobs, for what comes
 //! back of them and for their answers.
 //!
-//! It takes time and memory in the number of lanes and callers.
+//! It takes time and memory in the number of seats times that of items: for each item a seat has 112 bytes of counts.
 
 ghost use Rattle.std.specs.Prelude.{◌≡◌, ℕ, ◌+◌, ◌*◌, ◌<◌, ◌≤◌, ◌^◌, [], replicate, vec_len, vec_capacity, IfOk, OnOk, IfErr, OnErr};
 ghost use Rattle.std.specs.List.{All};

@@ -1,7 +1,8 @@
 //! Threads: one for each lane, and then one for each caller.
 //!
 //! Each thread is started one level deeper than the one before, and joined on the way back: the callers first, and after
-//! `destroy` the lanes. Where a thread can't be made, no further one is started.
+//! `destroy` the lanes. Where a thread can't be made, no further one is started. The stack is as deep as there are lanes and
+//! callers.
 
 ghost use Rattle.std.specs.Prelude.{◌≡◌, ℕ, ◌+◌, ◌≤◌, vec_len, vec_capacity};
 

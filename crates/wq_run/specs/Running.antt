@@ -29,7 +29,7 @@ yes_tally book i kind = tally book.rows i kind true
 
 -- the plan was run: all that its rescuers and two callers did is in a book, which was closed with all their seats. It is
 -- idle and a legal history under the plan, and the seats' counts agree with it item by item. What is printed is the text of
--- the book's tallies, and of the faults that the rescuers counted
+-- the book's tallies, and of the faults that the rescuers counted. It isn't said that no rescuer and no caller was refused
 pub record PrintsRun (s : Declared) (out : List ℕ) : Type 0 where
   pub assignment : Assignment
   pub plan : IsPlan (declared_waits s) assignment

@@ -17,9 +17,9 @@ use wq_rescuer::RunWhy;
 pub enum CommandFault {
     /// What may stop any command: memory, a read or a write.
     Common(Fault),
-    /// A thread couldn't be made (22).
+    /// A thread couldn't be made.
     Thread,
-    /// The runtime couldn't be closed with counts that agree.
+    /// The runtime couldn't be closed with counts that agree. No input is known that leads to it.
     Tally,
 }
 
@@ -57,11 +57,11 @@ impl From<Fault> for CommandFault {
 /// Why `run` has no answer, where the text isn't refused.
 #[derive(Clone, Copy, Debug, PartialEq, Eq)]
 pub enum RunStop {
-    /// Memory ran out (20).
+    /// Memory ran out.
     OutOfMemory,
-    /// A thread couldn't be made (22).
+    /// A thread couldn't be made.
     Thread,
-    /// The runtime couldn't be closed with counts that agree.
+    /// The runtime couldn't be closed with counts that agree, or had too few seats or bodies. No input is known that leads to it.
     Tally,
 }
 

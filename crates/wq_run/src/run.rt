@@ -28,7 +28,7 @@ use wq_commands::{End, MAX_DECLARATION, Metered, read_text};
 /// items once and then flush them. A plan of more than 256 workqueues is refused (69).
 ///
 /// At most 1,048,577 bytes are read, in at most as many calls. The errors are those of `plan_cmd`: a read failed, out of memory,
-/// or a write failed or took no byte; and `Thread` (22), where a thread couldn't be made, and `Tally`, where the runtime couldn't
+/// or a write failed or took no byte; and `Thread`, where a thread couldn't be made, and `Tally`, where the runtime couldn't
 /// be closed with counts that agree. After a write that failed, a prefix of the answer is written, and after the other errors
 /// nothing. It isn't promised that the calls of the threads ever return.
 ///

@@ -1,7 +1,7 @@
 //! Running a plan on a runtime of it: its crew runs, the runtime is closed, and what happened is reported.
 //!
 //! The crew is that of `wq_script`: a body for each workqueue, which makes the declared flushes, and two callers. It takes the time
-//! of all executions, and of writing the text.
+//! of all executions and of writing the text, and time and memory in the number of workqueues times that of items.
 
 ghost use Rattle.std.specs.Prelude.{◌≡◌, ◌≤◌, ℕ, List, Result, IfOk, IfErr, length, true};
 ghost use Rattle.wq_groups.specs.Declaration.{declaration_of};
@@ -26,7 +26,8 @@ use wq_report::report_text;
 use wq_rescuer::{Ran, run_all};
 use wq_script::{script_bodies, script_callers};
 
-/// Runs the crew of a plan on the workqueues of a runtime. Hands back all seats, and how many executions ended with a fault.
+/// Runs the crew of a plan on the workqueues of a runtime. Hands back all seats, and how many executions ended with a fault, of
+/// the rescuers that weren't refused.
 fn run_crew<N: Naming + Send + Sync, A: Allocator + Copy + Send + Sync, R: Threads + Wait + Sync>(
     rt: &R,
     alloc: A,

@@ -1,7 +1,7 @@
 //! Who runs a plan: a scripted body for each workqueue, and two scripted callers that share the items.
 //!
-//! The bodies make the flushes that their items declare. A body or a caller takes time and memory in the number of items; the
-//! bodies together also in that of the workqueues.
+//! The bodies make the flushes that their items declare. A body or a caller takes time and memory in the number of items, and all
+//! bodies together in that times the number of workqueues: 4 bytes for each pair.
 
 ghost use Rattle.std.specs.Prelude.{◌≡◌, length, vec_len, IfOk};
 ghost use Rattle.std.specs.List.{All};

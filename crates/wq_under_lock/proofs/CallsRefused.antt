@@ -91,6 +91,19 @@ lane_cases wrong e OutOfMemory why is = absurd why
 pub start_refused : (wrong : Type 0) (e : CallError) → RefusedAs (RefusesLane wrong) e → e ≡ CallWrongLane
 start_refused wrong e why = lane_cases wrong e why.0 why.1 why.2
 
+wrong_cases : (wrong : Type 0) (e : CallError) (x : BookError) → RefusesLane wrong x → call_error x ≡ Some e → wrong
+wrong_cases wrong e HistoryFull why is = absurd why
+wrong_cases wrong e Closed why is = absurd why
+wrong_cases wrong e Undeclared why is = absurd why
+wrong_cases wrong e TooManyWaits why is = absurd why
+wrong_cases wrong e WrongLane why is = why
+wrong_cases wrong e NoItem why is = absurd why
+wrong_cases wrong e TooManyRows why is = absurd why
+wrong_cases wrong e OutOfMemory why is = absurd why
+
+pub start_wrong : (wrong : Type 0) (e : CallError) → RefusedAs (RefusesLane wrong) e → wrong
+start_wrong wrong e why = wrong_cases wrong e why.0 why.1 why.2
+
 pub start_none : (w : Wiring) (old new : BookView) (q : ℕ) → old.wiring ≡ w → AnswersStart old new q None → q < w.lanes
 start_none w old new q of_wiring answer = subst (λ (x : Wiring). q < x.lanes) of_wiring answer.0.0
 

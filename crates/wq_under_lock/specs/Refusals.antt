@@ -32,10 +32,10 @@ pub record MakesRuntime (w : Wiring) (rows : ℕ) : Type 0 where
   pub few_rows : rows ≤ max_rows
   pub safe : IsSafe w
 
--- ---- causes that a caller can know, since they are in its arguments
+-- ---- refusals of calls, as far as the caller can know the causes: by its arguments and its seat
 
 -- `queue_work` of item i on lane q, through a seat with these counts: no such item; it belongs to another lane; the seat is
--- full (60, too); the runtime is closed; the history is full
+-- full (60); the runtime is closed; too few rows are free (60)
 abbrev pub RefusesQueueWork : Wiring → List ℕ → ℕ → ℕ → CallError → Type 0
 RefusesQueueWork w counts q i NoItem = items w ≤ i
 RefusesQueueWork w counts q i WrongLane = (i < items w) × (lane_of w i ≢ q)

@@ -3,15 +3,16 @@
 //! What the caller can know comes first: whether there is such an item or workqueue, and whether its seat has room. Then the book
 //! answers. A call takes the time of the book's events, and no memory.
 
-ghost use Rattle.std.specs.Prelude.{◌≡◌, ◌<◌, IfOk, IfErr, OnOk, IfSome, true};
+ghost use Rattle.std.specs.Prelude.{◌≡◌, ◌<◌, ◌≤◌, IfOk, IfErr, OnOk, OnErr, IfSome, true, false};
 ghost use Rattle.wq_core.specs.Wiring.{items};
-ghost use Rattle.wq_rows.specs.declared.event.Event.TheVariants.{Queue, Cancel, Wait};
+ghost use Rattle.wq_rows.specs.declared.event.Event.TheVariants.{Queue, Cancel, Wait, Ask as AskEvent};
 ghost use Rattle.wq_counts.specs.declared.kind.Kind.TheVariants.{Queue as QueueKind, Cancel as CancelKind, Wait as WaitKind};
 ghost use Rattle.wq_counts.specs.Counting.{raised};
-ghost use Rattle.wq_history.specs.Book.{AppendsOne};
+ghost use Rattle.wq_history.specs.Book.{AppendsOne, IsWrongToStart, RefusesItem, RefusesQueue, RefusesWait, free};
 ghost use Rattle.wq_history.specs.Answers.{AnswersAsk, AnswersStart};
 ghost use Rattle.wq_held.specs.declared.fault.CallError.TheVariants.{WrongLane};
-ghost use Rattle.wq_held.specs.Locked.{IsOnLane, HasRoom, CountsAsk, AsksAndCancels, CountsAskAndCancel};
+ghost use Rattle.wq_held.specs.Errors.{RefusedAs};
+ghost use Rattle.wq_held.specs.Locked.{IsOnLane, HasRoom, CountsAsk, AsksAndCancels, CountsAskAndCancel, RefusesAskAndCancel};
 ghost use Rattle.wq_under_lock.specs.Refusals.{RefusesQueueWork, RefusesCancelWork, RefusesWaitFor};
 
 use std::alloc::Allocator;
@@ -29,6 +30,7 @@ fn admit<N: Naming, A: Allocator>(
     item: ItemId,
 ) -> Result<(), CallError>
     ensures admitted { OnOk result ((item < items N.wiring) × HasRoom seat.now) }
+    ensures barred { OnErr result (¬ ((item < items N.wiring) × HasRoom seat.now)) }
     ensures refused { IfErr result (λ e. RefusesCancelWork N.wiring item e) }
 {
     if held.lane_of(item).is_none() {
@@ -50,6 +52,7 @@ fn admit_on<N: Naming, A: Allocator>(
     item: ItemId,
 ) -> Result<(), CallError>
     ensures admitted { OnOk result (IsOnLane N.wiring q item × HasRoom seat.now) }
+    ensures barred { OnErr result (¬ (IsOnLane N.wiring q item × HasRoom seat.now)) }
     ensures refused { IfErr result (λ e. RefusesQueueWork N.wiring seat.now q item e) }
 {
     let Some(lane) = held.lane_of(item) else {
@@ -67,8 +70,8 @@ fn admit_on<N: Naming, A: Allocator>(
 /// Queues an item on its workqueue: true where it wasn't pending, false where it was.
 ///
 /// The error is the first of these that holds: `NoItem` (66); `WrongLane` (64), where the item belongs to another workqueue;
-/// `HistoryFull` (60), where the seat is full; `Closed` (61); `HistoryFull` (60), where too few rows are free. After an error
-/// nothing is changed or counted.
+/// `HistoryFull` (60), where the seat is full; `Closed` (61); `HistoryFull` (60), where fewer rows are free than it needs: 1 where
+/// the item is pending, or else 3 and 2 for each flush that it declares. After an error nothing is changed or counted.
 #[tactic(auto, using(crate::proofs::CallsRefused::queue_refused))]
 pub fn queue<N: Naming, A: Allocator>(
     held: &mut Held<N, A>,
@@ -77,18 +80,21 @@ pub fn queue<N: Naming, A: Allocator>(
     item: ItemId,
 ) -> Result<bool, CallError>
     ensures row { IfOk result (λ accepted. AppendsOne held.old.book held.new.book (Queue item) accepted) }
+    ensures open { OnOk result (held.old.book.closed ≡ false) }
     ensures counted { IfOk result (λ accepted. IsOnLane N.wiring q item × HasRoom seat.old × (seat.new ≡ raised seat.old item QueueKind accepted)) }
+    ensures seats { held.new.seats ≡ held.old.seats }
     ensures refused { IfErr result (λ e. RefusesQueueWork N.wiring seat.old q item e × (held.new ≡ held.old) × (seat.new ≡ seat.old)) }
+    ensures cause { IfErr result (λ e. IsOnLane N.wiring q item → HasRoom seat.old → RefusedAs (RefusesQueue held.old.book item) e) }
 {
     admit_on(held, seat, q, item)?;
     held.holds();
-    let accepted = held.queue(seat, item)?;
-    Ok(accepted)
+    held.queue(seat, item)
 }
 
 /// Removes the pending entry of an item: true where one was pending.
 ///
-/// The error is `NoItem` (66), or else `HistoryFull` (60). After an error nothing is changed or counted.
+/// The error is `NoItem` (66), or else `HistoryFull` (60), where the seat is full, or nothing is pending and no row is free. After
+/// an error nothing is changed or counted.
 #[tactic(auto, using(crate::proofs::CallsRefused::cancel_refused))]
 pub fn cancel<N: Naming, A: Allocator>(
     held: &mut Held<N, A>,
@@ -97,17 +103,19 @@ pub fn cancel<N: Naming, A: Allocator>(
 ) -> Result<bool, CallError>
     ensures row { IfOk result (λ taken. AppendsOne held.old.book held.new.book (Cancel item) taken) }
     ensures counted { IfOk result (λ taken. (item < items N.wiring) × HasRoom seat.old × (seat.new ≡ raised seat.old item CancelKind taken)) }
+    ensures seats { held.new.seats ≡ held.old.seats }
     ensures refused { IfErr result (λ e. RefusesCancelWork N.wiring item e × (held.new ≡ held.old) × (seat.new ≡ seat.old)) }
+    ensures cause { IfErr result (λ e. item < items N.wiring → HasRoom seat.old → RefusedAs (RefusesItem held.old.book item Cancel) e) }
 {
     admit(held, seat, item)?;
     held.holds();
-    let taken = held.cancel(seat, item)?;
-    Ok(taken)
+    held.cancel(seat, item)
 }
 
 /// Asks whether an item has an unfinished entry. Where it has, the caller waits for it.
 ///
-/// The error is `NoItem` (66), or else `HistoryFull` (60). After an error nothing is changed or counted.
+/// The error is `NoItem` (66), or else `HistoryFull` (60), where the seat is full, or fewer than 2 rows are free, or none where the
+/// item is idle. After an error nothing is changed or counted.
 #[tactic(auto, using(crate::proofs::CallsRefused::cancel_refused))]
 pub fn ask<N: Naming, A: Allocator>(
     held: &mut Held<N, A>,
@@ -116,12 +124,13 @@ pub fn ask<N: Naming, A: Allocator>(
 ) -> Result<Ask, CallError>
     ensures row { IfOk result (λ answer. AnswersAsk held.old.book held.new.book item answer) }
     ensures counted { IfOk result (λ answer. (item < items N.wiring) × HasRoom seat.old × CountsAsk seat.old seat.new item answer) }
+    ensures seats { held.new.seats ≡ held.old.seats }
     ensures refused { IfErr result (λ e. RefusesCancelWork N.wiring item e × (held.new ≡ held.old) × (seat.new ≡ seat.old)) }
+    ensures cause { IfErr result (λ e. item < items N.wiring → HasRoom seat.old → RefusedAs (RefusesItem held.old.book item AskEvent) e) }
 {
     admit(held, seat, item)?;
     held.holds();
-    let answer = held.ask(seat, item)?;
-    Ok(answer)
+    held.ask(seat, item)
 }
 
 /// Asks whether an item has an unfinished entry, then removes its pending one, and gives both answers.
@@ -134,34 +143,35 @@ pub fn ask_and_cancel<N: Naming, A: Allocator>(
     seat: &mut Seat<N, A>,
     item: ItemId,
 ) -> Result<(Ask, bool), CallError>
+    ensures room { OnOk result (3 ≤ free held.old.book) }
     ensures rows { IfOk result (λ r. AsksAndCancels held.old.book held.new.book item r.0 r.1) }
     ensures counted { IfOk result (λ r. (item < items N.wiring) × HasRoom seat.old × CountsAskAndCancel seat.old seat.new item r.0 r.1) }
+    ensures seats { held.new.seats ≡ held.old.seats }
     ensures refused { IfErr result (λ e. RefusesCancelWork N.wiring item e × (held.new ≡ held.old) × (seat.new ≡ seat.old)) }
+    ensures cause { IfErr result (λ e. item < items N.wiring → HasRoom seat.old → RefusesAskAndCancel held.old.book item e) }
 {
     admit(held, seat, item)?;
     held.holds();
-    let both = held.ask_and_cancel(seat, item)?;
-    Ok(both)
+    held.ask_and_cancel(seat, item)
 }
 
 /// Starts the first pending entry of a workqueue, and gives its item. Where none is pending it gives nothing, and nothing is
 /// changed.
 ///
 /// The only error is `WrongLane` (64), where there is no such workqueue or it runs an entry. After an error nothing is changed.
-#[tactic(auto, using(crate::proofs::CallsRefused::start_refused, crate::proofs::CallsRefused::start_none, crate::proofs::CallsRefused::lane_known))]
+#[tactic(auto, using(crate::proofs::CallsRefused::start_refused, crate::proofs::CallsRefused::start_wrong, crate::proofs::CallsRefused::start_none, crate::proofs::CallsRefused::lane_known))]
 pub fn start<N: Naming, A: Allocator>(
     held: &mut Held<N, A>,
     q: LaneId,
 ) -> Result<Option<ItemId>, CallError>
     ensures row { IfOk result (λ next. AnswersStart held.old.book held.new.book q next) }
     ensures known { IfOk result (λ next. (q < N.wiring.lanes) × IfSome next (λ item. IsOnLane N.wiring q item)) }
+    ensures seats { held.new.seats ≡ held.old.seats }
     ensures refused { IfErr result (λ e. (e ≡ WrongLane) × (held.new ≡ held.old)) }
+    ensures cause { OnErr result (IsWrongToStart held.old.book q) }
 {
     held.holds();
-    match held.start(q)? {
-        Some(item) => Ok(Some(item)),
-        None => Ok(None),
-    }
+    held.start(q)
 }
 
 /// Makes what a workqueue runs begin to wait for an item: true where that item has an unfinished entry.
@@ -178,7 +188,9 @@ pub fn wait<N: Naming, A: Allocator>(
 ) -> Result<bool, CallError>
     ensures row { IfOk result (λ unfinished. AppendsOne held.old.book held.new.book (Wait q target) unfinished) }
     ensures counted { IfOk result (λ unfinished. (q < N.wiring.lanes) × (target < items N.wiring) × HasRoom seat.old × (seat.new ≡ raised seat.old target WaitKind unfinished)) }
+    ensures seats { held.new.seats ≡ held.old.seats }
     ensures refused { IfErr result (λ e. RefusesWaitFor N.wiring seat.old q e × (held.new ≡ held.old) × (seat.new ≡ seat.old)) }
+    ensures cause { IfErr result (λ e. q < N.wiring.lanes → HasRoom seat.old → RefusedAs (RefusesWait held.old.book q target) e) }
 {
     if usize::from(q.get()) >= held.lanes() {
         return Err(CallError::WrongLane);
@@ -186,6 +198,5 @@ pub fn wait<N: Naming, A: Allocator>(
     if seat.is_full() {
         return Err(CallError::HistoryFull);
     }
-    let unfinished = held.wait(seat, q, target)?;
-    Ok(unfinished)
+    held.wait(seat, q, target)
 }

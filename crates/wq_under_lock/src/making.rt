@@ -1,8 +1,9 @@
 //! What the lock of a new runtime protects.
 //!
-//! It takes the time of the wait graph of the workqueues and its ranks, and of the rows, for which it takes room.
+//! It takes time and memory in the number of items, for the counts; the time of the wait graph of the workqueues and of its ranks;
+//! and room for the rows, 12 bytes for each.
 
-ghost use Rattle.std.specs.Prelude.{◌≡◌, length, OnOk, IfErr};
+ghost use Rattle.std.specs.Prelude.{◌≡◌, [], false, length, IfOk, OnOk, IfErr};
 ghost use Rattle.wq_groups.specs.Declaration.{declaration_of};
 ghost use Rattle.wq_core.specs.Wiring.{wiring};
 ghost use Rattle.wq_under_lock.specs.Refusals.{RefusesRuntime, MakesRuntime};
@@ -43,6 +44,7 @@ pub fn new_held<N: Naming, A: Allocator + Copy>(
     requires of_wiring { N.wiring ≡ wiring (declaration_of table.now groups.now) assignment.now }
     requires of_rows { N.rows ≡ rows }
     ensures made { OnOk result (MakesRuntime N.wiring rows) }
+    ensures fresh { IfOk result (λ held. held ≡ record { book = record { wiring = N.wiring; rows = []; room = rows; closed = false }; seats = 0 }) }
     ensures refused { IfErr result (RefusesRuntime N.wiring rows) }
 {
     if assignment.lanes() > MAX_LANES {

@@ -8,6 +8,7 @@ ghost use Rattle.wq_cert.specs.Texts.{max_certificate};
 ghost use Rattle.wq_commands.specs.Declaration.{max_declaration};
 ghost use Rattle.wq_meter.specs.Input.{IsInput};
 ghost use Rattle.wqplan.specs.Kept.{IsKept};
+ghost use Rattle.wq_commands.specs.Why.{SaysChecked};
 ghost use Rattle.wq_meter.specs.Meter.{WritesWhole};
 
 use crate::diagnosis::say_why;
@@ -62,9 +63,10 @@ fn check_input<D: Read + Drop, C: Read + Drop, W: Write>(
     certificate: C,
     writer: &mut Metered<W>,
 ) -> Result<(End, Option<Why>, Vec<u8>, Vec<u8>), Fault>
-    ensures { IfOk result (λ answered. (text claim out : List ℕ) × IsInput (D.remaining declaration) text
+    ensures answered { IfOk result (λ answered. (text claim out : List ℕ) × IsInput (D.remaining declaration) text
         × IsInput (C.remaining certificate) claim × IsKept max_declaration text answered.2.items × IsKept max_certificate claim answered.3.items
         × Checks text claim answered.0 out × WritesWhole W.contents writer.old writer.new out) }
+    ensures why { IfOk result (λ answered. SaysChecked answered.2.items answered.3.items answered.1) }
 {
     let mut declared = Metered::new(declaration);
     let mut certified = Metered::new(certificate);

@@ -178,7 +178,7 @@ fn bare<'a>(alloc: Global) -> Command<'a>
     ensures { app_of result ≡ bare }
 {
     Command::new(alloc, "wqplan")
-        .version("0.1.0")
+        .version("0.2.0-dev")
         .about(help::PROGRAM)
         .after_help(help::STATUSES)
         .subcommand_required(true)

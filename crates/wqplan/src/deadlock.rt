@@ -8,6 +8,7 @@ ghost use Rattle.wq_cert.specs.Texts.{max_certificate};
 ghost use Rattle.wq_commands.specs.Declaration.{max_declaration};
 ghost use Rattle.wq_meter.specs.Input.{IsInput};
 ghost use Rattle.wqplan.specs.Kept.{IsKept};
+ghost use Rattle.wq_commands.specs.Why.{SaysAssigned};
 ghost use Rattle.wq_meter.specs.Meter.{WritesWhole};
 
 use crate::diagnosis::say_why;
@@ -69,9 +70,10 @@ fn deadlock_input<D: Read + Drop, A: Read + Drop, W: Write>(
     assignment: A,
     writer: &mut Metered<W>,
 ) -> Result<(End, Option<Why>, Vec<u8>, Vec<u8>), Fault>
-    ensures { IfOk result (λ answered. (text lanes out : List ℕ) × IsInput (D.remaining declaration) text
+    ensures answered { IfOk result (λ answered. (text lanes out : List ℕ) × IsInput (D.remaining declaration) text
         × IsInput (A.remaining assignment) lanes × IsKept max_declaration text answered.2.items × IsKept max_certificate lanes answered.3.items
         × Judges text lanes answered.0 out × WritesWhole W.contents writer.old writer.new out) }
+    ensures why { IfOk result (λ answered. SaysAssigned answered.2.items answered.3.items answered.1) }
 {
     let mut declared = Metered::new(declaration);
     let mut assigned = Metered::new(assignment);

@@ -7,6 +7,7 @@ ghost use Rattle.wq_cert.specs.Texts.{max_certificate};
 ghost use Rattle.wq_commands.specs.Declaration.{max_declaration};
 ghost use Rattle.wq_meter.specs.Input.{IsInput};
 ghost use Rattle.wqplan.specs.Kept.{IsKept};
+ghost use Rattle.wq_commands.specs.Why.{SaysReplayed};
 ghost use Rattle.wq_meter.specs.Meter.{WritesWhole};
 ghost use Rattle.wq_commands.specs.Replaying.{Replays};
 
@@ -99,10 +100,11 @@ fn replay_input<D: Read + Drop, A: Read + Drop, S: Read + Drop, W: Write>(
     run: S,
     writer: &mut Metered<W>,
 ) -> Result<(End, Option<Why>, Texts), Fault>
-    ensures { IfOk result (λ answered. (text lanes steps out : List ℕ) × IsInput (D.remaining declaration) text
+    ensures answered { IfOk result (λ answered. (text lanes steps out : List ℕ) × IsInput (D.remaining declaration) text
         × IsInput (A.remaining assignment) lanes × IsInput (S.remaining run) steps × IsKept max_declaration text answered.2.declaration.items
         × IsKept max_certificate lanes answered.2.assignment.items × IsKept max_certificate steps answered.2.run.items
         × Replays text lanes steps answered.0 out × WritesWhole W.contents writer.old writer.new out) }
+    ensures why { IfOk result (λ answered. SaysReplayed answered.2.declaration.items answered.2.assignment.items answered.2.run.items answered.1) }
 {
     let mut declared = Metered::new(declaration);
     let mut assigned = Metered::new(assignment);

@@ -5,10 +5,11 @@ use Rattle.wq_meter.specs.Input.{IsInput}
 use Rattle.wq_cert.specs.Texts.{max_certificate}
 use Rattle.wq_circles.specs.Circling.{Circles}
 use Rattle.wq_circles.proofs.Taking.{Circles-take}
+use Rattle.wq_commands.specs.Why.{SaysAssigned}
 use Rattle.wqplan.proofs.circles.circles_input.Goals as goal
 
-pub returns : goal.returns
-returns g c =
+pub returns-clause-answered : goal.returns-clause-answered
+returns-clause-answered g c =
     let came = c.in_ok-text.ensures.given in
     let came_too = c.in_ok-lanes.ensures.given in
     let text = came.given.text in
@@ -27,3 +28,9 @@ returns g c =
           (subst (λ t. Circles c.deref.result.now t end out) (c.deref-2.ensures.value ∙ came_too.prefix) c.in_ok-answer.ensures.answer)),
       subst (λ t. WritesWhole g.W.Write.contents c.args.writer.now c.write_text.new.writer t) c.deref-3.ensures.value c.in_ok-write_text.ensures.whole,
     )
+
+pub returns-clause-why : goal.returns-clause-why
+returns-clause-why g c =
+    let why = c.in_ok-answer.answer.why in
+    subst (λ t. SaysAssigned t c.in_ok-lanes.lanes.items why) c.deref.ensures.value
+    (subst (λ t. SaysAssigned c.deref.result.now t why) c.deref-2.ensures.value c.in_ok-answer.ensures.why)

@@ -5,10 +5,11 @@ use Rattle.wq_meter.specs.Input.{IsInput}
 use Rattle.wq_cert.specs.Texts.{max_certificate}
 use Rattle.wq_commands.specs.Replaying.{Replays}
 use Rattle.wq_commands.proofs.InputLemmas.{Replays-take}
+use Rattle.wq_commands.specs.Why.{SaysReplayed}
 use Rattle.wqplan.proofs.replay.replay_input.Goals as goal
 
-pub returns : goal.returns
-returns g c =
+pub returns-clause-answered : goal.returns-clause-answered
+returns-clause-answered g c =
     let came = c.in_ok-read_text.ensures.given in
     let came_lanes = c.in_ok-read_text-2.ensures.given in
     let came_steps = c.in_ok-read_text-3.ensures.given in
@@ -33,3 +34,10 @@ returns g c =
           (subst (λ t. Replays c.deref.result.now c.deref-2.result.now t end out) (c.deref-3.ensures.value ∙ came_steps.prefix) c.in_ok-answer.ensures.answer))),
       subst (λ t. WritesWhole g.W.Write.contents c.args.writer.now c.write_text.new.writer t) c.deref-4.ensures.value c.in_ok-write_text.ensures.whole,
     )
+
+pub returns-clause-why : goal.returns-clause-why
+returns-clause-why g c =
+    let why = c.in_ok-answer.answer.why in
+    subst (λ t. SaysReplayed t _ _ why) c.deref.ensures.value
+    (subst (λ t. SaysReplayed c.deref.result.now t _ why) c.deref-2.ensures.value
+    (subst (λ t. SaysReplayed c.deref.result.now c.deref-2.result.now t why) c.deref-3.ensures.value c.in_ok-answer.ensures.why))
