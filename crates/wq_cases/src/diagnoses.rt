@@ -6,7 +6,11 @@
 use crate::command::SEED;
 use crate::declarations::{PLAN_OF_TWO, TWO};
 use std::alloc::{AllocError, Allocator};
-use wq_diagnosis::{Kind, Source, of_certificate, of_declaration, of_no, of_too_many};
+use wq_commands::{Which, Why, check_texts};
+use wq_diagnosis::{
+    Kind, Source, of_answered_no, of_certificate, of_declaration, of_no, of_refused_certificate,
+    of_refused_declaration, of_too_many,
+};
 
 /// What is asked to say what is wrong.
 #[derive(Clone, Copy)]
@@ -23,6 +27,8 @@ pub enum Saying {
     OfNo,
     /// `of_too_many`.
     OfTooMany,
+    /// `check_texts`, and of what it answers what the program asks for.
+    OfCheck,
 }
 
 /// A declaration and a certificate, what is asked of them, and what is said; nothing where nothing is wrong.
@@ -107,6 +113,46 @@ c:2:6: `a` flushes `b`, so it should be on a higher workqueue [no 50, `wqplan ex
         certificate: "",
         said: "d: the plan has more than 256 workqueues, each of which takes a thread [refused 69, `wqplan explain 69`]\n",
     },
+    Said {
+        name: "checked, a declaration that is refused",
+        saying: Saying::OfCheck,
+        declaration: "item send\nitem log\nflush send lgo\n",
+        certificate: "plan 1\n",
+        said: "\
+d:3:12: no item `lgo` is declared above this line [refused 8, `wqplan explain 8`]
+    flush send lgo
+               ^^^ did you mean `log`, line 2?
+",
+    },
+    Said {
+        name: "checked, a certificate that is refused",
+        saying: Saying::OfCheck,
+        declaration: TWO,
+        certificate: "plans 2\nwq 0 b\nwq 1 a\n",
+        said: "\
+c:1:1: expected `plan K`, found `plans` [refused 40, `wqplan explain 40`]
+    plans 2
+    ^^^^^
+",
+    },
+    Said {
+        name: "checked, a plan of one workqueue",
+        saying: Saying::OfCheck,
+        declaration: TWO,
+        certificate: "plan 1\nwq 0 a b\nchain 1\n",
+        said: "\
+c:2:6: `a` flushes `b`, so it should be on a higher workqueue [no 50, `wqplan explain 50`]
+    wq 0 a b
+         ^ `b` is on workqueue 0
+",
+    },
+    Said {
+        name: "checked, a plan that is good",
+        saying: Saying::OfCheck,
+        declaration: TWO,
+        certificate: PLAN_OF_TWO,
+        said: "",
+    },
 ];
 
 /// The cases of what is said.
@@ -124,7 +170,31 @@ impl Saying {
             Saying::OfRun => "of a run",
             Saying::OfNo => "of a no",
             Saying::OfTooMany => "of too many workqueues",
+            Saying::OfCheck => "of an answer of check",
         }
+    }
+}
+
+/// Checks a certificate, and asks what the program asks of the answer.
+fn say_of_check<A: Allocator + Copy>(
+    alloc: A,
+    declaration: Source<'_>,
+    certificate: Source<'_>,
+) -> Result<Option<Vec<u8, A>>, AllocError> {
+    let text = declaration.text;
+    match check_texts(alloc, SEED, text, certificate.text)?.why {
+        None => Ok(None),
+        Some(
+            Why::Refused {
+                which: Which::Declaration,
+                code,
+                line,
+            },
+        ) => Ok(Some(of_refused_declaration(alloc, declaration, code, line)?)),
+        Some(Why::Refused { code, line, .. }) => {
+            of_refused_certificate(alloc, SEED, Kind::Answer, text, certificate, code, line)
+        }
+        Some(Why::No(no)) => of_answered_no(alloc, SEED, text, certificate, &no),
     }
 }
 
@@ -143,5 +213,6 @@ pub fn say<A: Allocator + Copy>(alloc: A, case: &Said) -> Result<Option<Vec<u8, 
         Saying::OfRun => of_certificate(alloc, SEED, Kind::Run, text, certificate),
         Saying::OfNo => of_no(alloc, SEED, text, certificate),
         Saying::OfTooMany => Ok(Some(of_too_many(alloc, declaration)?)),
+        Saying::OfCheck => say_of_check(alloc, declaration, certificate),
     }
 }
