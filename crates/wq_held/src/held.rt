@@ -298,10 +298,11 @@ impl<N: Naming, A: Allocator> Held<N, A> {
         ensures seats { self.new.seats ≡ self.old.seats }
         ensures refused { IfErr result (λ e. RefusedAs (RefusesLane (IsWrongToStart self.old.book q)) e × (self.new ≡ self.old)) }
     {
-        match self.book.start(q) {
-            Ok(started) => Ok(started),
-            Err(e) => Err(CallError::of(e)),
-        }
+        let started = match self.book.start(q) {
+            Ok(started) => started,
+            Err(e) => return Err(CallError::of(e)),
+        };
+        Ok(started)
     }
 
     /// Makes what a workqueue runs begin to wait for an item: true where that item has an unfinished entry.
