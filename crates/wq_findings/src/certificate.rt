@@ -45,7 +45,35 @@ pub fn in_certificate<'a, A: Allocator + Copy>(
     requires { length groups.now.group_of ≡ length table.now.names }
 {
     let (line, stage) = line_and_stage(kind, text, no);
-    let finding = match &line {
+    let finding = on_line_or_end(
+        alloc,
+        kind,
+        declaration,
+        table,
+        groups,
+        text,
+        &line,
+        stage,
+        code,
+    )?;
+    Ok((line, finding))
+}
+
+/// What is wrong on this line or, where there is none, at the end of the text.
+fn on_line_or_end<'a, A: Allocator + Copy>(
+    alloc: A,
+    kind: Kind,
+    declaration: &Text<'a>,
+    table: &ItemTable<'a, A>,
+    groups: &Groups<A>,
+    text: &Text<'a>,
+    line: &Option<Line<'a>>,
+    stage: Stage,
+    code: u32,
+) -> Result<Finding<'a>, AllocError>
+    requires { length groups.now.group_of ≡ length table.now.names }
+{
+    match line {
         Some(line) => on_line(
             alloc,
             kind,
@@ -56,11 +84,10 @@ pub fn in_certificate<'a, A: Allocator + Copy>(
             line,
             stage,
             code,
-        )?,
-        None if code == 41 => find_unplaced(alloc, kind, table, text)?,
-        None => cut_short(text, stage),
-    };
-    Ok((line, finding))
+        ),
+        None if code == 41 => find_unplaced(alloc, kind, table, text),
+        None => Ok(cut_short(text, stage)),
+    }
 }
 
 /// What is wrong on this line of a certificate that is refused with this number for it.

@@ -94,7 +94,7 @@ fn not_falling<'a, A: Allocator + Copy>(
     let mut low = None;
     let mut flushed = None;
     for line in text.lines() {
-        if first_word(&line) != b"wq" {
+        if first_word(&line) != b"wq".as_slice() {
             continue;
         }
         if let Some(word) = word_of(table, &line, target) {

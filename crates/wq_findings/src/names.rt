@@ -71,7 +71,7 @@ impl<'a, A: Allocator + Copy> Names<'a, A> {
 
 /// The name on a line that declares an item.
 fn item_on<'a>(line: &Line<'a>) -> Option<Named<'a>> {
-    if first_word(line) == b"item" {
+    if first_word(line) == b"item".as_slice() {
         Some(Named {
             name: bytes_at(line, 1),
             line: line.no(),
