@@ -51,6 +51,10 @@ RefusesRun lanes bodies TooManySeats = bodies ≡ lanes
 RefusesRun lanes bodies OutOfMemory = bodies ≡ lanes
 RefusesRun lanes bodies NoThread = bodies ≡ lanes
 
+-- a list of this length and this capacity is empty, and has room for so many
+abbrev pub HasRoomFor : ℕ → ℕ → ℕ → Type 0
+HasRoomFor count length capacity = (length ≡ 0) × (count ≤ capacity)
+
 -- the seats that were made before a thread starts: fewer than this many, and none of them has counted anything
 abbrev pub AreFirstSeats : ℕ → ℕ → List (List ℕ) → Type 0
 AreFirstSeats items wanted seats = (length seats < wanted) × All (λ seat. seat ≡ replicate (14 * items) 0) seats

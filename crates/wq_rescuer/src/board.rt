@@ -6,6 +6,7 @@ ghost use Rattle.std.specs.Prelude.{◌≡◌, ℕ, ◌+◌, ◌*◌, ◌<◌, �
 ghost use Rattle.std.specs.List.{All};
 ghost use Rattle.wq_core.specs.Wiring.{items};
 ghost use Rattle.wq_execution.specs.Executing.{NeverRan};
+ghost use Rattle.wq_rescuer.specs.Serving.{HasRoomFor};
 
 use crate::calling::{Caller, CallerEnd, CallerJob};
 use crate::lane::{LaneEnd, LaneJob};
@@ -28,8 +29,7 @@ impl<J: Drop, E: Drop, A: Allocator + Copy> Jobs<J, E, A> {
     /// Room for this many jobs, of which there is none yet. The only error is out of memory (20), and never where there is to be
     /// no job.
     pub(crate) fn new(alloc: A, count: usize) -> Result<Self, AllocError>
-        ensures waiting { IfOk result (λ r. (vec_len r.waiting ≡ 0) × (count ≤ vec_capacity r.waiting)) }
-        ensures ends { IfOk result (λ r. (vec_len r.ends ≡ 0) × (count ≤ vec_capacity r.ends)) }
+        ensures room { IfOk result (λ r. HasRoomFor count (vec_len r.waiting) (vec_capacity r.waiting) × HasRoomFor count (vec_len r.ends) (vec_capacity r.ends)) }
         ensures memory { OnErr result (0 < count) }
     {
         Ok(Jobs {
@@ -50,10 +50,10 @@ impl<N: Naming, A: Allocator + Copy, B: Body + Drop, C: Caller + Drop> Board<N, 
     /// Room for the jobs of this many lanes and callers, of which there is none yet. The only error is out of memory (20), and
     /// never where there is to be no job.
     pub(crate) fn new(alloc: A, lanes: usize, callers: usize) -> Result<Self, AllocError>
-        ensures lane_jobs { IfOk result (λ r. (vec_len r.lanes.waiting ≡ 0) × (lanes ≤ vec_capacity r.lanes.waiting)) }
-        ensures lane_ends { IfOk result (λ r. (vec_len r.lanes.ends ≡ 0) × (lanes ≤ vec_capacity r.lanes.ends)) }
-        ensures caller_jobs { IfOk result (λ r. (vec_len r.callers.waiting ≡ 0) × (callers ≤ vec_capacity r.callers.waiting)) }
-        ensures caller_ends { IfOk result (λ r. (vec_len r.callers.ends ≡ 0) × (callers ≤ vec_capacity r.callers.ends)) }
+        ensures lanes { IfOk result (λ r. HasRoomFor lanes (vec_len r.lanes.waiting) (vec_capacity r.lanes.waiting)
+            × HasRoomFor lanes (vec_len r.lanes.ends) (vec_capacity r.lanes.ends)) }
+        ensures callers { IfOk result (λ r. HasRoomFor callers (vec_len r.callers.waiting) (vec_capacity r.callers.waiting)
+            × HasRoomFor callers (vec_len r.callers.ends) (vec_capacity r.callers.ends)) }
         ensures memory { OnErr result (0 < lanes + callers) }
     {
         Ok(Board {

@@ -5,7 +5,7 @@
 ghost use Rattle.std.specs.Prelude.{◌≡◌, ℕ, ◌+◌, ◌<◌, ◌≤◌, [], map, take, vec_len, vec_capacity};
 ghost use Rattle.std.specs.List.{sum_by};
 ghost use Rattle.wq_core.specs.Wiring.{items};
-ghost use Rattle.wq_rescuer.specs.Serving.{AreServed, IsRan, finished_by, faults_by};
+ghost use Rattle.wq_rescuer.specs.Serving.{AreServed, HasRoomFor, IsRan, finished_by, faults_by};
 ghost use Rattle.wq_rescuer.specs.declared.running.RunWhy.TheVariants.{NoThread};
 
 use crate::board::{Board, Jobs};
@@ -133,11 +133,11 @@ pub(crate) fn gather<N: Naming, A: Allocator, B: Body + Drop, C: Caller + Drop>(
     back: Back<N, A, B, C>,
 ) -> Ran<N, A, B, C>
     requires few { vec_len board.lanes.ends ≤ 256 }
-    requires seats { (vec_len back.seats ≡ 0) × (vec_len board.lanes.ends + vec_len board.callers.ends ≤ vec_capacity back.seats) }
-    requires bodies { (vec_len back.bodies ≡ 0) × (vec_len board.lanes.ends ≤ vec_capacity back.bodies) }
-    requires callers { (vec_len back.callers ≡ 0) × (vec_len board.callers.ends ≤ vec_capacity back.callers) }
-    requires rescued { (vec_len back.rescued ≡ 0) × (vec_len board.lanes.ends ≤ vec_capacity back.rescued) }
-    requires results { (vec_len back.results ≡ 0) × (vec_len board.callers.ends ≤ vec_capacity back.results) }
+    requires seats { HasRoomFor (vec_len board.lanes.ends + vec_len board.callers.ends) (vec_len back.seats) (vec_capacity back.seats) }
+    requires bodies { HasRoomFor (vec_len board.lanes.ends) (vec_len back.bodies) (vec_capacity back.bodies) }
+    requires callers { HasRoomFor (vec_len board.callers.ends) (vec_len back.callers) (vec_capacity back.callers) }
+    requires rescued { HasRoomFor (vec_len board.lanes.ends) (vec_len back.rescued) (vec_capacity back.rescued) }
+    requires results { HasRoomFor (vec_len board.callers.ends) (vec_len back.results) (vec_capacity back.results) }
     ensures { IsRan (items N.wiring) (vec_len board.lanes.ends) (vec_len board.callers.ends) result.seats.items (map B.runs result.bodies.items) (vec_len result.callers) (vec_len result.results) result.rescued.items result.finished result.faults }
 {
     let Board {

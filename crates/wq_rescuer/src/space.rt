@@ -6,7 +6,7 @@
 ghost use Rattle.std.specs.Prelude.{◌≡◌, ℕ, ◌+◌, ◌*◌, ◌<◌, ◌≤◌, ◌^◌, [], replicate, vec_len, vec_capacity, IfOk, OnOk, IfErr, OnErr};
 ghost use Rattle.std.specs.List.{All};
 ghost use Rattle.wq_core.specs.Wiring.{items};
-ghost use Rattle.wq_rescuer.specs.Serving.{AreFirstSeats, IsNoSeat, RefusesRun};
+ghost use Rattle.wq_rescuer.specs.Serving.{AreFirstSeats, HasRoomFor, IsNoSeat, RefusesRun};
 ghost use Rattle.wq_rescuer.specs.declared.running.RunWhy.TheVariants.{BodiesDiffer, OutOfMemory};
 
 use crate::board::Board;
@@ -38,13 +38,13 @@ impl<N: Naming, A: Allocator + Copy, B: Body + Drop, C: Caller + Drop> Space<N, 
     /// neither a lane nor a caller.
     fn new(alloc: A, lanes: usize, callers: usize) -> Result<Self, AllocError>
         requires { lanes + callers < 2 ^ 64 }
-        ensures lane_jobs { IfOk result (λ r. (vec_len r.board.lanes.waiting ≡ 0) × (lanes ≤ vec_capacity r.board.lanes.waiting)) }
-        ensures lane_ends { IfOk result (λ r. (vec_len r.board.lanes.ends ≡ 0) × (lanes ≤ vec_capacity r.board.lanes.ends)) }
-        ensures caller_jobs { IfOk result (λ r. (vec_len r.board.callers.waiting ≡ 0) × (callers ≤ vec_capacity r.board.callers.waiting)) }
-        ensures caller_ends { IfOk result (λ r. (vec_len r.board.callers.ends ≡ 0) × (callers ≤ vec_capacity r.board.callers.ends)) }
+        ensures lanes { IfOk result (λ r. HasRoomFor lanes (vec_len r.board.lanes.waiting) (vec_capacity r.board.lanes.waiting)
+            × HasRoomFor lanes (vec_len r.board.lanes.ends) (vec_capacity r.board.lanes.ends)
+            × HasRoomFor lanes (vec_len r.rescued) (vec_capacity r.rescued)) }
+        ensures callers { IfOk result (λ r. HasRoomFor callers (vec_len r.board.callers.waiting) (vec_capacity r.board.callers.waiting)
+            × HasRoomFor callers (vec_len r.board.callers.ends) (vec_capacity r.board.callers.ends)
+            × HasRoomFor callers (vec_len r.results) (vec_capacity r.results)) }
         ensures seats { IfOk result (λ r. (r.seats.items ≡ []) × (lanes + callers ≤ vec_capacity r.seats)) }
-        ensures rescued { IfOk result (λ r. (vec_len r.rescued ≡ 0) × (lanes ≤ vec_capacity r.rescued)) }
-        ensures results { IfOk result (λ r. (vec_len r.results ≡ 0) × (callers ≤ vec_capacity r.results)) }
         ensures memory { OnErr result (0 < lanes + callers) }
     {
         let seats = Vec::with_capacity(alloc, lanes + callers)?;
@@ -95,15 +95,15 @@ pub(crate) fn reserve<N: Naming, A: Allocator + Copy, R: Wait, B: Body + Drop, C
     callers: usize,
 ) -> Result<Space<N, A, B, C>, NoSpace<N, A>>
     requires { lanes + callers < 2 ^ 64 }
-    ensures lanes { OnOk result ((lanes ≡ N.wiring.lanes) × (lanes ≤ 256)) }
-    ensures lane_jobs { IfOk result (λ r. (vec_len r.board.lanes.waiting ≡ 0) × (lanes ≤ vec_capacity r.board.lanes.waiting)) }
-    ensures lane_ends { IfOk result (λ r. (vec_len r.board.lanes.ends ≡ 0) × (lanes ≤ vec_capacity r.board.lanes.ends)) }
-    ensures caller_jobs { IfOk result (λ r. (vec_len r.board.callers.waiting ≡ 0) × (callers ≤ vec_capacity r.board.callers.waiting)) }
-    ensures caller_ends { IfOk result (λ r. (vec_len r.board.callers.ends ≡ 0) × (callers ≤ vec_capacity r.board.callers.ends)) }
-    ensures seats { IfOk result (λ r. (vec_len r.seats ≡ lanes + callers) × (lanes + callers ≤ vec_capacity r.seats)) }
-    ensures no_counts { IfOk result (λ r. All (λ seat. seat ≡ replicate (14 * items N.wiring) 0) r.seats.items) }
-    ensures rescued { IfOk result (λ r. (vec_len r.rescued ≡ 0) × (lanes ≤ vec_capacity r.rescued)) }
-    ensures results { IfOk result (λ r. (vec_len r.results ≡ 0) × (callers ≤ vec_capacity r.results)) }
+    ensures few { OnOk result ((lanes ≡ N.wiring.lanes) × (lanes ≤ 256)) }
+    ensures lanes { IfOk result (λ r. HasRoomFor lanes (vec_len r.board.lanes.waiting) (vec_capacity r.board.lanes.waiting)
+        × HasRoomFor lanes (vec_len r.board.lanes.ends) (vec_capacity r.board.lanes.ends)
+        × HasRoomFor lanes (vec_len r.rescued) (vec_capacity r.rescued)) }
+    ensures callers { IfOk result (λ r. HasRoomFor callers (vec_len r.board.callers.waiting) (vec_capacity r.board.callers.waiting)
+        × HasRoomFor callers (vec_len r.board.callers.ends) (vec_capacity r.board.callers.ends)
+        × HasRoomFor callers (vec_len r.results) (vec_capacity r.results)) }
+    ensures seats { IfOk result (λ r. (vec_len r.seats ≡ lanes + callers) × (lanes + callers ≤ vec_capacity r.seats)
+        × All (λ seat. seat ≡ replicate (14 * items N.wiring) 0) r.seats.items) }
     ensures refused { IfErr result (λ e. RefusesRun N.wiring.lanes lanes e.why) }
     ensures no_seats { IfErr result (λ e. e.why ≡ BodiesDiffer → e.seats.items ≡ []) }
     ensures made { IfErr result (λ e. IsNoSeat e.why → AreFirstSeats (items N.wiring) (lanes + callers) e.seats.items) }
