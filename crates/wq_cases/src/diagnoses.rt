@@ -6,7 +6,7 @@
 use crate::command::SEED;
 use crate::declarations::{PLAN_OF_TWO, TWO};
 use std::alloc::{AllocError, Allocator};
-use wq_commands::{Which, Why, check_texts};
+use wq_commands::{Answered, Which, Why, check_texts};
 use wq_diagnosis::{
     Kind, Source, of_answered_no, of_certificate, of_declaration, of_no, of_refused_certificate,
     of_refused_declaration, of_too_many,
@@ -182,7 +182,8 @@ fn say_of_check<A: Allocator + Copy>(
     certificate: Source<'_>,
 ) -> Result<Option<Vec<u8, A>>, AllocError> {
     let text = declaration.text;
-    match check_texts(alloc, SEED, text, certificate.text)?.why {
+    let Answered { why, .. } = check_texts(alloc, SEED, text, certificate.text)?;
+    match why {
         None => Ok(None),
         Some(
             Why::Refused {
