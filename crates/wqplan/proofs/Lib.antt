@@ -1,2 +1,3 @@
 mod CommandLemmas
 mod NumberLemmas
+mod KeptTexts

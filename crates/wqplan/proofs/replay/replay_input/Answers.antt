@@ -5,7 +5,7 @@ use Rattle.wq_meter.specs.Input.{IsInput}
 use Rattle.wq_cert.specs.Texts.{max_certificate}
 use Rattle.wq_commands.specs.Replaying.{Replays}
 use Rattle.wq_commands.proofs.InputLemmas.{Replays-take}
-use Rattle.wq_commands.specs.Why.{SaysReplayed}
+use Rattle.wqplan.proofs.KeptTexts.{says_of_kept}
 use Rattle.wqplan.proofs.replay.replay_input.Goals as goal
 
 pub returns-clause-answered : goal.returns-clause-answered
@@ -36,8 +36,4 @@ returns-clause-answered g c =
     )
 
 pub returns-clause-why : goal.returns-clause-why
-returns-clause-why g c =
-    let why = c.in_ok-answer.answer.why in
-    subst (λ t. SaysReplayed t _ _ why) c.deref.ensures.value
-    (subst (λ t. SaysReplayed c.deref.result.now t _ why) c.deref-2.ensures.value
-    (subst (λ t. SaysReplayed c.deref.result.now c.deref-2.result.now t why) c.deref-3.ensures.value c.in_ok-answer.ensures.why))
+returns-clause-why g c = says_of_kept c.in_ok-answer.answer.why c.deref.ensures.value c.deref-2.ensures.value c.deref-3.ensures.value c.in_ok-answer.ensures.why
