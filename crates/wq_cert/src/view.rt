@@ -1,7 +1,8 @@
 //! The lines of a text that hold a word.
 //!
 //! All other lines are skipped, by "Certificates" in docs/FORMAT.md. Passing through the lines looks at each byte of the text a
-//! fixed number of times, and takes no memory.
+//! fixed number of times, and takes no memory. The lines above the first one that holds a word are passed through once, however
+//! often the view is asked for its lines.
 
 ghost use Rattle.std.specs.Prelude.{◌≡◌};
 ghost use Rattle.std.specs.Iterator.{YieldsFirst, item_count};
@@ -15,17 +16,18 @@ use wq_text::{Line, Lines, Text};
 /// of these lines.
 #[derive(Drop)]
 pub struct CertView<'c> {
-    text: Text<'c>,
+    /// The lines of the text, from the first one on that holds a word.
+    lines: Lines<'c>,
 }
 
 impl<'c> Model for CertView<'c> {
     ghost use Rattle.std.specs.Prelude.{List};
-    ghost use Rattle.wq_text.specs.Lines.{LineView, lines_of};
+    ghost use Rattle.wq_text.specs.Lines.{LineView};
     ghost use Rattle.wq_cert.specs.Lines.{filled};
 
     ghost Value = { List LineView };
 
-    ghost view = { λ v. filled (lines_of v.text) };
+    ghost view = { λ v. filled v.lines };
 }
 
 impl<'c> CertView<'c> {
@@ -33,7 +35,9 @@ impl<'c> CertView<'c> {
     pub fn new(text: Text<'c>) -> Self
         ensures { result ≡ filled (lines_of text.entry) }
     {
-        CertView { text }
+        CertView {
+            lines: from_filled(text.lines()),
+        }
     }
 
     /// These lines, in order.
@@ -41,7 +45,7 @@ impl<'c> CertView<'c> {
         ensures { result ≡ self.now }
     {
         CertLines {
-            lines: self.text.lines(),
+            lines: self.lines.again(),
         }
     }
 }
@@ -70,6 +74,21 @@ fn holds_word(line: &Line<'_>) -> bool
         [] | [b'#', ..] => false,
         _ => line.words().next().is_some(),
     }
+}
+
+/// The lines from the first one on that holds a word.
+fn from_filled<'c>(lines: Lines<'c>) -> Lines<'c>
+    ensures { filled result ≡ filled lines.entry }
+{
+    let mut from = lines;
+    let mut rest = from.again();
+    while let Some(line) = rest.next() {
+        if holds_word(&line) {
+            return from;
+        }
+        from = rest.again();
+    }
+    from
 }
 
 /// The first line that holds a word, and the lines after it.
