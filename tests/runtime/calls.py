@@ -38,6 +38,21 @@ RUNTIMES = [
         "020100000000000001000000",
         "080100000000000002000000",
     ]),
+    # A runtime that can't be closed is handed back as it was: it isn't destroyed, and takes queueings.
+    (*ONE, 100, [
+        ("close 0", "refused 72"),
+        ("queue 0 a", "true"),
+        ("close 1", "refused 71"),
+        ("queue 0 a", "false"),
+        ("cancel a", "true"),
+        ("close 1", "ok"),
+    ], [
+        ("a", "queue", "yes", 1), ("a", "queue", "no", 1), ("a", "cancel", "yes", 1),
+    ], [
+        "010100000000000000000000",
+        "010000000000000000000000",
+        "020100000000000000000000",
+    ]),
     # `sync` needs three rows for its two events, though it may write but two.
     (*TWO, 2, [("sync a", "refused 60"), ("close 1", "ok")], [], []),
     (*TWO, 3, [("sync a", "false"), ("close 1", "ok")],

@@ -1,6 +1,7 @@
 //! Closing a runtime: first nothing is queued any more, and then, where nothing is unfinished, all is handed back.
 //!
-//! `destroy` waits until no entry is unfinished. `close` takes time in the number of seats and their counts, and no memory.
+//! `destroy` waits until no entry is unfinished. `close` takes time in the number of all counts, which are 14
+//! for each seat and item, and no memory.
 
 ghost use Rattle.std.specs.Prelude.{◌≡◌, IfOk, IfErr};
 ghost use Rattle.wq_held.specs.Closing.{IsClosed};

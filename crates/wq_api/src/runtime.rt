@@ -36,8 +36,8 @@ pub struct WqRuntime<N: Naming, A: Allocator> {
 }
 
 impl<N: Naming, A: Allocator + Copy> WqRuntime<N, A> {
-    /// Makes the runtime of a table, the groups of its items and a workqueue for each group, with room for `rows` rows. The blank
-    /// ledger has 65,536 parts, and its name says what the runtime is made of.
+    /// Makes the runtime of a table, the groups of its items and an assignment, which gives each group a workqueue, with room for
+    /// `rows` rows. The blank ledger has 65,536 parts, and its name says what the runtime is made of.
     ///
     /// The error is the first of these that holds: `TooManyLanes` (69), more than 256 workqueues; `TooManyRows` (68), more than
     /// 16,777,216; `NotSafe` (67), some run of the assignment ends stuck. Out of memory (20) may come in place of the last, or
@@ -99,7 +99,7 @@ impl<N: Naming, A: Allocator> WqRuntime<N, A> {
     ///
     /// The error is the first of these that holds: `NoItem` (66); `WrongLane` (64), where the item belongs to another workqueue;
     /// `HistoryFull` (60), where the seat is full; `Closed` (61); `HistoryFull` (60), where fewer rows are free than it needs: 1
-    /// where the item is pending, or else 3 and 2 for each flush that it declares. After an error nothing is changed or counted.
+    /// where the item is pending, else 3, and 2 more for each flush that it declares. After an error nothing is changed or counted.
     pub fn queue_work<R: Wait>(
         &self,
         rt: &R,
@@ -167,8 +167,8 @@ impl<N: Naming, A: Allocator> WqRuntime<N, A> {
     /// Waits until none of an item's entries that were queued before the call is unfinished (`flush_work`): true where it had to
     /// wait, false where the item was idle.
     ///
-    /// The error is `NoItem` (66), or else `HistoryFull` (60), where the seat is full, or fewer than 2 rows are free, or none where
-    /// the item is idle. Then nothing is changed or counted. Once it has asked, the only error could be `NotAsked` (65); then its
+    /// The error is `NoItem` (66), or else `HistoryFull` (60), where the seat is full or fewer rows are free than it needs: 1 where the
+    /// item is idle, else 2. Then nothing is changed or counted. Once it has asked, the only error could be `NotAsked` (65); then its
     /// ask stays counted.
     #[tactic(auto, using(crate::proofs::WaitsRefused::ask_refused, crate::proofs::WaitsRefused::ask_not_counted))]
     pub fn flush_work<R: Wait>(

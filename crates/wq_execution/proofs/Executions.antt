@@ -8,8 +8,9 @@ use lib.Seq.{drop-drop}
 use Rattle.wq_counts.specs.declared.kind.Kind.TheVariants.{Finish}
 use Rattle.wq_counts.specs.Counting.{place, HasCountsOf, raised}
 use Rattle.wq_counts.proofs.Places.{place-same, made-raised_same, made-raised_other}
-use Rattle.wq_held.specs.Locked.{seat_rows}
-use Rattle.wq_execution.specs.Executing.{RanOnce, finished_of, finished_in_all, SameFinished, CountsRuns}
+use Rattle.wq_core.specs.Wiring.{Wiring}
+use Rattle.wq_held.specs.Locked.{IsOnLane, seat_rows}
+use Rattle.wq_execution.specs.Executing.{NeverRan, RanOnce, RanOnly, finished_of, finished_in_all, SameFinished, CountsRuns}
 
 -- ---- one item
 
@@ -100,6 +101,17 @@ serving_more items before counts after width wider runs now finished faults more
   in_all = omega (arith, finished_in_all-raised items after i has lt, finished_in_all-same items counts after same, serving.in_all);
   faults_within = omega (arith, serving.faults_within, few);
 })
+
+-- nothing ran yet
+pub nothing_else : (w : Wiring) (q : ℕ) (runs : ℕ → ℕ) → NeverRan runs → RanOnly w q runs
+nothing_else w q runs never = λ i ran. absurd (omega (arith, never i, ran))
+
+-- one more item of the lane ran
+pub ran_only_more : (w : Wiring) (q : ℕ) (runs now : ℕ → ℕ) (i : ℕ) → RanOnly w q runs → RanOnce runs now i → IsOnLane w q i → RanOnly w q now
+ran_only_more w q runs now i only once on = λ j ran. elim (cases_eq j i) [
+  | inl e ↦ subst (λ k. IsOnLane w q k) (sym e) on
+  | inr ne ↦ only j (omega (arith, once.1 j ne, ran))
+]
 
 -- one more execution can be counted: a seat that isn't full has counted fewer
 pub few_finished : (items : ℕ) (before counts : List ℕ) (width : ℕ) (runs : ℕ → ℕ) (finished faults : ℕ)

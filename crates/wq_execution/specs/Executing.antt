@@ -6,7 +6,7 @@ use Rattle.wq_counts.specs.declared.kind.Kind.TheVariants.{Finish}
 use Rattle.wq_counts.specs.Counting.{made}
 use Rattle.wq_held.specs.declared.fault.CallError.{CallError}
 use Rattle.wq_held.specs.declared.fault.CallError.TheVariants.{HistoryFull, Closed, Undeclared, TooManyWaits, WrongLane, NotAsked, NoItem}
-use Rattle.wq_held.specs.Locked.{HasRoom, seat_rows}
+use Rattle.wq_held.specs.Locked.{IsOnLane, HasRoom, seat_rows}
 
 -- ---- what a body runs: how often each item ran
 
@@ -17,6 +17,10 @@ NeverRan runs = (i : ℕ) → runs i ≡ 0
 -- this item ran once more, and no other item did
 abbrev pub RanOnce : (ℕ → ℕ) → (ℕ → ℕ) → ℕ → Type 0
 RanOnce old new item = (new item ≡ old item + 1) × ((i : ℕ) → i ≢ item → new i ≡ old i)
+
+-- each item that ran is on lane q
+abbrev pub RanOnly : Wiring → ℕ → (ℕ → ℕ) → Type 0
+RanOnly w q runs = (i : ℕ) → 0 < runs i → IsOnLane w q i
 
 -- ---- what a seat counts as finished
 
@@ -53,13 +57,13 @@ RefusesQueueByBody w counts i TooManyWaits = ⊥
 RefusesQueueByBody w counts i WrongLane = ⊥
 RefusesQueueByBody w counts i NotAsked = ⊥
 
--- a rescuer whose seat has these counts when it ends: the seat is full; or there is no such lane, or another caller drove the same
--- one
-abbrev pub RefusesRescue : List ℕ → CallError → Type 0
-RefusesRescue seat HistoryFull = seat_rows ≤ sum seat
-RefusesRescue seat WrongLane = ⊤
-RefusesRescue seat NoItem = ⊥
-RefusesRescue seat Closed = ⊥
-RefusesRescue seat Undeclared = ⊥
-RefusesRescue seat TooManyWaits = ⊥
-RefusesRescue seat NotAsked = ⊥
+-- a rescuer of lane q, whose seat has these counts when it ends: there is no such lane; the seat is full; or another caller drove the
+-- same lane
+abbrev pub RefusesRescue : Wiring → ℕ → List ℕ → CallError → Type 0
+RefusesRescue w q seat HistoryFull = (q < w.lanes) × (seat_rows ≤ sum seat)
+RefusesRescue w q seat WrongLane = ⊤
+RefusesRescue w q seat NoItem = ⊥
+RefusesRescue w q seat Closed = ⊥
+RefusesRescue w q seat Undeclared = ⊥
+RefusesRescue w q seat TooManyWaits = ⊥
+RefusesRescue w q seat NotAsked = ⊥

@@ -24,6 +24,7 @@ pub struct BodyFault {
 /// What a rescuer runs.
 pub trait Body {
     ghost use Rattle.std.specs.Prelude.{ℕ};
+    ghost use Rattle.wq_held.specs.Locked.{IsOnLane};
 
     // for how many items it can count the runs
     ghost width: { Self → ℕ };
@@ -31,7 +32,7 @@ pub trait Body {
     // how often an item ran
     ghost runs: { Self → ℕ → ℕ };
 
-    /// Runs an item once. It may take any time, and wait by the calls of `Work`.
+    /// Runs an item once. It may take any time, and wait by the calls of `Work`, which is that of this item, on its workqueue.
     ///
     /// It counts one run of this item, whether it succeeds or gives up. What its seat counts as finished it leaves as it is.
     fn run<N: Naming, A: Allocator, R: Wait>(
@@ -42,6 +43,8 @@ pub trait Body {
     ) -> Result<(), BodyFault>
         requires known { item < width self.old }
         requires few { runs self.old item < 4294967295 }
+        requires of_item { work.old.item ≡ item }
+        requires on_lane { IsOnLane N.wiring work.old.lane item }
         ensures ran { RanOnce (runs self.old) (runs self.new) item }
         ensures width { width self.new ≡ width self.old }
         ensures finished { SameFinished work.old.seat.now work.new.seat.now }

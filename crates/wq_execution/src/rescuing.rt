@@ -6,7 +6,8 @@
 
 ghost use Rattle.std.specs.Prelude.{◌≡◌, ℕ, ◌+◌, ◌<◌, ◌≤◌, IfOk, OnOk, IfErr, OnErr};
 ghost use Rattle.wq_core.specs.Wiring.{items};
-ghost use Rattle.wq_execution.specs.Executing.{NeverRan, RanOnce, SameFinished, CountsRuns, CountsAtMost, finished_in_all, RefusesRescue};
+ghost use Rattle.wq_held.specs.Locked.{IsOnLane};
+ghost use Rattle.wq_execution.specs.Executing.{NeverRan, RanOnce, RanOnly, SameFinished, CountsRuns, CountsAtMost, finished_in_all, RefusesRescue};
 
 use crate::body::{Body, BodyFault};
 use crate::work::Work;
@@ -36,6 +37,7 @@ fn execute<N: Naming, A: Allocator, R: Wait, B: Body>(
 ) -> Result<(), BodyFault>
     requires known { item < B.width body.old }
     requires few { B.runs body.old item < 4294967295 }
+    requires on_lane { IsOnLane N.wiring q item }
     ensures ran { RanOnce (B.runs body.old) (B.runs body.new) item }
     ensures width { B.width body.new ≡ B.width body.old }
     ensures finished { SameFinished seat.old seat.new }
@@ -47,9 +49,9 @@ fn execute<N: Naming, A: Allocator, R: Wait, B: Body>(
 /// Serves a workqueue until the runtime is closed and nothing is pending on it. For each item, what the seat counts as finished
 /// has risen by what the body ran.
 ///
-/// The body has run nothing before, and can count each item. The error is `WrongLane` (64), where there is no such workqueue or
-/// another caller drove the same one, or `HistoryFull` (60), where the seat is full. Then what the seat counts as finished has
-/// risen by no more than what the body ran.
+/// The body has run nothing before, and can count each item. It runs only items of this workqueue. The error is `WrongLane` (64),
+/// where there is no such workqueue, or `HistoryFull` (60), where the seat is full, or `WrongLane` (64), where another caller drove
+/// the same workqueue. Then what the seat counts as finished has risen by no more than what the body ran.
 pub fn rescue<N: Naming, A: Allocator, R: Wait, B: Body>(
     rt: &R,
     runtime: &WqRuntime<N, A>,
@@ -63,9 +65,13 @@ pub fn rescue<N: Naming, A: Allocator, R: Wait, B: Body>(
     ensures finished { IfOk result (λ r. finished_in_all (items N.wiring) seat.old + r.finished ≡ finished_in_all (items N.wiring) seat.new) }
     ensures faults { IfOk result (λ r. r.faults ≤ r.finished) }
     ensures lane { OnOk result (q < N.wiring.lanes) }
-    ensures why { IfErr result (λ e. RefusesRescue seat.new e) }
+    ensures own { RanOnly N.wiring q (B.runs body.new) }
+    ensures why { IfErr result (λ e. RefusesRescue N.wiring q seat.new e) }
     ensures refused { OnErr result (CountsAtMost seat.old seat.new (B.runs body.new)) }
 {
+    if q.get() >= runtime.lanes(rt) {
+        return Err(CallError::WrongLane);
+    }
     let mut finished = 0u32;
     let mut faults = 0u32;
     for _ in rt.forever() {

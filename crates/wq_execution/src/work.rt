@@ -66,8 +66,8 @@ impl<'a, N: Naming, A: Allocator> Work<'a, N, A> {
     /// Queues an item: true where it wasn't pending, false where it was.
     ///
     /// The error is the first of these that holds: `NoItem` (66); `HistoryFull` (60), where the seat is full; `Closed` (61);
-    /// `HistoryFull` (60), where fewer rows are free than it needs: 1 where the item is pending, or else 3 and 2 for each flush that
-    /// it declares. After an error nothing is changed or counted.
+    /// `HistoryFull` (60), where fewer rows are free than it needs: 1 where the item is pending, else 3, and 2 more for each flush
+    /// that it declares. After an error nothing is changed or counted.
     pub fn queue<R: Wait>(&mut self, rt: &R, item: ItemId) -> Result<bool, CallError>
         ensures counted { IfOk result (λ accepted. (item < items N.wiring) × HasRoom self.old.seat.now × (self.new.seat.now ≡ raised self.old.seat.now item Queue accepted)) }
         ensures refused { IfErr result (λ e. RefusesQueueByBody N.wiring self.old.seat.now item e × (self.new.seat.now ≡ self.old.seat.now)) }

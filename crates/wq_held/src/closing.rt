@@ -1,7 +1,8 @@
 //! What is handed back when a runtime is closed: its history, and the sums of all that its callers counted.
 //!
 //! Where the sums agree with the tallies of the history, all callers together counted, for each item, kind and answer, as many
-//! rows as were written. Starts aren't counted. Closing takes time in the number of seats and their counts, and no memory.
+//! rows as were written. Starts aren't counted. Closing takes time in the number of all counts, which are 14 for each seat and item, and
+//! no memory.
 
 ghost use Rattle.std.specs.Prelude.{◌≡◌, ℕ, ◌+◌, ◌<◌, ◌≤◌, ◌*◌, sum, replicate, vec_len};
 ghost use Rattle.std.specs.List.{sum_by};
@@ -62,7 +63,8 @@ impl<N: Naming, A: Allocator> Held<N, A> {
     /// Closes a runtime, which may be closed with these seats.
     pub fn closed(self, seats: Vec<Seat<N, A>, A>) -> Closed<N, A>
         requires { Closes self (vec_len seats) }
-        ensures { IsClosed N.wiring N.rows seats.items result.book result.counts result.agree }
+        ensures closed { IsClosed N.wiring N.rows seats.items result.book result.counts result.agree }
+        ensures book { result.book ≡ self.book }
     {
         self.book.legal();
         let Held {

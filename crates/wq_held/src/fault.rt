@@ -60,7 +60,7 @@ pub enum CallError {
     /// There is no such workqueue, the item belongs to another, or the workqueue can't make this step (64).
     #[error("the workqueue can't do this")]
     WrongLane,
-    /// No ask about the item is waiting (65). A call tells only the ask that it made itself.
+    /// No ask about the item is waiting (65). Each call hands in only the ask that it made itself.
     #[error("no caller waits for the item")]
     NotAsked,
     /// No such item (66).

@@ -2,8 +2,8 @@
 //! The code calls a workqueue a lane.
 //!
 //! What the layer above relies on: whenever the lock is taken, the rows are a legal history under the runtime's assignment, which
-//! is safe. Each call under the lock makes one event, or an ask and a cancellation, and counts its rows in its caller's seat,
-//! except for starts. All seats together count as many rows as the history has, starts left out.
+//! is safe. Each call under the lock writes at most one row, or those of an ask and a cancellation, and counts them in its caller's
+//! seat, except for starts. All seats together count as many rows as the history has, starts left out.
 #![tactic(auto)]
 
 mod closing;

@@ -1,7 +1,7 @@
 //! Which runtime a value belongs to.
 //!
-//! What a lock protects is known by its type alone. So the type of a runtime, of its seats and of all that it hands out names the
-//! runtime: what it was made of, and the ledger in which its seats count. The names occur in proofs only; no code runs here.
+//! What a lock protects is known by its type alone. So the type of a runtime, of its seats and of `Closed` names the runtime: what it
+//! was made of, and the ledger in which its seats count. The names occur in proofs only; no code runs here.
 
 use std::marker::Brand;
 use std::sync::ledger::Ledger;

@@ -1,7 +1,7 @@
 //! The tallies of the history, and the ledger in which all seats count.
 //!
 //! Each counted row is counted twice: here, for the history, and in the seat of the caller whose call wrote it. The ledger
-//! knows that both grow by one together. A count takes constant time and no memory.
+//! shows that both grow by one together. A count takes constant time and no memory.
 
 ghost use Rattle.std.specs.Prelude.{◌≡◌, ℕ, ◌+◌, ◌*◌, ◌<◌, ◌≤◌, sum, replicate, length, IfOk, OnErr};
 ghost use Rattle.wq_core.specs.Wiring.{items};

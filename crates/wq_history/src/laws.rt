@@ -2,11 +2,13 @@
 //!
 //! They are about rows alone, whatever code wrote these.
 
-ghost use Rattle.std.specs.Prelude.{◌≡◌, ℕ, ◌<◌, ◌≤◌, ◌↔◌, List, [], ◌∷◌, ◌++◌, length, Bool, true, false, ◌&&◌};
+ghost use Rattle.std.specs.Prelude.{◌≡◌, ℕ, ◌<◌, ◌≤◌, ◌↔◌, ◌⊎◌, List, [], ◌∷◌, ◌++◌, length, Bool, true, false, ◌&&◌};
 ghost use Rattle.std.specs.List.{All, count_by};
 ghost use Rattle.wq_core.specs.Wiring.{Wiring, IsWiring, items};
 ghost use Rattle.wq_core.specs.State.{HasUnfinishedBelow};
-ghost use Rattle.wq_core.specs.Runs.{IsRun};
+ghost use Rattle.wq_core.specs.declared.step.Step.{Step};
+ghost use Rattle.wq_core.specs.Runs.{IsRun, IsRunFrom, IsRescuerStep, IsCancel, is_rescuer_step};
+ghost use Rattle.wq_core.specs.Work.{work_left};
 ghost use Rattle.wq_core.specs.Deadlock.{IsStuck, IsSafe};
 ghost use Rattle.wq_rows.specs.declared.event.Event.{Event};
 ghost use Rattle.wq_rows.specs.declared.event.Event.TheVariants.{Told};
@@ -31,6 +33,14 @@ pub fn the_steps_of_a_legal_history_are_a_run()
 /// Where an assignment is safe, the state that a legal history leaves isn't stuck.
 pub fn a_legal_history_under_a_safe_assignment_is_not_stuck()
     ensures { (w : Wiring) (rows : List Row) → IsSafe w → IsLegal w rows → ¬ IsStuck w (state_after w rows) }
+{}
+
+/// Where nothing more is queued after a legal history, the rescuers make at most as many steps as there is work left, whatever the
+/// order, and whatever is cancelled in between.
+pub fn rescuer_steps_after_a_legal_history_are_bounded()
+    ensures { (w : Wiring) (rows : List Row) (more : List Step) → IsLegal w rows →
+        All (λ (step : Step). IsRescuerStep step ⊎ IsCancel step) more → IsRunFrom w (state_after w rows) more →
+        count_by is_rescuer_step more ≤ work_left w (state_after w rows) }
 {}
 
 /// Some rows need no free row: those of rescuers, of cancellations that remove an entry, and of callers who are told. Where a

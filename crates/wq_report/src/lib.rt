@@ -3,7 +3,7 @@
 //!
 //! What the layer above relies on: the text is the definition `report_text` of the items, their groups, the assignment, the counts
 //! and the number of faults, byte by byte. The rules are those of "The command `run`" in docs/FORMAT.md. This crate knows no
-//! runtime: of which history the counts are is known to its caller.
+//! runtime: only its caller knows whose history the counts are.
 #![tactic(auto)]
 
 mod report;

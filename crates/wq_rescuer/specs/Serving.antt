@@ -2,18 +2,20 @@
 use Rattle.std.specs.Prelude.{◌≡◌, ◌≢◌, ℕ, ◌+◌, ◌*◌, ◌<◌, ◌≤◌, List, length, replicate, take, slice_get, Some, Result, Ok, Err}
 use Rattle.std.specs.Result.{ForOk, ForErr}
 use Rattle.std.specs.List.{All, sum_by}
+use Rattle.wq_core.specs.Wiring.{Wiring, items}
 use Rattle.wq_held.specs.declared.fault.CallError.{CallError}
 use Rattle.wq_execution.specs.declared.rescuing.Rescued.{Rescued}
 use Rattle.wq_rescuer.specs.declared.running.RunWhy.{RunWhy}
 use Rattle.wq_rescuer.specs.declared.running.RunWhy.TheVariants.{BodiesDiffer, TooManySeats, OutOfMemory, NoThread}
-use Rattle.wq_execution.specs.Executing.{finished_of, finished_in_all}
+use Rattle.wq_execution.specs.Executing.{RanOnly, RefusesRescue, finished_of, finished_in_all}
 
--- a rescuer whose seat had no counts, and whose body had run nothing: for each item, the seat counts as finished what the body
--- ran, and in all, what the rescuer says; after a refusal, no more than the body ran
-abbrev pub IsServed : ℕ → List ℕ → (ℕ → ℕ) → Result Rescued CallError → Type 0
-IsServed items seat runs answer =
-    ForOk answer (λ (rescued : Rescued). ((i : ℕ) → finished_of seat i ≡ runs i) × (rescued.finished ≡ finished_in_all items seat) × (rescued.faults ≤ rescued.finished))
-    × ForErr answer (λ (e : CallError). (i : ℕ) → finished_of seat i ≤ runs i)
+-- the rescuer of lane q, whose seat had no counts, and whose body had run nothing: only items of the lane ran; for each item, the
+-- seat counts as finished what the body ran, and in all, what the rescuer says; after a refusal, which has its cause, no more than the
+-- body ran
+pub record IsServed (w : Wiring) (q : ℕ) (seat : List ℕ) (runs : ℕ → ℕ) (answer : Result Rescued CallError) : Type 0 where
+  pub own : RanOnly w q runs
+  pub counts : ForOk answer (λ (rescued : Rescued). ((i : ℕ) → finished_of seat i ≡ runs i) × (rescued.finished ≡ finished_in_all (items w) seat) × (rescued.faults ≤ rescued.finished))
+  pub refused : ForErr answer (λ (e : CallError). RefusesRescue w q seat e × ((i : ℕ) → finished_of seat i ≤ runs i))
 
 -- how many executions a rescuer finished, if it wasn't refused
 abbrev pub finished_by : Result Rescued CallError → ℕ
@@ -25,24 +27,28 @@ abbrev pub faults_by : Result Rescued CallError → ℕ
 faults_by (Ok rescued) = rescued.faults
 faults_by (Err e) = 0
 
--- what this many lanes hand back, lane by lane: each rescuer's answer is true of its seat and of what its body ran
-pub record AreServed (items lanes : ℕ) (seats : List (List ℕ)) (runs : List (ℕ → ℕ)) (rescued : List (Result Rescued CallError)) : Type 0 where
+-- what this many lanes hand back, lane by lane: each rescuer's answer is true of its lane, of its seat and of what its body ran
+pub record AreServed (w : Wiring) (lanes : ℕ) (seats : List (List ℕ)) (runs : List (ℕ → ℕ)) (rescued : List (Result Rescued CallError)) : Type 0 where
   pub a_seat_each : length seats ≡ lanes
   pub a_body_each : length runs ≡ lanes
   pub an_answer_each : length rescued ≡ lanes
   pub served : (q : ℕ) (seat : List ℕ) (ran : ℕ → ℕ) (answer : Result Rescued CallError) → slice_get seats q ≡ Some seat → slice_get runs q ≡ Some ran
-      → slice_get rescued q ≡ Some answer → IsServed items seat ran answer
+      → slice_get rescued q ≡ Some answer → IsServed w q seat ran answer
 
--- everything was run, with this many items, lanes and callers: there is a seat for each lane and then for each caller; what the
--- lanes hand back is true; each caller answered; and the numbers of executions and faults are the sums over the rescuers that
+-- everything was run, with this wiring, and this many lanes and callers: there is a seat for each lane and then for each caller; what
+-- the lanes hand back is true; each caller answered; and the numbers of executions and faults are the sums over the rescuers that
 -- weren't refused
-pub record IsRan (items lanes callers : ℕ) (seats : List (List ℕ)) (runs : List (ℕ → ℕ)) (handed_back results : ℕ) (rescued : List (Result Rescued CallError)) (finished faults : ℕ) : Type 0 where
+pub record IsRan (w : Wiring) (lanes callers : ℕ) (seats : List (List ℕ)) (runs : List (ℕ → ℕ)) (handed_back results : ℕ) (rescued : List (Result Rescued CallError)) (finished faults : ℕ) : Type 0 where
   pub a_seat_each : length seats ≡ lanes + callers
-  pub served : AreServed items lanes (take lanes seats) runs rescued
+  pub served : AreServed w lanes (take lanes seats) runs rescued
   pub callers_back : handed_back ≡ callers
   pub a_result_each : results ≡ callers
   pub finished_is : finished ≡ sum_by finished_by rescued
   pub faults_is : faults ≡ sum_by faults_by rescued
+
+-- lanes that came back with the last one first: at place p of n is lane n - 1 - p
+abbrev pub AreLastFirst : ℕ → List ℕ → Type 0
+AreLastFirst n lanes = (p q : ℕ) → slice_get lanes p ≡ Some q → q + p + 1 ≡ n
 
 -- why not everything was run: there isn't a body for each lane; or there is, but a seat, memory or a thread is lacking
 abbrev pub RefusesRun : ℕ → ℕ → RunWhy → Type 0

@@ -2,10 +2,9 @@
 //!
 //! It takes time in the number of lanes and callers. It takes no memory, since room for all was made before any thread started.
 
-ghost use Rattle.std.specs.Prelude.{◌≡◌, ℕ, ◌+◌, ◌<◌, ◌≤◌, [], map, take, vec_len, vec_capacity};
+ghost use Rattle.std.specs.Prelude.{◌≡◌, ℕ, ◌+◌, ◌<◌, ◌≤◌, [], length, map, take, vec_len, vec_capacity, IsTrue};
 ghost use Rattle.std.specs.List.{sum_by};
-ghost use Rattle.wq_core.specs.Wiring.{items};
-ghost use Rattle.wq_rescuer.specs.Serving.{AreServed, HasRoomFor, IsRan, finished_by, faults_by};
+ghost use Rattle.wq_rescuer.specs.Serving.{AreLastFirst, AreServed, HasRoomFor, IsRan, finished_by, faults_by};
 ghost use Rattle.wq_rescuer.specs.declared.running.RunWhy.TheVariants.{NoThread};
 
 use crate::board::{Board, Jobs};
@@ -26,7 +25,7 @@ pub(crate) struct Back<N: Naming, A: Allocator, B: Body + Drop, C: Caller + Drop
     pub(crate) results: Vec<Result<(), CallError>, A>,
 }
 
-/// How many executions a rescuer finished: none where it was refused.
+/// How many executions a rescuer finished, counted as 0 where it was refused.
 fn count_finished(answer: &Result<Rescued, CallError>) -> u64
     ensures count { result ≡ finished_by answer.now }
     ensures few { result < 4294967296 }
@@ -37,7 +36,7 @@ fn count_finished(answer: &Result<Rescued, CallError>) -> u64
     }
 }
 
-/// How many of these executions ended with a fault.
+/// How many of these executions ended with a fault, counted as 0 where the rescuer was refused.
 fn count_faults(answer: &Result<Rescued, CallError>) -> u64
     ensures count { result ≡ faults_by answer.now }
     ensures few { result < 4294967296 }
@@ -58,7 +57,22 @@ struct Served<N: Naming, A: Allocator, B: Body + Drop> {
     faults: u64,
 }
 
-/// Takes back the lanes that were served, the last one first. The lists are empty and have room for them.
+/// Whether the lanes came back with the last one first. They do, since each is joined after those that were started after it; but what
+/// a thread hands back is known by its type alone.
+pub(crate) fn are_last_first<N: Naming, A: Allocator, B: Body + Drop>(
+    ends: &[LaneEnd<N, A, B>],
+) -> bool
+    ensures { IsTrue result → AreLastFirst (length ends.now) (map (λ end. end.lane) ends.now) }
+{
+    for (place, end) in ends.iter().enumerate() {
+        if usize::from(end.lane.get()) + place + 1 != ends.len() {
+            return false;
+        }
+    }
+    true
+}
+
+/// Takes back the lanes that were served, the first one, which is last in the list, first. The lists are empty and have room for them.
 fn gather_lanes<N: Naming, A: Allocator, B: Body + Drop>(
     mut ends: Vec<LaneEnd<N, A, B>, A>,
     mut seats: Vec<Seat<N, A>, A>,
@@ -66,13 +80,14 @@ fn gather_lanes<N: Naming, A: Allocator, B: Body + Drop>(
     mut rescued: Vec<Result<Rescued, CallError>, A>,
 ) -> Served<N, A, B>
     requires few { vec_len ends ≤ 256 }
+    requires in_order { AreLastFirst (vec_len ends) (map (λ end. end.lane) ends.items) }
     requires no_seats { seats.items ≡ [] }
     requires seat_room { vec_len ends ≤ vec_capacity seats }
     requires no_bodies { bodies.items ≡ [] }
     requires body_room { vec_len ends ≤ vec_capacity bodies }
     requires none_rescued { rescued.items ≡ [] }
     requires rescued_room { vec_len ends ≤ vec_capacity rescued }
-    ensures served { AreServed (items N.wiring) (vec_len ends) result.seats.items (map B.runs result.bodies.items) result.rescued.items }
+    ensures served { AreServed N.wiring (vec_len ends) result.seats.items (map B.runs result.bodies.items) result.rescued.items }
     ensures finished { result.finished ≡ sum_by finished_by result.rescued.items }
     ensures faults { result.faults ≡ sum_by faults_by result.rescued.items }
     ensures room { vec_capacity result.seats ≡ vec_capacity seats }
@@ -84,6 +99,7 @@ fn gather_lanes<N: Naming, A: Allocator, B: Body + Drop>(
             seat,
             body,
             rescued: answer,
+            ..
         } = end;
         finished += count_finished(&answer);
         faults += count_faults(&answer);
@@ -133,12 +149,13 @@ pub(crate) fn gather<N: Naming, A: Allocator, B: Body + Drop, C: Caller + Drop>(
     back: Back<N, A, B, C>,
 ) -> Ran<N, A, B, C>
     requires few { vec_len board.lanes.ends ≤ 256 }
+    requires in_order { AreLastFirst (vec_len board.lanes.ends) (map (λ end. end.lane) board.lanes.ends.items) }
     requires seats { HasRoomFor (vec_len board.lanes.ends + vec_len board.callers.ends) (vec_len back.seats) (vec_capacity back.seats) }
     requires bodies { HasRoomFor (vec_len board.lanes.ends) (vec_len back.bodies) (vec_capacity back.bodies) }
     requires callers { HasRoomFor (vec_len board.callers.ends) (vec_len back.callers) (vec_capacity back.callers) }
     requires rescued { HasRoomFor (vec_len board.lanes.ends) (vec_len back.rescued) (vec_capacity back.rescued) }
     requires results { HasRoomFor (vec_len board.callers.ends) (vec_len back.results) (vec_capacity back.results) }
-    ensures { IsRan (items N.wiring) (vec_len board.lanes.ends) (vec_len board.callers.ends) result.seats.items (map B.runs result.bodies.items) (vec_len result.callers) (vec_len result.results) result.rescued.items result.finished result.faults }
+    ensures { IsRan N.wiring (vec_len board.lanes.ends) (vec_len board.callers.ends) result.seats.items (map B.runs result.bodies.items) (vec_len result.callers) (vec_len result.results) result.rescued.items result.finished result.faults }
 {
     let Board {
         lanes,
@@ -170,7 +187,8 @@ pub(crate) fn gather<N: Naming, A: Allocator, B: Body + Drop, C: Caller + Drop>(
     }
 }
 
-/// Keeps a value in a list. There is room for it, which no proof says: without room it would be dropped.
+/// Keeps a value in a list. There is room for it, which no proof says: without room the list would grow, and if memory for that were
+/// lacking, the value would be dropped.
 fn keep<T: Drop, A: Allocator>(list: &mut Vec<T, A>, value: T) {
     let _kept = list.push(value);
 }

@@ -28,10 +28,11 @@ pub(crate) struct LaneJob<N: Naming, A: Allocator, B: Body + Drop> {
 /// A lane that was served.
 #[derive(Drop)]
 pub(crate) struct LaneEnd<N: Naming, A: Allocator, B: Body + Drop> {
+    pub(crate) lane: LaneId,
     pub(crate) seat: Seat<N, A>,
     pub(crate) body: B,
     pub(crate) rescued: Result<Rescued, CallError>,
-    ghost served: { IsServed (items N.wiring) seat (B.runs body) rescued },
+    ghost served: { IsServed N.wiring lane seat (B.runs body) rescued },
 }
 
 impl<N: Naming, A: Allocator, B: Body + Drop> LaneJob<N, A, B> {
@@ -53,6 +54,7 @@ impl<N: Naming, A: Allocator, B: Body + Drop> LaneJob<N, A, B> {
         } = self;
         let rescued = rescue(rt, runtime, lane, &mut seat, &mut body);
         LaneEnd {
+            lane,
             seat,
             body,
             rescued,

@@ -12,7 +12,7 @@ ghost use Rattle.wq_rescuer.specs.declared.running.RunWhy.TheVariants.{BodiesDif
 
 use crate::board::{add_callers, add_lanes};
 use crate::calling::Caller;
-use crate::gathering::{Back, gather, hand_back};
+use crate::gathering::{Back, are_last_first, gather, hand_back};
 use crate::space::{NoSpace, Space, reserve};
 use crate::threads::run_threads;
 use std::alloc::Allocator;
@@ -96,7 +96,8 @@ pub struct RunFault<N: Naming, A: Allocator, B: Body + Drop, C: Caller + Drop> {
 /// `WqRuntime::close` refuses from then on (72), and its body or its caller.
 ///
 /// Nobody serves a workqueue whose rescuer was refused or couldn't be started. If something is pending on it, the call waits
-/// forever. That can't be in a runtime that nobody else uses and on which nothing was pending before.
+/// forever. That can't be in a runtime that nobody else uses and on which nothing was pending before, if besides no caller and no body
+/// calls `next`, `wait_for` or `finish_work`.
 pub fn run_all<
     N: Naming + Send + Sync,
     A: Allocator + Copy + Send + Sync,
@@ -112,7 +113,7 @@ pub fn run_all<
 ) -> Result<Ran<N, A, B, C>, RunFault<N, A, B, C>>
     requires width { All (λ body. items N.wiring ≤ B.width body) bodies.items }
     requires never_ran { All (λ body. NeverRan (B.runs body)) bodies.items }
-    ensures ran { IfOk result (λ r. (vec_len bodies ≡ N.wiring.lanes) × IsRan (items N.wiring) N.wiring.lanes (vec_len callers) r.seats.items (map B.runs r.bodies.items) (vec_len r.callers) (vec_len r.results) r.rescued.items r.finished r.faults) }
+    ensures ran { IfOk result (λ r. (vec_len bodies ≡ N.wiring.lanes) × IsRan N.wiring N.wiring.lanes (vec_len callers) r.seats.items (map B.runs r.bodies.items) (vec_len r.callers) (vec_len r.results) r.rescued.items r.finished r.faults) }
     ensures refused { IfErr result (λ f. RefusesRun N.wiring.lanes (vec_len bodies) f.why) }
     ensures no_seats { IfErr result (λ f. f.why ≡ BodiesDiffer → f.seats.items ≡ []) }
     ensures made { IfErr result (λ f. IsNoSeat f.why → AreFirstSeats (items N.wiring) (vec_len bodies + vec_len callers) f.seats.items) }
@@ -145,7 +146,10 @@ pub fn run_all<
         rescued,
         results,
     };
-    if board.lanes.ends.len() != lanes || board.callers.ends.len() != count {
+    if board.lanes.ends.len() != lanes
+        || board.callers.ends.len() != count
+        || !are_last_first(&board.lanes.ends)
+    {
         return Err(hand_back(board, back));
     }
     Ok(gather(board, back))

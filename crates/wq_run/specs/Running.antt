@@ -39,7 +39,7 @@ pub record PrintsRun (s : Declared) (out : List ℕ) : Type 0 where
   pub rescued : List (Result Rescued CallError)
   pub finished : ℕ
   pub faults : ℕ
-  pub ran : IsRan (length s.table.names) assignment.lanes 2 seats runs 2 2 rescued finished faults
+  pub ran : IsRan (wiring (declared_waits s) assignment) assignment.lanes 2 seats runs 2 2 rescued finished faults
   pub book : BookView
   pub counts : List ℕ
   pub closed : IsClosed (wiring (declared_waits s) assignment) (rows_for s) seats book counts true

@@ -1,7 +1,7 @@
 //! The command `run`: a declaration is planned, and its plan is run by a rescuer thread for each workqueue.
 //!
-//! What the program relies on: where a plan was run, the bytes written are the tallies of the history that was closed, and these
-//! agree with what each rescuer and each caller counted. This crate is separate from the other commands, whose proofs know
+//! What the program relies on: where a plan was run, the bytes written are the tallies of the history that was closed, which agree
+//! with what all rescuers and callers together counted, and the faults that the rescuers counted. This crate is separate from the other commands, whose proofs know
 //! nothing of threads. The command is that of "`run`" in docs/FORMAT.md. It takes the time of planning, of the executions and of
 //! writing the answer.
 #![tactic(auto)]

@@ -24,8 +24,8 @@ use wq_commands::{End, MAX_DECLARATION, Metered, read_text};
 /// is no plan, it writes the text of the circle in which the groups wait, with a run that shows it; where the text is refused,
 /// the refusal.
 ///
-/// The plan has a rescuer thread for each workqueue, whose bodies make the declared flushes, and two callers, which queue all
-/// items once and then flush them. A plan of more than 256 workqueues is refused (69).
+/// The plan has a rescuer thread for each workqueue, whose bodies make the declared flushes, and two callers, one for the items with
+/// even numbers and one for the others. Each queues its items once and then flushes them. A plan of more than 256 workqueues is refused (69).
 ///
 /// At most 1,048,577 bytes are read, in at most as many calls. The errors are those of `plan_cmd`: a read failed, out of memory,
 /// or a write failed or took no byte; and `Thread`, where a thread couldn't be made, and `Tally`, where the runtime couldn't

@@ -26,8 +26,8 @@ use wq_report::report_text;
 use wq_rescuer::{Ran, run_all};
 use wq_script::{script_bodies, script_callers};
 
-/// Runs the crew of a plan on the workqueues of a runtime. Hands back all seats, and how many executions ended with a fault, of
-/// the rescuers that weren't refused.
+/// Runs the crew of a plan on the workqueues of a runtime. Hands back all seats, and how many executions ended with a fault, counted
+/// by the rescuers that weren't refused.
 fn run_crew<N: Naming + Send + Sync, A: Allocator + Copy + Send + Sync, R: Threads + Wait + Sync>(
     rt: &R,
     alloc: A,
@@ -36,7 +36,7 @@ fn run_crew<N: Naming + Send + Sync, A: Allocator + Copy + Send + Sync, R: Threa
 ) -> Result<(Vec<Seat<N, A>, A>, u64), RunStop>
     requires items { items N.wiring ≡ length table.now.names }
     ensures ran { IfOk result (λ crew. (runs : List (ℕ → ℕ)) × (rescued : List (Result Rescued CallError)) × (finished : ℕ)
-        × IsRan (length table.now.names) N.wiring.lanes 2 crew.0.items runs 2 2 rescued finished crew.1) }
+        × IsRan N.wiring N.wiring.lanes 2 crew.0.items runs 2 2 rescued finished crew.1) }
 {
     let bodies = script_bodies(alloc, table, runtime.lanes(rt))?;
     let Ok(callers) = script_callers(alloc, table.len()) else {
@@ -52,7 +52,8 @@ fn run_crew<N: Naming + Send + Sync, A: Allocator + Copy + Send + Sync, R: Threa
     }
 }
 
-/// Closes a runtime with all its seats. The counts of these agree with its history.
+/// Closes a runtime with all its seats, whose counts agree with its history. The error is `Tally`, where the runtime can't be closed or
+/// they don't agree; then all is dropped.
 fn close<N: Naming, A: Allocator>(
     runtime: WqRuntime<N, A>,
     seats: Vec<Seat<N, A>, A>,

@@ -1,9 +1,9 @@
 //! Who runs a plan: a scripted body for each workqueue, and two scripted callers that share the items.
 //!
 //! The bodies make the flushes that their items declare. A body or a caller takes time and memory in the number of items, and all
-//! bodies together in that times the number of workqueues: 4 bytes for each pair.
+//! bodies together in that times the number of workqueues: 4 bytes for each pair of an item and a workqueue.
 
-ghost use Rattle.std.specs.Prelude.{◌≡◌, length, vec_len, IfOk};
+ghost use Rattle.std.specs.Prelude.{◌≡◌, ◌<◌, length, vec_len, IfOk, OnErr};
 ghost use Rattle.std.specs.List.{All};
 ghost use Rattle.wq_rescuer.specs.Executing.{NeverRan};
 ghost use Rattle.wq_script.specs.Scripts.{runs_of};
@@ -16,7 +16,7 @@ use std::alloc::{AllocError, Allocator};
 use wq_items::{ItemId, ItemTable};
 
 /// Makes a body for each of this many workqueues, which makes the flushes that the items of the table declare. None has run
-/// anything. The only error is out of memory (20).
+/// anything. The only error is out of memory (20), and never where there is no workqueue.
 pub fn script_bodies<'t, 'a, A: Allocator + Copy>(
     alloc: A,
     table: &'t ItemTable<'a, A>,
@@ -26,6 +26,7 @@ pub fn script_bodies<'t, 'a, A: Allocator + Copy>(
     ensures width { IfOk result (λ bs. All (λ b. length b.runs ≡ length table.now.names) bs.items) }
     ensures never_ran { IfOk result (λ bs. All (λ b. NeverRan (runs_of b)) bs.items) }
     ensures one_each { IfOk result (λ bs. vec_len bs ≡ lanes) }
+    ensures memory { OnErr result (0 < lanes) }
 {
     let mut bodies = Vec::new(alloc);
     for _ in 0..lanes {

@@ -71,7 +71,7 @@ fn admit_on<N: Naming, A: Allocator>(
 ///
 /// The error is the first of these that holds: `NoItem` (66); `WrongLane` (64), where the item belongs to another workqueue;
 /// `HistoryFull` (60), where the seat is full; `Closed` (61); `HistoryFull` (60), where fewer rows are free than it needs: 1 where
-/// the item is pending, or else 3 and 2 for each flush that it declares. After an error nothing is changed or counted.
+/// the item is pending, else 3, and 2 more for each flush that it declares. After an error nothing is changed or counted.
 #[tactic(auto, using(crate::proofs::CallsRefused::queue_refused))]
 pub fn queue<N: Naming, A: Allocator>(
     held: &mut Held<N, A>,
@@ -114,8 +114,8 @@ pub fn cancel<N: Naming, A: Allocator>(
 
 /// Asks whether an item has an unfinished entry. Where it has, the caller waits for it.
 ///
-/// The error is `NoItem` (66), or else `HistoryFull` (60), where the seat is full, or fewer than 2 rows are free, or none where the
-/// item is idle. After an error nothing is changed or counted.
+/// The error is `NoItem` (66), or else `HistoryFull` (60), where the seat is full or fewer rows are free than it needs: 1 where the
+/// item is idle, else 2. After an error nothing is changed or counted.
 #[tactic(auto, using(crate::proofs::CallsRefused::cancel_refused))]
 pub fn ask<N: Naming, A: Allocator>(
     held: &mut Held<N, A>,

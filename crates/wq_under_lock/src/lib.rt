@@ -2,8 +2,9 @@
 //! a lane.
 //!
 //! What the layer above relies on: a runtime begins only with an assignment that is safe. Each call says which counts of its
-//! caller's seat it raises, and is refused for the causes that its caller can know before any that is under the lock. A call that
-//! is refused leaves all as it was. No call here waits: the layer above takes the lock, sleeps without it, and wakes who sleeps.
+//! caller's seat it raises. A cause that the caller can know is answered before any that depends on what the lock protects. A call
+//! that is refused leaves all as it was. No call here waits: the layer above takes the lock, sleeps without it, and wakes those who
+//! sleep.
 #![tactic(auto)]
 
 mod calls;

@@ -1,7 +1,7 @@
 //! What the lock of a new runtime protects.
 //!
-//! It takes time and memory in the number of items, for the counts; the time of the wait graph of the workqueues and of its ranks;
-//! and room for the rows, 12 bytes for each.
+//! It takes time and memory for the counts of the items, for the machine, and for the wait graph of the workqueues with its ranks; and
+//! 12 bytes for each row.
 
 ghost use Rattle.std.specs.Prelude.{◌≡◌, [], false, length, IfOk, OnOk, IfErr};
 ghost use Rattle.wq_groups.specs.Declaration.{declaration_of};
@@ -21,8 +21,8 @@ use wq_items::ItemTable;
 /// The most workqueues that a runtime has: 256.
 pub const MAX_LANES: u16 = 256;
 
-/// Makes what the lock of a runtime protects, for the runtime of a table, the groups of its items and a workqueue for each group,
-/// with room for `rows` rows. The blank ledger has 65,536 parts, and its name says what the runtime is made of.
+/// Makes what the lock of a runtime protects, for the runtime of a table, the groups of its items and an assignment, which gives each
+/// group a workqueue, with room for `rows` rows. The blank ledger has 65,536 parts, and its name says what the runtime is made of.
 ///
 /// The error is the first of these that holds: `TooManyLanes` (69), more than 256 workqueues; `TooManyRows` (68), more than
 /// 16,777,216; `NotSafe` (67), some run of the assignment ends stuck. Out of memory (20) may come in place of the last, or

@@ -12,11 +12,11 @@ ghost use Rattle.wq_commands.specs.Why.{SaysChecked};
 ghost use Rattle.wq_meter.specs.Meter.{WritesWhole};
 
 use crate::diagnosis::say_why;
-use crate::files::{MAX_CERTIFICATE, open};
+use crate::files::open;
 use std::alloc::Global;
 use std::io::{self, Read, Write};
 use std::rt::Files;
-use wq_commands::{End, Fault, MAX_DECLARATION, Metered, Why, check_texts, read_text, write_text};
+use wq_commands::{End, Fault, Metered, Why, check_texts, read_two, write_text};
 use wq_diagnosis::{Kind, Source};
 
 /// Checks the certificate in the file at the second path against the declaration in that at the first, and prints the answer.
@@ -70,8 +70,7 @@ fn check_input<D: Read + Drop, C: Read + Drop, W: Write>(
 {
     let mut declared = Metered::new(declaration);
     let mut certified = Metered::new(certificate);
-    let text = read_text(alloc, &mut declared, MAX_DECLARATION)?;
-    let claim = read_text(alloc, &mut certified, MAX_CERTIFICATE)?;
+    let (text, claim) = read_two(alloc, &mut declared, &mut certified)?;
     let answer = check_texts(alloc, seed, &text, &claim)?;
     write_text(writer, &answer.text)?;
     Ok((answer.end, answer.why, text, claim))

@@ -12,13 +12,11 @@ ghost use Rattle.wq_commands.specs.Why.{SaysAssigned};
 ghost use Rattle.wq_meter.specs.Meter.{WritesWhole};
 
 use crate::diagnosis::say_why;
-use crate::files::{MAX_CERTIFICATE, open};
+use crate::files::open;
 use std::alloc::Global;
 use std::io::{self, Read, Write};
 use std::rt::Files;
-use wq_commands::{
-    End, Fault, MAX_DECLARATION, Metered, Why, deadlock_texts, read_text, write_text,
-};
+use wq_commands::{End, Fault, Metered, Why, deadlock_texts, read_two, write_text};
 use wq_diagnosis::{Kind, Source};
 
 /// Prints the verdict on the assignment in the file at the second path, for the declaration in that at the first.
@@ -77,8 +75,7 @@ fn deadlock_input<D: Read + Drop, A: Read + Drop, W: Write>(
 {
     let mut declared = Metered::new(declaration);
     let mut assigned = Metered::new(assignment);
-    let text = read_text(alloc, &mut declared, MAX_DECLARATION)?;
-    let lanes = read_text(alloc, &mut assigned, MAX_CERTIFICATE)?;
+    let (text, lanes) = read_two(alloc, &mut declared, &mut assigned)?;
     let answer = deadlock_texts(alloc, seed, &text, &lanes)?;
     write_text(writer, &answer.text)?;
     Ok((answer.end, answer.why, text, lanes))

@@ -13,11 +13,13 @@ ghost use Rattle.wqplan.specs.Ended.{EndsDot};
 ghost use Rattle.wqplan.specs.Kept.{IsKept};
 
 use crate::diagnosis::{say_of_declaration, say_why};
-use crate::files::{MAX_CERTIFICATE, open};
+use crate::files::open;
 use std::alloc::Global;
 use std::io::{self, Read, Write};
 use std::rt::Files;
-use wq_commands::{Answered, End, Fault, MAX_DECLARATION, Metered, Why, read_text, write_text};
+use wq_commands::{
+    Answered, End, Fault, MAX_DECLARATION, Metered, Why, read_text, read_two, write_text,
+};
 use wq_diagnosis::{Kind, Source};
 use wq_dot::{dot_texts, own_dot_cmd};
 
@@ -105,8 +107,7 @@ fn dot_input<D: Read + Drop, A: Read + Drop, W: Write>(
 {
     let mut declared = Metered::new(declaration);
     let mut assigned = Metered::new(assignment);
-    let text = read_text(alloc, &mut declared, MAX_DECLARATION)?;
-    let lanes = read_text(alloc, &mut assigned, MAX_CERTIFICATE)?;
+    let (text, lanes) = read_two(alloc, &mut declared, &mut assigned)?;
     let answer = dot_texts(alloc, seed, &text, &lanes)?;
     write_text(writer, &answer.text)?;
     Ok((answer.end, answer.why, text, lanes))

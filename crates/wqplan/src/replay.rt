@@ -16,9 +16,7 @@ use crate::files::{MAX_CERTIFICATE, open};
 use std::alloc::Global;
 use std::io::{self, Read, Write};
 use std::rt::Files;
-use wq_commands::{
-    End, Fault, MAX_DECLARATION, Metered, Which, Why, read_text, replay_texts, write_text,
-};
+use wq_commands::{End, Fault, Metered, Which, Why, read_text, read_two, replay_texts, write_text};
 use wq_diagnosis::{Kind, Source};
 
 /// Answers for the declaration, the assignment and the run in the files at these paths.
@@ -109,9 +107,10 @@ fn replay_input<D: Read + Drop, A: Read + Drop, S: Read + Drop, W: Write>(
     let mut declared = Metered::new(declaration);
     let mut assigned = Metered::new(assignment);
     let mut listed = Metered::new(run);
+    let (text, lanes) = read_two(alloc, &mut declared, &mut assigned)?;
     let texts = Texts {
-        declaration: read_text(alloc, &mut declared, MAX_DECLARATION)?,
-        assignment: read_text(alloc, &mut assigned, MAX_CERTIFICATE)?,
+        declaration: text,
+        assignment: lanes,
         run: read_text(alloc, &mut listed, MAX_CERTIFICATE)?,
     };
     let answer = replay_texts(

@@ -10,8 +10,8 @@ use Rattle.wqplan.proofs.circles.circles_input.Goals as goal
 
 pub returns-clause-answered : goal.returns-clause-answered
 returns-clause-answered g c =
-    let came = c.in_ok-text.ensures.given in
-    let came_too = c.in_ok-lanes.ensures.given in
+    let came = c.in_ok-text.ensures.declared in
+    let came_too = c.in_ok-text.ensures.certified in
     let text = came.given.text in
     let lanes = came_too.given.text in
     let end = c.in_ok-answer.answer.end in
@@ -32,5 +32,5 @@ returns-clause-answered g c =
 pub returns-clause-why : goal.returns-clause-why
 returns-clause-why g c =
     let why = c.in_ok-answer.answer.why in
-    subst (λ t. SaysAssigned t c.in_ok-lanes.lanes.items why) c.deref.ensures.value
+    subst (λ t. SaysAssigned t c.in_ok-text.lanes.items why) c.deref.ensures.value
     (subst (λ t. SaysAssigned c.deref.result.now t why) c.deref-2.ensures.value c.in_ok-answer.ensures.why)

@@ -7,8 +7,8 @@ use Rattle.wq_held.specs.Locked.{HeldView}
 use Rattle.wq_held.proofs.Closings.{IsClosed-held}
 use Rattle.wq_held.proofs.held.Held.closed.Goals as goal
 
-pub returns : goal.returns
-returns g c =
+pub returns-clause-closed : goal.returns-clause-closed
+returns-clause-closed g c =
     let h = c.self.inside in
     IsClosed-held g.N.Naming.wiring g.N.Naming.rows g.N.Ledger.parts h.book h.tallies h.sums h.seats h.rest.parts h.rest.amount c.args.seats.items c.gather.new.sums c.is_same-agree.result
     c.self.invariant c.legal.ensures
