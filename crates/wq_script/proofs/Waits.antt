@@ -9,7 +9,11 @@ use Rattle.wq_counts.specs.declared.kind.Kind.{Kind}
 use Rattle.wq_counts.specs.declared.kind.Kind.TheVariants.{Wait}
 use Rattle.wq_counts.specs.Counting.{place, HasCountsOf, made, raised}
 use Rattle.wq_counts.proofs.Places.{place-same, made-raised_same, made-raised_other}
+use Rattle.std.specs.Prelude.{sum}
 use Rattle.wq_held.specs.declared.fault.CallError.{CallError}
+use Rattle.wq_held.specs.Errors.{call_code}
+use Rattle.wq_held.specs.Locked.{seat_rows}
+use Rattle.wq_under_lock.specs.Refusals.{RefusesWaitFor}
 use Rattle.wq_held.specs.declared.fault.CallError.TheVariants.{HistoryFull, Closed, Undeclared, TooManyWaits, WrongLane, NotAsked, NoItem}
 use Rattle.wq_api.specs.WaitingCalls.{RefusedWaitFor}
 use Rattle.wq_rescuer.specs.Executing.{SameFinished}
@@ -68,6 +72,17 @@ CountsWaits-refused w old new q t WrongLane has why = elim why [
 ]
 CountsWaits-refused w old new q t NotAsked has same = inl (unchanged old new same)
 CountsWaits-refused w old new q t NoItem has same = inl (unchanged old new same)
+
+-- the number of a refusal is 60 only where the seat is full
+pub full_at_60 : (w : Wiring) (old new : List ℕ) (q b : ℕ) (e : CallError) → RefusesWaitFor w old q e → RefusedWaitFor w old new q b e → call_code e ≡ 60
+    → seat_rows ≤ sum new
+full_at_60 w old new q b HistoryFull why same is = subst (λ (c : List ℕ). seat_rows ≤ sum c) (sym same) why.1
+full_at_60 w old new q b Closed why same is = absurd why
+full_at_60 w old new q b Undeclared why same is = absurd (omega (arith, is))
+full_at_60 w old new q b TooManyWaits why same is = absurd (omega (arith, is))
+full_at_60 w old new q b WrongLane why same is = absurd (omega (arith, is))
+full_at_60 w old new q b NotAsked why same is = absurd why
+full_at_60 w old new q b NoItem why same is = absurd why
 
 -- ---- targets in order
 

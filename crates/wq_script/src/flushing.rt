@@ -5,8 +5,9 @@
 //! run takes time in the number of its item's flushes. `new` takes time and memory in the number of items, 4 bytes for each. How
 //! often an item ran is answered in constant time.
 
-ghost use Rattle.std.specs.Prelude.{◌≡◌, ◌<◌, length, IfOk, IfErr, OnOk, OnErr};
+ghost use Rattle.std.specs.Prelude.{◌≡◌, ◌<◌, ◌≤◌, length, sum, IfOk, IfErr, OnOk, OnErr};
 ghost use Rattle.wq_items.specs.Table.{targets_of};
+ghost use Rattle.wq_held.specs.Locked.{seat_rows};
 ghost use Rattle.wq_rescuer.specs.Executing.{NeverRan, RanOnce, SameFinished};
 ghost use Rattle.wq_script.specs.Scripts.{runs_of, CountsWaits, CountsFirstWaits, IsFlushCode};
 
@@ -61,6 +62,7 @@ fn flush_each<N: Naming, S: Allocator, R: Wait>(
     ensures flushed { OnOk result (CountsWaits work.old.seat.now work.new.seat.now targets.now) }
     ensures cut_off { OnErr result (CountsFirstWaits work.old.seat.now work.new.seat.now targets.now) }
     ensures code { IfErr result (λ f. IsFlushCode f.code) }
+    ensures full { IfErr result (λ f. f.code ≡ 60 → seat_rows ≤ sum work.new.seat.now) }
     ensures finished { SameFinished work.old.seat.now work.new.seat.now }
     ensures same_seat { work.new.seat.ghost_name ≡ work.old.seat.ghost_name }
 {
@@ -99,6 +101,7 @@ impl<'t, 'a, A: Allocator + Copy> Body for ScriptBody<'t, 'a, A> {
         ensures flushed { OnOk result (CountsWaits work.old.seat.now work.new.seat.now (targets_of self.old.waits item)) }
         ensures cut_off { OnErr result (CountsFirstWaits work.old.seat.now work.new.seat.now (targets_of self.old.waits item)) }
         ensures code { IfErr result (λ f. IsFlushCode f.code) }
+        ensures full { IfErr result (λ f. f.code ≡ 60 → seat_rows ≤ sum work.new.seat.now) }
     {
         self.counts[usize::from(item.get())] += 1;
         let table = self.table;
