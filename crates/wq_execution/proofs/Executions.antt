@@ -1,6 +1,6 @@
 -- Finished executions: what a seat counts of them, item by item and in all.
 use Rattle.std.proofs.Common.{◌≡◌, ◌≢◌, ℕ, zero, suc, ◌+◌, ◌*◌, ◌<◌, ◌≤◌, inl, inr, Bool, true, List, drop, refl, sym, ap, subst, arith}
-use Rattle.std.specs.Prelude.{sum, false, IsTrue, ◌↔◌}
+use Rattle.std.specs.Prelude.{Option, Some, None, IfSome, sum, false, IsTrue, ◌↔◌}
 use Rattle.std.specs.List.{sum_by, range_with_len}
 use Rattle.std.proofs.lemmas.Bool.{cases_lt, cases_eq}
 use Rattle.std.proofs.lemmas.List.Sums.{sum_by-cons, sum_by-drop_more, sum_by-take-drop, get_or-le-sum_by}
@@ -101,6 +101,11 @@ serving_more items before counts after width wider runs now finished faults more
   in_all = omega (arith, finished_in_all-raised items after i has lt, finished_in_all-same items counts after same, serving.in_all);
   faults_within = omega (arith, serving.faults_within, few);
 })
+
+-- what is started is on the lane
+pub on_lane_of_next : (w : Wiring) (q i : ℕ) (next : Option ℕ) → IfSome next (λ item. IsOnLane w q item) → next ≡ Some i → IsOnLane w q i
+on_lane_of_next w q i None known is = absurd cc
+on_lane_of_next w q i (Some x) known is = let same : x ≡ i = cc in subst (λ k. IsOnLane w q k) same known
 
 -- nothing ran yet
 pub nothing_else : (w : Wiring) (q : ℕ) (runs : ℕ → ℕ) → NeverRan runs → RanOnly w q runs
