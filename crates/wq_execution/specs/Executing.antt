@@ -1,11 +1,12 @@
 -- Executing: what bodies run, what the seats of their rescuers count, and why they are refused.
-use Rattle.std.specs.Prelude.{⊤, ◌≡◌, ◌≢◌, ℕ, ◌+◌, ◌<◌, ◌≤◌, List, true, sum}
+use Rattle.std.specs.Prelude.{◌≡◌, ◌≢◌, ℕ, ◌+◌, ◌<◌, ◌≤◌, List, true, sum}
 use Rattle.std.specs.List.{sum_by, range_with_len}
 use Rattle.wq_core.specs.Wiring.{Wiring, items}
 use Rattle.wq_counts.specs.declared.kind.Kind.TheVariants.{Finish}
 use Rattle.wq_counts.specs.Counting.{made}
 use Rattle.wq_held.specs.declared.fault.CallError.{CallError}
 use Rattle.wq_held.specs.declared.fault.CallError.TheVariants.{HistoryFull, Closed, Undeclared, TooManyWaits, WrongLane, NotAsked, NoItem}
+use Rattle.wq_held.specs.Errors.{call_code}
 use Rattle.wq_held.specs.Locked.{IsOnLane, HasRoom, seat_rows}
 
 -- ---- what a body runs: how often each item ran
@@ -57,13 +58,7 @@ RefusesQueueByBody w counts i TooManyWaits = ⊥
 RefusesQueueByBody w counts i WrongLane = ⊥
 RefusesQueueByBody w counts i NotAsked = ⊥
 
--- a rescuer of lane q, whose seat has these counts when it ends: there is no such lane; the seat is full; or another caller drove the
--- same lane
+-- a rescuer of lane q, whose seat has these counts when it ends: 64, where there is no such lane or another caller drove it; or else
+-- 60, where there is such a lane and the seat is full
 abbrev pub RefusesRescue : Wiring → ℕ → List ℕ → CallError → Type 0
-RefusesRescue w q seat HistoryFull = (q < w.lanes) × (seat_rows ≤ sum seat)
-RefusesRescue w q seat WrongLane = ⊤
-RefusesRescue w q seat NoItem = ⊥
-RefusesRescue w q seat Closed = ⊥
-RefusesRescue w q seat Undeclared = ⊥
-RefusesRescue w q seat TooManyWaits = ⊥
-RefusesRescue w q seat NotAsked = ⊥
+RefusesRescue w q seat e = call_code e ≢ 64 → (call_code e ≡ 60) × (q < w.lanes) × (seat_rows ≤ sum seat)
