@@ -12,7 +12,7 @@ loop-end-preserved g c =
     let answer = c.push_reserved-in-Some-2.ensures in
     let left = c.pop.ensures.len in
     let order = last_first_popped (vec_len c.args.ends) (map (λ end. end.lane) c.loop-end.ends.items) (map (λ end. end.lane) c.pop.new.self.items) c.in-Some.end.lane old.11
-        (ap (map (λ end. end.lane)) c.in-Some.ensures.items ∙ map-append (λ end. end.lane) c.pop.new.self.items (c.in-Some.end ∷ [])) in (
+    (ap (map (λ end. end.lane)) c.in-Some.ensures.items ∙ map-append (λ end. end.lane) c.pop.new.self.items (c.in-Some.end ∷ [])) in (
       omega (arith, old.0, seat.len, c.in-Some.ensures.cases),
       omega (arith, old.1, body.len, c.in-Some.ensures.cases),
       omega (arith, old.2, answer.len, c.in-Some.ensures.cases),
