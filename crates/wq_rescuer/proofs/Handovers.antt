@@ -102,6 +102,11 @@ pub last_first_all : {X : Type 0} (lane : X → ℕ) (ends : List X) (k n : ℕ)
     → ((p m : ℕ) → p < k → slice_get (map lane ends) p ≡ Some m → m + p + 1 ≡ n) → length ends ≤ k → AreLastFirst n (map lane ends)
 last_first_all lane ends k n before all = λ p m at. before p m (omega (arith, all, slice_get_within (map lane ends) p m at, length-map ends lane)) at
 
+-- the same of a list that is seen elsewhere
+pub last_first_seen : {X : Type 0} (lane : X → ℕ) (seen ends : List X) (n : ℕ) → seen ≡ ends → n ≡ length ends → AreLastFirst (length seen) (map lane seen)
+    → AreLastFirst n (map lane ends)
+last_first_seen lane seen ends n same long ordered = λ p q at. omega (arith, long, ap length same, ordered p q (subst (λ xs. slice_get (map lane xs) p ≡ Some q) (sym same) at))
+
 -- what is at a place stays there where one more value comes
 kept_place : {X : Type 0} (xs : List X) (x : X) (p : ℕ) (y : X) → slice_get xs p ≡ Some y → slice_get (xs ++ (x ∷ [])) p ≡ Some y
 kept_place [] x p y is = absurd cc
