@@ -10,9 +10,9 @@ use Rattle.wqplan.proofs.replay.replay_input.Goals as goal
 
 pub returns-clause-answered : goal.returns-clause-answered
 returns-clause-answered g c =
-    let came = c.in_ok-read_text.ensures.given in
-    let came_lanes = c.in_ok-read_text-2.ensures.given in
-    let came_steps = c.in_ok-read_text-3.ensures.given in
+    let came = c.in_ok-text.ensures.declared in
+    let came_lanes = c.in_ok-text.ensures.certified in
+    let came_steps = c.in_ok-read_text.ensures.given in
     let text = came.given.text in
     let lanes = came_lanes.given.text in
     let steps = came_steps.given.text in
