@@ -1,0 +1,9 @@
+-- A block may be freed in another thread if the inner allocator may free it there.
+use mir.Syntax.{Dict}
+use denote.RattleType.{RattleType}
+use denote.Param.Send.{Frees}
+use Rattle.std.specs.declared.alloc.Allocator.{Ghosts}
+use Rattle.test_cases.specs.contracts.refusing_heap.RefusingHeapAllocator.TheImpl.{ghosts}
+
+pub frees : (B : RattleType) (g : Ghosts B.Denot) (d e : Dict) → Frees g g.dealloc_token → Frees (ghosts B g d e) (ghosts B g d e).dealloc_token
+frees B g d e f = record { frees = λ heap. f.frees heap.inner }

@@ -1,0 +1,29 @@
+//! `test_cases`: what several tests share. Cases of all commands, readers and writers that misbehave, and a heap that refuses
+//! requests for memory. It is a library of the tests.
+//!
+//! Each answer was worked out by hand from docs/FORMAT.md, but for those of the largest declaration in examples/, whose answers
+//! are the texts of the commands after it. There are many more cases in tests/rows, for the program. What a case does is tested;
+//! that the heap is an allocator is proved.
+#![tactic(auto)]
+
+mod checks;
+mod circles;
+mod command;
+mod deadlocks;
+mod declarations;
+mod diagnoses;
+mod drawings;
+mod fakes;
+mod largest;
+mod plans;
+mod refusing_heap;
+mod replays;
+mod runs;
+
+pub use command::{Case, Command, Readers, SEED, cases, perform};
+pub use declarations::TWO;
+pub use diagnoses::{Said, Saying, say, sayings};
+pub use fakes::{Endless, Fake};
+pub use largest::{LARGEST, LARGEST_LANES, LARGEST_ON_ONE};
+pub use refusing_heap::{Refusing, RefusingHeap};
+pub use runs::{RunCase, run_cases};

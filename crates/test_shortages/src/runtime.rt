@@ -1,0 +1,138 @@
+//! A runtime whose requests for memory are refused, and those of its seats and of `run_all`.
+//!
+//! What a part is tried with has the heap that refuses requests; all else is of one that refuses none. It takes the time of all
+//! runs.
+
+ghost use Rattle.std.specs.Prelude.{◌≡◌, length};
+ghost use Rattle.wq_groups.specs.Declaration.{declaration_of};
+ghost use Rattle.wq_core.specs.Wiring.{wiring};
+
+use crate::calls::sit;
+use crate::crew::serve;
+use crate::trial::{Outcome, put_trial};
+use std::alloc::{Allocator, Global};
+use std::io;
+use std::marker::Brand;
+use std::sync::Wait;
+use std::sync::ledger::Blank;
+use std::thread::Threads;
+use test_cases::{RefusingHeap, SEED, TWO};
+use wq_api::{Naming, NewError, WqRuntime};
+use wq_commands::{Declaration, read_declaration};
+use wq_groups::Assignment;
+use wq_plan::{Answer, solve};
+
+/// Room for the history.
+const ROWS: u32 = 100;
+
+/// What takes its memory of the heap that refuses requests.
+#[derive(Clone, Copy)]
+enum Part {
+    /// A runtime, and a seat with which calls are made in one thread.
+    Calls,
+    /// `run_all`, which has rescuers and callers run in threads.
+    Crew,
+}
+
+/// Makes the runtime of this name, and tries a part of it.
+fn run<N: Naming + Send + Sync, R: Threads + Wait + Sync, A: Allocator + Copy + Send + Sync>(
+    rt: &R,
+    part: Part,
+    ample: A,
+    heap: A,
+    blank: Blank,
+    declared: &Declaration<'_, A>,
+    plan: &Assignment<A>,
+) -> Outcome
+    requires name { blank.name ≡ N.name }
+    requires parts { blank.parts ≡ N.parts }
+    requires all_parts { N.parts ≡ 65536 }
+    requires grouped { length declared.now.groups.group_of ≡ length declared.now.table.names }
+    requires assigned { length plan.now.lane_of_group ≡ declared.now.groups.groups }
+    requires of_wiring { N.wiring ≡ wiring (declaration_of declared.now.table declared.now.groups) plan.now }
+    requires of_rows { N.rows ≡ ROWS }
+{
+    let Declaration { table, groups } = declared;
+    let alloc = match part {
+        Part::Calls => heap,
+        Part::Crew => ample,
+    };
+    let made = WqRuntime::<N, A>::new(alloc, blank, table, groups, plan, ROWS);
+    match (part, made) {
+        (Part::Calls, Ok(runtime)) => sit(rt, ample, heap, runtime),
+        (Part::Crew, Ok(runtime)) => serve(rt, ample, heap, runtime, table),
+        (Part::Calls, Err(NewError::OutOfMemory)) => Outcome::Refused,
+        (_, Err(_)) => Outcome::Wrong,
+    }
+}
+
+/// Makes a runtime that is named here, and tries a part of it.
+fn play<R: Threads + Wait + Sync, A: Allocator + Copy + Send + Sync>(
+    rt: &R,
+    part: Part,
+    ample: A,
+    heap: A,
+    declared: &Declaration<'_, A>,
+    plan: &Assignment<A>,
+) -> Outcome
+    requires grouped { length declared.now.groups.group_of ≡ length declared.now.table.names }
+    requires assigned { length plan.now.lane_of_group ≡ declared.now.groups.groups }
+{
+    run::<Brand, R, A>(rt, part, ample, heap, Blank::new(65_536), declared, plan)
+}
+
+/// Makes a runtime of a declaration and its plan, and tries a part of it.
+fn play_declared<R: Threads + Wait + Sync, A: Allocator + Copy + Send + Sync>(
+    rt: &R,
+    part: Part,
+    ample: A,
+    heap: A,
+    declared: &Declaration<'_, A>,
+) -> Outcome
+    requires { length declared.now.groups.group_of ≡ length declared.now.table.names }
+{
+    match solve(ample, &declared.table, &declared.groups) {
+        Ok(Answer::Plan { assignment, .. }) => {
+            play(rt, part, ample, heap, declared, &assignment)
+        }
+        Ok(Answer::Circle { .. }) | Err(_) => Outcome::Wrong,
+    }
+}
+
+/// How a part ends with this heap.
+fn outcome<R: Threads + Wait + Sync>(
+    rt: &R,
+    alloc: Global,
+    heap: &RefusingHeap<Global>,
+    part: Part,
+) -> Outcome {
+    let ample = RefusingHeap::ample(alloc);
+    match read_declaration(&ample, SEED, TWO.as_bytes()) {
+        Ok(declared) => play_declared(rt, part, &ample, heap, &declared),
+        Err(_) => Outcome::Wrong,
+    }
+}
+
+/// Tries a part. Gives whether all runs ended as they should.
+fn put_part<R: Print + AllocGlobal + Threads + Wait + Sync>(
+    rt: &R,
+    name: &str,
+    part: Part,
+) -> io::Result<bool> {
+    let alloc = rt.alloc();
+    put_trial(
+        rt,
+        "a runtime",
+        name,
+        &|heap: &RefusingHeap<Global>| { outcome(rt, alloc, heap, part) },
+    )
+}
+
+/// Tries each part. Gives whether all runs ended as they should.
+pub(crate) fn put_runtime<R: Print + AllocGlobal + Threads + Wait + Sync>(
+    rt: &R,
+) -> io::Result<bool> {
+    let calls = put_part(rt, "a seat and its calls", Part::Calls)?;
+    let crew = put_part(rt, "its rescuers and callers", Part::Crew)?;
+    Ok(calls && crew)
+}

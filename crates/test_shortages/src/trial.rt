@@ -1,0 +1,102 @@
+//! What is run with each of its requests for memory refused in turn, and the line that is printed of it.
+//!
+//! Each request is refused twice: alone, and with all after it. It takes the time of all runs.
+
+use std::alloc::Global;
+use std::io;
+use test_cases::{Refusing, RefusingHeap};
+
+/// How a run ends.
+#[derive(Clone, Copy, PartialEq, Eq)]
+pub(crate) enum Outcome {
+    /// As it does with enough memory. Where requests were refused, it got along without them.
+    Answered,
+    /// With out of memory, and all is as it was before.
+    Refused,
+    /// In another way.
+    Wrong,
+}
+
+/// How the runs ended in which a request was refused.
+#[derive(Clone, Copy)]
+struct Tally {
+    refused: u64,
+    answered: u64,
+}
+
+/// More requests than any run has.
+const MOST: u64 = 1_000_000;
+
+/// Runs something with the first request refused, with the second, and so on, until none is. The error is the number of the request
+/// with which it ends as it should not.
+fn refuse_each<F: Fn(&RefusingHeap<Global>) -> Outcome>(
+    alloc: Global,
+    refusing: Refusing,
+    run: &F,
+) -> Result<Tally, u64>
+    requires { F.IsAlwaysCallable run.now }
+{
+    let mut tally = Tally {
+        refused: 0,
+        answered: 0,
+    };
+    for nth in 1..=MOST {
+        let heap = RefusingHeap::new(alloc, refusing, nth);
+        let outcome = run(&heap);
+        match (heap.has_refused(), outcome) {
+            (true, Outcome::Refused) => tally.refused = tally.refused.saturating_add(1),
+            (true, Outcome::Answered) => tally.answered = tally.answered.saturating_add(1),
+            (false, Outcome::Answered) => return Ok(tally),
+            _ => return Err(nth),
+        }
+    }
+    Err(MOST)
+}
+
+/// Prints a line: how many requests for memory there are; how many of the runs in which one of them was refused ended with out of
+/// memory, and how many answered; and the same of the runs in which all after it were refused, too. Or it prints the request with
+/// which a run ended as it should not. Gives whether all runs ended as they should.
+fn put_tallies<R: Print>(
+    rt: &R,
+    what: &str,
+    name: &str,
+    one: Result<Tally, u64>,
+    all: Result<Tally, u64>,
+) -> io::Result<bool> {
+    match (one, all) {
+        (Ok(Tally { refused, answered }), Ok(all)) => {
+            let requests = refused.saturating_add(answered);
+            print!(rt;
+                "{what}, {name}: requests {requests} refused {refused} answered {answered}"
+            )?;
+            println!(rt;
+                "; from there on refused {} answered {}",
+                all.refused, all.answered
+            )?;
+            Ok(true)
+        }
+        (Err(nth), _) => {
+            println!(rt; "{what}, {name}: WRONG where request {nth} is refused")?;
+            Ok(false)
+        }
+        (Ok(_), Err(nth)) => {
+            println!(rt; "{what}, {name}: WRONG where all from request {nth} on are refused")?;
+            Ok(false)
+        }
+    }
+}
+
+/// Runs something with each of its requests for memory refused in turn, alone and with all after it, and prints a line. What it
+/// takes of another heap isn't refused. Gives whether all runs ended as they should.
+pub(crate) fn put_trial<R: Print + AllocGlobal, F: Fn(&RefusingHeap<Global>) -> Outcome>(
+    rt: &R,
+    what: &str,
+    name: &str,
+    run: &F,
+) -> io::Result<bool>
+    requires { F.IsAlwaysCallable run.now }
+{
+    let one = refuse_each(rt.alloc(), Refusing::One, run);
+    let all = refuse_each(rt.alloc(), Refusing::AllFrom, run);
+    put_tallies(rt, what, name, one, all)
+}

@@ -1,9 +1,0 @@
--- A block may be freed in another thread if the inner allocator may free it there.
-use mir.Syntax.{Dict}
-use denote.RattleType.{RattleType}
-use denote.Param.Send.{Frees}
-use Rattle.std.specs.declared.alloc.Allocator.{Ghosts}
-use Rattle.wq_refusing.specs.contracts.heap.RefusingHeapAllocator.TheImpl.{ghosts}
-
-pub frees : (B : RattleType) (g : Ghosts B.Denot) (d e : Dict) → Frees g g.dealloc_token → Frees (ghosts B g d e) (ghosts B g d e).dealloc_token
-frees B g d e f = record { frees = λ heap. f.frees heap.inner }
