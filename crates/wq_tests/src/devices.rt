@@ -6,7 +6,7 @@ use std::alloc::{AllocError, Global};
 use std::io::ErrorKind;
 use std::process::Abort;
 use std::test::Fail;
-use wq_cases::{Case, Command, Endless, Fake, Readers, SEED, cases, perform};
+use test_cases::{Case, Command, Endless, Fake, Readers, SEED, cases, perform};
 use wq_commands::{End, Fault, Metered, plan_cmd, read_text, write_text};
 use wq_explain::{Explained, explain_cmd};
 

@@ -6,7 +6,7 @@ use linked_list_allocator::LocalHeap;
 use std::alloc::{AllocError, Global};
 use std::process::Abort;
 use std::test::Fail;
-use wq_cases::{Case, Readers, cases, perform};
+use test_cases::{Case, Readers, cases, perform};
 use wq_commands::{End, Fault, Metered};
 
 /// How a run with a heap of this many bytes ends, what it writes, and how many bytes of the heap it leaves in use.

@@ -10,9 +10,9 @@ use crate::machine::{CROSSED, CROSSED_LANES, assert_stuck, core_in};
 use std::alloc::{AllocError, Allocator, Global};
 use std::process::Abort;
 use std::test::Fail;
+use test_cases::{Refusing, RefusingHeap};
 use wq_history::{Asked, Book, BookError, Told};
 use wq_items::ItemId;
-use wq_refusing::{Refusing, RefusingHeap};
 
 /// More requests than a machine or a book has.
 const MOST: u64 = 1000;
