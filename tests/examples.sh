@@ -259,11 +259,11 @@ run plan xfs.rescuers.wq
 begins 'xfs: plan, without xfs-sync and xfsdiscard' 0 'plan 4'
 
 # The tests of want of memory have the largest declaration and its workqueues, byte for byte.
-cases=$(<"$examples/../crates/wq_cases/src/largest.rt")
+cases=$(<"$examples/../crates/test_cases/src/largest.rt")
 largest=$(basename -- "$(ls -S -- "$examples"/*.wq | head -n 1)" .wq)
 for file in "$largest.wq" "$largest.assign"; do
     [[ $cases == *"$(<"$examples/$file")"* ]] && found=yes || found=no
-    is "$file in wq_cases" yes "$found"
+    is "$file in test_cases" yes "$found"
 done
 
 echo "examples: $passed passed, $failed failed"

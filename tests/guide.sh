@@ -1,29 +1,30 @@
 #!/usr/bin/env bash
 # Runs every command in the fenced blocks of README.md, of docs/GUIDE.md and of the pages in examples/, and compares what it
-# shows with what stands below it on the page; looks for each excerpt of code on the page in crates/wq_rdisk and crates/wq_guide;
+# shows with what stands below it on the page; looks for each excerpt of code on the page in crates/example_rdisk;
 # compares the files that docs/GUIDE.md shows with those in examples/rdisk; and gives the `grep` lines of docs/GUIDE.md each
-# name that the page says they find. Run it once the gate or `rt run` has built the program and the guide's program, crates/wq_guide.
+# name that the page says they find. Run it once the gate or `rt run` has built the program and the guide's program,
+# crates/example_rdisk.
 # The arguments, if there are any, name others in their place.
 #
 # A fenced block of a page is one of these:
 # - a file: its first line is a comment that holds its name alone, as `# NAME` or `/* NAME */`. It is written as it stands.
 #   One of docs/GUIDE.md stands in examples/rdisk as well, just so;
-# - commands: its first line begins with `$ `. Each line that does is a command for bash, with `wqplan` and `wq_guide` on its
+# - commands: its first line begins with `$ `. Each line that does is a command for bash, with `wqplan` and `example_rdisk` on its
 #   path and nothing to read, and the lines below it are what it writes to both streams. `$?` is the status of the command
 #   before it;
-# - an excerpt: the word behind the backticks is `rust` or `antt`. Its lines stand in a file of the guide's driver
-#   (crates/wq_rdisk) or of its program (crates/wq_guide), in src/ or proofs/, one below the other and just so;
+# - an excerpt: the word behind the backticks is `rust` or `antt`. Its lines stand in a file of the guide's program
+#   (crates/example_rdisk), in src/ or proofs/, one below the other and just so;
 # - something to read, which is skipped: the word behind the backticks is `c` or `text`.
 # A page is played in a folder of its own, from top to bottom. Those in examples/ find the files of examples/ there, and README.md
 # finds the folder.
 set -u
 program=$(realpath -m -- "${1:-$(dirname "$0")/../crates/wqplan/out/wqplan}")
-driver=$(realpath -m -- "${2:-$(dirname "$0")/../crates/wq_guide/out/wq_guide}")
+driver=$(realpath -m -- "${2:-$(dirname "$0")/../crates/example_rdisk/out/example_rdisk}")
 cd -- "$(dirname "$0")/.." || exit 1
 root=$PWD
 for built in "$program" "$driver"; do
     if [ ! -x "$built" ]; then
-        echo "guide: there is nothing to run at $built (rt run builds it, in crates/wqplan and in crates/wq_guide)"
+        echo "guide: there is nothing to run at $built (rt run builds it, in crates/wqplan and in crates/example_rdisk)"
         exit 1
     fi
 done
@@ -32,7 +33,7 @@ work=$(mktemp -d)
 trap 'rm -rf -- "$work"' EXIT
 mkdir "$work/bin"
 ln -s -- "$program" "$work/bin/wqplan"
-ln -s -- "$driver" "$work/bin/wq_guide"
+ln -s -- "$driver" "$work/bin/example_rdisk"
 export PATH="$work/bin:$PATH"
 passed=0
 failed=0
@@ -71,19 +72,19 @@ commands() {
     play "$command" "$wanted"
 }
 
-# excerpt AT KIND LINE..: counts whether these lines stand in a file of the guide's driver or program whose name ends in KIND.
+# excerpt AT KIND LINE..: counts whether these lines stand in a file of the guide's program whose name ends in KIND.
 excerpt() {
     local at=$1 kind=$2 file wanted
     shift 2
     wanted=$(printf '%s\n' "$@")
-    for file in $(find "$root"/crates/wq_{rdisk,guide}/{src,proofs} -name "*.$kind" | sort); do
+    for file in $(find "$root"/crates/example_rdisk/{src,proofs} -name "*.$kind" | sort); do
         if [[ $'\n'$(<"$file")$'\n' == *$'\n'"$wanted"$'\n'* ]]; then
             passed=$((passed + 1))
             echo "ok      $page: the excerpt at line $at stands in ${file#"$root/"}"
             return
         fi
     done
-    fail "$page: the excerpt at line $at stands in no .$kind file of crates/wq_rdisk or crates/wq_guide"
+    fail "$page: the excerpt at line $at stands in no .$kind file of crates/example_rdisk"
 }
 
 # kept NAME: counts whether the file that the page shows stands in examples/rdisk, just so.
