@@ -7,6 +7,7 @@ belongs to a declaration is what PROGRAM answers to it.
 import os
 import random
 import resource
+import signal
 import subprocess
 
 import collisions
@@ -21,8 +22,9 @@ HALF = ITEMS // 2
 LAST = ITEMS - 1
 # Lines that hold no word, of as few bytes as can be.
 WORDLESS = {"empty lines": "\n", "comments": "#\n", "lines of a space": " \n"}
-# A run that takes longer than this many seconds of processor time is ended.
+# A run that takes longer than this many seconds of processor time is ended, and one that waits this long.
 LIMIT = 60
+LONGEST_WAIT = 600
 # Where GNU time is.
 TIME = "/usr/bin/time"
 
@@ -236,7 +238,7 @@ class Program:
         self.path = path
 
     def answer(self, command, folder, *words):
-        run = subprocess.run([self.path, command, *words], capture_output=True, cwd=folder)
+        run = subprocess.run([self.path, command, *words], capture_output=True, cwd=folder, timeout=LONGEST_WAIT)
         return run.stdout.decode("ascii")
 
 
@@ -302,7 +304,8 @@ def peak(program, folder, command, names):
         return None
     said = os.path.join(folder, "time")
     words = [TIME, "-q", "-f", "%M", "-o", said, program, command, *names]
-    subprocess.run(words, cwd=folder, stdin=subprocess.DEVNULL, stdout=subprocess.DEVNULL, stderr=subprocess.DEVNULL)
+    subprocess.run(words, cwd=folder, stdin=subprocess.DEVNULL, stdout=subprocess.DEVNULL, stderr=subprocess.DEVNULL,
+                   timeout=LONGEST_WAIT)
     with open(said) as file:
         return int(file.read()) / 1024
 
@@ -320,6 +323,7 @@ def run(program, folder, command, names):
         os.dup2(to, 1)
         os.dup2(os.open(os.devnull, os.O_WRONLY), 2)
         resource.setrlimit(resource.RLIMIT_CPU, (LIMIT, LIMIT))
+        signal.alarm(LONGEST_WAIT)
         os.execv(program, [program, command, *names])
     _, ended, usage = os.wait4(child, 0)
     status = os.waitstatus_to_exitcode(ended)

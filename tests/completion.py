@@ -11,9 +11,10 @@ import pathlib
 import pty
 import re
 import select
-import subprocess
 import sys
 import tempfile
+
+import time_limit  # beside this file
 
 ROOT = pathlib.Path(__file__).resolve().parent.parent
 FORMAT = (ROOT / "docs/FORMAT.md").read_text()
@@ -159,7 +160,7 @@ bind -x '"\\C-xp": printf %s "$READLINE_LINE" >../line; echo D""ONE'; echo D""ON
 def offered(line, folder):
     """What the function offers for this line, or what bash says against it."""
     call = ["bash", "-c", CALL, "bash", COMPLETION, line, *WORD.findall(line)]
-    ran = subprocess.run(call, cwd=folder, capture_output=True, text=True)
+    ran = time_limit.run(call, cwd=folder, capture_output=True, text=True)
     return sorted(ran.stdout.splitlines()) if ran.returncode == 0 and not ran.stderr else ran.stderr
 
 

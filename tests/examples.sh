@@ -9,6 +9,7 @@
 set -u
 program=$(realpath -m -- "${1:-$(dirname "$0")/../crates/wqplan/out/wqplan}")
 examples=$(realpath -- "$(dirname "$0")/../examples")
+. "$(dirname "$0")/time_limit.bash"
 if [ ! -x "$program" ]; then
     echo "examples: there is nothing to run at $program (cd crates/wqplan && rt run builds it)"
     exit 1
@@ -25,7 +26,7 @@ status=0
 
 # run ARGS..: runs the program, and keeps what it writes (in the file `out`) and its status.
 run() {
-    timeout 60 "$program" "$@" >out 2>err </dev/null
+    limited "$program" "$@" >out 2>err </dev/null
     status=$?
 }
 

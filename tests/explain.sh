@@ -7,6 +7,7 @@ set -u
 program=$(realpath -- "${1:-$(dirname "$0")/../crates/wqplan/out/wqplan}")
 format=$(realpath -- "$(dirname "$0")/../docs/FORMAT.md")
 rule=$(realpath -- "$(dirname "$0")/standard_error.py")
+. "$(dirname "$0")/time_limit.bash"
 if [ ! -x "$program" ]; then
     echo "explain: there is nothing to run at $program (cd crates/wqplan && rt run builds it)"
     exit 1
@@ -23,7 +24,7 @@ status=0
 
 # run ARGS..: runs the program, and keeps what it writes and its status.
 run() {
-    timeout 60 "$program" "$@" >out 2>err </dev/null
+    limited "$program" "$@" >out 2>err </dev/null
     status=$?
 }
 
@@ -104,7 +105,7 @@ explained() {
     words=$(sed -n '$s/.*wqplan //p' "example$1/commands")
     file=${words##* }
     [ "$file" != plan ] || file='<stdin>'
-    (cd "example$1" && PATH=$work/bin:$PATH timeout 60 bash commands) >out 2>err
+    (cd "example$1" && PATH=$work/bin:$PATH limited bash commands) >out 2>err
     has "explain $1: the example" "^$3: $4\$" "$?: $(cat out)"
     python3 -B "$rule" out err "$file" || said="$(cat err)"
     is "explain $1: the diagnosis of the example" yes "$said"
@@ -130,7 +131,7 @@ for name in $faults; do
         continue
     fi
     mkdir "example$name"
-    (cd "example$name" && PATH=$work/bin:$PATH timeout 60 bash ../commands) >out 2>err
+    (cd "example$name" && PATH=$work/bin:$PATH limited bash ../commands) >out 2>err
     is "explain $name: the example" "3:: fault $name" "$?:$(cat out): $(cat err)"
 done
 
@@ -167,9 +168,9 @@ for words in -1 '1 2' 'read 1' --all; do
     is "explain $words" '2:' "$status:$(cat out)"
     has "explain $words: standard error" . "$(cat err)"
 done
-timeout 60 "$program" explain 1 >/dev/full 2>err
+limited "$program" explain 1 >/dev/full 2>err
 is 'a full device' '3: fault write' "$?: $(cat err)"
-timeout 60 "$program" explain >/dev/full 2>err
+limited "$program" explain >/dev/full 2>err
 is 'all titles on a full device' '3: fault write' "$?: $(cat err)"
 
 echo "explain: $passed passed, $failed failed"

@@ -20,6 +20,7 @@
 set -u
 program=$(realpath -m -- "${1:-$(dirname "$0")/../crates/wqplan/out/wqplan}")
 driver=$(realpath -m -- "${2:-$(dirname "$0")/../crates/example_rdisk/out/example_rdisk}")
+. "$(dirname "$0")/time_limit.bash"
 cd -- "$(dirname "$0")/.." || exit 1
 root=$PWD
 for built in "$program" "$driver"; do
@@ -47,7 +48,7 @@ fail() {
 
 # play COMMAND WANTED: runs the command, and counts whether it shows just this. It keeps the status for the next command.
 play() {
-    timeout 60 bash -c "(exit $status)"$'\n'"$1" >"$work/shown" 2>&1 </dev/null
+    limited bash -c "(exit $status)"$'\n'"$1" >"$work/shown" 2>&1 </dev/null
     status=$?
     if printf '%s' "$2" | cmp -s - "$work/shown"; then
         passed=$((passed + 1))

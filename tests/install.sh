@@ -4,6 +4,7 @@
 # It needs no program, and takes seconds.
 set -u
 repository=$(realpath -- "$(dirname "$0")/..")
+. "$(dirname "$0")/time_limit.bash"
 work=$(mktemp -d)
 trap 'rm -rf -- "$work"' EXIT
 passed=0
@@ -54,7 +55,7 @@ run() {
     rm -f -- "$work/calls"
     touch "$work/calls"
     (cd -- "$work" && umask 077 && CALLS=$work/calls HOME=${HOUSE-$work/home} XDG_CACHE_HOME=${CACHE-$work/cache} \
-        TMPDIR=$work/tmp BUILT=${BUILT-one} PATH=${TOOLS-$work/toolchain:$PATH} bash "$clone/install.sh" "$@") >"$work/out" 2>"$work/err" </dev/null
+        TMPDIR=$work/tmp BUILT=${BUILT-one} PATH=${TOOLS-$work/toolchain:$PATH} limited bash "$clone/install.sh" "$@") >"$work/out" 2>"$work/err" </dev/null
     status=$?
 }
 
@@ -123,7 +124,7 @@ installed() {
     ends "$1" 0 ''
     is "$1: what is there" "$wanted" "$(tree "$2")"
     is "$1: what it said" "$files" "$(said installed "$2")"
-    is "$1: the program" "$3" "$("$2/bin/wqplan")"
+    is "$1: the program" "$3" "$(limited "$2/bin/wqplan")"
     is "$1: wqplan(1)" '' "$(cmp -- "$repository/man/wqplan.1" "$2/share/man/man1/wqplan.1" 2>&1)"
     is "$1: wqplan(5)" '' "$(cmp -- "$repository/man/wqplan.5" "$2/share/man/man5/wqplan.5" 2>&1)"
     is "$1: the completion" '' "$(cmp -- "$repository/man/wqplan.bash" "$2/share/bash-completion/completions/wqplan" 2>&1)"
@@ -144,7 +145,7 @@ $build/crates/wqplan run -- --version" "$(sed 's/--jobs [0-9]*$/--jobs N/' "$wor
 is 'each crate is named as checked, once' "$crates" "$(sed -n 's|^\[[0-9]*/[0-9]*\] \(.*\) checked (.*|\1|p' "$work/out" | LC_ALL=C sort)"
 is 'they are counted' "$(wc -w <<<"$crates")" "$(sed -n 's|^\[\([0-9]*\)/\([0-9]*\)\] .*|\1 \2|p' "$work/out" | awk '$1 == NR { n = $2 } END { print n }')"
 is 'the program is among them' wqplan "$(grep -x wqplan <<<"$crates")"
-is 'no crate of the tests or of an example is' '' "$(grep -xE 'wq_(book|stress|guide|bench|tests|cases)' <<<"$crates")"
+is 'no crate of the tests or of an example is' '' "$(grep -xE '(test|example)_.*|wq_(book|stress|bench|tests)' <<<"$crates")"
 lacking=''
 for crate in $crates; do
     for use in $(sed -n "s/^$crate://p" "$repository/crates.txt"); do

@@ -10,9 +10,10 @@ there is a groff, both pages are rendered, without a warning and within 80 colum
 import pathlib
 import re
 import shutil
-import subprocess
 import sys
 import tempfile
+
+import time_limit  # beside this file
 
 ROOT = pathlib.Path(__file__).resolve().parent.parent
 FORMAT = (ROOT / "docs/FORMAT.md").read_text()
@@ -233,7 +234,7 @@ def answer_examples(count, name, examples):
             if command.startswith("cat "):
                 (pathlib.Path(folder) / command[4:]).write_text("".join(f"{line}\n" for line in wanted))
             else:
-                ran = subprocess.run(["bash", "-c", f"{MODEL}\n{command}"], cwd=folder, capture_output=True, text=True)
+                ran = time_limit.run(["bash", "-c", f"{MODEL}\n{command}"], cwd=folder, capture_output=True, text=True)
                 count.equal(f"{name}: {command}", wanted, (ran.stdout + ran.stderr).splitlines())
 
 
@@ -249,7 +250,7 @@ def examples_of_texts(page):
 
 def render(count, page):
     """The page as it is read in a terminal of 80 columns."""
-    ran = subprocess.run(["groff", "-man", "-ww", "-Tascii", "-P-cbou", ROOT / "man" / page.name], capture_output=True, text=True)
+    ran = time_limit.run(["groff", "-man", "-ww", "-Tascii", "-P-cbou", ROOT / "man" / page.name], capture_output=True, text=True)
     count.equal(f"{page.name}: warnings", "", ran.stderr)
     count.equal(f"{page.name}: more than 80 columns", [], [line for line in ran.stdout.splitlines() if len(line) > 80])
 

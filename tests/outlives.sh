@@ -9,6 +9,10 @@
 set -euo pipefail
 
 sample=tests/samples/outlives.rt.txt
+# A check that reads the sources of all libraries takes longer than a program of the tests.
+. tests/time_limit.bash
+seconds=600
+
 libraries=(wq_text wq_buckets wq_decl wq_items wq_groups wq_core wq_rows wq_history)
 
 scratch=$(mktemp -d)
@@ -25,7 +29,7 @@ echo "outlives: ${libraries[*]}" >>"$scratch/crates.txt"
 expect() {
     local wanted=$1 output found errors
     cat >"$scratch/crates/outlives/src/lib.rt"
-    output=$(cd "$scratch/crates/outlives" && rt check --only= 2>&1) || true
+    output=$(cd "$scratch/crates/outlives" && limited rt check --only= 2>&1) || true
     found=$(sed -n 's/^src\/lib\.rt:\([0-9]*\):.*error\[borrow-e0505\].*/\1/p' <<<"$output")
     errors=$(grep -c 'error\[' <<<"$output" || true)
     if [[ -n $wanted && $found == "$wanted" && $errors -eq $(wc -l <<<"$wanted") ]]; then

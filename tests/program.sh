@@ -6,6 +6,7 @@ set -u
 program=$(realpath -- "${1:-crates/wqplan/out/wqplan}")
 stored=$(realpath -- crates/wqplan)
 rule=$(realpath -- "$(dirname "$0")/standard_error.py")
+. "$(dirname "$0")/time_limit.bash"
 if [ ! -x "$program" ]; then
     echo "program: there is nothing to run at $program (cd crates/wqplan && rt run builds it)"
     exit 1
@@ -18,12 +19,10 @@ passed=0
 failed=0
 status=0
 
-seconds=60
-
 # run ARGS..: runs the program on the standard input that it is given, and keeps its words, what it writes and its status.
 run() {
     given=("$@")
-    timeout "$seconds" "$program" "$@" >out 2>err
+    limited "$program" "$@" >out 2>err
     status=$?
 }
 
@@ -292,7 +291,7 @@ done
 check 'run: a chain of three, 50 times' 0 "workqueues 3\n${ran3}faults 0\n" ''
 
 # Threads that can't be made: there is room for some of them. Those that were made end, and so does the program.
-(ulimit -v 131072 && timeout 60 "$program" run chain256) </dev/null >out 2>err
+(ulimit -v 131072 && limited "$program" run chain256) </dev/null >out 2>err
 status=$?
 check 'run: not as many threads as workqueues' 3 '' 'fault thread\n'
 
@@ -318,7 +317,7 @@ run_fed() {
     wait "$!" 2>/dev/null
 }
 
-seconds=20
+usual=$seconds seconds=20
 run_fed check declaration plan_of_two
 check 'check: two pipes that are opened in turn' 0 'yes 2\n' ''
 run_fed deadlock chain lanes
@@ -335,7 +334,7 @@ for words in 'check missing second' 'deadlock missing second' 'circles missing s
     run $words </dev/null
     check "$words: a pipe behind a FILE that is missing" 3 '' 'fault read\n'
 done
-seconds=60
+seconds=$usual
 
 # Refusals come in the order of the arguments, each text as a whole before the next one.
 printf 'wq 0 a b\nwq 1\n' >without_c
@@ -417,11 +416,11 @@ run plan <folder
 check 'standard input that is a folder' 3 '' 'fault read\n'
 run plan <&-
 check 'standard input that is closed' 3 '' 'fault read\n'
-timeout 60 "$program" plan declaration </dev/null >/dev/full 2>err
+limited "$program" plan declaration </dev/null >/dev/full 2>err
 status=$?
 : >out
 check 'standard output that is full' 3 '' 'fault write\n'
-timeout 60 "$program" plan declaration </dev/null >&- 2>err
+limited "$program" plan declaration </dev/null >&- 2>err
 status=$?
 check 'standard output that is closed' 3 '' 'fault write\n'
 for files in 'missing plan_of_two' 'declaration missing' 'folder plan_of_two' 'declaration folder' 'refused missing'; do
@@ -454,15 +453,15 @@ for words in 'plan circle' 'check declaration plan_of_two' 'deadlock chain lanes
     'circles chain lanes' 'circles chain' 'circles circle' 'dot chain lanes' 'dot chain' 'dot circle' 'run declaration' \
     'run circle' 'plan refused' 'check declaration no_circle' 'deadlock chain without_c' 'replay chain without_c unlawful' \
     'circles refused' 'circles chain without_c' 'dot refused' 'dot chain without_c' 'run refused'; do
-    timeout 60 "$program" $words </dev/null >/dev/full 2>err
+    limited "$program" $words </dev/null >/dev/full 2>err
     status=$?
     : >out
     check "$words, standard output that is full" 3 '' 'fault write\n'
-    timeout 60 "$program" $words </dev/null >&- 2>err
+    limited "$program" $words </dev/null >&- 2>err
     status=$?
     check "$words, standard output that is closed" 3 '' 'fault write\n'
 done
-timeout 60 "$program" --help </dev/null >/dev/full 2>err
+limited "$program" --help </dev/null >/dev/full 2>err
 status=$?
 check 'help on a standard output that is full' 3 '' 'fault write\n'
 

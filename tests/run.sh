@@ -8,6 +8,7 @@ cd "$(dirname "$0")/.."
 # on in each of them.
 export RT_JOBS="${RT_JOBS:-$(nproc)}"
 rt ci
+bash tests/time_limit.sh
 bash tests/definitions.sh
 bash tests/pages.sh
 bash tests/manual.sh

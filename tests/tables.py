@@ -7,13 +7,12 @@ import dataclasses
 import os
 import re
 import resource
-import subprocess
 import tempfile
 
-from standard_error import belongs, meant  # beside this file
+import time_limit  # beside this file
+from standard_error import belongs, meant
 
 WORKERS = 2
-SECONDS_PER_RUN = 60
 
 
 @dataclasses.dataclass
@@ -70,11 +69,8 @@ def failure(program, folder, number, given):
             file.write(text)
     words = [places[word] if isinstance(word, int) else word for word in given.arguments]
     try:
-        run = subprocess.run(
-            [program, *words], cwd=folder, stdin=subprocess.DEVNULL, capture_output=True,
-            timeout=SECONDS_PER_RUN, preexec_fn=limiter(given.memory),
-        )
-    except subprocess.TimeoutExpired:
+        run = time_limit.run([program, *words], cwd=folder, capture_output=True, preexec_fn=limiter(given.memory))
+    except time_limit.TookTooLong:
         return "it took too long"
     finally:
         for place in places:

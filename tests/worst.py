@@ -11,7 +11,6 @@ where a case takes more than MOST times as long or as many instructions, or ends
 import os
 import re
 import shutil
-import subprocess
 import sys
 import tempfile
 import time
@@ -20,6 +19,7 @@ sys.dont_write_bytecode = True
 TOP = os.path.dirname(os.path.dirname(os.path.realpath(__file__)))
 sys.path[:0] = [os.path.join(TOP, "bench"), os.path.join(TOP, "bench", "peers")]
 import inputs  # noqa: E402
+import time_limit  # noqa: E402  (beside this file)
 import worst  # noqa: E402
 
 MOST = 20
@@ -73,9 +73,8 @@ def instructions(program, folder, command, names):
     """All instructions of one run, or None where they aren't counted."""
     words = ["valgrind", "--tool=cachegrind", "--cache-sim=no", "--cachegrind-out-file=/dev/null", program, command, *names]
     try:
-        run = subprocess.run(words, cwd=folder, stdin=subprocess.DEVNULL, stdout=subprocess.DEVNULL, stderr=subprocess.PIPE,
-                             timeout=SECONDS_FOR_ONE)
-    except subprocess.TimeoutExpired:
+        run = time_limit.run(words, cwd=folder, capture_output=True, timeout=SECONDS_FOR_ONE)
+    except time_limit.TookTooLong:
         return None
     found = re.search(rb"I +refs: +([0-9,]+)", run.stderr)
     return int(found[1].replace(b",", b"")) if found else None

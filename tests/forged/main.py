@@ -14,7 +14,6 @@ import dataclasses
 import multiprocessing
 import os
 import pathlib
-import subprocess
 import sys
 import tempfile
 import typing
@@ -24,12 +23,12 @@ FOLDER = pathlib.Path(__file__).resolve().parent.parent
 sys.path[1:1] = [str(FOLDER / "model"), str(FOLDER)]
 import compare  # noqa: E402  (in the folder of the model)
 import extremes  # noqa: E402  (beside this file)
+import time_limit  # noqa: E402  (in the folder above)
 from changes import cuts, forgeries  # noqa: E402
-from standard_error import belongs, meant  # noqa: E402  (in the folder above)
+from standard_error import belongs, meant  # noqa: E402
 from subjects import GROUPS, SUBJECTS, TWO  # noqa: E402
 from tables import is_program, short  # noqa: E402
 
-SECONDS_PER_RUN = 60
 # So many failures are shown.
 SHOWN = 50
 # So many cases at a time are handed to a process.
@@ -86,8 +85,8 @@ def judged(program, command, texts, folder):
         with open(place, "wb") as file:
             file.write(text)
     try:
-        run = subprocess.run([program, command, *places], stdin=subprocess.DEVNULL, capture_output=True, timeout=SECONDS_PER_RUN)
-    except subprocess.TimeoutExpired:
+        run = time_limit.run([program, command, *places], capture_output=True)
+    except time_limit.TookTooLong:
         return None, "it took too long"
     wanted = compare.COMMANDS[command][0](*texts)
     if (run.stdout, run.returncode) != wanted:

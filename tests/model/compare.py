@@ -27,7 +27,6 @@ import dataclasses
 import os
 import pathlib
 import re
-import subprocess
 import sys
 import tempfile
 import traceback
@@ -46,15 +45,15 @@ import make_declarations  # noqa: E402
 import plan  # noqa: E402
 import replay  # noqa: E402
 import run  # noqa: E402
+import time_limit  # noqa: E402  (in the folder above)
 from command_line import seed_and_counts  # noqa: E402
 from declaration import read_declaration  # noqa: E402
-from standard_error import STDIN, belongs, meant  # noqa: E402  (in the folder above)
+from standard_error import STDIN, belongs, meant  # noqa: E402
 
 DEFAULT_SEED = "1"
 DEFAULT_CASES = 2_000
 WORKERS = 2
 DIFFERENCES_SHOWN = 3
-SECONDS_PER_RUN = 30
 
 # Of each command: the model, the cases at the limits, the random cases, the names of the texts, and
 # the kinds of answer, each with its exit status and its form. In a form N is a number, Z one or
@@ -174,23 +173,20 @@ def kind_of(command, answer):
 
 def ask(program, command, texts, folder, number):
     """The program's answer, what it prints to standard error, and whether that belongs to the answer."""
-    places = []
+    places, given = [], None
     if command == "plan":
-        given = {"input": texts[0]}
+        given = texts[0]
     else:
-        given = {"stdin": subprocess.DEVNULL}
         for name, text in zip(COMMANDS[command][3], texts):
             places.append(os.path.join(folder, f"{number}.{name}"))
             with open(places[-1], "wb") as file:
                 file.write(text)
     try:
-        ended = subprocess.run(
-            [program, command, *places], capture_output=True, timeout=SECONDS_PER_RUN, **given
-        )
+        ended = time_limit.run([program, command, *places], input=given, capture_output=True)
         files = meant(ended.stdout, [os.fsencode(place) for place in places] or [STDIN])
         is_right = belongs(ended.stdout, ended.stderr, files)
         return (ended.stdout, ended.returncode), ended.stderr, is_right
-    except subprocess.TimeoutExpired:
+    except time_limit.TookTooLong:
         return (b"", None), b"(ended: it took too long)", False
     finally:
         for place in places:

@@ -28,11 +28,11 @@ import dataclasses
 import os
 import pathlib
 import random
-import subprocess
 import sys
 import tempfile
 
 sys.dont_write_bytecode = True
+sys.path.append(str(pathlib.Path(__file__).resolve().parent.parent))
 import certificate  # noqa: E402  (beside this file)
 import check  # noqa: E402
 import circles  # noqa: E402
@@ -41,6 +41,7 @@ import dot  # noqa: E402
 import plan  # noqa: E402
 import replay  # noqa: E402
 import run  # noqa: E402
+import time_limit  # noqa: E402  (in the folder above)
 from command_line import seed_and_counts  # noqa: E402
 from declaration import (  # noqa: E402
     FEWEST_WORDS, LINE_BYTES, LINE_LIMIT, NAME_LIMIT, Refused, before_comment, is_name, read_declaration, split_lines,
@@ -569,7 +570,6 @@ def said(kinds, files, texts, code, line):
 DEFAULT_SEED = "1"
 DEFAULT_CASES = 400
 DIFFERENCES_SHOWN = 5
-SECONDS_PER_RUN = 60
 
 # The numbers that must come. The other ones are those of large texts, of which tests/diagnoses has rows.
 MUST_COME = [3, 4, 5, 6, 7, 8, 11, 12, 40, 41, 42, 43]
@@ -763,8 +763,8 @@ def ask(program, words, texts, streams=""):
             pathlib.Path(os.fsdecode(place)).write_bytes(text)
         command = ["bash", "-c", f'exec "$0" "$@" {streams}', program, *words] if streams else [program, *words]
         try:
-            ended = subprocess.run(command, cwd=folder, input=given, capture_output=True, timeout=SECONDS_PER_RUN)
-        except subprocess.TimeoutExpired:
+            ended = time_limit.run(command, cwd=folder, input=given, capture_output=True)
+        except time_limit.TookTooLong:
             return (b"(ended: it took too long)", None, b""), True
         same = all(pathlib.Path(os.fsdecode(place)).read_bytes() == text for place, text in places.items())
     return (ended.stdout, ended.returncode, ended.stderr), same

@@ -16,15 +16,17 @@ import collections
 import dataclasses
 import multiprocessing
 import os
-import subprocess
+import pathlib
 import sys
 import tempfile
 import traceback
 
 sys.dont_write_bytecode = True
+sys.path.append(str(pathlib.Path(__file__).resolve().parent.parent))
 import book  # noqa: E402  (beside this file)
 import book_examples  # noqa: E402
 import make_books  # noqa: E402
+import time_limit  # noqa: E402  (in the folder above)
 from command_line import seed_and_counts  # noqa: E402
 from make_books import kind_of  # noqa: E402
 
@@ -32,7 +34,6 @@ DEFAULT_SEED = "1"
 DEFAULT_SEQUENCES = 1_000
 DEFAULT_HISTORIES = 1_500
 WORKERS = 3
-SECONDS_PER_RUN = 60
 LINES_SHOWN = 12
 
 # How often each kind of answer comes at least in 2,000 cases: of the calls and of the judge; of the
@@ -248,10 +249,9 @@ def write_files(case, folder):
 def run(program, words):
     """What the program prints, its status, and its standard error."""
     try:
-        ended = subprocess.run([program, *words], stdin=subprocess.DEVNULL, capture_output=True,
-                               timeout=SECONDS_PER_RUN)
+        ended = time_limit.run([program, *words], capture_output=True)
         return ended.stdout, ended.returncode, ended.stderr
-    except subprocess.TimeoutExpired as late:
+    except time_limit.TookTooLong as late:
         return late.stdout or b"", None, b"(ended: it took too long)"
 
 
