@@ -6,5 +6,5 @@
 # model alone.
 set -eu
 cd "$(dirname "$0")/.."
-timeout 1800 python3 tests/model/book_properties.py "${1:-1}"
+python3 tests/model/book_properties.py "${1:-1}"
 exec python3 tests/model/drive_books.py "${TEST_RUNTIME:-crates/test_runtime/out/test_runtime}" "$@"

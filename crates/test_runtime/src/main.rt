@@ -15,8 +15,9 @@ use test_sessions::testbed::{
 use test_sessions::{Request, Task};
 use wq_commands::Fault;
 
-const USAGE: &str =
-    "usage: test_runtime book DECL ASSIGN ROWS EVENTS | check DECL ASSIGN HEX | calls DECL ASSIGN ROWS CALLS | crew DECL ASSIGN ROWS DEEDS | script DECL ASSIGN ROWS [ACTS]";
+const USAGE: &str = "usage: test_runtime book DECL ASSIGN ROWS EVENTS \
+    | check DECL ASSIGN HEX | calls DECL ASSIGN ROWS CALLS | crew DECL ASSIGN ROWS DEEDS \
+    | script DECL ASSIGN ROWS [ACTS]";
 
 /// A task in a setting, and the file of its text, if it has one.
 #[derive(Clone, Copy)]

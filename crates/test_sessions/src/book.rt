@@ -117,21 +117,21 @@ impl Desk {
         out: &mut String,
     ) -> Result<bool, AllocError> {
         let book = &mut self.book;
-        match call {
-            Call::Queue(item) => put_said(out, book.queue(item))?,
-            Call::Cancel(item) => put_said(out, book.cancel(item))?,
-            Call::Ask(item) => ask(book, &mut self.asks, item, out)?,
+        let put = match call {
+            Call::Queue(item) => put_said(out, book.queue(item)),
+            Call::Cancel(item) => put_said(out, book.cancel(item)),
+            Call::Ask(item) => ask(book, &mut self.asks, item, out),
             Call::Tell(number) => return tell(book, &mut self.asks, number, out),
-            Call::Start(q) => put_started(out, table, book.start(q))?,
-            Call::Wait(q, item) => put_said(out, book.wait(q, item))?,
-            Call::Over(q) => put_said(out, book.over(q))?,
-            Call::Finish(q) => put_finished(out, book.finish(q))?,
+            Call::Start(q) => put_started(out, table, book.start(q)),
+            Call::Wait(q, item) => put_said(out, book.wait(q, item)),
+            Call::Over(q) => put_said(out, book.over(q)),
+            Call::Finish(q) => put_finished(out, book.finish(q)),
             Call::Close => {
                 book.close();
-                out.push_str("ok")?;
+                out.push_str("ok")
             }
-        }
-        Ok(true)
+        };
+        put.and(Ok(true))
     }
 
     /// Gives up the asks that are left, and hands the book back.
@@ -153,11 +153,11 @@ impl Listener for Desk {
         let Some(call) = read_call(table, word, words) else {
             return Ok(false);
         };
-        if !self.make(table, call, out)? {
-            return Ok(false);
+        let is_made = self.make(table, call, out)?;
+        if is_made {
+            put_state(out, table, &self.book)?;
         }
-        put_state(out, table, &self.book)?;
-        Ok(true)
+        Ok(is_made)
     }
 }
 
