@@ -1,4 +1,4 @@
-# Gives programs the cases that tables of texts and answers make, and compares what they print: for
+# Gives a program the cases that tables of texts and answers make, and compares what it prints: for
 # tests/rows, tests/book and tests/runtime.
 
 import collections
@@ -32,7 +32,6 @@ class Case:
     diagnoses: bool = False  # the program is wqplan: what goes there is what belongs to the answer
     memory: int = 0  # how much address space the program gets, where it isn't all there is
     is_pattern: bool = False  # what is printed begins as the answer, a regular expression, says
-    program: int = 0  # which of the programs is called
 
 
 def text_of(row):
@@ -90,22 +89,21 @@ def is_program(path):
     return os.access(path, os.X_OK) and not os.path.isdir(path)
 
 
-def run_cases(name, arguments, cases, count=1):
-    """Gives the cases to the programs that are the arguments, so many, and gives the exit status.
+def run_cases(name, arguments, cases):
+    """Gives the cases to the program that is the only argument, and gives the exit status.
 
     It prints the cases that fail, and a line for each table.
     """
-    if len(arguments) != count or not all(map(is_program, arguments)):
+    if len(arguments) != 1 or not is_program(arguments[0]):
         print(f"{name}: there is nothing to run at {' '.join(arguments)}")
         return 1
-    programs = [os.path.realpath(path) for path in arguments]
+    program = os.path.realpath(arguments[0])
     passed = collections.Counter()
     failed = collections.Counter()
     with tempfile.TemporaryDirectory(prefix=f"{name}_") as folder:
         pool = concurrent.futures.ThreadPoolExecutor(WORKERS)
-        numbers = range(len(cases))
         failures = pool.map(
-            lambda number: failure(programs[cases[number].program], folder, number, cases[number]), numbers)
+            lambda number: failure(program, folder, number, cases[number]), range(len(cases)))
         for given, why in zip(cases, failures):
             (failed if why else passed)[given.table] += 1
             if why:

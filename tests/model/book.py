@@ -3,7 +3,7 @@
 #     book.py book DECL ASSIGN ROWS EVENTS
 #     book.py check DECL ASSIGN HEX
 #
-# It prints what `wq_book` prints. It was written from docs/FORMAT.md alone, "Histories" above all;
+# It prints what `book` and `check` of `test_runtime` print. It was written from docs/FORMAT.md alone, "Histories" above all;
 # see plan.py for what such a model is. A book's state is here the replay of its rows and nothing
 # else: each call says what it answers and which row that appends, and the row alone changes the
 # state.

@@ -1,4 +1,4 @@
-# Compares the program `wq_book` with the model of it in book.py:
+# Compares `book` and `check` of the program `test_runtime` with the model of them in book.py:
 #
 #     drive_books.py PROGRAM [SEED] [SEQUENCES] [HISTORIES] [--only CASE]
 #

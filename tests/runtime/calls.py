@@ -1,7 +1,7 @@
 # Runtimes: the calls that are made of them in one thread, what is printed for each, and what is
 # handed back at the end.
 #
-# The rules are those of "Histories" and of "The test programs of runtimes" in docs/FORMAT.md, from
+# The rules are those of "Histories" and of "The test program `test_runtime`" in docs/FORMAT.md, from
 # which each answer was worked out by hand.
 
 ONE = ("item a", "wq 0 a")

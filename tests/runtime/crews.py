@@ -1,4 +1,4 @@
-# Rows for `wq_crew run` and `wq_crew script`: a declaration, an assignment, how many rows there are, what the bodies and
+# Rows for `test_runtime crew` and `test_runtime script`: a declaration, an assignment, how many rows there are, what the bodies and
 # callers do, the answer, and the status. All were worked out by hand from docs/FORMAT.md.
 #
 # Where the schedule of the threads decides in which order rows stand, only what is printed before
@@ -136,7 +136,7 @@ MEETINGS = [
      r" / body code 0 seen true / caller ok / caller ok / caller seen true / caller seen true / agree true / made "),
 ]
 
-# What `wq_crew script` prints begins as this regular expression says. Each item is queued once, flushed once from
+# What `test_runtime script` prints begins as this regular expression says. Each item is queued once, flushed once from
 # outside, and by each that declares it; whether a flush had to wait is up to the schedule.
 ASKED = r"made {0} ask (?:yes 1\nmade {0} told yes|no) 1\n"
 FINISHED = "made {0} finish yes 1\n"
@@ -169,7 +169,7 @@ SCRIPTS = [
      + item("a") + r"made b queue yes 1\n(?:made b wait yes [12]\n)?(?:made b wait no [12]\n)?made b over yes 2\n"),
 ]
 
-# What `wq_crew script` prints where one caller makes the calls of a text: the whole of it as this regular expression says, with the
+# What `test_runtime script` prints where one caller makes the calls of a text: the whole of it as this regular expression says, with the
 # status. The bodies make the declared flushes. Whether an item was still unfinished when it was asked about is up to the schedule.
 ACTS = [
     # The waits of a body stand in the order of its flushes, and nobody else asks.

@@ -1,10 +1,10 @@
-# Gives the programs the rows of the tables beside this file, and compares what they print:
+# Gives the program the rows of the tables beside this file, and compares what it prints:
 #
-#     main.py WQ_CALLS WQ_CREW WQ_STRESS
+#     main.py TEST_RUNTIME
 #
-# Each row is texts and the answer to them: `wq_calls` and `wq_crew run` must print just that, with the
-# exit status that goes with it, and nothing to standard error. Then some short loads: of each
-# `wq_stress` must print the eight lines that no schedule changes. It takes some seconds.
+# Each row is texts and the answer to them: `test_runtime calls`, `crew` or `script` must print just that, with the
+# exit status that goes with it, and nothing to standard error. It takes some seconds. A run that takes too long is
+# ended, and has failed: a wake-up may be lost.
 
 import pathlib
 import sys
@@ -13,11 +13,7 @@ sys.dont_write_bytecode = True
 sys.path.append(str(pathlib.Path(__file__).resolve().parent.parent))
 import calls  # noqa: E402  (beside this file)
 import crews  # noqa: E402
-from loads import ALWAYS  # noqa: E402
 from tables import Case, run_cases, text_of  # noqa: E402  (in the folder above)
-
-# The places of the programs among the arguments.
-CALLS, CREW, STRESS = range(3)
 
 # A chain of as many items as a runtime may have lanes.
 ITEMS = [f"item i{k}" for k in range(256)]
@@ -27,33 +23,17 @@ CHAIN = (" / ".join(ITEMS + FLUSHES), " / ".join(f"wq {k} i{k}" for k in range(2
 # Address space for the program and for some of the threads of a chain's lanes, in bytes.
 SOME_THREADS = 128 << 20
 
-# A declaration and an assignment, how many rows there are, and how many calls each caller makes.
-LOADS = [
-    (*calls.ONE, 3, 0),
-    (*calls.ONE, 3, 200),
-    (*calls.ONE, 10_000, 500),
-    (*calls.TWO, 5, 200),
-    (*calls.TWO, 1_000, 500),
-    (*calls.TWO, 20_000, 500),
-    # Lanes that serve no item.
-    ("item a / item b / flush b a a a", "wq 0 / wq 1 a / wq 2 b / wq 3", 20_000, 300),
-    # Three items of one lane, which wait for a fourth.
-    ("item a / item b / item c / item d / ordered b c d / flush b a / flush d a a",
-     "wq 0 a / wq 1 b c d", 20_000, 300),
-    (*CHAIN, 60_000, 50),
-]
-
 
 def status_of(answer):
-    """The status that goes with an answer of `wq_calls`."""
+    """The status that goes with an answer of `calls`."""
     last = answer.splitlines()[-1].split() if answer else [b""]
     return 2 if last[0] in (b"mistake", b"refused") else 0
 
 
 def one_thread(table, declaration, assignment, rows, lines, answer):
-    """A run of `wq_calls`. Its arguments are numbers of texts, but for the rows."""
+    """A run of `calls`. Its arguments are numbers of texts, but for the rows."""
     texts = [text_of(text) for text in (declaration, assignment, lines)]
-    return Case(table, [0, 1, str(rows), 2], texts, answer, status_of(answer), program=CALLS)
+    return Case(table, ["calls", 0, 1, str(rows), 2], texts, answer, status_of(answer))
 
 
 def handed_back(counts, rows):
@@ -64,18 +44,6 @@ def handed_back(counts, rows):
     yield f"total {sum(count for *_, count in counts)}"
     yield f"rows {len(rows)}"
     yield from rows
-
-
-def many_threads(table, declaration, assignment, rows, seed, each, answer, status):
-    """A run of `wq_stress`."""
-    texts = [text_of(declaration), text_of(assignment)]
-    arguments = [0, 1, str(rows), str(seed), str(each)]
-    return Case(table, arguments, texts, text_of(answer), status, program=STRESS)
-
-
-def crew(*arguments, **others):
-    """A run of `wq_crew`."""
-    return Case(*arguments, **others, program=CREW)
 
 
 def table_cases():
@@ -91,23 +59,23 @@ def table_cases():
         yield one_thread("texts of calls", declaration, assignment, rows, lines, text_of(answer))
     for declaration, assignment, rows, deeds, answer, status in crews.CREWS:
         texts = [text_of(text) for text in (declaration, assignment, deeds)]
-        yield crew("crews", ["run", 0, 1, str(rows), 2], texts, text_of(answer), status)
+        yield Case("crews", ["crew", 0, 1, str(rows), 2], texts, text_of(answer), status)
     for declaration, assignment, rows, deeds, answer in crews.MEETINGS:
         texts = [text_of(text) for text in (declaration, assignment, deeds)]
         pattern = answer.replace(" / ", "\n").encode("latin-1")
-        yield crew("meetings", ["run", 0, 1, str(rows), 2], texts, pattern, 0, is_pattern=True)
+        yield Case("meetings", ["crew", 0, 1, str(rows), 2], texts, pattern, 0, is_pattern=True)
     for declaration, assignment, rows, pattern in crews.SCRIPTS:
         texts = [text_of(text) for text in (declaration, assignment)]
-        yield crew("scripts", ["script", 0, 1, str(rows)], texts, pattern.encode("latin-1"), 0, is_pattern=True)
+        yield Case("scripts", ["script", 0, 1, str(rows)], texts, pattern.encode("latin-1"), 0, is_pattern=True)
     for declaration, assignment, rows, acts, pattern, status in crews.ACTS:
         texts = [text_of(text) for text in (declaration, assignment, acts)]
-        yield crew("scripts", ["script", 0, 1, str(rows), 2], texts, pattern.encode("latin-1"), status, is_pattern=True)
+        yield Case("scripts", ["script", 0, 1, str(rows), 2], texts, pattern.encode("latin-1"), status, is_pattern=True)
     for declaration, assignment, rows, answer, status in [
         (*crews.ONE, 16_777_217, "refused 68", 2),
         ("item a / flush a a", "wq 0 a", 10, "refused 67", 2),
     ]:
         texts = [text_of(text) for text in (declaration, assignment)]
-        yield crew("scripts", ["script", 0, 1, str(rows)], texts, text_of(answer), status)
+        yield Case("scripts", ["script", 0, 1, str(rows)], texts, text_of(answer), status)
     # Not as many threads can be made as there are lanes and callers. All is handed back but what the first
     # thread took that couldn't be made, and the process ends.
     for deeds, answer in [
@@ -115,46 +83,26 @@ def table_cases():
         (" / ".join(["body"] * 256 + ["caller / queue i0"]), "refused 22 seats 256 bodies 255 callers 1"),
     ]:
         texts = [text_of(text) for text in (*CHAIN, deeds)]
-        yield crew("threads that can't be made", ["run", 0, 1, "1000", 2], texts, text_of(answer), 1,
+        yield Case("threads that can't be made", ["crew", 0, 1, "1000", 2], texts, text_of(answer), 1,
                    memory=SOME_THREADS)
-    for declaration, assignment, rows, each in LOADS:
-        for seed in (1, 4_294_967_295):
-            always = " / ".join(ALWAYS)
-            yield many_threads("loads", declaration, assignment, rows, seed, each, always, 0)
-    # What is answered before any thread starts: a runtime that isn't made, and a first item that
-    # can't be queued.
-    for declaration, assignment, rows, answer, status in [
-        ("item a", calls.LANES_257, 16_777_217, "refused 69", 2),
-        (*calls.SELF, 16_777_217, "refused 68", 2),
-        (*calls.SELF, 5, "refused 67", 2),
-        ("item a / item a", "nope", 5, "refused 7 line 2", 2),
-        ("item a / item b", "wq 0 a", 5, "refused 41 line 0", 2),
-        (*calls.ONE, 2, "fault queue", 1),
-        (*calls.TWO, 4, "fault queue", 1),
-        ("", "", 5, "fault queue", 1),
-    ]:
-        table = "loads that don't begin"
-        yield many_threads(table, declaration, assignment, rows, 1, 10, answer, status)
     # A wrong command line prints nothing to standard output; a file that isn't there is a fault.
-    for program, words in [
-        (CALLS, []), (CALLS, [0, 0, "1"]), (CALLS, [0, 0, "x", 0]), (CALLS, [0, 0, "01", 0]),
-        (CALLS, [0, 0, "4294967296", 0]), (CALLS, [0, 0, "1", 0, 0]),
-        (STRESS, []), (STRESS, [0, 0, "1", "1"]), (STRESS, [0, 0, "1", "1", "x"]), (STRESS, [0, 0, "1", "x", "1"]),
-        (STRESS, [0, 0, "x", "1", "1"]), (STRESS, [0, 0, "1", "1", "4294967296"]),
-        (STRESS, [0, 0, "1", "1", "1", "count"]), (STRESS, [0, 0, "1", "1", "1", "counts", "counts"]),
-        (CREW, []), (CREW, ["run", 0, 0, "1"]), (CREW, ["run", 0, 0, "x", 0]), (CREW, ["run", 0, 0, "1", 0, 0]),
-        (CREW, ["go", 0, 0, "1", 0]), (CREW, ["script", 0, 0]), (CREW, ["script", 0, 0, "1", 0, 0]),
+    for words in [
+        [], ["go", 0, 0, "1", 0],
+        ["calls"], ["calls", 0, 0, "1"], ["calls", 0, 0, "x", 0], ["calls", 0, 0, "01", 0],
+        ["calls", 0, 0, "4294967296", 0], ["calls", 0, 0, "1", 0, 0],
+        ["crew"], ["crew", 0, 0, "1"], ["crew", 0, 0, "x", 0], ["crew", 0, 0, "1", 0, 0],
+        ["script"], ["script", 0, 0], ["script", 0, 0, "x"], ["script", 0, 0, "1", 0, 0],
     ]:
-        yield Case("command lines", words, [b""], b"", 2, complains=True, program=program)
-    for program, words in [
-        (CALLS, [0, 0, "1", "nowhere"]), (CALLS, ["nowhere", 0, "1", 0]),
-        (STRESS, [0, "nowhere", "1", "1", "1"]), (CREW, ["run", 0, 0, "1", "nowhere"]),
+        yield Case("command lines", words, [b""], b"", 2, complains=True)
+    for words in [
+        ["calls", 0, 0, "1", "nowhere"], ["calls", "nowhere", 0, "1", 0], ["crew", 0, 0, "1", "nowhere"],
+        ["script", 0, "nowhere", "1"], ["script", 0, 0, "1", "nowhere"],
     ]:
-        yield Case("faults", words, [b""], b"", 3, complains=True, program=program)
+        yield Case("faults", words, [b""], b"", 3, complains=True)
 
 
 def main(arguments):
-    return run_cases("runtime", arguments, list(table_cases()), 3)
+    return run_cases("runtime", arguments, list(table_cases()))
 
 
 if __name__ == "__main__":

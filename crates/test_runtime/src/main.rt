@@ -1,0 +1,124 @@
+//! `test_runtime`: makes the calls of a book or of a runtime that a text asks for, has rescuers, bodies and callers do what a text or
+//! the declaration says, or judges the rows of a history, and prints what came of it.
+//!
+//! It is a program of the tests, and never installed. "The test program `test_runtime`" in docs/FORMAT.md says what it reads and
+//! prints; no contract does. It takes the time of what is asked, and that of printing it.
+#![tactic(auto)]
+
+use std::process::ExitCode;
+use std::rt::{Env, Files};
+use std::sync::Wait;
+use std::thread::Threads;
+use test_sessions::testbed::{
+    MAX_TEXT, Setting, answer, ended, misused, print_answer, read_file, read_texts, unread, words,
+};
+use test_sessions::{Request, Task};
+use wq_commands::Fault;
+
+const USAGE: &str = "usage: test_runtime book DECL ASSIGN ROWS EVENTS \
+    | check DECL ASSIGN HEX | calls DECL ASSIGN ROWS CALLS | crew DECL ASSIGN ROWS DEEDS \
+    | script DECL ASSIGN ROWS [ACTS]";
+
+/// A task in a setting, and the file of its text, if it has one.
+#[derive(Clone, Copy)]
+struct Order<'a> {
+    setting: Setting<'a>,
+    task: Task,
+    path: Option<&'a str>,
+}
+
+/// The task of a subcommand in these files, with the words after them. A history that is judged has as many rows as it has.
+fn order_of<'a>(
+    command: &str,
+    declaration: &'a str,
+    assignment: &'a str,
+    rest: &'a [String],
+) -> Option<Order<'a>> {
+    let (task, rows, path) = match (command, rest) {
+        ("book", [rows, path]) => (Task::Book, rows.as_str(), Some(path.as_str())),
+        ("check", [path]) => (Task::Check, "0", Some(path.as_str())),
+        ("calls", [rows, path]) => (Task::Calls, rows.as_str(), Some(path.as_str())),
+        ("crew", [rows, path]) => (Task::Crew, rows.as_str(), Some(path.as_str())),
+        ("script", [rows]) => (Task::Script, rows.as_str(), None),
+        ("script", [rows, path]) => (Task::Acts, rows.as_str(), Some(path.as_str())),
+        _ => return None,
+    };
+    let setting = Setting::parse(declaration, assignment, rows)?;
+    Some(Order {
+        setting,
+        task,
+        path,
+    })
+}
+
+/// Does a task with the texts of its setting, and prints what came of it. Returns the status.
+fn perform<R: Files + Print + AllocGlobal + Threads + Wait + Sync>(
+    rt: &R,
+    order: &Order<'_>,
+) -> Result<u8, Fault> {
+    let texts = read_texts(rt, &order.setting)?;
+    let text = match order.path {
+        Some(path) => read_file(rt, path, MAX_TEXT)?,
+        None => Vec::new(rt.alloc()),
+    };
+    let request = Request {
+        task: order.task,
+        text: &text,
+    };
+    let mut out = String::new(rt.alloc());
+    let status = answer(
+        rt,
+        rt.alloc(),
+        order.setting.rows,
+        &texts,
+        &request,
+        &mut out,
+    )?;
+    print_answer(rt, &out, status)
+}
+
+/// Does what `book`, `check`, `calls`, `crew` or `script` asks for by the words after it. Returns the status, or none where the words
+/// have none of their forms.
+fn session<R: Files + Print + Eprint + AllocGlobal + Threads + Wait + Sync>(
+    rt: &R,
+    command: &str,
+    words: &[String],
+) -> Option<u8> {
+    match words {
+        [declaration, assignment, rest @ ..] => {
+            let order = order_of(command, declaration.as_str(), assignment.as_str(), rest)?;
+            Some(ended(rt, perform(rt, &order)))
+        }
+        _ => None,
+    }
+}
+
+/// Does what the words of the command line ask for, of which the first is the program's name. Returns the status, or none where they
+/// have no form of any subcommand.
+fn dispatch<R: Files + Print + Eprint + AllocGlobal + Threads + Wait + Sync>(
+    rt: &R,
+    words: &[String],
+) -> Option<u8> {
+    match words {
+        [_, command, rest @ ..] => match command.as_str() {
+            "book" | "check" | "calls" | "crew" | "script" => session(rt, command.as_str(), rest),
+            _ => None,
+        },
+        _ => None,
+    }
+}
+
+/// Does what the command line asks for. Returns the status.
+fn run<R: Files + Env + Print + Eprint + AllocGlobal + Threads + Wait + Sync>(rt: &R) -> u8 {
+    match words(rt) {
+        Ok(words) => match dispatch(rt, &words) {
+            Some(status) => status,
+            None => misused(rt, USAGE),
+        },
+        Err(error) => unread(rt, error, USAGE),
+    }
+}
+
+fn main(rt: HostRuntime) -> ExitCode {
+    ExitCode::from(run(&rt))
+}

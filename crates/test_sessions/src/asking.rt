@@ -1,0 +1,92 @@
+//! The calls of a runtime that a text asks for, line by line. Reading a line takes time in its length.
+
+use crate::testbed::{item_of, lane_of};
+use std::alloc::Global;
+use wq_groups::LaneId;
+use wq_items::{ItemId, ItemTable};
+use wq_text::{Words, number};
+
+/// A call that counts in a seat.
+#[derive(Clone, Copy)]
+pub(crate) enum Counted {
+    Queue(LaneId, ItemId),
+    Cancel(ItemId),
+    Flush(ItemId),
+    CancelSync(ItemId),
+    Wait(LaneId, ItemId),
+    Finish(LaneId, ItemId),
+}
+
+/// What a line asks for.
+#[derive(Clone, Copy)]
+pub(crate) enum Call {
+    Counted(Counted),
+    /// One seat more.
+    Seat,
+    /// So many seats more.
+    Seats(u32),
+    /// The calls that follow count in the seat with this number.
+    Use(u32),
+    /// What the seat that is in use has counted of an item.
+    Tell(ItemId),
+    Next(LaneId),
+    Lanes,
+    Lane(ItemId),
+    Destroy,
+    /// Closes with this many of the seats.
+    Close(u32),
+}
+
+/// The call that this word alone asks for.
+fn call_alone(word: &[u8]) -> Option<Call> {
+    match word {
+        b"seat" => Some(Call::Seat),
+        b"lanes" => Some(Call::Lanes),
+        b"destroy" => Some(Call::Destroy),
+        _ => None,
+    }
+}
+
+/// The call that this word asks for, with one word after it.
+fn call_of(table: &ItemTable<'_, Global>, word: &[u8], what: &[u8]) -> Option<Call> {
+    let call = match word {
+        b"cancel" => Call::Counted(Counted::Cancel(item_of(table, what))),
+        b"flush" => Call::Counted(Counted::Flush(item_of(table, what))),
+        b"sync" => Call::Counted(Counted::CancelSync(item_of(table, what))),
+        b"lane" => Call::Lane(item_of(table, what)),
+        b"counted" => Call::Tell(item_of(table, what)),
+        b"next" => Call::Next(lane_of(what)?),
+        b"seats" => Call::Seats(number(what)?),
+        b"use" => Call::Use(number(what)?),
+        b"close" => Call::Close(number(what)?),
+        _ => return None,
+    };
+    Some(call)
+}
+
+/// The call that this word asks for, of an item on a lane.
+fn call_on_lane(word: &[u8], q: LaneId, item: ItemId) -> Option<Call> {
+    let call = match word {
+        b"queue" => Counted::Queue(q, item),
+        b"wait" => Counted::Wait(q, item),
+        b"finish" => Counted::Finish(q, item),
+        _ => return None,
+    };
+    Some(Call::Counted(call))
+}
+
+/// The call that a line asks for by its first word and the words after it; none where it has the form of no call.
+pub(crate) fn read_call(
+    table: &ItemTable<'_, Global>,
+    word: &[u8],
+    mut words: Words<'_>,
+) -> Option<Call> {
+    match (words.next(), words.next(), words.next()) {
+        (None, _, _) => call_alone(word),
+        (Some(what), None, _) => call_of(table, word, what.bytes()),
+        (Some(q), Some(name), None) => {
+            call_on_lane(word, lane_of(q.bytes())?, item_of(table, name.bytes()))
+        }
+        _ => None,
+    }
+}

@@ -1,0 +1,167 @@
+//! What is printed once all rescuers and callers have ended. It takes time in the length of what is printed.
+
+use crate::testbed::{fault, put_done, put_made, put_rows};
+use std::alloc::{AllocError, Global};
+use wq_api::{CallError, Closed, Naming, Seat, WqRuntime};
+use wq_items::ItemTable;
+use wq_rescuer::{Body, Caller, Ran, Rescued, RunFault};
+use wq_script::{ScriptBody, ScriptCaller};
+
+/// A body or a caller of which something is printed.
+pub(crate) trait Shown {
+    /// The code of its last fault, 0 where there was none, and whether it has seen all that it looked for; none where it counts
+    /// neither.
+    fn shown(&self) -> Option<(u32, bool)>;
+}
+
+impl Shown for ScriptBody<'_, '_, Global> {
+    fn shown(&self) -> Option<(u32, bool)> {
+        None
+    }
+}
+
+impl Shown for ScriptCaller<Global> {
+    fn shown(&self) -> Option<(u32, bool)> {
+        None
+    }
+}
+
+/// Adds what a rescuer answered.
+fn put_rescued(
+    out: &mut String,
+    q: usize,
+    rescued: &Result<Rescued, CallError>,
+) -> Result<(), AllocError> {
+    match rescued {
+        Ok(lane) => writeln!(
+            out,
+            "lane {q} finished {} faults {}",
+            lane.finished, lane.faults
+        ),
+        Err(error) => writeln!(out, "lane {q} refused {}", error.code()),
+    }
+}
+
+/// Adds what the rescuers answered, lane by lane.
+fn put_lanes(out: &mut String, lanes: &[Result<Rescued, CallError>]) -> Result<(), AllocError> {
+    for (q, rescued) in lanes.iter().enumerate() {
+        put_rescued(out, q, rescued)?;
+    }
+    Ok(())
+}
+
+/// Adds what the bodies have seen, and their faults.
+fn put_bodies<B: Shown>(out: &mut String, bodies: &[B]) -> Result<(), AllocError> {
+    for body in bodies {
+        if let Some((code, has_seen)) = body.shown() {
+            writeln!(out, "body code {code} seen {has_seen}")?;
+        }
+    }
+    Ok(())
+}
+
+/// Adds what the callers answered.
+fn put_results(out: &mut String, results: &[Result<(), CallError>]) -> Result<(), AllocError> {
+    for result in results {
+        out.push_str("caller ")?;
+        put_done(out, *result)?;
+        out.push('\n')?;
+    }
+    Ok(())
+}
+
+/// Adds what the callers have seen.
+fn put_callers<C: Shown>(out: &mut String, callers: &[C]) -> Result<(), AllocError> {
+    for caller in callers {
+        if let Some((_, has_seen)) = caller.shown() {
+            writeln!(out, "caller seen {has_seen}")?;
+        }
+    }
+    Ok(())
+}
+
+/// Adds what all threads left.
+fn put_left<N: Naming, B: Body + Shown + Drop, C: Caller + Shown + Drop>(
+    out: &mut String,
+    ran: &Ran<N, Global, B, C>,
+) -> Result<(), AllocError> {
+    writeln!(out, "finished {} faults {}", ran.finished, ran.faults)?;
+    put_lanes(out, &ran.rescued)?;
+    put_bodies(out, &ran.bodies)?;
+    put_results(out, &ran.results)?;
+    put_callers(out, &ran.callers)
+}
+
+/// Adds that not everything was run, and how much is handed back. Returns the status.
+fn put_unrun<N: Naming, B: Body + Drop, C: Caller + Drop>(
+    out: &mut String,
+    refused: &RunFault<N, Global, B, C>,
+) -> Result<u8, AllocError> {
+    writeln!(
+        out,
+        "refused {} seats {} bodies {} callers {}",
+        refused.why.code(),
+        refused.seats.len(),
+        refused.bodies.len(),
+        refused.callers.len()
+    )?;
+    Ok(1)
+}
+
+/// Adds what a closed runtime hands back. Returns the status.
+fn put_closed<N: Naming>(
+    out: &mut String,
+    table: &ItemTable<'_, Global>,
+    closed: &Closed<N, Global>,
+) -> Result<u8, AllocError> {
+    writeln!(out, "agree {}", closed.agree)?;
+    put_made(out, table, &closed.counts)?;
+    put_rows(out, closed.book.packed())?;
+    Ok(0)
+}
+
+/// Closes a runtime, and adds what is handed back. Returns the status.
+fn close<N: Naming>(
+    out: &mut String,
+    table: &ItemTable<'_, Global>,
+    runtime: WqRuntime<N, Global>,
+    seats: Vec<Seat<N, Global>>,
+) -> Result<u8, AllocError> {
+    match runtime.close(seats) {
+        Ok(closed) => {
+            let status = put_closed(out, table, &closed);
+            // Written as a call, so that the proof has one step for it.
+            drop(closed);
+            status
+        }
+        Err(refused) => {
+            drop(refused);
+            fault(out, "close")
+        }
+    }
+}
+
+/// Adds what all threads left, closes the runtime with their seats, and adds what is handed back. Returns the status.
+pub(crate) fn put_ran<N: Naming, B: Body + Shown + Drop, C: Caller + Shown + Drop>(
+    out: &mut String,
+    table: &ItemTable<'_, Global>,
+    runtime: WqRuntime<N, Global>,
+    ran: Ran<N, Global, B, C>,
+) -> Result<u8, AllocError> {
+    let printed = put_left(out, &ran);
+    let Ran { seats, .. } = ran;
+    let status = close(out, table, runtime, seats);
+    printed.and(status)
+}
+
+/// Adds that not everything was run on a runtime. Returns the status.
+pub(crate) fn put_refused<N: Naming, B: Body + Drop, C: Caller + Drop>(
+    out: &mut String,
+    runtime: WqRuntime<N, Global>,
+    refused: RunFault<N, Global, B, C>,
+) -> Result<u8, AllocError> {
+    drop(runtime);
+    let status = put_unrun(out, &refused);
+    drop(refused);
+    status
+}

@@ -1,0 +1,108 @@
+//! A rescuer for each lane whose body makes the declared flushes of its items, and two callers that queue all items and then
+//! flush them, or one caller that makes the calls of a text.
+//!
+//! It takes the time of the bodies and the callers, and then that of printing the history that they leave.
+
+ghost use Rattle.std.specs.Prelude.{◌≡◌};
+ghost use Rattle.wq_groups.specs.Declaration.{declaration_of};
+ghost use Rattle.wq_core.specs.Wiring.{wiring};
+
+use crate::lines::tell_text;
+use crate::ran::{put_ran, put_refused};
+use crate::testbed::{Bed, RuntimeJob, mistake};
+use std::alloc::{AllocError, Global};
+use std::sync::Wait;
+use std::thread::Threads;
+use wq_api::{Naming, WqRuntime};
+use wq_items::ItemTable;
+use wq_rescuer::{Ran, RunFault, run_all};
+use wq_script::{Act, ScriptBody, ScriptCaller, script_bodies, script_callers};
+
+/// The calls of the caller; without them there are the two callers that queue and flush all items.
+#[derive(Drop)]
+pub(crate) struct Script {
+    acts: Option<Vec<Act>>,
+    /// The number of the first line that is a mistake, if there is one.
+    mistake: Option<u32>,
+}
+
+/// What all threads of a script left, or why not everything was run.
+type ScriptRan<'t, 'a, N> = Result<
+    Ran<N, Global, ScriptBody<'t, 'a, Global>, ScriptCaller<Global>>,
+    RunFault<N, Global, ScriptBody<'t, 'a, Global>, ScriptCaller<Global>>,
+>;
+
+impl Script {
+    /// The script in which two callers queue and flush all items.
+    pub(crate) fn of_all() -> Self {
+        Script {
+            acts: None,
+            mistake: None,
+        }
+    }
+
+    /// Reads the calls of a text.
+    pub(crate) fn read(
+        alloc: Global,
+        table: &ItemTable<'_, Global>,
+        text: &[u8],
+    ) -> Result<Self, AllocError> {
+        let mut acts = Vec::new(alloc);
+        let mut unused = String::new(alloc);
+        let mistake = tell_text(&mut acts, table, text, &mut unused)?;
+        Ok(Script {
+            acts: Some(acts),
+            mistake,
+        })
+    }
+
+    /// The callers.
+    fn callers(&self, alloc: Global, items: u16) -> Result<Vec<ScriptCaller<Global>>, AllocError> {
+        let Some(acts) = &self.acts else {
+            return script_callers(alloc, items);
+        };
+        let acts = acts.to_vec(alloc)?;
+        let mut callers = Vec::new(alloc);
+        callers.push(ScriptCaller::new(acts))?;
+        Ok(callers)
+    }
+
+    /// Has rescuers make the declared flushes while the callers call.
+    fn perform<'t, N: Naming + Send + Sync, R: Threads + Wait + Sync>(
+        &self,
+        rt: &R,
+        alloc: Global,
+        runtime: &WqRuntime<N, Global>,
+        bed: &Bed<'t>,
+    ) -> Result<ScriptRan<'t, 't, N>, AllocError>
+        requires { N.wiring ≡ wiring (declaration_of bed.now.table.now bed.now.groups.now) bed.now.assignment.now }
+    {
+        let bodies = script_bodies(alloc, bed.table, runtime.lanes(rt))?;
+        let callers = self.callers(alloc, bed.table.len())?;
+        Ok(run_all(rt, alloc, runtime, bodies, callers))
+    }
+}
+
+impl RuntimeJob for Script {
+    fn run<N: Naming + Send + Sync, R: Threads + Wait + Sync>(
+        &self,
+        rt: &R,
+        alloc: Global,
+        runtime: WqRuntime<N, Global>,
+        bed: &Bed<'_>,
+        out: &mut String,
+    ) -> Result<u8, AllocError> {
+        if let Some(line) = self.mistake {
+            drop(runtime);
+            return mistake(out, line);
+        }
+        match self.perform(rt, alloc, &runtime, bed) {
+            Ok(Ok(ran)) => put_ran(out, bed.table, runtime, ran),
+            Ok(Err(refused)) => put_refused(out, runtime, refused),
+            Err(error) => {
+                drop(runtime);
+                Err(error)
+            }
+        }
+    }
+}

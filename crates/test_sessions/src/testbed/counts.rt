@@ -1,0 +1,74 @@
+//! What is printed of a closed runtime: its counts and its rows. It takes time in the number of items and rows.
+
+use crate::testbed::printing::put_item;
+use std::alloc::{AllocError, Global};
+use wq_api::{Counts, Kind};
+use wq_items::{ItemId, ItemTable};
+
+/// The word for a kind.
+pub fn kind_word(kind: Kind) -> &'static str {
+    match kind {
+        Kind::Queue => "queue",
+        Kind::Cancel => "cancel",
+        Kind::Wait => "wait",
+        Kind::Over => "over",
+        Kind::Ask => "ask",
+        Kind::Told => "told",
+        Kind::Finish => "finish",
+    }
+}
+
+/// Adds what was counted of an item and a kind with an answer, if anything was.
+fn put_count(
+    out: &mut String,
+    table: &ItemTable<'_, Global>,
+    item: ItemId,
+    kind: Kind,
+    answer: &str,
+    count: u64,
+) -> Result<(), AllocError> {
+    if count == 0 {
+        return Ok(());
+    }
+    out.push_str("made ")?;
+    put_item(out, table, item)?;
+    writeln!(out, " {} {answer} {count}", kind_word(kind))
+}
+
+/// Adds all that was counted of an item, kind by kind.
+fn put_made_of(
+    out: &mut String,
+    table: &ItemTable<'_, Global>,
+    counts: &Counts<Global>,
+    item: ItemId,
+) -> Result<(), AllocError> {
+    for kind in Kind::ALL {
+        put_count(out, table, item, kind, "yes", counts.made(item, kind, true))?;
+        put_count(out, table, item, kind, "no", counts.made(item, kind, false))?;
+    }
+    Ok(())
+}
+
+/// Adds all that was counted, item by item.
+pub fn put_made(
+    out: &mut String,
+    table: &ItemTable<'_, Global>,
+    counts: &Counts<Global>,
+) -> Result<(), AllocError> {
+    for i in 0..table.len() {
+        put_made_of(out, table, counts, ItemId::new(i))?;
+    }
+    writeln!(out, "total {}", counts.total())
+}
+
+/// Adds the number of rows, and each of them in hexadecimal digits.
+pub fn put_rows(out: &mut String, packed: &[u8]) -> Result<(), AllocError> {
+    writeln!(out, "rows {}", packed.len() / 12)?;
+    for row in packed.chunks(12) {
+        for byte in row {
+            write!(out, "{byte:02x}")?;
+        }
+        out.push('\n')?;
+    }
+    Ok(())
+}
