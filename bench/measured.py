@@ -4,6 +4,7 @@ The peers of bench/peers are called with a load as `str(load)` writes it, and pr
 """
 
 import collections
+import contextlib
 import dataclasses
 import os
 import re
@@ -131,7 +132,8 @@ class Limit:
 
     def kill(self, *_):
         self.is_over = True
-        os.kill(self.process, signal.SIGKILL)
+        with contextlib.suppress(ProcessLookupError):
+            os.kill(self.process, signal.SIGKILL)
 
     def __enter__(self):
         signal.signal(signal.SIGALRM, self.kill)

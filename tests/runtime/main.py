@@ -1,10 +1,9 @@
 # Gives the programs the rows of the tables beside this file, and compares what they print:
 #
-#     main.py WQ_CALLS WQ_CREW WQ_STRESS
+#     main.py WQ_CALLS WQ_CREW
 #
 # Each row is texts and the answer to them: `wq_calls` and `wq_crew run` must print just that, with the
-# exit status that goes with it, and nothing to standard error. Then some short loads: of each
-# `wq_stress` must print the eight lines that no schedule changes. It takes some seconds.
+# exit status that goes with it, and nothing to standard error. It takes some seconds.
 
 import pathlib
 import sys
@@ -13,11 +12,10 @@ sys.dont_write_bytecode = True
 sys.path.append(str(pathlib.Path(__file__).resolve().parent.parent))
 import calls  # noqa: E402  (beside this file)
 import crews  # noqa: E402
-from loads import ALWAYS  # noqa: E402
 from tables import Case, run_cases, text_of  # noqa: E402  (in the folder above)
 
 # The places of the programs among the arguments.
-CALLS, CREW, STRESS = range(3)
+CALLS, CREW = range(2)
 
 # A chain of as many items as a runtime may have lanes.
 ITEMS = [f"item i{k}" for k in range(256)]
@@ -26,23 +24,6 @@ CHAIN = (" / ".join(ITEMS + FLUSHES), " / ".join(f"wq {k} i{k}" for k in range(2
 
 # Address space for the program and for some of the threads of a chain's lanes, in bytes.
 SOME_THREADS = 128 << 20
-
-# A declaration and an assignment, how many rows there are, and how many calls each caller makes.
-LOADS = [
-    (*calls.ONE, 3, 0),
-    (*calls.ONE, 3, 200),
-    (*calls.ONE, 10_000, 500),
-    (*calls.TWO, 5, 200),
-    (*calls.TWO, 1_000, 500),
-    (*calls.TWO, 20_000, 500),
-    # Lanes that serve no item.
-    ("item a / item b / flush b a a a", "wq 0 / wq 1 a / wq 2 b / wq 3", 20_000, 300),
-    # Three items of one lane, which wait for a fourth.
-    ("item a / item b / item c / item d / ordered b c d / flush b a / flush d a a",
-     "wq 0 a / wq 1 b c d", 20_000, 300),
-    (*CHAIN, 60_000, 50),
-]
-
 
 def status_of(answer):
     """The status that goes with an answer of `wq_calls`."""
@@ -64,13 +45,6 @@ def handed_back(counts, rows):
     yield f"total {sum(count for *_, count in counts)}"
     yield f"rows {len(rows)}"
     yield from rows
-
-
-def many_threads(table, declaration, assignment, rows, seed, each, answer, status):
-    """A run of `wq_stress`."""
-    texts = [text_of(declaration), text_of(assignment)]
-    arguments = [0, 1, str(rows), str(seed), str(each)]
-    return Case(table, arguments, texts, text_of(answer), status, program=STRESS)
 
 
 def crew(*arguments, **others):
@@ -117,44 +91,23 @@ def table_cases():
         texts = [text_of(text) for text in (*CHAIN, deeds)]
         yield crew("threads that can't be made", ["run", 0, 1, "1000", 2], texts, text_of(answer), 1,
                    memory=SOME_THREADS)
-    for declaration, assignment, rows, each in LOADS:
-        for seed in (1, 4_294_967_295):
-            always = " / ".join(ALWAYS)
-            yield many_threads("loads", declaration, assignment, rows, seed, each, always, 0)
-    # What is answered before any thread starts: a runtime that isn't made, and a first item that
-    # can't be queued.
-    for declaration, assignment, rows, answer, status in [
-        ("item a", calls.LANES_257, 16_777_217, "refused 69", 2),
-        (*calls.SELF, 16_777_217, "refused 68", 2),
-        (*calls.SELF, 5, "refused 67", 2),
-        ("item a / item a", "nope", 5, "refused 7 line 2", 2),
-        ("item a / item b", "wq 0 a", 5, "refused 41 line 0", 2),
-        (*calls.ONE, 2, "fault queue", 1),
-        (*calls.TWO, 4, "fault queue", 1),
-        ("", "", 5, "fault queue", 1),
-    ]:
-        table = "loads that don't begin"
-        yield many_threads(table, declaration, assignment, rows, 1, 10, answer, status)
     # A wrong command line prints nothing to standard output; a file that isn't there is a fault.
     for program, words in [
         (CALLS, []), (CALLS, [0, 0, "1"]), (CALLS, [0, 0, "x", 0]), (CALLS, [0, 0, "01", 0]),
         (CALLS, [0, 0, "4294967296", 0]), (CALLS, [0, 0, "1", 0, 0]),
-        (STRESS, []), (STRESS, [0, 0, "1", "1"]), (STRESS, [0, 0, "1", "1", "x"]), (STRESS, [0, 0, "1", "x", "1"]),
-        (STRESS, [0, 0, "x", "1", "1"]), (STRESS, [0, 0, "1", "1", "4294967296"]),
-        (STRESS, [0, 0, "1", "1", "1", "count"]), (STRESS, [0, 0, "1", "1", "1", "counts", "counts"]),
         (CREW, []), (CREW, ["run", 0, 0, "1"]), (CREW, ["run", 0, 0, "x", 0]), (CREW, ["run", 0, 0, "1", 0, 0]),
         (CREW, ["go", 0, 0, "1", 0]), (CREW, ["script", 0, 0]), (CREW, ["script", 0, 0, "1", 0, 0]),
     ]:
         yield Case("command lines", words, [b""], b"", 2, complains=True, program=program)
     for program, words in [
         (CALLS, [0, 0, "1", "nowhere"]), (CALLS, ["nowhere", 0, "1", 0]),
-        (STRESS, [0, "nowhere", "1", "1", "1"]), (CREW, ["run", 0, 0, "1", "nowhere"]),
+        (CREW, ["run", 0, 0, "1", "nowhere"]),
     ]:
         yield Case("faults", words, [b""], b"", 3, complains=True, program=program)
 
 
 def main(arguments):
-    return run_cases("runtime", arguments, list(table_cases()), 3)
+    return run_cases("runtime", arguments, list(table_cases()), 2)
 
 
 if __name__ == "__main__":
