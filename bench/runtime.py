@@ -1,13 +1,16 @@
 """What bench/runtime measures once the programs are built. Each argument is NAME=WORDS, the first one that of this repository.
 
-A program is called with a load, as `wq_bench` is: KIND LANES CALLERS COUNT [figures].
+A peer is called with a load, KIND LANES CALLERS COUNT [figures]; the program of this repository as measured.py says.
 """
 
 import os
 import subprocess
 import sys
 
-OURS = "wq_bench"
+import measured  # beside this file
+from measured import Load
+
+OURS = "test_runtime"
 # The peers with one condition variable. The first two wake as `wq_api` does, and the first sleeps as Rattle's std does; the
 # third wakes only where somebody may go on.
 PLAIN = ["timed", "every", "one"]
@@ -22,8 +25,13 @@ FILLS = [MILLION, 2 * MILLION, 4 * MILLION, 8 * MILLION, 16_777_216]
 FILL_RUNS = 2
 FILLED = [OURS, "every"]
 MOST_ROWS = 16_777_216
-SAMPLES = ["rounds 1 1 500", "rounds 4 4 200", "rounds 64 3 50", "rounds 256 2 20", "storm 8 16 50", "storm 3 2 400", "fill 1 1 5000", "fill 3 2 4000"]
+SAMPLES = [
+    Load("rounds", 1, 1, 500), Load("rounds", 4, 4, 200), Load("rounds", 64, 3, 50), Load("rounds", 256, 2, 20),
+    Load("storm", 8, 16, 50), Load("storm", 3, 2, 400), Load("fill", 1, 1, 5000), Load("fill", 3, 2, 4000),
+]
 MOST_RATIO = 1.2
+# A run that takes longer is ended: a wake-up may be lost.
+SECONDS = 600
 
 
 class Place:
@@ -49,22 +57,57 @@ def places():
     return Place(name, {max(everywhere)}, options), Place("all processors", everywhere, {})
 
 
-class Run:
-    """One run: its lines as a dictionary, and what the system says of it."""
+class Program:
+    """A program that is measured: that of this repository, or a peer."""
 
-    def __init__(self, place, words, load):
+    def __init__(self, name, words, texts):
+        self.name, self.own_words, self.texts = name, words, texts
+
+    def words(self, load, *options):
+        if self.name == OURS:
+            return self.own_words + self.texts.words(load)
+        return self.own_words + str(load).split() + list(options)
+
+    def fixed(self, load):
+        """The lines of a load that are the same each time."""
+        try:
+            if self.name == OURS:
+                return measured.run(self.own_words[0], self.texts, load, SECONDS).text()
+            run = subprocess.run(self.words(load), capture_output=True, text=True, timeout=SECONDS)
+        except (measured.Failed, subprocess.TimeoutExpired) as fault:
+            sys.exit(f"{self.name}: {fault}")
+        if run.returncode != 0:
+            sys.exit(f"{self.name} ends with status {run.returncode} on {load}: {run.stdout}{run.stderr}")
+        return run.stdout
+
+    def nanoseconds(self, load, text):
+        """The wall time that a run printed, in which nothing was refused."""
+        if self.name == OURS:
+            figures = measured.Figures(load, text)
+            if not figures.is_as_asked(load):
+                sys.exit(f"{self.name} prints on {load}:\n{figures.text()}")
+            return figures.figures["nanoseconds"]
+        return int(dict(line.rsplit(" ", 1) for line in text.splitlines())["nanoseconds"])
+
+
+class Run:
+    """One run: its wall time as it printed it, and what the system says of it."""
+
+    def __init__(self, place, program, load):
         place.enter()
         read, write = os.pipe()
         output = [(os.POSIX_SPAWN_DUP2, write, 1)]
-        child = os.posix_spawn(words[0], words + load.split() + ["figures"], {}, file_actions=output, **place.options)
+        words = program.words(load, "figures")
+        child = os.posix_spawn(words[0], words, {}, file_actions=output, **place.options)
         os.close(write)
-        with open(read) as lines:
-            self.text = lines.read()
-        _, status, usage = os.wait4(child, 0)
+        with measured.Limit(child, SECONDS) as limit, open(read) as lines:
+            text = lines.read()
+            _, status, usage = os.wait4(child, 0)
+        if limit.is_over:
+            sys.exit(f"{program.name} didn't end within {SECONDS} s on {load}")
         if status != 0:
-            sys.exit(f"{' '.join(words)} ends with status {os.waitstatus_to_exitcode(status)} on {load}: {self.text}")
-        self.lines = dict(line.rsplit(" ", 1) for line in self.text.splitlines())
-        self.wall = int(self.lines["nanoseconds"])
+            sys.exit(f"{program.name} ends with status {os.waitstatus_to_exitcode(status)} on {load}: {text}")
+        self.wall = program.nanoseconds(load, text)
         self.processor = (usage.ru_utime + usage.ru_stime) * 1e9
         self.switches = usage.ru_nvcsw + usage.ru_nivcsw
 
@@ -81,23 +124,18 @@ class Least:
 def compare(programs):
     """All programs print the same counts of small loads."""
     for load in SAMPLES:
-        answers = {}
-        for name, words in programs.items():
-            run = subprocess.run(words + load.split(), capture_output=True, text=True)
-            if run.returncode != 0:
-                sys.exit(f"{name} ends with status {run.returncode} on {load}: {run.stdout}{run.stderr}")
-            answers[name] = run.stdout
+        answers = {name: program.fixed(load) for name, program in programs.items()}
         for name, answer in answers.items():
             if answer != answers[OURS]:
                 sys.exit(f"{name} prints other counts than {OURS} of {load}:\n{answer}\n{answers[OURS]}")
     print(f"{len(SAMPLES)} small loads: {', '.join(programs)} print the same counts")
 
 
-def calibrated(place, words, kind, lanes, callers):
+def calibrated(place, program, kind, lanes, callers):
     """So many rounds of each caller that a run takes long enough."""
     count = 100
     while True:
-        run = Run(place, words, f"{kind} {lanes} {callers} {count}")
+        run = Run(place, program, Load(kind, lanes, callers, count))
         more = count * 2 if run.wall < LEAST * 1e9 / 4 else int(count * max(1, LEAST * 1.2e9 / run.wall))
         more = min(more, MOST_ROWS // (5 * callers))
         if run.wall >= LEAST * 1e9 or more <= count:
@@ -107,11 +145,11 @@ def calibrated(place, words, kind, lanes, callers):
 
 def measure(place, programs, kind, lanes, callers):
     """Of each program the least figures of a round, the programs in turn."""
-    counts = {name: calibrated(place, words, kind, lanes, callers) for name, words in programs.items()}
+    counts = {name: calibrated(place, program, kind, lanes, callers) for name, program in programs.items()}
     runs = {name: [] for name in programs}
     for _ in range(RUNS):
-        for name, words in programs.items():
-            runs[name].append(Run(place, words, f"{kind} {lanes} {callers} {counts[name]}"))
+        for name, program in programs.items():
+            runs[name].append(Run(place, program, Load(kind, lanes, callers, counts[name])))
     return {name: Least(runs[name], counts[name] * callers) for name in programs}
 
 
@@ -153,7 +191,7 @@ def fills(place, programs):
         runs = {name: [] for name in names}
         for _ in range(FILL_RUNS):
             for name in names:
-                runs[name].append(Run(place, programs[name], f"fill 1 1 {rows}"))
+                runs[name].append(Run(place, programs[name], Load("fill", 1, 1, rows)))
         found[rows] = {name: Least(runs[name], rows) for name in names}
         row(f"{rows:,}", [number(found[rows][name].processor) for name in names])
     row("last / first", [f"{found[FILLS[-1]][name].processor / found[FILLS[0]][name].processor:.2f}" for name in names])
@@ -167,8 +205,7 @@ def goals(found, field):
                 print(f"{name:26} {quotient:6.2f} of {peer:6} at most {MOST_RATIO}: {'met' if quotient <= MOST_RATIO else 'missed'}")
 
 
-def main():
-    programs = {name: words.split() for name, words in (argument.split("=", 1) for argument in sys.argv[1:])}
+def measure_all(programs):
     compare(programs)
     one, everywhere = places()
     alone = rounds(one, programs)
@@ -185,6 +222,12 @@ def main():
         "processor": f"Processor time of a round in nanoseconds, all threads together, {everywhere.name}",
         "switches": f"Context switches of a round, {everywhere.name}",
     })
+
+
+def main():
+    with measured.Texts() as texts:
+        named = (argument.split("=", 1) for argument in sys.argv[1:])
+        measure_all({name: Program(name, words.split(), texts) for name, words in named})
 
 
 main()

@@ -145,7 +145,7 @@ $build/crates/wqplan run -- --version" "$(sed 's/--jobs [0-9]*$/--jobs N/' "$wor
 is 'each crate is named as checked, once' "$crates" "$(sed -n 's|^\[[0-9]*/[0-9]*\] \(.*\) checked (.*|\1|p' "$work/out" | LC_ALL=C sort)"
 is 'they are counted' "$(wc -w <<<"$crates")" "$(sed -n 's|^\[\([0-9]*\)/\([0-9]*\)\] .*|\1 \2|p' "$work/out" | awk '$1 == NR { n = $2 } END { print n }')"
 is 'the program is among them' wqplan "$(grep -x wqplan <<<"$crates")"
-is 'no crate of the tests or of an example is' '' "$(grep -xE '(test|example)_.*|wq_(book|stress|bench|tests)' <<<"$crates")"
+is 'no crate of the tests or of an example is' '' "$(grep -xE '(test|example)_.*|wq_tests' <<<"$crates")"
 lacking=''
 for crate in $crates; do
     for use in $(sed -n "s/^$crate://p" "$repository/crates.txt"); do

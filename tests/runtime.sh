@@ -1,6 +1,6 @@
 #!/usr/bin/env bash
 # Gives `calls`, `crew` and `script` of the test program test_runtime the rows of the tables in tests/runtime, which were worked
-# out from docs/FORMAT.md, and compares what it prints; and has it run some short loads in many threads. Run it once the gate or
+# out from docs/FORMAT.md, and compares what it prints; and has it run some short loads in many threads, and judges what it prints. Run it once the gate or
 # `rt run` has built the program. The first argument may name another program.
 set -eu
 program=$(realpath -m -- "${1:-$(dirname "$0")/../crates/test_runtime/out/test_runtime}")

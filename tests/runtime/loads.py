@@ -1,106 +1,430 @@
-# Loads in many threads, and what must be printed of each:
+# Runs loads in many threads, and judges what is printed of each:
 #
-#     loads.py PROGRAM FOLDER SEEDS CALLS
+#     loads.py PROGRAM                  short loads, which take some seconds
+#     loads.py PROGRAM SEEDS CALLS      for each seed one with rows for all calls and one with too few
 #
-# FOLDER has the files `declaration` and `assignment`. For each seed there are two runs, one with
-# rows for all calls, and one with too few.
+# PROGRAM is `test_runtime`. What its threads meet depends on their schedule, so no text is compared.
+# `test_runtime stress` prints what each thread was answered, what each seat counted, what the closed
+# runtime hands back, and each row of its history. These must fit together, and the rows must be a
+# legal history by the model of tests/model, which was written from docs/FORMAT.md. A program that
+# takes too long is ended, and has failed: a wake-up may be lost.
 
 import collections
+import dataclasses
+import itertools
 import os
+import pathlib
 import re
 import subprocess
 import sys
+import tempfile
 import time
 
-KINDS = ["queue", "cancel", "wait", "over", "ask", "told", "finish"]
-REFUSALS = [60, 61, 62, 63, 64, 65, 66]
+sys.dont_write_bytecode = True
+HERE = pathlib.Path(__file__).resolve().parent
+sys.path += [str(HERE.parent), str(HERE.parent / "model"), str(HERE.parent.parent / "bench")]
+import book  # noqa: E402  (in tests/model)
+import calls  # noqa: E402  (beside this file)
+import certificate  # noqa: E402  (in tests/model)
+import declaration  # noqa: E402  (in tests/model)
+import measured  # noqa: E402  (in bench)
+from tables import Case, run_cases, text_of  # noqa: E402  (in tests)
 
-# What is printed of every load, whatever the threads did.
-ALWAYS = [
-    "busy 71", "late 61", "done true", "early 72", "agree true", "idle true", "legal true",
-    "answers true",
+# How long a program may take, in seconds, and how many calls of a caller give it one more.
+SECONDS = 60
+CALLS_OF_A_SECOND = 1000
+
+CALLERS = 4
+KINDS = ["queue", "cancel", "wait", "over", "ask", "told", "finish"]
+ASKED = ["queue", "cancel", "flush", "sync", "wait"]
+REFUSALS = [60, 61, 62, 63, 64, 65, 66]
+FULL, CLOSED, NO_ITEM = 60, 61, 66
+
+# What each call may be refused with: by a body, by a caller, and by the last caller once it has
+# destroyed the runtime. The other refusals of a call can't be met in a load.
+BODY = {"queue": {60, 61, 66}, "cancel": {60, 66}, "wait": {62, 63}}
+CALLER = {"queue": {60, 64, 66}, "cancel": {60, 66}, "flush": {60, 66}, "sync": {60, 66}}
+LATE = {"queue": {61, 66}, "flush": {60}}
+
+# Sixteen items on eight workqueues, with flushes of all lengths and two ordered pairs.
+SIXTEEN = (
+    " / ".join([
+        *(f"item {name}" for name in "abcdefghijklmnop"), "ordered e f", "ordered o p",
+        "flush c a", "flush d a b", "flush e c", "flush f d b b", "flush g a", "flush h e c a",
+        "flush i g", "flush j h f", "flush k i j", "flush l b d f h", "flush m k", "flush n l l a",
+        "flush o m n", "flush p a c e g i k m",
+    ]),
+    "wq 0 a b / wq 1 c d / wq 2 e f / wq 3 g h / wq 4 i j / wq 5 k l / wq 6 m n / wq 7 o p",
+)
+
+# A chain of as many items as a runtime may have workqueues.
+NAMES = [f"i{k}" for k in range(256)]
+CHAIN = (
+    " / ".join([*(f"item {name}" for name in NAMES),
+                *(f"flush {above} {below}" for below, above in itertools.pairwise(NAMES))]),
+    " / ".join(f"wq {k} {name}" for k, name in enumerate(NAMES)),
+)
+
+# A declaration and an assignment, how many rows there are, and how many calls each caller makes.
+SHORT = [
+    (*calls.ONE, 2, 10),
+    (*calls.ONE, 3, 0),
+    (*calls.ONE, 3, 200),
+    (*calls.ONE, 10_000, 500),
+    (*calls.TWO, 4, 10),
+    (*calls.TWO, 5, 200),
+    (*calls.TWO, 1_000, 500),
+    (*calls.TWO, 20_000, 500),
+    # No item and no workqueue.
+    ("", "", 5, 10),
+    # Workqueues that serve no item.
+    ("item a / item b / flush b a a a", "wq 0 / wq 1 a / wq 2 b / wq 3", 20_000, 300),
+    # Three items of one workqueue, which wait for a fourth.
+    ("item a / item b / item c / item d / ordered b c d / flush b a / flush d a a",
+     "wq 0 a / wq 1 b c d", 20_000, 300),
+    (*CHAIN, 60_000, 50),
 ]
 
-Load = collections.namedtuple("Load", "said refusals rows free")
+# The loads that are measured, as bench/runtime.py runs them, but short.
+MEASURED = [
+    ("rounds", 4, 4, 200), ("rounds", 1, 3, 50), ("storm", 8, 16, 50), ("storm", 256, 2, 20),
+    ("fill", 3, 2, 4000), ("fill", 1, 1, 1),
+]
+
+# What is answered before any thread starts: a runtime that isn't made.
+REFUSED = [
+    ("item a", calls.LANES_257, 16_777_217, "refused 69"),
+    (*calls.SELF, 16_777_217, "refused 68"),
+    (*calls.SELF, 5, "refused 67"),
+    ("item a / item a", "nope", 5, "refused 7 line 2"),
+    ("item a / item b", "wq 0 a", 5, "refused 41 line 0"),
+]
 
 
-def read(lines):
-    """The counts behind the first lines; None where they aren't of the form."""
-    form = [rf"{kind} yes (\d+) no (\d+)" for kind in KINDS]
-    form += [rf"refused {code} (\d+)" for code in REFUSALS] + [r"rows (\d+)", r"free (\d+)"]
-    found = [re.fullmatch(pattern, line) for pattern, line in zip(form, lines)]
-    if len(lines) != len(form) or not all(found):
-        return None
-    groups = [tuple(map(int, match.groups())) for match in found]
-    said = dict(zip(KINDS, groups))
-    refusals = dict(zip(REFUSALS, (count for (count,) in groups[len(KINDS):-2])))
-    return Load(said, refusals, groups[-2][0], groups[-1][0])
+class Odd(Exception):
+    """Something else was printed than there should be."""
 
 
-def faults_of(load, rows):
-    """What doesn't fit together in the counts of a runtime that was idle when it was closed."""
-    yes = {kind: said[0] for kind, said in load.said.items()}
-    no = {kind: said[1] for kind, said in load.said.items()}
-    starts = yes["finish"]
-    counted = sum(yes.values()) + sum(no.values())
-    if yes["queue"] != yes["cancel"] + yes["finish"]:
-        yield "not each entry was cancelled or finished"
-    if yes["over"] != yes["wait"] + no["wait"] or yes["told"] != yes["ask"]:
-        yield "not each wait is over"
-    if no["over"] or no["told"] or no["finish"]:
-        yield "what is always true was false"
-    if load.rows != counted + starts:
-        yield "there are other rows than those that were counted, and the starts"
-    if load.rows + load.free != rows:
-        yield "rows are kept for nothing"
-    if load.refusals[65]:
-        yield "an ask wasn't there"
+class Lines:
+    """The lines that were printed, which are taken one after the other."""
+
+    def __init__(self, text):
+        *lines, end = text.decode("latin-1").split("\n")
+        if end:
+            raise Odd(f"the last line {end!r} doesn't end")
+        self.left = iter(lines)
+        self.next = next(self.left, "")
+
+    def some(self, form):
+        """The groups of the lines that follow and have this form, which may be none."""
+        while match := re.fullmatch(form, self.next):
+            yield match.groups()
+            self.next = next(self.left, "")
+
+    def one(self, form):
+        """The groups of the next line, which must have this form."""
+        match = re.fullmatch(form, self.next)
+        if match is None:
+            raise Odd(f"{self.next!r} where there should be {form!r}")
+        self.next = next(self.left, "")
+        return match.groups()
+
+    def end(self):
+        if self.next:
+            raise Odd(f"{self.next!r} after the end")
 
 
-def put(load):
+def read_answers(lines, seat, when):
+    """How often a thread was answered what: by the call, and True, False or the number of a refusal."""
+    answers = collections.Counter()
+    for call in ASKED:
+        (counts,) = lines.one(rf"seat {seat} {when} {call}((?: \d+){{9}})")
+        answers.update({(call, answer): int(count)
+                        for answer, count in zip([True, False, *REFUSALS], counts.split()) if int(count)})
+    return answers
+
+
+def answered(counts, *asked, answers=(True, False)):
+    """How often one of these calls was answered so."""
+    return sum(counts[call, answer] for call in asked for answer in answers)
+
+
+def may_be(counts, allowed):
+    """Whether only these calls were made, and refused only so."""
+    return all(call in allowed and (isinstance(answer, bool) or answer in allowed[call]) for call, answer in counts)
+
+
+def made(counts, kind, *answers):
+    """How many rows of a kind there are with these answers, whatever the item, where it is counted by all three."""
+    return sum(count for (_, other, answer), count in counts.items() if other == kind and answer in answers)
+
+
+@dataclasses.dataclass
+class Printed:
+    """What is printed of a load."""
+
+    lanes: list  # how many executions were finished, and how many of them with a fault
+    callers: list  # what each answered
+    said: list  # of each seat, what its thread was answered
+    late: list  # of each caller, what it was answered once the runtime was destroyed
+    seats: list  # of each seat, what it counted
+    agree: str
+    made: collections.Counter  # what was counted in all
+    total: int
+    idle: str
+    free: int
+    rows: bytes
+
+    @classmethod
+    def read(cls, text):
+        lines = Lines(text)
+        lines.one(r"nanoseconds \d+")
+        lanes = [(int(finished), int(faults))
+                 for _, finished, faults in lines.some(r"lane (\d+) finished (\d+) faults (\d+)")]
+        callers = [answer for (answer,) in lines.some(r"caller (.+)")]
+        said, late = [], []
+        for seat in range(len(lanes) + len(callers)):
+            said.append(read_answers(lines, seat, "said"))
+            if seat >= len(lanes):
+                late.append(read_answers(lines, seat, "late"))
+        seats = [collections.Counter() for _ in said]
+        for seat, item, kind, yes, no in lines.some(r"seat (\d+) made (\S+) (\S+) (\d+) (\d+)"):
+            seats[int(seat)] += collections.Counter({(item, kind, True): int(yes), (item, kind, False): int(no)})
+        (agree,) = lines.one(r"agree (.+)")
+        sums = collections.Counter()
+        for item, kind, answer, count in lines.some(r"made (\S+) (\S+) (yes|no) (\d+)"):
+            sums[item, kind, answer == "yes"] += int(count)
+        (total,), (idle,) = lines.one(r"total (\d+)"), lines.one(r"idle (.+)")
+        (free,), (count,) = lines.one(r"free (\d+)"), lines.one(r"rows (\d+)")
+        rows = [row for (row,) in lines.some(r"([0-9a-f]{24})")]
+        lines.end()
+        if len(rows) != int(count):
+            raise Odd(f"{len(rows)} rows where there should be {count}")
+        return cls(lanes, callers, said, late, seats, agree, sums, int(total), idle, int(free),
+                   bytes.fromhex("".join(rows)))
+
+    def refused(self):
+        """How often each refusal was met."""
+        counts = sum(self.said + self.late, collections.Counter())
+        return {code: answered(counts, *ASKED, answers=[code]) for code in REFUSALS}
+
+
+class History:
+    """The rows of a history, judged by the model and counted."""
+
+    def __init__(self, declared, assignment, text):
+        self.length, self.fault, replay = book.judge(declared, assignment, text)
+        self.is_idle = replay.is_idle()
+        self.made = collections.Counter()
+        self.of_lane = [collections.Counter() for _ in range(assignment.count)]  # what only its rescuer makes
+        if self.fault is None:
+            for at in range(0, len(text), book.ROW_BYTES):
+                self.note(declared, book.unpacked(text[at:at + book.ROW_BYTES]))
+
+    def note(self, declared, row):
+        if row.event == "start":
+            return
+        what = declared.items[row.item].decode("latin-1"), row.event, row.yes
+        self.made[what] += 1
+        if row.event in book.WITH_LANE:
+            self.of_lane[row.lane][what] += 1
+
+
+@dataclasses.dataclass
+class Load:
+    """A load, and the texts that it is made of."""
+
+    declared: str
+    assigned: str
+    rows: int
+    calls: int
+    seed: int
+
+    def faults_of_body(self, q, printed, history):
+        """What isn't so of the rescuer of a workqueue and its body."""
+        said, seat = printed.said[q], printed.seats[q]
+        finished, faults = printed.lanes[q]
+        if faults or not may_be(said, BODY):
+            yield f"the body of workqueue {q} was answered what it can't be"
+        for kind in "queue", "cancel", "wait":
+            if any(made(seat, kind, answer) != said[kind, answer] for answer in (True, False)):
+                yield f"the seat of workqueue {q} counts other answers to {kind}"
+        if made(seat, "over", True) != answered(said, "wait") or made(seat, "finish", True) != finished:
+            yield f"the seat of workqueue {q} counts other ends"
+        if made(seat, "ask", True, False) or made(seat, "told", True, False):
+            yield f"the seat of workqueue {q} counts asks"
+        if history.of_lane[q] != {what: count for what, count in seat.items() if what[1] in book.WITH_LANE}:
+            yield f"the rows of workqueue {q} aren't those that its seat counts"
+
+    def faults_of_caller(self, number, printed):
+        """What isn't so of a caller."""
+        seat = printed.seats[len(printed.lanes) + number]
+        said, late = printed.said[len(printed.lanes) + number], printed.late[number]
+        both = said + late
+        if printed.callers[number] != "ok" or not may_be(said, CALLER) or not may_be(late, LATE):
+            yield f"caller {number} was answered what it can't be"
+        if said.total() != self.calls:
+            yield f"caller {number} made {said.total()} calls"
+        for answer in True, False:
+            if made(seat, "queue", answer) != both["queue", answer]:
+                yield f"the seat of caller {number} counts other answers to queue"
+            if made(seat, "cancel", answer) != answered(both, "cancel", "sync", answers=[answer]):
+                yield f"the seat of caller {number} counts other answers to cancel"
+            if made(seat, "ask", answer) < both["flush", answer]:
+                yield f"the seat of caller {number} counts too few asks"
+        asks = made(seat, "ask", True, False)
+        if asks != answered(both, "flush", "sync") or made(seat, "told", True) != made(seat, "ask", True):
+            yield f"the seat of caller {number} counts other waits"
+        if any(made(seat, kind, True, False) for kind in ("wait", "over", "finish")):
+            yield f"the seat of caller {number} counts what only a rescuer does"
+
+    def faults_of_end(self, printed, items):
+        """What isn't so of the caller that destroyed the runtime, which must be just one."""
+        late = [answers for answers in printed.late if answers]
+        if len(late) != 1:
+            yield f"{len(late)} callers destroyed the runtime"
+            return
+        if late[0]["queue", CLOSED if items else NO_ITEM] != 1:
+            yield "an item was queued after destroy"
+        if late[0]["flush", True] or late[0].total() != 1 + items:
+            yield "something was unfinished after destroy"
+
+    def faults(self, printed, must_be_full):
+        """What doesn't fit together in what is printed."""
+        declared = declaration.read_declaration(text_of(self.declared))
+        assignment = certificate.read_assignment(text_of(self.assigned), declared)
+        if len(printed.lanes) != assignment.count or len(printed.callers) != CALLERS:
+            yield "somebody is missing"
+            return
+        history = History(declared, assignment, printed.rows)
+        if history.fault is not None:
+            yield f"row {history.length} isn't legal: {history.fault}"
+            return
+        for q in range(assignment.count):
+            yield from self.faults_of_body(q, printed, history)
+        for number in range(CALLERS):
+            yield from self.faults_of_caller(number, printed)
+        yield from self.faults_of_end(printed, len(declared.items))
+        if not sum(printed.seats, collections.Counter()) == printed.made == history.made or printed.agree != "true":
+            yield "the seats, the runtime and the rows have other counts"
+        if printed.total != printed.made.total():
+            yield "the sum of all counts is another one"
+        if any(made(printed.made, kind, False) for kind in ("over", "told", "finish")):
+            yield "what is always true was false"
+        if not history.is_idle or printed.idle != "true":
+            yield "something is unfinished"
+        if history.length + printed.free != self.rows:
+            yield "rows are kept for nothing"
+        if must_be_full is not None and bool(printed.refused()[FULL]) != must_be_full:
+            yield "60 was never met" if must_be_full else "60 was met"
+
+    def run(self, program, must_be_full=None):
+        """Runs it. Returns whether all is as it must be, and what is said of it."""
+        seconds = SECONDS + self.calls // CALLS_OF_A_SECOND
+        begun = time.monotonic()
+        with tempfile.TemporaryDirectory(prefix="loads_") as folder:
+            for name, text in ("declaration", self.declared), ("assignment", self.assigned):
+                pathlib.Path(folder, name).write_bytes(text_of(text))
+            words = ["stress", "declaration", "assignment", *map(str, (self.rows, self.seed, self.calls))]
+            try:
+                run = subprocess.run([program, *words], cwd=folder, stdin=subprocess.DEVNULL, capture_output=True,
+                                     timeout=seconds)
+            except subprocess.TimeoutExpired:
+                return False, f"it didn't end within {seconds} s"
+        took = f"{time.monotonic() - begun:.2f} s"
+        if run.returncode or run.stderr:
+            return False, f"{took}: status {run.returncode}, {run.stdout[-400:]!r}, standard error {run.stderr!r}"
+        try:
+            printed = Printed.read(run.stdout)
+        except Odd as odd:
+            return False, f"{took}: {odd}"
+        faults = list(self.faults(printed, must_be_full))
+        return not faults, f"{took}: " + "; ".join([*faults, put(printed)])
+
+
+def put(printed):
     """One line with the counts of a load: of each kind yes and no, and of each refusal."""
-    said = " ".join(f"{kind} {yes}+{no}" for kind, (yes, no) in load.said.items())
-    refused = " ".join(f"{code}:{count}" for code, count in load.refusals.items())
-    return f"rows {load.rows} free {load.free}, {said}, refused {refused}"
+    counts = " ".join(f"{kind} {made(printed.made, kind, True)}+{made(printed.made, kind, False)}" for kind in KINDS)
+    refused = " ".join(f"{code}:{count}" for code, count in printed.refused().items())
+    return f"rows {len(printed.rows) // book.ROW_BYTES} free {printed.free}, {counts}, refused {refused}"
 
 
-def judge(run, rows, must_be_full):
-    """Whether a load went as it must, and what is said of it."""
-    lines = run.stdout.decode("latin-1").split("\n")
-    load = read(lines[len(ALWAYS):-1])
-    if run.returncode or run.stderr or lines[:len(ALWAYS)] != ALWAYS or lines[-1] or load is None:
-        return False, f"status {run.returncode}, {run.stdout!r}, standard error {run.stderr!r}"
-    faults = list(faults_of(load, rows))
-    if bool(load.refusals[60]) != must_be_full:
-        faults.append("60 was met" if load.refusals[60] else "60 was never met")
-    return not faults, "; ".join([*faults, put(load)])
+def long_loads(seeds, each):
+    """For each seed a load with rows for all calls, and one with too few."""
+    for seed in range(1, seeds + 1):
+        for name, rows, must_be_full in [
+            ("rows for all", min(16_777_216, 40 * each + 100), False),
+            ("too few rows", each + 100, True),
+        ]:
+            yield f"seed {seed}, {name}", Load(*SIXTEEN, rows, each, seed), must_be_full
+
+
+def short_loads():
+    for number, load in enumerate(SHORT, start=1):
+        for seed in 1, 4_294_967_295:
+            yield f"short load {number}, seed {seed}", Load(*load, seed), None
+    yield from long_loads(3, 1000)
+
+
+def run_loads(program, loads):
+    """Runs loads, and prints a line of each. Returns how many failed."""
+    passed = failed = 0
+    for name, load, must_be_full in loads:
+        is_good, said = load.run(program, must_be_full)
+        passed, failed = passed + is_good, failed + (not is_good)
+        print(f"{'ok     ' if is_good else 'FAILED '} {name}, {said}", flush=True)
+    print(f"loads: {passed} passed, {failed} failed", flush=True)
+    return failed
+
+
+def run_measured(program):
+    """Runs the loads that are measured. Returns how many failed."""
+    failed = 0
+    with measured.Texts() as texts:
+        for words in MEASURED:
+            load = measured.Load(*words)
+            try:
+                figures = measured.run(program, texts, load, SECONDS)
+                said = " ".join(f"{name} {count}" for name, count in figures.fixed.items())
+                is_good = figures.is_as_asked(load)
+            except measured.Failed as fault:
+                said, is_good = str(fault), False
+            failed += not is_good
+            print(f"{'ok     ' if is_good else 'FAILED '} {load}: {said}")
+    print(f"measured loads: {len(MEASURED) - failed} passed, {failed} failed", flush=True)
+    return failed
+
+
+def cases():
+    """What is answered without a load."""
+    for declared, assigned, rows, answer in REFUSED:
+        texts = [text_of(declared), text_of(assigned)]
+        yield Case("loads that don't begin", ["stress", 0, 1, str(rows), "1", "10"], texts, text_of(answer), 2)
+        yield Case("loads that don't begin", ["bench", 0, 1, str(rows), "rounds", "1", "10"], texts, text_of(answer), 2)
+    # A wrong command line prints nothing to standard output; a file that isn't there is a fault.
+    for words in [
+        ["stress"], ["stress", 0, 0, "1", "1"], ["stress", 0, 0, "1", "1", "x"], ["stress", 0, 0, "1", "x", "1"],
+        ["stress", 0, 0, "x", "1", "1"], ["stress", 0, 0, "1", "1", "4294967296"],
+        ["stress", 0, 0, "1", "1", "1", "1"],
+        ["bench"], ["bench", 0, 0, "1", "rounds", "1"], ["bench", 0, 0, "1", "turns", "1", "1"],
+        ["bench", 0, 0, "1", "rounds", "65536", "1"], ["bench", 0, 0, "1", "rounds", "1", "x"],
+        ["bench", 0, 0, "1", "fill", "1", "1", "1"],
+    ]:
+        yield Case("command lines", words, [b""], b"", 2, complains=True)
+    for words in ["stress", 0, "nowhere", "1", "1", "1"], ["bench", "nowhere", 0, "1", "storm", "1", "1"]:
+        yield Case("faults", words, [b""], b"", 3, complains=True)
 
 
 def main(arguments):
-    if len(arguments) != 4 or not os.access(arguments[0], os.X_OK):
-        print("usage: loads.py PROGRAM FOLDER SEEDS CALLS, with a program that is built")
+    if len(arguments) not in (1, 3) or not os.access(arguments[0], os.X_OK):
+        print("usage: loads.py PROGRAM [SEEDS CALLS], with a program that is built")
         return 1
-    program, folder = map(os.path.realpath, arguments[:2])
-    seeds, calls = map(int, arguments[2:])
-    failed = 0
-    for seed in range(1, seeds + 1):
-        for name, rows, must_be_full in [
-            ("rows for all", min(16_777_216, 40 * calls + 100), False),
-            ("too few rows", calls + 100, True),
-        ]:
-            words = ["declaration", "assignment", str(rows), str(seed), str(calls), "counts"]
-            begun = time.monotonic()
-            run = subprocess.run(
-                [program, *words], cwd=folder, stdin=subprocess.DEVNULL,
-                capture_output=True,
-            )
-            seconds = time.monotonic() - begun
-            is_good, said = judge(run, rows, must_be_full)
-            failed += not is_good
-            word = "ok     " if is_good else "FAILED "
-            print(f"{word} seed {seed}, {name}, {seconds:.2f} s: {said}", flush=True)
-    print(f"stress: {2 * seeds - failed} passed, {failed} failed")
-    return 1 if failed else 0
+    program = os.path.realpath(arguments[0])
+    if len(arguments) == 3:
+        return 1 if run_loads(program, long_loads(*map(int, arguments[1:]))) else 0
+    status = run_cases("loads", [program], list(cases()))
+    failed = run_measured(program)
+    return 1 if run_loads(program, short_loads()) or failed or status else 0
 
 
 if __name__ == "__main__":

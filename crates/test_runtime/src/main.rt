@@ -1,14 +1,16 @@
 //! `test_runtime`: makes the calls of a book or of a runtime that a text asks for, has rescuers, bodies and callers do what a text or
-//! the declaration says, or judges the rows of a history, and prints what came of it.
+//! the declaration says, judges the rows of a history, or runs a load on a runtime in many threads, and prints what came of it.
 //!
-//! It is a program of the tests, and never installed. "The test program `test_runtime`" in docs/FORMAT.md says what it reads and
-//! prints; no contract does. It takes the time of what is asked, and that of printing it.
+//! It is a program of the tests and of the measurements (bench/README.md), and never installed. "The test program `test_runtime`" in
+//! docs/FORMAT.md says what it reads and prints; no contract does. It takes the time of what is asked, and that of printing it.
 #![tactic(auto)]
 
 use std::process::ExitCode;
 use std::rt::{Env, Files};
 use std::sync::Wait;
 use std::thread::Threads;
+use std::time::Clock;
+use test_loads::Load;
 use test_sessions::testbed::{
     MAX_TEXT, Setting, answer, ended, misused, print_answer, read_file, read_texts, unread, words,
 };
@@ -17,7 +19,8 @@ use wq_commands::Fault;
 
 const USAGE: &str = "usage: test_runtime book DECL ASSIGN ROWS EVENTS \
     | check DECL ASSIGN HEX | calls DECL ASSIGN ROWS CALLS | crew DECL ASSIGN ROWS DEEDS \
-    | script DECL ASSIGN ROWS [ACTS]";
+    | script DECL ASSIGN ROWS [ACTS] | stress DECL ASSIGN ROWS SEED CALLS \
+    | bench DECL ASSIGN ROWS rounds|storm|fill CALLERS N";
 
 /// A task in a setting, and the file of its text, if it has one.
 #[derive(Clone, Copy)]
@@ -93,15 +96,55 @@ fn session<R: Files + Print + Eprint + AllocGlobal + Threads + Wait + Sync>(
     }
 }
 
+/// The load that `stress` or `bench` asks for by the words after its setting.
+fn load_of(command: &str, rest: &[String]) -> Option<Load> {
+    match (command, rest) {
+        ("stress", [seed, calls]) => Load::stress(seed.as_str(), calls.as_str()),
+        ("bench", [task, callers, count]) => {
+            Load::measured(task.as_str(), callers.as_str(), count.as_str())
+        }
+        _ => None,
+    }
+}
+
+/// Runs a load in this setting, and prints what came of it. Returns the status.
+fn run_load<R: Files + Print + AllocGlobal + Threads + Wait + Clock + Sync>(
+    rt: &R,
+    setting: &Setting<'_>,
+    load: Load,
+) -> Result<u8, Fault> {
+    let texts = read_texts(rt, setting)?;
+    let mut out = String::new(rt.alloc());
+    let status = test_loads::answer(rt, rt.alloc(), setting.rows, &texts, load, &mut out)?;
+    print_answer(rt, &out, status)
+}
+
+/// Does what `stress` or `bench` asks for by the words after it. Returns the status, or none where the words don't have their form.
+fn loaded<R: Files + Print + Eprint + AllocGlobal + Threads + Wait + Clock + Sync>(
+    rt: &R,
+    command: &str,
+    words: &[String],
+) -> Option<u8> {
+    match words {
+        [declaration, assignment, rows, rest @ ..] => {
+            let setting = Setting::parse(declaration.as_str(), assignment.as_str(), rows.as_str())?;
+            let load = load_of(command, rest)?;
+            Some(ended(rt, run_load(rt, &setting, load)))
+        }
+        _ => None,
+    }
+}
+
 /// Does what the words of the command line ask for, of which the first is the program's name. Returns the status, or none where they
 /// have no form of any subcommand.
-fn dispatch<R: Files + Print + Eprint + AllocGlobal + Threads + Wait + Sync>(
+fn dispatch<R: Files + Print + Eprint + AllocGlobal + Threads + Wait + Clock + Sync>(
     rt: &R,
     words: &[String],
 ) -> Option<u8> {
     match words {
         [_, command, rest @ ..] => match command.as_str() {
             "book" | "check" | "calls" | "crew" | "script" => session(rt, command.as_str(), rest),
+            "stress" | "bench" => loaded(rt, command.as_str(), rest),
             _ => None,
         },
         _ => None,
@@ -109,7 +152,9 @@ fn dispatch<R: Files + Print + Eprint + AllocGlobal + Threads + Wait + Sync>(
 }
 
 /// Does what the command line asks for. Returns the status.
-fn run<R: Files + Env + Print + Eprint + AllocGlobal + Threads + Wait + Sync>(rt: &R) -> u8 {
+fn run<R: Files + Env + Print + Eprint + AllocGlobal + Threads + Wait + Clock + Sync>(
+    rt: &R,
+) -> u8 {
     match words(rt) {
         Ok(words) => match dispatch(rt, &words) {
             Some(status) => status,

@@ -1,7 +1,7 @@
 //! What the peers of bench/runtime share: the book with its rows, the loads, and what is printed of them.
 //!
-//! The loads and the lines are those of `crates/wq_load`, the rows and the rows kept free those of docs/FORMAT.md,
-//! "Histories". No item flushes another here, so an execution is a start and a finish.
+//! The loads are those of `crates/test_loads`, the lines those of bench/measured.py, the rows and the rows kept free those of
+//! docs/FORMAT.md, "Histories". No item flushes another here, so an execution is a start and a finish.
 
 mod book;
 mod load;

@@ -1,4 +1,4 @@
-//! Pseudo-random numbers: splitmix64, by Sebastiano Vigna (public domain), with the seeds of `crates/wq_load`.
+//! Pseudo-random numbers: splitmix64, by Sebastiano Vigna (public domain), with the seeds of `crates/test_loads`.
 
 pub struct Random {
     state: u64,

@@ -1,4 +1,4 @@
-//! What is printed of a load, in the lines of `crates/wq_load`.
+//! What is printed of a load: the lines that bench/measured.py makes of what `test_runtime bench` prints.
 
 use crate::book::{Book, Seat};
 use crate::load::{Load, Task};

@@ -1,4 +1,4 @@
-//! What `wq_bench` does, with a channel of crossbeam for each lane: a yardstick of bench/runtime.
+//! What `test_runtime bench` does, with a channel of crossbeam for each lane: a yardstick of bench/runtime.
 //!
 //! What is queued goes through the channel of its lane. Who flushes sends a reply channel behind it, and waits for the answer.
 //! The rows stand in one book under one lock, which nobody sleeps on. See bench/README.md.

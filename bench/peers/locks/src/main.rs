@@ -1,4 +1,4 @@
-//! What `wq_bench` does, with the standard library's `Mutex` and `Condvar`: a yardstick of bench/runtime.
+//! What `test_runtime bench` does, with the standard library's `Mutex` and `Condvar`: a yardstick of bench/runtime.
 //!
 //! One book under one lock, a thread for each lane and one for each caller. The word before the load says who is woken when:
 //!
