@@ -92,6 +92,7 @@ cleanup() {
     for crate in "${!running[@]}"; do
         kill -- "-${running[$crate]}" 2>/dev/null || true
     done
+    wait 2>/dev/null || true
     rm -f -- "$newlist" "$log" "${staged[@]}"
     for ((i = ${#made[@]} - 1; i >= 0; i--)); do
         rmdir -- "${made[i]}" 2>/dev/null || true
