@@ -89,6 +89,7 @@ staged=()
 made=()
 declare -A running=()
 cleanup() {
+    trap '' HUP INT TERM
     for crate in "${!running[@]}"; do
         kill -- "-${running[$crate]}" 2>/dev/null || true
     done
@@ -144,16 +145,16 @@ done < <(tac crates.txt)
 
 # They are copied to that folder, so what changes here meanwhile changes nothing there.
 copy() {
-    mkdir -p -- "$libraries" || return
+    mkdir -p -- "$libraries" "${crates[@]/#/$build/crates/}" || return
     for old in "$build"/crates/*; do
-        [ -n "${needed[$(basename -- "$old")]-}" ] || rm -rf -- "$old" || return
+        [ -n "${needed[${old##*/}]-}" ] || rm -rf -- "$old" || return
     done
     for crate in "${crates[@]}"; do
-        mkdir -p -- "$build/crates/$crate/out" || return
+        local to=$build/crates/$crate parts=()
         for part in src specs proofs; do
-            rm -rf -- "$build/crates/$crate/$part" || return
-            [ ! -d "crates/$crate/$part" ] || cp -a -- "crates/$crate/$part" "$build/crates/$crate" || return
+            [ ! -d "crates/$crate/$part" ] || parts+=("crates/$crate/$part")
         done
+        rm -rf -- "$to"/{src,specs,proofs} && cp -a -- "${parts[@]}" "$to" || return
     done
 }
 mkdir -p -- "$build" 2>"$log" && touch -- "$build/lock" 2>"$log" || fail "can't build in $build: $(tail -n 1 "$log")"
@@ -169,16 +170,12 @@ result() {
     esac
 }
 
-# sum_of CRATE: a sum of all that the result is made from: the toolchain, the crate's files, and the libraries of the repository that it
-# uses, whose sums are known.
-declare -A sums=()
-sum_of() {
+# may_begin CRATE: whether the libraries that it uses are made.
+may_begin() {
     local use
-    echo "$version: ${uses[$1]}"
     for use in ${uses[$1]}; do
-        echo "$use ${sums[$use]-}"
+        [ -z "${uses[$use]+listed}" ] || [ -n "${done[$use]-}" ] || return
     done
-    cd -- "$build/crates/$1" && find . -path ./out -prune -o -type f -print0 | LC_ALL=C sort -z | xargs -0 sha256sum
 }
 
 # prove CRATE: proves the crate and makes its result.
@@ -205,17 +202,27 @@ prove() {
         out/wqplan --version
 }
 
-# What was made of the same files is kept.
+# What each crate is made from, but for the libraries of the repository: the toolchain, those that it uses, its files.
+declare -A from=()
+for crate in "${crates[@]}"; do
+    from[$crate]="$version:${uses[$crate]}"
+done
+while read -r sum file; do
+    crate=${file#./}
+    from[${crate%%/*}]+=$'\n'"$sum $file"
+done < <(cd -- "$build/crates" && find . -path './*/out' -prune -o -type f -print0 | LC_ALL=C sort -z | xargs -0 sha256sum)
+
+# What was made from the same is kept, if the libraries that it uses are.
 left=()
 declare -A done=()
 for crate in "${crates[@]}"; do
-    sums[$crate]=$(sum_of "$crate" | sha256sum)
-    if [ "$(cat -- "$build/crates/$crate/out/made" 2>/dev/null)" = "${sums[$crate]}" ] && [ -e "$(result "$crate")" ]; then
+    out=$build/crates/$crate/out
+    if [ -e "$out/from" ] && [ "$(<"$out/from")" = "${from[$crate]}" ] && [ -e "$(result "$crate")" ] && may_begin "$crate"; then
         done[$crate]=1
     else
         left+=("$crate")
-        rm -rf -- "$build/crates/$crate/out" "$(result "$crate")"
-        mkdir -- "$build/crates/$crate/out"
+        rm -rf -- "$out" "$(result "$crate")"
+        mkdir -- "$out"
     fi
 done
 
@@ -229,14 +236,6 @@ count=0
 total=${#left[@]}
 echo "install: wqplan will be installed to $prefix. First $total of its ${#crates[@]} crates are proved in $build, up to $jobs at a time."
 [ "$total" -lt ${#crates[@]} ] || echo "install: From a fresh clone that takes about an hour."
-
-# may_begin CRATE: whether the libraries that it uses are made.
-may_begin() {
-    local use
-    for use in ${uses[$1]}; do
-        [ -z "${uses[$use]+listed}" ] || [ -n "${done[$use]-}" ] || return
-    done
-}
 
 # begin CRATE: has it proved in a process group of its own, which cleanup can end. Its status comes when it has ended.
 begin() {
@@ -259,7 +258,7 @@ end() {
         tail -n 20 -- "$out/log" >&2
         fail "$1 isn't proved and built (status $status, $out/log); nothing is installed"
     fi
-    echo "${sums[$1]}" >"$out/made"
+    echo "${from[$1]}" >"$out/from"
     done[$1]=1
     count=$((count + 1))
     echo "[$count/$total] $1 proved ($((SECONDS - began)) s so far)"

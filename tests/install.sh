@@ -223,7 +223,7 @@ installed 'an installation after a crate has changed' "$prefix" one
 proved 'after a crate has changed: it is proved, and those above it' "$(above wq_core)"
 rm -r -- "$build/libraries/wq_meter.rlib"
 run "$prefix"
-proved 'after a library went: it is proved' wq_meter
+proved 'after a library went: it is proved, and those above it' "$(above wq_meter)"
 VERSION=rattle-kit-2 run "$prefix"
 proved 'under another toolchain: each crate is proved' "$crates"
 run "$prefix"
