@@ -17,8 +17,9 @@
 # Nothing is installed unless all that is built was proved. That is done in a
 # folder of its own, ~/.cache/wqplan or $XDG_CACHE_HOME/wqplan, on all processors.
 # From a fresh clone it takes about an hour. What was proved stays in that folder
-# (8 GB): if nothing has changed, the next time takes a minute or two. You may
-# remove it at any time.
+# (TIME-TODO GB): if nothing has changed, the next time takes seconds, and else
+# only the crates that have changed are proved again, and those above them. You
+# may remove it at any time.
 #
 # --uninstall removes the files on the list, the list itself, and the folders on
 # it that are then empty. If there is no list, nothing is removed, and the exit
@@ -86,18 +87,25 @@ newlist=$(mktemp)
 log=$(mktemp)
 staged=()
 made=()
+declare -A running=()
 cleanup() {
+    trap '' HUP INT TERM
+    for crate in "${!running[@]}"; do
+        kill -- "-${running[$crate]}" 2>/dev/null || true
+    done
+    wait 2>/dev/null || true
     rm -f -- "$newlist" "$log" "${staged[@]}"
     for ((i = ${#made[@]} - 1; i >= 0; i--)); do
         rmdir -- "${made[i]}" 2>/dev/null || true
     done
 }
 trap cleanup EXIT
-trap 'exit 1' INT TERM
+trap 'exit 1' HUP INT TERM
 
 # Where the crates are proved.
 cache=${XDG_CACHE_HOME:-${HOME:+$HOME/.cache}}
 build=$(realpath -m -- "${cache:-${TMPDIR:-/tmp}}/wqplan")
+libraries=$build/libraries
 
 # What is installed: the file, its place as seen from PREFIX, and its mode. The list comes first, so that --uninstall finds what
 # there is however this ends.
@@ -118,34 +126,35 @@ for place in "${places[@]}"; do
     [ ! -d "$prefix/$place" ] || fail "can't install: $prefix/$place is a folder"
 done
 command -v rt >/dev/null || fail 'rt, the toolchain of Rattle, is not on the PATH'
+# The page that `rt doc` names is in the toolchain's folder.
+{ page=$(rt doc) && version=$(rt version); } 2>"$log" || fail "rt doesn't say where the toolchain is: $(tail -n 1 "$log")"
+kit=$(dirname -- "$page")
+[ -x "$kit/bin/rattle" ] || fail "there is no $kit/bin/rattle in the toolchain that rt names"
 
-# The crates that the program needs, and itself, from the lowest up, as crates.txt lists them.
-declare -A needed=([wqplan]=1)
+# The crates that the program needs, and itself, from the lowest up, as crates.txt lists them, and the libraries that each uses.
+declare -A needed=([wqplan]=1) uses=()
 crates=()
-listed=()
-while read -r line; do
-    IFS=: read -r crate uses <<<"$line"
+while IFS=: read -r crate used; do
     [ -n "${needed[$crate]-}" ] || continue
     crates=("$crate" "${crates[@]}")
-    listed=("$line" "${listed[@]}")
-    for use in $uses; do
+    uses[$crate]=$used
+    for use in $used; do
         needed[$use]=1
     done
 done < <(tac crates.txt)
 
-# They are copied to that folder, since `rt all check` proves each crate that it finds below a folder. What it proved stays there, in
-# out/.
+# They are copied to that folder, so what changes here meanwhile changes nothing there.
 copy() {
-    printf '%s\n' "${listed[@]}" >"$build/crates.txt" && cp -- HANDLES "$build" || return
+    mkdir -p -- "$libraries" "${crates[@]/#/$build/crates/}" || return
     for old in "$build"/crates/*; do
-        [ -n "${needed[$(basename -- "$old")]-}" ] || rm -rf -- "$old" || return
+        [ -n "${needed[${old##*/}]-}" ] || rm -rf -- "$old" || return
     done
     for crate in "${crates[@]}"; do
-        mkdir -p -- "$build/crates/$crate" || return
+        local to=$build/crates/$crate parts=()
         for part in src specs proofs; do
-            rm -rf -- "$build/crates/$crate/$part" || return
-            [ ! -d "crates/$crate/$part" ] || cp -a -- "crates/$crate/$part" "$build/crates/$crate" || return
+            [ ! -d "crates/$crate/$part" ] || parts+=("crates/$crate/$part")
         done
+        rm -rf -- "$to"/{src,specs,proofs} && cp -a -- "${parts[@]}" "$to" || return
     done
 }
 mkdir -p -- "$build" 2>"$log" && touch -- "$build/lock" 2>"$log" || fail "can't build in $build: $(tail -n 1 "$log")"
@@ -153,39 +162,127 @@ exec 9<"$build/lock"
 flock -n 9 || fail "another install.sh is at work in $build"
 copy 2>"$log" || fail "can't build in $build: $(tail -n 1 "$log")"
 
+# result CRATE: what is made of the crate. Of a program it is linked.
+result() {
+    case $1 in
+        wqplan) echo "$build/crates/wqplan/out/wqplan" ;;
+        *) echo "$libraries/$1.rlib" ;;
+    esac
+}
+
+# may_begin CRATE: whether the libraries that it uses are made.
+may_begin() {
+    local use
+    for use in ${uses[$1]}; do
+        [ -z "${uses[$use]+listed}" ] || [ -n "${done[$use]-}" ] || return
+    done
+}
+
+# prove CRATE: proves the crate and makes its result.
+prove() {
+    local use words
+    words=(--crate-name "$1" --links "$1=" --jobs 1 --antt-project "$kit/rattle/logic/antt-project.json" --logic-built "$kit/logic_built")
+    for use in std ${uses[$1]}; do
+        if [ -n "${uses[$use]+listed}" ]; then
+            words+=(--extern "$use=$(result "$use")")
+        else
+            words+=(--extern "$use=$kit/rlibs/$use.rlib")
+        fi
+    done
+    words+=(-L "dependency=$kit/rlibs" -L "dependency=$libraries")
+    cd -- "$build/crates/$1" || return
+    if [ "$1" != wqplan ]; then
+        "$kit/bin/rattle" build "${words[@]}" -o "$(result "$1")" src/lib.rt
+        return
+    fi
+    words+=(--toolchain "$kit/toolchain")
+    "$kit/bin/rattle" build "${words[@]}" --backend llvm -o out/wqplan.o src/main.rt &&
+        "$kit/bin/rattle-link" --target x86_64-unknown-linux-gnu --toolchain "$kit/toolchain" -o out/wqplan out/wqplan.o \
+            "$kit/c/libos_c.a" "$kit/c/liblibc_c.a" &&
+        out/wqplan --version
+}
+
+# What each crate is made from, but for the libraries of the repository: the toolchain, those that it uses, its files.
+declare -A from=()
+for crate in "${crates[@]}"; do
+    from[$crate]="$version:${uses[$crate]}"
+done
+while read -r sum file; do
+    crate=${file#./}
+    from[${crate%%/*}]+=$'\n'"$sum $file"
+done < <(cd -- "$build/crates" && find . -path './*/out' -prune -o -type f -print0 | LC_ALL=C sort -z | xargs -0 sha256sum)
+
+# What was made from the same is kept, if the libraries that it uses are.
+left=()
+declare -A done=()
+for crate in "${crates[@]}"; do
+    out=$build/crates/$crate/out
+    if [ -e "$out/from" ] && [ "$(<"$out/from")" = "${from[$crate]}" ] && [ -e "$(result "$crate")" ] && may_begin "$crate"; then
+        done[$crate]=1
+    else
+        left+=("$crate")
+        rm -rf -- "$out" "$(result "$crate")"
+        mkdir -- "$out"
+    fi
+done
+
 # One check for each processor, if each can have 3 GiB of memory.
 jobs=$(nproc)
 room=$(awk '$1 == "MemAvailable:" { print int($2 / (3 * 1024 * 1024)) }' /proc/meminfo 2>/dev/null || true)
 [ "${room:-$jobs}" -ge "$jobs" ] || jobs=$((room > 0 ? room : 1))
 
-echo "install: wqplan will be installed to $prefix. First its ${#crates[@]} crates are proved in $build, up to $jobs at a time."
-echo "install: From a fresh clone that takes about an hour; if nothing has changed, a minute or two."
-
-# `rt all check` tells of each crate when it has ended with it: first a line `== NAME`. At the end comes `== summary`.
 began=$SECONDS
-tell() {
-    local count=0 line
-    while IFS= read -r line; do
-        case $line in
-            '== summary') ;;
-            '== '*)
-                count=$((count + 1))
-                echo "[$count/${#crates[@]}] ${line#== } checked ($((SECONDS - began)) s so far)"
-                ;;
-        esac
+count=0
+total=${#left[@]}
+echo "install: wqplan will be installed to $prefix. First $total of its ${#crates[@]} crates are proved in $build, up to $jobs at a time."
+[ "$total" -lt ${#crates[@]} ] || echo "install: From a fresh clone that takes about an hour."
+
+# begin CRATE: has it proved in a process group of its own, which cleanup can end. Its status comes when it has ended.
+begin() {
+    local out=$build/crates/$1/out
+    set -m
+    {
+        prove "$1" >"$out/log" 2>&1 </dev/null && status=0 || status=$?
+        echo "$status" >"$out/ended" && mv -- "$out/ended" "$out/status"
+    } &
+    running[$1]=$!
+    set +m
+}
+
+# end CRATE: what its status says.
+end() {
+    local out=$build/crates/$1/out status
+    status=$(cat -- "$out/status" 2>/dev/null) || status=killed
+    unset "running[$1]"
+    if [ "$status" != 0 ]; then
+        tail -n 20 -- "$out/log" >&2
+        fail "$1 isn't proved and built (status $status, $out/log); nothing is installed"
+    fi
+    echo "${from[$1]}" >"$out/from"
+    done[$1]=1
+    count=$((count + 1))
+    echo "[$count/$total] $1 proved ($((SECONDS - began)) s so far)"
+}
+
+# From the lowest up, each once its libraries are made. (Several `rt lib` at a time would wait for one another, since each locks the
+# crates below its own.)
+while [ $count -lt $total ]; do
+    waiting=()
+    for crate in "${left[@]}"; do
+        if [ ${#running[@]} -lt "$jobs" ] && may_begin "$crate"; then
+            begin "$crate"
+        else
+            waiting+=("$crate")
+        fi
     done
-}
-(cd -- "$build" && rt all check --jobs "$jobs") 2>&1 | tee "$log" | tell || {
-    tail -n 20 "$log" >&2
-    fail "not all crates are proved; nothing is installed"
-}
-printf 'building the program .. '
-(cd -- "$build/crates/wqplan" && rt run -- --version) >"$log" 2>&1 </dev/null || {
-    echo 'failed'
-    tail -n 20 "$log" >&2
-    fail "the program isn't built; nothing is installed"
-}
-echo "built ($((SECONDS - began)) s so far)"
+    left=("${waiting[@]}")
+    wait -n || true
+    for crate in "${!running[@]}"; do
+        if [ -e "$build/crates/$crate/out/status" ] || ! kill -0 "${running[$crate]}" 2>/dev/null; then
+            end "$crate"
+        fi
+    done
+done
 
 # make FOLDER: makes a folder and those above it, and notes those that weren't there.
 make() {

@@ -3,8 +3,8 @@
 # there is a valgrind, more than 20 times its instructions (tests/worst.py). Run it once the gate or `rt run` has built the program.
 # The argument, if there is one, names another program.
 set -u
+program=$(realpath -m -- "${1:-$(dirname "$0")/../crates/wqplan/out/wqplan}")
 cd "$(dirname "$0")/.." || exit 1
-program=${1:-crates/wqplan/out/wqplan}
 if [ ! -x "$program" ]; then
     echo "worst: there is nothing to run at $program (cd crates/wqplan && rt run builds it)"
     exit 1
