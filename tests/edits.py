@@ -38,7 +38,7 @@ HEAD = re.compile(r'^([ \t]*)(?:pub(?:\([a-z ]+\))?\s+)?(?:(?:unsafe|const|exter
 BLOCK = re.compile(r'^(?:pub(?:\([a-z ]+\))?\s+)?(?:unsafe\s+)?(impl|trait)\b([^{;]*)\{', re.M)
 # A name, and what stands before it: nothing, the dot of a method, or the type or module that it is in.
 CALL = re.compile(r'(\.\s*|\b\w+(?:::<[^<>]*>)?::)?\b([a-z_]\w*)')
-UNSEEN = re.compile(r"""//[^\n]*|r(#*)"[\s\S]*?"\1|b?"(?:\\[\s\S]|[^"\\])*"|b?'(?:\\.[^']*|[^'\\])'""")
+UNSEEN = re.compile(r"""//[^\n]*|\bb?r(#*)"[\s\S]*?"\1|b?"(?:\\[\s\S]|[^"\\])*"|b?'(?:\\.[^']*|[^'\\])'""")
 STATE = re.compile(r'^(?:fn|impl|struct|enum|trait|const|static) (\S+): (.*)')
 OPEN = re.compile(r'`\w+` (?:did not prove|leaves) ((?:`[^`]+`(?:, )?)+)')
 NOTE = re.compile(r'^note: (?:\./)?(src/\S+?):(\d+):\d+: it is not proved that .*?\(`([^`\s]+)`\)(?:;|$)')
@@ -49,7 +49,7 @@ STALE = re.compile(r'Run the lower steps again')
 UNPROVED = ('not proved', 'no proof')
 WAITS = re.compile(r'which (?:is|are) not proved')
 
-Edit = collections.namedtuple('Edit', 'crate name pairs fault')
+Edit = collections.namedtuple('Edit', 'name pairs fault')
 Function = collections.namedtuple('Function', 'name short impl begin body end lines is_unseen calls')
 Planted = collections.namedtuple('Planted', 'texts functions function')
 Ran = collections.namedtuple('Ran', 'status lines')
@@ -78,10 +78,10 @@ def read(path):
     return pairs, '' if pairs else 'it has no pair of old: and new:'
 
 
-def edits_in(crate, folder):
+def edits_in(folder):
     names = sorted(os.listdir(folder)) if os.path.isdir(folder) else []
     found = [(name[:-5], read(f'{folder}/{name}')) for name in names if name.endswith('.edit')]
-    return [Edit(crate, name, tuple(pairs), fault) for name, (pairs, fault) in found]
+    return [Edit(name, tuple(pairs), fault) for name, (pairs, fault) in found]
 
 
 def blanked(text):
@@ -129,7 +129,7 @@ class Tree:
     """The crates of the repository, and the toolchain that checks them."""
 
     def __init__(self):
-        self.uses, self.running = {}, set()
+        self.uses, self.running, self.is_over = {}, set(), False
         if not os.path.isfile('crates.txt'):
             raise Stop('crates.txt isn\'t here: go to the top of the repository')
         with open('crates.txt', encoding='utf-8') as it:
@@ -195,10 +195,18 @@ class Tree:
     def call(self, verb, folder, words):
         """Runs rattle, and returns its status and what it printed."""
         how = {'stdin': subprocess.DEVNULL, 'stdout': subprocess.PIPE, 'stderr': subprocess.STDOUT, 'errors': 'replace'}
-        ran = subprocess.Popen([f'{self.kit}/bin/rattle', verb, *words], cwd=folder, **how)
-        self.running.add(ran)
-        said, _ = ran.communicate()
-        self.running.discard(ran)
+        if self.is_over:
+            raise Stop('interrupted')
+        with subprocess.Popen([f'{self.kit}/bin/rattle', verb, *words], cwd=folder, **how) as ran:
+            self.running.add(ran)
+            try:
+                if self.is_over:
+                    ran.kill()
+                said, _ = ran.communicate()
+            finally:
+                # (an interrupt of the main thread comes here)
+                ran.kill()
+                self.running.discard(ran)
         return Ran(ran.returncode, said.rstrip('\n').split('\n'))
 
     def bring_up_to_date(self, crate):
@@ -222,6 +230,8 @@ class Tree:
                 raise Stop(f'the library {name} is out of date: a source was changed while it was built')
 
     def end(self):
+        """Ends what runs in other threads, and lets nothing more begin."""
+        self.is_over = True
         for ran in list(self.running):
             ran.kill()
 
@@ -392,7 +402,7 @@ class Said:
                 word = 'can\'t be read' if is_whole else 'does not compile'
                 self.why = self.why or f'{word}: {file}:{line}: {why}'
             elif not re.match(r'\d+ declarations? that depend', why):
-                self.places.append((file, int(line), (goal or f'line {line}').strip('`'), bool(NAMES.search(why))))
+                self.places.append((file, int(line), (goal or f'line {line}').strip('`'), not goal or bool(NAMES.search(why))))
         if not is_whole and not self.why:
             self.why = f'no verdict: status {ran.status}: {last}'
 
@@ -451,7 +461,7 @@ def look(tree):
     folders = [(it, f'crates/{it}/must-fail') for it in sorted(os.listdir('crates'))]
     folders += [(it, f'tests/edits/{it}') for it in sorted(os.listdir('tests/edits')) if os.path.isdir(f'tests/edits/{it}')]
     for crate, folder in folders:
-        edits = edits_in(crate, folder)
+        edits = edits_in(folder)
         found = Crate(tree, crate) if edits and crate in tree.uses else None
         for edit in edits:
             why = found.why_not(edit) if found else 'crates.txt has no such crate'
@@ -463,30 +473,31 @@ def look(tree):
 
 def try_all(tree, given):
     """Tries the edits. Returns how many were refused, and how many not."""
-    jobs = os.environ.get('RT_JOBS', '')
-    good = bad = 0
     for name in given.crates:
         if name not in tree.uses:
             raise Stop(f'crates.txt has no crate {name}')
-    for name in [it for it in tree.uses if not given.crates or it in given.crates]:
-        edits = edits_in(name, f'tests/edits/{name}') + (edits_in(name, f'crates/{name}/must-fail') if given.must_fail else [])
-        if not edits:
-            continue
-        crate = Crate(tree, name)
-        words = {it: why for it in edits for why in [crate.why_not(it)] if why}
-        rounds = crate.rounds([it for it in edits if it not in words], given.alone)
-        tree.bring_up_to_date(name)
-        with concurrent.futures.ThreadPoolExecutor(int(jobs) if jobs.isdigit() and jobs != '0' else 1) as pool:
-            try:
-                for found in [pool.submit(crate.tried, it) for it in rounds]:
+    jobs, begun, good, bad = os.environ.get('RT_JOBS', ''), [], 0, 0
+    with concurrent.futures.ThreadPoolExecutor(int(jobs) if jobs.isdigit() and jobs != '0' else 1) as pool:
+        try:
+            for name in [it for it in tree.uses if not given.crates or it in given.crates]:
+                edits = edits_in(f'tests/edits/{name}') + (edits_in(f'crates/{name}/must-fail') if given.must_fail else [])
+                if edits:
+                    crate = Crate(tree, name)
+                    words = {it: why for it in edits for why in [crate.why_not(it)] if why}
+                    rounds = crate.rounds([it for it in edits if it not in words], given.alone)
+                    tree.bring_up_to_date(name)
+                    begun.append((name, edits, words, [pool.submit(crate.tried, it) for it in rounds]))
+            for name, edits, words, rounds in begun:
+                for found in rounds:
                     words.update(found.result())
-            except BaseException:
-                pool.shutdown(wait=False, cancel_futures=True)
-                tree.end()
-                raise
-        for edit in edits:
-            good, bad = good + words[edit].startswith('refused'), bad + (not words[edit].startswith('refused'))
-            print(f'{name}/{edit.name}: {words[edit]}', flush=True)
+                for edit in edits:
+                    is_good = words[edit].startswith('refused')
+                    good, bad = good + is_good, bad + (not is_good)
+                    print(f'{name}/{edit.name}: {words[edit]}', flush=True)
+        except BaseException:
+            pool.shutdown(wait=False, cancel_futures=True)
+            tree.end()
+            raise
     for name in set(os.listdir('tests/edits')) - {*tree.uses}:
         if os.path.isdir(f'tests/edits/{name}'):
             print(f'tests/edits/{name}: crates.txt has no such crate')

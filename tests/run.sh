@@ -1,7 +1,7 @@
 #!/usr/bin/env bash
 # All tests: the toolchain's gate (proofs, must-fail edits, tests, the stored run), and then the scripts that test
-# what no proof covers. `tests/run.sh edits` also tries the edits of tests/edits, at the end. The scripts use the programs that the gate leaves at crates/NAME/out/NAME: wqplan, wq_book, wq_calls,
-# wq_crew, wq_stress and wq_guide.
+# what no proof covers. The scripts use the programs that the gate leaves at crates/NAME/out/NAME: wqplan, wq_book, wq_calls,
+# wq_crew, wq_stress and wq_guide. `tests/run.sh edits` also tries the edits of tests/edits, at the end.
 set -eu
 cd "$(dirname "$0")/.."
 # As many checks at a time as there are processors, each with one job: a check with several jobs reads the libraries that it stands
