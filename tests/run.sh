@@ -15,7 +15,7 @@
 set -uo pipefail
 
 # The scripts that need no program, those that need wqplan, whose first argument may name it, and those that need others.
-alone='time_limit definitions pages manual completion install dot outlives'
+alone='time_limit definitions pages manual completion install dot outlives edits_test'
 of_wqplan='program rows forged examples explain diagnoses worst model'
 of_others='book runtime guide books'
 
