@@ -1,8 +1,7 @@
 //! `wq_guide`: the driver of docs/GUIDE.md, run by its plan.
 //!
 //! It plans the declaration, makes a runtime under the plan, has a rescuer for each workqueue and two callers run, and closes the
-//! runtime. It prints what doesn't depend on the order in which the threads ran. docs/GUIDE.md, "Running work by a plan",
-//! explains it.
+//! runtime. It prints what doesn't depend on the order in which the threads ran. docs/RUNTIME.md explains it.
 #![tactic(auto)]
 
 ghost use Rattle.std.specs.Prelude.{◌≡◌, length};

@@ -1,6 +1,6 @@
 //! The driver of docs/GUIDE.md: its disk, its work functions, the bodies that run them, and the callers.
 //!
-//! docs/GUIDE.md, "Running work by a plan", explains it. The program `wq_guide` runs it. What the layer above relies on: each body
+//! docs/RUNTIME.md explains it. The program `wq_guide` runs it. What the layer above relies on: each body
 //! can count all items, and has run nothing when it is made.
 #![tactic(auto)]
 
