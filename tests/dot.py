@@ -14,13 +14,13 @@ import sys
 HEAD = [
     rb'digraph wqplan \{',
     rb'  graph \[label="(plan (?:0|[1-9][0-9]*)|safe|components [1-9][0-9]*)", labelloc=t, labeljust=l, rankdir=LR,'
-    rb' newrank=true, nodesep=0\.15, ranksep=1, fontname="sans-serif"\];',
+    rb' nodesep=0\.15, ranksep=1, fontname="sans-serif"\];',
     rb'  node \[shape=box, style=filled, fillcolor=white, height=0\.3, fontname="sans-serif", fontsize=12\];',
     rb'  edge \[arrowsize=0\.7\];',
 ]
 NAME = rb'"([A-Za-z0-9_.-]{1,63})"'
 WORKQUEUE = rb'  subgraph "cluster wq (0|[1-9][0-9]*)" \{'
-WORKQUEUE_LOOKS = rb'    graph \[label="wq (0|[1-9][0-9]*)", rank=same, style=filled, color=gray92\];'
+WORKQUEUE_LOOKS = rb'    graph \[label="wq (0|[1-9][0-9]*)", style=filled, color=gray92\];'
 ITEM = rb'    ' + NAME + rb';'
 ORDERED = rb'    subgraph "cluster ordered ([A-Za-z0-9_.-]{1,63})" \{'
 ORDERED_LOOKS = rb'      graph \[label="ordered", style=dashed, color=black\];'

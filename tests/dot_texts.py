@@ -11,16 +11,16 @@ import dot  # noqa: E402  (beside this file)
 
 PLAN = b"""\
 digraph wqplan {
-  graph [label="plan 3", labelloc=t, labeljust=l, rankdir=LR, newrank=true, nodesep=0.15, ranksep=1, fontname="sans-serif"];
+  graph [label="plan 3", labelloc=t, labeljust=l, rankdir=LR, nodesep=0.15, ranksep=1, fontname="sans-serif"];
   node [shape=box, style=filled, fillcolor=white, height=0.3, fontname="sans-serif", fontsize=12];
   edge [arrowsize=0.7];
   subgraph "cluster wq 0" {
-    graph [label="wq 0", rank=same, style=filled, color=gray92];
+    graph [label="wq 0", style=filled, color=gray92];
     "a";
     "7";
   }
   subgraph "cluster wq 1" {
-    graph [label="wq 1", rank=same, style=filled, color=gray92];
+    graph [label="wq 1", style=filled, color=gray92];
     subgraph "cluster ordered b.x" {
       graph [label="ordered", style=dashed, color=black];
       "b.x";
@@ -29,7 +29,7 @@ digraph wqplan {
     "c_c";
   }
   subgraph "cluster wq 2" {
-    graph [label="wq 2", rank=same, style=filled, color=gray92];
+    graph [label="wq 2", style=filled, color=gray92];
     "node";
   }
   "c_c" -> "a";
@@ -40,14 +40,14 @@ digraph wqplan {
 """
 CIRCLE = b"""\
 digraph wqplan {
-  graph [label="components 1", labelloc=t, labeljust=l, rankdir=LR, newrank=true, nodesep=0.15, ranksep=1, fontname="sans-serif"];
+  graph [label="components 1", labelloc=t, labeljust=l, rankdir=LR, nodesep=0.15, ranksep=1, fontname="sans-serif"];
   node [shape=box, style=filled, fillcolor=white, height=0.3, fontname="sans-serif", fontsize=12];
   edge [arrowsize=0.7];
   subgraph "cluster wq 0" {
-    graph [label="wq 0", rank=same, style=filled, color=gray92];
+    graph [label="wq 0", style=filled, color=gray92];
   }
   subgraph "cluster wq 1" {
-    graph [label="wq 1", rank=same, style=filled, color=gray92];
+    graph [label="wq 1", style=filled, color=gray92];
     "a";
     "b";
   }
@@ -57,7 +57,7 @@ digraph wqplan {
 """
 EMPTY = b"""\
 digraph wqplan {
-  graph [label="plan 0", labelloc=t, labeljust=l, rankdir=LR, newrank=true, nodesep=0.15, ranksep=1, fontname="sans-serif"];
+  graph [label="plan 0", labelloc=t, labeljust=l, rankdir=LR, nodesep=0.15, ranksep=1, fontname="sans-serif"];
   node [shape=box, style=filled, fillcolor=white, height=0.3, fontname="sans-serif", fontsize=12];
   edge [arrowsize=0.7];
 }
@@ -85,6 +85,7 @@ BROKEN = [
     (PLAN, b"plan 3", b"circle 3", 2),
     (CIRCLE, b"components 1", b"components 0", 2),
     (PLAN, b"labelloc=t, ", b"", 2),
+    (PLAN, b"rankdir=LR, ", b"rankdir=LR, newrank=true, ", 2),
     (PLAN, b"ranksep=1,", b"ranksep=2,", 2),
     (PLAN, b"nodesep=0.15", b"nodesep=0x15", 2),
     (PLAN, b"shape=box", b"shape=oval", 3),
@@ -95,9 +96,9 @@ BROKEN = [
     (PLAN, b'"cluster wq 0"', b'"cluster wq 1"', 5),
     (PLAN, b'"cluster wq 0"', b'cluster_0', 5),
     (PLAN, b'label="wq 1"', b'label="wq 0"', 11),
-    (PLAN, b'    graph [label="wq 1", rank=same, style=filled, color=gray92];\n', b"", 11),
-    (PLAN, b'"wq 2", rank=same, ', b'"wq 2", ', 20),
-    (PLAN, b'"wq 2", rank=same, style=filled, color=gray92', b'"wq 2", rank=same, style=filled, color=gray', 20),
+    (PLAN, b'    graph [label="wq 1", style=filled, color=gray92];\n', b"", 11),
+    (PLAN, b'"wq 2", style', b'"wq 2", rank=same, style', 20),
+    (PLAN, b'"wq 2", style=filled, color=gray92', b'"wq 2", style=filled, color=gray', 20),
     (PLAN, b'    "node";\n  }\n', b'    "node";\n', 22),
     (PLAN, b'    "node";\n  }\n', b'    "node";\n  }\n  }\n', 23),
     # Items.
@@ -162,7 +163,7 @@ BROKEN = [
     (PLAN, b'"c_c" -> "a"', b'"a" -> "c_c"', 27),
     (PLAN, b'"c_c" -> "a"', b'"a" -> "7"', 27),
     (EMPTY.replace(b"plan 0", b"plan 1"), b"}\n",
-     b'  subgraph "cluster wq 0" {\n    graph [label="wq 0", rank=same, style=filled, color=gray92];\n  }\n}\n', 8),
+     b'  subgraph "cluster wq 0" {\n    graph [label="wq 0", style=filled, color=gray92];\n  }\n}\n', 8),
 ]
 
 

@@ -237,6 +237,25 @@ draws nvme-auth 'plan 3: items 4, workqueues 3, arrows 4, red 0, bold 2' nvme-au
 draws 'nvme-auth: the kernel' 'components 1: items 4, workqueues 2, arrows 4, red 2, bold 0' nvme-auth.wq nvme-auth.assign
 draws 'nvme-auth: a later kernel' 'safe: items 4, workqueues 3, arrows 4, red 0, bold 0' nvme-auth.wq nvme-auth.later.assign
 
+# md: one workqueue for all arrays, which hangs where an array has arrays for disks; one for each array doesn't. The kernel's own
+# order of the first hang is a run too, and stuck as soon as the upper array waits.
+counts md 4 4 4 1
+answers md 'plan 2' submit.upper submit.lower
+without_cancel md 2
+plan_is_least md
+hangs 'md: the kernel' md.wq md.assign 6
+printf '%s\n' 'run 7' 'queue submit.lower' 'queue submit.upper' 'start 0 submit.lower' 'finish 0 submit.lower' \
+    'start 0 submit.upper' 'queue data.lower' 'wait 0 data.lower' >md.run
+run replay md.wq md.assign md.run
+ends "md: the kernel's order" 1 stuck
+sed '1s/.*/run 6/; $d' md.run >shorter.run
+run replay md.wq md.assign shorter.run
+ends "md: the kernel's order, before the upper array waits" 0 open
+run deadlock md.wq md.perarray.assign
+ends 'md: a workqueue for each array' 0 safe
+draws md 'plan 2: items 4, workqueues 2, arrows 4, red 0, bold 1' md.wq
+draws 'md: the kernel' 'components 1: items 4, workqueues 1, arrows 4, red 4, bold 0' md.wq md.assign
+
 # rbd: two ordered groups, five workqueues, safe.
 counts rbd 11 19 6 5
 answers rbd 'plan 3' rbd_acquire_lock do_watch_notify ceph_con_workfn

@@ -182,7 +182,7 @@ drawing() {
     local title=$1
     shift
     echo 'digraph wqplan {'
-    echo "  graph [label=\"$title\", labelloc=t, labeljust=l, rankdir=LR, newrank=true, nodesep=0.15, ranksep=1, fontname=\"sans-serif\"];"
+    echo "  graph [label=\"$title\", labelloc=t, labeljust=l, rankdir=LR, nodesep=0.15, ranksep=1, fontname=\"sans-serif\"];"
     echo '  node [shape=box, style=filled, fillcolor=white, height=0.3, fontname="sans-serif", fontsize=12];'
     echo '  edge [arrowsize=0.7];'
     [ $# -eq 0 ] || printf '  %s\n' "$@"
@@ -192,7 +192,7 @@ drawing() {
 # box NUMBER ITEM..: the lines of a workqueue with these items, to be put behind two spaces.
 box() {
     echo "subgraph \"cluster wq $1\" {"
-    echo "    graph [label=\"wq $1\", rank=same, style=filled, color=gray92];"
+    echo "    graph [label=\"wq $1\", style=filled, color=gray92];"
     printf '    "%s";\n' "${@:2}"
     echo '  }'
 }

@@ -316,7 +316,7 @@ def drawn(title):
     """The drawing of no item, with this title."""
     return " / ".join([
         "digraph wqplan {",
-        f'  graph [label="{title}", labelloc=t, labeljust=l, rankdir=LR, newrank=true, nodesep=0.15, ranksep=1, fontname="sans-serif"];',
+        f'  graph [label="{title}", labelloc=t, labeljust=l, rankdir=LR, nodesep=0.15, ranksep=1, fontname="sans-serif"];',
         '  node [shape=box, style=filled, fillcolor=white, height=0.3, fontname="sans-serif", fontsize=12];',
         "  edge [arrowsize=0.7];",
         "}",

@@ -65,10 +65,10 @@ CERTIFICATE_REFUSALS = [("refusals of the declaration", 2, r"refused ([1-9]|1[0-
     (f"refusals {code}", 2, rf"refused {code} line N\n") for code in (40, 41, 42, 43)
 ]
 DRAWING = (
-    r'digraph wqplan \{\n  graph \[label="(TITLE)", labelloc=t, labeljust=l, rankdir=LR, newrank=true,'
+    r'digraph wqplan \{\n  graph \[label="(TITLE)", labelloc=t, labeljust=l, rankdir=LR,'
     r' nodesep=0\.15, ranksep=1, fontname="sans-serif"\];\n  node \[shape=box, style=filled,'
     r' fillcolor=white, height=0\.3, fontname="sans-serif", fontsize=12\];\n  edge \[arrowsize=0\.7\];\n'
-    r'(  subgraph "cluster wq N" \{\n    graph \[label="wq N", rank=same, style=filled,'
+    r'(  subgraph "cluster wq N" \{\n    graph \[label="wq N", style=filled,'
     r' color=gray92\];\n(    "Z";\n|    subgraph "cluster ordered Z" \{\n      graph'
     r' \[label="ordered", style=dashed, color=black\];\n(      "Z";\n)+    \}\n)*  \}\n)*'
     r'(  "Z" -> "Z"(LOOKS)?;\n)*\}\n'

@@ -16,14 +16,14 @@ from declaration import Refused  # noqa: E402
 # The text. TITLE, Q and NAME are %b.
 HEAD = [
     b'digraph wqplan {',
-    b'  graph [label="%b", labelloc=t, labeljust=l, rankdir=LR, newrank=true, nodesep=0.15, ranksep=1,'
+    b'  graph [label="%b", labelloc=t, labeljust=l, rankdir=LR, nodesep=0.15, ranksep=1,'
     b' fontname="sans-serif"];',
     b'  node [shape=box, style=filled, fillcolor=white, height=0.3, fontname="sans-serif", fontsize=12];',
     b'  edge [arrowsize=0.7];',
 ]
 WORKQUEUE = [
     b'  subgraph "cluster wq %b" {',
-    b'    graph [label="wq %b", rank=same, style=filled, color=gray92];',
+    b'    graph [label="wq %b", style=filled, color=gray92];',
 ]
 ORDERED = [
     b'    subgraph "cluster ordered %b" {',

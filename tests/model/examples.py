@@ -243,7 +243,7 @@ def drawing(title, *lines):
     """The answer of `dot` with these lines between the head and the end."""
     return " / ".join([
         "digraph wqplan {",
-        f'  graph [label="{title}", labelloc=t, labeljust=l, rankdir=LR, newrank=true, nodesep=0.15,'
+        f'  graph [label="{title}", labelloc=t, labeljust=l, rankdir=LR, nodesep=0.15,'
         ' ranksep=1, fontname="sans-serif"];',
         '  node [shape=box, style=filled, fillcolor=white, height=0.3, fontname="sans-serif",'
         ' fontsize=12];',
@@ -254,7 +254,7 @@ def drawing(title, *lines):
 def box(number, *lines):
     """The lines of a workqueue, with these for its groups."""
     return [f'  subgraph "cluster wq {number}" {{',
-            f'    graph [label="wq {number}", rank=same, style=filled, color=gray92];', *lines, "  }"]
+            f'    graph [label="wq {number}", style=filled, color=gray92];', *lines, "  }"]
 
 
 def ordered(*names):

@@ -12,13 +12,13 @@ TWO_CIRCLES = ITEMS + " / flush d c / flush a b / flush c d / flush b a / flush 
 # The lines of the page.
 HEAD = """\
 digraph wqplan {
-  graph [label="%s", labelloc=t, labeljust=l, rankdir=LR, newrank=true, nodesep=0.15, ranksep=1, fontname="sans-serif"];
+  graph [label="%s", labelloc=t, labeljust=l, rankdir=LR, nodesep=0.15, ranksep=1, fontname="sans-serif"];
   node [shape=box, style=filled, fillcolor=white, height=0.3, fontname="sans-serif", fontsize=12];
   edge [arrowsize=0.7];
 """
 BOX = """\
   subgraph "cluster wq %d" {
-    graph [label="wq %d", rank=same, style=filled, color=gray92];
+    graph [label="wq %d", style=filled, color=gray92];
 """
 ORDERED = """\
     subgraph "cluster ordered %s" {
@@ -47,15 +47,15 @@ def drawing(title, boxes, arrows):
 
 OF_PLAN = b"""\
 digraph wqplan {
-  graph [label="plan 2", labelloc=t, labeljust=l, rankdir=LR, newrank=true, nodesep=0.15, ranksep=1, fontname="sans-serif"];
+  graph [label="plan 2", labelloc=t, labeljust=l, rankdir=LR, nodesep=0.15, ranksep=1, fontname="sans-serif"];
   node [shape=box, style=filled, fillcolor=white, height=0.3, fontname="sans-serif", fontsize=12];
   edge [arrowsize=0.7];
   subgraph "cluster wq 0" {
-    graph [label="wq 0", rank=same, style=filled, color=gray92];
+    graph [label="wq 0", style=filled, color=gray92];
     "a";
   }
   subgraph "cluster wq 1" {
-    graph [label="wq 1", rank=same, style=filled, color=gray92];
+    graph [label="wq 1", style=filled, color=gray92];
     subgraph "cluster ordered b" {
       graph [label="ordered", style=dashed, color=black];
       "b";
@@ -70,19 +70,19 @@ digraph wqplan {
 """
 OF_CIRCLE = b"""\
 digraph wqplan {
-  graph [label="components 1", labelloc=t, labeljust=l, rankdir=LR, newrank=true, nodesep=0.15, ranksep=1, fontname="sans-serif"];
+  graph [label="components 1", labelloc=t, labeljust=l, rankdir=LR, nodesep=0.15, ranksep=1, fontname="sans-serif"];
   node [shape=box, style=filled, fillcolor=white, height=0.3, fontname="sans-serif", fontsize=12];
   edge [arrowsize=0.7];
   subgraph "cluster wq 0" {
-    graph [label="wq 0", rank=same, style=filled, color=gray92];
+    graph [label="wq 0", style=filled, color=gray92];
   }
   subgraph "cluster wq 1" {
-    graph [label="wq 1", rank=same, style=filled, color=gray92];
+    graph [label="wq 1", style=filled, color=gray92];
     "a";
     "c";
   }
   subgraph "cluster wq 2" {
-    graph [label="wq 2", rank=same, style=filled, color=gray92];
+    graph [label="wq 2", style=filled, color=gray92];
     "b";
   }
   "a" -> "b" [color=red];

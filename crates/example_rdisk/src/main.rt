@@ -2,8 +2,7 @@
 //!
 //! `rdisk`, `disk` and `writer` are the driver: its work functions and the bodies that run them, its disk, and its callers. Here its
 //! declaration is planned and a runtime made under the plan; a rescuer for each workqueue and two callers run, and the runtime is
-//! closed. It prints what doesn't depend on the order in which the threads ran. docs/GUIDE.md, "Running work by a plan", explains
-//! it.
+//! closed. It prints what doesn't depend on the order in which the threads ran. docs/RUNTIME.md explains it.
 #![tactic(auto)]
 
 mod disk;

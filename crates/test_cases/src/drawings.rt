@@ -7,15 +7,15 @@ use wq_commands::End;
 /// The drawing of the plan of `TWO`.
 const DRAWN_PLAN: &str = "\
 digraph wqplan {
-  graph [label=\"plan 2\", labelloc=t, labeljust=l, rankdir=LR, newrank=true, nodesep=0.15, ranksep=1, fontname=\"sans-serif\"];
+  graph [label=\"plan 2\", labelloc=t, labeljust=l, rankdir=LR, nodesep=0.15, ranksep=1, fontname=\"sans-serif\"];
   node [shape=box, style=filled, fillcolor=white, height=0.3, fontname=\"sans-serif\", fontsize=12];
   edge [arrowsize=0.7];
   subgraph \"cluster wq 0\" {
-    graph [label=\"wq 0\", rank=same, style=filled, color=gray92];
+    graph [label=\"wq 0\", style=filled, color=gray92];
     \"b\";
   }
   subgraph \"cluster wq 1\" {
-    graph [label=\"wq 1\", rank=same, style=filled, color=gray92];
+    graph [label=\"wq 1\", style=filled, color=gray92];
     \"a\";
   }
   \"a\" -> \"b\" [style=bold];
@@ -25,11 +25,11 @@ digraph wqplan {
 /// The drawing of `GROUPED`, each group on a workqueue of its own.
 const DRAWN_GROUPS: &str = "\
 digraph wqplan {
-  graph [label=\"components 1\", labelloc=t, labeljust=l, rankdir=LR, newrank=true, nodesep=0.15, ranksep=1, fontname=\"sans-serif\"];
+  graph [label=\"components 1\", labelloc=t, labeljust=l, rankdir=LR, nodesep=0.15, ranksep=1, fontname=\"sans-serif\"];
   node [shape=box, style=filled, fillcolor=white, height=0.3, fontname=\"sans-serif\", fontsize=12];
   edge [arrowsize=0.7];
   subgraph \"cluster wq 0\" {
-    graph [label=\"wq 0\", rank=same, style=filled, color=gray92];
+    graph [label=\"wq 0\", style=filled, color=gray92];
     subgraph \"cluster ordered a\" {
       graph [label=\"ordered\", style=dashed, color=black];
       \"a\";
@@ -37,7 +37,7 @@ digraph wqplan {
     }
   }
   subgraph \"cluster wq 1\" {
-    graph [label=\"wq 1\", rank=same, style=filled, color=gray92];
+    graph [label=\"wq 1\", style=filled, color=gray92];
     subgraph \"cluster ordered b\" {
       graph [label=\"ordered\", style=dashed, color=black];
       \"b\";
@@ -52,18 +52,18 @@ digraph wqplan {
 /// The drawing of `TWO` on three workqueues, of which one is empty.
 const DRAWN_SAFE: &str = "\
 digraph wqplan {
-  graph [label=\"safe\", labelloc=t, labeljust=l, rankdir=LR, newrank=true, nodesep=0.15, ranksep=1, fontname=\"sans-serif\"];
+  graph [label=\"safe\", labelloc=t, labeljust=l, rankdir=LR, nodesep=0.15, ranksep=1, fontname=\"sans-serif\"];
   node [shape=box, style=filled, fillcolor=white, height=0.3, fontname=\"sans-serif\", fontsize=12];
   edge [arrowsize=0.7];
   subgraph \"cluster wq 0\" {
-    graph [label=\"wq 0\", rank=same, style=filled, color=gray92];
+    graph [label=\"wq 0\", style=filled, color=gray92];
     \"b\";
   }
   subgraph \"cluster wq 1\" {
-    graph [label=\"wq 1\", rank=same, style=filled, color=gray92];
+    graph [label=\"wq 1\", style=filled, color=gray92];
   }
   subgraph \"cluster wq 2\" {
-    graph [label=\"wq 2\", rank=same, style=filled, color=gray92];
+    graph [label=\"wq 2\", style=filled, color=gray92];
     \"a\";
   }
   \"a\" -> \"b\";
@@ -73,16 +73,16 @@ digraph wqplan {
 /// The drawing of `CHAIN` on `LANES`.
 const DRAWN_LANES: &str = "\
 digraph wqplan {
-  graph [label=\"components 1\", labelloc=t, labeljust=l, rankdir=LR, newrank=true, nodesep=0.15, ranksep=1, fontname=\"sans-serif\"];
+  graph [label=\"components 1\", labelloc=t, labeljust=l, rankdir=LR, nodesep=0.15, ranksep=1, fontname=\"sans-serif\"];
   node [shape=box, style=filled, fillcolor=white, height=0.3, fontname=\"sans-serif\", fontsize=12];
   edge [arrowsize=0.7];
   subgraph \"cluster wq 0\" {
-    graph [label=\"wq 0\", rank=same, style=filled, color=gray92];
+    graph [label=\"wq 0\", style=filled, color=gray92];
     \"a\";
     \"c\";
   }
   subgraph \"cluster wq 1\" {
-    graph [label=\"wq 1\", rank=same, style=filled, color=gray92];
+    graph [label=\"wq 1\", style=filled, color=gray92];
     \"b\";
   }
   \"a\" -> \"b\" [color=red];

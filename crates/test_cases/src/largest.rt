@@ -5,8 +5,9 @@ pub const LARGEST: &str = "\
 # XFS, and the kernel's writeback above it. Linux 6.1.192. The files stand in fs/xfs where no other folder is named.
 # README.md says what the first word of a comment means.
 #
-# Not declared: xlog_cil_push_work waits for older entries of its own on its own workqueue (xfs_log_cil.c:940, 946
-# xlog_cil_order_write); the older one stands before it in the queue, so with one context it is over by then.
+# Not declared: xlog_cil_push_work waits for older pushes on its own workqueue (xfs_log_cil.c:940, 946 xlog_cil_order_write). It
+# waits only for those that have started: an older push puts itself on the list of these (1260), and makes the context of the
+# next one only after that (1291 xlog_cil_ctx_switch).
 # Not declared: waits for space in the log, which go through a kernel thread (xfsaild), and waits for locks.
 
 item xfs_flush_inodes_worker  # queued to xfs-sync at xfs_super.c:622 xfs_flush_inodes

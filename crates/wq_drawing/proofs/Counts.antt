@@ -45,7 +45,7 @@ record TellsItems (p : List ℕ → Bool) (names : List (List ℕ)) (s : ℕ →
   ordered_second : p (codes "      graph [label=\"ordered\", style=dashed, color=black];") ≡ false
   ordered_last : p (codes "    }") ≡ false
   first : (digits : List ℕ) → p (codes "  subgraph \"cluster wq " ++ digits ++ codes "\" {") ≡ false
-  second : (digits : List ℕ) → p (codes "    graph [label=\"wq " ++ digits ++ codes "\", rank=same, style=filled, color=gray92];") ≡ false
+  second : (digits : List ℕ) → p (codes "    graph [label=\"wq " ++ digits ++ codes "\", style=filled, color=gray92];") ≡ false
   last : p (codes "  }") ≡ false
 
 module _ (p : List ℕ → Bool) (names : List (List ℕ)) (s : ℕ → Bool) (h : TellsItems p names s) where
@@ -93,7 +93,7 @@ module _ (p : List ℕ → Bool) (names : List (List ℕ)) (s : ℕ → Bool) (h
 
     count-workqueue : (a : Assignment) (q : ℕ) → count_by p (workqueue_lines names group_of a q) ≡ sum_by of_group (groups_on a q)
     count-workqueue a q =
-        count-box (codes "  subgraph \"cluster wq " ++ decimal q ++ codes "\" {") (codes "    graph [label=\"wq " ++ decimal q ++ codes "\", rank=same, style=filled, color=gray92];") (codes "  }")
+        count-box (codes "  subgraph \"cluster wq " ++ decimal q ++ codes "\" {") (codes "    graph [label=\"wq " ++ decimal q ++ codes "\", style=filled, color=gray92];") (codes "  }")
         (flat_map (λ k. group_lines names (items_at group_of k)) (groups_on a q)) (h.first (decimal q)) (h.second (decimal q)) h.last
         ∙ count-groups (groups_on a q)
 

@@ -20,7 +20,7 @@ name_of names i = slice_index_or names i []
 abbrev pub head_lines : List ℕ → List (List ℕ)
 head_lines title =
     codes "digraph wqplan {"
-    ∷ (codes "  graph [label=\"" ++ title ++ codes "\", labelloc=t, labeljust=l, rankdir=LR, newrank=true, nodesep=0.15, ranksep=1, fontname=\"sans-serif\"];")
+    ∷ (codes "  graph [label=\"" ++ title ++ codes "\", labelloc=t, labeljust=l, rankdir=LR, nodesep=0.15, ranksep=1, fontname=\"sans-serif\"];")
     ∷ codes "  node [shape=box, style=filled, fillcolor=white, height=0.3, fontname=\"sans-serif\", fontsize=12];"
     ∷ codes "  edge [arrowsize=0.7];"
     ∷ []
@@ -58,7 +58,7 @@ groups_on a q = filter (λ g. group_lane a g == q) (range_with_len 0 (length a.l
 abbrev pub box_lines : List (List ℕ) → List ℕ → ℕ → List ℕ → List (List ℕ)
 box_lines names group_of q own =
     (codes "  subgraph \"cluster wq " ++ decimal q ++ codes "\" {")
-    ∷ (codes "    graph [label=\"wq " ++ decimal q ++ codes "\", rank=same, style=filled, color=gray92];")
+    ∷ (codes "    graph [label=\"wq " ++ decimal q ++ codes "\", style=filled, color=gray92];")
     ∷ (flat_map (λ g. group_lines names (items_at group_of g)) own ++ (codes "  }" ∷ []))
 
 -- the lines of workqueue q with its groups

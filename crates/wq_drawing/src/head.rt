@@ -20,7 +20,7 @@ pub(crate) fn put_head<A: Allocator + Copy>(
     put(out, title)?;
     put(
         out,
-        b"\", labelloc=t, labeljust=l, rankdir=LR, newrank=true, nodesep=0.15, ranksep=1, fontname=\"sans-serif\"];\n",
+        b"\", labelloc=t, labeljust=l, rankdir=LR, nodesep=0.15, ranksep=1, fontname=\"sans-serif\"];\n",
     )?;
     put(
         out,

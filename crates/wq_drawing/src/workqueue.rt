@@ -32,7 +32,7 @@ pub(crate) fn put_workqueue<A: Allocator + Copy>(
     put(out, b"\" {\n")?;
     put(out, b"    graph [label=\"wq")?;
     put_number(out, u32::from(number))?;
-    put(out, b"\", rank=same, style=filled, color=gray92];\n")?;
+    put(out, b"\", style=filled, color=gray92];\n")?;
     for group in own {
         put_group(out, table, groups.members(GroupId::new(*group as u16)))?;
     }

@@ -16,7 +16,7 @@ returns g c =
     let title = c.args.title.now in
     let first = ended (codes "digraph wqplan {") in
     let front = codes "  graph [label=\"" in
-    let back = codes "\", labelloc=t, labeljust=l, rankdir=LR, newrank=true, nodesep=0.15, ranksep=1, fontname=\"sans-serif\"];" in
+    let back = codes "\", labelloc=t, labeljust=l, rankdir=LR, nodesep=0.15, ranksep=1, fontname=\"sans-serif\"];" in
     let third = codes "  node [shape=box, style=filled, fillcolor=white, height=0.3, fontname=\"sans-serif\", fontsize=12];" in
     let fourth = codes "  edge [arrowsize=0.7];" in
     let h2 = put_line out first front _ _ c.in_ok-put.ensures.added c.in_ok-put-2.ensures.added in
