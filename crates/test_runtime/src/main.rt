@@ -10,9 +10,9 @@ use std::rt::{Env, Files};
 use std::sync::Wait;
 use std::thread::Threads;
 use test_sessions::testbed::{
-    MAX_TEXT, Setting, answer, ended, misused, print_answer, read_file, read_texts, unread, words,
+    MAX_TEXT, Setting, ended, misused, print_answer, read_file, read_texts, unread, words,
 };
-use test_sessions::{Request, Task};
+use test_sessions::{Request, Task, answer};
 use wq_commands::Fault;
 
 const USAGE: &str = "usage: test_runtime book DECL ASSIGN ROWS EVENTS \
