@@ -12,9 +12,9 @@ use std::thread::Threads;
 use std::time::Clock;
 use test_loads::Load;
 use test_sessions::testbed::{
-    MAX_TEXT, Setting, answer, ended, misused, print_answer, read_file, read_texts, unread, words,
+    MAX_TEXT, Setting, ended, misused, print_answer, read_file, read_texts, unread, words,
 };
-use test_sessions::{Request, Task};
+use test_sessions::{Request, Task, answer};
 use wq_commands::Fault;
 
 const USAGE: &str = "usage: test_runtime book DECL ASSIGN ROWS EVENTS \

@@ -13,7 +13,7 @@ use crate::doer::Doer;
 use crate::lines::tell_text;
 use crate::meeting::Flags;
 use crate::ran::{put_ran, put_refused};
-use crate::testbed::{Bed, RuntimeJob, mistake};
+use crate::testbed::Bed;
 use std::alloc::{AllocError, Global};
 use std::sync::Wait;
 use std::thread::Threads;
@@ -47,8 +47,6 @@ fn make_doers<'a>(
 pub(crate) struct Crew {
     plot: Plot,
     flags: Flags,
-    /// The number of the first line that is a mistake, if there is one.
-    mistake: Option<u32>,
 }
 
 /// What all threads of a crew left, or why not everything was run.
@@ -58,21 +56,19 @@ type CrewRan<'a, N> = Result<
 >;
 
 impl Crew {
-    /// Reads what a text says.
+    /// Reads what a text says, or the number of its first line that is a mistake.
     pub(crate) fn read(
         alloc: Global,
         table: &ItemTable<'_, Global>,
         text: &[u8],
-    ) -> Result<Self, AllocError> {
+    ) -> Result<Result<Self, u32>, AllocError> {
         let mut plot = Plot::new(alloc);
         let mut unused = String::new(alloc);
-        let mistake = tell_text(&mut plot, table, text, &mut unused)?;
+        if let Some(line) = tell_text(&mut plot, table, text, &mut unused)? {
+            return Ok(Err(line));
+        }
         let flags = Flags::new(alloc, plot.count())?;
-        Ok(Crew {
-            plot,
-            flags,
-            mistake,
-        })
+        Ok(Ok(Crew { plot, flags }))
     }
 
     /// Has rescuers and callers do what the text says.
@@ -91,21 +87,18 @@ impl Crew {
         let callers = make_doers(alloc, &self.flags, first_caller, items, &self.plot.callers)?;
         Ok(run_all(rt, alloc, runtime, bodies, callers))
     }
-}
 
-impl RuntimeJob for Crew {
-    fn run<N: Naming + Send + Sync, R: Threads + Wait + Sync>(
+    /// Has rescuers and callers do it, closes the runtime, and adds what came of it. Returns the status.
+    pub(crate) fn run<N: Naming + Send + Sync, R: Threads + Wait + Sync>(
         &self,
         rt: &R,
         alloc: Global,
         runtime: WqRuntime<N, Global>,
         bed: &Bed<'_>,
         out: &mut String,
-    ) -> Result<u8, AllocError> {
-        if let Some(line) = self.mistake {
-            drop(runtime);
-            return mistake(out, line);
-        }
+    ) -> Result<u8, AllocError>
+        requires { N.wiring ≡ wiring (declaration_of bed.now.table.now bed.now.groups.now) bed.now.assignment.now }
+    {
         match self.perform(rt, alloc, &runtime, bed) {
             Ok(Ok(ran)) => put_ran(out, bed.table, runtime, ran),
             Ok(Err(refused)) => put_refused(out, runtime, refused),

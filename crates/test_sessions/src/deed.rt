@@ -3,15 +3,18 @@
 use crate::lines::Listener;
 use crate::testbed::item_of;
 use std::alloc::{AllocError, Global};
-use wq_items::ItemTable;
+use wq_items::{ItemId, ItemTable};
 use wq_script::Act;
 use wq_text::{Words, number};
 
 /// One thing that a body does in each execution, or a caller does once.
 #[derive(Clone, Copy)]
 pub(crate) enum Deed {
-    /// A call. A body skips `CancelSync`.
-    Call(Act),
+    Queue(ItemId),
+    Flush(ItemId),
+    Cancel(ItemId),
+    /// A body skips this.
+    CancelSync(ItemId),
     /// A body gives up with this code. A caller skips this.
     GiveUp(u32),
     /// Says that it is here, and looks for all others.
@@ -49,10 +52,10 @@ fn entry_alone(word: &[u8]) -> Option<Entry> {
 /// The deed of this word, with one word after it.
 fn deed_of(table: &ItemTable<'_, Global>, word: &[u8], what: &[u8]) -> Option<Deed> {
     let deed = match word {
-        b"queue" => Deed::Call(Act::Queue(item_of(table, what))),
-        b"flush" => Deed::Call(Act::Flush(item_of(table, what))),
-        b"cancel" => Deed::Call(Act::Cancel(item_of(table, what))),
-        b"sync" => Deed::Call(Act::CancelSync(item_of(table, what))),
+        b"queue" => Deed::Queue(item_of(table, what)),
+        b"flush" => Deed::Flush(item_of(table, what)),
+        b"cancel" => Deed::Cancel(item_of(table, what)),
+        b"sync" => Deed::CancelSync(item_of(table, what)),
         b"fail" => Deed::GiveUp(number(what)?),
         _ => return None,
     };
@@ -146,8 +149,26 @@ impl Listener for Plot {
     }
 }
 
+/// The call of a scripted caller that is this deed, if it is one.
+fn act_of(deed: Deed) -> Option<Act> {
+    match deed {
+        Deed::Queue(item) => Some(Act::Queue(item)),
+        Deed::Flush(item) => Some(Act::Flush(item)),
+        Deed::Cancel(item) => Some(Act::Cancel(item)),
+        Deed::CancelSync(item) => Some(Act::CancelSync(item)),
+        Deed::GiveUp(_) | Deed::Meet | Deed::Linger | Deed::Destroy => None,
+    }
+}
+
+/// The call that a line asks for; none where it has the form of no call.
+fn read_act(table: &ItemTable<'_, Global>, word: &[u8], words: Words<'_>) -> Option<Act> {
+    match read_entry(table, word, words) {
+        Some(Entry::Deed(deed)) => act_of(deed),
+        _ => None,
+    }
+}
+
 impl Listener for Vec<Act> {
-    /// Only calls are no mistake.
     fn hear(
         &mut self,
         table: &ItemTable<'_, Global>,
@@ -155,12 +176,10 @@ impl Listener for Vec<Act> {
         words: Words<'_>,
         _out: &mut String,
     ) -> Result<bool, AllocError> {
-        match read_entry(table, word, words) {
-            Some(Entry::Deed(Deed::Call(act))) => {
-                self.push(act)?;
-                Ok(true)
-            }
-            _ => Ok(false),
-        }
+        let Some(act) = read_act(table, word, words) else {
+            return Ok(false);
+        };
+        self.push(act)?;
+        Ok(true)
     }
 }

@@ -13,7 +13,6 @@ use std::sync::Wait;
 use wq_api::{CallError, Naming, Seat, WqRuntime};
 use wq_items::ItemId;
 use wq_rescuer::{Body, BodyFault, Caller, Work};
-use wq_script::Act;
 
 /// A body or a caller.
 #[derive(Drop)]
@@ -65,10 +64,10 @@ fn do_in_body<N: Naming, A: Allocator, R: Wait>(
     ensures same_seat { work.new.seat.ghost_name ≡ work.old.seat.ghost_name }
 {
     let answer = match deed {
-        Deed::Call(Act::Flush(item)) => work.flush(rt, item),
-        Deed::Call(Act::Queue(item)) => work.queue(rt, item),
-        Deed::Call(Act::Cancel(item)) => work.cancel(rt, item),
-        Deed::Call(Act::CancelSync(_)) | Deed::Destroy => return Ok(true),
+        Deed::Flush(item) => work.flush(rt, item),
+        Deed::Queue(item) => work.queue(rt, item),
+        Deed::Cancel(item) => work.cancel(rt, item),
+        Deed::CancelSync(_) | Deed::Destroy => return Ok(true),
         Deed::GiveUp(code) => return Err(BodyFault { code }),
         Deed::Meet => return Ok(flags.meet(number)),
         Deed::Linger => return Ok(flags.linger()),
@@ -158,10 +157,10 @@ fn do_in_caller<N: Naming, A: Allocator, R: Wait>(
     seat: &mut Seat<N, A>,
 ) -> Result<bool, CallError> {
     let answer = match deed {
-        Deed::Call(Act::Flush(item)) => runtime.flush_work(rt, seat, item),
-        Deed::Call(Act::Queue(item)) => queue(rt, runtime, seat, item),
-        Deed::Call(Act::Cancel(item)) => runtime.cancel_work(rt, seat, item),
-        Deed::Call(Act::CancelSync(item)) => runtime.cancel_work_sync(rt, seat, item),
+        Deed::Flush(item) => runtime.flush_work(rt, seat, item),
+        Deed::Queue(item) => queue(rt, runtime, seat, item),
+        Deed::Cancel(item) => runtime.cancel_work(rt, seat, item),
+        Deed::CancelSync(item) => runtime.cancel_work_sync(rt, seat, item),
         Deed::GiveUp(_) => return Ok(true),
         Deed::Meet => return Ok(flags.meet(number)),
         Deed::Linger => return Ok(flags.linger()),

@@ -2,7 +2,6 @@
 
 ghost use Rattle.std.specs.Prelude.{◌≡◌, ◌≤◌, ◌*◌, length};
 ghost use Rattle.wq_core.specs.State.{empty_state};
-ghost use Rattle.wq_history.specs.Reserve.{max_rows};
 
 use crate::testbed::{Bed, put_item_or_none};
 use hex::FromHexError;
@@ -95,7 +94,7 @@ fn judge_rows(
     out: &mut String,
 ) -> Result<u8, AllocError>
     requires new { core.old.state ≡ empty_state core.old.wiring }
-    requires few { length packed.now ≤ 12 * max_rows }
+    requires few { length packed.now ≤ 12 * MAX_ROWS }
 {
     let judgement = check_rows(alloc, core, packed);
     let status = put_judgement(out, judgement)?;

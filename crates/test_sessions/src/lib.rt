@@ -4,6 +4,7 @@
 //! what the texts may say and what is printed; no contract does. `testbed` has what the other tests of a runtime need as well.
 #![tactic(auto)]
 
+mod answering;
 mod asking;
 mod asks;
 mod book;
@@ -19,4 +20,5 @@ mod scripted;
 mod session;
 pub mod testbed;
 
+pub use answering::answer;
 pub use requests::{Request, Task};

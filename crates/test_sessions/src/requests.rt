@@ -1,14 +1,21 @@
 //! What is asked: a task, and the text that says what is to be done in it. It takes the time of the task.
 
+ghost use Rattle.std.specs.Prelude.{◌≡◌};
+ghost use Rattle.wq_groups.specs.Declaration.{declaration_of};
+ghost use Rattle.wq_core.specs.Wiring.{wiring};
+
 use crate::book::keep_book;
 use crate::crew::Crew;
 use crate::judging::judge;
 use crate::scripted::Script;
-use crate::session::Calls;
-use crate::testbed::{Bed, Job, run_job};
+use crate::session::keep_session;
+use crate::testbed::{Bed, make, mistake};
 use std::alloc::{AllocError, Global};
+use std::marker::Brand;
 use std::sync::Wait;
+use std::sync::ledger::Blank;
 use std::thread::Threads;
+use wq_api::{Naming, WqRuntime};
 
 /// What is to be done.
 #[derive(Clone, Copy)]
@@ -19,11 +26,11 @@ pub enum Task {
     Check,
     /// The calls of a text are made of a runtime, in one thread.
     Calls,
-    /// Rescuers and callers do what a text says.
+    /// Rescuers and callers of a runtime do what a text says.
     Crew,
-    /// Rescuers make the declared flushes, and two callers queue and flush all items. The text is left out.
+    /// Rescuers of a runtime make the declared flushes, and two callers queue and flush all items. There is no text.
     Script,
-    /// Rescuers make the declared flushes, and a caller the calls of a text.
+    /// Rescuers of a runtime make the declared flushes, and a caller the calls of a text.
     Acts,
 }
 
@@ -34,30 +41,98 @@ pub struct Request<'a> {
     pub text: &'a [u8],
 }
 
-impl Job for Request<'_> {
-    fn perform<R: Threads + Wait + Sync>(
+/// What is done with a runtime, as far as it is read before the runtime is made.
+#[derive(Drop)]
+enum Play<'a> {
+    Calls(&'a [u8]),
+    Crew(Crew),
+    Script(Script),
+    /// Nothing: this line of the text is the first mistake.
+    Mistake(u32),
+}
+
+impl Play<'_> {
+    /// Does it with this runtime. Returns the status.
+    fn run<N: Naming + Send + Sync, R: Threads + Wait + Sync>(
+        &self,
+        rt: &R,
+        alloc: Global,
+        runtime: WqRuntime<N, Global>,
+        bed: &Bed<'_>,
+        out: &mut String,
+    ) -> Result<u8, AllocError>
+        requires { N.wiring ≡ wiring (declaration_of bed.now.table.now bed.now.groups.now) bed.now.assignment.now }
+    {
+        match self {
+            Play::Calls(text) => keep_session(rt, alloc, runtime, bed.table, *text, out),
+            Play::Crew(crew) => crew.run(rt, alloc, runtime, bed, out),
+            Play::Script(script) => script.run(rt, alloc, runtime, bed, out),
+            Play::Mistake(line) => {
+                drop(runtime);
+                mistake(out, *line)
+            }
+        }
+    }
+}
+
+/// Makes the runtime of this name, and does this with it. Returns the status.
+fn play_named<N: Naming + Send + Sync, R: Threads + Wait + Sync>(
+    rt: &R,
+    alloc: Global,
+    blank: Blank,
+    bed: &Bed<'_>,
+    play: &Play<'_>,
+    out: &mut String,
+) -> Result<u8, AllocError>
+    requires name { blank.name ≡ N.name }
+    requires parts { blank.parts ≡ N.parts }
+    requires all_parts { N.parts ≡ 65536 }
+    requires of_wiring { N.wiring ≡ wiring (declaration_of bed.now.table.now bed.now.groups.now) bed.now.assignment.now }
+    requires of_rows { N.rows ≡ bed.now.rows }
+{
+    match make::<N>(alloc, blank, bed, out)? {
+        Some(runtime) => play.run(rt, alloc, runtime, bed, out),
+        None => Ok(2),
+    }
+}
+
+/// Makes a runtime, and does this with it. Returns the status.
+fn play_new<R: Threads + Wait + Sync>(
+    rt: &R,
+    alloc: Global,
+    bed: &Bed<'_>,
+    play: &Play<'_>,
+    out: &mut String,
+) -> Result<u8, AllocError> {
+    let blank = Blank::new(65_536);
+    play_named::<Brand, R>(rt, alloc, blank, bed, play, out)
+}
+
+impl Request<'_> {
+    /// Does what is asked with items that have lanes, and adds what came of it. Returns the status.
+    pub(crate) fn perform<R: Threads + Wait + Sync>(
         &self,
         rt: &R,
         alloc: Global,
         bed: &Bed<'_>,
         out: &mut String,
     ) -> Result<u8, AllocError> {
-        match self.task {
-            Task::Book => keep_book(alloc, bed, self.text, out),
-            Task::Check => judge(alloc, bed, self.text, out),
-            Task::Calls => run_job(rt, alloc, bed, &Calls { text: self.text }, out),
-            Task::Crew => {
-                let crew = Crew::read(alloc, bed.table, self.text)?;
-                run_job(rt, alloc, bed, &crew, out)
-            }
-            Task::Script => {
-                let script = Script::of_all();
-                run_job(rt, alloc, bed, &script, out)
-            }
-            Task::Acts => {
-                let script = Script::read(alloc, bed.table, self.text)?;
-                run_job(rt, alloc, bed, &script, out)
-            }
-        }
+        let play = match self.task {
+            Task::Book => return keep_book(alloc, bed, self.text, out),
+            Task::Check => return judge(alloc, bed, self.text, out),
+            Task::Calls => Play::Calls(self.text),
+            Task::Crew => match Crew::read(alloc, bed.table, self.text)? {
+                Ok(crew) => Play::Crew(crew),
+                Err(line) => Play::Mistake(line),
+            },
+            Task::Script => Play::Script(Script::of_all()),
+            Task::Acts => match Script::read(alloc, bed.table, self.text)? {
+                Ok(script) => Play::Script(script),
+                Err(line) => Play::Mistake(line),
+            },
+        };
+        let status = play_new(rt, alloc, bed, &play, out);
+        drop(play);
+        status
     }
 }

@@ -9,7 +9,7 @@ ghost use Rattle.wq_core.specs.Wiring.{wiring};
 
 use crate::lines::tell_text;
 use crate::ran::{put_ran, put_refused};
-use crate::testbed::{Bed, RuntimeJob, mistake};
+use crate::testbed::Bed;
 use std::alloc::{AllocError, Global};
 use std::sync::Wait;
 use std::thread::Threads;
@@ -22,8 +22,6 @@ use wq_script::{Act, ScriptBody, ScriptCaller, script_bodies, script_callers};
 #[derive(Drop)]
 pub(crate) struct Script {
     acts: Option<Vec<Act>>,
-    /// The number of the first line that is a mistake, if there is one.
-    mistake: Option<u32>,
 }
 
 /// What all threads of a script left, or why not everything was run.
@@ -35,25 +33,21 @@ type ScriptRan<'t, 'a, N> = Result<
 impl Script {
     /// The script in which two callers queue and flush all items.
     pub(crate) fn of_all() -> Self {
-        Script {
-            acts: None,
-            mistake: None,
-        }
+        Script { acts: None }
     }
 
-    /// Reads the calls of a text.
+    /// Reads the calls of a text, or the number of its first line that is a mistake.
     pub(crate) fn read(
         alloc: Global,
         table: &ItemTable<'_, Global>,
         text: &[u8],
-    ) -> Result<Self, AllocError> {
+    ) -> Result<Result<Self, u32>, AllocError> {
         let mut acts = Vec::new(alloc);
         let mut unused = String::new(alloc);
-        let mistake = tell_text(&mut acts, table, text, &mut unused)?;
-        Ok(Script {
-            acts: Some(acts),
-            mistake,
-        })
+        if let Some(line) = tell_text(&mut acts, table, text, &mut unused)? {
+            return Ok(Err(line));
+        }
+        Ok(Ok(Script { acts: Some(acts) }))
     }
 
     /// The callers.
@@ -81,21 +75,18 @@ impl Script {
         let callers = self.callers(alloc, bed.table.len())?;
         Ok(run_all(rt, alloc, runtime, bodies, callers))
     }
-}
 
-impl RuntimeJob for Script {
-    fn run<N: Naming + Send + Sync, R: Threads + Wait + Sync>(
+    /// Has rescuers and callers do it, closes the runtime, and adds what came of it. Returns the status.
+    pub(crate) fn run<N: Naming + Send + Sync, R: Threads + Wait + Sync>(
         &self,
         rt: &R,
         alloc: Global,
         runtime: WqRuntime<N, Global>,
         bed: &Bed<'_>,
         out: &mut String,
-    ) -> Result<u8, AllocError> {
-        if let Some(line) = self.mistake {
-            drop(runtime);
-            return mistake(out, line);
-        }
+    ) -> Result<u8, AllocError>
+        requires { N.wiring ≡ wiring (declaration_of bed.now.table.now bed.now.groups.now) bed.now.assignment.now }
+    {
         match self.perform(rt, alloc, &runtime, bed) {
             Ok(Ok(ran)) => put_ran(out, bed.table, runtime, ran),
             Ok(Err(refused)) => put_refused(out, runtime, refused),

@@ -2,16 +2,11 @@
 //!
 //! It takes the time of the calls. A call that would wait for another thread never ends.
 
-ghost use Rattle.std.specs.Prelude.{◌≡◌};
-ghost use Rattle.wq_groups.specs.Declaration.{declaration_of};
-ghost use Rattle.wq_core.specs.Wiring.{wiring};
-
 use crate::asking::{Call, Counted, read_call};
 use crate::lines::{Listener, tell_text};
-use crate::testbed::{Bed, RuntimeJob, mistake, put_code, put_done, put_item, put_made, put_rows};
+use crate::testbed::{mistake, put_code, put_done, put_item, put_made, put_rows};
 use std::alloc::{AllocError, Global};
 use std::sync::Wait;
-use std::thread::Threads;
 use std::{mem, str};
 use wq_api::{CallError, CloseRefused, Closed, Naming, Seat, SeatError, WqRuntime};
 use wq_groups::LaneId;
@@ -318,33 +313,26 @@ fn call_all<N: Naming, R: Wait>(
     }
 }
 
-/// The calls of a text.
-#[derive(Clone, Copy)]
-pub(crate) struct Calls<'a> {
-    pub(crate) text: &'a [u8],
-}
-
-impl RuntimeJob for Calls<'_> {
-    fn run<N: Naming + Send + Sync, R: Threads + Wait + Sync>(
-        &self,
-        rt: &R,
-        alloc: Global,
-        runtime: WqRuntime<N, Global>,
-        bed: &Bed<'_>,
-        out: &mut String,
-    ) -> Result<u8, AllocError> {
-        let seats = Seats {
-            made: Vec::new(alloc),
-            used: 0,
-        };
-        let mut session = Session {
-            rt,
-            alloc,
-            runtime: Some(runtime),
-            seats,
-        };
-        let status = call_all(&mut session, bed.table, self.text, out);
-        drop(session);
-        status
-    }
+/// Makes the calls of a text of a runtime, and adds their answers. Returns the status.
+pub(crate) fn keep_session<N: Naming, R: Wait>(
+    rt: &R,
+    alloc: Global,
+    runtime: WqRuntime<N, Global>,
+    table: &ItemTable<'_, Global>,
+    text: &[u8],
+    out: &mut String,
+) -> Result<u8, AllocError> {
+    let seats = Seats {
+        made: Vec::new(alloc),
+        used: 0,
+    };
+    let mut session = Session {
+        rt,
+        alloc,
+        runtime: Some(runtime),
+        seats,
+    };
+    let status = call_all(&mut session, table, text, out);
+    drop(session);
+    status
 }

@@ -1,7 +1,6 @@
 //! What every test of a runtime does: it reads a declaration and an assignment, makes a runtime from them with so many rows, and
 //! prints what happened.
 
-mod answering;
 mod bed;
 mod command_line;
 mod counts;
@@ -10,11 +9,10 @@ mod files;
 mod naming;
 mod printing;
 
-pub use answering::{Job, SEED, answer};
-pub use bed::{Bed, RuntimeJob, make, run_job};
+pub use bed::{Bed, make};
 pub use command_line::{Setting, words};
 pub use counts::{kind_word, put_made, put_rows};
 pub use ending::{ended, misused, print_answer, unread};
-pub use files::{MAX_LINE, MAX_TEXT, Texts, read_file, read_texts};
+pub use files::{MAX_LINE, MAX_TEXT, SEED, Texts, read_file, read_texts};
 pub use naming::{item_of, lane_of};
 pub use printing::{fault, mistake, put_code, put_done, put_item, put_item_or_none, refuse_text};

@@ -11,6 +11,9 @@ pub const MAX_TEXT: u32 = 8_388_608;
 /// How many bytes a line of such a text may have, without its line feed and a carriage return before that.
 pub const MAX_LINE: u32 = 524_288;
 
+/// The seed of the hashes of names. No answer depends on it.
+pub const SEED: u64 = 0;
+
 /// The bytes of a declaration and of an assignment.
 #[derive(Drop)]
 pub struct Texts {

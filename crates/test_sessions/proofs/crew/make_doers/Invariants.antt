@@ -7,6 +7,4 @@ use Rattle.test_sessions.proofs.crew.make_doers.Given as goal
 -- each that was made can count so many items, and has run nothing
 abbrev pub invariant-loop-deeds : goal.invariant-loop-deeds
 invariant-loop-deeds l =
-    (goal.iterator-loop-deeds).can_next l.deeds-iterator × (goal.iterator-loop-deeds).is_finite l.deeds-iterator
-    × All (λ d. vec_len d.runs ≡ l.fn.count) l.doers.items
-    × All (λ d. NeverRan (slice_index d.runs.items)) l.doers.items
+    All (λ d. vec_len d.runs ≡ l.fn.count) l.doers.items × All (λ d. NeverRan (slice_index d.runs.items)) l.doers.items

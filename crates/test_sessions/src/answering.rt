@@ -1,10 +1,9 @@
-//! The answer to a declaration and an assignment: they are judged, and then a job is done with them. It takes the time of these.
+//! The answer to a declaration and an assignment: they are judged, and then what is asked is done with them. It takes the time of these.
 
 ghost use Rattle.std.specs.Prelude.{◌≡◌, length};
 
-use crate::testbed::bed::Bed;
-use crate::testbed::files::Texts;
-use crate::testbed::printing::refuse_text;
+use crate::requests::Request;
+use crate::testbed::{Bed, SEED, Texts, refuse_text};
 use std::alloc::{AllocError, Global};
 use std::sync::Wait;
 use std::thread::Threads;
@@ -13,30 +12,15 @@ use wq_commands::{Stop, read_declaration};
 use wq_groups::Groups;
 use wq_items::ItemTable;
 
-/// The seed of the hashes of names. No answer depends on it.
-pub const SEED: u64 = 0;
-
-/// What is done with items that have lanes.
-pub trait Job {
-    /// Does it, and adds what came of it. Returns the status.
-    fn perform<R: Threads + Wait + Sync>(
-        &self,
-        rt: &R,
-        alloc: Global,
-        bed: &Bed<'_>,
-        out: &mut String,
-    ) -> Result<u8, AllocError>;
-}
-
-/// Does a job with the items of a table, in these groups, under the assignment in a text. Returns the status.
-fn answer_declared<J: Job, R: Threads + Wait + Sync>(
+/// Does what is asked with the items of a table, in these groups, under the assignment in a text. Returns the status.
+fn answer_declared<R: Threads + Wait + Sync>(
     rt: &R,
     alloc: Global,
     rows: u32,
     table: &ItemTable<'_, Global>,
     groups: &Groups<Global>,
     assigned: &[u8],
-    job: &J,
+    request: &Request<'_>,
     out: &mut String,
 ) -> Result<u8, AllocError>
     requires { length groups.now.group_of ≡ length table.now.names }
@@ -51,7 +35,7 @@ fn answer_declared<J: Job, R: Threads + Wait + Sync>(
                 assignment: &assignment,
                 rows,
             };
-            let status = job.perform(rt, alloc, &bed, out);
+            let status = request.perform(rt, alloc, &bed, out);
             // Written as a call, so that the proof has one step for it.
             drop(assignment);
             status
@@ -61,13 +45,14 @@ fn answer_declared<J: Job, R: Threads + Wait + Sync>(
     }
 }
 
-/// Does a job with what these texts say and with so many rows, or refuses the first text that has to be refused. Returns the status.
-pub fn answer<J: Job, R: Threads + Wait + Sync>(
+/// Does what is asked with what these texts say and with so many rows, or refuses the first of them that has to be refused. Returns
+/// the status.
+pub fn answer<R: Threads + Wait + Sync>(
     rt: &R,
     alloc: Global,
     rows: u32,
     texts: &Texts,
-    job: &J,
+    request: &Request<'_>,
     out: &mut String,
 ) -> Result<u8, AllocError> {
     match read_declaration(alloc, SEED, &texts.declared) {
@@ -79,7 +64,7 @@ pub fn answer<J: Job, R: Threads + Wait + Sync>(
                 &declared.table,
                 &declared.groups,
                 &texts.assigned,
-                job,
+                request,
                 out,
             );
             drop(declared);

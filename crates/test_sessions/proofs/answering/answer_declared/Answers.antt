@@ -1,6 +1,6 @@
 use Rattle.std.proofs.Common.{sym}
 use Rattle.wq_cert.proofs.ReadRanges.{IsAssignmentOf-assignment_of_text}
-use Rattle.test_sessions.proofs.testbed.answering.answer_declared.Goals as goal
+use Rattle.test_sessions.proofs.answering.answer_declared.Goals as goal
 
 pub invariant_of-bed-clause-assigned : goal.invariant_of-bed-clause-assigned
 invariant_of-bed-clause-assigned g c =
