@@ -7,5 +7,5 @@ use Rattle.test_loads.proofs.running.make_servers.Given as goal
 -- each body that was made can count all items, and has run nothing
 abbrev pub invariant-loop-number : goal.invariant-loop-number
 invariant-loop-number l =
-    All (λ s. vec_len s.runs ≡ length l.fn.table.now.names) l.servers.items
+    All (λ s. vec_len s.runs ≡ length l.fn.table.names) l.servers.items
     × All (λ s. NeverRan (slice_index s.runs.items)) l.servers.items
