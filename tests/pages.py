@@ -11,7 +11,7 @@ import sys
 
 ROOT = pathlib.Path(__file__).resolve().parent.parent
 PAGES = ["README.md", "CONTRIBUTING.md", "bench/README.md"]
-PAGES += [f"docs/{name}.md" for name in ("ARCHITECTURE", "DECISIONS", "DEFINITIONS", "PROMISES")]
+PAGES += [f"docs/{name}.md" for name in ("ARCHITECTURE", "DECISIONS", "DEFINITIONS", "PROMISES", "RUNTIME")]
 # Where the names of the code are found, and names of Linux and of the toolchain's library.
 FOLDERS = ["crates", "tests", "bench", "man"]
 OF_OTHERS = """
