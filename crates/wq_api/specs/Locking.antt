@@ -1,7 +1,8 @@
 -- Locking: what a lock asks of the calls that it hands what it protects, and what is known of them afterwards.
-use Rattle.std.specs.Prelude.{◌≡◌, ℕ, Result, Ok, Err}
+use Rattle.std.specs.Prelude.{◌≡◌, ℕ, Result, Err, true}
 use denote.Ref.{MutBor}
 use Rattle.wq_core.specs.Wiring.{Wiring}
+use Rattle.wq_history.specs.Book.{HasNothingToStart}
 use Rattle.wq_held.specs.Locked.{HeldView, Holds}
 use Rattle.wq_under_lock.specs.declared.turn.Turn.{Turn}
 use Rattle.wq_under_lock.specs.declared.turn.Turn.TheVariants.{Answers, Sleeps}
@@ -37,3 +38,7 @@ GivesBack {H} {S} {T} {E} call = (held held' : H) (own own' : S) (why : E) → c
 -- this holds of what the lock of a runtime protected at some moment
 abbrev pub UnderLock : Wiring → ℕ → (HeldView → Type 0) → Type 0
 UnderLock w rows P = (h : HeldView) × Holds w rows h.book × P h
+
+-- at some moment the book was closed and lane q had nothing to start: whoever serves the lane is done
+abbrev pub WasDone : Wiring → ℕ → ℕ → Type 0
+WasDone w rows q = UnderLock w rows (λ h. (h.book.closed ≡ true) × HasNothingToStart h.book q)

@@ -8,12 +8,11 @@ ghost use Rattle.std.specs.Prelude.{◌≡◌, ◌<◌, sum, true, IfOk, IfErr, 
 ghost use Rattle.wq_core.specs.Wiring.{items};
 ghost use Rattle.wq_counts.specs.declared.kind.Kind.TheVariants.{Wait as WaitKind, Over as OverKind, Finish as FinishKind};
 ghost use Rattle.wq_counts.specs.Counting.{raised};
-ghost use Rattle.wq_history.specs.Book.{HasNothingToStart};
 ghost use Rattle.wq_held.specs.declared.fault.CallError.TheVariants.{WrongLane};
 ghost use Rattle.wq_held.specs.Locked.{IsOnLane, HasRoom};
 ghost use Rattle.wq_under_lock.specs.Refusals.{RefusesWaitFor};
 ghost use Rattle.wq_api.specs.WaitingCalls.{waited_for, RefusedWaitFor};
-ghost use Rattle.wq_api.specs.Locking.{UnderLock};
+ghost use Rattle.wq_api.specs.Locking.{WasDone};
 
 use crate::runtime::WqRuntime;
 use std::alloc::Allocator;
@@ -31,7 +30,7 @@ impl<N: Naming, A: Allocator> WqRuntime<N, A> {
     pub fn next<R: Wait>(&self, rt: &R, q: LaneId) -> Result<Option<ItemId>, CallError>
         ensures started { IfOk result (λ next. (q < N.wiring.lanes) × IfSome next (λ item. IsOnLane N.wiring q item)) }
         ensures refused { IfErr result (λ e. e ≡ WrongLane) }
-        ensures ended { IfOk result (λ next. IfNone next (UnderLock N.wiring N.rows (λ h. (h.book.closed ≡ true) × HasNothingToStart h.book q))) }
+        ensures ended { IfOk result (λ next. IfNone next (WasDone N.wiring N.rows q)) }
     {
         self.lock
             .call(rt, &mut (), (), |held, _, _| wq_under_lock::next(held, q))

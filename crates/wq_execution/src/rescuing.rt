@@ -4,11 +4,10 @@
 //! The loop ends when the runtime is closed and nothing is pending on the workqueue. It takes no memory. Apart from the bodies
 //! and what it waits for, it takes the time of the runtime's calls.
 
-ghost use Rattle.std.specs.Prelude.{◌≡◌, ℕ, ◌+◌, ◌<◌, ◌≤◌, true, IfOk, OnOk, IfErr, OnErr};
+ghost use Rattle.std.specs.Prelude.{◌≡◌, ℕ, ◌+◌, ◌<◌, ◌≤◌, IfOk, OnOk, IfErr, OnErr};
 ghost use Rattle.wq_core.specs.Wiring.{items};
-ghost use Rattle.wq_history.specs.Book.{HasNothingToStart};
 ghost use Rattle.wq_held.specs.Locked.{IsOnLane};
-ghost use Rattle.wq_api.specs.Locking.{UnderLock};
+ghost use Rattle.wq_api.specs.Locking.{WasDone};
 ghost use Rattle.wq_execution.specs.Executing.{NeverRan, RanOnce, RanOnly, SameFinished, CountsRuns, CountsAtMost, finished_in_all, faults_of, RefusesRescue};
 
 use crate::body::{Body, BodyFault};
@@ -88,7 +87,7 @@ pub fn rescue<N: Naming, A: Allocator, R: Wait, B: Body>(
     ensures own { RanOnly N.wiring q (B.runs body.new) }
     ensures why { IfErr result (λ e. RefusesRescue N.wiring q seat.new e) }
     ensures refused { OnErr result (CountsAtMost seat.old seat.new (B.runs body.new)) }
-    ensures ended { OnOk result (UnderLock N.wiring N.rows (λ h. (h.book.closed ≡ true) × HasNothingToStart h.book q)) }
+    ensures ended { OnOk result (WasDone N.wiring N.rows q) }
 {
     if q.get() >= runtime.lanes(rt) {
         return Err(CallError::WrongLane);

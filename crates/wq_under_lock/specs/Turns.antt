@@ -1,7 +1,6 @@
 -- Turns: what a call under the lock comes to, who is woken, and what those who sleep wait for.
-use Rattle.std.specs.Prelude.{◌≡◌, ℕ, [], Bool, true, false, Result, Ok, Err}
-use Rattle.wq_core.specs.State.{HasUnfinished}
-use Rattle.wq_history.specs.Book.{BookView, state}
+use Rattle.std.specs.Prelude.{◌≡◌, [], Bool, true, false, Result, Ok, Err}
+use Rattle.wq_history.specs.Book.{state}
 use Rattle.wq_held.specs.declared.fault.CallError.{CallError}
 use Rattle.wq_held.specs.Locked.{HeldView}
 use Rattle.wq_under_lock.specs.declared.turn.Turn.{Turn}
