@@ -130,6 +130,9 @@ MEETINGS = [
     (*ONE, 100, "body / fail 5 / caller / queue a / flush a / queue a",
      f"{served((2, 2))} / body code 5 seen true / caller ok / caller seen true / agree true / made a queue yes 2"
      " / made a ask (?:yes 1 / made a told yes|no) 1 / made a finish yes 2 / total [56] / rows [78] / "),
+    # And it counts each of them.
+    (*ONE, 100, "body / fail 5 / caller / queue a / flush a / queue a / flush a / queue a",
+     f"{served((3, 3))} / body code 5 seen true / caller ok / caller seen true / agree true / made a queue yes 3 / made a ask "),
     # What a caller flushes, another one cancels; what runs waits for what is queued again and again.
     (*TWO, 10_000, "body / body / flush b / caller / queue a / flush a / caller / queue b / flush b / cancel a",
      r"finished (\d+) faults 0 / lane 0 finished 1 faults 0 / lane 1 finished [01] faults 0 / body code 0 seen true"

@@ -4,4 +4,6 @@ pub use Rattle.wq_core.specs.Deadlock
 pub use Rattle.wq_held.specs.Locked
 pub use Rattle.wq_held.specs.Closing
 pub use Rattle.wq_under_lock.specs.Refusals
+pub use Rattle.wq_under_lock.specs.Turns
 pub mod WaitingCalls
+pub mod Locking

@@ -3,12 +3,15 @@
 //! `destroy` waits until no entry is unfinished. `close` takes time in the number of all counts, which are 14
 //! for each seat and item, and no memory.
 
-ghost use Rattle.std.specs.Prelude.{◌≡◌, IfOk, IfErr};
+ghost use Rattle.std.specs.Prelude.{◌≡◌, true, IfOk, IfErr};
+ghost use Rattle.wq_core.specs.State.{HasUnfinished};
+ghost use Rattle.wq_history.specs.Book.{state};
 ghost use Rattle.wq_held.specs.Closing.{IsClosed};
+ghost use Rattle.wq_api.specs.Locking.{UnderLock};
 
 use crate::runtime::WqRuntime;
 use std::alloc::Allocator;
-use std::sync::{Mutex, Wait};
+use std::sync::Wait;
 use wq_held::{CloseWhy, Closed, Naming, Seat};
 
 /// A runtime that isn't closed, and the seats that were handed in.
@@ -24,16 +27,15 @@ pub struct CloseRefused<N: Naming, A: Allocator> {
 
 impl<N: Naming, A: Allocator> WqRuntime<N, A> {
     /// Refuses queueings from now on, and waits until no entry is unfinished (`destroy_workqueue`, for all workqueues).
-    pub fn destroy<R: Wait>(&self, rt: &R) {
-        let mut held = self.held.lock(rt);
-        held.close();
-        self.changed.notify_all();
-        for _ in rt.forever() {
-            if held.is_idle() {
-                return;
-            }
-            held = self.changed.wait(rt, held);
-        }
+    pub fn destroy<R: Wait>(&self, rt: &R)
+        ensures closed { UnderLock N.wiring N.rows (λ h. h.book.closed ≡ true) }
+        ensures idle { UnderLock N.wiring N.rows (λ h. ¬ HasUnfinished (state h.book)) }
+    {
+        self.lock.call(rt, &mut (), (), |held, _, _| {
+            wq_under_lock::refuse_queueings(held)
+        });
+        self.lock
+            .call(rt, &mut (), (), |held, _, _| wq_under_lock::be_idle(held));
     }
 
     /// Closes an idle runtime, given all of its seats, and returns its book and the sums of their counts.
@@ -44,15 +46,11 @@ impl<N: Naming, A: Allocator> WqRuntime<N, A> {
         ensures closed { IfOk result (λ c. IsClosed N.wiring N.rows seats.items c.book c.counts c.agree) }
         ensures refused { IfErr result (λ e. e.seats.items ≡ seats.items) }
     {
-        let WqRuntime { held, changed } = self;
-        let held = held.into_inner();
-        match held.closable(seats.len()) {
-            Ok(()) => Ok(held.closed(seats)),
-            Err(why) => Err(CloseRefused {
-                runtime: WqRuntime {
-                    held: Mutex::new(held),
-                    changed,
-                },
+        let WqRuntime { lock } = self;
+        match lock.end(seats, |held, seats| wq_under_lock::close(held, seats)) {
+            Ok(closed) => Ok(closed),
+            Err((lock, seats, why)) => Err(CloseRefused {
+                runtime: WqRuntime { lock },
                 seats,
                 why,
             }),

@@ -1,8 +1,7 @@
 //! The runtime: the calls of kernel/workqueue.c, for many threads over one book under one lock.
 //!
-//! A call takes the lock, makes its events, and lets the lock go. A call that has to wait sleeps on the one condition variable,
-//! and each event that changes the state of the machine wakes all that sleep. No caller sleeps with the lock held. The contracts
-//! of `wq_under_lock` and of `Held` say what a call does to the book. The contracts here say what the caller can know: its answer,
+//! Each call hands what the lock protects to one call of `wq_under_lock`, or to two where it has to wait. The contracts there say
+//! what becomes of the book, and whether those who sleep are woken. The contracts here say what the caller can know: its answer,
 //! and its own counts.
 //!
 //! Apart from what it waits for, a call takes the time of the book's events. `seat` takes time and memory in the number of items,
@@ -14,25 +13,28 @@ ghost use Rattle.wq_core.specs.Wiring.{wiring, items};
 ghost use Rattle.wq_counts.specs.declared.kind.Kind.TheVariants.{Queue, Cancel, Told as ToldKind};
 ghost use Rattle.wq_counts.specs.Counting.{raised};
 ghost use Rattle.wq_held.specs.declared.fault.CallError.TheVariants.{NotAsked};
-ghost use Rattle.wq_held.specs.declared.fault.SeatError.TheVariants.{OutOfMemory as SeatOutOfMemory};
-ghost use Rattle.wq_held.specs.Locked.{max_runtime_lanes, IsOnLane, HasRoom};
+ghost use Rattle.wq_held.specs.declared.fault.SeatError.TheVariants.{TooManySeats, OutOfMemory as SeatOutOfMemory};
+ghost use Rattle.wq_history.specs.Book.{BookView};
+ghost use Rattle.wq_history.specs.Answers.{AnswersAsk};
+ghost use Rattle.wq_held.specs.Locked.{max_runtime_lanes, IsOnLane, HasRoom, CountsAsk, AsksAndCancels, CountsAskAndCancel};
 ghost use Rattle.wq_under_lock.specs.Refusals.{RefusesRuntime, MakesRuntime, RefusesQueueWork, RefusesCancelWork};
 ghost use Rattle.wq_api.specs.WaitingCalls.{RefusesFlushWork, flushed, flush_refused, CountsCancelSync, RefusedCancelSync};
+ghost use Rattle.wq_api.specs.Locking.{UnderLock};
 
+use crate::lock::Lock;
 use std::alloc::Allocator;
+use std::sync::Wait;
 use std::sync::ledger::Blank;
-use std::sync::{Condvar, Mutex, MutexGuard, Wait};
 use wq_groups::{Assignment, Groups, LaneId};
 use wq_held::{CallError, Held, Naming, Seat, SeatError};
-use wq_history::{Ask, Asked, Told};
+use wq_history::{Ask, Asked};
 use wq_items::{ItemId, ItemTable};
 use wq_under_lock::{NewError, new_held};
 
 /// A runtime: the workqueues of one assignment, which any number of threads share by reference.
 #[derive(Drop)]
 pub struct WqRuntime<N: Naming, A: Allocator> {
-    pub(crate) held: Mutex<Held<N, A>>,
-    pub(crate) changed: Condvar,
+    pub(crate) lock: Lock<Held<N, A>>,
 }
 
 impl<N: Naming, A: Allocator + Copy> WqRuntime<N, A> {
@@ -62,8 +64,7 @@ impl<N: Naming, A: Allocator + Copy> WqRuntime<N, A> {
     {
         let held = new_held(alloc, blank, table, groups, assignment, rows)?;
         Ok(WqRuntime {
-            held: Mutex::new(held),
-            changed: Condvar::new(),
+            lock: Lock::new(held),
         })
     }
 
@@ -73,8 +74,11 @@ impl<N: Naming, A: Allocator + Copy> WqRuntime<N, A> {
     pub fn seat<R: Wait>(&self, rt: &R, alloc: A) -> Result<Seat<N, A>, SeatError>
         ensures seat { IfOk result (λ s. s ≡ replicate (14 * items N.wiring) 0) }
         ensures memory { result ≡ Err SeatOutOfMemory → 0 < items N.wiring }
+        ensures limit { result ≡ Err TooManySeats → UnderLock N.wiring N.rows (λ h. h.seats ≡ 65535) }
     {
-        self.held.lock(rt).seat(alloc)
+        self.lock.call(rt, &mut (), (), |held, _, _| {
+            wq_under_lock::seat(held, alloc)
+        })
     }
 }
 
@@ -84,7 +88,8 @@ impl<N: Naming, A: Allocator> WqRuntime<N, A> {
         ensures lanes { result ≡ N.wiring.lanes }
         ensures few { result ≤ max_runtime_lanes }
     {
-        self.held.lock(rt).lanes() as u16
+        self.lock
+            .call(rt, &mut (), (), |held, _, _| wq_under_lock::lanes(held))
     }
 
     /// The workqueue of an item, where there is such an item.
@@ -92,7 +97,9 @@ impl<N: Naming, A: Allocator> WqRuntime<N, A> {
         ensures some { IfSome result (λ q. IsOnLane N.wiring q item) }
         ensures none { IfNone result (items N.wiring ≤ item) }
     {
-        self.held.lock(rt).lane_of(item)
+        self.lock.call(rt, &mut (), (), |held, _, _| {
+            wq_under_lock::lane_of(held, item)
+        })
     }
 
     /// Queues an item on its workqueue (`queue_work`): true where it wasn't pending, false where it was.
@@ -110,11 +117,9 @@ impl<N: Naming, A: Allocator> WqRuntime<N, A> {
         ensures counted { IfOk result (λ accepted. IsOnLane N.wiring q item × HasRoom seat.old × (seat.new ≡ raised seat.old item Queue accepted)) }
         ensures refused { IfErr result (λ e. RefusesQueueWork N.wiring seat.old q item e × (seat.new ≡ seat.old)) }
     {
-        let accepted = wq_under_lock::queue(&mut self.held.lock(rt), seat, q, item)?;
-        if accepted {
-            self.changed.notify_all();
-        }
-        Ok(accepted)
+        self.lock.call(rt, seat, (), |held, seat, _| {
+            wq_under_lock::queue_work(held, seat, q, item)
+        })
     }
 
     /// Removes the pending entry of an item (`cancel_work`): true where one was pending.
@@ -130,38 +135,51 @@ impl<N: Naming, A: Allocator> WqRuntime<N, A> {
         ensures counted { IfOk result (λ taken. (item < items N.wiring) × HasRoom seat.old × (seat.new ≡ raised seat.old item Cancel taken)) }
         ensures refused { IfErr result (λ e. RefusesCancelWork N.wiring item e × (seat.new ≡ seat.old)) }
     {
-        let taken = wq_under_lock::cancel(&mut self.held.lock(rt), seat, item)?;
-        if taken {
-            self.changed.notify_all();
-        }
-        Ok(taken)
+        self.lock.call(rt, seat, (), |held, seat, _| {
+            wq_under_lock::cancel_work(held, seat, item)
+        })
     }
 
-    /// Waits until an ask is told that its wait is over. The caller sleeps without the lock.
-    fn be_told<'r, R: Wait>(
-        &'r self,
+    /// Begins a flush: asks whether the item has an unfinished entry.
+    fn begin_flush<R: Wait>(
+        &self,
         rt: &R,
-        held: MutexGuard<'r, Held<N, A>>,
         seat: &mut Seat<N, A>,
-        asked: Asked,
-    ) -> Result<(), CallError>
+        item: ItemId,
+    ) -> Result<Ask, CallError>
+        ensures row { IfOk result (λ answer. (old : BookView) × (new : BookView) × AnswersAsk old new item answer) }
+        ensures counted { IfOk result (λ answer. (item < items N.wiring) × HasRoom seat.old × CountsAsk seat.old seat.new item answer) }
+        ensures refused { IfErr result (λ e. RefusesCancelWork N.wiring item e × (seat.new ≡ seat.old)) }
+    {
+        self.lock.call(rt, seat, (), |held, seat, _| {
+            wq_under_lock::begin_flush(held, seat, item)
+        })
+    }
+
+    /// Begins a cancellation that waits: asks, and removes the pending entry of the item, under one hold of the lock.
+    fn begin_cancel_sync<R: Wait>(
+        &self,
+        rt: &R,
+        seat: &mut Seat<N, A>,
+        item: ItemId,
+    ) -> Result<(Ask, bool), CallError>
+        ensures rows { IfOk result (λ both. (old : BookView) × (new : BookView) × AsksAndCancels old new item both.0 both.1) }
+        ensures counted { IfOk result (λ both. (item < items N.wiring) × HasRoom seat.old × CountsAskAndCancel seat.old seat.new item both.0 both.1) }
+        ensures refused { IfErr result (λ e. RefusesCancelWork N.wiring item e × (seat.new ≡ seat.old)) }
+    {
+        self.lock.call(rt, seat, (), |held, seat, _| {
+            wq_under_lock::begin_cancel_sync(held, seat, item)
+        })
+    }
+
+    /// Waits until an ask is told that its wait is over.
+    fn be_told<R: Wait>(&self, rt: &R, seat: &mut Seat<N, A>, asked: Asked) -> Result<(), CallError>
         ensures told { OnOk result (seat.new ≡ raised seat.old asked.item ToldKind true) }
         ensures refused { IfErr result (λ e. (e ≡ NotAsked) × (seat.new ≡ seat.old)) }
     {
-        let mut held = held;
-        let mut asked = asked;
-        for _ in rt.forever() {
-            match held.told(seat, asked) {
-                Told::Done => return Ok(()),
-                Told::NotYet(again) => asked = again,
-                Told::NotAsked(again) => {
-                    again.give_up();
-                    return Err(CallError::NotAsked);
-                }
-            }
-            held = self.changed.wait(rt, held);
-        }
-        unreachable!()
+        self.lock.call(rt, seat, asked, |held, seat, asked| {
+            wq_under_lock::be_told(held, seat, asked)
+        })
     }
 
     /// Waits until none of an item's entries that were queued before the call is unfinished (`flush_work`): true where it had to
@@ -180,11 +198,10 @@ impl<N: Naming, A: Allocator> WqRuntime<N, A> {
         ensures counted { IfOk result (λ waited. (item < items N.wiring) × HasRoom seat.old × (seat.new ≡ flushed seat.old item waited)) }
         ensures refused { IfErr result (λ e. RefusesFlushWork N.wiring seat.old item e × (seat.new ≡ flush_refused seat.old item e)) }
     {
-        let mut held = self.held.lock(rt);
-        match wq_under_lock::ask(&mut held, seat, item)? {
+        match self.begin_flush(rt, seat, item)? {
             Ask::Idle => Ok(false),
             Ask::Waiting(asked) => {
-                self.be_told(rt, held, seat, asked)?;
+                self.be_told(rt, seat, asked)?;
                 Ok(true)
             }
         }
@@ -206,14 +223,10 @@ impl<N: Naming, A: Allocator> WqRuntime<N, A> {
         ensures counted { IfOk result (λ taken. (item < items N.wiring) × HasRoom seat.old × CountsCancelSync seat.old seat.new item taken) }
         ensures refused { IfErr result (λ e. RefusesFlushWork N.wiring seat.old item e × RefusedCancelSync seat.old seat.new item e) }
     {
-        let mut held = self.held.lock(rt);
-        let (answer, taken) = wq_under_lock::ask_and_cancel(&mut held, seat, item)?;
-        if taken {
-            self.changed.notify_all();
-        }
+        let (answer, taken) = self.begin_cancel_sync(rt, seat, item)?;
         match answer {
             Ask::Idle => {}
-            Ask::Waiting(asked) => self.be_told(rt, held, seat, asked)?,
+            Ask::Waiting(asked) => self.be_told(rt, seat, asked)?,
         }
         Ok(taken)
     }

@@ -4,7 +4,7 @@
 //! (`rescuer_thread` and `process_one_work` in kernel/workqueue.c). The body runs between these calls, without the lock. Apart
 //! from what it waits for, a call takes the time of the book's events.
 
-ghost use Rattle.std.specs.Prelude.{◌≡◌, ◌<◌, sum, true, IfOk, IfErr, OnOk, IfSome};
+ghost use Rattle.std.specs.Prelude.{◌≡◌, ◌<◌, sum, true, IfOk, IfErr, OnOk, IfSome, IfNone};
 ghost use Rattle.wq_core.specs.Wiring.{items};
 ghost use Rattle.wq_counts.specs.declared.kind.Kind.TheVariants.{Wait as WaitKind, Over as OverKind, Finish as FinishKind};
 ghost use Rattle.wq_counts.specs.Counting.{raised};
@@ -12,6 +12,7 @@ ghost use Rattle.wq_held.specs.declared.fault.CallError.TheVariants.{WrongLane};
 ghost use Rattle.wq_held.specs.Locked.{IsOnLane, HasRoom};
 ghost use Rattle.wq_under_lock.specs.Refusals.{RefusesWaitFor};
 ghost use Rattle.wq_api.specs.WaitingCalls.{waited_for, RefusedWaitFor};
+ghost use Rattle.wq_api.specs.Locking.{WasDone};
 
 use crate::runtime::WqRuntime;
 use std::alloc::Allocator;
@@ -29,20 +30,42 @@ impl<N: Naming, A: Allocator> WqRuntime<N, A> {
     pub fn next<R: Wait>(&self, rt: &R, q: LaneId) -> Result<Option<ItemId>, CallError>
         ensures started { IfOk result (λ next. (q < N.wiring.lanes) × IfSome next (λ item. IsOnLane N.wiring q item)) }
         ensures refused { IfErr result (λ e. e ≡ WrongLane) }
+        ensures ended { IfOk result (λ next. IfNone next (WasDone N.wiring N.rows q)) }
     {
-        let mut held = self.held.lock(rt);
-        for _ in rt.forever() {
-            if let Some(item) = wq_under_lock::start(&mut held, q)? {
-                drop(held);
-                self.changed.notify_all();
-                return Ok(Some(item));
-            }
-            if held.is_closed() {
-                return Ok(None);
-            }
-            held = self.changed.wait(rt, held);
-        }
-        unreachable!()
+        self.lock
+            .call(rt, &mut (), (), |held, _, _| wq_under_lock::next(held, q))
+    }
+
+    /// Makes what a workqueue runs begin to wait for an item: true where that item has an unfinished entry.
+    fn begin_wait<R: Wait>(
+        &self,
+        rt: &R,
+        seat: &mut Seat<N, A>,
+        q: LaneId,
+        target: ItemId,
+    ) -> Result<bool, CallError>
+        ensures counted { IfOk result (λ unfinished. (q < N.wiring.lanes) × (target < items N.wiring) × HasRoom seat.old × (seat.new ≡ raised seat.old target WaitKind unfinished)) }
+        ensures refused { IfErr result (λ e. RefusesWaitFor N.wiring seat.old q e × (seat.new ≡ seat.old)) }
+    {
+        self.lock.call(rt, seat, (), |held, seat, _| {
+            wq_under_lock::begin_wait(held, seat, q, target)
+        })
+    }
+
+    /// Waits until the wait of a workqueue for an item is over.
+    fn go_on<R: Wait>(
+        &self,
+        rt: &R,
+        seat: &mut Seat<N, A>,
+        q: LaneId,
+        target: ItemId,
+    ) -> Result<(), CallError>
+        ensures counted { OnOk result (seat.new ≡ raised seat.old target OverKind true) }
+        ensures refused { IfErr result (λ e. (e ≡ WrongLane) × (seat.new ≡ seat.old)) }
+    {
+        self.lock.call(rt, seat, (), |held, seat, _| {
+            wq_under_lock::go_on(held, seat, q, target)
+        })
     }
 
     /// Makes what a workqueue runs wait for an item (`flush_work` in a work function), until none of its entries that were queued
@@ -63,18 +86,9 @@ impl<N: Naming, A: Allocator> WqRuntime<N, A> {
         ensures counted { IfOk result (λ unfinished. (q < N.wiring.lanes) × (target < items N.wiring) × HasRoom seat.old × (seat.new ≡ waited_for seat.old target unfinished)) }
         ensures refused { IfErr result (λ e. RefusesWaitFor N.wiring seat.old q e × RefusedWaitFor N.wiring seat.old seat.new q target e) }
     {
-        let mut held = self.held.lock(rt);
-        let unfinished = wq_under_lock::wait(&mut held, seat, q, target)?;
-        self.changed.notify_all();
-        for _ in rt.forever() {
-            if held.over(seat, q, target)? {
-                drop(held);
-                self.changed.notify_all();
-                return Ok(unfinished);
-            }
-            held = self.changed.wait(rt, held);
-        }
-        unreachable!()
+        let unfinished = self.begin_wait(rt, seat, q, target)?;
+        self.go_on(rt, seat, q, target)?;
+        Ok(unfinished)
     }
 
     /// Finishes what a workqueue runs, an entry of this item.
@@ -91,10 +105,8 @@ impl<N: Naming, A: Allocator> WqRuntime<N, A> {
         ensures counted { OnOk result (IsOnLane N.wiring q item × (seat.new ≡ raised seat.old item FinishKind true)) }
         ensures refused { IfErr result (λ e. (e ≡ WrongLane) × (seat.new ≡ seat.old)) }
     {
-        let mut held = self.held.lock(rt);
-        held.finish(seat, q, item)?;
-        drop(held);
-        self.changed.notify_all();
-        Ok(())
+        self.lock.call(rt, seat, (), |held, seat, _| {
+            wq_under_lock::finish_work(held, seat, q, item)
+        })
     }
 }

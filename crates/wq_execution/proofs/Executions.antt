@@ -1,6 +1,6 @@
 -- Finished executions: what a seat counts of them, item by item and in all.
 use Rattle.std.proofs.Common.{◌≡◌, ◌≢◌, ℕ, zero, suc, ◌+◌, ◌*◌, ◌<◌, ◌≤◌, inl, inr, Bool, true, List, drop, refl, sym, ap, subst, arith}
-use Rattle.std.specs.Prelude.{Option, Some, None, IfSome, sum, false, IsTrue, ◌↔◌}
+use Rattle.std.specs.Prelude.{Option, Some, None, IfSome, Result, Ok, Err, sum, false, IsTrue, ◌↔◌}
 use Rattle.std.specs.List.{sum_by, range_with_len}
 use Rattle.std.proofs.lemmas.Bool.{cases_lt, cases_eq}
 use Rattle.std.proofs.lemmas.List.Sums.{sum_by-cons, sum_by-drop_more, sum_by-take-drop, get_or-le-sum_by}
@@ -10,7 +10,8 @@ use Rattle.wq_counts.specs.Counting.{place, HasCountsOf, raised}
 use Rattle.wq_counts.proofs.Places.{place-same, made-raised_same, made-raised_other}
 use Rattle.wq_core.specs.Wiring.{Wiring}
 use Rattle.wq_held.specs.Locked.{IsOnLane, seat_rows}
-use Rattle.wq_execution.specs.Executing.{NeverRan, RanOnce, RanOnly, finished_of, finished_in_all, SameFinished, CountsRuns}
+use Rattle.wq_execution.specs.Executing.{NeverRan, RanOnce, RanOnly, finished_of, finished_in_all, faults_of, SameFinished, CountsRuns}
+use Rattle.wq_execution.specs.declared.body.BodyFault.{BodyFault}
 
 -- ---- one item
 
@@ -74,13 +75,18 @@ pub record IsServing (items : ℕ) (before counts : List ℕ) (width : ℕ) (run
   pub in_all : finished_in_all items before + finished ≡ finished_in_all items counts
   pub faults_within : faults ≤ finished
 
+-- one execution ends with one fault at most
+pub one_fault_at_most : (answer : Result (Unit {0}) BodyFault) → faults_of answer ≤ 1
+one_fault_at_most (Ok answer) = omega arith
+one_fault_at_most (Err fault) = omega arith
+
 -- what was counted before its body ran is so after it; and then one more execution is finished
-pub serving_more : (items : ℕ) (before counts after : List ℕ) (width wider : ℕ) (runs now : ℕ → ℕ) (finished faults more i : ℕ)
+pub serving_more : (items : ℕ) (before counts after : List ℕ) (width wider : ℕ) (runs now : ℕ → ℕ) (finished faults more_finished more_faults i : ℕ)
     → IsServing items before counts width runs finished faults → wider ≡ width → HasCountsOf items after → i < items
-    → SameFinished counts after → RanOnce runs now i → more ≤ faults + 1
+    → SameFinished counts after → RanOnce runs now i → more_finished ≡ finished + 1 → more_faults ≤ faults + 1
     → (counted : List ℕ) → counted ≡ raised after i Finish true
-    → IsServing items before counted wider now (finished + 1) more
-serving_more items before counts after width wider runs now finished faults more i serving same_width has lt same once few counted counted_is = subst (λ cs. IsServing items before cs wider now (finished + 1) more) (sym counted_is) (record {
+    → IsServing items before counted wider now more_finished more_faults
+serving_more items before counts after width wider runs now finished faults more_finished more_faults i serving same_width has lt same once one few counted counted_is = subst (λ cs. IsServing items before cs wider now more_finished more_faults) (sym counted_is) (record {
   wide = omega (arith, serving.wide, same_width);
   ran = λ j. elim (cases_eq j i) [
     | inl e ↦ (omega (
@@ -98,8 +104,8 @@ serving_more items before counts after width wider runs now finished faults more
     ))
     | inr ne ↦ (omega (arith, finished_of-other_item after i j ne, same j, serving.ran j, once.1 j ne))
   ];
-  in_all = omega (arith, finished_in_all-raised items after i has lt, finished_in_all-same items counts after same, serving.in_all);
-  faults_within = omega (arith, serving.faults_within, few);
+  in_all = omega (arith, one, finished_in_all-raised items after i has lt, finished_in_all-same items counts after same, serving.in_all);
+  faults_within = omega (arith, one, serving.faults_within, few);
 })
 
 -- what is started is on the lane

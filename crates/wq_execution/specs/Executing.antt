@@ -1,5 +1,5 @@
 -- Executing: what bodies run, what the seats of their rescuers count, and why they are refused.
-use Rattle.std.specs.Prelude.{◌≡◌, ◌≢◌, ℕ, ◌+◌, ◌<◌, ◌≤◌, List, true, sum}
+use Rattle.std.specs.Prelude.{◌≡◌, ◌≢◌, ℕ, ◌+◌, ◌<◌, ◌≤◌, List, Result, Ok, Err, true, sum}
 use Rattle.std.specs.List.{sum_by, range_with_len}
 use Rattle.wq_core.specs.Wiring.{Wiring, items}
 use Rattle.wq_counts.specs.declared.kind.Kind.TheVariants.{Finish}
@@ -8,6 +8,7 @@ use Rattle.wq_held.specs.declared.fault.CallError.{CallError}
 use Rattle.wq_held.specs.declared.fault.CallError.TheVariants.{HistoryFull, Closed, Undeclared, TooManyWaits, WrongLane, NotAsked, NoItem}
 use Rattle.wq_held.specs.Errors.{call_code}
 use Rattle.wq_held.specs.Locked.{IsOnLane, HasRoom, seat_rows}
+use Rattle.wq_execution.specs.declared.body.BodyFault.{BodyFault}
 
 -- ---- what a body runs: how often each item ran
 
@@ -44,6 +45,11 @@ CountsRuns old new runs = (i : ℕ) → finished_of new i ≡ finished_of old i 
 -- for each item, at most as many more as ran, and no fewer than before
 abbrev pub CountsAtMost : List ℕ → List ℕ → (ℕ → ℕ) → Type 0
 CountsAtMost old new runs = (i : ℕ) → (finished_of old i ≤ finished_of new i) × (finished_of new i ≤ finished_of old i + runs i)
+
+-- how many of one execution ended with a fault: its body answered, or it gave up
+abbrev pub faults_of : Result (Unit {0}) BodyFault → ℕ
+faults_of (Ok answer) = 0
+faults_of (Err fault) = 1
 
 -- ---- refusals
 

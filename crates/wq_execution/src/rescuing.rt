@@ -7,7 +7,8 @@
 ghost use Rattle.std.specs.Prelude.{◌≡◌, ℕ, ◌+◌, ◌<◌, ◌≤◌, IfOk, OnOk, IfErr, OnErr};
 ghost use Rattle.wq_core.specs.Wiring.{items};
 ghost use Rattle.wq_held.specs.Locked.{IsOnLane};
-ghost use Rattle.wq_execution.specs.Executing.{NeverRan, RanOnce, RanOnly, SameFinished, CountsRuns, CountsAtMost, finished_in_all, RefusesRescue};
+ghost use Rattle.wq_api.specs.Locking.{WasDone};
+ghost use Rattle.wq_execution.specs.Executing.{NeverRan, RanOnce, RanOnly, SameFinished, CountsRuns, CountsAtMost, finished_in_all, faults_of, RefusesRescue};
 
 use crate::body::{Body, BodyFault};
 use crate::work::Work;
@@ -24,6 +25,24 @@ pub struct Rescued {
     pub finished: u32,
     /// How many of them ended with a fault of the body.
     pub faults: u32,
+}
+
+impl Rescued {
+    /// One more execution was finished, whose body answered this.
+    fn and(self, answer: Result<(), BodyFault>) -> Rescued
+        requires few { self.finished < 4294967295 }
+        requires faults { self.faults ≤ self.finished }
+        ensures finished { result.finished ≡ self.finished + 1 }
+        ensures faults { result.faults ≡ self.faults + faults_of answer }
+    {
+        Rescued {
+            finished: self.finished + 1,
+            faults: match answer {
+                Ok(()) => self.faults,
+                Err(_) => self.faults + 1,
+            },
+        }
+    }
 }
 
 /// Runs the body of an item that a lane has started.
@@ -68,27 +87,27 @@ pub fn rescue<N: Naming, A: Allocator, R: Wait, B: Body>(
     ensures own { RanOnly N.wiring q (B.runs body.new) }
     ensures why { IfErr result (λ e. RefusesRescue N.wiring q seat.new e) }
     ensures refused { OnErr result (CountsAtMost seat.old seat.new (B.runs body.new)) }
+    ensures ended { OnOk result (WasDone N.wiring N.rows q) }
 {
     if q.get() >= runtime.lanes(rt) {
         return Err(CallError::WrongLane);
     }
-    let mut finished = 0u32;
-    let mut faults = 0u32;
+    let mut rescued = Rescued {
+        finished: 0,
+        faults: 0,
+    };
     for _ in rt.forever() {
         seat.holds();
         if seat.is_full() {
             return Err(CallError::HistoryFull);
         }
         let Some(item) = runtime.next(rt, q)? else {
-            return Ok(Rescued { finished, faults });
+            return Ok(rescued);
         };
         let answer = execute(rt, runtime, q, seat, body, item);
         seat.holds();
         runtime.finish_work(rt, seat, q, item)?;
-        finished += 1;
-        if answer.is_err() {
-            faults += 1;
-        }
+        rescued = rescued.and(answer);
     }
     unreachable!()
 }

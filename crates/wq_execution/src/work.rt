@@ -14,6 +14,7 @@ ghost use Rattle.wq_api.specs.WaitingCalls.{waited_for, RefusedWaitFor};
 ghost use Rattle.wq_execution.specs.Executing.{SameFinished, RefusesQueueByBody};
 
 use std::alloc::Allocator;
+use std::snapshot::Snapshot;
 use std::sync::Wait;
 use wq_api::{CallError, Naming, Seat, WqRuntime};
 use wq_groups::LaneId;
@@ -26,6 +27,8 @@ pub struct Work<'a, N: Naming, A: Allocator> {
     seat: &'a mut Seat<N, A>,
     lane: LaneId,
     item: ItemId,
+    /// What the latest flush answered, for contracts alone: it takes no room.
+    flushed: Snapshot<Result<bool, CallError>>,
 }
 
 impl<'a, N: Naming, A: Allocator> Work<'a, N, A> {
@@ -46,6 +49,7 @@ impl<'a, N: Naming, A: Allocator> Work<'a, N, A> {
             seat,
             lane,
             item,
+            flushed: Snapshot::of(&Ok(false)),
         }
     }
 
@@ -110,7 +114,10 @@ impl<'a, N: Naming, A: Allocator> Work<'a, N, A> {
         ensures same_seat { self.new.seat.ghost_name ≡ self.old.seat.ghost_name }
         ensures lane { self.new.lane ≡ self.old.lane }
         ensures item { self.new.item ≡ self.old.item }
+        ensures flushed { self.new.flushed.value ≡ result }
     {
-        self.runtime.wait_for(rt, self.seat, self.lane, target)
+        let answer = self.runtime.wait_for(rt, self.seat, self.lane, target);
+        self.flushed = Snapshot::of(&answer);
+        answer
     }
 }

@@ -1,11 +1,11 @@
 -- What threads hand back: what each lane's answer says about its seat and its body, and all lanes together.
-use Rattle.std.proofs.Common.{◌≡◌, ℕ, zero, suc, ◌+◌, ◌<◌, ◌≤◌, ◌⊎◌, inl, inr, List, [], ◌∷◌, ◌++◌, length, map, take, replicate, get_or, refl, sym, ap, subst, ◌∙◌, arith}
+use Rattle.std.proofs.Common.{◌≡◌, ℕ, zero, suc, ◌+◌, ◌<◌, ◌≤◌, ◌⊎◌, inl, inr, List, [], ◌∷◌, ◌++◌, length, map, reverse, take, drop, replicate, get_or, refl, sym, ap, subst, ◌∙◌, arith}
 use Rattle.std.specs.Prelude.{Some, Result, Ok, Err, OnOk, OnErr, IfOk, IfErr, option_map, is_ok, is_err, slice_get, true, false}
 use Rattle.std.specs.List.{sum_by, range_with_len}
 use Rattle.std.proofs.lemmas.Bool.{cases_lt}
 use Rattle.std.proofs.lemmas.List.Sums.{sum_by-cons, sum_by_push}
 use Rattle.std.proofs.lemmas.Option.{slice_get-map, slice_get_read, slice_get_within}
-use Rattle.std.proofs.lemmas.List.{get_or-replicate, get_or_past, length-replicate, length-append, length-map}
+use Rattle.std.proofs.lemmas.List.{get_or-replicate, get_or_past, length-replicate, length-append, length-map, map-append, reverse-append, append-nil, append_assoc}
 use Rattle.wq_counts.specs.declared.kind.Kind.TheVariants.{Finish}
 use Rattle.wq_counts.specs.Counting.{place}
 use Rattle.wq_held.specs.declared.fault.CallError.{CallError}
@@ -193,3 +193,34 @@ lanes_first w k lanes n lane_seats seats runs rescued are first long all =
     let at : lanes ≡ n = omega (arith, long, all, are.a_seat_each) in
     let same : take lanes seats ≡ lane_seats = ap (λ (m : ℕ). take m seats) at ∙ first in
     subst (λ m. AreServed w m (take lanes seats) runs rescued) all (subst (λ ss. AreServed w k ss runs rescued) (sym same) are)
+
+-- ---- callers
+
+-- what came back, the last one first, is handed on from the end of the list: what was handed on, and then what is left in
+-- reverse, is what was there before, and then all in reverse
+abbrev pub AreHanded : {X Y : Type 0} → (X → Y) → List Y → List X → List Y → List X → Type 0
+AreHanded part before all handed left = handed ++ reverse (map part left) ≡ before ++ reverse (map part all)
+
+-- the last one that is left is handed on
+pub handed_more : {X Y : Type 0} (part : X → Y) (before : List Y) (all : List X) (handed more : List Y) (left rest : List X) (x : X)
+    → AreHanded part before all handed left → left ≡ rest ++ (x ∷ []) → more ≡ handed ++ (part x ∷ []) → AreHanded part before all more rest
+handed_more part before all handed more left rest x are left_is more_is =
+    let back : reverse (map part left) ≡ (part x ∷ []) ++ reverse (map part rest) =
+    ap (λ xs. reverse (map part xs)) left_is ∙ ap reverse (map-append part rest (x ∷ [])) ∙ reverse-append (map part rest) (part x ∷ []) in
+    ap (λ ys. ys ++ reverse (map part rest)) more_is
+    ∙ append_assoc handed (part x ∷ []) (reverse (map part rest))
+    ∙ ap (λ ys. handed ++ ys) (sym back)
+    ∙ are
+
+-- none is left
+pub handed_all : {X Y : Type 0} (part : X → Y) (before : List Y) (all : List X) (handed : List Y) (left : List X)
+    → AreHanded part before all handed left → left ≡ [] → handed ≡ before ++ reverse (map part all)
+handed_all part before all handed left are none =
+    sym (append-nil handed) ∙ ap (λ xs. handed ++ reverse (map part xs)) (sym none) ∙ are
+
+-- what is behind a list
+pub drop_first : {Y : Type 0} (xs ys : List Y) (n : ℕ) → n ≡ length xs → drop n (xs ++ ys) ≡ ys
+drop_first [] ys zero is = refl
+drop_first [] ys (suc n) is = absurd (omega (arith, is))
+drop_first (x ∷ xs) ys zero is = absurd (omega (arith, is))
+drop_first (x ∷ xs) ys (suc n) is = drop_first xs ys n (omega (arith, is))

@@ -2,7 +2,7 @@
 //!
 //! It takes time in the number of lanes and callers. It takes no memory, since room for all was made before any thread started.
 
-ghost use Rattle.std.specs.Prelude.{◌≡◌, ℕ, ◌+◌, ◌<◌, ◌≤◌, [], length, map, take, vec_len, vec_capacity, IsTrue};
+ghost use Rattle.std.specs.Prelude.{◌≡◌, ℕ, ◌+◌, ◌<◌, ◌≤◌, [], ◌++◌, length, map, reverse, take, drop, vec_len, vec_capacity, IsTrue};
 ghost use Rattle.std.specs.List.{sum_by};
 ghost use Rattle.wq_rescuer.specs.Serving.{AreLastFirst, AreServed, HasRoomFor, IsRan, finished_by, faults_by};
 ghost use Rattle.wq_rescuer.specs.declared.running.RunWhy.TheVariants.{NoThread};
@@ -116,7 +116,7 @@ fn gather_lanes<N: Naming, A: Allocator, B: Body + Drop>(
     }
 }
 
-/// Takes back the callers, the last one first. Their seats come after those of the lanes.
+/// Takes back the callers, the first one, which is last in the list, first. Their seats come after those of the lanes.
 fn gather_callers<N: Naming, A: Allocator, C: Caller + Drop>(
     mut ends: Vec<CallerEnd<N, A, C>, A>,
     seats: &mut Vec<Seat<N, A>, A>,
@@ -130,6 +130,9 @@ fn gather_callers<N: Naming, A: Allocator, C: Caller + Drop>(
     ensures seats { vec_len seats.new ≡ vec_len seats.old + vec_len ends }
     ensures callers { vec_len callers.new ≡ vec_len callers.old + vec_len ends }
     ensures results { vec_len results.new ≡ vec_len results.old + vec_len ends }
+    ensures seats_in_order { seats.new.items ≡ seats.old.items ++ reverse (map (λ end. end.seat) ends.items) }
+    ensures callers_in_order { callers.new.items ≡ callers.old.items ++ reverse (map (λ end. end.caller) ends.items) }
+    ensures results_in_order { results.new.items ≡ results.old.items ++ reverse (map (λ end. end.result) ends.items) }
 {
     while let Some(end) = ends.pop() {
         let CallerEnd {
@@ -143,7 +146,7 @@ fn gather_callers<N: Naming, A: Allocator, C: Caller + Drop>(
     }
 }
 
-/// Puts together what came back of the lanes and the callers, where all of it came back.
+/// Puts together what came back of the lanes and the callers, where all of it came back. The last caller came back first.
 pub(crate) fn gather<N: Naming, A: Allocator, B: Body + Drop, C: Caller + Drop>(
     board: Board<N, A, B, C>,
     back: Back<N, A, B, C>,
@@ -155,7 +158,10 @@ pub(crate) fn gather<N: Naming, A: Allocator, B: Body + Drop, C: Caller + Drop>(
     requires callers { HasRoomFor (vec_len board.callers.ends) (vec_len back.callers) (vec_capacity back.callers) }
     requires rescued { HasRoomFor (vec_len board.lanes.ends) (vec_len back.rescued) (vec_capacity back.rescued) }
     requires results { HasRoomFor (vec_len board.callers.ends) (vec_len back.results) (vec_capacity back.results) }
-    ensures { IsRan N.wiring (vec_len board.lanes.ends) (vec_len board.callers.ends) result.seats.items (map B.runs result.bodies.items) (vec_len result.callers) (vec_len result.results) result.rescued.items result.finished result.faults }
+    ensures ran { IsRan N.wiring (vec_len board.lanes.ends) (vec_len board.callers.ends) result.seats.items (map B.runs result.bodies.items) (vec_len result.callers) (vec_len result.results) result.rescued.items result.finished result.faults }
+    ensures seats { drop (vec_len board.lanes.ends) result.seats.items ≡ reverse (map (λ end. end.seat) board.callers.ends.items) }
+    ensures callers { result.callers.items ≡ reverse (map (λ end. end.caller) board.callers.ends.items) }
+    ensures results { result.results.items ≡ reverse (map (λ end. end.result) board.callers.ends.items) }
 {
     let Board {
         lanes,

@@ -1,9 +1,11 @@
 -- Scripts: what a scripted body keeps, and what the seat of its rescuer counts of its flushes.
-use Rattle.std.specs.Prelude.{◌≡◌, ℕ, ◌+◌, ◌≤◌, ◌==◌, ◌⊎◌, List, length, take, slice_index, true, false}
+use Rattle.std.specs.Prelude.{◌≡◌, ℕ, ◌+◌, ◌≤◌, ◌==◌, ◌⊎◌, List, Bool, Result, Err, length, take, slice_index, true, false}
 use Rattle.std.specs.List.{count_by}
 use Rattle.wq_items.specs.declared.target.Target.{Target}
 use Rattle.wq_counts.specs.declared.kind.Kind.TheVariants.{Wait}
 use Rattle.wq_counts.specs.Counting.{made}
+use Rattle.wq_held.specs.declared.fault.CallError.{CallError}
+use Rattle.wq_held.specs.Errors.{call_code}
 
 -- for each item in turn: the targets of the flushes that it declares, and how often it ran
 pub record Script : Type 0 where
@@ -34,3 +36,7 @@ CountsFirstWaits old new targets = (n : ℕ) × (n ≤ length targets) × Counts
 -- declared; the lane can't wait
 abbrev pub IsFlushCode : ℕ → Type 0
 IsFlushCode code = (code ≡ 60) ⊎ ((62 ≤ code) × (code ≤ 64))
+
+-- the latest flush of a body was refused, and this is the number of its refusal
+abbrev pub IsCodeOf : Result Bool CallError → ℕ → Type 0
+IsCodeOf flushed code = (e : CallError) × (flushed ≡ Err e) × (code ≡ call_code e)

@@ -250,6 +250,26 @@ fn books_take_memory_only_when_they_are_made(rt: HostRuntime) -> Result<(), Fail
     Ok(())
 }
 
+/// How many bytes of a heap a book with room for so many rows takes, besides its machine.
+fn bytes_of(heap: &LocalHeap, rows: u32) -> Result<Option<usize>, Fail> {
+    let core = core_in(heap, heap, ALONE, 1, &[0])??;
+    let before = heap.used();
+    let Ok(_book) = Book::new(heap, core, rows) else {
+        return Ok(None);
+    };
+    Ok(heap.used().checked_sub(before))
+}
+
+#[test]
+fn a_row_takes_12_bytes(rt: HostRuntime) -> Result<(), Fail> {
+    let heap = LocalHeap::new(rt.alloc(), 65536)?;
+    let few = bytes_of(&heap, 1_000)?;
+    let more = bytes_of(&heap, 2_000)?;
+    assert_eq!(rt; more, few.and_then(|bytes| bytes.checked_add(12_000)));
+    assert!(rt; few.is_some());
+    Ok(())
+}
+
 /// The judgement of the rows on the machine of the pair: the number of rows, or the place of the row at fault and the number of
 /// the fault; and the work that is left on the machine after it.
 fn judged<A: Allocator + Copy>(heap: A, mut core: Core<A>) -> (Result<u32, (u32, u32)>, u64)

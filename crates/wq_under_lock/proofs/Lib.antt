@@ -1,1 +1,2 @@
 pub mod CallsRefused
+pub mod Sleepers

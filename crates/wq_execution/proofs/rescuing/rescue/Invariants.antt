@@ -8,6 +8,6 @@ use Rattle.wq_execution.proofs.rescuing.rescue.Given as goal
 abbrev pub invariant-loop : goal.invariant-loop
 invariant-loop g l =
     (goal.iterator-loop g).can_next l.iterator' × (goal.iterator-loop g).is_finite l.iterator'
-    × IsServing (items g.N.Naming.wiring) l.fn.seat l.seat (g.B.Body.width l.body) (g.B.Body.runs l.body) l.finished l.faults
+    × IsServing (items g.N.Naming.wiring) l.fn.seat l.seat (g.B.Body.width l.body) (g.B.Body.runs l.body) l.rescued.finished l.rescued.faults
     × RanOnly g.N.Naming.wiring l.fn.q (g.B.Body.runs l.body)
     × (l.fn.q < g.N.Naming.wiring.lanes)

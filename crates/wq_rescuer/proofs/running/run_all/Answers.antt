@@ -7,7 +7,7 @@ returns-clause-ran g c =
     let same : vec_len c.args.bodies ≡ g.N.Naming.wiring.lanes = search rules in
     let lanes : vec_len c.run_threads-board.result.lanes.ends ≡ g.N.Naming.wiring.lanes = search rules in
     let callers : vec_len c.run_threads-board.result.callers.ends ≡ vec_len c.args.callers = search rules in
-    (same, rw (lanes, callers) at c.gather.ensures)
+    (same, rw (lanes, callers) at c.gather.ensures.ran)
 
 pub gather-requires-clause-in_order : goal.gather-requires-clause-in_order
 gather-requires-clause-in_order g c =

@@ -35,9 +35,9 @@ returns-in_err-be_told-in-Waiting-clause-refused g c =
     let e = c.in_err-be_told-in-Waiting.field-0.0 in
     let why = c.in_err-be_told-in-Waiting.ensures.refused in
     let known = c.in_ok-answer.ensures.counted in
-    let both = counted-waits old c.ask_and_cancel.new.seat i c.in_ok-answer.answer c.in-Waiting.asked c.in_ok-answer.taken c.in-Waiting.is known.2 in
+    let both = counted-waits old c.begin_cancel_sync.new.seat i c.in_ok-answer.answer c.in-Waiting.asked c.in_ok-answer.taken c.in-Waiting.is known.2 in
     let p = err_from_is_err_and c.from_residual-in_err-be_told-in-Waiting.result c.from_residual-in_err-be_told-in-Waiting.ensures.1 in
-    rw (p.1, p.2) (told_refused g.N.Naming.wiring old i e known.0 known.1 why.0, told_not_counted old c.ask_and_cancel.new.seat c.be_told.new.seat i c.in_ok-answer.taken e both why.1 why.0)
+    rw (p.1, p.2) (told_refused g.N.Naming.wiring old i e known.0 known.1 why.0, told_not_counted old c.begin_cancel_sync.new.seat c.be_told.new.seat i c.in_ok-answer.taken e both why.1 why.0)
 
 pub returns-in-Idle-clause-counted : goal.returns-in-Idle-clause-counted
 returns-in-Idle-clause-counted g c =
@@ -50,9 +50,9 @@ returns-in_ok-be_told-in-Waiting-clause-counted g c =
     let i = c.args.item in
     let rows = c.in_ok-answer.ensures.rows in
     let known = c.in_ok-answer.ensures.counted in
-    let both = counted-waits old c.ask_and_cancel.new.seat i c.in_ok-answer.answer c.in-Waiting.asked c.in_ok-answer.taken c.in-Waiting.is known.2 in (
+    let both = counted-waits old c.begin_cancel_sync.new.seat i c.in_ok-answer.answer c.in-Waiting.asked c.in_ok-answer.taken c.in-Waiting.is known.2 in (
       known.0,
       known.1,
-      counted-told c.deref_mut.result.now.book rows.between old c.ask_and_cancel.new.seat c.be_told.new.seat i c.in_ok-answer.answer c.in-Waiting.asked c.in_ok-answer.taken
-          c.in-Waiting.is rows.asks both c.in_ok-be_told-in-Waiting.ensures.told,
+      counted-told rows.0 rows.2.between old c.begin_cancel_sync.new.seat c.be_told.new.seat i c.in_ok-answer.answer c.in-Waiting.asked c.in_ok-answer.taken
+          c.in-Waiting.is rows.2.asks both c.in_ok-be_told-in-Waiting.ensures.told,
     )

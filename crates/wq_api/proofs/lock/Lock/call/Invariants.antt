@@ -1,7 +1,8 @@
 use Rattle.std.proofs.Common.{◌≡◌}
-use Rattle.wq_api.proofs.runtime.WqRuntime.be_told.Given as goal
+use Rattle.wq_api.proofs.lock.Lock.call.Given as goal
 
+-- no turn so far has changed what is the caller's own, or what it keeps
 abbrev pub invariant-loop : goal.invariant-loop
 invariant-loop g l =
     (goal.iterator-loop g).can_next l.iterator' × (goal.iterator-loop g).is_finite l.iterator'
-    × (l.seat ≡ l.fn.seat) × (l.asked.item ≡ l.fn.asked.item)
+    × (l.own ≡ l.fn.own) × (l.waits ≡ l.fn.waits)

@@ -1,0 +1,310 @@
+//! The calls of a runtime, as turns under the lock: each says what it does to the book, and whether those who sleep are woken.
+//!
+//! A call that waits has two parts: it begins, which is a call that answers at once, and then it takes a turn whenever something
+//! has changed, until that answers. A turn without an answer changes nothing. A turn takes the time of the book's events, and no
+//! memory; only `seat` takes more: time and memory in the number of items.
+
+ghost use Rattle.std.specs.Prelude.{◌≡◌, ℕ, ◌+◌, ◌*◌, ◌<◌, ◌≤◌, replicate, vec_len, IfOk, IfErr, OnOk, OnErr, IfSome, IfNone, true, false};
+ghost use Rattle.wq_core.specs.Wiring.{items};
+ghost use Rattle.wq_core.specs.State.{HasUnfinished, HasUnfinishedBelow};
+ghost use Rattle.wq_rows.specs.declared.event.Event.TheVariants.{Queue, Cancel, Wait as WaitEvent, Over as OverEvent, Finish as FinishEvent, Told as ToldEvent};
+ghost use Rattle.wq_counts.specs.declared.kind.Kind.TheVariants.{Queue as QueueKind, Cancel as CancelKind, Wait as WaitKind, Over as OverKind, Finish as FinishKind, Told as ToldKind};
+ghost use Rattle.wq_counts.specs.Counting.{raised};
+ghost use Rattle.wq_history.specs.Book.{state, Appends, AppendsOne, HasNothingToStart};
+ghost use Rattle.wq_history.specs.Answers.{AnswersAsk, AnswersStart};
+ghost use Rattle.wq_held.specs.declared.fault.CallError.TheVariants.{WrongLane, NotAsked};
+ghost use Rattle.wq_held.specs.declared.fault.SeatError.TheVariants.{TooManySeats, OutOfMemory as SeatOutOfMemory};
+ghost use Rattle.wq_held.specs.Locked.{max_runtime_lanes, IsOnLane, HasRoom, Holds, CountsAsk, AsksAndCancels, CountsAskAndCancel, RefusesClose};
+ghost use Rattle.wq_held.specs.Closing.{IsClosed};
+ghost use Rattle.wq_under_lock.specs.Refusals.{RefusesQueueWork, RefusesCancelWork, RefusesWaitFor};
+ghost use Rattle.wq_under_lock.specs.Turns.{AnswersWith, IfAnswers, IfSleeps, Wakes, IsSameToSleepers, woken, woken_by, woken_unless_refused};
+ghost use Rattle.wq_under_lock.specs.declared.turn.Wake.TheVariants.{Nobody, Everybody};
+
+use crate::calls;
+use crate::turn::{Turn, Wake};
+use std::alloc::Allocator;
+use wq_groups::LaneId;
+use wq_held::{CallError, CloseWhy, Closed, Held, Naming, Seat, SeatError};
+use wq_history::{Ask, Asked, Told};
+use wq_items::ItemId;
+
+// ---- calls that only look
+
+/// The number of workqueues, at most 256.
+pub fn lanes<N: Naming, A: Allocator>(held: &Held<N, A>) -> Turn<u16, ()>
+    ensures lanes { AnswersWith result (λ lanes wake. (lanes ≡ N.wiring.lanes) × (lanes ≤ max_runtime_lanes)) }
+    ensures wakes { AnswersWith result (λ lanes wake. wake ≡ Nobody) }
+{
+    Turn::Answers(held.lanes() as u16, Wake::Nobody)
+}
+
+/// The workqueue of an item, where there is such an item.
+pub fn lane_of<N: Naming, A: Allocator>(held: &Held<N, A>, item: ItemId) -> Turn<Option<LaneId>, ()>
+    ensures some { AnswersWith result (λ lane wake. IfSome lane (λ q. IsOnLane N.wiring q item)) }
+    ensures none { AnswersWith result (λ lane wake. IfNone lane (items N.wiring ≤ item)) }
+    ensures wakes { AnswersWith result (λ lane wake. wake ≡ Nobody) }
+{
+    Turn::Answers(held.lane_of(item), Wake::Nobody)
+}
+
+// ---- seats
+
+/// Makes a seat, with no counts.
+///
+/// The error is `TooManySeats` (70) exactly where 65,535 were made. Otherwise it is out of memory (20), which can't occur where
+/// there is no item. After an error nothing is changed.
+pub fn seat<N: Naming, A: Allocator + Copy>(
+    held: &mut Held<N, A>,
+    alloc: A,
+) -> Turn<Result<Seat<N, A>, SeatError>, ()>
+    ensures seat { AnswersWith result (λ r wake. IfOk r (λ s. s ≡ replicate (14 * items N.wiring) 0)) }
+    ensures made { AnswersWith result (λ r wake. OnOk r ((held.old.seats < 65535) × (held.new ≡ record held.old { seats = held.old.seats + 1 }))) }
+    ensures refused { AnswersWith result (λ r wake. IfErr r (λ e. held.new ≡ held.old)) }
+    ensures limit { AnswersWith result (λ r wake. r ≡ Err TooManySeats → held.old.seats ≡ 65535) }
+    ensures memory { AnswersWith result (λ r wake. r ≡ Err SeatOutOfMemory → (held.old.seats < 65535) × (0 < items N.wiring)) }
+    ensures wakes { AnswersWith result (λ r wake. (wake ≡ Nobody) × IsSameToSleepers held.old held.new) }
+    ensures holds { Holds N.wiring N.rows held.old.book }
+{
+    held.holds();
+    Turn::Answers(held.seat(alloc), Wake::Nobody)
+}
+
+// ---- calls that answer at once
+
+/// `queue_work`, as `queue`. All who sleep are woken where the item wasn't pending.
+pub fn queue_work<N: Naming, A: Allocator>(
+    held: &mut Held<N, A>,
+    seat: &mut Seat<N, A>,
+    q: LaneId,
+    item: ItemId,
+) -> Turn<Result<bool, CallError>, ()>
+    ensures row { AnswersWith result (λ r wake. IfOk r (λ accepted. AppendsOne held.old.book held.new.book (Queue item) accepted)) }
+    ensures counted { AnswersWith result (λ r wake. IfOk r (λ accepted. IsOnLane N.wiring q item × HasRoom seat.old × (seat.new ≡ raised seat.old item QueueKind accepted))) }
+    ensures refused { AnswersWith result (λ r wake. IfErr r (λ e. RefusesQueueWork N.wiring seat.old q item e × (held.new ≡ held.old) × (seat.new ≡ seat.old))) }
+    ensures woken { AnswersWith result (λ r wake. wake ≡ woken_by r) }
+    ensures wakes { Wakes IsSameToSleepers held.old held.new result }
+{
+    let answer = calls::queue(held, seat, q, item);
+    let wake = Wake::on_yes(&answer);
+    Turn::Answers(answer, wake)
+}
+
+/// `cancel_work`, as `cancel`. All who sleep are woken where the item was pending.
+pub fn cancel_work<N: Naming, A: Allocator>(
+    held: &mut Held<N, A>,
+    seat: &mut Seat<N, A>,
+    item: ItemId,
+) -> Turn<Result<bool, CallError>, ()>
+    ensures row { AnswersWith result (λ r wake. IfOk r (λ taken. AppendsOne held.old.book held.new.book (Cancel item) taken)) }
+    ensures counted { AnswersWith result (λ r wake. IfOk r (λ taken. (item < items N.wiring) × HasRoom seat.old × (seat.new ≡ raised seat.old item CancelKind taken))) }
+    ensures refused { AnswersWith result (λ r wake. IfErr r (λ e. RefusesCancelWork N.wiring item e × (held.new ≡ held.old) × (seat.new ≡ seat.old))) }
+    ensures woken { AnswersWith result (λ r wake. wake ≡ woken_by r) }
+    ensures wakes { Wakes IsSameToSleepers held.old held.new result }
+{
+    let answer = calls::cancel(held, seat, item);
+    let wake = Wake::on_yes(&answer);
+    Turn::Answers(answer, wake)
+}
+
+/// Finishes what a workqueue runs, an entry of this item. All who sleep are woken.
+///
+/// The only error is `WrongLane` (64): there is no such workqueue, it runs nothing or an entry of another item, or it waits.
+/// After an error nothing is changed or counted.
+pub fn finish_work<N: Naming, A: Allocator>(
+    held: &mut Held<N, A>,
+    seat: &mut Seat<N, A>,
+    q: LaneId,
+    item: ItemId,
+) -> Turn<Result<(), CallError>, ()>
+    ensures row { AnswersWith result (λ r wake. OnOk r (AppendsOne held.old.book held.new.book (FinishEvent q item) true)) }
+    ensures counted { AnswersWith result (λ r wake. OnOk r (IsOnLane N.wiring q item × (seat.new ≡ raised seat.old item FinishKind true))) }
+    ensures refused { AnswersWith result (λ r wake. IfErr r (λ e. (e ≡ WrongLane) × (held.new ≡ held.old) × (seat.new ≡ seat.old))) }
+    ensures woken { AnswersWith result (λ r wake. wake ≡ woken_unless_refused r) }
+    ensures wakes { Wakes IsSameToSleepers held.old held.new result }
+{
+    match held.finish(seat, q, item) {
+        Ok(()) => Turn::Answers(Ok(()), Wake::Everybody),
+        Err(e) => Turn::Answers(Err(e), Wake::Nobody),
+    }
+}
+
+// ---- `flush_work` and `cancel_work_sync`
+
+/// Begins a flush, as `ask`. It changes nothing that a caller may wait for.
+pub fn begin_flush<N: Naming, A: Allocator>(
+    held: &mut Held<N, A>,
+    seat: &mut Seat<N, A>,
+    item: ItemId,
+) -> Turn<Result<Ask, CallError>, ()>
+    ensures row { AnswersWith result (λ r wake. IfOk r (λ answer. AnswersAsk held.old.book held.new.book item answer)) }
+    ensures counted { AnswersWith result (λ r wake. IfOk r (λ answer. (item < items N.wiring) × HasRoom seat.old × CountsAsk seat.old seat.new item answer)) }
+    ensures refused { AnswersWith result (λ r wake. IfErr r (λ e. RefusesCancelWork N.wiring item e × (held.new ≡ held.old) × (seat.new ≡ seat.old))) }
+    ensures woken { AnswersWith result (λ r wake. wake ≡ Nobody) }
+    ensures wakes { Wakes IsSameToSleepers held.old held.new result }
+{
+    Turn::Answers(calls::ask(held, seat, item), Wake::Nobody)
+}
+
+/// Begins a cancellation that waits, as `ask_and_cancel`. All who sleep are woken where the item was pending.
+pub fn begin_cancel_sync<N: Naming, A: Allocator>(
+    held: &mut Held<N, A>,
+    seat: &mut Seat<N, A>,
+    item: ItemId,
+) -> Turn<Result<(Ask, bool), CallError>, ()>
+    ensures rows { AnswersWith result (λ r wake. IfOk r (λ both. AsksAndCancels held.old.book held.new.book item both.0 both.1)) }
+    ensures counted { AnswersWith result (λ r wake. IfOk r (λ both. (item < items N.wiring) × HasRoom seat.old × CountsAskAndCancel seat.old seat.new item both.0 both.1)) }
+    ensures refused { AnswersWith result (λ r wake. IfErr r (λ e. RefusesCancelWork N.wiring item e × (held.new ≡ held.old) × (seat.new ≡ seat.old))) }
+    ensures woken { AnswersWith result (λ r wake. IfOk r (λ both. wake ≡ woken both.1) × OnErr r (wake ≡ Nobody)) }
+    ensures wakes { Wakes IsSameToSleepers held.old held.new result }
+{
+    match calls::ask_and_cancel(held, seat, item) {
+        Ok((answer, taken)) => Turn::Answers(Ok((answer, taken)), Wake::on_change(taken)),
+        Err(e) => Turn::Answers(Err(e), Wake::Nobody),
+    }
+}
+
+/// Tells a caller that its wait is over, once none of the entries that it waits for is unfinished.
+///
+/// The only error is `NotAsked` (65), where no ask about its item is waiting. Then nothing is changed or counted.
+pub fn be_told<N: Naming, A: Allocator>(
+    held: &mut Held<N, A>,
+    seat: &mut Seat<N, A>,
+    asked: Asked,
+) -> Turn<Result<(), CallError>, Asked>
+    ensures row { IfAnswers result (λ r wake. OnOk r (Appends held.old.book held.new.book (ToldEvent asked.item) true asked.mark)) }
+    ensures counted { IfAnswers result (λ r wake. OnOk r (seat.new ≡ raised seat.old asked.item ToldKind true)) }
+    ensures refused { IfAnswers result (λ r wake. IfErr r (λ e. (e ≡ NotAsked) × (held.new ≡ held.old) × (seat.new ≡ seat.old))) }
+    ensures woken { IfAnswers result (λ r wake. wake ≡ Nobody) }
+    ensures sleeps { IfSleeps result (λ again. (again ≡ asked) × (seat.new ≡ seat.old) × HasUnfinishedBelow (state held.old.book) asked.item asked.mark) }
+    ensures wakes { Wakes IsSameToSleepers held.old held.new result }
+{
+    match held.told(seat, asked) {
+        Told::Done => Turn::Answers(Ok(()), Wake::Nobody),
+        Told::NotYet(again) => Turn::Sleeps(again),
+        Told::NotAsked(again) => {
+            again.give_up();
+            Turn::Answers(Err(CallError::NotAsked), Wake::Nobody)
+        }
+    }
+}
+
+// ---- serving a workqueue
+
+/// Starts the next entry of a workqueue, once one is pending, and gives its item; all who sleep are woken. It gives nothing where
+/// nothing is pending and the book is closed.
+///
+/// The only error is `WrongLane` (64), where there is no such workqueue or it runs an entry. After an error nothing is changed.
+pub fn next<N: Naming, A: Allocator>(
+    held: &mut Held<N, A>,
+    q: LaneId,
+) -> Turn<Result<Option<ItemId>, CallError>, ()>
+    ensures row { IfAnswers result (λ r wake. IfOk r (λ next. AnswersStart held.old.book held.new.book q next)) }
+    ensures known { IfAnswers result (λ r wake. IfOk r (λ next. (q < N.wiring.lanes) × IfSome next (λ item. IsOnLane N.wiring q item))) }
+    ensures ended { IfAnswers result (λ r wake. IfOk r (λ next. IfNone next (held.old.book.closed ≡ true))) }
+    ensures refused { IfAnswers result (λ r wake. IfErr r (λ e. (e ≡ WrongLane) × (held.new ≡ held.old))) }
+    ensures sleeps { IfSleeps result (λ none. HasNothingToStart held.old.book q × (held.old.book.closed ≡ false)) }
+    ensures wakes { Wakes IsSameToSleepers held.old held.new result }
+    ensures holds { Holds N.wiring N.rows held.old.book }
+{
+    held.holds();
+    match calls::start(held, q) {
+        Ok(Some(item)) => Turn::Answers(Ok(Some(item)), Wake::Everybody),
+        Ok(None) => {
+            if held.is_closed() {
+                Turn::Answers(Ok(None), Wake::Nobody)
+            } else {
+                Turn::Sleeps(())
+            }
+        }
+        Err(e) => Turn::Answers(Err(e), Wake::Nobody),
+    }
+}
+
+/// Begins a wait of a workqueue, as `wait`. All who sleep are woken.
+pub fn begin_wait<N: Naming, A: Allocator>(
+    held: &mut Held<N, A>,
+    seat: &mut Seat<N, A>,
+    q: LaneId,
+    target: ItemId,
+) -> Turn<Result<bool, CallError>, ()>
+    ensures row { AnswersWith result (λ r wake. IfOk r (λ unfinished. AppendsOne held.old.book held.new.book (WaitEvent q target) unfinished)) }
+    ensures counted { AnswersWith result (λ r wake. IfOk r (λ unfinished. (q < N.wiring.lanes) × (target < items N.wiring) × HasRoom seat.old × (seat.new ≡ raised seat.old target WaitKind unfinished))) }
+    ensures refused { AnswersWith result (λ r wake. IfErr r (λ e. RefusesWaitFor N.wiring seat.old q e × (held.new ≡ held.old) × (seat.new ≡ seat.old))) }
+    ensures woken { AnswersWith result (λ r wake. wake ≡ woken_unless_refused r) }
+    ensures wakes { Wakes IsSameToSleepers held.old held.new result }
+{
+    match calls::wait(held, seat, q, target) {
+        Ok(unfinished) => Turn::Answers(Ok(unfinished), Wake::Everybody),
+        Err(e) => Turn::Answers(Err(e), Wake::Nobody),
+    }
+}
+
+/// Lets what a workqueue runs go on, once its wait for this item is over. All who sleep are woken.
+///
+/// The only error is `WrongLane` (64), where the workqueue doesn't wait for this item. After an error nothing is changed or
+/// counted.
+pub fn go_on<N: Naming, A: Allocator>(
+    held: &mut Held<N, A>,
+    seat: &mut Seat<N, A>,
+    q: LaneId,
+    target: ItemId,
+) -> Turn<Result<(), CallError>, ()>
+    ensures row { IfAnswers result (λ r wake. OnOk r (AppendsOne held.old.book held.new.book (OverEvent q target) true)) }
+    ensures counted { IfAnswers result (λ r wake. OnOk r (seat.new ≡ raised seat.old target OverKind true)) }
+    ensures refused { IfAnswers result (λ r wake. IfErr r (λ e. (e ≡ WrongLane) × (held.new ≡ held.old) × (seat.new ≡ seat.old))) }
+    ensures woken { IfAnswers result (λ r wake. wake ≡ woken_unless_refused r) }
+    ensures sleeps { IfSleeps result (λ none. seat.new ≡ seat.old) }
+    ensures wakes { Wakes IsSameToSleepers held.old held.new result }
+{
+    match held.over(seat, q, target) {
+        Ok(true) => Turn::Answers(Ok(()), Wake::Everybody),
+        Ok(false) => Turn::Sleeps(()),
+        Err(e) => Turn::Answers(Err(e), Wake::Nobody),
+    }
+}
+
+// ---- `destroy_workqueue`
+
+/// Refuses queueings from now on. All who sleep are woken.
+pub fn refuse_queueings<N: Naming, A: Allocator>(held: &mut Held<N, A>) -> Turn<(), ()>
+    ensures closed { held.new ≡ record { book = record held.old.book { closed = true }; seats = held.old.seats } }
+    ensures woken { AnswersWith result (λ done wake. wake ≡ Everybody) }
+    ensures holds { Holds N.wiring N.rows held.new.book }
+{
+    held.close();
+    held.holds();
+    Turn::Answers((), Wake::Everybody)
+}
+
+/// Answers once no entry is unfinished.
+pub fn be_idle<N: Naming, A: Allocator>(held: &Held<N, A>) -> Turn<(), ()>
+    ensures idle { IfAnswers result (λ done wake. ¬ HasUnfinished (state held.now.book)) }
+    ensures woken { IfAnswers result (λ done wake. wake ≡ Nobody) }
+    ensures sleeps { IfSleeps result (λ none. HasUnfinished (state held.now.book)) }
+    ensures holds { Holds N.wiring N.rows held.now.book }
+{
+    held.holds();
+    if held.is_idle() {
+        Turn::Answers((), Wake::Nobody)
+    } else {
+        Turn::Sleeps(())
+    }
+}
+
+/// Closes an idle runtime, given all of its seats, and gives its book and the sums of their counts.
+///
+/// The error is `NotIdle` (71) where an entry is unfinished or a caller waits, or else `SeatsMissing` (72) where not all seats
+/// are handed in. It comes with what the lock protects and with the seats, as they were.
+pub fn close<N: Naming, A: Allocator>(
+    held: Held<N, A>,
+    seats: Vec<Seat<N, A>, A>,
+) -> Result<Closed<N, A>, (Held<N, A>, Vec<Seat<N, A>, A>, CloseWhy)>
+    ensures closed { IfOk result (λ c. IsClosed N.wiring N.rows seats.items c.book c.counts c.agree) }
+    ensures refused { IfErr result (λ e. RefusesClose held (vec_len seats) e.2) }
+    ensures kept { IfErr result (λ e. (e.0 ≡ held) × (e.1 ≡ seats)) }
+{
+    match held.closable(seats.len()) {
+        Ok(()) => Ok(held.closed(seats)),
+        Err(why) => Err((held, seats, why)),
+    }
+}
