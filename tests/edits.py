@@ -1,10 +1,5 @@
 """Tries wrong bodies: the prover must refuse each edit of tests/edits.
 
-  edits.py [CRATE ..]    tries the edits of these crates, or of all
-  --alone                one at a time; the lines that it prints are the same
-  --must-fail            also those in crates/CRATE/must-fail, which `rt ci` tries
-  --look                 only says which edits no longer apply, those in must-fail among them; takes a second
-
 It is run at the top of the repository. An edit is a file tests/edits/CRATE/MISTAKE.edit, in the form of `rt ci`: a line `file: src/a.rt`,
 and then pairs of lines `old: TEXT` and `new: TEXT`, of which each old text stands exactly once in that file.
 
@@ -507,10 +502,15 @@ def try_all(tree, given):
 
 def main():
     about, _, more = __doc__.partition('\n\n')
-    parser = argparse.ArgumentParser(prog='edits.py', description=about, epilog=more, formatter_class=argparse.RawDescriptionHelpFormatter)
-    parser.add_argument('crates', nargs='*', metavar='CRATE')
-    for flag in ('--alone', '--must-fail', '--look'):
-        parser.add_argument(flag, action='store_true')
+    how = argparse.RawDescriptionHelpFormatter
+    parser = argparse.ArgumentParser(prog='tests/edits.sh', description=about, epilog=more, formatter_class=how)
+    parser.add_argument('crates', nargs='*', metavar='CRATE', help='tries the edits of these crates alone')
+    for flag, what in (
+        ('--alone', 'tries them one at a time; what it prints is the same'),
+        ('--must-fail', 'tries those in crates/CRATE/must-fail too, which `rt ci` tries'),
+        ('--look', 'tries none, and only says which no longer apply, those in must-fail among them'),
+    ):
+        parser.add_argument(flag, action='store_true', help=what)
     given = parser.parse_args()
     for it in (signal.SIGINT, signal.SIGTERM, signal.SIGHUP):
         signal.signal(it, lambda number, _: sys.exit(128 + number))
