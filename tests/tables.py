@@ -14,6 +14,10 @@ from standard_error import belongs, meant
 
 WORKERS = 2
 
+# Where so many runs have taken too long, the rest aren't made.
+MOST_SLOW = 4
+TOO_SLOW = "it took too long"
+
 
 @dataclasses.dataclass
 class Case:
@@ -70,7 +74,7 @@ def failure(program, folder, number, given):
     try:
         run = time_limit.run([program, *words], cwd=folder, capture_output=True, preexec_fn=limiter(given.memory))
     except time_limit.TookTooLong:
-        return "it took too long"
+        return TOO_SLOW
     finally:
         for place in places:
             os.remove(place)
@@ -101,10 +105,17 @@ def run_cases(name, arguments, cases):
     passed = collections.Counter()
     failed = collections.Counter()
     with tempfile.TemporaryDirectory(prefix=f"{name}_") as folder:
+        slow = []
+
+        def tried(number):
+            if len(slow) >= MOST_SLOW:
+                return "it wasn't run, since others took too long"
+            why = failure(program, folder, number, cases[number])
+            slow.extend([number] if why == TOO_SLOW else [])
+            return why
+
         pool = concurrent.futures.ThreadPoolExecutor(WORKERS)
-        failures = pool.map(
-            lambda number: failure(program, folder, number, cases[number]), range(len(cases)))
-        for given, why in zip(cases, failures):
+        for given, why in zip(cases, pool.map(tried, range(len(cases)))):
             (failed if why else passed)[given.table] += 1
             if why:
                 texts = ", ".join(short(text) for text in given.texts)

@@ -12,7 +12,7 @@ use crate::deed::{Deed, Plot};
 use crate::doer::Doer;
 use crate::lines::tell_text;
 use crate::meeting::Flags;
-use crate::ran::{put_ran, put_refused};
+use crate::ran::put_end;
 use crate::testbed::Bed;
 use std::alloc::{AllocError, Global};
 use std::sync::Wait;
@@ -99,13 +99,7 @@ impl Crew {
     ) -> Result<u8, AllocError>
         requires { N.wiring ≡ wiring (declaration_of bed.now.table.now bed.now.groups.now) bed.now.assignment.now }
     {
-        match self.perform(rt, alloc, &runtime, bed) {
-            Ok(Ok(ran)) => put_ran(out, bed.table, runtime, ran),
-            Ok(Err(refused)) => put_refused(out, runtime, refused),
-            Err(error) => {
-                drop(runtime);
-                Err(error)
-            }
-        }
+        let ran = self.perform(rt, alloc, &runtime, bed);
+        put_end(out, bed.table, runtime, ran)
     }
 }

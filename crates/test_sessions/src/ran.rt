@@ -1,8 +1,8 @@
 //! What is printed once all rescuers and callers have ended. It takes time in the length of what is printed.
 
-use crate::testbed::{fault, put_done, put_made, put_rows};
+use crate::testbed::{fault, put_closed, put_done};
 use std::alloc::{AllocError, Global};
-use wq_api::{CallError, Closed, Naming, Seat, WqRuntime};
+use wq_api::{CallError, Naming, Seat, WqRuntime};
 use wq_items::ItemTable;
 use wq_rescuer::{Body, Caller, Ran, Rescued, RunFault};
 use wq_script::{ScriptBody, ScriptCaller};
@@ -108,18 +108,6 @@ fn put_unrun<N: Naming, B: Body + Drop, C: Caller + Drop>(
     Ok(1)
 }
 
-/// Adds what a closed runtime hands back. Returns the status.
-fn put_closed<N: Naming>(
-    out: &mut String,
-    table: &ItemTable<'_, Global>,
-    closed: &Closed<N, Global>,
-) -> Result<u8, AllocError> {
-    writeln!(out, "agree {}", closed.agree)?;
-    put_made(out, table, &closed.counts)?;
-    put_rows(out, closed.book.packed())?;
-    Ok(0)
-}
-
 /// Closes a runtime, and adds what is handed back. Returns the status.
 fn close<N: Naming>(
     out: &mut String,
@@ -129,10 +117,10 @@ fn close<N: Naming>(
 ) -> Result<u8, AllocError> {
     match runtime.close(seats) {
         Ok(closed) => {
-            let status = put_closed(out, table, &closed);
+            let printed = put_closed(out, table, &closed);
             // Written as a call, so that the proof has one step for it.
             drop(closed);
-            status
+            printed.and(Ok(0))
         }
         Err(refused) => {
             drop(refused);
@@ -142,7 +130,7 @@ fn close<N: Naming>(
 }
 
 /// Adds what all threads left, closes the runtime with their seats, and adds what is handed back. Returns the status.
-pub(crate) fn put_ran<N: Naming, B: Body + Shown + Drop, C: Caller + Shown + Drop>(
+fn put_ran<N: Naming, B: Body + Shown + Drop, C: Caller + Shown + Drop>(
     out: &mut String,
     table: &ItemTable<'_, Global>,
     runtime: WqRuntime<N, Global>,
@@ -155,7 +143,7 @@ pub(crate) fn put_ran<N: Naming, B: Body + Shown + Drop, C: Caller + Shown + Dro
 }
 
 /// Adds that not everything was run on a runtime. Returns the status.
-pub(crate) fn put_refused<N: Naming, B: Body + Drop, C: Caller + Drop>(
+fn put_refused<N: Naming, B: Body + Drop, C: Caller + Drop>(
     out: &mut String,
     runtime: WqRuntime<N, Global>,
     refused: RunFault<N, Global, B, C>,
@@ -164,4 +152,21 @@ pub(crate) fn put_refused<N: Naming, B: Body + Drop, C: Caller + Drop>(
     let status = put_unrun(out, &refused);
     drop(refused);
     status
+}
+
+/// Adds what came of a run, closes the runtime, and adds what is handed back. Returns the status.
+pub(crate) fn put_end<N: Naming, B: Body + Shown + Drop, C: Caller + Shown + Drop>(
+    out: &mut String,
+    table: &ItemTable<'_, Global>,
+    runtime: WqRuntime<N, Global>,
+    ran: Result<Result<Ran<N, Global, B, C>, RunFault<N, Global, B, C>>, AllocError>,
+) -> Result<u8, AllocError> {
+    match ran {
+        Ok(Ok(ran)) => put_ran(out, table, runtime, ran),
+        Ok(Err(refused)) => put_refused(out, runtime, refused),
+        Err(error) => {
+            drop(runtime);
+            Err(error)
+        }
+    }
 }

@@ -4,11 +4,11 @@
 
 use crate::asking::{Call, Counted, read_call};
 use crate::lines::{Listener, tell_text};
-use crate::testbed::{mistake, put_code, put_done, put_item, put_made, put_rows};
+use crate::testbed::{mistake, put_closed, put_code, put_done, put_item};
 use std::alloc::{AllocError, Global};
 use std::sync::Wait;
 use std::{mem, str};
-use wq_api::{CallError, CloseRefused, Closed, Naming, Seat, SeatError, WqRuntime};
+use wq_api::{CallError, CloseRefused, Naming, Seat, SeatError, WqRuntime};
 use wq_groups::LaneId;
 use wq_items::{ItemId, ItemTable};
 use wq_text::Words;
@@ -64,17 +64,6 @@ fn put_words(out: &mut String, word: &[u8], words: Words<'_>) -> Result<(), Allo
         put_word(out, word.bytes())?;
     }
     Ok(())
-}
-
-/// Adds what a closed runtime hands back.
-fn put_closed<N: Naming>(
-    out: &mut String,
-    table: &ItemTable<'_, Global>,
-    closed: &Closed<N, Global>,
-) -> Result<(), AllocError> {
-    writeln!(out, "ok\nagree {}", closed.agree)?;
-    put_made(out, table, &closed.counts)?;
-    put_rows(out, closed.book.packed())
 }
 
 /// All seats of a runtime, and the number of the one in which calls count.
@@ -226,7 +215,7 @@ impl<N: Naming, R: Wait> Session<'_, N, R> {
     ) -> Result<(), AllocError> {
         match runtime.close(seats) {
             Ok(closed) => {
-                let printed = put_closed(out, table, &closed);
+                let printed = out.push_str("ok\n").and(put_closed(out, table, &closed));
                 drop(closed);
                 printed
             }

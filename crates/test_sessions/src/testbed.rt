@@ -11,7 +11,7 @@ mod printing;
 
 pub use bed::{Bed, make};
 pub use command_line::{Setting, words};
-pub use counts::{kind_word, put_made, put_rows};
+pub use counts::{kind_word, put_closed, put_made, put_rows};
 pub use ending::{ended, misused, print_answer, unread};
 pub use files::{MAX_LINE, MAX_TEXT, SEED, Texts, read_file, read_texts};
 pub use naming::{item_of, lane_of};

@@ -2,7 +2,7 @@
 
 use crate::testbed::printing::put_item;
 use std::alloc::{AllocError, Global};
-use wq_api::{Counts, Kind};
+use wq_api::{Closed, Counts, Kind, Naming};
 use wq_items::{ItemId, ItemTable};
 
 /// The word for a kind.
@@ -71,4 +71,15 @@ pub fn put_rows(out: &mut String, packed: &[u8]) -> Result<(), AllocError> {
         out.push('\n')?;
     }
     Ok(())
+}
+
+/// Adds what a closed runtime hands back.
+pub fn put_closed<N: Naming>(
+    out: &mut String,
+    table: &ItemTable<'_, Global>,
+    closed: &Closed<N, Global>,
+) -> Result<(), AllocError> {
+    writeln!(out, "agree {}", closed.agree)?;
+    put_made(out, table, &closed.counts)?;
+    put_rows(out, closed.book.packed())
 }
