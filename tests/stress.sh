@@ -4,7 +4,7 @@
 #
 #     tests/stress.sh [SEEDS] [CALLS] [PROGRAM]
 #
-# 20 seeds and 100,000 calls where nothing is said. It is no part of the gate, and takes some ten minutes. It fails where a run
+# 20 seeds and 100,000 calls where nothing is said. It is no part of the gate, and takes some minutes. It fails where a run
 # doesn't print what docs/FORMAT.md says, or doesn't end in time.
 set -eu
 seeds=${1:-20}
