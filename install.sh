@@ -234,8 +234,12 @@ room=$(awk '$1 == "MemAvailable:" { print int($2 / (3 * 1024 * 1024)) }' /proc/m
 began=$SECONDS
 count=0
 total=${#left[@]}
-echo "install: wqplan will be installed to $prefix. First $total of its ${#crates[@]} crates are proved in $build, up to $jobs at a time."
-[ "$total" -lt ${#crates[@]} ] || echo "install: From a fresh clone that takes about an hour."
+case $total in
+    0) first="Its ${#crates[@]} crates are proved" ;;
+    "${#crates[@]}") first="First its $total crates are proved, up to $jobs at a time, which takes about an hour" ;;
+    *) first="First $total of its ${#crates[@]} crates are proved, up to $jobs at a time" ;;
+esac
+echo "install: wqplan will be installed to $prefix. $first (in $build)."
 
 # begin CRATE: has it proved in a process group of its own, which cleanup can end. Its status comes when it has ended.
 begin() {

@@ -175,7 +175,7 @@ is 'the program is linked there when all are' "wqplan
 $build/crates/wqplan link" "$(tail -n 2 "$work/calls")"
 is 'each crate is named as proved, once' "$crates" "$(sed -n 's|^\[[0-9]*/[0-9]*\] \(.*\) proved (.*|\1|p' "$work/out" | LC_ALL=C sort)"
 is 'they are counted' "$(wc -w <<<"$crates")" "$(sed -n 's|^\[\([0-9]*\)/\([0-9]*\)\] .*|\1 \2|p' "$work/out" | awk '$1 == NR { n = $2 } END { print n }')"
-allowed=$(sed -n 's/.*, up to \([0-9]*\) at a time\.$/\1/p' "$work/out")
+allowed=$(sed -n 's/.*, up to \([0-9]*\) at a time,.*/\1/p' "$work/out")
 most=$(sort -n "$work/counts" | tail -n 1)
 is 'no more at a time than it says' "$allowed" "$((most > allowed ? most : allowed))"
 is 'several at a time, where it says so' "$((allowed > 1))" "$((most > 1))"
@@ -212,6 +212,7 @@ proved() {
 run "$prefix"
 installed 'an installation after which nothing has changed' "$prefix" one
 is 'after which nothing has changed: nothing is proved' '' "$(cat "$work/calls")"
+is 'after which nothing has changed: it says so' 1 "$(grep -c "Its $(wc -w <<<"$crates") crates are proved (in $build)" "$work/out")"
 touch -- "$build/crates/wq_text/src/old.rt"
 mkdir -p -- "$build/crates/wq_text/proofs" "$build/crates/wq_old/src"
 run "$prefix"
