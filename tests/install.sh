@@ -180,7 +180,7 @@ most=$(sort -n "$work/counts" | tail -n 1)
 is 'no more at a time than it says' "$allowed" "$((most > allowed ? most : allowed))"
 is 'several at a time, where it says so' "$((allowed > 1))" "$((most > 1))"
 is 'the program is among them' wqplan "$(grep -x wqplan <<<"$crates")"
-is 'no crate of the tests or of an example is' '' "$(grep -E '^(test|example)_|^wq_tests$' <<<"$crates")"
+is 'no crate of the tests or of an example is' '' "$(grep -E '^(test|example)_' <<<"$crates")"
 lacking=''
 for crate in $crates; do
     for use in $(sed -n "s/^$crate://p" "$repository/crates.txt"); do

@@ -103,6 +103,29 @@ BOOKS = [
         "050101000100000001000000",
         "060100000100000000000000",
     ]),
+    # Each call once, and no row is left.
+    (*TWO, 9, [
+        ("cancel b", "false free 8 idle open - - - -"),
+        ("queue a", "true free 3 busy open - - - -"),
+        ("queue a", "false free 2 busy open - - - -"),
+        ("ask a", "waiting 1 free 0 busy open - - - -"),
+        ("start 1", "a free 0 busy open - - a -"),
+        ("wait 1 b", "false free 0 busy open - - a b"),
+        ("over 1", "true free 0 busy open - - a -"),
+        ("finish 1", "ok free 0 idle open - - - -"),
+        ("told 0", "done free 0 idle open - - - -"),
+        ("close", "ok free 0 idle closed - - - -"),
+    ], [
+        "020001000000000000000000",
+        "010100000000000000000000",
+        "010000000000000000000000",
+        "070100000000000001000000",
+        "030100000100000000000000",
+        "040001000100000001000000",
+        "050101000100000001000000",
+        "060100000100000000000000",
+        "080100000000000001000000",
+    ]),
     # One row too few.
     (*TWO, 4, [("queue a", "refused 60 free 4 idle open - - - -")], []),
     # Refusals.
@@ -334,7 +357,8 @@ TEXTS = [
     (*ONE, 5, b"queue a\n\nstop\nqueue a\n", "true free 2 busy open - - / mistake line 3"),
     (*ONE, 5, b"close\n#" + b"x" * 524_288 + b"\n", "mistake line 2"),
     (*ONE, 5, b"close\n" + b"\n" * 8_388_603, "mistake line 0"),
-    # Too many rows, before any call.
+    # As many rows as there may be, and too many, before any call.
+    (*ONE, 16_777_216, "", "rows 0"),
     (*ONE, 16_777_217, "stop", "refused 68"),
     (*ONE, 4_294_967_295, "", "refused 68"),
     # Refusals of the texts that come before, in their order.

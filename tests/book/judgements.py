@@ -55,6 +55,14 @@ JUDGEMENTS = [
         (QUEUE + "030100000200000000000000", f"refused 76 at 2 / {PENDING}"),
         (QUEUE + START + "0400ffff0100000001000000", f"refused 76 at 3 / {RUNS}"),
         (QUEUE + START + "06010000ffff000000000000", f"refused 76 at 3 / {RUNS}"),
+        ("0100ffff0000000000000000", f"refused 76 at 1 / {NEW}"),
+        ("0101ffff0000000000000000", f"refused 76 at 1 / {NEW}"),
+        ("0200ffff0000000000000000", f"refused 76 at 1 / {NEW}"),
+        (QUEUE + "030102000100000000000000", f"refused 76 at 2 / {PENDING}"),
+        (QUEUE + "03010000ffff000000000000", f"refused 76 at 2 / {PENDING}"),
+        (QUEUE + START + "040002000100000001000000", f"refused 76 at 3 / {RUNS}"),
+        (QUEUE + START + WAIT + "050102000100000001000000", f"refused 76 at 4 / {WAITS}"),
+        (QUEUE + START + "060102000100000000000000", f"refused 76 at 3 / {RUNS}"),
         # Another workqueue, another item, another number.
         (QUEUE + "030100000000000000000000", f"refused 76 at 2 / {PENDING}"),
         (QUEUE + "030101000100000000000000", f"refused 76 at 2 / {PENDING}"),
@@ -109,7 +117,11 @@ JUDGEMENTS = [
         ("070000000100000000000000", f"refused 75 at 1 / {ONE_NEW}"),
         ("080100000100000000000000", f"refused 75 at 1 / {ONE_NEW}"),
         ("010100000000000100000000", f"refused 75 at 1 / {ONE_NEW}"),
+        ("030000000100000000000000", f"refused 75 at 1 / {ONE_NEW}"),
+        # A byte too few, and one too many.
         ("00", f"refused 75 at 1 / {ONE_NEW}"),
+        (QUEUE[:-2], f"refused 75 at 1 / {ONE_NEW}"),
+        (QUEUE + "00", f"refused 75 at 2 / {ONE_PENDING}"),
         # Digits of both kinds, and blanks.
         (" 0 1\t01 0000\r\n0000 0000 00000000\n", f"legal 1 / {ONE_PENDING}"),
         ("0801000000000000FFffFFFF", f"refused 76 at 1 / {ONE_NEW}"),
@@ -124,7 +136,12 @@ JUDGEMENTS = [
         ("010102000000000000000000" + "010100000000000001000000" + "010101000000000002000000"
          + "030102000000000000000000", "legal 4 / next 3 / lane 0 runs c waits - pending a b"),
     ]),
-    ("", "", [("", "legal 0 / next 0"), (QUEUE, "refused 76 at 1 / next 0")]),
+    ("", "", [
+        ("", "legal 0 / next 0"),
+        (QUEUE, "refused 76 at 1 / next 0"),
+        ("030100000000000000000000", "refused 76 at 1 / next 0"),
+        ("060100000000000000000000", "refused 76 at 1 / next 0"),
+    ]),
     # Refusals of the texts that come before.
     ("items a", "nope", [("0", "refused 4 line 1")]),
     ("item a", "", [("0", "refused 41 line 0")]),

@@ -12,6 +12,7 @@ sys.dont_write_bytecode = True
 sys.path.append(str(pathlib.Path(__file__).resolve().parent.parent))
 import calls  # noqa: E402  (beside this file)
 import judgements  # noqa: E402
+import machines  # noqa: E402
 from tables import Case, run_cases, text_of  # noqa: E402  (in the folder above)
 
 
@@ -32,13 +33,22 @@ def book(table, declaration, assignment, rows, events, answer):
     return Case(table, ["book", 0, 1, str(rows), 2], texts, answer, status_of(answer))
 
 
+def kept_book(table, declaration, assignment, rows, made, written):
+    """A run of `book` in which these calls are made, each with what is printed for it, and these rows are written."""
+    events = " / ".join(line for line, _ in made)
+    lines = [printed for _, printed in made] + [f"rows {len(written)}"] + written
+    return book(table, declaration, assignment, rows, events, text_of(" / ".join(lines)))
+
+
 def table_cases():
     """A case for each row of the tables."""
     for declaration, assignment, rows, made, written in calls.BOOKS:
-        events = " / ".join(line for line, _ in made)
-        lines = [printed for _, printed in made] + [f"rows {len(written)}"] + written
-        answer = text_of(" / ".join(lines))
-        yield book("books", declaration, assignment, rows, events, answer)
+        yield kept_book("books", declaration, assignment, rows, made, written)
+    for declaration, assignment, made, written, left in machines.MACHINES:
+        yield kept_book("machines", declaration, assignment, machines.ROWS, made, written)
+        texts = [text_of(text) for text in (declaration, assignment, " / ".join(written))]
+        wanted = text_of(f"legal {len(written)} / {left}")
+        yield Case("states of machines", ["check", 0, 1, 2], texts, wanted, 0)
     for declaration, assignment, rows, events, answer in calls.TEXTS:
         yield book("texts of calls", declaration, assignment, rows, events, text_of(answer))
     for declaration, assignment, histories in judgements.JUDGEMENTS:

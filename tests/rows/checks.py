@@ -98,6 +98,16 @@ CHECKS = [
         ("plan 1 / wq 0 a / chain 1", "yes 1"),
         ("plan 2 / wq 0 a / wq 1 / chain 1", "no 52"),
         ("plan 2 / wq 0 a / wq 1 / chain 2 / arc a a", "no 51 1"),
+        # Words that are numbers, and words that are none.
+        ("plan 0", "refused 41 line 0"),
+        ("plan 7", "refused 40 line 0"),
+        ("plan 10", "refused 40 line 0"),
+        ("plan 99999999999999999999", "refused 40 line 1"),
+        ("plan 00", "refused 40 line 1"),
+        ("plan 01", "refused 40 line 1"),
+        ("plan -1", "refused 40 line 1"),
+        ("plan 1a", "refused 40 line 1"),
+        ("plan \xff", "refused 40 line 1"),
     ]),
     # A chain of three items, and a fourth that waits for nobody.
     ("item a / item b / item c / item d / flush a b / flush b c", [
@@ -140,6 +150,8 @@ CHECKS = [
         (" / circle 1 # x / \targ a a", "refused 40 line 3"),
         # An arc may come again.
         ("circle 3 / arc a a / arc a a / arc a a", "yes circle 3"),
+        ("circle 7" + 7 * " / arc a a", "yes circle 7"),
+        ("circle 10" + 10 * " / arc a a", "yes circle 10"),
         ("circle 0", "refused 43 line 1"),
         ("circle 1 / arc a a / arc a a", "refused 40 line 3"),
         ("circle 1 / arc a a / plan 1", "refused 40 line 3"),

@@ -60,6 +60,10 @@ LINES = [
     (b"#" + b"x" * 4_096 + b"\n", "refused 2 line 1"),
     (b"#" + b"x" * 4_096 + b"\r\n", "refused 2 line 1"),
     (b"#" + b"x" * 4_094 + b"\r\r\n", EMPTY),
+    # The first of two, and a line whose CR is dropped above one whose CR isn't.
+    (b"#\n#" + b"x" * 4_096 + b"\n#" + b"x" * 4_096, "refused 2 line 2"),
+    (b"#\n#\n#" + b"x" * 4_096, "refused 2 line 3"),
+    (b"#" + b"x" * 4_095 + b"\r\n#" + b"x" * 4_095 + b"\r", "refused 2 line 2"),
     # A blank line behind an item.
     (b"item a\n" + b" " * 4_096, ONE),
     (b"item a\n" + b" " * 4_096 + b"\n", ONE),

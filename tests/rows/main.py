@@ -82,6 +82,8 @@ def table_cases():
     for text, assignment, rows in replays.REPLAYS:
         for run, answer in rows:
             yield case("runs", "replay", [text, assignment, run], answer)
+    for text, assignment, answer, steps in replays.STEPS:
+        yield from step_cases([text, assignment], answer, steps.split(" / "))
     for table, rows in [
         ("refusals with runs", replays.REFUSALS), ("limits of runs", limits.REPLAYS)
     ]:
@@ -94,6 +96,22 @@ def table_cases():
             yield case(table, "run", [text], answer)
     for command, texts, fronts in prefixes.PREFIXES:
         yield from prefix_cases(command, [text_of(text) for text in texts], fronts)
+
+
+def step_cases(texts, answer, steps):
+    """A case for each step that may not be made, behind those before it that may, and one for all that may be made."""
+    made = []
+    for step in steps:
+        run = made + [step.lstrip("!")]
+        if step.startswith("!"):
+            yield case("steps", "replay", texts + [run_of(run)], f"not lawful {len(run)}")
+        else:
+            made = run
+    yield case("steps", "replay", texts + [run_of(made)], answer)
+
+
+def run_of(steps):
+    return " / ".join([f"run {len(steps)}"] + steps)
 
 
 def prefix_cases(command, texts, fronts):

@@ -48,6 +48,7 @@ PLANS = [
     ("item a / item b / flush a b", "plan 2 / wq 0 b / wq 1 a / chain 2 / arc a b"),
     ("# a / item a # b! / item b#x / flush a b # a / #ordered a a",
      "plan 2 / wq 0 b / wq 1 a / chain 2 / arc a b"),
+    ("item a / item b", "plan 1 / wq 0 a b / chain 1"),
     ("item a / item b / item c", "plan 1 / wq 0 a b c / chain 1"),
     ("item a / item b / item c / item d / flush a b / flush b c",
      "plan 3 / wq 0 c d / wq 1 b / wq 2 a / chain 3 / arc a b / arc b c"),
@@ -55,6 +56,8 @@ PLANS = [
      "plan 2 / wq 0 a b / wq 1 c d / chain 2 / arc c b"),
     ("item a / item b / item c / flush a c / flush a b / flush b c",
      "plan 3 / wq 0 c / wq 1 b / wq 2 a / chain 3 / arc a b / arc b c"),
+    ("item a / item b / item c / item d / flush a b / flush c d",
+     "plan 2 / wq 0 b d / wq 1 a c / chain 2 / arc a b"),
     # The chain begins at the lowest-numbered item and takes the flush of least place, here of d, not
     # of c.
     ("item a / item b / item c / item d / item e / flush b e / flush b d / flush b c / "
@@ -67,6 +70,8 @@ PLANS = [
     # Several targets on a line: their places are in the order in which they stand.
     ("item a / item b / item c / flush a b c", "plan 2 / wq 0 b c / wq 1 a / chain 2 / arc a b"),
     ("item a / item b / item c / flush a c b c", "plan 2 / wq 0 b c / wq 1 a / chain 2 / arc a c"),
+    ("item a / item b / item c / flush a c b / flush b c",
+     "plan 3 / wq 0 c / wq 1 b / wq 2 a / chain 3 / arc a b / arc b c"),
     ("item a / item b / item c / flush a c b / flush b c c",
      "plan 3 / wq 0 c / wq 1 b / wq 2 a / chain 3 / arc a b / arc b c"),
     # Groups: the chain leaves one by whichever member, and the rank of a group is that of its members
@@ -133,6 +138,10 @@ CIRCLES = [
      "circle 2 / arc b c / arc c b",
      "run 14 / queue b / queue c / queue a / queue d / start 0 a / wait 0 d / start 1 b / wait 1 c / "
      "start 2 c / wait 2 b / start 3 d / finish 3 d / over 0 d / wait 0 b"),
+    ("item a / item b / item c / item d / flush a d b / flush b c / flush c b",
+     "circle 2 / arc b c / arc c b",
+     "run 14 / queue b / queue c / queue a / queue d / start 0 a / wait 0 d / start 1 b / wait 1 c / "
+     "start 2 c / wait 2 b / start 3 d / finish 3 d / over 0 d / wait 0 b"),
     # The arc of least place decides, also where one leads back at once.
     ("item a / item b / flush a a b / flush b a",
      "circle 1 / arc a a",
@@ -159,6 +168,10 @@ CIRCLES = [
     ("item a / item b / item c / item d / ordered b c d / flush a c / flush d b",
      "circle 1 / arc d b",
      "run 8 / queue d / queue a / queue b / queue c / start 0 a / wait 0 c / start 1 d / wait 1 b"),
+    ("item a / item b / item c / item d / ordered b d / flush a b / flush d c / flush c b",
+     "circle 2 / arc d c / arc c b",
+     "run 10 / queue d / queue c / queue a / queue b / start 0 a / wait 0 b / start 1 d / wait 1 c / "
+     "start 2 c / wait 2 b"),
     # Of two circles the answer is the one that the walk from the lowest-numbered group comes to.
     ("item a / item b / item c / item d / flush c d / flush d c / flush a b / flush b a",
      "circle 2 / arc a b / arc b a",
@@ -202,10 +215,12 @@ REFUSALS = [
     ("item a / flush a a b", "refused 8 line 2"),
     ("item a / item a", "refused 7 line 2"),
     ("item a / flush a a / item a / flush a b", "refused 7 line 3"),
+    ("item a / flush b a", "refused 8 line 2"),
     ("item a / ordered a b / item b", "refused 8 line 2"),
     ("ordered a", "refused 8 line 1"),
     # Names that are on an ordered line a second time.
     ("item a / ordered a a", "refused 11 line 2"),
+    ("item a /  / ordered a a", "refused 11 line 3"),
     ("item a / ordered a / ordered a", "refused 11 line 3"),
     ("item a / item b / ordered a b / ordered b", "refused 11 line 4"),
     ("item a / item b / item c / ordered b c b / ordered a / ordered a", "refused 11 line 4"),
@@ -218,6 +233,7 @@ REFUSALS = [
     ("item a / flush a! a", "refused 6 line 2"),
     ("ordered a b!", "refused 6 line 1"),
     ("item", "refused 5 line 1"),
+    ("item a / item", "refused 5 line 2"),
     ("item #a", "refused 5 line 1"),
     ("item a / flush a", "refused 5 line 2"),
     ("item a / flush a #a", "refused 5 line 2"),

@@ -141,3 +141,53 @@ REPLAYS = [
         ("run 1", "refused 40 line 0"),
     ]),
 ]
+
+# A declaration, an assignment, how the steps end, and the steps. One behind a `!` may not be made where it stands, and isn't made.
+STEPS = [
+    # A running item is queued again, and only what is pending is cancelled.
+    ("item a", "wq 0 a", "open",
+     "!cancel a / !start 0 a / !finish 0 a / queue a / !queue a / cancel a / queue a / start 0 a / !cancel a / queue a / "
+     "!start 0 a / cancel a / queue a / finish 0 a / !finish 0 a / start 0 a / queue a / finish 0 a"),
+    # An item that waits for itself waits for the entry that runs, whatever is queued and cancelled after it.
+    ("item a / flush a a", "wq 0 a", "stuck",
+     "queue a / start 0 a / wait 0 a / !over 0 a / !finish 0 a / !wait 0 a / queue a / !over 0 a / cancel a / !over 0 a / "
+     "!start 0 a"),
+    # A wait is over when no entry below its mark is pending or runs. Later ones don't prolong it.
+    ("item a / item b / flush a b", "wq 0 b / wq 1 a", "open",
+     "queue b / queue a / start 1 a / wait 1 b / !over 1 b / !over 1 a / !over 0 b / start 0 b / !over 1 b / queue b / "
+     "!over 1 b / finish 0 b / over 1 b / !over 1 b / !wait 1 b / finish 1 a"),
+    # A cancellation ends a wait, even one on the workqueue of what waits.
+    ("item a / item b / flush a b", "wq 0 a b", "open",
+     "queue a / queue b / start 0 a / wait 0 b / !over 0 b / !start 0 b / !finish 0 a / cancel b / over 0 b / finish 0 a"),
+    # Two waits of one entry, not in the declared order, and the second one for an item that is idle.
+    ("item a / item b / item c / flush a b c", "wq 0 c / wq 1 b / wq 2 a", "open",
+     "queue c / queue a / start 2 a / wait 2 c / !wait 2 b / !over 2 c / start 0 c / finish 0 c / !over 2 b / over 2 c / "
+     "queue c / wait 2 b / over 2 b / !wait 2 c / finish 2 a / cancel c"),
+    # One item may be waited for twice, where two flushes are declared. The second wait has a mark of its own.
+    ("item a / item b / item c / flush a b c", "wq 0 c / wq 1 b / wq 2 a", "open",
+     "queue a / start 2 a / wait 2 b / queue b / over 2 b / wait 2 b / !over 2 b / start 1 b / !over 2 b / finish 1 b / "
+     "over 2 b / !wait 2 b / finish 2 a"),
+    # An execution may finish early. It waits for nothing that its own item doesn't declare.
+    ("item a / item b / item c / flush a b b / flush c a", "wq 0 b / wq 1 a / wq 2 c", "open",
+     "queue a / start 1 a / !wait 1 c / !wait 1 a / wait 1 b / over 1 b / finish 1 a / queue c / start 2 c / !wait 2 b / "
+     "finish 2 c"),
+    # Workqueues that don't exist, or on which something else runs, waits or is waited for.
+    ("item a / item b / flush a b", "wq 0 a / wq 1 b", "open",
+     "!start 2 a / queue a / !start 2 a / !start 4095 a / !start 1 a / !start 0 b / !wait 0 b / start 0 a / !wait 2 b / "
+     "!wait 1 b / !over 0 b / wait 0 b / !over 2 b / over 0 b / !finish 2 a / !finish 1 a / !finish 0 b / finish 0 a"),
+    # A workqueue starts what was queued first, and a cancellation keeps the order of the others.
+    ("item a / item b / item c / item d", "wq 0 a b c d", "open",
+     "queue b / queue a / queue c / queue d / !start 0 a / cancel a / queue a / !start 0 c / start 0 b / !start 0 c / "
+     "!finish 0 c / finish 0 b / !start 0 a / !start 0 d / start 0 c / finish 0 c / start 0 d"),
+    # Items of one group are on its workqueue, and a workqueue may be empty.
+    ("item a / item b / item c / ordered c a / flush b c", "wq 0 / wq 1 b / wq 2 / wq 3 a c", "open",
+     "queue c / !start 0 c / !start 2 c / start 3 c / queue b / queue a / start 1 b / wait 1 c / !start 3 a / !over 1 c / "
+     "finish 3 c / over 1 c / finish 1 b"),
+    # Two workqueues wait for each other. Both waits began at the same mark, and neither is over.
+    ("item a / item b / item c / item d / flush a b / flush c d", "wq 0 a d / wq 1 b c", "deadlock",
+     "queue a / queue c / queue b / queue d / start 0 a / wait 0 b / start 1 c / wait 1 d / !over 0 b / !over 1 d"),
+    ("item a / item b / item c / item d / flush a b / flush c d", "wq 0 a d / wq 1 b c", "open",
+     "!start 0 a / queue a / !queue a / queue b / start 0 a / !wait 0 d"),
+    ("item a / item b / item c / item d / flush a b / flush c d", "wq 0 a d / wq 1 b c", "open",
+     "queue b / cancel b / !cancel b"),
+]

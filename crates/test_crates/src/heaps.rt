@@ -26,53 +26,35 @@ fn run_in(
     Ok((end, writer.into_inner(), heap.used()))
 }
 
-/// Asserts that a run with a heap of this many bytes leaves none in use, and answers or runs out of memory. Returns which.
-fn answers_in(
-    rt: &impl Abort,
-    alloc: Global,
-    size: usize,
-    case: &Case,
-) -> Result<bool, AllocError> {
-    let (end, written, left) = run_in(alloc, size, case)?;
-    let answers = end != Err(Fault::Memory);
-    let (wanted, answer) = if answers {
-        (Ok(case.end), case.answer)
-    } else {
-        (Err(Fault::Memory), "")
-    };
-    assert_eq!(rt;
-        (case.name, size, end, left, written.as_slice()),
-        (case.name, size, wanted, 0, answer.as_bytes())
-    );
-    Ok(answers)
-}
-
-/// Asserts that a run runs out of memory up to some size of the heap, and answers from there on.
+/// Asserts that a run leaves no memory in use, runs out of memory up to some size of the heap, and answers from there on.
 fn assert_sizes(rt: &impl Abort, alloc: Global, case: &Case) -> Result<(), AllocError> {
+    let name = case.name;
     let mut refused = false;
     let mut answered = false;
     for size in (0..16384usize).step_by(16) {
-        let answers = answers_in(rt, alloc, size, case)?;
-        assert!(rt; answers || !answered);
-        refused = refused || !answers;
-        answered = answers;
+        let (end, written, left) = run_in(alloc, size, case)?;
+        if end == Err(Fault::Memory) {
+            assert!(rt; !answered && written.is_empty(), "{name}");
+            refused = true;
+        } else {
+            assert!(rt;
+                end == Ok(case.end) && written.as_slice() == case.answer.as_bytes(),
+                "{name}"
+            );
+            answered = true;
+        }
+        assert!(rt; left == 0, "{name}");
     }
-    assert_eq!(rt; (case.name, refused, answered), (case.name, true, true));
-    Ok(())
-}
-
-/// Asserts so of each case of a table.
-fn assert_all_sizes(rt: &impl Abort, alloc: Global, table: &[Case]) -> Result<(), AllocError> {
-    for case in table {
-        assert_sizes(rt, alloc, case)?;
-    }
+    assert!(rt; refused && answered, "{name}");
     Ok(())
 }
 
 #[test]
 fn running_out_of_memory_changes_no_answer(rt: HostRuntime) -> Result<(), Fail> {
     for table in cases() {
-        assert_all_sizes(&rt, rt.alloc(), table)?;
+        for case in table {
+            assert_sizes(&rt, rt.alloc(), case)?;
+        }
     }
     Ok(())
 }

@@ -3,11 +3,14 @@
 //!
 //! It takes time in the number of flushes times the length of the longest chain.
 
+ghost use Rattle.std.specs.Prelude.{◌≡◌, length};
+
 use crate::declared::declared;
 use crate::groups::assert_lanes;
 use std::alloc::{AllocError, Global};
 use std::process::Abort;
 use std::test::Fail;
+use wq_commands::Declaration;
 use wq_plan::{Answer, solve};
 
 /// How many items there are, and how many flushes: the limits.
@@ -38,28 +41,24 @@ fn flushes(alloc: Global) -> Result<Vec<Flush>, AllocError> {
 fn text(alloc: Global, flushes: &[Flush]) -> Result<String, AllocError> {
     let mut text = String::new(alloc);
     for item in 0..ITEMS {
-        text.push_str(&format!(in alloc; "item i{item}\n")?)?;
+        writeln!(&mut text, "item i{item}")?;
     }
     for (item, target) in flushes {
-        text.push_str(&format!(in alloc; "flush i{item} i{target}\n")?)?;
+        writeln!(&mut text, "flush i{item} i{target}")?;
     }
     Ok(text)
-}
-
-/// The lane of an item.
-fn lane(rt: &impl Abort, lanes: &[u16], item: u16) -> u16 {
-    *lanes.get(usize::from(item)).expect(rt, "no such item")
 }
 
 /// Makes one round: an item that flushes another one moves above it. Returns whether that changed anything.
 fn raise(rt: &impl Abort, lanes: &mut [u16], flushes: &[Flush]) -> bool {
     let mut changed = false;
     for (item, target) in flushes {
-        let least = lane(rt, lanes, *target)
-            .checked_add(1)
-            .expect(rt, "a lane too many");
-        if lane(rt, lanes, *item) < least {
-            *lanes.get_mut(usize::from(*item)).expect(rt, "no such item") = least;
+        let (item, target) = (usize::from(*item), usize::from(*target));
+        assert!(rt; item < lanes.len() && target < lanes.len());
+        // No chain is as long as that.
+        let least = lanes[target].saturating_add(1);
+        if lanes[item] < least {
+            lanes[item] = least;
             changed = true;
         }
     }
@@ -75,27 +74,48 @@ fn lanes_by_rounds(
     let mut lanes = vec![in alloc; 0; usize::from(ITEMS)]?;
     for _ in 0..ITEMS {
         if !raise(rt, lanes.as_mut_slice(), flushes) {
-            return Ok(lanes);
+            break;
         }
     }
-    panic!(rt; "a circle")
+    Ok(lanes)
+}
+
+/// Asserts that the plan of a declaration has these lanes, and a chain through all of them.
+fn assert_plan(
+    rt: &impl Abort,
+    alloc: Global,
+    declared: &Declaration<Global>,
+    lanes: &[u16],
+) -> Result<(), AllocError>
+    requires { length declared.now.groups.group_of ≡ length declared.now.table.names }
+{
+    match solve(alloc, &declared.table, &declared.groups)? {
+        Answer::Plan { assignment, chain } => {
+            assert_lanes(rt, &assignment, lanes);
+            assert!(rt; lanes.iter().max().map(|most| usize::from(*most)) == Some(chain.len()));
+        }
+        Answer::Circle { arcs } => assert!(rt; arcs.is_empty()),
+    }
+    Ok(())
+}
+
+/// Asserts that the plan of these flushes is the one that is found by rounds.
+fn assert_rounds(
+    rt: &impl Abort,
+    alloc: Global,
+    flushes: &[Flush],
+    text: &str,
+) -> Result<(), Fail> {
+    let lanes = lanes_by_rounds(rt, alloc, flushes)?;
+    let declared = declared(alloc, text)?;
+    let planned = assert_plan(rt, alloc, &declared, &lanes);
+    drop(declared);
+    Ok(planned?)
 }
 
 #[test]
 fn the_largest_plan_is_the_one_of_rounds(rt: HostRuntime) -> Result<(), Fail> {
     let flushes = flushes(rt.alloc())?;
     let text = text(rt.alloc(), &flushes)?;
-    let declared = declared(rt.alloc(), &text)?;
-    let lanes = lanes_by_rounds(&rt, rt.alloc(), &flushes)?;
-    match solve(rt.alloc(), &declared.table, &declared.groups)? {
-        Answer::Plan { assignment, chain } => {
-            assert_lanes(&rt, &assignment, &lanes);
-            assert_eq!(rt;
-                Some(chain.len()),
-                lanes.iter().max().map(|most| usize::from(*most))
-            );
-        }
-        Answer::Circle { arcs } => assert!(rt; arcs.is_empty()),
-    }
-    Ok(())
+    assert_rounds(&rt, rt.alloc(), &flushes, &text)
 }

@@ -2,7 +2,6 @@
 //!
 //! The answers were worked out by hand from docs/FORMAT.md. It takes the time of a hundred runs for each text.
 
-use std::test::Fail;
 use wq_commands::{End, Metered, plan_cmd};
 
 /// A declaration with groups and flushes, how `plan` ends on it, and its answer.
@@ -19,28 +18,18 @@ const CASES: &[(&[u8], End, &[u8])] = &[
     ),
 ];
 
-/// A hundred seeds, far from one another.
-fn seed(number: u8) -> u64 {
-    u64::from(number).wrapping_mul(0x9E37_79B9_7F4A_7C15)
-}
-
 #[test]
-fn no_answer_depends_on_the_seed(rt: HostRuntime) -> Result<(), Fail> {
+fn no_answer_depends_on_the_seed(rt: HostRuntime) {
     for (text, end, answer) in CASES {
         for number in 0..100u8 {
+            // Seeds that are far from one another.
+            let seed = u64::from(number).wrapping_mul(0x9E37_79B9_7F4A_7C15);
             let mut writer = Metered::new(Vec::new(rt.alloc()));
-            let ended = plan_cmd(
-                rt.alloc(),
-                seed(number),
-                &mut Metered::new(*text),
-                &mut writer,
-            );
-            let written = writer.into_inner();
-            assert_eq!(rt;
-                (number, ended, written.as_slice()),
-                (number, Ok(*end), *answer)
+            let ended = plan_cmd(rt.alloc(), seed, &mut Metered::new(*text), &mut writer);
+            assert!(rt;
+                ended == Ok(*end) && writer.into_inner().as_slice() == *answer,
+                "{number}"
             );
         }
     }
-    Ok(())
 }

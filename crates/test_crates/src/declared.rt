@@ -1,0 +1,60 @@
+//! What the tests declare and assign: from texts and numbers to tables, assignments and machines.
+//!
+//! It takes time in the lengths of the texts.
+
+ghost use Rattle.std.specs.Prelude.{◌≡◌, length, IfOk};
+ghost use Rattle.wq_core.specs.State.{empty_state};
+
+use std::alloc::{AllocError, Allocator};
+use std::test::Fail;
+use wq_commands::Declaration;
+use wq_core::Core;
+use wq_decl::DeclView;
+use wq_groups::{Assignment, Groups, LaneId};
+use wq_items::ItemTable;
+use wq_text::Text;
+
+/// The items that a text declares, and their groups.
+pub(crate) fn declared<'a, A: Allocator + Copy>(
+    alloc: A,
+    text: &'a str,
+) -> Result<Declaration<'a, A>, Fail>
+    ensures { IfOk result (λ d. length d.groups.group_of ≡ length d.table.names) }
+{
+    let text = Text::new(text.as_bytes(), 1_048_576, 4096)?;
+    let view = DeclView::new(text)?;
+    let table = ItemTable::read(alloc, &view)?;
+    let groups = Groups::read(alloc, &view, &table)?;
+    Ok(Declaration { table, groups })
+}
+
+/// The assignment of these lanes, in turn, to the groups, if there is one.
+pub(crate) fn assigned<A: Allocator + Copy>(
+    alloc: A,
+    lanes: u16,
+    lane_of_group: &[u16],
+) -> Result<Option<Assignment<A>>, AllocError> {
+    let mut of_group = Vec::new(alloc);
+    for lane in lane_of_group {
+        of_group.push(LaneId::new(*lane))?;
+    }
+    Ok(Assignment::new(lanes, of_group))
+}
+
+/// The machine, on a heap, of a declaration and the lane of each group, which are on another heap.
+pub(crate) fn core_in<A: Allocator + Copy>(
+    parts: A,
+    heap: A,
+    text: &str,
+    lanes: u16,
+    lane_of_group: &[u16],
+) -> Result<Result<Core<A>, AllocError>, Fail>
+    ensures { IfOk result (λ made. IfOk made (λ core. core.state ≡ empty_state core.wiring)) }
+{
+    let declared = declared(parts, text)?;
+    let assignment = assigned(parts, lanes, lane_of_group)?.ok_or("a lane too many")?;
+    if assignment.groups() != usize::from(declared.groups.len()) {
+        return Err(Fail::from("another number of groups"));
+    }
+    Ok(Core::new(heap, &declared.table, &declared.groups, &assignment))
+}
