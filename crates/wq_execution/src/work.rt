@@ -14,7 +14,6 @@ ghost use Rattle.wq_api.specs.WaitingCalls.{waited_for, RefusedWaitFor};
 ghost use Rattle.wq_execution.specs.Executing.{SameFinished, RefusesQueueByBody};
 
 use std::alloc::Allocator;
-use std::snapshot::Snapshot;
 use std::sync::Wait;
 use wq_api::{CallError, Naming, Seat, WqRuntime};
 use wq_groups::LaneId;
@@ -27,8 +26,8 @@ pub struct Work<'a, N: Naming, A: Allocator> {
     seat: &'a mut Seat<N, A>,
     lane: LaneId,
     item: ItemId,
-    /// What the latest flush answered, for contracts alone: it takes no room.
-    flushed: Snapshot<Result<bool, CallError>>,
+    /// What the latest flush answered. Contracts alone look at it.
+    flushed: Result<bool, CallError>,
 }
 
 impl<'a, N: Naming, A: Allocator> Work<'a, N, A> {
@@ -49,7 +48,7 @@ impl<'a, N: Naming, A: Allocator> Work<'a, N, A> {
             seat,
             lane,
             item,
-            flushed: Snapshot::of(&Ok(false)),
+            flushed: Ok(false),
         }
     }
 
@@ -114,10 +113,9 @@ impl<'a, N: Naming, A: Allocator> Work<'a, N, A> {
         ensures same_seat { self.new.seat.ghost_name ≡ self.old.seat.ghost_name }
         ensures lane { self.new.lane ≡ self.old.lane }
         ensures item { self.new.item ≡ self.old.item }
-        ensures flushed { self.new.flushed.value ≡ result }
+        ensures flushed { self.new.flushed ≡ result }
     {
-        let answer = self.runtime.wait_for(rt, self.seat, self.lane, target);
-        self.flushed = Snapshot::of(&answer);
-        answer
+        self.flushed = self.runtime.wait_for(rt, self.seat, self.lane, target);
+        self.flushed
     }
 }

@@ -224,3 +224,10 @@ drop_first [] ys zero is = refl
 drop_first [] ys (suc n) is = absurd (omega (arith, is))
 drop_first (x ∷ xs) ys zero is = absurd (omega (arith, is))
 drop_first (x ∷ xs) ys (suc n) is = drop_first xs ys n (omega (arith, is))
+
+-- the first ones of a list, where more is put behind it
+pub take_before : {Y : Type 0} (xs ys : List Y) (n : ℕ) → n ≤ length xs → take n (xs ++ ys) ≡ take n xs
+take_before [] ys zero le = refl
+take_before [] ys (suc n) le = absurd (omega (arith, le))
+take_before (x ∷ xs) ys zero le = refl
+take_before (x ∷ xs) ys (suc n) le = ap (λ zs. x ∷ zs) (take_before xs ys n (omega (arith, le)))

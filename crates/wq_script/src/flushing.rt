@@ -65,7 +65,7 @@ fn flush_each<N: Naming, S: Allocator, R: Wait>(
     ensures full { IfErr result (λ f. f.code ≡ 60 → seat_rows ≤ sum work.new.seat.now) }
     ensures finished { SameFinished work.old.seat.now work.new.seat.now }
     ensures same_seat { work.new.seat.ghost_name ≡ work.old.seat.ghost_name }
-    ensures cause { IfErr result (λ f. IsCodeOf work.new.flushed.value f.code) }
+    ensures cause { IfErr result (λ f. IsCodeOf work.new.flushed f.code) }
 {
     for target in targets {
         work.holds();
@@ -103,7 +103,7 @@ impl<'t, 'a, A: Allocator + Copy> Body for ScriptBody<'t, 'a, A> {
         ensures cut_off { OnErr result (CountsFirstWaits work.old.seat.now work.new.seat.now (targets_of self.old.waits item)) }
         ensures code { IfErr result (λ f. IsFlushCode f.code) }
         ensures full { IfErr result (λ f. f.code ≡ 60 → seat_rows ≤ sum work.new.seat.now) }
-        ensures cause { IfErr result (λ f. IsCodeOf work.new.flushed.value f.code) }
+        ensures cause { IfErr result (λ f. IsCodeOf work.new.flushed f.code) }
     {
         self.counts[usize::from(item.get())] += 1;
         let table = self.table;

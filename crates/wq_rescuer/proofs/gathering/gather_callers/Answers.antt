@@ -1,5 +1,5 @@
-use Rattle.std.proofs.Common.{rules, sym, ◌∙◌}
-use Rattle.wq_rescuer.proofs.Handovers.{nothing_in, handed_more, handed_all}
+use Rattle.std.proofs.Common.{rules, [], ◌∷◌, take, vec_len, ap, sym, ◌∙◌, arith}
+use Rattle.wq_rescuer.proofs.Handovers.{nothing_in, handed_more, handed_all, take_before}
 use Rattle.wq_rescuer.proofs.gathering.gather_callers.Goals as goal
 
 pub loop-end-preserved : goal.loop-end-preserved
@@ -14,7 +14,7 @@ loop-end-preserved g c =
       search rules,
       search rules,
       search rules,
-      search rules,
+      ap (take (vec_len c.args.seats.now)) c.push_reserved.ensures.items ∙ take_before c.loop-end.seats.items (end.seat ∷ []) (vec_len c.args.seats.now) (omega (arith, old.6, c.loop-end.seats.ok.0)) ∙ old.7,
       handed_more (λ e. e.seat) c.args.seats.now.items c.args.ends.items c.loop-end.seats.items c.push_reserved.new.self.items c.loop-end.ends.items c.pop.new.self.items end old.8 left c.push_reserved.ensures.items,
       handed_more (λ e. e.caller) c.args.callers.now.items c.args.ends.items c.loop-end.callers.items c.push_reserved-in-Some.new.self.items c.loop-end.ends.items c.pop.new.self.items end old.9 left c.push_reserved-in-Some.ensures.items,
       handed_more (λ e. e.result) c.args.results.now.items c.args.ends.items c.loop-end.results.items c.push_reserved-in-Some-2.new.self.items c.loop-end.ends.items c.pop.new.self.items end old.10 left c.push_reserved-in-Some-2.ensures.items,
