@@ -4,7 +4,7 @@
 //! one another belong on separate workqueues with WQ_MEM_RECLAIM. Where the workqueues have ranks that fall along every declared
 //! flush, a chain of workqueues can always move at its end. Where they wait in a circle, some run ends stuck. This is asked once,
 //! when a runtime is made. No run and no machine is made for it. The wait graph of the workqueues takes time in the number of
-//! items, workqueues and flushes. Its ranks take time in the number of workqueues times that of workqueues and flushes, at most.
+//! items, workqueues and flushes, and its ranks take time in that of workqueues and flushes.
 
 ghost use Rattle.std.specs.Prelude.{◌≡◌, ◌<◌, ◌↔◌, length, IfOk, OnErr, IsTrue};
 ghost use Rattle.wq_groups.specs.Declaration.{declaration_of};

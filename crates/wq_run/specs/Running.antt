@@ -27,9 +27,10 @@ rows_for s = 5 * length s.table.names + 2 * flush_count s.table.waits
 abbrev pub yes_tally : BookView → ℕ → Kind → ℕ
 yes_tally book i kind = tally book.rows i kind true
 
--- the plan was run: all that its rescuers and two callers did is in a book, which was closed with all their seats. It is
--- idle and a legal history under the plan, and the seats' counts agree with it item by item. What is printed is the text of
--- the book's tallies, and of the faults that the rescuers counted. It isn't said that no rescuer and no caller was refused
+-- the plan was run, as far as a text can show it: there is a book, which was closed with all seats. It is idle and a legal
+-- history under the plan, and the seats' counts agree with it item by item. What is printed is the text of the book's tallies,
+-- and of the faults that the rescuers counted. It isn't said that the book is that of the threads, nor that none of them was
+-- refused
 pub record PrintsRun (s : Declared) (out : List ℕ) : Type 0 where
   pub assignment : Assignment
   pub plan : IsPlan (declared_waits s) assignment
