@@ -30,9 +30,11 @@ import declaration  # noqa: E402  (in tests/model)
 import measured  # noqa: E402  (in bench)
 from tables import Case, run_cases, text_of  # noqa: E402  (in tests)
 
-# How long a program may take, in seconds, and how many calls of a caller give it one more.
+# How long a program may take, in seconds, and how many calls of a caller give it one more. Where so
+# many loads didn't end, the rest aren't run.
 SECONDS = 60
 CALLS_OF_A_SECOND = 1000
+MOST_SLOW = 2
 
 CALLERS = 4
 KINDS = ["queue", "cancel", "wait", "over", "ask", "told", "finish"]
@@ -319,18 +321,15 @@ class Load:
             yield "60 was never met" if must_be_full else "60 was met"
 
     def run(self, program, must_be_full=None):
-        """Runs it. Returns whether all is as it must be, and what is said of it."""
+        """Runs it. Returns whether all is as it must be, and what is said of it; it raises TimeoutExpired."""
         seconds = SECONDS + self.calls // CALLS_OF_A_SECOND
         begun = time.monotonic()
         with tempfile.TemporaryDirectory(prefix="loads_") as folder:
             for name, text in ("declaration", self.declared), ("assignment", self.assigned):
                 pathlib.Path(folder, name).write_bytes(text_of(text))
             words = ["stress", "declaration", "assignment", *map(str, (self.rows, self.seed, self.calls))]
-            try:
-                run = subprocess.run([program, *words], cwd=folder, stdin=subprocess.DEVNULL, capture_output=True,
-                                     timeout=seconds)
-            except subprocess.TimeoutExpired:
-                return False, f"it didn't end within {seconds} s"
+            run = subprocess.run([program, *words], cwd=folder, stdin=subprocess.DEVNULL, capture_output=True,
+                                 timeout=seconds)
         took = f"{time.monotonic() - begun:.2f} s"
         if run.returncode or run.stderr:
             return False, f"{took}: status {run.returncode}, {run.stdout[-400:]!r}, standard error {run.stderr!r}"
@@ -368,31 +367,37 @@ def short_loads():
 
 def run_loads(program, loads):
     """Runs loads, and prints a line of each. Returns how many failed."""
-    passed = failed = 0
+    passed = failed = slow = 0
     for name, load, must_be_full in loads:
-        is_good, said = load.run(program, must_be_full)
+        try:
+            is_good, said = load.run(program, must_be_full)
+        except subprocess.TimeoutExpired as late:
+            is_good, said, slow = False, f"it didn't end within {late.timeout} s", slow + 1
         passed, failed = passed + is_good, failed + (not is_good)
         print(f"{'ok     ' if is_good else 'FAILED '} {name}, {said}", flush=True)
+        if slow == MOST_SLOW:
+            print("the other loads aren't run, since these didn't end")
+            break
     print(f"loads: {passed} passed, {failed} failed", flush=True)
     return failed
 
 
 def run_measured(program):
-    """Runs the loads that are measured. Returns how many failed."""
-    failed = 0
+    """Runs the loads that are measured, up to one that fails. Returns how many failed."""
     with measured.Texts() as texts:
-        for words in MEASURED:
+        for passed, words in enumerate(MEASURED):
             load = measured.Load(*words)
             try:
                 figures = measured.run(program, texts, load, SECONDS)
-                said = " ".join(f"{name} {count}" for name, count in figures.fixed.items())
-                is_good = figures.is_as_asked(load)
+                said, is_good = f"{load}: {', '.join(figures.text().splitlines())}", figures.is_as_asked(load)
             except measured.Failed as fault:
                 said, is_good = str(fault), False
-            failed += not is_good
-            print(f"{'ok     ' if is_good else 'FAILED '} {load}: {said}")
-    print(f"measured loads: {len(MEASURED) - failed} passed, {failed} failed", flush=True)
-    return failed
+            print(f"{'ok     ' if is_good else 'FAILED '} {said}")
+            if not is_good:
+                print(f"measured loads: {passed} passed, 1 failed", flush=True)
+                return 1
+    print(f"measured loads: {len(MEASURED)} passed, 0 failed", flush=True)
+    return 0
 
 
 def cases():
