@@ -17,9 +17,9 @@
 # Nothing is installed unless all that is built was proved. That is done in a
 # folder of its own, ~/.cache/wqplan or $XDG_CACHE_HOME/wqplan, on all processors.
 # From a fresh clone it takes about an hour. What was proved stays in that folder
-# (4 GB): if nothing has changed, the next time takes seconds, and else
-# only the crates that have changed are proved again, and those above them. You
-# may remove it at any time.
+# (4 GB): if nothing has changed, the next time takes seconds, and else only the
+# crates that have changed are proved again, and those above them. You may remove
+# it at any time.
 #
 # --uninstall removes the files on the list, the list itself, and the folders on
 # it that are then empty. If there is no list, nothing is removed, and the exit
