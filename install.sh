@@ -17,9 +17,9 @@
 # Nothing is installed unless all that is built was proved. That is done in a
 # folder of its own, ~/.cache/wqplan or $XDG_CACHE_HOME/wqplan, on all processors.
 # From a fresh clone it takes about an hour. What was proved stays in that folder
-# (TIME-TODO GB): if nothing has changed, the next time takes seconds, and else
-# only the crates that have changed are proved again, and those above them. You
-# may remove it at any time.
+# (4 GB): if nothing has changed, the next time takes seconds, and else only the
+# crates that have changed are proved again, and those above them. You may remove
+# it at any time.
 #
 # --uninstall removes the files on the list, the list itself, and the folders on
 # it that are then empty. If there is no list, nothing is removed, and the exit
@@ -192,7 +192,8 @@ prove() {
     words+=(-L "dependency=$kit/rlibs" -L "dependency=$libraries")
     cd -- "$build/crates/$1" || return
     if [ "$1" != wqplan ]; then
-        "$kit/bin/rattle" build "${words[@]}" -o "$(result "$1")" src/lib.rt
+        # (its statements, and not its checked proofs: that is what those above it read)
+        "$kit/bin/rattle" build "${words[@]}" --statements -o "$(result "$1")" src/lib.rt
         return
     fi
     words+=(--toolchain "$kit/toolchain")
