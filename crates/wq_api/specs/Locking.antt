@@ -15,12 +15,12 @@ abbrev pub AlwaysWakes : {H S W T : Type 0} → (H → H → Type 0) → (MutBor
 AlwaysWakes {H} {S} {W} {T} same call = (held held' : MutBor H) (own own' : MutBor S) (waits : W) (turn : Turn T W)
     → call held own waits turn held' own' → Wakes same held.now held'.now turn
 
--- and if its caller is to sleep, what is the caller's own is as it was, and so is what it keeps
+-- if the caller of such a call is to sleep, what is the caller's own is as it was, and so is what it keeps
 abbrev pub SleepsUnchanged : {H S W T : Type 0} → (MutBor H → MutBor S → W → Turn T W → MutBor H → MutBor S → Type 0) → Type 0
 SleepsUnchanged {H} {S} {W} {T} call = (held held' : MutBor H) (own own' : MutBor S) (waits again : W)
     → call held own waits (Sleeps again) held' own' → (own'.now ≡ own.now) × (again ≡ waits)
 
--- the call was made under the lock, and answered this: of the caller's own it found `old` and left `new`
+-- the call was made, and answered this: of the caller's own it found `old` and left `new`
 pub record HasAnswered {H S W T : Type 0} (call : MutBor H → MutBor S → W → Turn T W → MutBor H → MutBor S → Type 0) (old : S) (waits : W) (answer : T) (new : S) : Type 0 where
   pub held : MutBor H
   pub own : MutBor S
@@ -35,10 +35,10 @@ pub record HasAnswered {H S W T : Type 0} (call : MutBor H → MutBor S → W �
 abbrev pub GivesBack : {H S T E : Type 0} → (H → S → Result T (H × S × E) → Type 0) → Type 0
 GivesBack {H} {S} {T} {E} call = (held held' : H) (own own' : S) (why : E) → call held own (Err (held', own', why)) → (held' ≡ held) × (own' ≡ own)
 
--- this holds of what the lock of a runtime protected at some moment
+-- this holds of something that the lock of such a runtime may protect (which of it the lock did protect can't be said)
 abbrev pub UnderLock : Wiring → ℕ → (HeldView → Type 0) → Type 0
 UnderLock w rows P = (h : HeldView) × Holds w rows h.book × P h
 
--- at some moment the book was closed and lane q had nothing to start: whoever serves the lane is done
+-- of something that the lock may protect: the book is closed and lane q has nothing to start, so whoever serves it is done
 abbrev pub WasDone : Wiring → ℕ → ℕ → Type 0
 WasDone w rows q = UnderLock w rows (λ h. (h.book.closed ≡ true) × HasNothingToStart h.book q)
