@@ -71,12 +71,17 @@ fn assert_pieces(rt: &impl Abort, alloc: Global, case: &Case) {
     }
 }
 
+/// Asserts so of each case of a table.
+fn assert_all_pieces(rt: &impl Abort, alloc: Global, table: &[Case]) {
+    for case in table {
+        assert_pieces(rt, alloc, case);
+    }
+}
+
 #[test]
 fn pieces_change_no_answer(rt: HostRuntime) {
     for table in cases() {
-        for case in table {
-            assert_pieces(&rt, rt.alloc(), case);
-        }
+        assert_all_pieces(&rt, rt.alloc(), table);
     }
 }
 
@@ -124,12 +129,22 @@ fn assert_failed_readers(
     Ok(())
 }
 
+/// Asserts so of each case of a table.
+fn assert_all_failed_readers(
+    rt: &impl Abort,
+    alloc: Global,
+    table: &[Case],
+) -> Result<(), TryFromIntError> {
+    for case in table {
+        assert_failed_readers(rt, alloc, case)?;
+    }
+    Ok(())
+}
+
 #[test]
 fn each_failed_read_is_a_fault(rt: HostRuntime) -> Result<(), Fail> {
     for table in cases() {
-        for case in table {
-            assert_failed_readers(&rt, rt.alloc(), case)?;
-        }
+        assert_all_failed_readers(&rt, rt.alloc(), table)?;
     }
     Ok(())
 }
@@ -158,12 +173,22 @@ fn assert_failed_writes(
     Ok(())
 }
 
+/// Asserts so of each case of a table.
+fn assert_all_failed_writes(
+    rt: &impl Abort,
+    alloc: Global,
+    table: &[Case],
+) -> Result<(), TryFromIntError> {
+    for case in table {
+        assert_failed_writes(rt, alloc, case)?;
+    }
+    Ok(())
+}
+
 #[test]
 fn each_failed_write_is_a_fault(rt: HostRuntime) -> Result<(), Fail> {
     for table in cases() {
-        for case in table {
-            assert_failed_writes(&rt, rt.alloc(), case)?;
-        }
+        assert_all_failed_writes(&rt, rt.alloc(), table)?;
     }
     Ok(())
 }
@@ -237,14 +262,19 @@ fn assert_left(rt: &impl Abort, alloc: Global, case: &Case) {
     );
 }
 
+/// Asserts so of each case of a table.
+fn assert_all_left(rt: &impl Abort, alloc: Global, table: &[Case]) {
+    for case in table {
+        assert_left(rt, alloc, case);
+    }
+}
+
 #[test]
 fn a_writer_that_takes_nothing_is_left(rt: HostRuntime) {
     let mut writer = Metered::new(Fake::in_pieces(Vec::new(rt.alloc()), 0));
     assert!(rt; write_text(&mut writer, b"") == Ok(()) && counts(&writer) == (0, 0, 0));
     for table in cases() {
-        for case in table {
-            assert_left(&rt, rt.alloc(), case);
-        }
+        assert_all_left(&rt, rt.alloc(), table);
     }
 }
 

@@ -49,12 +49,18 @@ fn assert_sizes(rt: &impl Abort, alloc: Global, case: &Case) -> Result<(), Alloc
     Ok(())
 }
 
+/// Asserts so of each case of a table.
+fn assert_all_sizes(rt: &impl Abort, alloc: Global, table: &[Case]) -> Result<(), AllocError> {
+    for case in table {
+        assert_sizes(rt, alloc, case)?;
+    }
+    Ok(())
+}
+
 #[test]
 fn running_out_of_memory_changes_no_answer(rt: HostRuntime) -> Result<(), Fail> {
     for table in cases() {
-        for case in table {
-            assert_sizes(&rt, rt.alloc(), case)?;
-        }
+        assert_all_sizes(&rt, rt.alloc(), table)?;
     }
     Ok(())
 }

@@ -6,6 +6,7 @@
 
 use crate::declared::core_in;
 use std::alloc::Global;
+use std::process::Abort;
 use std::test::Fail;
 use wq_core::{Core, Entry, RunError, Running, Step, StepError, Waiting};
 use wq_groups::LaneId;
@@ -94,63 +95,115 @@ fn looked_ahead(core: &Core<Global>, step: &Step) -> (Option<u32>, u64) {
     }
 }
 
+/// Makes a step, and asserts what it gives, what it would give, and the work that is left.
+fn assert_step(
+    rt: &impl Abort,
+    core: &mut Core<Global>,
+    step: Step,
+    number: Option<u32>,
+    left: u64,
+) {
+    let ahead = looked_ahead(core, &step);
+    let gives = core.step(step).ok();
+    assert!(rt; ahead == (number, left) && (gives, core.work_left()) == ahead);
+    assert!(rt; core.is_idle() == (left == 0));
+}
+
+/// Asserts the lowest lane that can move, and the steps that two lanes make as declared.
+fn assert_moves(
+    rt: &impl Abort,
+    core: &Core<Global>,
+    enabled: Option<u16>,
+    first: Option<Step>,
+    second: Option<Step>,
+) {
+    assert!(rt; core.enabled() == enabled.map(LaneId::new));
+    assert!(rt; core.declared(LaneId::new(0)) == first);
+    assert!(rt; core.declared(LaneId::new(1)) == second && core.declared(LaneId::new(2)).is_none());
+}
+
+/// Makes the steps of the pair.
+fn play(rt: &impl Abort, core: &mut Core<Global>) {
+    for (made, number, left, enabled, first, second) in PLAYED {
+        assert_step(rt, core, step_of(*made), *number, *left);
+        assert_moves(rt, core, *enabled, first.map(step_of), second.map(step_of));
+    }
+}
+
 #[test]
 fn steps_and_lanes_move_as_declared(rt: HostRuntime) -> Result<(), Fail> {
     let mut core = core_in(rt.alloc(), rt.alloc(), PAIR, 2, PAIR_LANES)??;
-    for (at, (made, number, left, enabled, first, second)) in PLAYED.iter().enumerate() {
-        let step = step_of(*made);
-        let ahead = looked_ahead(&core, &step);
-        let gives = core.step(step).ok();
-        assert!(rt;
-            ahead == (*number, *left) && (gives, core.work_left()) == ahead,
-            "step {at}"
-        );
-        assert!(rt; core.enabled() == enabled.map(LaneId::new), "step {at}");
-        assert!(rt;
-            core.declared(LaneId::new(0)) == first.map(step_of),
-            "step {at}"
-        );
-        assert!(rt;
-            core.declared(LaneId::new(1)) == second.map(step_of),
-            "step {at}"
-        );
-        assert!(rt; core.declared(LaneId::new(2)).is_none() && core.is_idle() == (*left == 0));
-    }
+    play(&rt, &mut core);
     Ok(())
+}
+
+/// Asserts the lanes and the targets of the pair.
+fn assert_wiring(rt: &impl Abort, core: &Core<Global>) {
+    let (a, b) = (ItemId::new(0), ItemId::new(1));
+    assert!(rt; core.items() == 2 && core.lanes() == 2);
+    assert!(rt; core.lane_of(a).get() == 1 && core.lane_of(b).get() == 0);
+    assert!(rt; core.declares(a, b) && core.waits(a).len() == 1 && core.waits(b).is_empty());
+}
+
+/// Has the first item run, wait for the second one, which is pending, and be queued again; then a step is refused.
+fn wait_for_pending(rt: &impl Abort, core: &mut Core<Global>) {
+    let steps = [
+        step_of(Queue(0)),
+        step_of(Start(1, 0)),
+        step_of(Queue(1)),
+        step_of(Wait(1, 1)),
+        step_of(Queue(0)),
+        step_of(Queue(0)),
+    ];
+    let why = StepError::NotLawful;
+    assert!(rt; core.run(&steps) == Err(RunError { at: 5, why }) && core.next_number() == 3);
+}
+
+/// Asserts what a lane runs, and what it starts next.
+fn assert_lane(
+    rt: &impl Abort,
+    core: &Core<Global>,
+    lane: u16,
+    runs: Option<Running>,
+    first: Option<Entry>,
+) {
+    let q = LaneId::new(lane);
+    assert!(rt;
+        core.running_on(q) == runs && core.first_on(q) == first,
+        "lane {lane}"
+    );
+}
+
+/// Asserts what the lanes run and start next after that, and what is unfinished.
+fn assert_stands(rt: &impl Abort, core: &Core<Global>) {
+    let (a, b) = (ItemId::new(0), ItemId::new(1));
+    let entry = Entry { number: 0, item: a };
+    let waiting = Some(Waiting { target: b, mark: 2 });
+    let made = 1;
+    let running = Running {
+        entry,
+        made,
+        waiting,
+    };
+    assert_lane(rt, core, 0, None, Some(Entry { number: 1, item: b }));
+    assert_lane(
+        rt,
+        core,
+        1,
+        Some(running),
+        Some(Entry { number: 2, item: a }),
+    );
+    assert_lane(rt, core, 2, None, None);
+    assert!(rt; core.unfinished_below(a, 1) && !core.unfinished_below(a, 0));
+    assert!(rt; core.unfinished_below(b, 2) && !core.unfinished_below(b, 1));
+    assert!(rt; core.has_unfinished(a) && core.has_unfinished(b) && core.is_pending(a));
 }
 
 #[test]
 fn a_machine_says_how_it_stands(rt: HostRuntime) -> Result<(), Fail> {
     let mut core = core_in(rt.alloc(), rt.alloc(), PAIR, 2, PAIR_LANES)??;
-    let (a, b) = (ItemId::new(0), ItemId::new(1));
-    assert!(rt; core.items() == 2 && core.lanes() == 2);
-    assert!(rt; core.lane_of(a).get() == 1 && core.lane_of(b).get() == 0);
-    assert!(rt; core.declares(a, b) && core.waits(a).len() == 1 && core.waits(b).is_empty());
-    let steps = [
-        Queue(0),
-        Start(1, 0),
-        Queue(1),
-        Wait(1, 1),
-        Queue(0),
-        Queue(0),
-    ]
-    .map(step_of);
-    let why = StepError::NotLawful;
-    assert!(rt; core.run(&steps) == Err(RunError { at: 5, why }) && core.next_number() == 3);
-    let running = Running {
-        entry: Entry { number: 0, item: a },
-        made: 1,
-        waiting: Some(Waiting { target: b, mark: 2 }),
-    };
-    assert!(rt; core.running_on(LaneId::new(1)) == Some(running));
-    assert!(rt; core.first_on(LaneId::new(1)) == Some(Entry { number: 2, item: a }));
-    assert!(rt; core.running_on(LaneId::new(0)).is_none());
-    assert!(rt; core.first_on(LaneId::new(0)) == Some(Entry { number: 1, item: b }));
-    assert!(rt;
-        core.running_on(LaneId::new(2)).is_none() && core.first_on(LaneId::new(2)).is_none()
-    );
-    assert!(rt; core.unfinished_below(a, 1) && !core.unfinished_below(a, 0));
-    assert!(rt; core.unfinished_below(b, 2) && !core.unfinished_below(b, 1));
-    assert!(rt; core.has_unfinished(a) && core.has_unfinished(b) && core.is_pending(a));
+    assert_wiring(&rt, &core);
+    wait_for_pending(&rt, &mut core);
+    assert_stands(&rt, &core);
     Ok(())
 }

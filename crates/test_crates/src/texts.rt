@@ -65,7 +65,7 @@ fn assert_lines(rt: &impl Abort, text: &Text, lines: &[Cut]) {
         let (place, content, words) = want.next().expect(rt, "a line too many");
         let span = line.span();
         assert!(rt; line.no() == no && (span.start, span.end, line.bytes()) == *place);
-        assert!(rt; line.content() == *content && text.at(span) == line.bytes());
+        assert!(rt; line.content() == *content);
         assert_words(rt, &line, words);
     }
     assert!(rt; want.next().is_none());
