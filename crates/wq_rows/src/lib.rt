@@ -9,8 +9,6 @@ mod history;
 pub mod laws;
 mod packing;
 mod rows;
-#[cfg(test)]
-mod tests;
 
 pub use event::{Event, Row};
 pub use history::{History, MAX_ROWS};
