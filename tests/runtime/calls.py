@@ -408,6 +408,11 @@ TEXTS = [
     (*ONE, 5, "close 1 / stop",
      "close 1 ok / agree true / total 0 / rows 0"),
     (*ONE, 5, "close 0 / stop", "close 0 refused 72 / mistake line 2"),
+    # Calls that are to sleep, but don't have to wait. Their seats come last. Who sleeps is in wakes.py.
+    (*ONE, 5, "asleep lane a / asleep lanes / seat / close 3 / close 4",
+     "seat 1 / asleep lane a 0 / asleep lanes 1 / close 3 refused 72 / close 4 ok / agree true / total 0 / rows 0"),
+    (*ONE, 5, "lanes / asleep lanes", "lanes 1"),
+    (*ONE, 5, "asleep lanes / close 2", "mistake line 2"),
     # Mistakes.
     *((*ONE, 5, line, "mistake line 1") for line in [
         "queue", "queue 0", "queue a", "queue a 0", "queue 0 a a", "Queue 0 a", "queue 00 a",
@@ -416,7 +421,7 @@ TEXTS = [
         "wait 0 a a", "wait 65536 a", "finish", "finish 0", "finish a 0", "finish 65536 a",
         "lanes 0", "lane", "lane a a", "seat 1", "seats", "seats x", "seats 4294967296", "use",
         "use x", "use 0 0", "counted", "counted a a", "destroy a", "close", "close x", "close 0 0",
-        "ask a", "start 0", "stop",
+        "ask a", "start 0", "stop", "asleep", "asleep next", "asleep close 1", "asleep asleep lanes",
     ]),
     (*ONE, 5, b"queue 0 a\n\nstop\nqueue 0 a\n", "queue 0 a true / mistake line 3"),
     (*ONE, 5, b"lanes\n#" + b"x" * 524_288 + b"\n", "mistake line 2"),

@@ -55,7 +55,7 @@ fn order_of<'a>(
 }
 
 /// Does a task with the texts of its setting, and prints what came of it. Returns the status.
-fn perform<R: Files + Print + AllocGlobal + Threads + Wait + Sync>(
+fn perform<R: Files + Print + AllocGlobal + Threads + Wait + Clock + Sync>(
     rt: &R,
     order: &Order<'_>,
 ) -> Result<u8, Fault> {
@@ -82,7 +82,7 @@ fn perform<R: Files + Print + AllocGlobal + Threads + Wait + Sync>(
 
 /// Does what `book`, `check`, `calls`, `crew` or `script` asks for by the words after it. Returns the status, or none where the words
 /// have none of their forms.
-fn session<R: Files + Print + Eprint + AllocGlobal + Threads + Wait + Sync>(
+fn session<R: Files + Print + Eprint + AllocGlobal + Threads + Wait + Clock + Sync>(
     rt: &R,
     command: &str,
     words: &[String],

@@ -7,13 +7,14 @@ use crate::testbed::{Bed, SEED, Texts, refuse_text};
 use std::alloc::{AllocError, Global};
 use std::sync::Wait;
 use std::thread::Threads;
+use std::time::Clock;
 use wq_cert::{CertError, read_assignment};
 use wq_commands::{Stop, read_declaration};
 use wq_groups::Groups;
 use wq_items::ItemTable;
 
 /// Does what is asked with the items of a table, in these groups, under the assignment in a text. Returns the status.
-fn answer_declared<R: Threads + Wait + Sync>(
+fn answer_declared<R: Threads + Wait + Clock + Sync>(
     rt: &R,
     alloc: Global,
     rows: u32,
@@ -47,7 +48,7 @@ fn answer_declared<R: Threads + Wait + Sync>(
 
 /// Does what is asked with what these texts say and with so many rows, or refuses the first of them that has to be refused. Returns
 /// the status.
-pub fn answer<R: Threads + Wait + Sync>(
+pub fn answer<R: Threads + Wait + Clock + Sync>(
     rt: &R,
     alloc: Global,
     rows: u32,

@@ -17,7 +17,9 @@ mod meeting;
 mod ran;
 mod requests;
 mod scripted;
+mod seats;
 mod session;
+mod sleeping;
 pub mod testbed;
 
 pub use answering::answer;

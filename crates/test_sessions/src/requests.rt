@@ -15,6 +15,7 @@ use std::marker::Brand;
 use std::sync::Wait;
 use std::sync::ledger::Blank;
 use std::thread::Threads;
+use std::time::Clock;
 use wq_api::{Naming, WqRuntime};
 
 /// What is to be done.
@@ -24,7 +25,7 @@ pub enum Task {
     Book,
     /// The rows of a history are judged, which the text has in hexadecimal digits.
     Check,
-    /// The calls of a text are made of a runtime, in one thread.
+    /// The calls of a text are made of a runtime, in one thread but for those that sleep.
     Calls,
     /// Rescuers and callers of a runtime do what a text says.
     Crew,
@@ -53,7 +54,7 @@ enum Play<'a> {
 
 impl Play<'_> {
     /// Does it with this runtime. Returns the status.
-    fn run<N: Naming + Send + Sync, R: Threads + Wait + Sync>(
+    fn run<N: Naming + Send + Sync, R: Threads + Wait + Clock + Sync>(
         &self,
         rt: &R,
         alloc: Global,
@@ -76,7 +77,7 @@ impl Play<'_> {
 }
 
 /// Makes the runtime of this name, and does this with it. Returns the status.
-fn play_named<N: Naming + Send + Sync, R: Threads + Wait + Sync>(
+fn play_named<N: Naming + Send + Sync, R: Threads + Wait + Clock + Sync>(
     rt: &R,
     alloc: Global,
     blank: Blank,
@@ -97,7 +98,7 @@ fn play_named<N: Naming + Send + Sync, R: Threads + Wait + Sync>(
 }
 
 /// Makes a runtime, and does this with it. Returns the status.
-fn play_new<R: Threads + Wait + Sync>(
+fn play_new<R: Threads + Wait + Clock + Sync>(
     rt: &R,
     alloc: Global,
     bed: &Bed<'_>,
@@ -110,7 +111,7 @@ fn play_new<R: Threads + Wait + Sync>(
 
 impl Request<'_> {
     /// Does what is asked with items that have lanes, and adds what came of it. Returns the status.
-    pub(crate) fn perform<R: Threads + Wait + Sync>(
+    pub(crate) fn perform<R: Threads + Wait + Clock + Sync>(
         &self,
         rt: &R,
         alloc: Global,

@@ -1,55 +1,20 @@
-//! The calls of a text, made on one runtime in one thread, with its seats.
+//! The calls of a text, made on one runtime in one thread, with its seats, but for those that are to sleep until another call wakes
+//! them.
 //!
-//! It takes the time of the calls. A call that would wait for another thread never ends.
+//! It takes the time of the calls. A call that would wait for another thread never ends, unless it is one of those that sleep.
 
-use crate::asking::{Call, Counted, read_call};
-use crate::lines::{Listener, tell_text};
-use crate::testbed::{mistake, put_closed, put_code, put_done, put_item};
+use crate::asking::{Call, read_call};
+use crate::seats::Seats;
+use crate::sleeping::{Sleeper, wake};
+use crate::testbed::{MAX_LINE, MAX_TEXT, mistake, put_closed};
 use std::alloc::{AllocError, Global};
 use std::sync::Wait;
+use std::thread::Threads;
+use std::time::Clock;
 use std::{mem, str};
-use wq_api::{CallError, CloseRefused, Naming, Seat, SeatError, WqRuntime};
-use wq_groups::LaneId;
-use wq_items::{ItemId, ItemTable};
-use wq_text::Words;
-
-/// The answer of a call that says yes or no.
-fn put_said(out: &mut String, said: Result<bool, CallError>) -> Result<(), AllocError> {
-    match said {
-        Ok(said) => write!(out, "{said}"),
-        Err(error) => put_code(out, error.code()),
-    }
-}
-
-/// The answer of `next`.
-fn put_next(
-    out: &mut String,
-    table: &ItemTable<'_, Global>,
-    next: Result<Option<ItemId>, CallError>,
-) -> Result<(), AllocError> {
-    match next {
-        Ok(Some(item)) => put_item(out, table, item),
-        Ok(None) => out.push_str("none"),
-        Err(error) => put_code(out, error.code()),
-    }
-}
-
-/// The answer of `lane_of`.
-fn put_lane(out: &mut String, lane: Option<LaneId>) -> Result<(), AllocError> {
-    match lane {
-        Some(q) => write!(out, "{}", q.get()),
-        None => out.push_str("none"),
-    }
-}
-
-/// The answer of a call that makes seats: a number, or that a seat was refused.
-fn put_seats(out: &mut String, are_made: bool, number: usize) -> Result<(), AllocError> {
-    if are_made {
-        write!(out, "{number}")
-    } else {
-        put_code(out, 70)
-    }
-}
+use wq_api::{CloseRefused, Naming, Seat, WqRuntime};
+use wq_items::ItemTable;
+use wq_text::{Text, Words};
 
 /// A word, and a space after it.
 fn put_word(out: &mut String, word: &[u8]) -> Result<(), AllocError> {
@@ -66,123 +31,6 @@ fn put_words(out: &mut String, word: &[u8], words: Words<'_>) -> Result<(), Allo
     Ok(())
 }
 
-/// All seats of a runtime, and the number of the one in which calls count.
-#[derive(Drop)]
-struct Seats<N: Naming> {
-    made: Vec<Seat<N, Global>>,
-    used: usize,
-}
-
-/// Makes a call that counts in a seat, and adds the answer.
-fn make_counted<N: Naming, R: Wait>(
-    rt: &R,
-    runtime: &WqRuntime<N, Global>,
-    seat: &mut Seat<N, Global>,
-    call: Counted,
-    out: &mut String,
-) -> Result<(), AllocError> {
-    match call {
-        Counted::Queue(q, item) => put_said(out, runtime.queue_work(rt, seat, q, item)),
-        Counted::Cancel(item) => put_said(out, runtime.cancel_work(rt, seat, item)),
-        Counted::Flush(item) => put_said(out, runtime.flush_work(rt, seat, item)),
-        Counted::CancelSync(item) => put_said(out, runtime.cancel_work_sync(rt, seat, item)),
-        Counted::Wait(q, item) => put_said(out, runtime.wait_for(rt, seat, q, item)),
-        Counted::Finish(q, item) => put_done(out, runtime.finish_work(rt, seat, q, item)),
-    }
-}
-
-impl<N: Naming> Seats<N> {
-    /// Makes this many more seats. It returns false where the runtime doesn't make all of them.
-    fn add<R: Wait>(
-        &mut self,
-        rt: &R,
-        alloc: Global,
-        runtime: &WqRuntime<N, Global>,
-        count: u32,
-    ) -> Result<bool, AllocError> {
-        for _ in 0..count {
-            match runtime.seat(rt, alloc) {
-                Ok(seat) => self.made.push(seat)?,
-                Err(SeatError::TooManySeats) => return Ok(false),
-                Err(SeatError::OutOfMemory) => return Err(AllocError),
-            }
-        }
-        Ok(true)
-    }
-
-    /// Has the calls that follow count in this seat, if there is one.
-    fn choose(&mut self, seat: u32, out: &mut String) -> Result<(), AllocError> {
-        if seat as usize >= self.made.len() {
-            return out.push_str("none");
-        }
-        self.used = seat as usize;
-        out.push_str("ok")
-    }
-
-    /// Makes a call that counts in the seat that is in use.
-    fn count<R: Wait>(
-        &mut self,
-        rt: &R,
-        runtime: &WqRuntime<N, Global>,
-        call: Counted,
-        out: &mut String,
-    ) -> Result<(), AllocError> {
-        match self.made.get_mut(self.used) {
-            Some(seat) => make_counted(rt, runtime, seat, call, out),
-            None => out.push_str("none"),
-        }
-    }
-
-    /// Adds what the seat that is in use has counted of an item.
-    fn tell(&self, item: ItemId, out: &mut String) -> Result<(), AllocError> {
-        match self.made.get(self.used) {
-            Some(seat) => write!(
-                out,
-                "queued {} cancelled {} finished {} total {}",
-                seat.queued(item),
-                seat.cancelled(item),
-                seat.finished(item),
-                seat.total()
-            ),
-            None => out.push_str("none"),
-        }
-    }
-
-    /// Makes a call that doesn't close the runtime, and adds the answer.
-    fn ask<R: Wait>(
-        &mut self,
-        rt: &R,
-        alloc: Global,
-        runtime: &WqRuntime<N, Global>,
-        table: &ItemTable<'_, Global>,
-        call: Call,
-        out: &mut String,
-    ) -> Result<(), AllocError> {
-        match call {
-            Call::Counted(call) => self.count(rt, runtime, call, out),
-            Call::Seat => {
-                let number = self.made.len();
-                let is_made = self.add(rt, alloc, runtime, 1)?;
-                put_seats(out, is_made, number)
-            }
-            Call::Seats(count) => {
-                let are_made = self.add(rt, alloc, runtime, count)?;
-                put_seats(out, are_made, self.made.len())
-            }
-            Call::Use(seat) => self.choose(seat, out),
-            Call::Tell(item) => self.tell(item, out),
-            Call::Next(q) => put_next(out, table, runtime.next(rt, q)),
-            Call::Lanes => write!(out, "{}", runtime.lanes(rt)),
-            Call::Lane(item) => put_lane(out, runtime.lane_of(rt, item)),
-            Call::Destroy => {
-                runtime.destroy(rt);
-                out.push_str("ok")
-            }
-            Call::Close(_) => Ok(()),
-        }
-    }
-}
-
 /// A runtime that isn't closed yet, if there is one, and its seats.
 #[derive(Drop)]
 struct Session<'a, N: Naming, R: Wait> {
@@ -190,6 +38,8 @@ struct Session<'a, N: Naming, R: Wait> {
     alloc: Global,
     runtime: Option<WqRuntime<N, Global>>,
     seats: Seats<N>,
+    /// The calls that are to sleep until the next call wakes them.
+    sleepers: Vec<Sleeper<N>>,
 }
 
 impl<N: Naming, R: Wait> Session<'_, N, R> {
@@ -265,8 +115,88 @@ impl<N: Naming, R: Wait> Session<'_, N, R> {
     }
 }
 
-impl<N: Naming, R: Wait> Listener for Session<'_, N, R> {
-    /// Once the runtime is closed, nothing is a call or a mistake any more.
+impl<N: Naming + Send + Sync, R: Threads + Wait + Clock + Sync> Session<'_, N, R> {
+    /// Hears of a call that is to sleep, with a seat of its own. It returns false where the words have the form of none.
+    fn hear_sleeper(
+        &mut self,
+        table: &ItemTable<'_, Global>,
+        mut words: Words<'_>,
+    ) -> Result<bool, AllocError> {
+        let Some(word) = words.next() else {
+            return Ok(false);
+        };
+        let call = match read_call(table, word.bytes(), words.again()) {
+            None | Some(Call::Close(_)) => return Ok(false),
+            Some(call) => call,
+        };
+        let mut seats = Seats::new(self.alloc);
+        if let Some(runtime) = &self.runtime {
+            seats.add(self.rt, self.alloc, runtime, 1)?;
+        }
+        let mut said = String::new(self.alloc);
+        said.push_str("asleep ")?;
+        put_words(&mut said, word.bytes(), words)?;
+        self.sleepers.push(Sleeper { seats, call, said })?;
+        Ok(true)
+    }
+
+    /// Makes a call that wakes those that sleep, and adds the answers of all and the ends of their lines. Their seats come
+    /// after the others.
+    fn wake(
+        &mut self,
+        table: &ItemTable<'_, Global>,
+        call: Call,
+        out: &mut String,
+    ) -> Result<(), AllocError> {
+        let sleepers = mem::replace(&mut self.sleepers, Vec::new(self.alloc));
+        let Some(runtime) = &self.runtime else {
+            return Ok(());
+        };
+        let woken = wake(
+            self.rt,
+            self.alloc,
+            runtime,
+            table,
+            sleepers,
+            &mut self.seats,
+            call,
+            out,
+        )?;
+        for sleeper in woken {
+            out.push('\n')?;
+            out.push_str(sleeper.said.as_str())?;
+            self.seats.take(sleeper.seats)?;
+        }
+        out.push('\n')
+    }
+
+    /// Hears of a call, and makes it. It returns false where the words have the form of none, or where the runtime can't be closed,
+    /// since calls sleep.
+    fn hear_call(
+        &mut self,
+        table: &ItemTable<'_, Global>,
+        word: &[u8],
+        words: Words<'_>,
+        out: &mut String,
+    ) -> Result<bool, AllocError> {
+        let Some(call) = read_call(table, word, words.again()) else {
+            return Ok(false);
+        };
+        let is_waking = !self.sleepers.is_empty();
+        if is_waking && matches!(call, Call::Close(_)) {
+            return Ok(false);
+        }
+        put_words(out, word, words)?;
+        if is_waking {
+            self.wake(table, call, out)?;
+        } else {
+            self.make(table, call, out)?;
+        }
+        Ok(true)
+    }
+
+    /// Hears of a line by its first word and the words after it. It returns false where the line is a mistake; once the runtime is
+    /// closed, none is.
     fn hear(
         &mut self,
         table: &ItemTable<'_, Global>,
@@ -277,17 +207,18 @@ impl<N: Naming, R: Wait> Listener for Session<'_, N, R> {
         if self.runtime.is_none() {
             return Ok(true);
         }
-        let Some(call) = read_call(table, word, words.again()) else {
-            return Ok(false);
-        };
-        put_words(out, word, words)?;
-        self.make(table, call, out)?;
-        Ok(true)
+        match word {
+            b"asleep" => self.hear_sleeper(table, words),
+            _ => self.hear_call(table, word, words, out),
+        }
     }
 }
 
 /// Makes the first seat of a runtime, and the calls of a text. Returns the status.
-fn call_all<N: Naming, R: Wait>(
+///
+/// The lines are read here, and a session is no `Listener`: for a method of a trait the toolchain doesn't know that what its type has
+/// may go to a thread.
+fn call_all<N: Naming + Send + Sync, R: Threads + Wait + Clock + Sync>(
     session: &mut Session<'_, N, R>,
     table: &ItemTable<'_, Global>,
     text: &[u8],
@@ -296,14 +227,24 @@ fn call_all<N: Naming, R: Wait>(
     if let Some(runtime) = &session.runtime {
         session.seats.add(session.rt, session.alloc, runtime, 1)?;
     }
-    match tell_text(session, table, text, out)? {
-        None => Ok(0),
-        Some(line) => mistake(out, line),
+    let text = match Text::new(text, MAX_TEXT, MAX_LINE) {
+        Ok(text) => text,
+        Err(error) => return mistake(out, error.line()),
+    };
+    for line in text.lines() {
+        let mut words = line.words();
+        let Some(word) = words.next() else {
+            continue;
+        };
+        if !session.hear(table, word.bytes(), words, out)? {
+            return mistake(out, line.no());
+        }
     }
+    Ok(0)
 }
 
 /// Makes the calls of a text of a runtime, and adds their answers. Returns the status.
-pub(crate) fn keep_session<N: Naming, R: Wait>(
+pub(crate) fn keep_session<N: Naming + Send + Sync, R: Threads + Wait + Clock + Sync>(
     rt: &R,
     alloc: Global,
     runtime: WqRuntime<N, Global>,
@@ -311,15 +252,12 @@ pub(crate) fn keep_session<N: Naming, R: Wait>(
     text: &[u8],
     out: &mut String,
 ) -> Result<u8, AllocError> {
-    let seats = Seats {
-        made: Vec::new(alloc),
-        used: 0,
-    };
     let mut session = Session {
         rt,
         alloc,
         runtime: Some(runtime),
-        seats,
+        seats: Seats::new(alloc),
+        sleepers: Vec::new(alloc),
     };
     let status = call_all(&mut session, table, text, out);
     drop(session);

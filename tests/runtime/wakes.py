@@ -1,0 +1,146 @@
+# Shows that each call of a runtime which wakes others does so:
+#
+#     wakes.py TEST_RUNTIME
+#
+# `test_runtime calls` has some calls fall asleep, each in a thread of its own, and makes a call that has to wake them, while nothing
+# else happens. Where it doesn't, nobody ever does: the program is ended after ten seconds, and the call is named. No answer
+# depends on time: a call that comes too late to fall asleep is answered all the same, and its round shows nothing.
+# All was worked out by hand from docs/FORMAT.md. It takes some seconds.
+
+import collections
+import concurrent.futures
+import dataclasses
+import os
+import pathlib
+import re
+import sys
+import tempfile
+
+sys.dont_write_bytecode = True
+sys.path.append(str(pathlib.Path(__file__).resolve().parent.parent))
+import time_limit  # noqa: E402  (in the folder above)
+from tables import is_program, short, text_of  # noqa: E402  (there, too)
+
+# How often each is tried, how long a program may take, in seconds, and how many run at a time: they sleep nearly all the time.
+ROUNDS = 20
+SECONDS = 10
+WORKERS = 40
+
+# Items on two workqueues. An entry of `b` stays pending behind one of `a` that runs; `c` waits for either.
+DECLARED = "item a / item b / item c / flush c a b"
+ASSIGNED = "wq 0 a b / wq 1 c"
+A_RUNS = "queue 0 a: true / next 0: a"
+B_IS_BEHIND = f"{A_RUNS} / queue 0 b: true"
+C_RUNS = "queue 1 c: true / next 1: c"
+A_ENDS = "finish 0 a: ok / destroy: ok"
+BOTH_END = f"finish 1 c: ok / {A_ENDS}"
+
+
+@dataclasses.dataclass
+class Wake:
+    """A call that wakes, who sleeps until then, and lines with their answers: of the calls before, of those that sleep, of the call that
+    wakes them, and of those after. A call that comes too late to fall asleep may have the answer after the `|`."""
+
+    call: str
+    sleepers: str
+    before: str
+    asleep: str
+    waking: str
+    after: str
+
+    def name(self):
+        return f"{self.call} wakes {self.sleepers}"
+
+    def parts(self):
+        """The lines and their answers, each part by itself, in the order of the text."""
+        for part in self.before, self.asleep, self.waking, self.after:
+            yield [line.split(": ") for line in part.split(" / ")] if part else []
+
+    def text(self):
+        before, asleep, waking, after = self.parts()
+        asleep = [(f"asleep {line}", answer) for line, answer in asleep]
+        return text_of(" / ".join([*(line for line, _ in [*before, *asleep, *waking, *after]), "close 9"]))
+
+    def printed(self):
+        """What is printed, as a regular expression. The answers of those that slept have groups."""
+        before, asleep, waking, after = self.parts()
+        lines = [f"{line} {answer}" for line, answer in [*before, *waking]]
+        lines += [f"asleep {line} ({answer})" for line, answer in asleep]
+        lines += [f"{line} {answer}" for line, answer in after]
+        return "".join(f"{line}\n" for line in [*lines, "close 9 ok", "agree true"]).encode() + b"(?s:.*)"
+
+    def is_late(self, answers):
+        """Whether one of those that were to sleep had nothing left to wait for."""
+        _, asleep, _, _ = self.parts()
+        return any(answer.decode() != wanted.split("|")[0] for answer, (_, wanted) in zip(answers, asleep))
+
+
+WAKES = [
+    Wake("queue_work", "a rescuer", "", "next 0: a", "queue 0 a: true", A_ENDS),
+    Wake("cancel_work", "two callers that flush the item", B_IS_BEHIND,
+         "flush b: true|false / flush b: true|false", "cancel b: true", A_ENDS),
+    Wake("cancel_work", "a body that waits for the item", f"{B_IS_BEHIND} / {C_RUNS}",
+         "wait 1 b: true|false", "cancel b: true", BOTH_END),
+    Wake("cancel_work", "two callers that destroy", "queue 0 b: true", "destroy: ok / destroy: ok", "cancel b: true", ""),
+    Wake("cancel_work_sync", "two callers that flush the item", B_IS_BEHIND,
+         "flush b: true|false / flush b: true|false", "sync b: true", A_ENDS),
+    Wake("cancel_work_sync", "a body that waits for the item", f"{B_IS_BEHIND} / {C_RUNS}",
+         "wait 1 b: true|false", "sync b: true", BOTH_END),
+    Wake("cancel_work_sync", "two callers that destroy", "queue 0 b: true", "destroy: ok / destroy: ok", "sync b: true", ""),
+    Wake("finish_work", "two callers that flush the item", A_RUNS,
+         "flush a: true|false / flush a: true|false", "finish 0 a: ok", "destroy: ok"),
+    Wake("finish_work", "two callers in cancel_work_sync of the item", A_RUNS,
+         "sync a: false / sync a: false", "finish 0 a: ok", "destroy: ok"),
+    Wake("finish_work", "a body that waits for the item", f"{A_RUNS} / {C_RUNS}",
+         "wait 1 a: true|false", "finish 0 a: ok", "finish 1 c: ok / destroy: ok"),
+    Wake("finish_work", "two callers that destroy", A_RUNS, "destroy: ok / destroy: ok", "finish 0 a: ok", ""),
+    Wake("destroy", "the rescuers of both workqueues", "", "next 0: none / next 1: none", "destroy: ok", ""),
+]
+
+LOST = f"it didn't end within {SECONDS} s, so a wake-up is lost"
+
+
+def tried(program, files, wake):
+    """What comes of a round: None where it is as it should be, `late` where it also shows nothing, or what is wrong."""
+    try:
+        run = time_limit.run([program, "calls", *files], capture_output=True, timeout=SECONDS)
+    except time_limit.TookTooLong:
+        return LOST
+    match = re.fullmatch(wake.printed(), run.stdout)
+    if match is None or run.returncode or run.stderr:
+        return f"status {run.returncode}, {short(run.stdout)}, standard error {short(run.stderr)}"
+    return "late" if wake.is_late(match.groups()) else None
+
+
+def main(arguments):
+    if len(arguments) != 1 or not is_program(arguments[0]):
+        print(f"wakes: there is nothing to run at {' '.join(arguments)}")
+        return 1
+    program = os.path.realpath(arguments[0])
+    passed = 0
+    with tempfile.TemporaryDirectory(prefix="wakes_") as folder, concurrent.futures.ThreadPoolExecutor(WORKERS) as pool:
+
+        def file(name, text):
+            place = pathlib.Path(folder, name)
+            place.write_bytes(text)
+            return str(place)
+
+        setting = [file("declaration", text_of(DECLARED)), file("assignment", text_of(ASSIGNED)), "1000"]
+        rounds = [
+            [pool.submit(tried, program, [*setting, text], wake) for _ in range(ROUNDS)]
+            for wake, text in [(wake, file(f"{number}", wake.text())) for number, wake in enumerate(WAKES)]
+        ]
+        for wake, tries in zip(WAKES, rounds):
+            came = collections.Counter(round.result() for round in tries)
+            good, late = came.pop(None, 0), came.pop("late", 0)
+            for why, times in came.items():
+                print(f"FAILED  {wake.name()}: in {times} of {ROUNDS} rounds {why}", flush=True)
+            if not came:
+                passed += 1
+                print(f"ok      {wake.name()}: {good} rounds" + (f", and {late} too late to sleep" if late else ""), flush=True)
+    print(f"wakes: {passed} passed, {len(WAKES) - passed} failed")
+    return 1 if passed < len(WAKES) else 0
+
+
+if __name__ == "__main__":
+    sys.exit(main(sys.argv[1:]))
