@@ -1,4 +1,4 @@
-# Completion of wqplan for bash: the commands, the numbers and names that `explain` knows, and files. What follows a `<` or a `>`
+# Completion of wqplan for bash: the commands, the numbers, names and words that `explain` knows, and files. What follows a `<` or a `>`
 # is a file of the shell's, and no argument of wqplan; what is in `<(..)` is another command.
 _wqplan() {
     local word=${COMP_WORDS[COMP_CWORD]} command='' words=0 redirected='' inside=0 index at next
@@ -79,7 +79,11 @@ _wqplan() {
             codes+=' TextTooLong LineTooLong BadByte UnknownWord MissingName BadName ItemTwice UnknownItem TooManyItems'
             codes+=' TooManyFlushes GroupedTwice ExtraWord BadCertLine NotAllItems GroupSplit NumberOutOfRange NotFalling'
             codes+=' ChainBroken LengthDiffers CircleBroken RunBroken TooManyLanes read memory thread tally write'
+            codes+=" plan wq chain arc circle run yes no 'not lawful' deadlock stuck open safe components workqueues"
+            codes+=' refused fault'
             mapfile -t COMPREPLY < <(compgen -W "$codes" -- "$word")
+            # The blank of `not lawful` belongs to the word.
+            COMPREPLY=("${COMPREPLY[@]// /\\ }")
             return
             ;;
         plan | run) files=1 ;;

@@ -30,6 +30,9 @@ COMMANDS = re.findall(r"`wqplan\s(\w+)[^`]*`", re.search(r"The commands are (.*?
 NUMBERS = re.findall(r"^\| (?:`no )?(\d+)[^|]*\| [A-Z][A-Za-z]+ \|", FORMAT, re.M)
 NAMES = re.findall(r"^\| (?:`no )?\d+[^|]*\| ([A-Z][A-Za-z]+) \|", FORMAT, re.M)
 FAULTS = re.findall(r"^\| `fault (\w+)` \|", FORMAT, re.M)
+EXPLAIN = FORMAT.split("## The command `explain`\n")[1].split("\n## ")[0]
+# The blank in one of them is typed with a backslash.
+WORDS = [word.replace(" ", "\\ ") for word in re.findall(r"^\| `([a-z ]+)` \|", EXPLAIN, re.M)]
 
 # A line behind `wqplan `, and what is offered for its last word.
 OFFERED = [
@@ -41,9 +44,11 @@ OFFERED = [
     ("-", ["--help", "--version"]),
     ("help ", COMMANDS),
     ("help plan ", []),
-    ("explain ", NUMBERS + NAMES + FAULTS),
+    ("explain ", NUMBERS + NAMES + FAULTS + WORDS),
     ("explain Unk", ["UnknownWord", "UnknownItem"]),
     ("explain t", ["thread", "tally"]),
+    ("explain s", ["stuck", "safe"]),
+    ("explain not", ["not\\ lawful"]),
     ("explain read ", []),
     ("explain 6", ["6", "69"]),
     ("explain 6 ", []),

@@ -1,7 +1,8 @@
 #!/usr/bin/env bash
-# Runs `wqplan explain` for each number and each fault, by number and by name, and the example that it prints, whose answer has to
-# be that number, and to standard error its diagnosis, or that fault. The figures in an explanation have to be those of
-# docs/FORMAT.md. Also runs it without a word, and with words that have no explanation.
+# Runs `wqplan explain` for each number, each fault and each word of an answer, by number and by name, in upper and lower case, and
+# the example that it prints, whose answer has to be that number, and to standard error its diagnosis, or that fault, or a line that
+# begins with that word. The figures in an explanation have to be those of docs/FORMAT.md. Also runs it without a word, and with
+# words that have no explanation.
 # Run it once the gate or `rt run` has built the program. The argument, if there is one, names another program.
 set -u
 program=$(realpath -- "${1:-$(dirname "$0")/../crates/wqplan/out/wqplan}")
@@ -65,8 +66,8 @@ prose() {
     sed -E '1d; /^    /d; s/`(refused|no) [0-9]+/`/g' out
 }
 
-# formed WORD: whether `out`, what explains this word, has its form: nothing on standard error, no long line, a section of
-# docs/FORMAT.md, which is left in the file `section`, and how to mend it.
+# formed WORD HEADING: whether `out`, what explains this word, has its form: nothing on standard error, no long line, a section of
+# docs/FORMAT.md, which is left in the file `section`, and, below this heading, how to mend it or what to do.
 formed() {
     is "explain $1: nothing on standard error" '' "$(cat err)"
     is "explain $1: no line of more than 80 bytes" '' "$(LC_ALL=C grep -E '.{81}' out)"
@@ -74,7 +75,7 @@ formed() {
     section=$(sed -n 's/^The rule: docs\/FORMAT\.md, "\(.*\)"$/\1/p' out)
     is "explain $1: the section is there" "## $section" "$(grep -Fx -- "## $section" "$format")"
     awk -v heading="## $section" '/^## / { on = $0 == heading } on' "$format" >section
-    has "explain $1: how to mend it" . "$(below 'To mend it:')"
+    has "explain $1: $2" . "$(below "$2")"
 }
 
 # same WORD OTHER: whether `out`, what explains the one word, is what explains the other one.
@@ -94,11 +95,13 @@ below() {
 explained() {
     run explain "$1"
     is "explain $1" "0: $1 $2" "$status: $(head -n 1 out)"
-    formed "$1"
+    formed "$1" 'To mend it:'
     is "explain $1: its figures stand in the section" '' "$(comm -23 <(prose | figures) <(figures <section))"
     is "explain $1: its limits are those of its row" "$(grep -F -- "| $2 |" "$format" | limits)" "$(prose | limits)"
     same "$1" "$2"
     same "$1" "+00$1"
+    same "$1" "${2^^}"
+    same "$1" "${2,,}"
     mkdir "example$1"
     below 'To see it:' >"example$1/commands"
     local words file said=yes
@@ -124,7 +127,7 @@ is 'docs/FORMAT.md has 5 faults' 5 "$(wc -l <<<"$faults")"
 for name in $faults; do
     run explain "$name"
     is "explain $name" "0: $name fault" "$status: $(head -n 1 out)"
-    formed "$name"
+    formed "$name" 'To mend it:'
     below 'To see it:' >commands
     if [ "$name" = tally ]; then
         is "explain $name: no example" '' "$(cat commands)"
@@ -132,32 +135,53 @@ for name in $faults; do
     fi
     mkdir "example$name"
     (cd "example$name" && PATH=$work/bin:$PATH limited bash ../commands) >out 2>err
-    is "explain $name: the example" "3:: fault $name" "$?:$(cat out): $(cat err)"
+    is "explain $name: the example" "3:: fault $name" "$?:$(cat out): $(tail -n 1 err)"
 done
 
-# All titles: those of the numbers, with their names, and those of the faults.
+# Each word of an answer: a line that its example prints begins with it, and the last command of the example is one of those of its
+# row. `fault` is a line of standard error.
+awk '/^## / { on = $0 == "## The command `explain`" } on' "$format" | sed -nE 's/^\| `([a-z ]+)` \| (.*) \|$/\1:\2/p' >words
+is 'docs/FORMAT.md has 17 words of answers' 17 "$(wc -l <words)"
+while IFS=: read -r word commands; do
+    run explain "$word"
+    is "explain $word" "0: $word answer" "$status: $(head -n 1 out)"
+    formed "$word" 'What to do:'
+    below 'To see it:' >commands
+    same "$word" "${word^^}"
+    same "$word" "${word^}"
+    mkdir "example $word"
+    (cd "example $word" && PATH=$work/bin:$PATH limited bash ../commands) >out 2>err
+    [ "$word" != fault ] || tail -n 1 err >out
+    has "explain $word: the example" $'\n'"$word( |"$'\n)' $'\n'"$(cat out)"$'\n'
+    has "explain $word: the command of the example" '`'"$(sed -n '$s/.*wqplan \([a-z]*\).*/\1/p' commands)"'`|any' "$commands"
+done <words
+
+# All titles: those of the numbers, with their names, those of the faults, and those of the words of answers.
 {
     sed -nE 's/^\| ([0-9]+) \| ([A-Z][A-Za-z]+) \|.*/\1 \2/p' "$format"
     sed -nE 's/^\| `no (5[0-9])[^|]*` \| ([A-Z][A-Za-z]+) \|.*/\1 \2/p' "$format"
 } | sort -n >titles
 is 'docs/FORMAT.md has 22 numbers' 22 "$(wc -l <titles)"
 sed 's/$/ fault/' <<<"$faults" >>titles
+sed 's/:.*/ answer/' words >>titles
 run explain
 is 'explain without a word' '0' "$status$(cat err)$(cmp out titles 2>&1)"
 
-# The first word of each title is explained, and that title is the first line.
-while read -r word rest; do
-    run explain "$word"
-    is "explain $word: its title" "0: $word $rest" "$status: $(head -n 1 out)"
+# Each title without its last word is explained, and that title is the first line.
+while read -r title; do
+    run explain "${title% *}"
+    is "explain ${title% *}: its title" "0: $title" "$status: $(head -n 1 out)"
 done <titles
 
 # What has no explanation: a line that says so, and all titles. A number that is never printed, one of more than 32 bits, what is
-# no number, names in another case, names with something more, the words of a title, and an empty word.
-for word in 0 13 20 44 68 70 4294967295 4294967296 18446744073709551617 1x x ++1 '+' '1 ' ' 1' 0x1 texttoolong TextToolong \
-    TextTooLon TextTooLong1 Read reads fault 'read fault' 'fault read' '1 TextTooLong' yes '' $'caf\303\251'; do
+# no number, names with something more or less, with a letter beyond ASCII (a Kelvin sign for the k of `stuck`), the words of a title, a
+# part of a word, and an empty word.
+for word in 0 13 20 44 68 70 4294967295 4294967296 18446744073709551617 1x x ++1 '+' '1 ' ' 1' 0x1 TextTooLon TextTooLong1 reads \
+    'read fault' 'fault read' '1 TextTooLong' 'safe ' safer not lawful 'not  lawful' notlawful 'safe answer' answer '' \
+    $'caf\303\251' $'stuc\342\204\252'; do
     run explain "$word"
     is "explain '$word'" "2: $(cat titles)" "$status: $(tail -n +2 out)"
-    is "explain '$word': one line above the titles" 28 "$(wc -l <out)"
+    is "explain '$word': one line above the titles" 45 "$(wc -l <out)"
     is "explain '$word': nothing on standard error" '' "$(cat err)"
 done
 

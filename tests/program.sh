@@ -45,6 +45,18 @@ says() {
     esac
 }
 
+# unread ARG..: what standard error has where one of these files can't be read: the first that is missing, or else the first folder. All
+# are opened before one is read. A folder can be opened.
+unread() {
+    local file
+    for file in missing ''; do
+        for arg in "$@"; do
+            [ "$arg" = "$file" ] && printf '%s' "wqplan: $file: no such file\\nfault read\\n" && return
+        done
+    done
+    printf '%s' 'wqplan: folder: is a directory\nfault read\n'
+}
+
 # check NAME STATUS OUT ERR: counts whether the last run ended so.
 check() {
     if [ "$status" -eq "$2" ] && holds out "$3" && says "$4"; then
@@ -61,6 +73,9 @@ yes '' | head -c 1048576 >largest
 yes '' | head -c 1048577 >too_large
 yes '' | head -c 8388608 >largest_certificate
 yes '' | head -c 8388609 >too_large_certificate
+
+# What is said of a declaration without an item, behind the name of its file.
+no_item=': note: no item is declared: is this the right file?\n'
 
 plan='plan 2\nwq 0 b\nwq 1 a\nchain 2\narc a b\n'
 printf 'item a\nitem b\nflush a b\n' >declaration
@@ -86,7 +101,7 @@ check 'a plan, from a pipe' 0 "$plan" ''
 run plan < <(printf 'item a\nit'; sleep 0.2; printf 'em b\nflush a b\n')
 check 'a plan, from a pipe that pauses' 0 "$plan" ''
 run plan </dev/null
-check 'no byte at all' 0 'plan 0\nchain 0\n' ''
+check 'no byte at all' 0 'plan 0\nchain 0\n' "<stdin>$no_item"
 run plan carriage_returns </dev/null
 check 'a plan of lines that end with CR LF, with comments' 0 "$plan" ''
 run plan ordered </dev/null
@@ -167,7 +182,7 @@ check 'circles: a declaration that has a plan' 0 'safe\n' ''
 run circles circle </dev/null
 check 'circles: a declaration that has none' 1 'components 1\ncomponent 1\narc a a\n' ''
 run circles empty </dev/null
-check 'circles: no byte at all' 0 'safe\n' ''
+check 'circles: no byte at all' 0 'safe\n' "empty$no_item"
 run circles -- chain lanes </dev/null
 check 'circles: two files behind --' 1 "$components" ''
 run circles <(cat chain) <(cat lanes) </dev/null
@@ -206,7 +221,7 @@ check 'dot: a plan' 0 "$drawn_plan" ''
 run dot circle </dev/null
 check 'dot: a declaration that has no plan' 0 "$drawn_loop" ''
 run dot empty </dev/null
-check 'dot: no byte at all' 0 "$(drawing 'plan 0')\n" ''
+check 'dot: no byte at all' 0 "$(drawing 'plan 0')\n" "empty$no_item"
 run dot chain lanes </dev/null
 check 'dot: the flushes on circles' 0 "$drawn_circle" ''
 run dot chain safe_lanes </dev/null
@@ -235,7 +250,7 @@ mv out printed
 run replay chain lanes printed </dev/null
 check 'replay: the run that is printed' 1 'deadlock\n' ''
 run replay chain lanes unlawful </dev/null
-check 'replay: a step that is not lawful' 1 'not lawful 1\n' ''
+check 'replay: a step that is not lawful' 1 'not lawful 1\n' 'of 3'
 run replay chain lanes unstuck </dev/null
 check 'replay: a run with a cancelled item that can go on' 0 'open\n' ''
 run replay chain lanes stuck </dev/null
@@ -266,7 +281,7 @@ check 'run: a file behind --' 0 "$ran" ''
 run run <(cat declaration) </dev/null
 check 'run: a pipe' 0 "$ran" ''
 run run empty </dev/null
-check 'run: no item' 0 'workqueues 0\nfaults 0\n' ''
+check 'run: no item' 0 'workqueues 0\nfaults 0\n' "empty$no_item"
 run run chain256 </dev/null
 check 'run: 256 workqueues' 0 "$ran256\n" ''
 run run chain257 </dev/null
@@ -278,7 +293,7 @@ check 'run: a refusal' 2 'refused 8 line 2\n' 'of 1'
 run run too_large </dev/null
 check 'run: a text of 1,048,577 bytes' 2 'refused 1 line 0\n' 'of 1'
 run run largest </dev/null
-check 'run: a text of 1,048,576 bytes' 0 'workqueues 0\nfaults 0\n' ''
+check 'run: a text of 1,048,576 bytes' 0 'workqueues 0\nfaults 0\n' "largest$no_item"
 run run <(yes 'item a' 2>/dev/null) </dev/null
 check 'run: a text without end' 2 'refused 1 line 0\n' 'of 1'
 
@@ -332,7 +347,7 @@ for words in 'check missing second' 'deadlock missing second' 'circles missing s
     'replay missing second third' 'replay chain missing third'; do
     # Each word is an argument of its own.
     run $words </dev/null
-    check "$words: a pipe behind a FILE that is missing" 3 '' 'fault read\n'
+    check "$words: a pipe behind a FILE that is missing" 3 '' 'wqplan: missing: no such file\nfault read\n'
 done
 seconds=$usual
 
@@ -385,7 +400,7 @@ check 'dot: a refusal, without ASSIGN' 2 'refused 8 line 2\n' 'of 1'
 run dot too_large </dev/null
 check 'dot: a text of 1,048,577 bytes' 2 'refused 1 line 0\n' 'of 1'
 run dot largest </dev/null
-check 'dot: a text of 1,048,576 bytes' 0 "$(drawing 'plan 0')\n" ''
+check 'dot: a text of 1,048,576 bytes' 0 "$(drawing 'plan 0')\n" "largest$no_item"
 run replay refused without_c unlawful </dev/null
 check 'replay: a wrong declaration before a wrong assignment' 2 'refused 8 line 2\n' 'of 1'
 run replay chain without_c too_large_certificate </dev/null
@@ -399,7 +414,7 @@ check 'replay: a run with a workqueue that none can be' 2 'refused 43 line 3\n' 
 
 # Limits: 1,048,576 bytes are read as a declaration, and one byte more is refused.
 run plan largest </dev/null
-check 'a text of 1,048,576 bytes' 0 'plan 0\nchain 0\n' ''
+check 'a text of 1,048,576 bytes' 0 'plan 0\nchain 0\n' "largest$no_item"
 run plan too_large </dev/null
 check 'a text of 1,048,577 bytes' 2 'refused 1 line 0\n' 'of 1'
 run plan < <(yes 'item a' 2>/dev/null)
@@ -407,15 +422,28 @@ check 'a text without end' 2 'refused 1 line 0\n' 'of 0'
 
 # Faults of the system.
 run plan missing </dev/null
-check 'a FILE that is missing' 3 '' 'fault read\n'
+check 'a FILE that is missing' 3 '' 'wqplan: missing: no such file\nfault read\n'
+run plan $'mis\tsi\ang\303\251' </dev/null
+check 'a FILE that is missing, with bytes that are not printable' 3 '' 'wqplan: mis si?ng??: no such file\nfault read\n'
+run plan declaration/missing </dev/null
+check 'a FILE in a file' 3 '' "wqplan: declaration/missing: a part of the path isn't a directory\nfault read\n"
+run plan "$(head -c 300 /dev/zero | tr '\0' x)" </dev/null
+check 'a FILE with a name of 300 bytes' 3 '' "wqplan: $(head -c 300 /dev/zero | tr '\0' x): the name is too long\nfault read\n"
+run plan - </dev/null
+check 'plan -' 3 '' 'wqplan: -: no such file (leave FILE out to read standard input)\nfault read\n'
+for words in 'check - plan_of_two' 'check declaration -' 'deadlock - lanes' 'replay chain lanes -' 'circles -' 'dot -' 'run -'; do
+    # Each word is an argument of its own.
+    run $words </dev/null
+    check "$words" 3 '' 'wqplan: -: no such file (only `plan` reads standard input; /dev/stdin names it)\nfault read\n'
+done
 run plan folder </dev/null
-check 'a FILE that is a folder' 3 '' 'fault read\n'
+check 'a FILE that is a folder' 3 '' 'wqplan: folder: is a directory\nfault read\n'
 run plan '' </dev/null
-check 'a FILE with an empty name' 3 '' 'fault read\n'
+check 'a FILE with an empty name' 3 '' 'wqplan: : no such file\nfault read\n'
 run plan <folder
-check 'standard input that is a folder' 3 '' 'fault read\n'
+check 'standard input that is a folder' 3 '' 'wqplan: <stdin>: is a directory\nfault read\n'
 run plan <&-
-check 'standard input that is closed' 3 '' 'fault read\n'
+check 'standard input that is closed' 3 '' "wqplan: <stdin>: can't be read\nfault read\n"
 limited "$program" plan declaration </dev/null >/dev/full 2>err
 status=$?
 : >out
@@ -426,27 +454,27 @@ check 'standard output that is closed' 3 '' 'fault write\n'
 for files in 'missing plan_of_two' 'declaration missing' 'folder plan_of_two' 'declaration folder' 'refused missing'; do
     # Each word is an argument of its own.
     run check $files </dev/null
-    check "check $files" 3 '' 'fault read\n'
+    check "check $files" 3 '' "$(unread $files)"
 done
 for files in 'missing lanes' 'chain missing' 'folder lanes' 'chain folder' 'refused missing'; do
     run deadlock $files </dev/null
-    check "deadlock $files" 3 '' 'fault read\n'
+    check "deadlock $files" 3 '' "$(unread $files)"
     run circles $files </dev/null
-    check "circles $files" 3 '' 'fault read\n'
+    check "circles $files" 3 '' "$(unread $files)"
     run dot $files </dev/null
-    check "dot $files" 3 '' 'fault read\n'
+    check "dot $files" 3 '' "$(unread $files)"
 done
 for files in 'missing lanes deadlock' 'chain missing deadlock' 'chain lanes missing' 'refused lanes folder'; do
     run replay $files </dev/null
-    check "replay $files" 3 '' 'fault read\n'
+    check "replay $files" 3 '' "$(unread $files)"
 done
 for files in missing folder ''; do
     run run "$files" </dev/null
-    check "run '$files'" 3 '' 'fault read\n'
+    check "run '$files'" 3 '' "$(unread "$files")"
     run circles "$files" </dev/null
-    check "circles '$files'" 3 '' 'fault read\n'
+    check "circles '$files'" 3 '' "$(unread "$files")"
     run dot "$files" </dev/null
-    check "dot '$files'" 3 '' 'fault read\n'
+    check "dot '$files'" 3 '' "$(unread "$files")"
 done
 # Of a refusal or a `no` that can't be written there is no diagnosis.
 for words in 'plan circle' 'check declaration plan_of_two' 'deadlock chain lanes' 'replay chain lanes deadlock' \

@@ -5,8 +5,10 @@
 
 ends with 0 where it has, and with 1 where it hasn't. OUT and ERR are files with what the program wrote to standard output and to
 standard error. Where OUT is a refusal, or a `no` of `check`, ERR must be its diagnosis: it names FILE, the line and the number, and
-shows the line and its marks where a line is meant. Where OUT is any other answer, ERR must be empty. The words and the hints
-of a diagnosis may be any: they aren't compared here. `belongs` and `meant` do this for other scripts.
+shows the line and its marks where a line is meant. Where OUT is the answer to a declaration without an item, ERR must be the note
+that says so, with FILE; where it may be one, as `safe`, this note or nothing. Where OUT is `not lawful N` of `replay`, ERR must say so of FILE, too,
+and show the step. Where OUT is any other answer, ERR must be empty. The words and the hints of a diagnosis may be any: they aren't
+compared here. `belongs` and `meant` do this for other scripts.
 """
 
 import pathlib
@@ -17,9 +19,13 @@ import sys
 STDIN = b"<stdin>"
 
 REFUSED = re.compile(rb"(refused) ([0-9]+) line ([0-9]+)\n")
+UNLAWFUL = re.compile(rb"not lawful ([0-9]+)\n")
 NO = re.compile(rb"(no) ([0-9]+)(?: [^\n]*)?\n")
 
 NUMBER = rb"[1-9][0-9]*"
+# Answers that only a declaration without an item has, and answers that others have, too.
+NO_ITEM = re.compile(rb"plan 0\nchain 0\n|yes 0\n|workqueues 0\nfaults 0\n")
+MAY_BE_NO_ITEM = re.compile(rb"safe\n|open\n|digraph [^\0]*")
 # The line that is meant, and below it the marks, with the hint if there is one.
 MARKED = rb"    [ -~]+\n {4,}\^+(?: [ -~]+)?\n"
 
@@ -30,10 +36,15 @@ def shown(file):
 
 
 def diagnosis(word, code, line, file):
-    """The form of a diagnosis. Where a line is meant, so is a byte of it."""
+    """The form of a diagnosis. Where a line is meant, so is a byte of it. With 41 a byte may be meant where no line is."""
     place = b"" if line == b"0" else b":%s:%s" % (line, NUMBER)
     head = rb"%s%s: [ -~]+ \[%s %s, `wqplan explain %s`\]\n" % (re.escape(shown(file)), place, word, code, code)
-    return head + (MARKED if place else b"")
+    return head + (MARKED if place else b"(?:%s)?" % MARKED if code == b"41" else b"")
+
+
+def note(file):
+    """What is said beside the answer to a declaration without an item."""
+    return shown(file) + b": note: no item is declared: is this the right file?\n"
 
 
 def answer(printed):
@@ -58,11 +69,21 @@ def meant(printed, files):
     return files[1:] if 40 <= code < 50 else files[:1]
 
 
+def unlawful(number, file):
+    """The form of what is said of a step that may not be made."""
+    return rb"%s:%s:%s: [ -~]+ \[not lawful %s\]\n%s" % (re.escape(shown(file)), NUMBER, NUMBER, number, MARKED)
+
+
 def belongs(printed, errors, files):
-    """Whether this belongs on standard error beside the answer: the diagnosis of one of these files, or nothing."""
+    """Whether this belongs on standard error beside the answer: the diagnosis of one of these files, a note on the first, or nothing."""
+    refused_step = UNLAWFUL.fullmatch(printed)
+    if refused_step:
+        return re.fullmatch(unlawful(refused_step[1], files[-1]), errors) is not None
     found = answer(printed)
+    if NO_ITEM.fullmatch(printed):
+        return errors == note(files[0])
     if not found:
-        return errors == b""
+        return errors == b"" or (MAY_BE_NO_ITEM.fullmatch(printed) is not None and errors == note(files[0]))
     return any(re.fullmatch(diagnosis(*found, file), errors) for file in files)
 
 

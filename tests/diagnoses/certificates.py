@@ -57,7 +57,7 @@ WORDS = [
     ({"d": AB, "a": "wq 0 b / wq 1 a"}, "check d a", "refused 40 line 1", 2, [
         "a:1:1: expected `plan K`, found `wq` [refused 40, `wqplan explain 40`]",
         "    wq 0 b",
-        "    ^^ this looks like a plan or an assignment: are the files in the right order?",
+        "    ^^ this is an assignment: ask `deadlock`",
     ]),
     ({"d": AB, "r": "run 1 / queue a"}, "check d r", "refused 40 line 1", 2, [
         "r:1:1: expected `plan K`, found `run` [refused 40, `wqplan explain 40`]",
@@ -99,7 +99,7 @@ WORDS = [
     ({"d": AB, "a": "wq 0 b / wq 1 a / chain 2"}, "deadlock d a", "refused 40 line 3", 2, [
         "a:3:1: the text should end before this line [refused 40, `wqplan explain 40`]",
         "    chain 2",
-        "    ^^^^^",
+        "    ^^^^^ in a plan the line `plan K` comes first",
     ]),
     ({"d": AB, "a": "wq 0 a b", "r": "run 1 / queue a / queue b"}, "replay d a r", "refused 40 line 3", 2, [
         "r:3:1: the text should end before this line [refused 40, `wqplan explain 40`]",
@@ -161,6 +161,32 @@ FORMS = [
         "r:2:7: `a` isn't a number [refused 40, `wqplan explain 40`]",
         "    start a 0",
         "          ^ a number has only digits, and no leading zero",
+    ]),
+    # A name for a workqueue: only where it is one that a `wq` line should have.
+    ({"d": AB, "a": "wq md a b"}, "deadlock d a", "refused 40 line 1", 2, [
+        "a:1:4: `md` isn't a number [refused 40, `wqplan explain 40`]",
+        "    wq md a b",
+        "       ^^ workqueues have numbers: put a name into a comment",
+    ]),
+    ({"d": AB, "p": "plan 2 / wq _x b"}, "check d p", "refused 40 line 2", 2, [
+        "p:2:4: `_x` isn't a number [refused 40, `wqplan explain 40`]",
+        "    wq _x b",
+        "       ^^ workqueues have numbers: put a name into a comment",
+    ]),
+    ({"d": AB, "a": "wq 0: a b"}, "deadlock d a", "refused 40 line 1", 2, [
+        "a:1:4: `0:` isn't a number [refused 40, `wqplan explain 40`]",
+        "    wq 0: a b",
+        "       ^^ a number has only digits, and no leading zero",
+    ]),
+    ({"d": AB, "a": "wq 0x0 a b"}, "deadlock d a", "refused 40 line 1", 2, [
+        "a:1:4: `0x0` isn't a number [refused 40, `wqplan explain 40`]",
+        "    wq 0x0 a b",
+        "       ^^^ a number has only digits, and no leading zero",
+    ]),
+    ({"d": AB, "p": "plan md"}, "deadlock d p", "refused 40 line 1", 2, [
+        "p:1:6: `md` isn't a number [refused 40, `wqplan explain 40`]",
+        "    plan md",
+        "         ^^ a number has only digits, and no leading zero",
     ]),
     # A word is missing.
     ({"d": AB, "p": b"plan 2\nwq 0 b\nwq"}, "check d p", "refused 40 line 3", 2, [
@@ -256,10 +282,167 @@ FORMS = [
         "    start 4096 sen",
         "               ^^^ did you mean `send`?",
     ]),
+    # Flags of a workqueue, and items that are called like one.
+    ({"d": AB, "a": "wq 0 WQ_MEM_RECLAIM a b"}, "deadlock d a", "refused 40 line 1", 2, [
+        "a:1:6: no item `WQ_MEM_RECLAIM` is declared [refused 40, `wqplan explain 40`]",
+        "    wq 0 WQ_MEM_RECLAIM a b",
+        "         ^^^^^^^^^^^^^^ flags don't belong here: put them into a comment",
+    ]),
+    ({"d": AB, "p": "plan 1 / wq 0 a b __WQ_ORDERED"}, "check d p", "refused 40 line 2", 2, [
+        "p:2:10: no item `__WQ_ORDERED` is declared [refused 40, `wqplan explain 40`]",
+        "    wq 0 a b __WQ_ORDERED",
+        "             ^^^^^^^^^^^^ flags don't belong here: put them into a comment",
+    ]),
+    ({"d": "item WQ_a", "a": "wq 0 WQ_b"}, "deadlock d a", "refused 40 line 1", 2, [
+        "a:1:6: no item `WQ_b` is declared [refused 40, `wqplan explain 40`]",
+        "    wq 0 WQ_b",
+        "         ^^^^ did you mean `WQ_a`?",
+    ]),
+    ({"d": AB, "a": "wq 0 wq_mem a b"}, "deadlock d a", "refused 40 line 1", 2, [
+        "a:1:6: no item `wq_mem` is declared [refused 40, `wqplan explain 40`]",
+        "    wq 0 wq_mem a b",
+        "         ^^^^^^",
+    ]),
     ({"d": AB, "a": "wq 0 a, b"}, "deadlock d a", "refused 40 line 1", 2, [
         "a:1:6: no item `a,` is declared [refused 40, `wqplan explain 40`]",
         "    wq 0 a, b",
         "         ^^ did you mean `a`?",
+    ]),
+]
+
+# Assignments of only `wq` lines, with a line that isn't one. Where items are missing it is said beside them (41), and else the text
+# should end there (40).
+STRAYS = [
+    ({"d": AB, "a": b"\xef\xbb\xbfwq 0 a b\r\n"}, "deadlock d a", "refused 41 line 0", 2, [
+        "a: `a`, `b` are on no workqueue: line 1 isn't a `wq` line [refused 41, `wqplan explain 41`]",
+        "    ???wq 0 a b",
+        "    ^^^^^ a byte order mark: save the file without it",
+    ]),
+    # Also where the word isn't `plan` for that reason, and only at the beginning of a line.
+    ({"d": AB, "a": b"# a plan\n\xef\xbb\xbfplan 1\nwq 0 a b\nchain 1\n"}, "dot d a", "refused 41 line 0", 2, [
+        "a: `a`, `b` are on no workqueue: line 2 isn't a `wq` line [refused 41, `wqplan explain 41`]",
+        "    ???plan 1",
+        "    ^^^^^^^ a byte order mark: save the file without it",
+    ]),
+    ({"d": AB, "a": b" \xef\xbb\xbfwq 0 a b"}, "deadlock d a", "refused 41 line 0", 2, [
+        "a: `a`, `b` are on no workqueue: line 1 isn't a `wq` line [refused 41, `wqplan explain 41`]",
+        "     ???wq 0 a b",
+        "     ^^^^^",
+    ]),
+    ({"d": AB, "a": b"\xff\xfew\0q\0 \0000\0 \0a\0"}, "deadlock d a", "refused 41 line 0", 2, [
+        "a: `a`, `b` are on no workqueue: line 1 isn't a `wq` line [refused 41, `wqplan explain 41`]",
+        "    ??w?q? ?0? ?a?",
+        "    ^^^^^^ this is UTF-16: save the file as ASCII",
+    ]),
+    ({"d": AB, "a": b"\xfe\xff\0w\0q\0 \0000\0 \0a"}, "deadlock d a", "refused 41 line 0", 2, [
+        "a: `a`, `b` are on no workqueue: line 1 isn't a `wq` line [refused 41, `wqplan explain 41`]",
+        "    ???w?q? ?0? ?a",
+        "    ^^^^^^^ this is UTF-16: save the file as ASCII",
+    ]),
+    ({"d": AB, "a": b"w\0q\0 \0000\0 \0a\0"}, "deadlock d a", "refused 41 line 0", 2, [
+        "a: `a`, `b` are on no workqueue: line 1 isn't a `wq` line [refused 41, `wqplan explain 41`]",
+        "    w?q? ?0? ?a?",
+        "    ^^^^ a zero byte: is this a text, and not UTF-16?",
+    ]),
+    # Words that are like `wq`, on the first line and on another one.
+    ({"d": AB, "a": "WQ 0 a / WQ 1 b"}, "deadlock d a", "refused 41 line 0", 2, [
+        "a: `a`, `b` are on no workqueue: line 1 isn't a `wq` line [refused 41, `wqplan explain 41`]",
+        "    WQ 0 a",
+        "    ^^ did you mean `wq`?",
+    ]),
+    ({"d": AB, "a": "# md / wq 0 a / \twp 1 b # raid"}, "circles d a", "refused 41 line 0", 2, [
+        "a: `b` is on no workqueue: line 3 isn't a `wq` line [refused 41, `wqplan explain 41`]",
+        "     wp 1 b # raid",
+        "     ^^ did you mean `wq`?",
+    ]),
+    ({"d": AB, "a": "wq: 0 a b"}, "deadlock d a", "refused 41 line 0", 2, [
+        "a: `a`, `b` are on no workqueue: line 1 isn't a `wq` line [refused 41, `wqplan explain 41`]",
+        "    wq: 0 a b",
+        "    ^^^ did you mean `wq`?",
+    ]),
+    ({"d": AB, "a": "wq 0 a b / WQ 1"}, "deadlock d a", "refused 40 line 2", 2, [
+        "a:2:1: the text should end before this line [refused 40, `wqplan explain 40`]",
+        "    WQ 1",
+        "    ^^ did you mean `wq`?",
+    ]),
+    # Words that are like `plan`, on the first line alone.
+    ({"d": AB, "a": " / Plan 1 / wq 0 a b / chain 1"}, "deadlock d a", "refused 41 line 0", 2, [
+        "a: `a`, `b` are on no workqueue: line 2 isn't a `wq` line [refused 41, `wqplan explain 41`]",
+        "    Plan 1",
+        "    ^^^^ did you mean `plan`?",
+    ]),
+    ({"d": AB, "a": "wq 0 a / Plan 1"}, "deadlock d a", "refused 41 line 0", 2, [
+        "a: `b` is on no workqueue: line 2 isn't a `wq` line [refused 41, `wqplan explain 41`]",
+        "    Plan 1",
+        "    ^^^^",
+    ]),
+    # Lines of a plan whose first one is missing.
+    ({"d": AB, "a": "chain 2 / arc a b"}, "deadlock d a", "refused 41 line 0", 2, [
+        "a: `a`, `b` are on no workqueue: line 1 isn't a `wq` line [refused 41, `wqplan explain 41`]",
+        "    chain 2",
+        "    ^^^^^ in a plan the line `plan K` comes first",
+    ]),
+    ({"d": AB, "a": "wq 0 b / arc a b"}, "deadlock d a", "refused 41 line 0", 2, [
+        "a: `a` is on no workqueue: line 2 isn't a `wq` line [refused 41, `wqplan explain 41`]",
+        "    arc a b",
+        "    ^^^ in a plan the line `plan K` comes first",
+    ]),
+    ({"d": AB, "a": "wq 0 b / plan 2"}, "deadlock d a", "refused 41 line 0", 2, [
+        "a: `a` is on no workqueue: line 2 isn't a `wq` line [refused 41, `wqplan explain 41`]",
+        "    plan 2",
+        "    ^^^^ in a plan the line `plan K` comes first",
+    ]),
+    # Texts of another kind.
+    ({"d": AB, "c": "circle 1 / arc a b"}, "deadlock d c", "refused 41 line 0", 2, [
+        "c: `a`, `b` are on no workqueue: line 1 isn't a `wq` line [refused 41, `wqplan explain 41`]",
+        "    circle 1",
+        "    ^^^^^^ this looks like a circle: are the files in the right order?",
+    ]),
+    ({"d": AB, "a": "refused 8 line 2"}, "deadlock d a", "refused 41 line 0", 2, [
+        "a: `a`, `b` are on no workqueue: line 1 isn't a `wq` line [refused 41, `wqplan explain 41`]",
+        "    refused 8 line 2",
+        "    ^^^^^^^ this looks like a refusal, written here in place of an answer: are the files in the right order?",
+    ]),
+    ({"d": AB, "e": AB}, "circles d e", "refused 41 line 0", 2, [
+        "e: `a`, `b` are on no workqueue: line 1 isn't a `wq` line [refused 41, `wqplan explain 41`]",
+        "    item a",
+        "    ^^^^ this looks like a declaration: are the files in the right order?",
+    ]),
+    ({"d": AB, "a": "wq 0 a b / item c"}, "deadlock d a", "refused 40 line 2", 2, [
+        "a:2:1: the text should end before this line [refused 40, `wqplan explain 40`]",
+        "    item c",
+        "    ^^^^ this looks like a declaration: are the files in the right order?",
+    ]),
+    # Comments of other languages, and words of which nothing is known.
+    ({"d": AB, "a": "// md / wq 0 a b"}, "deadlock d a", "refused 41 line 0", 2, [
+        "a: `a`, `b` are on no workqueue: line 1 isn't a `wq` line [refused 41, `wqplan explain 41`]",
+        "    // md",
+        "    ^^ a comment begins with `#`",
+    ]),
+    ({"d": AB, "a": "wq 0 b / 1 a"}, "deadlock d a", "refused 41 line 0", 2, [
+        "a: `a` is on no workqueue: line 2 isn't a `wq` line [refused 41, `wqplan explain 41`]",
+        "    1 a",
+        "    ^",
+    ]),
+    # In a plan its lines are counted, and none is a stray one.
+    ({"d": AB, "p": "plan 1 / wq 0 a / WQ 1 b"}, "deadlock d p", "refused 41 line 0", 2, [
+        "p: `b` is on no workqueue [refused 41, `wqplan explain 41`]",
+    ]),
+    # The first bytes of other certificates, and of a line after their end.
+    ({"d": AB, "p": b"\xff\xfep\0l\0a\0n\0 \0001\0"}, "check d p", "refused 40 line 1", 2, [
+        "p:1:1: expected `plan K`, found `??p?l?a?n?` [refused 40, `wqplan explain 40`]",
+        "    ??p?l?a?n? ?1?",
+        "    ^^^^^^^^^^ this is UTF-16: save the file as ASCII",
+    ]),
+    ({"d": AB, "a": "wq 0 a b", "r": b"r\0u\0n\0 \0001\0"}, "replay d a r", "refused 40 line 1", 2, [
+        "r:1:1: expected `run M`, found `r?u?n?` [refused 40, `wqplan explain 40`]",
+        "    r?u?n? ?1?",
+        "    ^^^^^^ a zero byte: is this a text, and not UTF-16?",
+    ]),
+    ({"d": AB, "a": "wq 0 a b", "r": b"run 0\n\xef\xbb\xbfrun 0\n"}, "replay d a r", "refused 40 line 2", 2, [
+        "r:2:1: the text should end before this line [refused 40, `wqplan explain 40`]",
+        "    ???run 0",
+        "    ^^^^^^ a byte order mark: save the file without it",
     ]),
 ]
 
@@ -322,14 +505,20 @@ OTHERS = [
         "p: `a`, `c`, `e` are on no workqueue [refused 41, `wqplan explain 41`]",
     ]),
     ({"d": LETTERS, "a": "wq 0 c / qw 1 a b d e"}, "deadlock d a", "refused 41 line 0", 2, [
-        "a: `a`, `b`, `d` and 1 more are on no workqueue [refused 41, `wqplan explain 41`]",
+        "a: `a`, `b`, `d` and 1 more are on no workqueue: line 2 isn't a `wq` line [refused 41, `wqplan explain 41`]",
+        "    qw 1 a b d e",
+        "    ^^ did you mean `wq`?",
     ]),
     ({"d": LETTERS, "e": LETTERS}, "deadlock d e", "refused 41 line 0", 2, [
-        "e: `a`, `b`, `c` and 2 more are on no workqueue [refused 41, `wqplan explain 41`]",
+        "e: `a`, `b`, `c` and 2 more are on no workqueue: line 1 isn't a `wq` line [refused 41, `wqplan explain 41`]",
+        "    item a",
+        "    ^^^^ this looks like a declaration: are the files in the right order?",
     ]),
     # The assignment and the run in each other's place: the assignment is judged first.
     ({"d": AB, "a": "wq 0 a b", "r": "run 1 / queue a"}, "replay d r a", "refused 41 line 0", 2, [
-        "r: `a`, `b` are on no workqueue [refused 41, `wqplan explain 41`]",
+        "r: `a`, `b` are on no workqueue: line 1 isn't a `wq` line [refused 41, `wqplan explain 41`]",
+        "    run 1",
+        "    ^^^ this looks like a run: are the files in the right order?",
     ]),
     # 42: a group on two workqueues.
     ({"d": ABC, "a": "wq 0 b a / wq 1 c"}, "deadlock d a", "refused 42 line 2", 2, [

@@ -231,13 +231,13 @@ WORDS = [
         "    run 1",
         "    ^^^ this looks like a run: are the files in the right order?",
     ]),
-    ({"d.wq": "item a / queue a"}, "run d.wq", "refused 4 line 2", 2, [
+    ({"d.wq": "# a step / queue a / cancel a"}, "run d.wq", "refused 4 line 2", 2, [
         "d.wq:2:1: `queue` isn't a directive [refused 4, `wqplan explain 4`]",
         "    queue a",
         "    ^^^^^ this looks like a run: are the files in the right order?",
     ]),
-    ({"d.wq": "item a / cancel a"}, "plan d.wq", "refused 4 line 2", 2, [
-        "d.wq:2:1: `cancel` isn't a directive [refused 4, `wqplan explain 4`]",
+    ({"d.wq": "cancel a"}, "plan d.wq", "refused 4 line 1", 2, [
+        "d.wq:1:1: `cancel` isn't a directive [refused 4, `wqplan explain 4`]",
         "    cancel a",
         "    ^^^^^^ this looks like a run: are the files in the right order?",
     ]),
@@ -260,6 +260,98 @@ WORDS = [
         "d.wq:1:1: `finish` isn't a directive [refused 4, `wqplan explain 4`]",
         "    finish 0 a",
         "    ^^^^^^ this looks like a run: are the files in the right order?",
+    ]),
+    # Calls in the place of directives. Three of them are steps of a run, too: what they are is told by the other lines.
+    ({"d.wq": "item a / item b / wait a b"}, "plan d.wq", "refused 4 line 3", 2, [
+        "d.wq:3:1: `wait` isn't a directive [refused 4, `wqplan explain 4`]",
+        "    wait a b",
+        "    ^^^^ did you mean `flush`?",
+    ]),
+    ({"d.wq": "wait a b / item a / item b"}, "plan d.wq", "refused 4 line 1", 2, [
+        "d.wq:1:1: `wait` isn't a directive [refused 4, `wqplan explain 4`]",
+        "    wait a b",
+        "    ^^^^ did you mean `flush`?",
+    ]),
+    ({"d.wq": "wait a b # item a / # item b"}, "plan d.wq", "refused 4 line 1", 2, [
+        "d.wq:1:1: `wait` isn't a directive [refused 4, `wqplan explain 4`]",
+        "    wait a b # item a",
+        "    ^^^^ this looks like a run: are the files in the right order?",
+    ]),
+    ({"d.wq": "wait a b / \tordered a b"}, "plan d.wq", "refused 4 line 1", 2, [
+        "d.wq:1:1: `wait` isn't a directive [refused 4, `wqplan explain 4`]",
+        "    wait a b",
+        "    ^^^^ did you mean `flush`?",
+    ]),
+    ({"d.wq": "item a / queue a"}, "run d.wq", "refused 4 line 2", 2, [
+        "d.wq:2:1: `queue` isn't a directive [refused 4, `wqplan explain 4`]",
+        "    queue a",
+        "    ^^^^^ a call that queues doesn't wait, and needs no line",
+    ]),
+    ({"d.wq": "item a / cancel a"}, "plan d.wq", "refused 4 line 2", 2, [
+        "d.wq:2:1: `cancel` isn't a directive [refused 4, `wqplan explain 4`]",
+        "    cancel a",
+        "    ^^^^^^ `cancel_work` doesn't wait, and needs no line: for `cancel_work_sync` write `flush`",
+    ]),
+    ({"d.wq": "item a / start 0 a"}, "plan d.wq", "refused 4 line 2", 2, [
+        "d.wq:2:1: `start` isn't a directive [refused 4, `wqplan explain 4`]",
+        "    start 0 a",
+        "    ^^^^^ this looks like a run: are the files in the right order?",
+    ]),
+    # Other words for calls are no steps, whatever the other lines are.
+    ({"d.wq": "waits a b"}, "plan d.wq", "refused 4 line 1", 2, [
+        "d.wq:1:1: `waits` isn't a directive [refused 4, `wqplan explain 4`]",
+        "    waits a b",
+        "    ^^^^^ did you mean `flush`?",
+    ]),
+    ({"d.wq": "item a / flushes a a"}, "plan d.wq", "refused 4 line 2", 2, [
+        "d.wq:2:1: `flushes` isn't a directive [refused 4, `wqplan explain 4`]",
+        "    flushes a a",
+        "    ^^^^^^^ did you mean `flush`?",
+    ]),
+    ({"d.wq": "wait_for a b"}, "circles d.wq", "refused 4 line 1", 2, [
+        "d.wq:1:1: `wait_for` isn't a directive [refused 4, `wqplan explain 4`]",
+        "    wait_for a b",
+        "    ^^^^^^^^ did you mean `flush`?",
+    ]),
+    ({"d.wq": "item a / waits_for a b"}, "dot d.wq", "refused 4 line 2", 2, [
+        "d.wq:2:1: `waits_for` isn't a directive [refused 4, `wqplan explain 4`]",
+        "    waits_for a b",
+        "    ^^^^^^^^^ did you mean `flush`?",
+    ]),
+    ({"d.wq": "item a / flush_work a a"}, "plan d.wq", "refused 4 line 2", 2, [
+        "d.wq:2:1: `flush_work` isn't a directive [refused 4, `wqplan explain 4`]",
+        "    flush_work a a",
+        "    ^^^^^^^^^^ did you mean `flush`?",
+    ]),
+    ({"d.wq": "item a / cancel_work_sync a a"}, "plan d.wq", "refused 4 line 2", 2, [
+        "d.wq:2:1: `cancel_work_sync` isn't a directive [refused 4, `wqplan explain 4`]",
+        "    cancel_work_sync a a",
+        "    ^^^^^^^^^^^^^^^^ did you mean `flush`?",
+    ]),
+    ({"d.wq": "item a / queues a a"}, "plan d.wq", "refused 4 line 2", 2, [
+        "d.wq:2:1: `queues` isn't a directive [refused 4, `wqplan explain 4`]",
+        "    queues a a",
+        "    ^^^^^^ a call that queues doesn't wait, and needs no line",
+    ]),
+    ({"d.wq": "queue_work a a"}, "plan d.wq", "refused 4 line 1", 2, [
+        "d.wq:1:1: `queue_work` isn't a directive [refused 4, `wqplan explain 4`]",
+        "    queue_work a a",
+        "    ^^^^^^^^^^ a call that queues doesn't wait, and needs no line",
+    ]),
+    ({"d.wq": "schedule_work a"}, "plan d.wq", "refused 4 line 1", 2, [
+        "d.wq:1:1: `schedule_work` isn't a directive [refused 4, `wqplan explain 4`]",
+        "    schedule_work a",
+        "    ^^^^^^^^^^^^^ a call that queues doesn't wait, and needs no line",
+    ]),
+    ({"d.wq": "cancels a a"}, "plan d.wq", "refused 4 line 1", 2, [
+        "d.wq:1:1: `cancels` isn't a directive [refused 4, `wqplan explain 4`]",
+        "    cancels a a",
+        "    ^^^^^^^ `cancel_work` doesn't wait, and needs no line: for `cancel_work_sync` write `flush`",
+    ]),
+    ({"d.wq": "item a / cancel_work a"}, "plan d.wq", "refused 4 line 2", 2, [
+        "d.wq:2:1: `cancel_work` isn't a directive [refused 4, `wqplan explain 4`]",
+        "    cancel_work a",
+        "    ^^^^^^^^^^^ `cancel_work` doesn't wait, and needs no line: for `cancel_work_sync` write `flush`",
     ]),
     # `>` in the place of `<`: the declaration was overwritten.
     ({"d.wq": "refused 8 line 2"}, "plan d.wq", "refused 4 line 1", 2, [

@@ -21,6 +21,7 @@ import certificates  # noqa: E402  (beside this file)
 import declarations  # noqa: E402
 import diagnoses  # noqa: E402  (in tests/model)
 import places  # noqa: E402
+import unlawful_runs  # noqa: E402
 from command_line import seed_and_counts  # noqa: E402
 from tables import text_of  # noqa: E402  (in the folder above)
 
@@ -32,16 +33,19 @@ TABLES = [
     ("first words of certificates", certificates.WORDS),
     ("ends of certificates", certificates.ENDS),
     ("forms of certificates", certificates.FORMS),
+    ("lines that aren't `wq` lines", certificates.STRAYS),
     ("numbers and workqueues", certificates.OTHERS),
     ("names of files", places.FILES),
     ("long lines", places.CUTS),
     ("limits", places.LIMITS),
     ("reasons for no", places.NOES),
     ("accepted texts", places.ACCEPTED),
+    ("steps that may not be made", unlawful_runs.STEPS),
+    ("places of steps", unlawful_runs.PLACES),
 ]
 
 # Of each of these tables the rows whose standard error is closed or full: of each command some.
-STREAMS = [places.FILES, places.LIMITS, places.NOES, places.ACCEPTED]
+STREAMS = [places.FILES, places.LIMITS, places.NOES, places.ACCEPTED, unlawful_runs.PLACES]
 
 
 class Row:

@@ -52,7 +52,9 @@ FILES = [
         "    ^^^^",
     ]),
     ({"d": AB}, "deadlock d d", "refused 41 line 0", 2, [
-        "d: `a`, `b` are on no workqueue [refused 41, `wqplan explain 41`]",
+        "d: `a`, `b` are on no workqueue: line 1 isn't a `wq` line [refused 41, `wqplan explain 41`]",
+        "    item a",
+        "    ^^^^ this looks like a declaration: are the files in the right order?",
     ]),
     ({"d": "item a / flush a"}, "run d", "refused 5 line 2", 2, [
         "d:2:8: a name is missing [refused 5, `wqplan explain 5`]",
@@ -97,7 +99,7 @@ FILES = [
     ({"d": AB, "p": b"\xef\xbb\xbfplan 2\r\n"}, "check d p", "refused 40 line 1", 2, [
         "p:1:1: expected `plan K`, found `???plan` [refused 40, `wqplan explain 40`]",
         "    ???plan 2",
-        "    ^^^^^^^",
+        "    ^^^^^^^ a byte order mark: save the file without it",
     ]),
     ({"d": AB, "p": b"plan 2\r\r\nwq 0 b\r\n"}, "check d p", "refused 40 line 1", 2, [
         "p:1:6: `2?` isn't a number [refused 40, `wqplan explain 40`]",
@@ -323,21 +325,55 @@ def drawn(title):
     ])
 
 
-# What isn't refused: nothing is said of it.
+# What isn't refused: nothing is said of it, but that there is no item.
 ACCEPTED = [
     ({"d.wq": AB}, "plan d.wq", "plan 2 / wq 0 b / wq 1 a / chain 2 / arc a b", 0, []),
     ({"<stdin>": AB}, "plan", "plan 2 / wq 0 b / wq 1 a / chain 2 / arc a b", 0, []),
-    ({"<stdin>": b""}, "plan", "plan 0 / chain 0", 0, []),
+    ({"<stdin>": b""}, "plan", "plan 0 / chain 0", 0, [
+        "<stdin>: note: no item is declared: is this the right file?",
+    ]),
+    ({"my\x1b\titems.wq": b"# item a\r\n\t\n"}, ["plan", "./my\x1b\titems.wq"], "plan 0 / chain 0", 0, [
+        "./my? items.wq: note: no item is declared: is this the right file?",
+    ]),
+    ({"d": "", "p": "plan 0 / chain 0"}, "check d p", "yes 0", 0, [
+        "d: note: no item is declared: is this the right file?",
+    ]),
+    ({"d": " / ", "a": "wq 0"}, "deadlock d a", "safe", 0, [
+        "d: note: no item is declared: is this the right file?",
+    ]),
+    ({"d": "# none", "a": ""}, "deadlock d a", "safe", 0, [
+        "d: note: no item is declared: is this the right file?",
+    ]),
+    ({"d": ""}, "circles d", "safe", 0, [
+        "d: note: no item is declared: is this the right file?",
+    ]),
+    ({"d": "", "a": ""}, "circles d a", "safe", 0, [
+        "d: note: no item is declared: is this the right file?",
+    ]),
+    ({"d": "", "a": "", "r": "run 0"}, "replay d a r", "open", 0, [
+        "d: note: no item is declared: is this the right file?",
+    ]),
+    ({"d": ""}, "run d", "workqueues 0 / faults 0", 0, [
+        "d: note: no item is declared: is this the right file?",
+    ]),
     ({"d.wq": "item a / flush a a"}, "plan d.wq", "circle 1 / arc a a / run 3 / queue a / start 0 a / wait 0 a", 1, []),
     ({"d": AB, "p": "plan 2 / wq 0 b / wq 1 a / chain 2 / arc a b"}, "check d p", "yes 2", 0, []),
     ({"d": AB, "a": WQS}, "deadlock d a", "safe", 0, []),
     ({"d": AB, "a": "wq 0 a b"}, "deadlock d a", "run 4 / queue a / queue b / start 0 a / wait 0 b", 1, []),
     ({"d": AB}, "circles d", "safe", 0, []),
     ({"d": AB, "a": "wq 0 a b"}, "circles d a", "components 1 / component 1 / arc a b", 1, []),
-    ({"d": ""}, "dot d", drawn("plan 0"), 0, []),
-    ({"d": "", "a": ""}, "dot d a", drawn("safe"), 0, []),
+    ({"d": ""}, "dot d", drawn("plan 0"), 0, [
+        "d: note: no item is declared: is this the right file?",
+    ]),
+    ({"d": "", "a": ""}, "dot d a", drawn("safe"), 0, [
+        "d: note: no item is declared: is this the right file?",
+    ]),
     ({"d": AB, "a": WQS, "r": "run 1 / queue a"}, "replay d a r", "open", 0, []),
-    ({"d": AB, "a": WQS, "r": "run 1 / start 1 a"}, "replay d a r", "not lawful 1", 1, []),
+    ({"d": AB, "a": WQS, "r": "run 1 / start 1 a"}, "replay d a r", "not lawful 1", 1, [
+        "r:2:9: nothing is pending on workqueue 1 [not lawful 1]",
+        "    start 1 a",
+        "            ^",
+    ]),
     ({"d": AB}, "run d", "workqueues 2 / item a wq 1 queued 1 cancelled 0 finished 1 / "
      "item b wq 0 queued 1 cancelled 0 finished 1 / faults 0", 0, []),
 ]

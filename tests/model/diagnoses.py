@@ -15,7 +15,6 @@
 # - of several faults of a line with 40, the one whose row stands first in the table is meant;
 # - the hint of 5 is the form of the line's own directive;
 # - FORM stands between backticks, but for `a step`, also where it is known which step;
-# - by (f) it is said `this looks like TEXT: are the files in the right order?`, as by (b), whatever kind of text it is;
 # - a line behind the `wq` lines of an assignment of these alone is where the text should have ended, and a line
 #   behind the arcs of a circle is where `run M` should be;
 # - NEAR is the item to which the fewest changes lead, one that differs in case alone before all others; in a
@@ -42,6 +41,7 @@ import plan  # noqa: E402
 import replay  # noqa: E402
 import run  # noqa: E402
 import time_limit  # noqa: E402  (in the folder above)
+import unlawful  # noqa: E402
 from command_line import seed_and_counts  # noqa: E402
 from declaration import (  # noqa: E402
     FEWEST_WORDS, LINE_BYTES, LINE_LIMIT, NAME_LIMIT, Refused, before_comment, is_name, read_declaration, split_lines,
@@ -76,6 +76,12 @@ BEFORE = 40
 DIRECTIVE_FORMS = {b"item": b"`item NAME`", b"ordered": b"`ordered NAME..`", b"flush": b"`flush NAME TARGET..`"}
 STEP = b"a step"
 COMMENTS = (b"//", b"/*", b"*", b";", b"%", b"--")
+CALLS = {
+    **dict.fromkeys([b"waits", b"wait_for", b"waits_for", b"flush_work", b"cancel_work_sync"], b"did you mean `flush`?"),
+    **dict.fromkeys([b"queues", b"queue_work", b"schedule_work"], b"a call that queues doesn't wait, and needs no line"),
+    **dict.fromkeys([b"cancels", b"cancel_work"],
+                    b"`cancel_work` doesn't wait, and needs no line: for `cancel_work_sync` write `flush`"),
+}
 KINDS = {
     **dict.fromkeys([b"item", b"flush", b"ordered"], b"a declaration"),
     **dict.fromkeys([b"plan", b"wq", b"chain"], b"a plan or an assignment"),
@@ -93,6 +99,7 @@ class Finding:
     first: int = None  # counted from 0; None where nothing is meant
     behind: int = None
     hint: bytes = b""
+    line: int = 0  # the number of the line where these bytes are, if it isn't that of the refusal
 
 
 # The words of a line -----------------------------------------------------------------------------
@@ -185,8 +192,10 @@ def comment_hint(word):
     return b"a comment begins with `#`" if word.startswith(COMMENTS) else b""
 
 
-def kind_hint(word):
+def kind_hint(word, form=None):
     """(f)"""
+    if word == b"wq" and form == b"`plan K`":
+        return b"this is an assignment: ask `deadlock`"
     return b"this looks like %s: are the files in the right order?" % KINDS[word] if word in KINDS else b""
 
 
@@ -203,10 +212,32 @@ def byte_hint(line, at):
     return b"only comments may have bytes beyond ASCII" if line[at] >= 0x80 else b"a control character"
 
 
-def directive_hint(word):
+def encoding_hint(word):
+    """(g) The first word of a line, with its place."""
+    if word.first == 0 and byte_hint(word.word, 0).endswith((b"save the file without it", b"save the file as ASCII")):
+        return byte_hint(word.word, 0)
+    return byte_hint(b"\0", 0) if b"\0" in word.word else b""
+
+
+def assignment_hint(word, is_first):
+    """(h) The first word of a line that isn't a `wq` line, with its place."""
+    alike = near(word.word, [b"wq", b"plan"] if is_first else [b"wq"])
+    ends_plan = word.word in (b"plan", b"chain", b"arc") and b"in a plan the line `plan K` comes first"
+    return (encoding_hint(word) or comment_hint(word.word) or ends_plan or kind_hint(word.word)
+            or (alike and b"did you mean `%s`?" % alike) or b"")
+
+
+def call_hint(word, is_among_directives):
+    """(i)"""
+    if word in (b"wait", b"queue", b"cancel"):
+        return call_hint(word + b"s", True) if is_among_directives else b""
+    return CALLS.get(word, b"")
+
+
+def directive_hint(word, is_among_directives):
     """(b)"""
     alike = near(word, list(FEWEST_WORDS))
-    return (comment_hint(word) or kind_hint(word) or (alike and b"did you mean `%s`?" % alike)
+    return (comment_hint(word) or call_hint(word, is_among_directives) or kind_hint(word) or (alike and b"did you mean `%s`?" % alike)
             or b"a line begins with `item`, `flush` or `ordered`")
 
 
@@ -284,7 +315,9 @@ def of_declaration(text, code, number):
         what = b"the byte 0x%02X is neither TAB nor printable ASCII" % line[at]
         return Finding(what, at, at + 1, byte_hint(line, at))
     if code == 4:
-        return about(words[0], b"`%s` isn't a directive" % words[0].word, directive_hint(words[0].word))
+        is_among_directives = any(split_words(line)[:1] and split_words(line)[0] in FEWEST_WORDS for line in lines)
+        hint = directive_hint(words[0].word, is_among_directives)
+        return about(words[0], b"`%s` isn't a directive" % words[0].word, hint)
     if code == 5:
         return behind_last(words, b"a name is missing", b"the line should be " + DIRECTIVE_FORMS[words[0].word])
     if code == 12:
@@ -360,24 +393,28 @@ def is_number(word):
     return True
 
 
-def number_hint(word):
+def number_hint(keyword, word):
     if word.isdigit() and word[:1] != b"0":
         return b"a number is at most 4,294,967,295"
+    if keyword == b"wq" and (word[:1].isalpha() or word[:1] == b"_"):
+        return b"workqueues have numbers: put a name into a comment"
     return b"a number has only digits, and no leading zero"
 
 
-def of_bad_line(declaration, words, form):
-    """40 of a line that isn't of the form."""
+def of_bad_line(declaration, words, form, is_assignment):
+    """40 of a line that isn't of the form. `is_assignment`: the text is one of only `wq` lines."""
     first = words[0]
     if form is None:
-        return about(first, b"the text should end before this line", comment_hint(first.word))
+        what = b"the text should end before this line"
+        hint = assignment_hint(first, False) if is_assignment else encoding_hint(first) or comment_hint(first.word)
+        return about(first, what, hint)
     fits = first.word in certificate.NAMES_WORKQUEUE if form == STEP else form[1:].startswith(first.word + b" ")
     if not fits:
-        hint = comment_hint(first.word) or kind_hint(first.word)
+        hint = encoding_hint(first) or comment_hint(first.word) or kind_hint(first.word, form)
         return about(first, b"expected %s, found `%s`" % (form, first.word), hint)
     least, most, has_number = shape_of(first.word)
     if has_number and len(words) > 1 and not is_number(words[1].word):
-        hint = number_hint(words[1].word)
+        hint = number_hint(first.word, words[1].word)
         return about(words[1], b"`%s` isn't a number" % words[1].word, hint)
     if len(words) < least:
         return behind_last(words, b"a word is missing", b"the line should be " + form)
@@ -386,7 +423,10 @@ def of_bad_line(declaration, words, form):
     names = words[2:] if has_number else words[1:]
     name = next(name for name in names if name.word not in declaration.group_of)
     alike = near(name.word, declaration.items)
-    return about(name, b"no item `%s` is declared" % name.word, b"did you mean `%s`?" % alike if alike else b"")
+    hint = b"did you mean `%s`?" % alike if alike else b""
+    if not alike and name.word.startswith((b"WQ_", b"__WQ_")):
+        hint = b"flags don't belong here: put them into a comment"
+    return about(name, b"no item `%s` is declared" % name.word, hint)
 
 
 def of_range(kind, words, at):
@@ -412,6 +452,13 @@ def of_nowhere(declaration, served):
         return Finding(named + b" is on no workqueue")
     more = b" and %d more" % (len(missing) - 3) if len(missing) > 3 else b""
     return Finding(named + more + b" are on no workqueue")
+
+
+def of_stray(found, number, words, is_first):
+    """The same where this line of an assignment isn't a `wq` line."""
+    hint = assignment_hint(words[0], is_first)
+    what = b"%s: line %d isn't a `wq` line" % (found.what, number)
+    return Finding(what, words[0].first, words[0].behind, hint, number)
 
 
 def of_place(declaration, code, words, served):
@@ -454,12 +501,15 @@ def of_certificate(kind, declaration, text, code, number):
         if form.startswith(b"`wq "):
             for name in lines[place][2:]:
                 served.setdefault(name, numbers[place])
+    is_assignment = kind == "assignment" and lines and lines[0][0] != b"plan"
     if number == 0:
-        return of_nowhere(declaration, served)
+        found = of_nowhere(declaration, served)
+        strays = [number for number, line in zip(numbers, lines) if is_assignment and line[0] != b"wq"]
+        return of_stray(found, strays[0], words_of(raw[strays[0] - 1]), strays[0] == numbers[0]) if strays else found
 
     words = words_of(raw[number - 1])
     if code == 40:
-        return of_bad_line(declaration, words, form_at(kind, lines, at))
+        return of_bad_line(declaration, words, form_at(kind, lines, at), is_assignment)
     if code == 43:
         is_plan = lines[0][0] == b"plan"
         return of_range("plan" if is_plan else kind, words, at - 1 if is_plan else at)
@@ -531,10 +581,12 @@ def diagnosis(file, kind, declaration, text, code, line):
 
 def printed_of(file, text, line, found, word, code):
     """The lines of a diagnosis of an answer, which is `refused` or `no`."""
-    place = file + (b":%d" % line if line else b"") + (b":%d" % (found.first + 1) if found.first is not None else b"")
+    place = file + (b":%d" % line if line else b"")
+    if line and found.first is not None:
+        place += b":%d" % (found.first + 1)
     lines = [b"%s: %s [%s %d, `wqplan explain %d`]" % (place, found.what, word, code, code)]
     if found.first is not None:
-        lines += [b"    " + part for part in excerpt(split_lines(text)[line - 1], found)]
+        lines += [b"    " + part for part in excerpt(split_lines(text)[(found.line or line) - 1], found)]
     return b"".join(shown(part) + b"\n" for part in lines)
 
 
@@ -545,10 +597,32 @@ def answer(command, files, texts):
     if printed.startswith(b"no "):
         line, found = of_no(texts[1], printed)
         return printed, status, printed_of(files[1], texts[1], line, found, b"no", int(printed.split()[1]))
+    if printed.startswith(b"not lawful "):
+        return printed, status, of_step(files[2], texts, int(printed.split()[2]))
     if status != 2:
-        return printed, status, b""
+        return printed, status, b"" if read_declaration(texts[0]).items else note(files[0])
     code, line = (int(word) for word in printed.split()[1::2])
     return printed, status, said(kinds, files, texts, code, line)
+
+
+def note(file):
+    """What is said beside the answer to a declaration without an item."""
+    return shown(file + b": note: no item is declared: is this the right file?") + b"\n"
+
+
+def of_step(file, texts, number):
+    """What is said of the step of this number, which may not be made."""
+    declared = read_declaration(texts[0])
+    assignment = certificate.read_assignment(texts[1], declared)
+    what = unlawful.reason(declared, assignment, certificate.read_run(texts[2], declared))
+    lines = [at for at, line in enumerate(split_lines(texts[2])) if split_words(before_comment(line))]
+    line = split_lines(texts[2])[lines[number]]
+    last = split_words(before_comment(line))[-1]
+    first = before_comment(line).rindex(last)
+    found = Finding(what, first, first + len(last))
+    place = b"%s:%d:%d" % (file, lines[number] + 1, first + 1)
+    parts = [b"%s: %s [not lawful %d]" % (place, what, number), *(b"    " + part for part in excerpt(line, found))]
+    return b"".join(shown(part) + b"\n" for part in parts)
 
 
 def said(kinds, files, texts, code, line):
@@ -577,7 +651,9 @@ MUST_COME = [3, 4, 5, 6, 7, 8, 11, 12, 40, 41, 42, 43]
 BYTES = b"\t\r\n\0 #,;.-_/!aZ09\x01\x7f\x80\xc3\xa4\xef\xff"
 OTHER_WORDS = [
     b"item", b"flush", b"ordered", b"plan", b"wq", b"chain", b"arc", b"circle", b"run", b"queue", b"cancel", b"start",
-    b"wait", b"over", b"finish", b"refused", b"Item", b"depends", b"//", b"/*", b"*", b";", b"%", b"--", b"a,", b"a;", b"-",
+    b"wait", b"over", b"finish", b"refused", b"Item", b"depends", b"waits", b"flush_work", b"queue_work", b"cancels",
+    b"WQ", b"Plan", b"WQ_UNBOUND", b"md", b"_", b"\xef\xbb\xbfwq", b"\xff\xfe", b"w\0q",
+    b"//", b"/*", b"*", b";", b"%", b"--", b"a,", b"a;", b"-",
     b"0", b"1", b"2", b"007", b"4095", b"4096", b"4097", b"4294967295", b"4294967296", b"n" * 63, b"n" * 64,
     b"n" * 70 + b",", b"x" * 130,
 ]

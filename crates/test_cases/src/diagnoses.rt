@@ -8,8 +8,8 @@ use crate::declarations::{PLAN_OF_TWO, TWO};
 use std::alloc::{AllocError, Allocator};
 use wq_commands::{Answered, Which, Why, check_texts};
 use wq_diagnosis::{
-    Kind, Source, of_answered_no, of_certificate, of_declaration, of_no, of_refused_certificate,
-    of_refused_declaration, of_too_many,
+    Kind, Source, of_answered_no, of_certificate, of_declaration, of_no, of_no_item,
+    of_refused_certificate, of_refused_declaration, of_too_many, of_unlawful, of_unread,
 };
 
 /// What is asked to say what is wrong.
@@ -25,10 +25,16 @@ pub enum Saying {
     OfRun,
     /// `of_no`.
     OfNo,
+    /// `of_no_item`.
+    OfNoItem,
     /// `of_too_many`.
     OfTooMany,
     /// `check_texts`, and of what it answers what the program asks for.
     OfCheck,
+    /// `of_unlawful` of a run, where both items are on one workqueue.
+    OfUnlawful,
+    /// `of_unread` of a file, whose name is the certificate.
+    OfUnread,
 }
 
 /// A declaration and a certificate, what is asked of them, and what is said; nothing where nothing is wrong.
@@ -53,6 +59,39 @@ d:3:12: no item `lgo` is declared above this line [refused 8, `wqplan explain 8`
 ",
     },
     Said {
+        name: "a wait that isn't spelled `flush`",
+        saying: Saying::OfDeclaration,
+        declaration: "item send\nitem log\nwait send log\n",
+        certificate: "",
+        said: "\
+d:3:1: `wait` isn't a directive [refused 4, `wqplan explain 4`]
+    wait send log
+    ^^^^ did you mean `flush`?
+",
+    },
+    Said {
+        name: "a call that queues",
+        saying: Saying::OfDeclaration,
+        declaration: "item send\nitem log\nqueue send log\n",
+        certificate: "",
+        said: "\
+d:3:1: `queue` isn't a directive [refused 4, `wqplan explain 4`]
+    queue send log
+    ^^^^^ a call that queues doesn't wait, and needs no line
+",
+    },
+    Said {
+        name: "a call that cancels",
+        saying: Saying::OfDeclaration,
+        declaration: "item send\ncancel send\n",
+        certificate: "",
+        said: "\
+d:2:1: `cancel` isn't a directive [refused 4, `wqplan explain 4`]
+    cancel send
+    ^^^^^^ `cancel_work` doesn't wait, and needs no line: for `cancel_work_sync` write `flush`
+",
+    },
+    Said {
         name: "nothing wrong with a declaration",
         saying: Saying::OfDeclaration,
         declaration: TWO,
@@ -68,6 +107,83 @@ d:3:12: no item `lgo` is declared above this line [refused 8, `wqplan explain 8`
 c:1:1: expected `plan K`, found `plans` [refused 40, `wqplan explain 40`]
     plans 2
     ^^^^^
+",
+    },
+    Said {
+        name: "an assignment that isn't an answer",
+        saying: Saying::OfAnswer,
+        declaration: TWO,
+        certificate: "wq 0 b\nwq 1 a\n",
+        said: "\
+c:1:1: expected `plan K`, found `wq` [refused 40, `wqplan explain 40`]
+    wq 0 b
+    ^^ this is an assignment: ask `deadlock`
+",
+    },
+    Said {
+        name: "an assignment that begins with a byte order mark",
+        saying: Saying::OfAssignment,
+        declaration: TWO,
+        certificate: "\u{FEFF}wq 0 b\nwq 1 a\n",
+        said: "\
+c: `a`, `b` are on no workqueue: line 1 isn't a `wq` line [refused 41, `wqplan explain 41`]
+    ???wq 0 b
+    ^^^^^ a byte order mark: save the file without it
+",
+    },
+    Said {
+        name: "a line that is like a `wq` line",
+        saying: Saying::OfAssignment,
+        declaration: TWO,
+        certificate: "wq 0 b\nwp 1 a\n",
+        said: "\
+c: `a` is on no workqueue: line 2 isn't a `wq` line [refused 41, `wqplan explain 41`]
+    wp 1 a
+    ^^ did you mean `wq`?
+",
+    },
+    Said {
+        name: "a declaration that isn't an assignment",
+        saying: Saying::OfAssignment,
+        declaration: TWO,
+        certificate: TWO,
+        said: "\
+c: `a`, `b` are on no workqueue: line 1 isn't a `wq` line [refused 41, `wqplan explain 41`]
+    item a
+    ^^^^ this looks like a declaration: are the files in the right order?
+",
+    },
+    Said {
+        name: "a plan without its first line",
+        saying: Saying::OfAssignment,
+        declaration: TWO,
+        certificate: "wq 0 b\nwq 1 a\nchain 2\narc a b\n",
+        said: "\
+c:3:1: the text should end before this line [refused 40, `wqplan explain 40`]
+    chain 2
+    ^^^^^ in a plan the line `plan K` comes first
+",
+    },
+    Said {
+        name: "a workqueue with a name",
+        saying: Saying::OfAssignment,
+        declaration: TWO,
+        certificate: "wq md a b\n",
+        said: "\
+c:1:4: `md` isn't a number [refused 40, `wqplan explain 40`]
+    wq md a b
+       ^^ workqueues have numbers: put a name into a comment
+",
+    },
+    Said {
+        name: "a flag among the items",
+        saying: Saying::OfAssignment,
+        declaration: TWO,
+        certificate: "wq 0 WQ_MEM_RECLAIM a b\n",
+        said: "\
+c:1:6: no item `WQ_MEM_RECLAIM` is declared [refused 40, `wqplan explain 40`]
+    wq 0 WQ_MEM_RECLAIM a b
+         ^^^^^^^^^^^^^^ flags don't belong here: put them into a comment
 ",
     },
     Said {
@@ -104,6 +220,20 @@ c:2:6: `a` flushes `b`, so it should be on a higher workqueue [no 50, `wqplan ex
         saying: Saying::OfNo,
         declaration: TWO,
         certificate: PLAN_OF_TWO,
+        said: "",
+    },
+    Said {
+        name: "no item",
+        saying: Saying::OfNoItem,
+        declaration: "# none\n",
+        certificate: "",
+        said: "d: note: no item is declared: is this the right file?\n",
+    },
+    Said {
+        name: "items",
+        saying: Saying::OfNoItem,
+        declaration: TWO,
+        certificate: "",
         said: "",
     },
     Said {
@@ -153,6 +283,49 @@ c:2:6: `a` flushes `b`, so it should be on a higher workqueue [no 50, `wqplan ex
         certificate: PLAN_OF_TWO,
         said: "",
     },
+    Said {
+        name: "an item that isn't the first",
+        saying: Saying::OfUnlawful,
+        declaration: "item send\nitem log\nflush send log\n",
+        certificate: "run 3\nqueue send\nqueue log\nstart 0 log\n",
+        said: "\
+c:4:9: `log` isn't the first entry of workqueue 0, which is `send` [not lawful 3]
+    start 0 log
+            ^^^
+",
+    },
+    Said {
+        name: "a wait of what doesn't flush",
+        saying: Saying::OfUnlawful,
+        declaration: "item send\nitem log\nflush send log\n",
+        certificate: "run 3\nqueue log\nstart 0 log\nwait 0 send\n",
+        said: "\
+c:4:8: `log`, which runs on workqueue 0, declares no flush of `send` [not lawful 3]
+    wait 0 send
+           ^^^^
+",
+    },
+    Said {
+        name: "a run that may be made",
+        saying: Saying::OfUnlawful,
+        declaration: "item send\nitem log\nflush send log\n",
+        certificate: "run 1\nqueue send\n",
+        said: "",
+    },
+    Said {
+        name: "a run that is refused",
+        saying: Saying::OfUnlawful,
+        declaration: "item send\nitem log\nflush send log\n",
+        certificate: "run 1\nqueue sent\n",
+        said: "",
+    },
+    Said {
+        name: "a file that isn't there",
+        saying: Saying::OfUnread,
+        declaration: "",
+        certificate: "two\twords\x07.wq",
+        said: "wqplan: two words?.wq: no such file\n",
+    },
 ];
 
 /// The cases of what is said.
@@ -169,8 +342,11 @@ impl Saying {
             Saying::OfAssignment => "of an assignment",
             Saying::OfRun => "of a run",
             Saying::OfNo => "of a no",
+            Saying::OfNoItem => "of no item",
             Saying::OfTooMany => "of too many workqueues",
             Saying::OfCheck => "of an answer of check",
+            Saying::OfUnlawful => "of a step that isn't lawful",
+            Saying::OfUnread => "of a file that can't be read",
         }
     }
 }
@@ -213,7 +389,13 @@ pub fn say<A: Allocator + Copy>(alloc: A, case: &Said) -> Result<Option<Vec<u8, 
         Saying::OfAssignment => of_certificate(alloc, SEED, Kind::Assignment, text, certificate),
         Saying::OfRun => of_certificate(alloc, SEED, Kind::Run, text, certificate),
         Saying::OfNo => of_no(alloc, SEED, text, certificate),
+        Saying::OfNoItem => of_no_item(alloc, SEED, declaration),
         Saying::OfTooMany => Ok(Some(of_too_many(alloc, declaration)?)),
         Saying::OfCheck => say_of_check(alloc, declaration, certificate),
+        Saying::OfUnlawful => of_unlawful(alloc, SEED, text, b"wq 0 send log\n", certificate),
+        Saying::OfUnread => {
+            let file = case.certificate;
+            Ok(Some(of_unread(alloc, file, "no such file")?))
+        }
     }
 }

@@ -1,5 +1,5 @@
 -- Which refusal or which `no` a diagnosis is about.
-use Rattle.std.specs.Prelude.{◌≡◌, ℕ, List, Option, Some, None, Result, Ok, Err, MatchResult, codes}
+use Rattle.std.specs.Prelude.{◌≡◌, ℕ, List, [], ◌∷◌, ◌++◌, Option, Some, None, Result, Ok, Err, MatchResult, codes, length}
 use Rattle.wq_text.specs.Refusal.{Refusal}
 use Rattle.wq_cert.specs.declared.fault.CertError.{CertError}
 use Rattle.wq_cert.specs.declared.fault.CertError.TheVariants.{OutOfMemory}
@@ -13,7 +13,7 @@ use Rattle.wq_commands.specs.Answer.{declared_waits}
 use Rattle.wq_commands.specs.Declaration.{Declared, declaration}
 use Rattle.wq_findings.specs.declared.stage.Kind.{Kind}
 use Rattle.wq_findings.specs.declared.stage.Kind.TheVariants.{Answer, Assignment, Run}
-use Rattle.wq_diagnosis.specs.Diagnosis.{IsDiagnosis}
+use Rattle.wq_diagnosis.specs.Diagnosis.{IsDiagnosis, shown_lines}
 
 -- what a text is refused for, if this is what reading it gave
 abbrev pub refusal_of : {T E : Type 0} → (E → Refusal) → Result T E → Option Refusal
@@ -67,6 +67,19 @@ SaysNo file (Some why) said = (text : List ℕ) × (line : ℕ) × (said ≡ Som
 -- the same for two texts; nothing if the declaration is refused
 abbrev pub DiagnosesNo : List ℕ → List ℕ → List ℕ → Option (List ℕ) → Type 0
 DiagnosesNo file declared text said = MatchResult (declaration declared) (λ s. (why : Option No) × IsNoTo s text why × SaysNo file why said) (λ r. said ≡ None)
+
+-- a declaration without an item
+abbrev pub HasNoItem : List ℕ → Type 0
+HasNoItem text = MatchResult (declaration text) (λ s. length s.table.names ≡ 0) (λ _. ⊥)
+
+-- the line that is said beside the answer to a declaration without an item
+abbrev pub no_item_note : List ℕ → List ℕ
+no_item_note file = shown_lines ((file ++ codes ": note: no item is declared: is this the right file?") ∷ [])
+
+-- what is said beside the answer to a text: nothing, or, where it is a declaration without an item, this line
+abbrev pub NotesNoItem : List ℕ → List ℕ → Option (List ℕ) → Type 0
+NotesNoItem file text None = Unit {0}
+NotesNoItem file text (Some said) = (said ≡ no_item_note file) × HasNoItem text
 
 -- what is said of a certificate whose declaration is one; nothing is said if the declaration is refused
 abbrev pub SaysIfDeclared : List ℕ → (Option (List ℕ) → Type 0) → Option (List ℕ) → Type 0

@@ -3,20 +3,20 @@
 //! The form is that of "Diagnoses" in docs/FORMAT.md. A call that is told the refusal, or what a certificate lacks, takes the time and
 //! the memory of reading the declaration and of searching the text for the fault. The others read the texts first to learn it.
 
-ghost use Rattle.std.specs.Prelude.{◌≡◌, ◌++◌, ◌∷◌, [], ◌<◌, codes, length, map, option_map, ℕ, IfOk, OnOk, Option, Some};
+ghost use Rattle.std.specs.Prelude.{◌≡◌, ◌++◌, ◌∷◌, [], ◌<◌, codes, length, map, option_map, ℕ, IfOk, OnOk, Option, Some, IsTrue};
 ghost use Rattle.wq_findings.specs.Shown.{place_text, shown};
 ghost use Rattle.wq_diagnosis.specs.Diagnosis.{head, shown_lines, IsDiagnosis};
 ghost use Rattle.wq_checker.specs.Codes.{no_code};
 ghost use Rattle.wq_checker.specs.declared.answer.No.{No};
-ghost use Rattle.wq_diagnosis.specs.Refused.{Diagnoses, DiagnosesNo, IsFaultOfCertificate, IsNoTo, SaysIfDeclared, SaysNo, certificate_refusal, declaration_refusal, refusal_with};
+ghost use Rattle.wq_diagnosis.specs.Refused.{no_item_note, Diagnoses, DiagnosesNo, HasNoItem, IsFaultOfCertificate, IsNoTo, NotesNoItem, SaysIfDeclared, SaysNo, certificate_refusal, declaration_refusal, refusal_with};
 
 use std::alloc::{AllocError, Allocator};
 use wq_cert::{CertError, read_answer, read_assignment, read_run};
 use wq_checker::{No, check_answer};
 use wq_commands::{Declaration, Stop, read_declaration};
 use wq_findings::{
-    Excerpt, Finding, Kind, Lack, Mark, Marks, What, in_answer, in_certificate, in_declaration,
-    line_at, put_place, shown,
+    Excerpt, Finding, Kind, Lack, Mark, Marks, What, has_words, in_answer, in_certificate,
+    in_declaration, line_at, put_place, shown,
 };
 use wq_lines::put;
 use wq_text::{Line, Text};
@@ -81,7 +81,7 @@ fn shown_bytes<A: Allocator + Copy>(alloc: A, bytes: &[u8]) -> Result<Vec<u8, A>
 }
 
 /// Adds a line as it is shown.
-fn put_line<A: Allocator + Copy>(
+pub(crate) fn put_line<A: Allocator + Copy>(
     alloc: A,
     out: &mut Vec<u8, A>,
     line: &[u8],
@@ -175,7 +175,7 @@ fn details<A: Allocator + Copy>(
 }
 
 /// Adds lines as they are shown.
-fn put_lines<A: Allocator + Copy>(
+pub(crate) fn put_lines<A: Allocator + Copy>(
     alloc: A,
     out: &mut Vec<u8, A>,
     lines: &[Vec<u8, A>],
@@ -257,7 +257,7 @@ fn diagnosis<A: Allocator + Copy>(
 }
 
 /// The lines of a text, however long they are. A text of more than 4,294,967,295 bytes, which no command reads, has none.
-fn lines_of(text: &[u8]) -> Text<'_> {
+pub(crate) fn lines_of(text: &[u8]) -> Text<'_> {
     match Text::new(text, u32::MAX, u32::MAX) {
         Ok(text) => text,
         Err(_) => no_text(),
@@ -459,6 +459,54 @@ pub fn of_too_many<A: Allocator + Copy>(
         Refusal::new(TOO_MANY, 0),
         Finding::whole(what),
     )
+}
+
+/// The line that is said of a declaration without an item.
+fn no_item_note<A: Allocator + Copy>(alloc: A, file: &str) -> Result<Vec<u8, A>, AllocError>
+    ensures { IfOk result (λ said. said.items ≡ no_item_note file.now) }
+{
+    let mut line = Vec::new(alloc);
+    put(&mut line, file.as_bytes())?;
+    put(
+        &mut line,
+        b": note: no item is declared: is this the right file?",
+    )?;
+    let mut out = Vec::new(alloc);
+    put_line(alloc, &mut out, &line)?;
+    Ok(out)
+}
+
+/// Whether a text is a declaration without an item. A text with a word isn't read.
+fn has_no_item<A: Allocator + Copy>(alloc: A, seed: u64, text: &[u8]) -> Result<bool, AllocError>
+    ensures { IfOk result (λ found. IsTrue found → HasNoItem text.now) }
+{
+    if has_words(&lines_of(text)) {
+        return Ok(false);
+    }
+    match read_declaration(alloc, seed, text) {
+        Ok(declared) => Ok(declared.table.is_empty()),
+        Err(Stop::Refused { .. }) => Ok(false),
+        Err(Stop::OutOfMemory) => Err(AllocError),
+    }
+}
+
+/// Says that a declaration has no item; nothing where it has one, or is refused.
+///
+/// The only error is out of memory (20). Where a line has a word, it takes the time up to the first such line, and no memory.
+///
+/// The names are hashed with `seed`. No answer depends on it.
+pub fn of_no_item<A: Allocator + Copy>(
+    alloc: A,
+    seed: u64,
+    declaration: Source<'_>,
+) -> Result<Option<Vec<u8, A>>, AllocError>
+    ensures { IfOk result (λ said. NotesNoItem declaration.entry.file.now declaration.entry.text.now (option_map (λ text. text.items) said)) }
+{
+    if !has_no_item(alloc, seed, declaration.text)? {
+        return Ok(None);
+    }
+    let said = no_item_note(alloc, declaration.file)?;
+    Ok(Some(said))
 }
 
 /// The `no` that the checker answers to a certificate; none where the certificate is refused, or the answer is yes.

@@ -1,15 +1,22 @@
-//! Diagnoses: what standard error says of a text that is refused, in addition to the refusal.
+//! Diagnoses: what standard error says of a text that is refused, in addition to the refusal; of a run with a step that isn't lawful;
+//! and of a file that can't be read.
 //!
 //! What the program relies on: a diagnosis begins with the file and the line of the refusal, has the number of the refusal on its
-//! first line, and is printable ASCII and line feeds, whatever the text holds. wq_findings decides which word is meant, and what
-//! was most likely meant. The form is that of "Diagnoses" in docs/FORMAT.md. Each call takes time in the length of the texts and,
+//! first line, and is printable ASCII and line feeds, whatever the text holds; the reason why a step isn't lawful holds in the state.
+//! wq_findings decides which word is meant, and what was most likely meant. The form is that of "Diagnoses" in docs/FORMAT.md. Each call takes time in the length of the texts and,
 //! where a name is unknown, in the names of the declaration times the length of one.
 #![tactic(auto)]
 
 mod diagnosis;
+mod replayed;
+mod unlawful;
+mod unread;
 
 pub use diagnosis::{
-    Source, of_answered_no, of_certificate, of_declaration, of_no, of_refused_certificate,
-    of_refused_declaration, of_too_many,
+    Source, of_answered_no, of_certificate, of_declaration, of_no, of_no_item,
+    of_refused_certificate, of_refused_declaration, of_too_many,
 };
+pub use replayed::of_unlawful;
+pub use unlawful::{Unlawful, reason_of};
+pub use unread::of_unread;
 pub use wq_findings::Kind;

@@ -1,12 +1,13 @@
 -- What is printed for a word: the explanation that it names, or the list of all.
 use Rattle.std.specs.Prelude.{◌==◌, ◌++◌, ◌^◌, ◌&&◌, ℕ, Bool, false, List, [], ◌∷◌, Option, Some, None, codes, cond, find, flat_map, length, map, nat_lt}
 use Rattle.std.specs.Borrow.{Bor}
-use Rattle.std.specs.Char.{digit_value}
+use Rattle.std.specs.Char.{digit_value, to_ascii_lowercase}
 use Rattle.std.specs.List.{list_all}
 use Rattle.std.specs.Str.{bytes_eq}
 use Rattle.std.specs.Str.Parse.{digits_value, without_leading_plus}
 use Rattle.wq_explain.specs.declared.explain.Explained.{Explained}
 use Rattle.wq_explain.specs.declared.explain.Explained.TheVariants.{Known, Unknown}
+use Rattle.wq_explain.specs.declared.answers.TheConstants.{ANSWERS}
 use Rattle.wq_explain.specs.declared.table.TheConstants.{EXPLANATIONS}
 
 -- the numbers that have an explanation: those of a refused declaration, of a refused certificate, of a `no`, and of a plan that
@@ -14,17 +15,21 @@ use Rattle.wq_explain.specs.declared.table.TheConstants.{EXPLANATIONS}
 abbrev pub numbers : List ℕ
 numbers = 1 ∷ 2 ∷ 3 ∷ 4 ∷ 5 ∷ 6 ∷ 7 ∷ 8 ∷ 9 ∷ 10 ∷ 11 ∷ 12 ∷ 40 ∷ 41 ∷ 42 ∷ 43 ∷ 50 ∷ 51 ∷ 52 ∷ 53 ∷ 54 ∷ 69 ∷ []
 
--- the names that have an explanation: those of the numbers, in their order, and those of the faults
+-- the names that have an explanation: those of the numbers, in their order, those of the faults, and the words with which lines
+-- of answers begin
 abbrev pub names : List (List ℕ)
 names =
     codes "TextTooLong" ∷ codes "LineTooLong" ∷ codes "BadByte" ∷ codes "UnknownWord" ∷ codes "MissingName" ∷ codes "BadName"
     ∷ codes "ItemTwice" ∷ codes "UnknownItem" ∷ codes "TooManyItems" ∷ codes "TooManyFlushes" ∷ codes "GroupedTwice"
     ∷ codes "ExtraWord" ∷ codes "BadCertLine" ∷ codes "NotAllItems" ∷ codes "GroupSplit" ∷ codes "NumberOutOfRange"
     ∷ codes "NotFalling" ∷ codes "ChainBroken" ∷ codes "LengthDiffers" ∷ codes "CircleBroken" ∷ codes "RunBroken"
-    ∷ codes "TooManyLanes" ∷ codes "read" ∷ codes "memory" ∷ codes "thread" ∷ codes "tally" ∷ codes "write" ∷ []
+    ∷ codes "TooManyLanes" ∷ codes "read" ∷ codes "memory" ∷ codes "thread" ∷ codes "tally" ∷ codes "write"
+    ∷ codes "plan" ∷ codes "wq" ∷ codes "chain" ∷ codes "arc" ∷ codes "circle" ∷ codes "run" ∷ codes "yes" ∷ codes "no"
+    ∷ codes "not lawful" ∷ codes "deadlock" ∷ codes "stuck" ∷ codes "open" ∷ codes "safe" ∷ codes "components"
+    ∷ codes "workqueues" ∷ codes "refused" ∷ codes "fault" ∷ []
 
--- a row of the table: the number that it explains, unless it is a fault; the name of the number or of the fault; its line in a
--- list; and what it means
+-- a row of the table: the number that it explains, if it explains one; the name of the number or of the fault, or the word of an
+-- answer; its line in a list; and what it means
 pub record Row : Type 0 where
   pub code : Option ℕ
   pub name : List ℕ
@@ -35,9 +40,17 @@ pub record Row : Type 0 where
 abbrev pub row_of : Option ℕ × Bor (List ℕ) × Bor (List ℕ) × Bor (List ℕ) → Row
 row_of row = record { code = row.0; name = row.1.now; title = row.2.now; meaning = row.3.now }
 
+-- the rows of the numbers and of the faults
+abbrev pub numbers_and_faults : List Row
+numbers_and_faults = map (λ row. record { code = row.0; name = row.1.now; title = row.2.now; meaning = row.3.now }) EXPLANATIONS
+
+-- the rows of the words of answers
+abbrev pub words_of_answers : List Row
+words_of_answers = map (λ row. record { code = row.0; name = row.1.now; title = row.2.now; meaning = row.3.now }) ANSWERS
+
 -- the table
 abbrev pub explanations : List Row
-explanations = map (λ row. record { code = row.0; name = row.1.now; title = row.2.now; meaning = row.3.now }) EXPLANATIONS
+explanations = numbers_and_faults ++ words_of_answers
 
 -- an explanation as it is printed: its title, an empty line, and what it means
 abbrev pub explanation_text : Row → List ℕ
@@ -60,9 +73,13 @@ numbered None code = false
 abbrev pub with_number : List Row → ℕ → Option Row
 with_number rows code = find (λ row. numbered row.code code) rows
 
+-- whether the two are the same name: upper and lower case don't differ
+abbrev pub same_name : List ℕ → List ℕ → Bool
+same_name name other = bytes_eq (map to_ascii_lowercase name) (map to_ascii_lowercase other)
+
 -- the explanation with this name
 abbrev pub with_name : List Row → List ℕ → Option Row
-with_name rows name = find (λ row. bytes_eq row.name name) rows
+with_name rows name = find (λ row. same_name row.name name) rows
 
 -- whether there is at least one digit, and nothing else
 abbrev pub is_numeral : List ℕ → Bool

@@ -4,9 +4,10 @@
 //! nothing is read. It takes time and memory in the length of the text.
 
 ghost use Rattle.std.specs.Prelude.{◌≡◌, ◌≢◌, ◌++◌, Err, IfOk, map, option_map};
-ghost use Rattle.wq_explain.specs.Explaining.{end_in, explained_end, explained_text, explanation_in, explanation_text, number_in, row_of, text_in, text_or_titles, titles, unknown_text, known_or_not};
+ghost use Rattle.wq_explain.specs.Explaining.{end_in, explained_end, explained_text, explanation_in, explanation_text, explanations, known_or_not, number_in, numbers_and_faults, row_of, text_in, text_or_titles, titles, unknown_text, words_of_answers};
 ghost use Rattle.wq_meter.specs.Meter.{count_after, WritesPrefix, WritesWhole};
 
+use crate::answers::ANSWERS;
 use crate::table::{EXPLANATIONS, Explanation, with_name, with_number};
 use std::alloc::{AllocError, Allocator};
 use std::io::Write;
@@ -118,7 +119,8 @@ fn explain<A: Allocator + Copy>(
     }
 }
 
-/// Writes the explanation that a word names, by its number or its name. Without a word it writes the list of all explanations.
+/// Writes the explanation that a word names, by its number or its name; upper and lower case don't differ. Without a word it writes
+/// the list of all explanations.
 /// For a word without an explanation it writes that list below a line that says so.
 ///
 /// The errors are `Fault::Memory`, where memory ran out, and `Fault::Write`, where a write failed or took no byte. After
@@ -146,6 +148,30 @@ pub fn explain_cmd<W: Write, A: Allocator + Copy>(
     Ok(end)
 }
 
+/// The explanations of the numbers and of the faults.
+fn numbers_and_faults() -> &'static [Explanation]
+    ensures { map row_of result.now ≡ numbers_and_faults }
+{
+    &EXPLANATIONS
+}
+
+/// The explanations of the words of answers.
+fn words_of_answers() -> &'static [Explanation]
+    ensures { map row_of result.now ≡ words_of_answers }
+{
+    &ANSWERS
+}
+
+/// All explanations.
+fn all_rows<A: Allocator + Copy>(alloc: A) -> Result<Vec<Explanation, A>, AllocError>
+    ensures { IfOk result (λ rows. map row_of rows.items ≡ explanations) }
+{
+    let mut rows = Vec::new(alloc);
+    rows.extend_from_slice(numbers_and_faults())?;
+    rows.extend_from_slice(words_of_answers())?;
+    Ok(rows)
+}
+
 /// What is printed for a word, or without a word, and whether there is an explanation for it.
 fn explain_known<A: Allocator + Copy>(
     alloc: A,
@@ -154,5 +180,6 @@ fn explain_known<A: Allocator + Copy>(
     ensures known { IfOk result (λ printed. printed.0 ≡ explained_end (option_map (λ s. s.now) word.entry)) }
     ensures text { IfOk result (λ printed. printed.1.items ≡ explained_text (option_map (λ s. s.now) word.entry)) }
 {
-    explain(alloc, &EXPLANATIONS, word)
+    let rows = all_rows(alloc)?;
+    explain(alloc, &rows, word)
 }

@@ -1,15 +1,15 @@
 //! The explanations: one for each number that the program prints in a refusal or in a `no`, and one for each fault.
+//! Those of the words of answers are in `answers.rt`.
 //!
 //! docs/FORMAT.md has the rules. tests/explain.sh runs each example. A search takes time in the number of rows and the length of
 //! the word.
 
 ghost use Rattle.std.specs.Prelude.{◌≡◌, find, option_map};
-ghost use Rattle.std.specs.Str.{bytes_eq};
-ghost use Rattle.wq_explain.specs.Explaining.{numbered};
+ghost use Rattle.wq_explain.specs.Explaining.{numbered, same_name};
 
-/// An explanation: the number that the program prints, or none for a fault; its name, or that of the fault; its line in a list;
-/// and what it means. This last part says what was found, in which section of docs/FORMAT.md the rule is, shell commands, the
-/// last of which is answered like this, and how to mend it.
+/// An explanation: the number that the program prints, or none for a fault or a word of an answer; its name, or that of the fault, or
+/// the word; its line in a list; and what it means. This last part says what was found, in which section of docs/FORMAT.md the rule
+/// is, shell commands, the last of which is answered like this, and how to mend it or what to do.
 pub type Explanation = (Option<u32>, &'static str, &'static str, &'static str);
 
 const TEXT_TOO_LONG: Explanation = (
@@ -466,8 +466,8 @@ const READ: Explanation = (
     "read fault\n",
     "\
 `fault read`, with status 3: a file couldn't be opened, a read of it or of
-standard input failed, or the system gave no random number. Nothing was printed
-to standard output.
+standard input failed, or the system gave no random number. The line before it
+names the file and says why. Nothing was printed to standard output.
 
 The rule: docs/FORMAT.md, \"Faults and exit statuses\"
 
@@ -561,7 +561,7 @@ reader of a pipe stays until the end; then give the command again.
 ",
 );
 
-/// All explanations: those of the numbers, in their order, and those of the faults.
+/// The explanations of the numbers, in their order, and those of the faults.
 pub static EXPLANATIONS: [Explanation; 27] = [
     TEXT_TOO_LONG,
     LINE_TOO_LONG,
@@ -609,9 +609,16 @@ pub(crate) fn with_number(rows: &[Explanation], code: u32) -> Option<&Explanatio
     rows.iter().find(|row| is_numbered(row, code))
 }
 
-/// The first of these explanations with this name, if there is one.
-pub(crate) fn with_name<'a>(rows: &'a [Explanation], name: &str) -> Option<&'a Explanation>
-    ensures { option_map (λ row. row.now) result ≡ find (λ row. bytes_eq row.1.now name.now) rows.now }
+/// Whether the two are the same name: upper and lower case don't differ.
+fn is_same_name(name: &str, other: &str) -> bool
+    ensures { result ≡ same_name name.now other.now }
 {
-    rows.iter().find(|row| row.1 == name)
+    name.eq_ignore_ascii_case(other)
+}
+
+/// The first of these explanations with this name, if there is one. Upper and lower case don't differ.
+pub(crate) fn with_name<'a>(rows: &'a [Explanation], name: &str) -> Option<&'a Explanation>
+    ensures { option_map (λ row. row.now) result ≡ find (λ row. same_name row.1.now name.now) rows.now }
+{
+    rows.iter().find(|row| is_same_name(row.1, name))
 }

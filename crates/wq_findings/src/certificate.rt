@@ -6,14 +6,14 @@
 ghost use Rattle.std.specs.Prelude.{◌≡◌, length};
 
 use crate::finding::Finding;
-use crate::guess::{comment_hint, text_with};
+use crate::guess::{first_like, foreign_hint, text_with};
 use crate::hint::Hint;
 use crate::names::nearest;
 use crate::placed::{find_split, find_twice, find_unplaced};
 use crate::quoted::Quoted;
-use crate::stage::{Kind, Shape, Stage, line_and_stage};
+use crate::stage::{Kind, Shape, Stage, line_and_stage, stray_line};
 use crate::token::{Mark, Token, bytes_at, first_mark, word_at};
-use crate::what::What;
+use crate::what::{Unplaced, What};
 use std::alloc::{AllocError, Allocator};
 use wq_groups::Groups;
 use wq_items::ItemTable;
@@ -45,49 +45,53 @@ pub fn in_certificate<'a, A: Allocator + Copy>(
     requires { length groups.now.group_of ≡ length table.now.names }
 {
     let (line, stage) = line_and_stage(kind, text, no);
-    let finding = on_line_or_end(
-        alloc,
-        kind,
-        declaration,
-        table,
-        groups,
-        text,
-        &line,
-        stage,
-        code,
-    )?;
-    Ok((line, finding))
+    match line {
+        Some(line) => {
+            let finding = on_line(
+                alloc,
+                kind,
+                declaration,
+                table,
+                groups,
+                text,
+                &line,
+                stage,
+                code,
+            )?;
+            Ok((Some(line), finding))
+        }
+        None if code == 41 => unplaced(alloc, kind, table, text),
+        None => Ok((None, cut_short(text, stage))),
+    }
 }
 
-/// What is wrong on this line or, where there is none, at the end of the text.
-fn on_line_or_end<'a, A: Allocator + Copy>(
+/// Which items are on no workqueue, and the line that isn't a `wq` line and so ends these, if there is one.
+fn unplaced<'a, A: Allocator + Copy>(
     alloc: A,
     kind: Kind,
-    declaration: &Text<'a>,
     table: &ItemTable<'a, A>,
-    groups: &Groups<A>,
     text: &Text<'a>,
-    line: &Option<Line<'a>>,
-    stage: Stage,
-    code: u32,
-) -> Result<Finding<'a>, AllocError>
-    requires { length groups.now.group_of ≡ length table.now.names }
-{
-    match line {
-        Some(line) => on_line(
-            alloc,
-            kind,
-            declaration,
-            table,
-            groups,
-            text,
-            line,
-            stage,
-            code,
-        ),
-        None if code == 41 => find_unplaced(alloc, kind, table, text),
-        None => Ok(cut_short(text, stage)),
+) -> Result<(Option<Line<'a>>, Finding<'a>), AllocError> {
+    let items = find_unplaced(alloc, kind, table, text)?;
+    match stray_line(kind, text) {
+        Some((line, stage)) => {
+            let finding = cut_off(alloc, items, &line, stage)?;
+            Ok((Some(line), finding))
+        }
+        None => Ok((None, Finding::whole(What::OnNoWorkqueue(items)))),
     }
+}
+
+/// Finds that items are on no workqueue since this line, which isn't a `wq` line, ends these.
+fn cut_off<'a, A: Allocator + Copy>(
+    alloc: A,
+    items: Unplaced<'a>,
+    line: &Line<'a>,
+    stage: Stage,
+) -> Result<Finding<'a>, AllocError> {
+    let hint = other_hint(alloc, line, stage)?;
+    let what = What::CutOff(items, line.no());
+    Ok(Finding::marked(first_mark(line), what, hint))
 }
 
 /// What is wrong on this line of a certificate that is refused with this number for it.
@@ -160,31 +164,87 @@ fn wrong_line<'a, A: Allocator + Copy>(
     if line.bytes().len() > MAX_LINE {
         Ok(Finding::too_long(line, MAX_LINE, "the line has more than 524,288 bytes"))
     } else if !stage.may_begin_with(word) {
-        Ok(other_line(line, stage))
+        other_line(alloc, line, stage)
     } else {
         wrong_words(alloc, declaration, table, line, stage, stage.shape(word))
     }
 }
 
 /// A line with another first word, or after the last line of the text.
-fn other_line<'a>(line: &Line<'a>, stage: Stage) -> Finding<'a> {
-    let word = bytes_at(line, 0);
-    if stage.may_end() {
-        let what = What::Said("the text should end before this line");
-        return Finding::marked(first_mark(line), what, comment_hint(word));
-    }
-    let hint = match text_with(word) {
-        Some(other) => Hint::LooksLike(other),
-        None => comment_hint(word),
+fn other_line<'a, A: Allocator + Copy>(
+    alloc: A,
+    line: &Line<'a>,
+    stage: Stage,
+) -> Result<Finding<'a>, AllocError> {
+    let hint = other_hint(alloc, line, stage)?;
+    let what = if stage.may_end() {
+        What::Said("the text should end before this line")
+    } else {
+        What::Other(Quoted(bytes_at(line, 0)), stage)
     };
-    Finding::marked(first_mark(line), What::Other(Quoted(word), stage), hint)
+    Ok(Finding::marked(first_mark(line), what, hint))
+}
+
+/// What a line with another first word was most likely meant to be.
+fn other_hint<A: Allocator + Copy>(
+    alloc: A,
+    line: &Line<'_>,
+    stage: Stage,
+) -> Result<Hint<'static>, AllocError> {
+    let word = bytes_at(line, 0);
+    if let Some(hint) = foreign_hint(line.bytes(), word) {
+        return Ok(hint);
+    }
+    match stage {
+        Stage::End => Ok(Hint::Nothing),
+        Stage::Workqueue { next, left: None } => stray_hint(alloc, word, next),
+        _ => Ok(text_hint(word, stage)),
+    }
+}
+
+/// What a line in the place of a `wq` line was most likely meant to be, where nothing says how many there are.
+fn stray_hint<A: Allocator + Copy>(
+    alloc: A,
+    word: &[u8],
+    next: u32,
+) -> Result<Hint<'static>, AllocError> {
+    if is_of_plan(word) {
+        return Ok(Hint::IN_A_PLAN);
+    }
+    if let Some(text) = text_with(word) {
+        return Ok(Hint::LooksLike(text));
+    }
+    let known: &[&'static str] = if next == 0 { &["wq", "plan"] } else { &["wq"] };
+    Ok(match first_like(alloc, word, known)? {
+        Some(meant) => Hint::Directive(meant),
+        None => Hint::Nothing,
+    })
+}
+
+/// Whether a word begins lines of a plan, and none of another assignment.
+fn is_of_plan(word: &[u8]) -> bool {
+    word == b"plan".as_slice() || word == b"chain".as_slice() || word == b"arc".as_slice()
+}
+
+/// Which text a line that should be another one belongs to.
+fn text_hint(word: &[u8], stage: Stage) -> Hint<'static> {
+    if matches!(stage, Stage::Plan) && word == b"wq".as_slice() {
+        return Hint::ASSIGNMENT;
+    }
+    match text_with(word) {
+        Some(text) => Hint::LooksLike(text),
+        None => Hint::Nothing,
+    }
 }
 
 /// Why a word isn't a number.
-fn number_hint(word: &[u8]) -> &'static str {
+fn number_hint(word: &[u8], stage: Stage) -> &'static str {
     match word {
         [b'1'..=b'9', ..] if word.iter().all(|byte| byte.is_ascii_digit()) => {
             "a number is at most 4,294,967,295"
+        }
+        [b'A'..=b'Z' | b'a'..=b'z' | b'_', ..] if matches!(stage, Stage::Workqueue { .. }) => {
+            "workqueues have numbers: put a name into a comment"
         }
         _ => "a number has only digits, and no leading zero",
     }
@@ -209,7 +269,7 @@ fn surplus_word<'a>(line: &Line<'a>, shape: Shape) -> Option<Token<'a>> {
 /// A line with the wrong number of words, or with a word that isn't a number.
 fn wrong_form<'a>(line: &Line<'a>, stage: Stage, shape: Shape) -> Option<Finding<'a>> {
     if let Some(word) = wrong_number(line, shape) {
-        let hint = Hint::Said(number_hint(word.bytes));
+        let hint = Hint::Said(number_hint(word.bytes, stage));
         return Some(Finding::marked(word.mark, What::NoNumber(word.quoted()), hint));
     }
     if word_at(line, shape.fewest().saturating_sub(1)).is_none() {
@@ -265,6 +325,7 @@ fn no_item<'a, A: Allocator + Copy>(
 ) -> Result<Finding<'a>, AllocError> {
     let hint = match nearest(alloc, declaration, word.bytes)? {
         Some(near) => Hint::Near(Quoted(near.name)),
+        None if word.bytes.starts_with(b"WQ_") || word.bytes.starts_with(b"__WQ_") => Hint::FLAG,
         None => Hint::Nothing,
     };
     Ok(Finding::marked(word.mark, What::NoItem(word.quoted()), hint))

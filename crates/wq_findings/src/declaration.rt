@@ -4,11 +4,13 @@
 //! in the names of the text times the length of one.
 
 use crate::finding::Finding;
-use crate::guess::{begins_comment, directive_like, text_with};
+use crate::guess::{
+    ZERO_BYTE, begins_comment, call_hint, directive_like, encoding_hint, text_with,
+};
 use crate::hint::Hint;
 use crate::names::{Names, declared_on, nearest};
 use crate::quoted::Quoted;
-use crate::token::{Mark, Token, bytes_at, first_mark, line_at, stands_before};
+use crate::token::{Mark, Token, bytes_at, first_mark, first_word, line_at, stands_before};
 use crate::what::What;
 use std::alloc::{AllocError, Allocator};
 use wq_text::{Line, Text};
@@ -42,7 +44,7 @@ fn on_line<'a, A: Allocator + Copy>(
     code: u32,
 ) -> Result<Finding<'a>, AllocError> {
     match code {
-        4 => unknown_word(alloc, line),
+        4 => unknown_word(alloc, text, line),
         8 => unknown_item(alloc, text, line),
         11 => grouped_twice(alloc, text, line),
         _ => Ok(on_this_line(text, line, code)),
@@ -76,11 +78,13 @@ fn may_stand(byte: u8) -> bool {
 
 /// What a byte that may not be before a comment most likely is.
 fn byte_hint(line: &Line<'_>, at: usize) -> &'static str {
+    if at == 0
+        && let Some(said) = encoding_hint(line.bytes())
+    {
+        return said;
+    }
     match line.bytes().get(at..) {
-        Some([0xEF, 0xBB, 0xBF, ..]) if at == 0 => "a byte order mark: save the file without it",
-        Some([0xFF, 0xFE, ..] | [0xFE, 0xFF, ..]) if at == 0 =>
-            "this is UTF-16: save the file as ASCII",
-        Some([0, ..]) => "a zero byte: is this a text, and not UTF-16?",
+        Some([0, ..]) => ZERO_BYTE,
         Some([b'\r', ..]) => "a carriage return may come only before a line feed",
         Some([0x80..=0xFF, ..]) => "only comments may have bytes beyond ASCII",
         _ => "a control character",
@@ -101,18 +105,41 @@ fn bad_byte<'a>(line: &Line<'a>) -> Finding<'a> {
 /// A first word that isn't a directive.
 fn unknown_word<'a, A: Allocator + Copy>(
     alloc: A,
+    text: &Text<'a>,
     line: &Line<'a>,
 ) -> Result<Finding<'a>, AllocError> {
     let word = bytes_at(line, 0);
-    let hint = directive_hint(alloc, word)?;
+    let hint = directive_hint(alloc, text, word)?;
     let what = What::NoDirective(Quoted(word));
     Ok(Finding::marked(first_mark(line), what, hint))
 }
 
+/// Whether a line of a text begins with a directive.
+fn has_directive(text: &Text<'_>) -> bool {
+    for line in text.lines() {
+        if is_directive(first_word(&line)) {
+            return true;
+        }
+    }
+    false
+}
+
+/// Whether a word is a directive.
+fn is_directive(word: &[u8]) -> bool {
+    word == b"item".as_slice() || word == b"flush".as_slice() || word == b"ordered".as_slice()
+}
+
 /// What a word that isn't a directive was most likely meant to be.
-fn directive_hint<A: Allocator + Copy>(alloc: A, word: &[u8]) -> Result<Hint<'static>, AllocError> {
+fn directive_hint<A: Allocator + Copy>(
+    alloc: A,
+    text: &Text<'_>,
+    word: &[u8],
+) -> Result<Hint<'static>, AllocError> {
     if begins_comment(word) {
         return Ok(Hint::COMMENT);
+    }
+    if let Some(hint) = call_hint(word, has_directive(text)) {
+        return Ok(hint);
     }
     if let Some(text) = text_with(word) {
         return Ok(Hint::LooksLike(text));

@@ -9,6 +9,9 @@ use std::alloc::{AllocError, Allocator};
 use std::str;
 use strsim::osa_distance;
 
+/// What a zero byte most likely is.
+pub(crate) const ZERO_BYTE: &str = "a zero byte: is this a text, and not UTF-16?";
+
 /// A word as it is shown, with one letter for each byte.
 pub(crate) fn letters<A: Allocator + Copy>(alloc: A, word: &[u8]) -> Result<String<A>, AllocError> {
     Quoted(word).to_string(alloc)
@@ -47,12 +50,53 @@ pub(crate) fn begins_comment(word: &[u8]) -> bool {
     )
 }
 
-/// The hint for a word that begins a comment in another language, or else none.
-pub(crate) fn comment_hint(word: &[u8]) -> Hint<'static> {
-    if begins_comment(word) {
-        Hint::COMMENT
+/// The hint for a line that begins with a byte order mark, or that is UTF-16.
+pub(crate) fn encoding_hint(line: &[u8]) -> Option<&'static str> {
+    match line {
+        [0xEF, 0xBB, 0xBF, ..] => Some("a byte order mark: save the file without it"),
+        [0xFF, 0xFE, ..] | [0xFE, 0xFF, ..] => Some("this is UTF-16: save the file as ASCII"),
+        _ => None,
+    }
+}
+
+/// The hint for a line whose bytes aren't plain ASCII, where its first word is this one.
+fn unread_hint(line: &[u8], word: &[u8]) -> Option<&'static str> {
+    if let Some(said) = encoding_hint(line) {
+        return Some(said);
+    }
+    if word.iter().any(|byte| *byte == 0) {
+        Some(ZERO_BYTE)
     } else {
-        Hint::Nothing
+        None
+    }
+}
+
+/// The hint for the first word of a line that isn't plain ASCII, or begins a comment in another language.
+pub(crate) fn foreign_hint(line: &[u8], word: &[u8]) -> Option<Hint<'static>> {
+    if let Some(said) = unread_hint(line, word) {
+        return Some(Hint::Said(said));
+    }
+    if begins_comment(word) {
+        Some(Hint::COMMENT)
+    } else {
+        None
+    }
+}
+
+/// The hint for a call of the kernel, written in the place of a directive. `wait`, `queue` and `cancel` are such calls only among
+/// directives; elsewhere they are steps of a run.
+pub(crate) fn call_hint(word: &[u8], is_among_directives: bool) -> Option<Hint<'static>> {
+    let Ok(word) = str::from_utf8(word) else {
+        return None;
+    };
+    match word {
+        "waits" | "wait_for" | "waits_for" | "flush_work" | "cancel_work_sync" => Some(Hint::FLUSH),
+        "queues" | "queue_work" | "schedule_work" => Some(Hint::QUEUES),
+        "cancels" | "cancel_work" => Some(Hint::CANCELS),
+        "wait" if is_among_directives => Some(Hint::FLUSH),
+        "queue" if is_among_directives => Some(Hint::QUEUES),
+        "cancel" if is_among_directives => Some(Hint::CANCELS),
+        _ => None,
     }
 }
 
@@ -76,18 +120,28 @@ pub(crate) fn directive_like<A: Allocator + Copy>(
     alloc: A,
     word: &[u8],
 ) -> Result<Option<&'static str>, AllocError> {
+    first_like(alloc, word, &["item", "flush", "ordered"])
+}
+
+/// The first of these words that is like a word of a text.
+pub(crate) fn first_like<A: Allocator + Copy>(
+    alloc: A,
+    word: &[u8],
+    known: &[&'static str],
+) -> Result<Option<&'static str>, AllocError> {
     let word = letters(alloc, word)?;
-    like_directive(alloc, &word)
+    first_like_shown(alloc, &word, known)
 }
 
 /// The same for a word as it is shown.
-fn like_directive<A: Allocator + Copy>(
+fn first_like_shown<A: Allocator + Copy>(
     alloc: A,
     word: &str,
+    known: &[&'static str],
 ) -> Result<Option<&'static str>, AllocError> {
-    for directive in ["item", "flush", "ordered"] {
-        if edits_between(alloc, word, directive.as_bytes())?.is_some() {
-            return Ok(Some(directive));
+    for other in known {
+        if edits_between(alloc, word, other.as_bytes())?.is_some() {
+            return Ok(Some(*other));
         }
     }
     Ok(None)

@@ -21,7 +21,7 @@ pub enum Hint<'a> {
     Line(Stage),
     /// The text that this one looks like.
     LooksLike(&'static str),
-    /// The directive that was most likely meant.
+    /// The directive, or another first word of a line, that was most likely meant.
     Directive(&'static str),
     /// The name that was most likely meant.
     Near(Quoted<'a>),
@@ -44,6 +44,34 @@ pub enum Hint<'a> {
 impl Hint<'_> {
     /// The hint for a word that begins a comment in another language.
     pub(crate) const COMMENT: Hint<'static> = Hint::Said("a comment begins with `#`");
+
+    /// The hint for a call that waits, in the place of a directive.
+    pub(crate) const FLUSH: Hint<'static> = Hint::Directive("flush");
+
+    /// The hint for a call that queues, in the place of a directive.
+    pub(crate) const QUEUES: Hint<'static> = Hint::Said(
+        "a call that queues doesn't wait, and needs no line",
+    );
+
+    /// The hint for a call that cancels, in the place of a directive.
+    pub(crate) const CANCELS: Hint<'static> = Hint::Said(
+        "`cancel_work` doesn't wait, and needs no line: for `cancel_work_sync` write `flush`",
+    );
+
+    /// The hint for a line of a plan in an assignment of only `wq` lines.
+    pub(crate) const IN_A_PLAN: Hint<'static> = Hint::Said(
+        "in a plan the line `plan K` comes first",
+    );
+
+    /// The hint for an assignment in the place of a plan.
+    pub(crate) const ASSIGNMENT: Hint<'static> = Hint::Said(
+        "this is an assignment: ask `deadlock`",
+    );
+
+    /// The hint for a flag of a workqueue in the place of an item.
+    pub(crate) const FLAG: Hint<'static> = Hint::Said(
+        "flags don't belong here: put them into a comment",
+    );
 }
 
 impl fmt::Display for Hint<'_> {

@@ -32,5 +32,5 @@ pub use lack::{Lack, in_answer};
 pub use place::put_place;
 pub use quoted::{Quoted, shown};
 pub use stage::{Kind, Stage};
-pub use token::{Mark, line_at};
+pub use token::{Mark, has_words, line_at};
 pub use what::{Unplaced, What};

@@ -86,9 +86,9 @@ pub(crate) fn find_unplaced<'a, A: Allocator + Copy>(
     kind: Kind,
     table: &ItemTable<'a, A>,
     text: &Text<'_>,
-) -> Result<Finding<'a>, AllocError> {
+) -> Result<Unplaced<'a>, AllocError> {
     let places = Places::above(alloc, kind, table, text, 0)?;
-    Ok(Finding::whole(What::OnNoWorkqueue(unplaced(table, &places))))
+    Ok(unplaced(table, &places))
 }
 
 /// The items that have no place.

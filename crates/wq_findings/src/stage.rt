@@ -119,9 +119,14 @@ impl Stage {
         }
     }
 
+    /// Whether a `wq` line may be here, and nothing says how many are left.
+    pub(crate) fn is_open(self) -> bool {
+        matches!(self, Stage::Workqueue { left: None, .. })
+    }
+
     /// Whether the text may end here.
     pub(crate) fn may_end(self) -> bool {
-        matches!(self, Stage::End | Stage::Workqueue { left: None, .. })
+        self.is_open() || matches!(self, Stage::End)
     }
 
     /// Whether a line that should be here may begin with this word.
@@ -211,6 +216,23 @@ fn is_step(word: &[u8]) -> bool {
         || word == b"wait".as_slice()
         || word == b"over".as_slice()
         || word == b"finish".as_slice()
+}
+
+/// The first line of an assignment of only `wq` lines that isn't one, if there is such a line, and what should be in its place.
+pub(crate) fn stray_line<'a>(kind: Kind, text: &Text<'a>) -> Option<(Line<'a>, Stage)> {
+    let mut stage = None;
+    for line in text.lines() {
+        let word = first_word(&line);
+        if word.is_empty() {
+            continue;
+        }
+        let here = stage.unwrap_or(Stage::first(kind, word));
+        if here.is_open() && !here.may_begin_with(word) {
+            return Some((line, here));
+        }
+        stage = Some(here.behind(&line));
+    }
+    None
 }
 
 /// The line of this number, and what should be on it, judging by the lines above. Where there is no such line, that is what should

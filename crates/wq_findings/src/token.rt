@@ -86,6 +86,16 @@ pub(crate) fn first_word<'a>(line: &Line<'a>) -> &'a [u8] {
     }
 }
 
+/// Whether a line of a text has a word.
+pub fn has_words(text: &Text<'_>) -> bool {
+    for line in text.lines() {
+        if !first_word(&line).is_empty() {
+            return true;
+        }
+    }
+    false
+}
+
 /// The place of the first word of a line.
 pub(crate) fn first_mark(line: &Line<'_>) -> Mark {
     match word_at(line, 0) {

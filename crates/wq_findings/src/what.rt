@@ -42,6 +42,8 @@ pub enum What<'a> {
     OutOfOrder(u32),
     /// Items that are on no workqueue.
     OnNoWorkqueue(Unplaced<'a>),
+    /// Items that are on no workqueue, and the number of the line that isn't a `wq` line and so ends these.
+    CutOff(Unplaced<'a>, u32),
     /// A name that is on a workqueue already.
     PlacedAlready(Quoted<'a>),
     /// Two names of one `ordered` line that are on two workqueues.
@@ -71,6 +73,7 @@ impl fmt::Display for What<'_> {
             What::Other(word, stage) => write!(f, "expected {stage}, found `{word}`"),
             What::OutOfOrder(next) => write!(f, "expected `wq {next}`"),
             What::OnNoWorkqueue(items) => items.fmt(f),
+            What::CutOff(items, line) => write!(f, "{items}: line {line} isn't a `wq` line"),
             What::PlacedAlready(name) => say(f, "", name, " is on a workqueue already"),
             What::Split(name, other) => split(f, name, other),
             What::TooLow(item, target) => too_low(f, item, target),

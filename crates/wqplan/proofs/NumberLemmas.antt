@@ -114,7 +114,7 @@ all_printed = (
                                           of_text (of_no RunBroken),
                                           (
                                             of_plan,
-                                            (tt, (tt, (tt, (tt, (tt, tt))))),
+                                            (tt, (tt, (tt, (tt, (tt, (tt, (tt, (tt, (tt, (tt, (tt, (tt, (tt, (tt, (tt, (tt, (tt, (tt, (tt, (tt, (tt, (tt, tt)))))))))))))))))))))),
                                           ),
                                         ),
                                       ),

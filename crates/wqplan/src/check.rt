@@ -11,7 +11,7 @@ ghost use Rattle.wqplan.specs.Kept.{IsKept};
 ghost use Rattle.wq_commands.specs.Why.{SaysChecked};
 ghost use Rattle.wq_meter.specs.Meter.{WritesWhole};
 
-use crate::diagnosis::say_why;
+use crate::diagnosis::{note_no_item, say_why};
 use crate::files::open;
 use std::alloc::Global;
 use std::io::{self, Read, Write};
@@ -48,6 +48,15 @@ pub(crate) fn check<R: Files + Print + Eprint + AllocGlobal>(
             Source {
                 file: certificate,
                 text: &claim,
+            },
+        );
+    } else {
+        note_no_item(
+            rt,
+            seed,
+            Source {
+                file: declaration,
+                text: &text,
             },
         );
     }

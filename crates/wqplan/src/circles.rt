@@ -12,7 +12,7 @@ ghost use Rattle.wq_meter.specs.Meter.{WritesWhole};
 ghost use Rattle.wqplan.specs.Ended.{EndsCircles};
 ghost use Rattle.wqplan.specs.Kept.{IsKept};
 
-use crate::diagnosis::{say_of_declaration, say_why};
+use crate::diagnosis::{note_no_item, say_of_declaration, say_why};
 use crate::files::open;
 use std::alloc::Global;
 use std::io::{self, Read, Write};
@@ -69,6 +69,15 @@ fn of_assignment<R: Files + Print + Eprint + AllocGlobal>(
                 text: &lanes,
             },
         );
+    } else {
+        note_no_item(
+            rt,
+            seed,
+            Source {
+                file: declaration,
+                text: &text,
+            },
+        );
     }
     Ok(end)
 }
@@ -84,9 +93,14 @@ fn of_groups<R: Files + Print + Eprint + AllocGlobal>(
     let declared = open(rt, declaration)?;
     let mut writer = Metered::new(io::writer(rt));
     let (end, text) = own_circles_input(rt.alloc(), seed, declared, &mut writer)?;
+    let declaration = Source {
+        file: declaration,
+        text: &text,
+    };
     if end == End::Refused {
-        let file = declaration;
-        say_of_declaration(rt, seed, Source { file, text: &text });
+        say_of_declaration(rt, seed, declaration);
+    } else {
+        note_no_item(rt, seed, declaration);
     }
     Ok(end)
 }

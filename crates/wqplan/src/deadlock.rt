@@ -11,7 +11,7 @@ ghost use Rattle.wqplan.specs.Kept.{IsKept};
 ghost use Rattle.wq_commands.specs.Why.{SaysAssigned};
 ghost use Rattle.wq_meter.specs.Meter.{WritesWhole};
 
-use crate::diagnosis::say_why;
+use crate::diagnosis::{note_no_item, say_why};
 use crate::files::open;
 use std::alloc::Global;
 use std::io::{self, Read, Write};
@@ -53,6 +53,15 @@ pub(crate) fn deadlock<R: Files + Print + Eprint + AllocGlobal>(
             Source {
                 file: assignment,
                 text: &lanes,
+            },
+        );
+    } else {
+        note_no_item(
+            rt,
+            seed,
+            Source {
+                file: declaration,
+                text: &text,
             },
         );
     }

@@ -1,6 +1,6 @@
-//! What standard error says of a text that was refused.
+//! What standard error says of a text that was refused, or of a declaration without an item.
 //!
-//! It is written after the refusal, and changes neither standard output nor the status. Where memory for it runs out, or standard
+//! It is written after the answer, and changes neither standard output nor the status. Where memory for it runs out, or standard
 //! error can't be written, it is left out. It takes the time and the memory of reading the declaration once more, and of searching the
 //! text that is meant for what is wrong.
 
@@ -8,8 +8,8 @@ use std::alloc::{AllocError, Global};
 use std::str;
 use wq_commands::{Which, Why};
 use wq_diagnosis::{
-    Kind, Source, of_answered_no, of_declaration, of_refused_certificate, of_refused_declaration,
-    of_too_many,
+    Kind, Source, of_answered_no, of_declaration, of_no_item, of_refused_certificate,
+    of_refused_declaration, of_too_many, of_unlawful, of_unread,
 };
 
 /// The name of standard input in a diagnosis.
@@ -20,6 +20,17 @@ fn say(rt: &impl Eprint, said: Result<Option<Vec<u8>>, AllocError>) {
     if let Ok(Some(text)) = said {
         let _ = rt.eprint(str::from_utf8(&text).unwrap_or(""));
     }
+}
+
+/// Says that a declaration which was answered has no item, if it has none.
+pub(crate) fn note_no_item<R: Eprint + AllocGlobal>(rt: &R, seed: u64, declaration: Source<'_>) {
+    say(rt, of_no_item(rt.alloc(), seed, declaration));
+}
+
+/// Names a file that can't be opened or read, and says why.
+pub(crate) fn say_unread<R: Eprint + AllocGlobal>(rt: &R, file: &str, why: &str) {
+    let alloc: Global = rt.alloc();
+    say(rt, of_unread(alloc, file, why).map(Some));
 }
 
 /// Says what is wrong with a declaration.
@@ -54,6 +65,18 @@ pub(crate) fn say_why<R: Eprint + AllocGlobal>(
         Why::No(no) => of_answered_no(alloc, seed, text, certificate, &no),
     };
     say(rt, said);
+}
+
+/// Says why the first step of the run that isn't lawful isn't.
+pub(crate) fn say_unlawful<R: Eprint + AllocGlobal>(
+    rt: &R,
+    seed: u64,
+    declaration: &[u8],
+    assignment: &[u8],
+    run: Source<'_>,
+) {
+    let alloc: Global = rt.alloc();
+    say(rt, of_unlawful(alloc, seed, declaration, assignment, run));
 }
 
 /// Says why a declaration wasn't run: the text isn't a declaration, or its plan is too large.

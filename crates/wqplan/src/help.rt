@@ -31,7 +31,7 @@ pub(crate) const RUN: &str = "Reads a declaration, runs its plan in threads, pri
 
 /// What `explain` prints.
 pub(crate) const EXPLAIN: &str =
-    "Prints what a refusal, a `no` or a fault means, and how to mend it";
+    "Prints what a refusal, a fault or a word of an answer means, and what to do";
 
 /// What FILE is.
 pub(crate) const FILE: &str = "The declaration. Without FILE it is read from standard input";
@@ -75,7 +75,7 @@ Exit status:
      plan has too many workqueues to run; or the word to explain is none that
      has an explanation. Or the command line is wrong; then standard error says
      how, and nothing was read
-  3  a fault: standard error has the line `fault memory`, `fault read`,
+  3  a fault: the last line of standard error is `fault memory`, `fault read`,
      `fault write`, `fault thread` or `fault tally`
 
 docs/FORMAT.md describes the texts and the answers, `wqplan explain CODE` each

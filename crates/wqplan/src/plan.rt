@@ -9,8 +9,8 @@ ghost use Rattle.wq_commands.specs.Declaration.{max_declaration};
 ghost use Rattle.wq_meter.specs.Input.{IsInput};
 ghost use Rattle.wqplan.specs.Kept.{IsKept};
 
-use crate::diagnosis::{STDIN, say_of_declaration};
-use crate::files::open;
+use crate::diagnosis::{STDIN, note_no_item, say_of_declaration};
+use crate::files::{Named, open_file};
 use std::alloc::Global;
 use std::io::{self, Read, Write};
 use std::rt::Files;
@@ -28,8 +28,8 @@ pub(crate) fn plan<R: Files + Input + Print + Eprint + AllocGlobal>(
     ensures { IfOk result (λ end. (text out : List ℕ) × Answers text end out) }
 {
     match file {
-        Some(path) => answer(rt, seed, path, open(rt, path)?),
-        None => answer(rt, seed, STDIN, rt.reader()),
+        Some(path) => answer(rt, seed, path, open_file(rt, path)?),
+        None => answer(rt, seed, STDIN, Named::new(rt, STDIN, rt.reader())),
     }
 }
 
@@ -46,6 +46,8 @@ fn answer<R: Print + Eprint + AllocGlobal, I: Read + Drop>(
     let (end, text) = plan_input(rt.alloc(), seed, input, &mut writer)?;
     if end == End::Refused {
         say_of_declaration(rt, seed, Source { file, text: &text });
+    } else {
+        note_no_item(rt, seed, Source { file, text: &text });
     }
     Ok(end)
 }

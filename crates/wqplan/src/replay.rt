@@ -11,7 +11,7 @@ ghost use Rattle.wq_commands.specs.Why.{SaysReplayed};
 ghost use Rattle.wq_meter.specs.Meter.{WritesWhole};
 ghost use Rattle.wq_commands.specs.Replaying.{Replays};
 
-use crate::diagnosis::say_why;
+use crate::diagnosis::{note_no_item, say_unlawful, say_why};
 use crate::files::{MAX_CERTIFICATE, open};
 use std::alloc::Global;
 use std::io::{self, Read, Write};
@@ -21,7 +21,7 @@ use wq_diagnosis::{Kind, Source};
 
 /// Answers for the declaration, the assignment and the run in the files at these paths.
 ///
-/// A file that can't be opened is `Fault::Read`. Where a text is refused, standard error says what is wrong.
+/// A file that can't be opened is `Fault::Read`. Where a text is refused, or a step isn't lawful, standard error says what is wrong.
 pub(crate) fn replay<R: Files + Print + Eprint + AllocGlobal>(
     rt: &R,
     seed: u64,
@@ -35,7 +35,7 @@ pub(crate) fn replay<R: Files + Print + Eprint + AllocGlobal>(
     let assigned = open(rt, assignment)?;
     let listed = open(rt, run)?;
     let mut writer = Metered::new(io::writer(rt));
-    let (end, why, texts) = replay_input(
+    let (end, why, texts, is_unlawful) = replay_input(
         rt.alloc(),
         seed,
         declared,
@@ -45,6 +45,23 @@ pub(crate) fn replay<R: Files + Print + Eprint + AllocGlobal>(
     )?;
     if let Some(why) = why {
         say_of(rt, seed, why, declaration, assignment, run, &texts);
+    } else {
+        let text = &texts.declaration;
+        note_no_item(
+            rt,
+            seed,
+            Source {
+                file: declaration,
+                text,
+            },
+        );
+    }
+    if is_unlawful {
+        let listed = Source {
+            file: run,
+            text: &texts.run,
+        };
+        say_unlawful(rt, seed, &texts.declaration, &texts.assignment, listed);
     }
     Ok(end)
 }
@@ -89,7 +106,7 @@ fn say_of<R: Eprint + AllocGlobal>(
 }
 
 /// Writes the answer to the declaration, the assignment and the run in these inputs. It also hands back the texts, as far as they
-/// were read.
+/// were read, and says whether the answer is `not lawful`.
 fn replay_input<D: Read + Drop, A: Read + Drop, S: Read + Drop, W: Write>(
     alloc: Global,
     seed: u64,
@@ -97,7 +114,7 @@ fn replay_input<D: Read + Drop, A: Read + Drop, S: Read + Drop, W: Write>(
     assignment: A,
     run: S,
     writer: &mut Metered<W>,
-) -> Result<(End, Option<Why>, Texts), Fault>
+) -> Result<(End, Option<Why>, Texts, bool), Fault>
     ensures answered { IfOk result (λ answered. (text lanes steps out : List ℕ) × IsInput (D.remaining declaration) text
         × IsInput (A.remaining assignment) lanes × IsInput (S.remaining run) steps × IsKept max_declaration text answered.2.declaration.items
         × IsKept max_certificate lanes answered.2.assignment.items × IsKept max_certificate steps answered.2.run.items
@@ -121,5 +138,6 @@ fn replay_input<D: Read + Drop, A: Read + Drop, S: Read + Drop, W: Write>(
         &texts.run,
     )?;
     write_text(writer, &answer.text)?;
-    Ok((answer.end, answer.why, texts))
+    let is_unlawful = answer.text.starts_with(b"not ");
+    Ok((answer.end, answer.why, texts, is_unlawful))
 }

@@ -9,7 +9,7 @@ ghost use Rattle.wq_commands.specs.Declaration.{max_declaration};
 ghost use Rattle.wq_run.specs.Running.{Runs};
 ghost use Rattle.wqplan.specs.Kept.{IsKept};
 
-use crate::diagnosis::say_of_run;
+use crate::diagnosis::{note_no_item, say_of_run};
 use crate::files::open;
 use std::alloc::Global;
 use std::io::{self, Read, Write};
@@ -33,9 +33,14 @@ pub(crate) fn run<R: Files + Print + Eprint + AllocGlobal + Threads + Wait + Syn
     let declared = open(rt, declaration)?;
     let mut writer = Metered::new(io::writer(rt));
     let (end, text) = run_input(rt, rt.alloc(), seed, declared, &mut writer)?;
+    let declaration = Source {
+        file: declaration,
+        text: &text,
+    };
     if end == End::Refused {
-        let file = declaration;
-        say_of_run(rt, seed, Source { file, text: &text });
+        say_of_run(rt, seed, declaration);
+    } else {
+        note_no_item(rt, seed, declaration);
     }
     Ok(end)
 }

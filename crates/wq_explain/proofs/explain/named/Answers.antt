@@ -1,6 +1,5 @@
 use Rattle.std.proofs.Common.{rules, ◌≡◌, ◌∙◌, None, Some, ap, map, sym}
-use Rattle.std.specs.Str.{bytes_eq}
-use Rattle.wq_explain.specs.Explaining.{Row, explanation_of, number_in, numbered, row_of}
+use Rattle.wq_explain.specs.Explaining.{Row, explanation_of, number_in, numbered, row_of, same_name}
 use Rattle.wq_explain.proofs.TableLemmas.{found-said}
 use Rattle.wq_explain.proofs.explain.named.Goals as goal
 
@@ -17,5 +16,5 @@ returns-in-None c =
     let word = c.args.word.now in
     let rows = c.args.rows.now in
     let is : number_in word ≡ None = search rules in
-    found-said row_of (λ (row : Row). bytes_eq row.name word) rows c.with_name.result c.with_name.ensures
+    found-said row_of (λ (row : Row). same_name row.name word) rows c.with_name.result c.with_name.ensures
     ∙ sym (ap (explanation_of (map row_of rows) word) is)

@@ -1,0 +1,404 @@
+//! What standard error says of a run with a step that isn't lawful.
+//!
+//! The form is that of "Diagnoses" in docs/FORMAT.md. It takes the time and the memory of reading the three texts and of making the
+//! steps.
+
+ghost use Rattle.std.specs.Prelude.{◌≡◌, ◌++◌, ◌∷◌, ◌+◌, ◌<◌, ◌×◌, ℕ, None, Some, IfOk, IfSome, OnOk, OnSome, codes, decimal, length, map, slice_get, take};
+ghost use Rattle.wq_core.specs.Held.{AreDone, IsRefusal};
+ghost use Rattle.wq_core.specs.declared.step.StepError.{StepError};
+ghost use Rattle.wq_diagnosis.specs.Diagnosis.{shown_lines};
+ghost use Rattle.wq_diagnosis.specs.Unlawful.{Holds, IsUnlawfulText, item_of, unlawful_head, workqueue_of};
+ghost use Rattle.wq_findings.specs.Shown.{place_text};
+
+use crate::diagnosis::{Source, lines_of, put_line, put_lines};
+use crate::unlawful::{Unlawful, reason_of};
+use std::alloc::{AllocError, Allocator};
+use std::fmt;
+use wq_cert::{CertError, read_assignment, read_run};
+use wq_commands::{Declaration, Stop, read_declaration};
+use wq_core::{Core, Step};
+use wq_findings::{Excerpt, Hint, Mark, Marks, Quoted, put_place};
+use wq_groups::Assignment;
+use wq_items::{ItemId, ItemTable};
+use wq_lines::put;
+use wq_text::{Line, Text};
+
+/// The first step that isn't lawful: how many steps stand before it, the step, and why it isn't.
+#[derive(Clone, Copy)]
+struct Found {
+    at: u32,
+    step: Step,
+    why: Unlawful,
+}
+
+/// Makes the steps up to the first that isn't lawful, and says why that one isn't; nothing where each is made.
+fn find<A: Allocator>(core: &mut Core<A>, steps: &[Step]) -> Option<Found>
+    requires { length steps.now < 4294967295 }
+    ensures { IfSome result (λ found. AreDone core.old (take found.at steps.now) core.new × (slice_get steps.now found.at ≡ Some found.step)
+        × ((e : StepError) × IsRefusal core.new found.step e)
+        × Holds core.new.wiring core.new.state (workqueue_of found.step) (item_of found.step) found.why) }
+{
+    let Err(error) = core.run(steps) else {
+        return None;
+    };
+    let at = error.at;
+    let step = *steps.get(at as usize)?;
+    let why = reason_of(core, step)?;
+    Some(Found { at, step, why })
+}
+
+/// The name of an item.
+fn name<'a, A: Allocator + Copy>(table: &ItemTable<'a, A>, item: ItemId) -> Quoted<'a> {
+    if item.get() < table.len() {
+        Quoted(table.name(item))
+    } else {
+        Quoted(b"")
+    }
+}
+
+/// The number of the workqueue and the item that a step names.
+fn named(step: Step) -> (u16, ItemId) {
+    match step {
+        Step::Queue(item) | Step::Cancel(item) => (0, item),
+        Step::Start(q, item) | Step::Wait(q, item) | Step::Over(q, item) | Step::Finish(q, item) =>
+            { (q.get(), item) }
+    }
+}
+
+/// The items that a reason names: the one that runs or is the first, and the one that is waited for. Where it names none, they are
+/// the step's.
+fn others(why: Unlawful, item: ItemId) -> (ItemId, ItemId) {
+    match why {
+        Unlawful::Runs(other)
+        | Unlawful::First(other)
+        | Unlawful::Undeclared(other)
+        | Unlawful::AllMade(other)
+        | Unlawful::Awake(other) => (other, item),
+        Unlawful::Waits(other, target) => (other, target),
+        Unlawful::NoItem
+        | Unlawful::Pending
+        | Unlawful::NotPending
+        | Unlawful::NothingPending
+        | Unlawful::NothingRuns
+        | Unlawful::Unfinished => (item, item),
+    }
+}
+
+/// Why a step isn't lawful, in words.
+#[derive(Clone, Copy)]
+struct Sentence<'a> {
+    why: Unlawful,
+    /// The number of the step's workqueue, and how many there are.
+    q: u16,
+    lanes: usize,
+    /// The item of the step, that which runs or is the first, and that which is waited for.
+    item: Quoted<'a>,
+    other: Quoted<'a>,
+    target: Quoted<'a>,
+    /// How many flushes the one that runs declares.
+    flushes: usize,
+}
+
+impl fmt::Display for Sentence<'_> {
+    ghost output = { λ _. None };
+
+    fn fmt<W: fmt::Write>(&self, f: &mut fmt::Formatter<W>) -> fmt::Result {
+        let q = self.q;
+        match self.why {
+            Unlawful::NoItem => f.write_str("there is no such item"),
+            Unlawful::Pending => write!(f, "`{}` is pending already", self.item),
+            Unlawful::NotPending => write!(f, "`{}` isn't pending", self.item),
+            Unlawful::Runs(_) => write!(f, "workqueue {q} runs `{}`", self.other),
+            Unlawful::NothingPending | Unlawful::NothingRuns if q as usize >= self.lanes => {
+                write!(f, "there is no workqueue {q}")
+            }
+            Unlawful::NothingPending => write!(f, "nothing is pending on workqueue {q}"),
+            Unlawful::First(_) => {
+                write!(
+                    f,
+                    "`{}` isn't the first entry of workqueue {q}, which is `{}`",
+                    self.item, self.other
+                )
+            }
+            Unlawful::NothingRuns => write!(f, "nothing runs on workqueue {q}"),
+            Unlawful::Waits(..) => {
+                write!(
+                    f,
+                    "`{}`, which runs on workqueue {q}, waits for `{}`",
+                    self.other, self.target
+                )
+            }
+            Unlawful::Undeclared(_) => {
+                write!(
+                    f,
+                    "`{}`, which runs on workqueue {q}, declares no flush of `{}`",
+                    self.other, self.item
+                )
+            }
+            Unlawful::AllMade(_) => {
+                write!(
+                    f,
+                    "`{}`, which runs on workqueue {q}, has made all of its waits: {}",
+                    self.other, self.flushes
+                )
+            }
+            Unlawful::Awake(_) => write!(
+                f,
+                "`{}`, which runs on workqueue {q}, doesn't wait",
+                self.other
+            ),
+            Unlawful::Unfinished => {
+                write!(
+                    f,
+                    "an entry of `{}` from before this wait is unfinished",
+                    self.item
+                )
+            }
+        }
+    }
+}
+
+/// Why this step isn't lawful, in words.
+fn said_why<'a, A: Allocator + Copy>(
+    table: &ItemTable<'a, A>,
+    lanes: usize,
+    found: Found,
+) -> Sentence<'a> {
+    let Found { step, why, .. } = found;
+    let (q, item) = named(step);
+    let (other, target) = others(why, item);
+    let flushes = if other.get() < table.len() {
+        table.waits(other).len()
+    } else {
+        0
+    };
+    Sentence {
+        why,
+        q,
+        lanes,
+        item: name(table, item),
+        other: name(table, other),
+        target: name(table, target),
+        flushes,
+    }
+}
+
+/// The line of a run's step: that before which this many lines have words, the one with the number of steps among them.
+fn step_line<'a>(text: &Text<'a>, before: u32) -> Option<Line<'a>> {
+    let mut left = before;
+    for line in text.lines() {
+        if line.words().next().is_some() {
+            if left == 0 {
+                return Some(line);
+            }
+            left -= 1;
+        }
+    }
+    None
+}
+
+/// The last word of a line, which names the item of a step.
+fn last_mark(line: &Line<'_>) -> Mark {
+    let mut mark = Mark { at: 0, len: 1 };
+    for word in line.words() {
+        let span = word.span();
+        mark = Mark {
+            at: span.start.saturating_sub(line.span().start) as usize,
+            len: span.end.saturating_sub(span.start) as usize,
+        };
+    }
+    mark
+}
+
+/// The first line.
+fn head<A: Allocator + Copy>(
+    alloc: A,
+    file: &str,
+    place: &[u32],
+    what: &str,
+    number: u32,
+) -> Result<Vec<u8, A>, AllocError>
+    ensures { IfOk result (λ line. line.items ≡ unlawful_head file.now place.now what.now number) }
+{
+    let number = number.to_string(alloc)?;
+    let mut line = Vec::new(alloc);
+    put(&mut line, file.as_bytes())?;
+    put_place(alloc, &mut line, place)?;
+    put(&mut line, b": ")?;
+    put(&mut line, what.as_bytes())?;
+    put(&mut line, b" [not lawful ")?;
+    put(&mut line, number.as_bytes())?;
+    put(&mut line, b"]")?;
+    Ok(line)
+}
+
+/// All lines about the step of this number, with these below the first one.
+fn whole_text<A: Allocator + Copy>(
+    alloc: A,
+    file: &str,
+    place: &[u32],
+    what: &str,
+    number: u32,
+    details: &[Vec<u8, A>],
+) -> Result<Vec<u8, A>, AllocError>
+    ensures { IfOk result (λ said. said.items ≡ shown_lines (unlawful_head file.now place.now what.now number ∷ map (λ line. line.items) details.now)) }
+{
+    let head = head(alloc, file, place, what, number)?;
+    let mut out = Vec::new(alloc);
+    put_line(alloc, &mut out, &head)?;
+    put_lines(alloc, &mut out, details)?;
+    Ok(out)
+}
+
+/// What is said of the step of this number, at this place.
+fn said_at<A: Allocator + Copy>(
+    alloc: A,
+    file: &str,
+    place: &[u32],
+    what: &str,
+    number: u32,
+    details: &[Vec<u8, A>],
+) -> Result<Vec<u8, A>, AllocError>
+    ensures { IfOk result (λ said. IsUnlawfulText file.now number said.items) }
+{
+    whole_text(alloc, file, place, what, number, details)
+}
+
+/// The line of the step, and a mark below its last word.
+fn details<A: Allocator + Copy>(
+    alloc: A,
+    bytes: &[u8],
+    mark: Mark,
+) -> Result<Vec<Vec<u8, A>, A>, AllocError> {
+    let marks = Marks::of(bytes.len(), mark, Hint::Nothing);
+    let mut details = Vec::new(alloc);
+    details.push(Excerpt::of(bytes, mark).to_string(alloc)?.into_bytes())?;
+    details.push(marks.to_string(alloc)?.into_bytes())?;
+    Ok(details)
+}
+
+/// The line of the step with this many before it, its number, and the mark of its last word.
+fn place_of<'a>(text: &'a [u8], at: u32) -> (&'a [u8], u32, Mark) {
+    match step_line(&lines_of(text), at.saturating_add(1)) {
+        Some(line) => (line.bytes(), line.no(), last_mark(&line)),
+        None => (b"", 0, Mark { at: 0, len: 1 }),
+    }
+}
+
+/// What is said of the step that was found.
+fn said_of<A: Allocator + Copy>(
+    alloc: A,
+    run: Source<'_>,
+    sentence: Sentence<'_>,
+    at: u32,
+) -> Result<Vec<u8, A>, AllocError>
+    ensures { IfOk result (λ said. (n : ℕ) × IsUnlawfulText run.entry.file.now n said.items) }
+{
+    let what = sentence.to_string(alloc)?;
+    let (bytes, no, mark) = place_of(run.text, at);
+    let column = u32::try_from(mark.at).unwrap_or(u32::MAX).saturating_add(1);
+    let details = details(alloc, bytes, mark)?;
+    said_at(
+        alloc,
+        run.file,
+        &[no, column],
+        &what,
+        at.saturating_add(1),
+        &details,
+    )
+}
+
+/// What is said of these steps under this assignment: nothing where each is lawful.
+fn of_steps<A: Allocator + Copy>(
+    alloc: A,
+    declared: &Declaration<'_, A>,
+    assignment: &Assignment<A>,
+    steps: &[Step],
+    run: Source<'_>,
+) -> Result<Option<Vec<u8, A>>, AllocError>
+    requires grouped { length declared.now.groups.group_of ≡ length declared.now.table.names }
+    requires assigned { length assignment.now.lane_of_group ≡ declared.now.groups.groups }
+    requires few { length steps.now < 4294967295 }
+    ensures { IfOk result (λ said. OnSome said (λ text. (n : ℕ) × IsUnlawfulText run.entry.file.now n text.items)) }
+{
+    let Declaration { table, groups } = declared;
+    let mut core = Core::new(alloc, table, groups, assignment)?;
+    let Some(found) = find(&mut core, steps) else {
+        return Ok(None);
+    };
+    let sentence = said_why(table, core.lanes(), found);
+    let said = said_of(alloc, run, sentence, found.at)?;
+    Ok(Some(said))
+}
+
+/// What is said of a run under this assignment: nothing where it is refused, or each of its steps is lawful.
+fn of_run<A: Allocator + Copy>(
+    alloc: A,
+    declared: &Declaration<'_, A>,
+    assignment: &Assignment<A>,
+    run: Source<'_>,
+) -> Result<Option<Vec<u8, A>>, AllocError>
+    requires grouped { length declared.now.groups.group_of ≡ length declared.now.table.names }
+    requires assigned { length assignment.now.lane_of_group ≡ declared.now.groups.groups }
+    ensures { IfOk result (λ said. OnSome said (λ text. (n : ℕ) × IsUnlawfulText run.entry.file.now n text.items)) }
+{
+    // What holds of every table and of all groups.
+    let _items = declared.table.len();
+    let _groups = declared.groups.len();
+    match read_run(alloc, run.text, &declared.table) {
+        Ok(steps) => {
+            let said = of_steps(alloc, declared, assignment, steps.as_slice(), run);
+            drop(steps);
+            said
+        }
+        Err(CertError::OutOfMemory) => Err(AllocError),
+        Err(_) => Ok(None),
+    }
+}
+
+/// What is said of a run of this declaration: nothing where the assignment or the run is refused, or each step is lawful.
+fn of_declared<A: Allocator + Copy>(
+    alloc: A,
+    declared: &Declaration<'_, A>,
+    assignment: &[u8],
+    run: Source<'_>,
+) -> Result<Option<Vec<u8, A>>, AllocError>
+    requires { length declared.now.groups.group_of ≡ length declared.now.table.names }
+    ensures { IfOk result (λ said. OnSome said (λ text. (n : ℕ) × IsUnlawfulText run.entry.file.now n text.items)) }
+{
+    // What holds of every table and of all groups.
+    let _items = declared.table.len();
+    let _groups = declared.groups.len();
+    match read_assignment(alloc, assignment, &declared.table, &declared.groups) {
+        Ok(assignment) => {
+            let said = of_run(alloc, declared, &assignment, run);
+            drop(assignment);
+            said
+        }
+        Err(CertError::OutOfMemory) => Err(AllocError),
+        Err(_) => Ok(None),
+    }
+}
+
+/// Says of a run why its first step that isn't lawful isn't. Of a run without such a step it says nothing, nor where a text is refused.
+///
+/// The only error is out of memory (20). The names are hashed with `seed`. No answer depends on it.
+pub fn of_unlawful<A: Allocator + Copy>(
+    alloc: A,
+    seed: u64,
+    declaration: &[u8],
+    assignment: &[u8],
+    run: Source<'_>,
+) -> Result<Option<Vec<u8, A>>, AllocError>
+    ensures { IfOk result (λ said. OnSome said (λ text. (n : ℕ) × IsUnlawfulText run.entry.file.now n text.items)) }
+{
+    match read_declaration(alloc, seed, declaration) {
+        Ok(declared) => {
+            let said = of_declared(alloc, &declared, assignment, run);
+            drop(declared);
+            said
+        }
+        Err(Stop::Refused { .. }) => Ok(None),
+        Err(Stop::OutOfMemory) => Err(AllocError),
+    }
+}

@@ -1,0 +1,377 @@
+//! The explanations of the words with which the lines of an answer begin.
+//!
+//! docs/FORMAT.md says what each of them means; tests/explain.sh runs each example. The table in `table.rt` has the
+//! numbers and the faults.
+
+use crate::table::Explanation;
+
+const PLAN: Explanation = (
+    None,
+    "plan",
+    "plan answer\n",
+    "\
+`plan K`: with the items on K workqueues, as the `wq` lines have them, no order
+of what happens ends in a hang while memory is short. With fewer one does: the
+chain shows it.
+
+The rule: docs/FORMAT.md, \"Plan texts\"
+
+To see it:
+    printf 'item a\\nitem b\\nflush a b\\n' | wqplan plan
+
+What to do:
+Have the driver allocate K workqueues, each with `WQ_MEM_RECLAIM`, and queue
+each item on its own. The numbers are only for the plan. `wqplan check` checks a
+plan that was kept, after the declaration has changed.
+",
+);
+
+const WQ: Explanation = (
+    None,
+    "wq",
+    "wq answer\n",
+    "\
+`wq Q NAME..`: these items are on workqueue Q. In a plan each item waits only
+for items on workqueues with lower numbers.
+
+The rule: docs/FORMAT.md, \"Plan texts\"
+
+To see it:
+    printf 'item a\\n' | wqplan plan
+
+What to do:
+Queue these items on one workqueue. Lines of this form are an assignment, too:
+write those of the driver as it is today, and ask `wqplan deadlock`.
+",
+);
+
+const CHAIN: Explanation = (
+    None,
+    "chain",
+    "chain answer\n",
+    "\
+`chain N`: the N-1 flushes below it follow one another, so N groups of items
+wait for each other in a chain, and each needs a workqueue of its own. It is why
+no plan has fewer workqueues.
+
+The rule: docs/FORMAT.md, \"Plan texts\"
+
+To see it:
+    printf 'item a\\nitem b\\nflush a b\\n' | wqplan plan
+
+What to do:
+Where there should be fewer workqueues, take a flush of the chain out of the
+driver. Others may form a chain that is as long.
+",
+);
+
+const ARC: Explanation = (
+    None,
+    "arc",
+    "arc answer\n",
+    "\
+`arc NAME TARGET`: NAME flushes TARGET. In a plan it is a flush of the chain,
+and in a circle or a component one that lies on a circle.
+
+The rule: docs/FORMAT.md, \"Plan texts\"
+
+To see it:
+    printf 'item a\\nitem b\\nflush a b\\n' | wqplan plan
+
+What to do:
+Look the flush up in the driver. Its item and the target of the line above it
+are the same, or they are in one group, or on one workqueue.
+",
+);
+
+const CIRCLE: Explanation = (
+    None,
+    "circle",
+    "circle answer\n",
+    "\
+`circle N`: the N flushes below it go round, so no assignment to workqueues
+helps, however many there are. The run after it shows how the items come to
+hang.
+
+The rule: docs/FORMAT.md, \"Circle texts\"
+
+To see it:
+    printf 'item a\\nitem b\\nflush a b\\nflush b a\\n' | wqplan plan
+
+What to do:
+Take one of these flushes out of the driver: let the item go on without the
+wait, or queue what comes after it as an item of its own. See whether an
+`ordered` line is needed. `wqplan circles` prints all flushes that lie on
+circles.
+",
+);
+
+const RUN: Explanation = (
+    None,
+    "run",
+    "run answer\n",
+    "\
+`run M`: the M steps below it may happen in this order while memory is short,
+and at their end nothing can go on. `queue` puts an item on its workqueue,
+`start` runs it in the workqueue's one context, `wait` and `over` begin and end
+a flush in it, and `finish` ends it.
+
+The rule: docs/FORMAT.md, \"Run texts\"
+
+To see it:
+    printf 'item a\\nitem b\\nflush a b\\n' > decl
+    printf 'wq 0 a b\\n' > assign
+    wqplan deadlock decl assign
+
+What to do:
+Look at the last `wait` of each workqueue: each waits for an item that another
+one of them holds up, or that is behind it. `wqplan circles` prints the flushes
+that cause it, and `wqplan plan` workqueues on which it can't happen.
+",
+);
+
+const YES: Explanation = (
+    None,
+    "yes",
+    "yes answer\n",
+    "\
+`yes K`: the plan that was checked is safe for this declaration, and has the
+fewest workqueues. `yes circle N`: the circle is one of this declaration, so no
+assignment helps.
+
+The rule: docs/FORMAT.md, \"The command `check`\"
+
+To see it:
+    printf 'item a\\n' > decl
+    wqplan plan decl > cert
+    wqplan check decl cert
+
+What to do:
+Keep the plan beside the declaration, and check it again when the declaration
+changes.
+",
+);
+
+const NO: Explanation = (
+    None,
+    "no",
+    "no answer\n",
+    "\
+`no CODE ..`: the plan or circle that was checked doesn't show what it claims.
+CODE says why. A plan that gets a `no` may be safe all the same.
+
+The rule: docs/FORMAT.md, \"The command `check`\"
+
+To see it:
+    printf 'item a\\nitem b\\nflush a b\\n' > decl
+    printf 'plan 1\\nwq 0 a b\\nchain 1\\n' > cert
+    wqplan check decl cert
+
+What to do:
+Ask `wqplan explain CODE`. `wqplan deadlock` says whether an assignment is safe,
+and `wqplan plan` prints a new plan.
+",
+);
+
+const NOT_LAWFUL: Explanation = (
+    None,
+    "not lawful",
+    "not lawful answer\n",
+    "\
+`not lawful N`: step N of the run, counted from 1, may not be made in the state
+that the steps before it leave. So the run shows nothing. Standard error says
+why the step may not be made.
+
+The rule: docs/FORMAT.md, \"Steps\"
+
+To see it:
+    printf 'item a\\n' > decl
+    printf 'wq 0 a\\n' > assign
+    printf 'run 1\\nstart 0 a\\n' > run
+    wqplan replay decl assign run
+
+What to do:
+Mend the step, or put the one that is missing before it: an item is queued
+before it starts, and a workqueue runs one item at a time, the first one on its
+list.
+",
+);
+
+const DEADLOCK: Explanation = (
+    None,
+    "deadlock",
+    "deadlock answer\n",
+    "\
+`deadlock`: at the end of the run that was replayed nothing can go on, though
+each item was queued just once, none was cancelled, and each made its declared
+flushes in their order. So the assignment isn't safe.
+
+The rule: docs/FORMAT.md, \"Steps\"
+
+To see it:
+    printf 'item a\\nitem b\\nflush a b\\n' > decl
+    printf 'wq 0 a b\\n' > assign
+    wqplan deadlock decl assign > run
+    wqplan replay decl assign run
+
+What to do:
+Look at the last `wait` of each workqueue. `wqplan circles` prints the flushes
+that cause it, and `wqplan plan` workqueues on which it can't happen.
+",
+);
+
+const STUCK: Explanation = (
+    None,
+    "stuck",
+    "stuck answer\n",
+    "\
+`stuck`: at the end of the run that was replayed nothing can go on, so the
+assignment isn't safe. It isn't called `deadlock`, since an item was queued
+twice or never, or was cancelled, or didn't flush as declared.
+
+The rule: docs/FORMAT.md, \"Steps\"
+
+To see it:
+    printf 'item a\\nitem b\\nflush a b\\n' > decl
+    printf 'wq 0 a b\\n' > assign
+    printf 'run 6\\nqueue a\\ncancel a\\nqueue a\\nqueue b\\n' > run
+    printf 'start 0 a\\nwait 0 b\\n' >> run
+    wqplan replay decl assign run
+
+What to do:
+It hangs as a deadlock does. `wqplan circles` prints the flushes that cause it,
+and `wqplan plan` workqueues on which it can't happen.
+",
+);
+
+const OPEN: Explanation = (
+    None,
+    "open",
+    "open answer\n",
+    "\
+`open`: at the end of the run that was replayed something can still go on, or
+everything is finished. So this run shows no hang. It doesn't say that the
+assignment is safe.
+
+The rule: docs/FORMAT.md, \"The command `replay`\"
+
+To see it:
+    printf 'item a\\n' > decl
+    printf 'wq 0 a\\n' > assign
+    printf 'run 1\\nqueue a\\n' > run
+    wqplan replay decl assign run
+
+What to do:
+Ask `wqplan deadlock` whether the assignment is safe: it looks at all runs.
+",
+);
+
+const SAFE: Explanation = (
+    None,
+    "safe",
+    "safe answer\n",
+    "\
+`safe`: under this assignment no order of what happens ends in a hang while
+memory is short, as far as the declaration has all waits. Where `circles` was
+given no assignment, that of a workqueue for each group is meant.
+
+The rule: docs/FORMAT.md, \"The command `deadlock`\"
+
+To see it:
+    printf 'item a\\nitem b\\nflush a b\\n' > decl
+    printf 'wq 0 a\\nwq 1 b\\n' > assign
+    wqplan deadlock decl assign
+
+What to do:
+See that each of these workqueues has a rescuer (`WQ_MEM_RECLAIM`): `safe` means
+nothing for the items of one without it, such as `system_wq`, nor for what waits
+for them. Ask again when an item or a wait is added.
+",
+);
+
+const COMPONENTS: Explanation = (
+    None,
+    "components",
+    "components answer\n",
+    "\
+`components N`: some items can hang while memory is short. There are N sets of
+workqueues that wait for each other, and below each `component` line are the
+flushes of one of them, all of which lie on circles.
+
+The rule: docs/FORMAT.md, \"The command `circles`\"
+
+To see it:
+    printf 'item a\\nflush a a\\n' > decl
+    wqplan circles decl
+
+What to do:
+Take flushes out of the driver until no circle is left, or put items on other
+workqueues: `wqplan plan` prints an assignment if there is one. `wqplan dot`
+draws these flushes in red.
+",
+);
+
+const WORKQUEUES: Explanation = (
+    None,
+    "workqueues",
+    "workqueues answer\n",
+    "\
+`workqueues K`: the plan has K workqueues, and it was run in threads. Below are,
+for each item, its workqueue and how often it was queued, cancelled and
+finished, and how many executions ended with a fault.
+
+The rule: docs/FORMAT.md, \"The command `run`\"
+
+To see it:
+    printf 'item a\\n' > decl
+    wqplan run decl
+
+What to do:
+Nothing: each item was queued and finished once. `wqplan plan` prints the plan
+itself.
+",
+);
+
+const REFUSED: Explanation = (
+    None,
+    "refused",
+    "refused answer\n",
+    "\
+`refused CODE line N`: a text doesn't have the form that it should have, so
+nothing was judged. CODE says what is wrong, N is the line, or 0 where none is
+meant. Standard error names the file and the word.
+
+The rule: docs/FORMAT.md, \"Refusals\"
+
+To see it:
+    printf 'Item a\\n' | wqplan plan
+
+What to do:
+Mend the line that standard error shows. `wqplan explain CODE` says more.
+",
+);
+
+const FAULT: Explanation = (
+    None,
+    "fault",
+    "fault answer\n",
+    "\
+`fault NAME`, on standard error, with status 3: something outside the texts
+failed, so there is no answer. NAME is `read`, `memory`, `thread`, `tally` or
+`write`.
+
+The rule: docs/FORMAT.md, \"Faults and exit statuses\"
+
+To see it:
+    wqplan plan none.wq
+
+What to do:
+Ask `wqplan explain NAME`.
+",
+);
+
+/// The explanations of the words of answers, in the order of docs/FORMAT.md.
+pub static ANSWERS: [Explanation; 17] = [
+    PLAN, WQ, CHAIN, ARC, CIRCLE, RUN, YES, NO, NOT_LAWFUL, DEADLOCK, STUCK, OPEN, SAFE,
+    COMPONENTS, WORKQUEUES, REFUSED, FAULT,
+];
