@@ -4,7 +4,8 @@
 #
 # `test_runtime calls` has some calls fall asleep, each in a thread of its own, and makes a call that has to wake them, while nothing
 # else happens. Where it doesn't, nobody ever does: the program is ended after ten seconds, and the call is named. No answer
-# depends on time: a call that comes too late to fall asleep is answered all the same, and its round shows nothing.
+# depends on time: a call that comes too late to fall asleep is answered all the same, and its round shows nothing. A call of which no
+# round shows anything has failed.
 # All was worked out by hand from docs/FORMAT.md. It takes some seconds.
 
 import collections
@@ -133,6 +134,8 @@ def main(arguments):
         for wake, tries in zip(WAKES, rounds):
             came = collections.Counter(round.result() for round in tries)
             good, late = came.pop(None, 0), came.pop("late", 0)
+            if not good and not came:
+                came["it came too late to sleep"] = late
             for why, times in came.items():
                 print(f"FAILED  {wake.name()}: in {times} of {ROUNDS} rounds {why}", flush=True)
             if not came:

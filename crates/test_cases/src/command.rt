@@ -6,11 +6,15 @@ use crate::deadlocks::DEADLOCKS;
 use crate::drawings::DRAWINGS;
 use crate::plans::PLANS;
 use crate::replays::REPLAYS;
-use std::alloc::Allocator;
+use std::alloc::{AllocError, Allocator};
 use std::io::{Read, Write};
-use wq_circles::{circles_cmd, own_circles_cmd};
-use wq_commands::{End, Fault, Metered, check_cmd, deadlock_cmd, plan_cmd, replay_cmd};
-use wq_dot::{dot_cmd, own_dot_cmd};
+use wq_circles::CirclesCommand;
+use wq_commands::{
+    CheckCommand, DeadlockCommand, End, Fault, Metered, Outcome, PlanCommand, ReplayCommand,
+    carry_out, end_of,
+};
+use wq_diagnosis::{Diagnosing, Kind};
+use wq_dot::DotCommand;
 
 /// The seed of the hashes of names. No answer depends on it.
 pub const SEED: u64 = 0;
@@ -78,26 +82,94 @@ pub struct Readers<R> {
     pub third: Metered<R>,
 }
 
-/// Performs a command over as many of these readers as it has texts.
-pub fn perform<A: Allocator + Copy, R: Read, W: Write>(
+/// What stands for the names of the files of a declaration, of the second text and of a run.
+const NAMES: (&str, &str, &str) = ("d", "c", "r");
+
+/// What is said of the texts of a command.
+fn voice(command: Command) -> Diagnosing<'static> {
+    let (declaration, certificate, run) = NAMES;
+    let kind = match command {
+        Command::Check => Kind::Answer,
+        _ => Kind::Assignment,
+    };
+    Diagnosing {
+        seed: SEED,
+        declaration,
+        kind,
+        certificate,
+        run,
+    }
+}
+
+/// Carries out a command over these readers, as the program does.
+fn carry<C, A, R, W, E>(
     alloc: A,
-    command: Command,
+    command: &C,
+    voice: Diagnosing<'_>,
     readers: &mut Readers<R>,
     writer: &mut Metered<W>,
-) -> Result<End, Fault> {
+    teller: &mut Metered<E>,
+) -> Result<End, Fault>
+where
+    C: wq_commands::Command<A, End = Outcome, Stop = AllocError>,
+    A: Allocator + Copy,
+    R: Read,
+    W: Write,
+    E: Write,
+{
     let Readers {
         first,
         second,
         third,
     } = readers;
+    end_of(carry_out(alloc, command, &voice, first, second, third, writer, teller))
+}
+
+/// Performs a command over as many of these readers as it has texts, and says on `teller` what there is to be said.
+pub fn perform<A: Allocator + Copy, R: Read, W: Write, E: Write>(
+    alloc: A,
+    command: Command,
+    readers: &mut Readers<R>,
+    writer: &mut Metered<W>,
+    teller: &mut Metered<E>,
+) -> Result<End, Fault> {
+    let seed = SEED;
+    let voice = voice(command);
     match command {
-        Command::Plan => plan_cmd(alloc, SEED, first, writer),
-        Command::Check => check_cmd(alloc, SEED, first, second, writer),
-        Command::Deadlock => deadlock_cmd(alloc, SEED, first, second, writer),
-        Command::Replay => replay_cmd(alloc, SEED, first, second, third, writer),
-        Command::Circles => circles_cmd(alloc, SEED, first, second, writer),
-        Command::OwnCircles => own_circles_cmd(alloc, SEED, first, writer),
-        Command::Dot => dot_cmd(alloc, SEED, first, second, writer),
-        Command::OwnDot => own_dot_cmd(alloc, SEED, first, writer),
+        Command::Plan => carry(alloc, &PlanCommand { seed }, voice, readers, writer, teller),
+        Command::Check => carry(
+            alloc,
+            &CheckCommand { seed },
+            voice,
+            readers,
+            writer,
+            teller,
+        ),
+        Command::Deadlock => carry(
+            alloc,
+            &DeadlockCommand { seed },
+            voice,
+            readers,
+            writer,
+            teller,
+        ),
+        Command::Replay => carry(
+            alloc,
+            &ReplayCommand { seed },
+            voice,
+            readers,
+            writer,
+            teller,
+        ),
+        Command::Circles | Command::OwnCircles => {
+            let assigned = matches!(command, Command::Circles);
+            let command = CirclesCommand { seed, assigned };
+            carry(alloc, &command, voice, readers, writer, teller)
+        }
+        Command::Dot | Command::OwnDot => {
+            let assigned = matches!(command, Command::Dot);
+            let command = DotCommand { seed, assigned };
+            carry(alloc, &command, voice, readers, writer, teller)
+        }
     }
 }

@@ -6,10 +6,10 @@
 use crate::command::SEED;
 use crate::declarations::{PLAN_OF_TWO, TWO};
 use std::alloc::{AllocError, Allocator};
-use wq_commands::{Answered, Which, Why, check_texts};
+use wq_commands::{CheckCommand, Command, Texts, Voice};
 use wq_diagnosis::{
-    Kind, Source, of_answered_no, of_certificate, of_declaration, of_no, of_no_item,
-    of_refused_certificate, of_refused_declaration, of_too_many, of_unlawful, of_unread,
+    Diagnosing, Kind, Source, of_certificate, of_declaration, of_no, of_no_item, of_too_many,
+    of_unlawful, of_unread,
 };
 
 /// What is asked to say what is wrong.
@@ -29,7 +29,7 @@ pub enum Saying {
     OfNoItem,
     /// `of_too_many`.
     OfTooMany,
-    /// `check_texts`, and of what it answers what the program asks for.
+    /// The command `check`, and what the program says of its answer.
     OfCheck,
     /// `of_unlawful` of a run, where both items are on one workqueue.
     OfUnlawful,
@@ -351,28 +351,26 @@ impl Saying {
     }
 }
 
-/// Checks a certificate, and asks what the program asks of the answer.
+/// Checks a certificate, and says what the program says of the answer.
 fn say_of_check<A: Allocator + Copy>(
     alloc: A,
     declaration: Source<'_>,
     certificate: Source<'_>,
 ) -> Result<Option<Vec<u8, A>>, AllocError> {
-    let text = declaration.text;
-    let Answered { why, .. } = check_texts(alloc, SEED, text, certificate.text)?;
-    match why {
-        None => Ok(None),
-        Some(
-            Why::Refused {
-                which: Which::Declaration,
-                code,
-                line,
-            },
-        ) => Ok(Some(of_refused_declaration(alloc, declaration, code, line)?)),
-        Some(Why::Refused { code, line, .. }) => {
-            of_refused_certificate(alloc, SEED, Kind::Answer, text, certificate, code, line)
-        }
-        Some(Why::No(no)) => of_answered_no(alloc, SEED, text, certificate, &no),
-    }
+    let first = copied(alloc, declaration.text)?;
+    let second = copied(alloc, certificate.text)?;
+    let texts = Texts::new(first, second, Vec::new(alloc));
+    let command = CheckCommand { seed: SEED };
+    let (outcome, _) = command.answer(alloc, &texts)?;
+    let voice = Diagnosing::two(SEED, declaration.file, Kind::Answer, certificate.file);
+    voice.say(alloc, &texts, &outcome)
+}
+
+/// A copy of these bytes.
+fn copied<A: Allocator + Copy>(alloc: A, bytes: &[u8]) -> Result<Vec<u8, A>, AllocError> {
+    let mut copy = Vec::new(alloc);
+    copy.extend_from_slice(bytes)?;
+    Ok(copy)
 }
 
 /// Asks what is wrong. Nothing where nothing is.

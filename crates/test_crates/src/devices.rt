@@ -27,7 +27,7 @@ struct Outcome {
     written: Vec<u8>,
 }
 
-/// Runs a case over readers and a writer that may misbehave.
+/// Runs a case over readers and a writer that may misbehave. What is said is refused, which changes nothing.
 fn run_over(
     alloc: Global,
     case: &Case,
@@ -35,7 +35,8 @@ fn run_over(
     writer: Fake<Vec<u8>>,
 ) -> Outcome {
     let mut writer = Metered::new(writer);
-    let end = perform(alloc, case.command, &mut readers, &mut writer);
+    let mut teller = Metered::new(Fake::failing_after(Vec::new(alloc), 0, ErrorKind::Other));
+    let end = perform(alloc, case.command, &mut readers, &mut writer, &mut teller);
     Outcome {
         end,
         reads: [

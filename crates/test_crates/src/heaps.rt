@@ -4,6 +4,7 @@
 
 use linked_list_allocator::LocalHeap;
 use std::alloc::{AllocError, Global};
+use std::io;
 use std::process::Abort;
 use std::test::Fail;
 use test_cases::{Case, Readers, cases, perform};
@@ -22,7 +23,13 @@ fn run_in(
         third: Metered::new(case.text(2)),
     };
     let mut writer = Metered::new(Vec::new(alloc));
-    let end = perform(&heap, case.command, &mut readers, &mut writer);
+    let end = perform(
+        &heap,
+        case.command,
+        &mut readers,
+        &mut writer,
+        &mut Metered::new(io::sink()),
+    );
     Ok((end, writer.into_inner(), heap.used()))
 }
 

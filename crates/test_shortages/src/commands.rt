@@ -28,7 +28,13 @@ pub(crate) fn readers<'a>(texts: [&'a [u8]; 3]) -> Readers<&'a [u8]> {
 /// How a command ends with this heap.
 fn outcome(alloc: Global, heap: &RefusingHeap<Global>, asked: Asked<'_, '_>) -> Outcome {
     let mut writer = Metered::new(Vec::new(alloc));
-    let end = perform(heap, asked.command, &mut readers(asked.texts), &mut writer);
+    let end = perform(
+        heap,
+        asked.command,
+        &mut readers(asked.texts),
+        &mut writer,
+        &mut Metered::new(io::sink()),
+    );
     let is_untouched = writer.calls() == 0;
     let written = writer.into_inner();
     match end {

@@ -10,7 +10,13 @@ use wq_commands::{End, Fault, Metered};
 /// What a command answers with enough memory, and how it ends.
 fn answered(alloc: Global, command: Command, texts: [&[u8]; 3]) -> Result<(End, Vec<u8>), Fault> {
     let mut writer = Metered::new(Vec::new(alloc));
-    let end = perform(alloc, command, &mut readers(texts), &mut writer)?;
+    let end = perform(
+        alloc,
+        command,
+        &mut readers(texts),
+        &mut writer,
+        &mut Metered::new(io::sink()),
+    )?;
     Ok((end, writer.into_inner()))
 }
 

@@ -1,14 +1,19 @@
 -- The answer to a declaration and an assignment: the flushes that are on a circle.
-use Rattle.std.specs.Prelude.{◌≡◌, ◌≢◌, ℕ, List, [], MatchResult}
+use Rattle.std.specs.Prelude.{◌≡◌, ◌≢◌, Bool, false, true, ℕ, List, [], MatchResult}
 use Rattle.wq_groups.specs.Assignment.{Assignment}
 use Rattle.wq_graph.specs.declared.arc.WaitArc.{WaitArc}
 use Rattle.wq_core.specs.Wiring.{own_lanes}
 use Rattle.wq_cert.specs.Texts.{assignment_of_text, cert_refusal}
+use Rattle.wq_meter.specs.Shell.{Given}
+use Rattle.wq_meter.specs.declared.texts.Limits.{Limits}
 use Rattle.wq_commands.specs.declared.end.End.{End}
+use Rattle.wq_commands.specs.declared.why.Outcome.{Outcome}
 use Rattle.wq_commands.specs.declared.end.End.TheVariants.{Good, Bad, Refused}
 use Rattle.wq_commands.specs.Answer.{declared_waits, IsRefused}
+use Rattle.wq_commands.specs.Commands.{one_text, two_texts}
 use Rattle.wq_commands.specs.Deadlocking.{safe_text}
 use Rattle.wq_commands.specs.Declaration.{Declared, declaration}
+use Rattle.wq_commands.specs.Why.{SaysAssigned, SaysDeclared}
 use Rattle.wq_circles.specs.Components.{AreComponents}
 use Rattle.wq_circles.specs.ComponentsText.{components_text}
 
@@ -38,3 +43,15 @@ Circles declared text end out = MatchResult (declaration declared) (λ s. Circle
 abbrev pub OwnCircles : List ℕ → End → List ℕ → Type 0
 OwnCircles declared end out =
     MatchResult (declaration declared) (λ s. CirclesAssigned s (own_lanes s.partition.groups) end out) (λ r. IsRefused r end out)
+
+-- ---- the command, with an assignment or without one
+
+-- how many texts it has, and how long they may be
+abbrev pub circles_limits : Bool → Limits
+circles_limits true = two_texts
+circles_limits false = one_text
+
+-- its answer, and why
+abbrev pub CirclesTexts : Bool → Given → Outcome → List ℕ → Type 0
+CirclesTexts true texts outcome out = Circles texts.first texts.second outcome.end out × SaysAssigned texts.first texts.second outcome.why
+CirclesTexts false texts outcome out = OwnCircles texts.first outcome.end out × SaysDeclared texts.first outcome.why

@@ -12,11 +12,43 @@ ghost use Rattle.wq_commands.specs.Declaration.{max_declaration};
 ghost use Rattle.wq_commands.specs.declared.end.End.{End};
 ghost use Rattle.wq_circles.specs.CirclesInput.{CirclesInput, OwnCirclesInput, KeepsCirclesOfInput, KeepsOwnCirclesOfInput};
 
-use crate::circling::{circle, circle_own};
-use std::alloc::Allocator;
-use std::io::{Read, Write};
-use wq_commands::{End, MAX_DECLARATION, read_two, write_answer};
-use wq_meter::{Fault, Metered, read_text};
+use crate::circling::circle;
+use std::alloc::{AllocError, Allocator};
+use std::io::{self, Read, Write};
+use wq_commands::{Answered, End, ONE_TEXT, Outcome, TWO_TEXTS, end_of};
+use wq_meter::{Command, Fault, Limits, Metered, Silent, Texts, carry_out};
+
+/// The command `circles`: its texts are a declaration and, where there is one, an assignment.
+#[derive(Clone, Copy, Debug)]
+pub struct CirclesCommand {
+    /// The names are hashed with this. No answer depends on it.
+    pub seed: u64,
+    /// Whether there is an assignment.
+    pub assigned: bool,
+}
+
+impl<A: Allocator + Copy> Command<A> for CirclesCommand {
+    ghost use Rattle.wq_circles.specs.Circling.{CirclesTexts, circles_limits};
+
+    type End = Outcome;
+
+    type Stop = AllocError;
+
+    ghost limits = { λ command. circles_limits command.assigned };
+
+    ghost answers = { λ command texts outcome out. CirclesTexts command.assigned texts outcome out };
+
+    ghost stops = { λ _ _ _. Unit {0} };
+
+    fn limits(&self) -> Limits {
+        if self.assigned { TWO_TEXTS } else { ONE_TEXT }
+    }
+
+    fn answer(&self, alloc: A, texts: &Texts<A>) -> Result<(Outcome, Vec<u8, A>), AllocError> {
+        let Answered { end, text, why } = circle(alloc, self.seed, self.assigned, texts)?;
+        Ok((Outcome { end, why }, text))
+    }
+}
 
 /// Reads a declaration and then an assignment to their ends, and writes the flushes that lie on a circle of its workqueues, by
 /// components, or `safe` where there is none. Where one of the two is refused, it writes the refusal of the first that is.
@@ -69,9 +101,22 @@ pub fn circles_cmd<D: Read, S: Read, W: Write, A: Allocator + Copy>(
     ensures write_failed { result ≡ Err Fault.Write → writer.new.failures ≡ count_after writer.old.failures 1 }
     ensures no_write_failed { result ≢ Err Fault.Write → writer.new.failures ≡ writer.old.failures }
 {
-    let (text, lanes) = read_two(alloc, declaration, assignment)?;
-    let answer = circle(alloc, seed, &text, &lanes);
-    write_answer(writer, answer)
+    let mut third = Metered::new(io::empty());
+    let mut unsaid = Metered::new(io::sink());
+    let ended = carry_out(
+        alloc,
+        &CirclesCommand {
+            seed,
+            assigned: true,
+        },
+        &Silent,
+        declaration,
+        assignment,
+        &mut third,
+        writer,
+        &mut unsaid,
+    );
+    end_of(ended)
 }
 
 /// Reads a declaration to its end, and writes the flushes that lie on a circle where each group has a workqueue of its own, by
@@ -113,7 +158,21 @@ pub fn own_circles_cmd<D: Read, W: Write, A: Allocator + Copy>(
     ensures write_failed { result ≡ Err Fault.Write → writer.new.failures ≡ count_after writer.old.failures 1 }
     ensures no_write_failed { result ≢ Err Fault.Write → writer.new.failures ≡ writer.old.failures }
 {
-    let text = read_text(alloc, declaration, MAX_DECLARATION)?;
-    let answer = circle_own(alloc, seed, &text);
-    write_answer(writer, answer)
+    let mut second = Metered::new(io::empty());
+    let mut third = Metered::new(io::empty());
+    let mut unsaid = Metered::new(io::sink());
+    let ended = carry_out(
+        alloc,
+        &CirclesCommand {
+            seed,
+            assigned: false,
+        },
+        &Silent,
+        declaration,
+        &mut second,
+        &mut third,
+        writer,
+        &mut unsaid,
+    );
+    end_of(ended)
 }

@@ -3,38 +3,38 @@
 //! The rule is that of "The command `circles`" in docs/FORMAT.md. It takes the time and the memory of reading the texts, of the
 //! components and of their text.
 
-ghost use Rattle.std.specs.Prelude.{◌≡◌, IfOk, length, map};
+ghost use Rattle.std.specs.Prelude.{◌≡◌, IfOk, None, length, map};
 ghost use Rattle.wq_groups.specs.Declaration.{declaration_of};
 ghost use Rattle.wq_core.specs.Wiring.{own_lanes};
 ghost use Rattle.wq_cert.specs.Texts.{assignment_of_text};
 ghost use Rattle.wq_commands.specs.declared.why.Which.TheVariants.{Certificate};
-ghost use Rattle.wq_commands.specs.Why.{SaysFault, SaysAssigned};
+ghost use Rattle.wq_commands.specs.Why.{SaysFault, SaysAssigned, SaysDeclared};
 ghost use Rattle.wq_circles.specs.Components.{AreComponents};
-ghost use Rattle.wq_circles.specs.Circling.{CirclesAssigned, CirclesDeclared, Circles, OwnCircles};
-ghost use Rattle.wq_circles.specs.CirclesPromise.{KeepsCircles};
+ghost use Rattle.wq_circles.specs.Circling.{CirclesAssigned, CirclesDeclared, Circles, CirclesTexts, OwnCircles};
 
 use crate::joining::components;
 use crate::printing::components_text;
 use std::alloc::{AllocError, Allocator};
 use wq_cert::{CertError, read_assignment};
-use wq_commands::{Answered, End, Stop, Which, read_declaration, refuse, safe_text};
+use wq_commands::{Answered, End, Stop, Texts, Which, read_declaration, safe_text};
 use wq_deadlock::own_lanes;
 use wq_graph::WaitArc;
 use wq_groups::{Assignment, Groups};
 use wq_items::ItemTable;
 
-/// How a run of the program that finds these components ends, and what it prints.
+/// The answer where these components are found.
 fn print_components<A: Allocator + Copy>(
     alloc: A,
     table: &ItemTable<'_, A>,
     groups: &Groups<A>,
     assignment: &Assignment<A>,
     components: &[Vec<WaitArc, A>],
-) -> Result<(End, Vec<u8, A>), AllocError>
+) -> Result<Answered<A>, AllocError>
     requires grouped { length groups.now.group_of ≡ length table.now.names }
     requires assigned { length assignment.now.lane_of_group ≡ groups.now.groups }
     requires found { AreComponents (declaration_of table.now groups.now) assignment.now (map (λ l. l.items) components.now) }
-    ensures { IfOk result (λ printed. CirclesAssigned (record { table = table.now; partition = groups.now }) assignment.now printed.0 printed.1.items) }
+    ensures answer { IfOk result (λ a. CirclesAssigned (record { table = table.now; partition = groups.now }) assignment.now a.end a.text.items) }
+    ensures why { IfOk result (λ a. a.why ≡ None) }
 {
     // What holds of every table, of all groups and of every assignment.
     let _items = table.len();
@@ -42,28 +42,29 @@ fn print_components<A: Allocator + Copy>(
     let _lanes = assignment.lanes();
     if components.is_empty() {
         let text = safe_text(alloc)?;
-        return Ok((End::Good, text));
+        return Ok(Answered::plain(End::Good, text));
     }
     let text = components_text(alloc, table, components)?;
-    Ok((End::Bad, text))
+    Ok(Answered::plain(End::Bad, text))
 }
 
-/// How a run of the program that is given an assignment of these groups ends, and what it prints.
+/// The answer to an assignment of these groups.
 fn circle_assigned<A: Allocator + Copy>(
     alloc: A,
     table: &ItemTable<'_, A>,
     groups: &Groups<A>,
     assignment: &Assignment<A>,
-) -> Result<(End, Vec<u8, A>), AllocError>
+) -> Result<Answered<A>, AllocError>
     requires grouped { length groups.now.group_of ≡ length table.now.names }
     requires assigned { length assignment.now.lane_of_group ≡ groups.now.groups }
-    ensures { IfOk result (λ printed. CirclesAssigned (record { table = table.now; partition = groups.now }) assignment.now printed.0 printed.1.items) }
+    ensures answer { IfOk result (λ a. CirclesAssigned (record { table = table.now; partition = groups.now }) assignment.now a.end a.text.items) }
+    ensures why { IfOk result (λ a. a.why ≡ None) }
 {
     let components = components(alloc, table, groups, assignment)?;
     print_components(alloc, table, groups, assignment, &components)
 }
 
-/// How a run of the program that is given the text of an assignment of these groups ends, and what it prints.
+/// The answer to the text of an assignment of these groups.
 fn circle_declared<A: Allocator + Copy>(
     alloc: A,
     table: &ItemTable<'_, A>,
@@ -81,22 +82,22 @@ fn circle_declared<A: Allocator + Copy>(
             let answer = circle_assigned(alloc, table, groups, &assignment);
             // Written as a call, so that the proof has one step for it.
             drop(assignment);
-            let (end, text) = answer?;
-            Ok(Answered::plain(end, text))
+            answer
         }
         Err(CertError::OutOfMemory) => Err(AllocError),
         Err(fault) => { Answered::refused(alloc, Which::Certificate, fault.code(), fault.line()) }
     }
 }
 
-/// How a run of the program that is given no assignment of these groups ends, and what it prints.
+/// The answer to these groups, each on a workqueue of its own.
 fn circle_groups<A: Allocator + Copy>(
     alloc: A,
     table: &ItemTable<'_, A>,
     groups: &Groups<A>,
-) -> Result<(End, Vec<u8, A>), AllocError>
+) -> Result<Answered<A>, AllocError>
     requires { length groups.now.group_of ≡ length table.now.names }
-    ensures { IfOk result (λ printed. CirclesAssigned (record { table = table.now; partition = groups.now }) (own_lanes groups.now.groups) printed.0 printed.1.items) }
+    ensures answer { IfOk result (λ a. CirclesAssigned (record { table = table.now; partition = groups.now }) (own_lanes groups.now.groups) a.end a.text.items) }
+    ensures why { IfOk result (λ a. a.why ≡ None) }
 {
     let assignment = own_lanes(alloc, groups)?;
     circle_assigned(alloc, table, groups, &assignment)
@@ -125,43 +126,14 @@ fn circle_both<A: Allocator + Copy>(
     }
 }
 
-/// The components of the texts of a declaration and an assignment, and beside them which text is refused, if one is. The answer is
-/// true, as `circles_cmd` says.
-///
-/// The only error is out of memory (20). The names are hashed with `seed`. No answer depends on it.
-pub fn circles_texts<A: Allocator + Copy>(
+/// The answer to the text of a declaration alone: each group has a workqueue of its own.
+fn circle_own<A: Allocator + Copy>(
     alloc: A,
     seed: u64,
     text: &[u8],
-    assigned: &[u8],
 ) -> Result<Answered<A>, AllocError>
-    ensures answer { IfOk result (λ a. Circles text.now assigned.now a.end a.text.items) }
-    ensures promised { IfOk result (λ a. KeepsCircles text.now assigned.now a.end a.text.items) }
-    ensures why { IfOk result (λ a. SaysAssigned text.now assigned.now a.why) }
-{
-    circle_both(alloc, seed, text, assigned)
-}
-
-/// How a run of the program that is given the texts of a declaration and an assignment ends, and what it prints.
-pub(crate) fn circle<A: Allocator + Copy>(
-    alloc: A,
-    seed: u64,
-    text: &[u8],
-    assigned: &[u8],
-) -> Result<(End, Vec<u8, A>), AllocError>
-    ensures { IfOk result (λ printed. Circles text.now assigned.now printed.0 printed.1.items) }
-{
-    let Answered { end, text, .. } = circle_both(alloc, seed, text, assigned)?;
-    Ok((end, text))
-}
-
-/// How a run of the program that is given the text of a declaration alone ends, and what it prints.
-pub(crate) fn circle_own<A: Allocator + Copy>(
-    alloc: A,
-    seed: u64,
-    text: &[u8],
-) -> Result<(End, Vec<u8, A>), AllocError>
-    ensures { IfOk result (λ printed. OwnCircles text.now printed.0 printed.1.items) }
+    ensures answer { IfOk result (λ a. OwnCircles text.now a.end a.text.items) }
+    ensures why { IfOk result (λ a. SaysDeclared text.now a.why) }
 {
     match read_declaration(alloc, seed, text) {
         Ok(declared) => {
@@ -169,7 +141,25 @@ pub(crate) fn circle_own<A: Allocator + Copy>(
             drop(declared);
             answer
         }
-        Err(Stop::Refused { code, line }) => refuse(alloc, code, line),
+        Err(Stop::Refused { code, line }) => {
+            Answered::refused(alloc, Which::Declaration, code, line)
+        }
         Err(Stop::OutOfMemory) => Err(AllocError),
+    }
+}
+
+/// The answer to the texts of a declaration and an assignment, or, without an assignment, to that of a declaration alone.
+pub(crate) fn circle<A: Allocator + Copy>(
+    alloc: A,
+    seed: u64,
+    assigned: bool,
+    texts: &Texts<A>,
+) -> Result<Answered<A>, AllocError>
+    ensures { IfOk result (λ a. CirclesTexts assigned texts.now (record { end = a.end; why = a.why }) a.text.items) }
+{
+    if assigned {
+        circle_both(alloc, seed, texts.first(), texts.second())
+    } else {
+        circle_own(alloc, seed, texts.first())
     }
 }

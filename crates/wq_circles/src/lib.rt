@@ -12,7 +12,6 @@ mod joining;
 pub mod laws;
 mod printing;
 
-pub use circles::{circles_cmd, own_circles_cmd};
-pub use circling::circles_texts;
+pub use circles::{CirclesCommand, circles_cmd, own_circles_cmd};
 pub use joining::components;
 pub use printing::components_text;

@@ -6,6 +6,7 @@ pub mod TextLength
 pub mod Uniqueness
 pub mod CheckLemmas
 pub mod InputLemmas
+pub mod CommandLemmas
 pub mod JudgeLemmas
 pub mod NamedSteps
 pub mod PromiseLemmas

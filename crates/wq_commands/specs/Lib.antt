@@ -13,6 +13,7 @@ pub mod PrintedChecked
 pub mod Checking
 pub mod YesIsTrue
 pub mod CheckInput
+pub mod Commands
 pub mod Replaying
 pub mod Deadlocking
 pub mod DeadlockInput

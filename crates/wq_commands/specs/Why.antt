@@ -1,22 +1,33 @@
--- What is said beside an answer: which text is refused, and for what; or what a certificate lacks.
+-- What is said beside an answer: which text is refused, and for what; what a certificate lacks; or which step isn't lawful.
 use Rattle.std.specs.Prelude.{◌≡◌, List, ℕ, Option, Some, None, Result, Ok, Err, MatchResult}
 use Rattle.wq_text.specs.Refusal.{Refusal}
+use Rattle.wq_groups.specs.Assignment.{Assignment}
+use Rattle.wq_core.specs.declared.step.Step.{Step}
+use Rattle.wq_core.specs.Wiring.{wiring}
 use Rattle.wq_cert.specs.declared.fault.CertError.{CertError}
 use Rattle.wq_cert.specs.Certificate.{Certificate}
 use Rattle.wq_cert.specs.Texts.{answer_of, assignment_of_text, run_of, cert_refusal}
 use Rattle.wq_checker.specs.declared.answer.Yes.{Yes}
 use Rattle.wq_checker.specs.declared.answer.No.{No}
 use Rattle.wq_checker.specs.Answers.{AnswersCertificate}
+use Rattle.wq_checker.specs.declared.run.RunEnd.{RunEnd}
+use Rattle.wq_checker.specs.declared.run.RunEnd.TheVariants as ends
+use Rattle.wq_checker.specs.declared.run.RunEnd.TheVariants.{Free, Deadlock, Stuck}
+use Rattle.wq_checker.specs.RunEnds.{EndsAs}
 use Rattle.wq_commands.specs.declared.why.Which.{Which}
 use Rattle.wq_commands.specs.declared.why.Which.TheVariants.{Declaration, Certificate as SecondText, Run}
 use Rattle.wq_commands.specs.declared.why.Why.{Why}
-use Rattle.wq_commands.specs.declared.why.Why.TheVariants.{Refused, No as Lacks}
+use Rattle.wq_commands.specs.declared.why.Why.TheVariants.{NotLawful, Refused, No as Lacks}
 use Rattle.wq_commands.specs.Answer.{declared_waits}
 use Rattle.wq_commands.specs.Declaration.{Declared, declaration}
 
 -- this text is refused
 abbrev pub refused_for : Which → Refusal → Option Why
 refused_for which r = Some (Refused which r.code r.line)
+
+-- a declaration: it is refused, or there is nothing to say
+abbrev pub SaysDeclared : List ℕ → Option Why → Type 0
+SaysDeclared declared why = MatchResult (declaration declared) (λ _. why ≡ None) (λ r. why ≡ refused_for Declaration r)
 
 -- a text was read: it is refused for the fault that it has, or there is nothing to say
 abbrev pub SaysFault : {V : Type 0} → Which → Result V CertError → Option Why → Type 0
@@ -27,10 +38,25 @@ abbrev pub SaysAssigned : List ℕ → List ℕ → Option Why → Type 0
 SaysAssigned declared assigned why =
     MatchResult (declaration declared) (λ s. SaysFault SecondText (assignment_of_text s.table.names s.partition assigned) why) (λ r. why ≡ refused_for Declaration r)
 
+-- which step isn't lawful, if a run ends like this
+abbrev pub unlawful : RunEnd → Option Why
+unlawful Free = None
+unlawful Deadlock = None
+unlawful Stuck = None
+unlawful (ends.NotLawful n) = Some (NotLawful n)
+
+-- how these steps end under an assignment says which of them isn't lawful, if one isn't
+abbrev pub SaysSteps : Declared → Assignment → List Step → Option Why → Type 0
+SaysSteps s a steps why = (run_end : RunEnd) × EndsAs (wiring (declared_waits s) a) steps run_end × (why ≡ unlawful run_end)
+
+-- a run under an assignment of a declaration: it is refused, or a step isn't lawful, or there is nothing to say
+abbrev pub SaysRunUnder : Declared → Assignment → List ℕ → Option Why → Type 0
+SaysRunUnder s a run why = MatchResult (run_of s.table.names run) (λ steps. SaysSteps s a steps why) (λ fault. why ≡ refused_for Run (cert_refusal fault))
+
 -- an assignment of a declaration, and a run
 abbrev pub SaysRun : Declared → List ℕ → List ℕ → Option Why → Type 0
 SaysRun s assigned run why =
-    MatchResult (assignment_of_text s.table.names s.partition assigned) (λ _. SaysFault Run (run_of s.table.names run) why)
+    MatchResult (assignment_of_text s.table.names s.partition assigned) (λ a. SaysRunUnder s a run why)
     (λ fault. why ≡ refused_for SecondText (cert_refusal fault))
 
 -- a declaration, an assignment of it, and a run: the first of them that is refused

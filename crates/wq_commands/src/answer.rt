@@ -3,18 +3,19 @@
 //! It takes time in the length of the text, and for a circle also the time of its run (`wq_deadlock`). It takes memory in the
 //! length of the text.
 
-ghost use Rattle.std.specs.Prelude.{◌≡◌, IfOk, length};
+ghost use Rattle.std.specs.Prelude.{◌≡◌, IfOk, None, length};
 ghost use Rattle.wq_groups.specs.Declaration.{declaration_of};
 ghost use Rattle.wq_core.specs.Wiring.{wiring, own_lanes};
 ghost use Rattle.wq_core.specs.Deadlock.{Deadlocks};
 ghost use Rattle.wq_deadlock.specs.Verdict.{IsDeadlock};
 ghost use Rattle.wq_plan.specs.Solve.{IsPlanned, IsCircled, Solves};
 ghost use Rattle.wq_commands.specs.Answer.{Answers, AnswersDeclared, PrintsCircle, text_of_plan};
+ghost use Rattle.wq_commands.specs.Why.{SaysDeclared};
 
 use crate::arc_ends::ends_of;
 use crate::declaration::{Stop, read_declaration};
 use crate::end::End;
-use crate::refusal::refuse;
+use crate::why::{Answered, Which};
 use std::alloc::{AllocError, Allocator};
 use wq_cert::{circle_text, plan_text};
 use wq_core::Step;
@@ -78,49 +79,52 @@ pub fn text_of_circle<A: Allocator + Copy>(
     circle_text(alloc, table, &ends, Some(steps.as_slice()))
 }
 
-/// How a run that has this answer to these groups ends, and what it prints.
+/// What is printed of this answer to these groups.
 fn print_answer<A: Allocator + Copy>(
     alloc: A,
     table: &ItemTable<'_, A>,
     groups: &Groups<A>,
     answer: &Answer<A>,
-) -> Result<(End, Vec<u8, A>), AllocError>
+) -> Result<Answered<A>, AllocError>
     requires grouped { length groups.now.group_of ≡ length table.now.names }
     requires solved { Solves (declaration_of table.now groups.now) answer.now }
-    ensures { IfOk result (λ printed. AnswersDeclared (record { table = table.now; partition = groups.now }) printed.0 printed.1.items) }
+    ensures answer { IfOk result (λ a. AnswersDeclared (record { table = table.now; partition = groups.now }) a.end a.text.items) }
+    ensures why { IfOk result (λ a. a.why ≡ None) }
 {
     match answer {
         Answer::Plan { assignment, chain } => {
             let text = text_of_plan(alloc, table, groups, assignment, chain)?;
-            Ok((End::Good, text))
+            Ok(Answered::plain(End::Good, text))
         }
         Answer::Circle { arcs } => {
             let text = text_of_circle(alloc, table, groups, arcs)?;
-            Ok((End::Bad, text))
+            Ok(Answered::plain(End::Bad, text))
         }
     }
 }
 
-/// How a run that is given these items and their groups ends, and what it prints.
+/// The answer to these items and their groups.
 fn answer_declared<A: Allocator + Copy>(
     alloc: A,
     table: &ItemTable<'_, A>,
     groups: &Groups<A>,
-) -> Result<(End, Vec<u8, A>), AllocError>
+) -> Result<Answered<A>, AllocError>
     requires { length groups.now.group_of ≡ length table.now.names }
-    ensures { IfOk result (λ printed. AnswersDeclared (record { table = table.now; partition = groups.now }) printed.0 printed.1.items) }
+    ensures answer { IfOk result (λ a. AnswersDeclared (record { table = table.now; partition = groups.now }) a.end a.text.items) }
+    ensures why { IfOk result (λ a. a.why ≡ None) }
 {
     let answer = solve(alloc, table, groups)?;
     print_answer(alloc, table, groups, &answer)
 }
 
-/// How a run that is given this text ends, and what it prints.
+/// The answer to the text of a declaration, and its refusal, if it is refused.
 pub(crate) fn answer<A: Allocator + Copy>(
     alloc: A,
     seed: u64,
     text: &[u8],
-) -> Result<(End, Vec<u8, A>), AllocError>
-    ensures { IfOk result (λ answer. Answers text.now answer.0 answer.1.items) }
+) -> Result<Answered<A>, AllocError>
+    ensures answer { IfOk result (λ a. Answers text.now a.end a.text.items) }
+    ensures why { IfOk result (λ a. SaysDeclared text.now a.why) }
 {
     match read_declaration(alloc, seed, text) {
         Ok(declared) => {
@@ -129,7 +133,9 @@ pub(crate) fn answer<A: Allocator + Copy>(
             drop(declared);
             answer
         }
-        Err(Stop::Refused { code, line }) => refuse(alloc, code, line),
+        Err(Stop::Refused { code, line }) => {
+            Answered::refused(alloc, Which::Declaration, code, line)
+        }
         Err(Stop::OutOfMemory) => Err(AllocError),
     }
 }

@@ -13,11 +13,42 @@ ghost use Rattle.wq_commands.specs.declared.end.End.{End};
 
 use crate::checking::check;
 use crate::end::End;
-use crate::inputs::read_two;
-use crate::outputs::write_answer;
-use std::alloc::Allocator;
-use std::io::{Read, Write};
-use wq_meter::{Fault, Metered};
+use crate::limits::TWO_TEXTS;
+use crate::outcome::end_of;
+use crate::why::{Answered, Outcome};
+use std::alloc::{AllocError, Allocator};
+use std::io::{self, Read, Write};
+use wq_meter::{Command, Fault, Limits, Metered, Silent, Texts, carry_out};
+
+/// The command `check`: its texts are a declaration and a certificate.
+#[derive(Clone, Copy, Debug)]
+pub struct CheckCommand {
+    /// The names are hashed with this. No answer depends on it.
+    pub seed: u64,
+}
+
+impl<A: Allocator + Copy> Command<A> for CheckCommand {
+    ghost use Rattle.wq_commands.specs.Commands.{ChecksTexts, two_texts};
+
+    type End = Outcome;
+
+    type Stop = AllocError;
+
+    ghost limits = { λ _. two_texts };
+
+    ghost answers = { λ _ texts outcome out. ChecksTexts texts outcome out };
+
+    ghost stops = { λ _ _ _. Unit {0} };
+
+    fn limits(&self) -> Limits {
+        TWO_TEXTS
+    }
+
+    fn answer(&self, alloc: A, texts: &Texts<A>) -> Result<(Outcome, Vec<u8, A>), AllocError> {
+        let Answered { end, text, why } = check(alloc, self.seed, texts.first(), texts.second())?;
+        Ok((Outcome { end, why }, text))
+    }
+}
 
 /// Reads a declaration and then a certificate to their ends, and writes what the checker answers: `yes K`, `yes circle N` or `no
 /// ..`. Where one of the two is refused, it writes the refusal of the first that is.
@@ -71,7 +102,17 @@ pub fn check_cmd<D: Read, C: Read, W: Write, A: Allocator + Copy>(
     ensures write_failed { result ≡ Err Fault.Write → writer.new.failures ≡ count_after writer.old.failures 1 }
     ensures no_write_failed { result ≢ Err Fault.Write → writer.new.failures ≡ writer.old.failures }
 {
-    let (text, claim) = read_two(alloc, declaration, certificate)?;
-    let answer = check(alloc, seed, &text, &claim);
-    write_answer(writer, answer)
+    let mut third = Metered::new(io::empty());
+    let mut unsaid = Metered::new(io::sink());
+    let ended = carry_out(
+        alloc,
+        &CheckCommand { seed },
+        &Silent,
+        declaration,
+        certificate,
+        &mut third,
+        writer,
+        &mut unsaid,
+    );
+    end_of(ended)
 }

@@ -10,8 +10,6 @@ ghost use Rattle.wq_checker.specs.Answers.{IsAsked};
 ghost use Rattle.wq_checker.specs.declared.answer.No.TheVariants.{NotFalling};
 ghost use Rattle.wq_commands.specs.Checking.{yes_words, no_details, no_words, NamesItems, PrintsCheck, AnswersCheck, ChecksDeclared, Checks};
 ghost use Rattle.wq_commands.specs.Why.{lack, SaysLack, SaysCertificate, SaysChecked};
-ghost use Rattle.wq_commands.specs.YesIsTrue.{YesIsTrue};
-ghost use Rattle.wq_commands.specs.declared.end.End.TheVariants.{Good};
 
 use crate::declaration::{Stop, read_declaration};
 use crate::end::End;
@@ -181,8 +179,9 @@ fn check_declared<A: Allocator + Copy>(
     }
 }
 
-/// The answer to both texts.
-fn check_both<A: Allocator + Copy>(
+/// The checker's answer to the texts of a declaration and a certificate, and beside it which text is refused, or what the
+/// certificate lacks.
+pub(crate) fn check<A: Allocator + Copy>(
     alloc: A,
     seed: u64,
     text: &[u8],
@@ -202,34 +201,4 @@ fn check_both<A: Allocator + Copy>(
         }
         Err(Stop::OutOfMemory) => Err(AllocError),
     }
-}
-
-/// The checker's answer to the texts of a declaration and a certificate, and beside it which text is refused, or what the
-/// certificate lacks. A yes is true, as `check_cmd` says.
-///
-/// The only error is out of memory (20). The names are hashed with `seed`. No answer depends on it.
-pub fn check_texts<A: Allocator + Copy>(
-    alloc: A,
-    seed: u64,
-    text: &[u8],
-    certificate: &[u8],
-) -> Result<Answered<A>, AllocError>
-    ensures answer { IfOk result (λ a. Checks text.now certificate.now a.end a.text.items) }
-    ensures promised { IfOk result (λ a. a.end ≡ Good → YesIsTrue text.now certificate.now a.text.items) }
-    ensures why { IfOk result (λ a. SaysChecked text.now certificate.now a.why) }
-{
-    check_both(alloc, seed, text, certificate)
-}
-
-/// How a run that is given a declaration and a certificate ends, and what it prints.
-pub(crate) fn check<A: Allocator + Copy>(
-    alloc: A,
-    seed: u64,
-    text: &[u8],
-    certificate: &[u8],
-) -> Result<(End, Vec<u8, A>), AllocError>
-    ensures { IfOk result (λ printed. Checks text.now certificate.now printed.0 printed.1.items) }
-{
-    let Answered { end, text, .. } = check_both(alloc, seed, text, certificate)?;
-    Ok((end, text))
 }

@@ -12,12 +12,43 @@ ghost use Rattle.wq_meter.specs.Input.{AfterGiven, HasFailed, HasGiven};
 ghost use Rattle.wq_commands.specs.declared.end.End.{End};
 
 use crate::end::End;
-use crate::inputs::read_two;
 use crate::judging::judge;
-use crate::outputs::write_answer;
-use std::alloc::Allocator;
-use std::io::{Read, Write};
-use wq_meter::{Fault, Metered};
+use crate::limits::TWO_TEXTS;
+use crate::outcome::end_of;
+use crate::why::{Answered, Outcome};
+use std::alloc::{AllocError, Allocator};
+use std::io::{self, Read, Write};
+use wq_meter::{Command, Fault, Limits, Metered, Silent, Texts, carry_out};
+
+/// The command `deadlock`: its texts are a declaration and an assignment.
+#[derive(Clone, Copy, Debug)]
+pub struct DeadlockCommand {
+    /// The names are hashed with this. No answer depends on it.
+    pub seed: u64,
+}
+
+impl<A: Allocator + Copy> Command<A> for DeadlockCommand {
+    ghost use Rattle.wq_commands.specs.Commands.{JudgesTexts, two_texts};
+
+    type End = Outcome;
+
+    type Stop = AllocError;
+
+    ghost limits = { λ _. two_texts };
+
+    ghost answers = { λ _ texts outcome out. JudgesTexts texts outcome out };
+
+    ghost stops = { λ _ _ _. Unit {0} };
+
+    fn limits(&self) -> Limits {
+        TWO_TEXTS
+    }
+
+    fn answer(&self, alloc: A, texts: &Texts<A>) -> Result<(Outcome, Vec<u8, A>), AllocError> {
+        let Answered { end, text, why } = judge(alloc, self.seed, texts.first(), texts.second())?;
+        Ok((Outcome { end, why }, text))
+    }
+}
 
 /// Reads a declaration and then an assignment to their ends, and writes whether the assignment is safe: `safe`, or else the text
 /// of a run by which it deadlocks. Where one of the two is refused, it writes the refusal of the first that is.
@@ -63,7 +94,17 @@ pub fn deadlock_cmd<D: Read, S: Read, W: Write, A: Allocator + Copy>(
     ensures write_failed { result ≡ Err Fault.Write → writer.new.failures ≡ count_after writer.old.failures 1 }
     ensures no_write_failed { result ≢ Err Fault.Write → writer.new.failures ≡ writer.old.failures }
 {
-    let (text, lanes) = read_two(alloc, declaration, assignment)?;
-    let answer = judge(alloc, seed, &text, &lanes);
-    write_answer(writer, answer)
+    let mut third = Metered::new(io::empty());
+    let mut unsaid = Metered::new(io::sink());
+    let ended = carry_out(
+        alloc,
+        &DeadlockCommand { seed },
+        &Silent,
+        declaration,
+        assignment,
+        &mut third,
+        writer,
+        &mut unsaid,
+    );
+    end_of(ended)
 }

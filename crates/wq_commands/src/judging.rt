@@ -123,9 +123,7 @@ fn judge_declared<A: Allocator + Copy>(
 }
 
 /// The verdict on the texts of a declaration and an assignment, and which of them is refused, if one is.
-///
-/// The only error is out of memory (20). The names are hashed with `seed`. No answer depends on it.
-pub fn deadlock_texts<A: Allocator + Copy>(
+pub(crate) fn judge<A: Allocator + Copy>(
     alloc: A,
     seed: u64,
     text: &[u8],
@@ -145,17 +143,4 @@ pub fn deadlock_texts<A: Allocator + Copy>(
         }
         Err(Stop::OutOfMemory) => Err(AllocError),
     }
-}
-
-/// How a run of the program that is given the texts of a declaration and an assignment ends, and what it prints.
-pub(crate) fn judge<A: Allocator + Copy>(
-    alloc: A,
-    seed: u64,
-    text: &[u8],
-    assigned: &[u8],
-) -> Result<(End, Vec<u8, A>), AllocError>
-    ensures { IfOk result (λ printed. Judges text.now assigned.now printed.0 printed.1.items) }
-{
-    let Answered { end, text, .. } = deadlock_texts(alloc, seed, text, assigned)?;
-    Ok((end, text))
 }

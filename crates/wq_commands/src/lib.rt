@@ -1,9 +1,9 @@
-//! The commands of the program, over any reader and any writer, and some of them over texts in memory.
+//! The commands of the program, over any reader and any writer.
 //!
 //! What the program relies on: the bytes written are the answer text to the bytes read. The commands are those of docs/FORMAT.md.
-//! Those over texts in memory also say why they answer a refusal or a `no`.
-//! What a run reads and writes is bounded and counted. A command takes the time of reading its texts, of answering them and of
-//! writing the answer.
+//! Each is one function of its texts (`PlanCommand` and its like), which also says why it answers a refusal or a `no`;
+//! `carry_out` reads, asks and writes for all of them. What a run reads and writes is bounded and counted. A command takes the time
+//! of reading its texts, of answering them and of writing the answer.
 #![tactic(auto)]
 
 mod answer;
@@ -13,10 +13,10 @@ mod checking;
 mod deadlock;
 mod declaration;
 mod end;
-mod inputs;
 mod judging;
 pub mod laws;
-mod outputs;
+mod limits;
+mod outcome;
 mod plan;
 mod refusal;
 mod replay;
@@ -24,17 +24,18 @@ mod replaying;
 mod why;
 
 pub use answer::text_of_circle;
-pub use check::check_cmd;
-pub use checking::check_texts;
-pub use deadlock::deadlock_cmd;
+pub use check::{CheckCommand, check_cmd};
+pub use deadlock::{DeadlockCommand, deadlock_cmd};
 pub use declaration::{Declaration, MAX_DECLARATION, Stop, read_declaration};
 pub use end::End;
-pub use inputs::read_two;
-pub use judging::{deadlock_texts, safe_text};
-pub use outputs::write_answer;
-pub use plan::plan_cmd;
+pub use judging::safe_text;
+pub use limits::{ONE_TEXT, THREE_TEXTS, TWO_TEXTS};
+pub use outcome::end_of;
+pub use plan::{PlanCommand, plan_cmd};
 pub use refusal::refuse;
-pub use replay::replay_cmd;
-pub use replaying::replay_texts;
-pub use why::{Answered, Which, Why};
-pub use wq_meter::{Fault, Metered, read_text, write_text};
+pub use replay::{ReplayCommand, replay_cmd};
+pub use why::{Answered, Outcome, Which, Why};
+pub use wq_meter::{
+    Command, Fault, Limits, Metered, Silent, Stopped, Texts, Voice, carry_out, read_text,
+    write_text,
+};

@@ -9,12 +9,43 @@ ghost use Rattle.wq_commands.specs.Run.{AnswersInput, KeepsPromiseOfInput};
 ghost use Rattle.wq_commands.specs.declared.end.End.{End};
 
 use crate::answer::answer;
-use crate::declaration::MAX_DECLARATION;
 use crate::end::End;
-use crate::outputs::write_answer;
-use std::alloc::Allocator;
-use std::io::{Read, Write};
-use wq_meter::{Fault, Metered, read_text};
+use crate::limits::ONE_TEXT;
+use crate::outcome::end_of;
+use crate::why::{Answered, Outcome};
+use std::alloc::{AllocError, Allocator};
+use std::io::{self, Read, Write};
+use wq_meter::{Command, Fault, Limits, Metered, Silent, Texts, carry_out};
+
+/// The command `plan`: its one text is a declaration.
+#[derive(Clone, Copy, Debug)]
+pub struct PlanCommand {
+    /// The names are hashed with this. No answer depends on it.
+    pub seed: u64,
+}
+
+impl<A: Allocator + Copy> Command<A> for PlanCommand {
+    ghost use Rattle.wq_commands.specs.Commands.{Plans, one_text};
+
+    type End = Outcome;
+
+    type Stop = AllocError;
+
+    ghost limits = { λ _. one_text };
+
+    ghost answers = { λ _ texts outcome out. Plans texts outcome out };
+
+    ghost stops = { λ _ _ _. Unit {0} };
+
+    fn limits(&self) -> Limits {
+        ONE_TEXT
+    }
+
+    fn answer(&self, alloc: A, texts: &Texts<A>) -> Result<(Outcome, Vec<u8, A>), AllocError> {
+        let Answered { end, text, why } = answer(alloc, self.seed, texts.first())?;
+        Ok((Outcome { end, why }, text))
+    }
+}
 
 /// Reads a declaration to its end and writes its answer: the text of its plan, or that of the circle in which its groups wait,
 /// with a run that shows it, or the refusal.
@@ -58,7 +89,18 @@ pub fn plan_cmd<R: Read, W: Write, A: Allocator + Copy>(
     ensures write_failed { result ≡ Err Fault.Write → writer.new.failures ≡ count_after writer.old.failures 1 }
     ensures no_write_failed { result ≢ Err Fault.Write → writer.new.failures ≡ writer.old.failures }
 {
-    let text = read_text(alloc, reader, MAX_DECLARATION)?;
-    let answer = answer(alloc, seed, &text);
-    write_answer(writer, answer)
+    let mut second = Metered::new(io::empty());
+    let mut third = Metered::new(io::empty());
+    let mut unsaid = Metered::new(io::sink());
+    let ended = carry_out(
+        alloc,
+        &PlanCommand { seed },
+        &Silent,
+        reader,
+        &mut second,
+        &mut third,
+        writer,
+        &mut unsaid,
+    );
+    end_of(ended)
 }

@@ -13,12 +13,49 @@ ghost use Rattle.wq_meter.specs.Input.{AfterGiven, HasFailed, HasGiven};
 ghost use Rattle.wq_commands.specs.declared.end.End.{End};
 
 use crate::end::End;
-use crate::inputs::read_three;
-use crate::outputs::write_answer;
+use crate::limits::THREE_TEXTS;
+use crate::outcome::end_of;
 use crate::replaying::replay;
-use std::alloc::Allocator;
-use std::io::{Read, Write};
-use wq_meter::{Fault, Metered};
+use crate::why::{Answered, Outcome};
+use std::alloc::{AllocError, Allocator};
+use std::io::{self, Read, Write};
+use wq_meter::{Command, Fault, Limits, Metered, Silent, Texts, carry_out};
+
+/// The command `replay`: its texts are a declaration, an assignment and a run.
+#[derive(Clone, Copy, Debug)]
+pub struct ReplayCommand {
+    /// The names are hashed with this. No answer depends on it.
+    pub seed: u64,
+}
+
+impl<A: Allocator + Copy> Command<A> for ReplayCommand {
+    ghost use Rattle.wq_commands.specs.Commands.{ReplaysTexts, three_texts};
+
+    type End = Outcome;
+
+    type Stop = AllocError;
+
+    ghost limits = { λ _. three_texts };
+
+    ghost answers = { λ _ texts outcome out. ReplaysTexts texts outcome out };
+
+    ghost stops = { λ _ _ _. Unit {0} };
+
+    fn limits(&self) -> Limits {
+        THREE_TEXTS
+    }
+
+    fn answer(&self, alloc: A, texts: &Texts<A>) -> Result<(Outcome, Vec<u8, A>), AllocError> {
+        let Answered { end, text, why } = replay(
+            alloc,
+            self.seed,
+            texts.first(),
+            texts.second(),
+            texts.third(),
+        )?;
+        Ok((Outcome { end, why }, text))
+    }
+}
 
 /// Reads a declaration, an assignment and a run to their ends, makes the steps of the run, and writes how it ends: `open`,
 /// `deadlock`, `stuck` or `not lawful N`. Where one of the three is refused, it writes the refusal of the first that is.
@@ -71,7 +108,16 @@ pub fn replay_cmd<D: Read, S: Read, R: Read, W: Write, A: Allocator + Copy>(
     ensures write_failed { result ≡ Err Fault.Write → writer.new.failures ≡ count_after writer.old.failures 1 }
     ensures no_write_failed { result ≢ Err Fault.Write → writer.new.failures ≡ writer.old.failures }
 {
-    let (text, lanes, steps) = read_three(alloc, declaration, assignment, run)?;
-    let answer = replay(alloc, seed, &text, &lanes, &steps);
-    write_answer(writer, answer)
+    let mut unsaid = Metered::new(io::sink());
+    let ended = carry_out(
+        alloc,
+        &ReplayCommand { seed },
+        &Silent,
+        declaration,
+        assignment,
+        run,
+        writer,
+        &mut unsaid,
+    );
+    end_of(ended)
 }

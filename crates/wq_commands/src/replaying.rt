@@ -2,16 +2,14 @@
 //!
 //! It takes the time and the memory of reading the three texts and of making the steps.
 
-ghost use Rattle.std.specs.Prelude.{◌≡◌, ◌∷◌, [], ◌<◌, IfOk, None, length, codes, decimal};
+ghost use Rattle.std.specs.Prelude.{◌≡◌, ◌∷◌, [], ◌<◌, IfOk, length, codes, decimal};
 ghost use Rattle.wq_lines.specs.LineText.{line_text};
-ghost use Rattle.wq_cert.specs.Texts.{run_of};
 ghost use Rattle.wq_commands.specs.Replaying.{replay_words, replay_end, AnswersReplay, ReplaysAssigned, ReplaysDeclared, Replays};
-ghost use Rattle.wq_commands.specs.declared.why.Which.TheVariants.{Run};
-ghost use Rattle.wq_commands.specs.Why.{SaysFault, SaysRun, SaysReplayed};
+ghost use Rattle.wq_commands.specs.Why.{unlawful, SaysSteps, SaysRunUnder, SaysRun, SaysReplayed};
 
 use crate::declaration::{Stop, read_declaration};
 use crate::end::End;
-use crate::why::{Answered, Which};
+use crate::why::{Answered, Which, Why};
 use std::alloc::{AllocError, Allocator};
 use wq_cert::{CertError, read_assignment, read_run};
 use wq_checker::{RunEnd, check_run};
@@ -63,6 +61,16 @@ fn replay_end(end: RunEnd) -> End
     }
 }
 
+/// Which step isn't lawful, if a run ends like this.
+fn unlawful(end: RunEnd) -> Option<Why>
+    ensures { result ≡ unlawful end }
+{
+    match end {
+        RunEnd::Free | RunEnd::Deadlock | RunEnd::Stuck => None,
+        RunEnd::NotLawful(number) => Some(Why::NotLawful(number)),
+    }
+}
+
 /// The answer to a run that makes these steps.
 fn replay_steps<A: Allocator + Copy>(
     alloc: A,
@@ -75,11 +83,15 @@ fn replay_steps<A: Allocator + Copy>(
     requires assigned { length assignment.now.lane_of_group ≡ groups.now.groups }
     requires few { length steps.now < 4294967295 }
     ensures answer { IfOk result (λ a. AnswersReplay (record { table = table.now; partition = groups.now }) assignment.now steps.now a.end a.text.items) }
-    ensures why { IfOk result (λ a. a.why ≡ None) }
+    ensures why { IfOk result (λ a. SaysSteps (record { table = table.now; partition = groups.now }) assignment.now steps.now a.why) }
 {
     let end = check_run(alloc, table, groups, assignment, steps)?;
     let text = replay_text(alloc, end)?;
-    Ok(Answered::plain(replay_end(end), text))
+    Ok(Answered {
+        end: replay_end(end),
+        text,
+        why: unlawful(end),
+    })
 }
 
 /// The answer to an assignment of these groups and the text of a run.
@@ -93,7 +105,7 @@ fn replay_assigned<A: Allocator + Copy>(
     requires grouped { length groups.now.group_of ≡ length table.now.names }
     requires assigned { length assignment.now.lane_of_group ≡ groups.now.groups }
     ensures answer { IfOk result (λ a. ReplaysAssigned (record { table = table.now; partition = groups.now }) assignment.now text.now a.end a.text.items) }
-    ensures why { IfOk result (λ a. SaysFault Run (run_of table.now.names text.now) a.why) }
+    ensures why { IfOk result (λ a. SaysRunUnder (record { table = table.now; partition = groups.now }) assignment.now text.now a.why) }
 {
     // What holds of every table and of all groups.
     let _items = table.len();
@@ -138,9 +150,7 @@ fn replay_declared<A: Allocator + Copy>(
 
 /// How the run in the third text ends, for the declaration and the assignment in the first two, and which of them is refused, if
 /// one is.
-///
-/// The only error is out of memory (20). The names are hashed with `seed`. No answer depends on it.
-pub fn replay_texts<A: Allocator + Copy>(
+pub(crate) fn replay<A: Allocator + Copy>(
     alloc: A,
     seed: u64,
     text: &[u8],
@@ -161,18 +171,4 @@ pub fn replay_texts<A: Allocator + Copy>(
         }
         Err(Stop::OutOfMemory) => Err(AllocError),
     }
-}
-
-/// How a run of the program that is given the texts of a declaration, an assignment and a run ends, and what it prints.
-pub(crate) fn replay<A: Allocator + Copy>(
-    alloc: A,
-    seed: u64,
-    text: &[u8],
-    assigned: &[u8],
-    run: &[u8],
-) -> Result<(End, Vec<u8, A>), AllocError>
-    ensures { IfOk result (λ printed. Replays text.now assigned.now run.now printed.0 printed.1.items) }
-{
-    let Answered { end, text, .. } = replay_texts(alloc, seed, text, assigned, run)?;
-    Ok((end, text))
 }

@@ -1,7 +1,7 @@
-//! What is said beside an answer: which text is refused, and for what; or what a certificate lacks.
+//! What is said beside an answer: which text is refused, and for what; what a certificate lacks; or which step isn't lawful.
 //!
-//! A command on texts in memory hands it out beside the answer. So whoever says it in more words than the answer has
-//! (`wq_diagnosis`) needn't read the texts again to learn it. It takes constant time.
+//! A command hands it out beside the answer. So whoever says it in more words than the answer has (`wq_diagnosis`) needn't read the
+//! texts again to learn it. It takes constant time.
 
 ghost use Rattle.std.specs.Prelude.{◌≡◌, IfOk, None, Some};
 ghost use Rattle.wq_commands.specs.Answer.{IsRefused};
@@ -32,6 +32,15 @@ pub enum Why {
     Refused { which: Which, code: u32, line: u32 },
     /// The certificate doesn't show what it says.
     No(No),
+    /// The step of this number isn't lawful. The first step is 1.
+    NotLawful(u32),
+}
+
+/// How a command ended: its end, and why, where there is more to say.
+#[derive(Clone, Copy, Debug, PartialEq, Eq)]
+pub struct Outcome {
+    pub end: End,
+    pub why: Option<Why>,
 }
 
 /// What a command answers to texts in memory: how its run ends, what it prints, and why, where there is more to say.

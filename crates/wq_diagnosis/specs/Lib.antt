@@ -1,3 +1,4 @@
 pub mod Diagnosis
 pub mod Refused
 pub mod Unlawful
+pub mod Voice

@@ -11,6 +11,7 @@ mod diagnosis;
 mod replayed;
 mod unlawful;
 mod unread;
+mod voice;
 
 pub use diagnosis::{
     Source, of_answered_no, of_certificate, of_declaration, of_no, of_no_item,
@@ -19,4 +20,5 @@ pub use diagnosis::{
 pub use replayed::of_unlawful;
 pub use unlawful::{Unlawful, reason_of};
 pub use unread::of_unread;
+pub use voice::Diagnosing;
 pub use wq_findings::Kind;

@@ -3,12 +3,11 @@
 //! The form is that of "Diagnoses" in docs/FORMAT.md. It takes the time and the memory of reading the three texts and of making the
 //! steps.
 
-ghost use Rattle.std.specs.Prelude.{◌≡◌, ◌++◌, ◌∷◌, ◌+◌, ◌<◌, ◌×◌, ℕ, None, Some, IfOk, IfSome, OnOk, OnSome, codes, decimal, length, map, slice_get, take};
+ghost use Rattle.std.specs.Prelude.{◌≡◌, ◌∷◌, ◌<◌, ℕ, None, Some, IfOk, IfSome, length, map, slice_get, take};
 ghost use Rattle.wq_core.specs.Held.{AreDone, IsRefusal};
 ghost use Rattle.wq_core.specs.declared.step.StepError.{StepError};
 ghost use Rattle.wq_diagnosis.specs.Diagnosis.{shown_lines};
 ghost use Rattle.wq_diagnosis.specs.Unlawful.{Holds, IsUnlawfulText, item_of, unlawful_head, workqueue_of};
-ghost use Rattle.wq_findings.specs.Shown.{place_text};
 
 use crate::diagnosis::{Source, lines_of, put_line, put_lines};
 use crate::unlawful::{Unlawful, reason_of};
@@ -162,16 +161,18 @@ impl fmt::Display for Sentence<'_> {
 fn said_why<'a, A: Allocator + Copy>(
     table: &ItemTable<'a, A>,
     lanes: usize,
-    found: Found,
+    found: &Found,
 ) -> Sentence<'a> {
-    let Found { step, why, .. } = found;
+    let step = found.step;
     let (q, item) = named(step);
-    let (other, target) = others(why, item);
+    let reason = found.why;
+    let (other, target) = others(reason, item);
     let flushes = if other.get() < table.len() {
         table.waits(other).len()
     } else {
         0
     };
+    let why = found.why;
     Sentence {
         why,
         q,
@@ -285,16 +286,15 @@ fn place_of<'a>(text: &'a [u8], at: u32) -> (&'a [u8], u32, Mark) {
     }
 }
 
-/// What is said of the step that was found.
+/// What is said of the step with this many before it, which isn't lawful for this reason.
 fn said_of<A: Allocator + Copy>(
     alloc: A,
     run: Source<'_>,
-    sentence: Sentence<'_>,
+    what: &str,
     at: u32,
 ) -> Result<Vec<u8, A>, AllocError>
     ensures { IfOk result (λ said. (n : ℕ) × IsUnlawfulText run.entry.file.now n said.items) }
 {
-    let what = sentence.to_string(alloc)?;
     let (bytes, no, mark) = place_of(run.text, at);
     let column = u32::try_from(mark.at).unwrap_or(u32::MAX).saturating_add(1);
     let details = details(alloc, bytes, mark)?;
@@ -302,7 +302,7 @@ fn said_of<A: Allocator + Copy>(
         alloc,
         run.file,
         &[no, column],
-        &what,
+        what,
         at.saturating_add(1),
         &details,
     )
@@ -319,15 +319,17 @@ fn of_steps<A: Allocator + Copy>(
     requires grouped { length declared.now.groups.group_of ≡ length declared.now.table.names }
     requires assigned { length assignment.now.lane_of_group ≡ declared.now.groups.groups }
     requires few { length steps.now < 4294967295 }
-    ensures { IfOk result (λ said. OnSome said (λ text. (n : ℕ) × IsUnlawfulText run.entry.file.now n text.items)) }
+    ensures { IfOk result (λ said. IfSome said (λ text. (n : ℕ) × IsUnlawfulText run.entry.file.now n text.items)) }
 {
     let Declaration { table, groups } = declared;
     let mut core = Core::new(alloc, table, groups, assignment)?;
     let Some(found) = find(&mut core, steps) else {
         return Ok(None);
     };
-    let sentence = said_why(table, core.lanes(), found);
-    let said = said_of(alloc, run, sentence, found.at)?;
+    let sentence = said_why(table, core.lanes(), &found);
+    let what = sentence.to_string(alloc)?;
+    let at = found.at;
+    let said = said_of(alloc, run, &what, at)?;
     Ok(Some(said))
 }
 
@@ -340,7 +342,7 @@ fn of_run<A: Allocator + Copy>(
 ) -> Result<Option<Vec<u8, A>>, AllocError>
     requires grouped { length declared.now.groups.group_of ≡ length declared.now.table.names }
     requires assigned { length assignment.now.lane_of_group ≡ declared.now.groups.groups }
-    ensures { IfOk result (λ said. OnSome said (λ text. (n : ℕ) × IsUnlawfulText run.entry.file.now n text.items)) }
+    ensures { IfOk result (λ said. IfSome said (λ text. (n : ℕ) × IsUnlawfulText run.entry.file.now n text.items)) }
 {
     // What holds of every table and of all groups.
     let _items = declared.table.len();
@@ -364,7 +366,7 @@ fn of_declared<A: Allocator + Copy>(
     run: Source<'_>,
 ) -> Result<Option<Vec<u8, A>>, AllocError>
     requires { length declared.now.groups.group_of ≡ length declared.now.table.names }
-    ensures { IfOk result (λ said. OnSome said (λ text. (n : ℕ) × IsUnlawfulText run.entry.file.now n text.items)) }
+    ensures { IfOk result (λ said. IfSome said (λ text. (n : ℕ) × IsUnlawfulText run.entry.file.now n text.items)) }
 {
     // What holds of every table and of all groups.
     let _items = declared.table.len();
@@ -390,7 +392,7 @@ pub fn of_unlawful<A: Allocator + Copy>(
     assignment: &[u8],
     run: Source<'_>,
 ) -> Result<Option<Vec<u8, A>>, AllocError>
-    ensures { IfOk result (λ said. OnSome said (λ text. (n : ℕ) × IsUnlawfulText run.entry.file.now n text.items)) }
+    ensures { IfOk result (λ said. IfSome said (λ text. (n : ℕ) × IsUnlawfulText run.entry.file.now n text.items)) }
 {
     match read_declaration(alloc, seed, declaration) {
         Ok(declared) => {

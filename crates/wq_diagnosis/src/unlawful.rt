@@ -3,7 +3,6 @@
 //! The rules are those of "Steps" in docs/FORMAT.md, as `wq_core` has them. A call takes the time of a few questions to the machine.
 
 ghost use Rattle.std.specs.Prelude.{IfSome};
-ghost use Rattle.wq_core.specs.Wiring.{items};
 ghost use Rattle.wq_diagnosis.specs.Unlawful.{Holds, item_of, workqueue_of};
 
 use std::alloc::Allocator;

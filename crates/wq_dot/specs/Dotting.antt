@@ -1,5 +1,5 @@
 -- The answer to a declaration and an assignment, or to only a declaration: a drawing.
-use Rattle.std.specs.Prelude.{◌≡◌, ◌⊎◌, ℕ, zero, suc, List, ◌++◌, length, codes, decimal, MatchResult}
+use Rattle.std.specs.Prelude.{◌≡◌, ◌⊎◌, Bool, false, true, ℕ, zero, suc, List, ◌++◌, length, codes, decimal, MatchResult}
 use Rattle.wq_items.specs.Chain.{HasCircle}
 use Rattle.wq_items.specs.Table.{flush_count}
 use Rattle.wq_groups.specs.Declaration.{GroupWaits}
@@ -9,10 +9,15 @@ use Rattle.wq_graph.specs.Graph.{group_graph}
 use Rattle.wq_core.specs.Wiring.{own_lanes}
 use Rattle.wq_plan.specs.Plan.{IsPlan, chain_of}
 use Rattle.wq_cert.specs.Texts.{assignment_of_text, cert_refusal}
+use Rattle.wq_meter.specs.Shell.{Given}
+use Rattle.wq_meter.specs.declared.texts.Limits.{Limits}
 use Rattle.wq_commands.specs.declared.end.End.{End}
+use Rattle.wq_commands.specs.declared.why.Outcome.{Outcome}
 use Rattle.wq_commands.specs.declared.end.End.TheVariants.{Good}
 use Rattle.wq_commands.specs.Answer.{declared_waits, IsRefused}
+use Rattle.wq_commands.specs.Commands.{one_text, two_texts}
 use Rattle.wq_commands.specs.Declaration.{Declared, declaration}
+use Rattle.wq_commands.specs.Why.{SaysAssigned, SaysDeclared}
 use Rattle.wq_circles.specs.Components.{AreComponents}
 use Rattle.wq_drawing.specs.declared.look.FlushLook.{FlushLook}
 use Rattle.wq_drawing.specs.declared.look.FlushLook.TheVariants.{Red, Bold}
@@ -76,3 +81,15 @@ DrawsOwn s end out = (end ≡ Good) × DrawsGroups s out
 -- the answer to only the text of a declaration
 abbrev pub OwnDraws : List ℕ → End → List ℕ → Type 0
 OwnDraws declared end out = MatchResult (declaration declared) (λ s. DrawsOwn s end out) (λ r. IsRefused r end out)
+
+-- ---- the command, with an assignment or without one
+
+-- how many texts it has, and how long they may be
+abbrev pub dot_limits : Bool → Limits
+dot_limits true = two_texts
+dot_limits false = one_text
+
+-- its answer, and why
+abbrev pub DrawsTexts : Bool → Given → Outcome → List ℕ → Type 0
+DrawsTexts true texts outcome out = Draws texts.first texts.second outcome.end out × SaysAssigned texts.first texts.second outcome.why
+DrawsTexts false texts outcome out = OwnDraws texts.first outcome.end out × SaysDeclared texts.first outcome.why

@@ -12,11 +12,43 @@ ghost use Rattle.wq_commands.specs.Declaration.{max_declaration};
 ghost use Rattle.wq_commands.specs.declared.end.End.{End};
 ghost use Rattle.wq_dot.specs.DotInput.{DotInput, OwnDotInput};
 
-use crate::dotting::{draw, draw_own};
-use std::alloc::Allocator;
-use std::io::{Read, Write};
-use wq_commands::{End, MAX_DECLARATION, read_two, write_answer};
-use wq_meter::{Fault, Metered, read_text};
+use crate::dotting::draw;
+use std::alloc::{AllocError, Allocator};
+use std::io::{self, Read, Write};
+use wq_commands::{Answered, End, ONE_TEXT, Outcome, TWO_TEXTS, end_of};
+use wq_meter::{Command, Fault, Limits, Metered, Silent, Texts, carry_out};
+
+/// The command `dot`: its texts are a declaration and, where there is one, an assignment.
+#[derive(Clone, Copy, Debug)]
+pub struct DotCommand {
+    /// The names are hashed with this. No answer depends on it.
+    pub seed: u64,
+    /// Whether there is an assignment.
+    pub assigned: bool,
+}
+
+impl<A: Allocator + Copy> Command<A> for DotCommand {
+    ghost use Rattle.wq_dot.specs.Dotting.{DrawsTexts, dot_limits};
+
+    type End = Outcome;
+
+    type Stop = AllocError;
+
+    ghost limits = { λ command. dot_limits command.assigned };
+
+    ghost answers = { λ command texts outcome out. DrawsTexts command.assigned texts outcome out };
+
+    ghost stops = { λ _ _ _. Unit {0} };
+
+    fn limits(&self) -> Limits {
+        if self.assigned { TWO_TEXTS } else { ONE_TEXT }
+    }
+
+    fn answer(&self, alloc: A, texts: &Texts<A>) -> Result<(Outcome, Vec<u8, A>), AllocError> {
+        let Answered { end, text, why } = draw(alloc, self.seed, self.assigned, texts)?;
+        Ok((Outcome { end, why }, text))
+    }
+}
 
 /// Reads a declaration and then an assignment to their ends, and writes the drawing of the assignment. The flushes that lie on a
 /// circle of its workqueues are red. Where one of the two is refused, it writes the refusal of the first that is.
@@ -62,9 +94,22 @@ pub fn dot_cmd<D: Read, S: Read, W: Write, A: Allocator + Copy>(
     ensures write_failed { result ≡ Err Fault.Write → writer.new.failures ≡ count_after writer.old.failures 1 }
     ensures no_write_failed { result ≢ Err Fault.Write → writer.new.failures ≡ writer.old.failures }
 {
-    let (text, lanes) = read_two(alloc, declaration, assignment)?;
-    let answer = draw(alloc, seed, &text, &lanes);
-    write_answer(writer, answer)
+    let mut third = Metered::new(io::empty());
+    let mut unsaid = Metered::new(io::sink());
+    let ended = carry_out(
+        alloc,
+        &DotCommand {
+            seed,
+            assigned: true,
+        },
+        &Silent,
+        declaration,
+        assignment,
+        &mut third,
+        writer,
+        &mut unsaid,
+    );
+    end_of(ended)
 }
 
 /// Reads a declaration to its end, and writes the drawing of its plan. The flushes of the plan's chain are bold. Where the groups
@@ -103,7 +148,21 @@ pub fn own_dot_cmd<D: Read, W: Write, A: Allocator + Copy>(
     ensures write_failed { result ≡ Err Fault.Write → writer.new.failures ≡ count_after writer.old.failures 1 }
     ensures no_write_failed { result ≢ Err Fault.Write → writer.new.failures ≡ writer.old.failures }
 {
-    let text = read_text(alloc, declaration, MAX_DECLARATION)?;
-    let answer = draw_own(alloc, seed, &text);
-    write_answer(writer, answer)
+    let mut second = Metered::new(io::empty());
+    let mut third = Metered::new(io::empty());
+    let mut unsaid = Metered::new(io::sink());
+    let ended = carry_out(
+        alloc,
+        &DotCommand {
+            seed,
+            assigned: false,
+        },
+        &Silent,
+        declaration,
+        &mut second,
+        &mut third,
+        writer,
+        &mut unsaid,
+    );
+    end_of(ended)
 }

@@ -3,7 +3,7 @@
 //! The rule is that of "The command `dot`" in docs/FORMAT.md. It takes the time and the memory of reading the texts, of the plan,
 //! of the components and of the drawing.
 
-ghost use Rattle.std.specs.Prelude.{◌≡◌, IfOk, length, map};
+ghost use Rattle.std.specs.Prelude.{◌≡◌, IfOk, None, length, map};
 ghost use Rattle.std.specs.List.{All};
 ghost use Rattle.wq_items.specs.Chain.{HasCircle};
 ghost use Rattle.wq_items.specs.Table.{flush_count};
@@ -12,18 +12,18 @@ ghost use Rattle.wq_core.specs.Wiring.{own_lanes};
 ghost use Rattle.wq_plan.specs.Solve.{IsPlanned, Solves};
 ghost use Rattle.wq_cert.specs.Texts.{assignment_of_text};
 ghost use Rattle.wq_commands.specs.declared.why.Which.TheVariants.{Certificate};
-ghost use Rattle.wq_commands.specs.Why.{SaysFault, SaysAssigned};
+ghost use Rattle.wq_commands.specs.Why.{SaysFault, SaysAssigned, SaysDeclared};
 ghost use Rattle.wq_circles.specs.Components.{AreComponents};
 ghost use Rattle.wq_drawing.specs.declared.look.FlushLook.{FlushLook};
 ghost use Rattle.wq_dot.specs.Flushes.{AreMarkable, all_arcs};
-ghost use Rattle.wq_dot.specs.Dotting.{DrawsAssigned, DrawsCircles, DrawsDeclared, DrawsGroups, DrawsOwn, DrawsPlan, Draws, OwnDraws, drawing_of};
+ghost use Rattle.wq_dot.specs.Dotting.{DrawsAssigned, DrawsCircles, DrawsDeclared, DrawsGroups, DrawsOwn, DrawsPlan, DrawsTexts, Draws, OwnDraws, drawing_of};
 
 use crate::flushes::{bold_flushes, red_flushes};
 use crate::titles::{components_title, plan_title};
 use std::alloc::{AllocError, Allocator};
 use wq_cert::{CertError, read_assignment};
 use wq_circles::components;
-use wq_commands::{Answered, End, Stop, Which, read_declaration, refuse};
+use wq_commands::{Answered, End, Stop, Texts, Which, read_declaration};
 use wq_deadlock::own_lanes;
 use wq_drawing::drawing_text;
 use wq_graph::WaitArc;
@@ -175,36 +175,37 @@ fn draw_groups<A: Allocator + Copy>(
     draw_answer(alloc, table, groups, &answer)
 }
 
-/// How a run of the program that is given an assignment of these groups ends, and what it prints.
+/// The answer to an assignment of these groups.
 fn draw_assigned<A: Allocator + Copy>(
     alloc: A,
     table: &ItemTable<'_, A>,
     groups: &Groups<A>,
     assignment: &Assignment<A>,
-) -> Result<(End, Vec<u8, A>), AllocError>
+) -> Result<Answered<A>, AllocError>
     requires grouped { length groups.now.group_of ≡ length table.now.names }
     requires assigned { length assignment.now.lane_of_group ≡ groups.now.groups }
-    ensures { IfOk result (λ printed.
-        DrawsAssigned (record { table = table.now; partition = groups.now }) assignment.now printed.0 printed.1.items) }
+    ensures answer { IfOk result (λ a. DrawsAssigned (record { table = table.now; partition = groups.now }) assignment.now a.end a.text.items) }
+    ensures why { IfOk result (λ a. a.why ≡ None) }
 {
     let text = draw_circles(alloc, table, groups, assignment)?;
-    Ok((End::Good, text))
+    Ok(Answered::plain(End::Good, text))
 }
 
-/// How a run of the program that is given no assignment of these groups ends, and what it prints.
+/// The answer to these groups without an assignment.
 fn draw_unassigned<A: Allocator + Copy>(
     alloc: A,
     table: &ItemTable<'_, A>,
     groups: &Groups<A>,
-) -> Result<(End, Vec<u8, A>), AllocError>
+) -> Result<Answered<A>, AllocError>
     requires { length groups.now.group_of ≡ length table.now.names }
-    ensures { IfOk result (λ printed. DrawsOwn (record { table = table.now; partition = groups.now }) printed.0 printed.1.items) }
+    ensures answer { IfOk result (λ a. DrawsOwn (record { table = table.now; partition = groups.now }) a.end a.text.items) }
+    ensures why { IfOk result (λ a. a.why ≡ None) }
 {
     let text = draw_groups(alloc, table, groups)?;
-    Ok((End::Good, text))
+    Ok(Answered::plain(End::Good, text))
 }
 
-/// How a run of the program that is given the text of an assignment of these groups ends, and what it prints.
+/// The answer to the text of an assignment of these groups.
 fn draw_declared<A: Allocator + Copy>(
     alloc: A,
     table: &ItemTable<'_, A>,
@@ -222,18 +223,15 @@ fn draw_declared<A: Allocator + Copy>(
             let answer = draw_assigned(alloc, table, groups, &assignment);
             // Written as a call, so that the proof has one step for it.
             drop(assignment);
-            let (end, text) = answer?;
-            Ok(Answered::plain(end, text))
+            answer
         }
         Err(CertError::OutOfMemory) => Err(AllocError),
         Err(fault) => { Answered::refused(alloc, Which::Certificate, fault.code(), fault.line()) }
     }
 }
 
-/// The drawing of the texts of a declaration and an assignment, and which of them is refused, if one is.
-///
-/// The only error is out of memory (20). The names are hashed with `seed`. No answer depends on it.
-pub fn dot_texts<A: Allocator + Copy>(
+/// The answer to the texts of a declaration and an assignment.
+fn draw_both<A: Allocator + Copy>(
     alloc: A,
     seed: u64,
     text: &[u8],
@@ -255,26 +253,14 @@ pub fn dot_texts<A: Allocator + Copy>(
     }
 }
 
-/// How a run of the program that is given the texts of a declaration and an assignment ends, and what it prints.
-pub(crate) fn draw<A: Allocator + Copy>(
+/// The answer to the text of a declaration alone.
+fn draw_own<A: Allocator + Copy>(
     alloc: A,
     seed: u64,
     text: &[u8],
-    assigned: &[u8],
-) -> Result<(End, Vec<u8, A>), AllocError>
-    ensures { IfOk result (λ printed. Draws text.now assigned.now printed.0 printed.1.items) }
-{
-    let Answered { end, text, .. } = dot_texts(alloc, seed, text, assigned)?;
-    Ok((end, text))
-}
-
-/// How a run of the program that is given the text of a declaration alone ends, and what it prints.
-pub(crate) fn draw_own<A: Allocator + Copy>(
-    alloc: A,
-    seed: u64,
-    text: &[u8],
-) -> Result<(End, Vec<u8, A>), AllocError>
-    ensures { IfOk result (λ printed. OwnDraws text.now printed.0 printed.1.items) }
+) -> Result<Answered<A>, AllocError>
+    ensures answer { IfOk result (λ a. OwnDraws text.now a.end a.text.items) }
+    ensures why { IfOk result (λ a. SaysDeclared text.now a.why) }
 {
     match read_declaration(alloc, seed, text) {
         Ok(declared) => {
@@ -282,7 +268,25 @@ pub(crate) fn draw_own<A: Allocator + Copy>(
             drop(declared);
             answer
         }
-        Err(Stop::Refused { code, line }) => refuse(alloc, code, line),
+        Err(Stop::Refused { code, line }) => {
+            Answered::refused(alloc, Which::Declaration, code, line)
+        }
         Err(Stop::OutOfMemory) => Err(AllocError),
+    }
+}
+
+/// The answer to the texts of a declaration and an assignment, or, without an assignment, to that of a declaration alone.
+pub(crate) fn draw<A: Allocator + Copy>(
+    alloc: A,
+    seed: u64,
+    assigned: bool,
+    texts: &Texts<A>,
+) -> Result<Answered<A>, AllocError>
+    ensures { IfOk result (λ a. DrawsTexts assigned texts.now (record { end = a.end; why = a.why }) a.text.items) }
+{
+    if assigned {
+        draw_both(alloc, seed, texts.first(), texts.second())
+    } else {
+        draw_own(alloc, seed, texts.first())
     }
 }

@@ -12,5 +12,4 @@ mod flushes;
 pub mod laws;
 mod titles;
 
-pub use dot::{dot_cmd, own_dot_cmd};
-pub use dotting::dot_texts;
+pub use dot::{DotCommand, dot_cmd, own_dot_cmd};

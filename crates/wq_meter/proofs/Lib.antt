@@ -1,1 +1,2 @@
 pub mod MeterLemmas
+mod ShellLemmas

@@ -1,3 +1,5 @@
 pub mod Fault
 pub mod Meter
 pub mod Input
+pub mod Shell
+pub mod Stopped

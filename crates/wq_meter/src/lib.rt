@@ -8,8 +8,12 @@ mod fault;
 mod input;
 mod metered;
 mod output;
+mod shell;
+mod texts;
 
 pub use fault::Fault;
 pub use input::read_text;
 pub use metered::Metered;
 pub use output::write_text;
+pub use shell::{Command, Silent, Stopped, Voice, carry_out};
+pub use texts::{Limits, Texts};

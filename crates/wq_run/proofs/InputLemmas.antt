@@ -1,41 +1,77 @@
 -- What is answered to the bytes that came is the answer to the text that a reader had.
-use Rattle.std.proofs.Common.{◌≡◌, List, ℕ, Option, Result, Ok, Err, subst, ap, ◌∙◌}
+use Rattle.std.proofs.Common.{◌≡◌, ◌≢◌, List, ℕ, Option, Result, Err, subst, ap, ◌∙◌}
 use Rattle.std.specs.Prelude.{IfErr, MatchResult}
 use Rattle.wq_text.specs.Refusal.{Refusal}
 use Rattle.wq_meter.specs.Meter.{Meter}
 use Rattle.wq_meter.specs.Input.{HasGivenBytes}
+use Rattle.wq_meter.specs.Shell.{Given}
+use Rattle.wq_meter.specs.declared.fault.Fault.TheVariants.{Write}
+use Rattle.wq_meter.specs.declared.shell.Stopped.{Stopped}
+use Rattle.wq_meter.specs.declared.shell.Stopped.TheVariants.{Faulted, Unanswered}
+use Rattle.wq_meter.specs.Stopped.{IfUnanswered}
 use Rattle.wq_commands.specs.declared.end.End.{End}
+use Rattle.wq_commands.specs.declared.why.Outcome.{Outcome}
+use Rattle.wq_commands.specs.declared.why.Which.TheVariants.{Declaration}
+use Rattle.wq_commands.specs.Why.{refused_for}
 use Rattle.wq_commands.specs.Answer.{IsRefused}
 use Rattle.wq_commands.specs.Declaration.{Declared, declaration, max_declaration}
 use Rattle.wq_commands.proofs.AnswerLemmas.{declaration-take}
 use Rattle.wq_run.specs.declared.fault.RunStop.{RunStop}
+use Rattle.wq_run.specs.declared.fault.RunStop.TheVariants as stop
 use Rattle.wq_run.specs.Fault.{Stops}
-use Rattle.wq_run.specs.Run.{RunsInput, IsRunnableInput}
-use Rattle.wq_run.specs.Running.{HasRuntime, IsRunnable, Runs, RunsDeclared}
+use Rattle.wq_run.specs.Run.{IsRun, IsRunnableInput, only}
+use Rattle.wq_run.specs.Running.{HasRuntime, IsRunnable, Runs, RunsDeclared, RunsTexts, run_why}
 
-pub Runs-same : (one other : List ℕ) (end : End) (out : List ℕ) → declaration one ≡ declaration other → Runs one end out → Runs other end out
-Runs-same one other end out same runs =
-    subst (λ (d : Result Declared Refusal). MatchResult d (λ s. RunsDeclared s end out) (λ r. IsRefused r end out)) same runs
+module _ (one other : List ℕ) (declared : declaration one ≡ declaration other) where
+  pub Runs-same : (end : End) (out : List ℕ) → Runs one end out → Runs other end out
+  Runs-same end out runs = subst (λ (d : Result Declared Refusal). MatchResult d (λ s. RunsDeclared s end out) (λ r. IsRefused r end out)) declared runs
 
-IsRunnable-same : (one other : List ℕ) → declaration one ≡ declaration other → IsRunnable one → IsRunnable other
-IsRunnable-same one other same runnable = subst (λ (d : Result Declared Refusal). MatchResult d HasRuntime (λ r. ⊥)) same runnable
+  RunsTexts-same : (outcome : Outcome) (out : List ℕ) → RunsTexts (only one) outcome out → RunsTexts (only other) outcome out
+  RunsTexts-same outcome out h = (
+    Runs-same outcome.end out h.0,
+    subst (λ (d : Result Declared Refusal). MatchResult d (λ _. outcome.why ≡ run_why outcome.end) (λ r. outcome.why ≡ refused_for Declaration r)) declared h.1,
+  )
 
-pub RunsInput-read : {R : Type 0} {remaining : R → Option (List ℕ)} {old new : Meter R} {read : List ℕ} (end : End) (out seen : List ℕ)
-    → HasGivenBytes remaining old new max_declaration read → seen ≡ read → Runs seen end out → RunsInput remaining old new end out
-RunsInput-read end out seen came same runs = record {
-  text = came.given.text;
-  given = came.given.gives;
-  answer = Runs-same seen came.given.text end out (ap declaration (same ∙ came.prefix) ∙ declaration-take came.given.text) runs;
-}
+  IsRunnable-same : IsRunnable one → IsRunnable other
+  IsRunnable-same runnable = subst (λ (d : Result Declared Refusal). MatchResult d HasRuntime (λ r. ⊥)) declared runnable
 
-pub IsRunnableInput-read : {R : Type 0} {remaining : R → Option (List ℕ)} {old new : Meter R} {read : List ℕ} (seen : List ℕ)
-    → HasGivenBytes remaining old new max_declaration read → seen ≡ read → IsRunnable seen → IsRunnableInput remaining old new
-IsRunnableInput-read seen came same runnable = record {
-  text = came.given.text;
-  given = came.given.gives;
-  runnable = IsRunnable-same seen came.given.text (ap declaration (same ∙ came.prefix) ∙ declaration-take came.given.text) runnable;
-}
+module _ {R : Type 0} {remaining : R → Option (List ℕ)} {old new : Meter R} {bytes : List ℕ} (came : HasGivenBytes remaining old new max_declaration bytes)
+    (texts : Given) (is : texts ≡ only bytes) where
+  declared_same : declaration bytes ≡ declaration came.given.text
+  declared_same = ap declaration came.prefix ∙ declaration-take came.given.text
 
--- the reason for no answer holds for the text
-pub stopped_by : {T : Type 0} (runnable : Type 0) (answer : Result T RunStop) (why : RunStop) → answer ≡ Err why → IfErr answer (Stops runnable) → Stops runnable why
-stopped_by runnable answer why is stops = subst (λ (r : Result _ RunStop). IfErr r (Stops runnable)) is stops
+  pub IsRun-read : (outcome : Outcome) (IsWritten : List ℕ → Type 0) (IsTold : Given → Type 0) (out : List ℕ)
+      → RunsTexts texts outcome out → IsWritten out → IsTold texts → IsRun remaining old new outcome IsWritten IsTold
+  IsRun-read outcome IsWritten IsTold out runs written told = record {
+    text = came.given.text;
+    given = came.given.gives;
+    out = out;
+    answer = RunsTexts-same bytes came.given.text declared_same outcome out (subst (λ (t : Given). RunsTexts t outcome out) is runs);
+    written = written;
+    told = subst (λ (read : List ℕ). IsTold (only read)) came.prefix (subst IsTold is told);
+  }
+
+  IsRunnableInput-read : IsRunnable texts.first → IsRunnableInput remaining old new
+  IsRunnableInput-read runnable = record {
+    text = came.given.text;
+    given = came.given.gives;
+    runnable = IsRunnable-same bytes came.given.text declared_same (subst (λ (t : Given). IsRunnable t.first) is runnable);
+  }
+
+  Stops-read : (why : RunStop) → Stops (IsRunnable texts.first) why → Stops (IsRunnableInput remaining old new) why
+  Stops-read stop.OutOfMemory stops = tt
+  Stops-read stop.Thread stops = IsRunnableInput-read stops
+  Stops-read stop.Tally stops = IsRunnableInput-read stops
+
+  pub IfUnanswered-read : (stopped : Stopped RunStop) → IfUnanswered (Stops (IsRunnable texts.first)) stopped → IfUnanswered (Stops (IsRunnableInput remaining old new)) stopped
+  IfUnanswered-read (Faulted fault) h = tt
+  IfUnanswered-read (Unanswered why) h = Stops-read why h
+
+-- what holds of the reason why there is no answer
+pub unanswered_for : {T S : Type 0} (ended : Result T (Stopped S)) (why : S) (P : S → Type 0) → ended ≡ Err (Unanswered why) → IfErr ended (IfUnanswered P) → P why
+unanswered_for {T} {S} ended why P is h = subst (λ (r : Result T (Stopped S)). IfErr r (IfUnanswered P)) is h
+
+-- nothing is written without an answer
+pub unwritten_for : {T S : Type 0} (ended : Result T (Stopped S)) (why : S) (P : Type 0) → ended ≡ Err (Unanswered why)
+    → IfErr ended (λ stopped. stopped ≢ Faulted Write → P) → P
+unwritten_for {T} {S} ended why P is h = subst (λ (r : Result T (Stopped S)). IfErr r (λ stopped. stopped ≢ Faulted Write → P)) is h (λ same. cc)

@@ -1,7 +1,11 @@
 -- What stops a command, and `run` in particular.
-use Rattle.std.specs.Prelude.{ℕ, List, codes}
+use Rattle.std.specs.Prelude.{ℕ, List, codes, Result, Ok, Err}
 use Rattle.wq_meter.specs.declared.fault.Fault.TheVariants.{Memory, Read, Write}
+use Rattle.wq_meter.specs.declared.shell.Stopped.{Stopped}
+use Rattle.wq_meter.specs.declared.shell.Stopped.TheVariants.{Faulted, Unanswered}
 use Rattle.wq_meter.specs.Fault.{fault_text}
+use Rattle.wq_commands.specs.declared.end.End.{End}
+use Rattle.wq_commands.specs.declared.why.Outcome.{Outcome}
 use Rattle.wq_rescuer.specs.declared.running.RunWhy.{RunWhy}
 use Rattle.wq_rescuer.specs.declared.running.RunWhy.TheVariants.{BodiesDiffer, TooManySeats, OutOfMemory as NoMemory, NoThread}
 use Rattle.wq_run.specs.declared.fault.CommandFault.{CommandFault}
@@ -35,3 +39,9 @@ abbrev pub Stops : Type 0 → RunStop → Type 0
 Stops runnable OutOfMemory = Unit {0}
 Stops runnable stop.Thread = runnable
 Stops runnable stop.Tally = runnable
+
+-- the end of `run`, or the fault that is reported for what stopped it
+abbrev pub end_or_stop : Result Outcome (Stopped RunStop) → Result End CommandFault
+end_or_stop (Ok outcome) = Ok outcome.end
+end_or_stop (Err (Faulted fault)) = Err (Common fault)
+end_or_stop (Err (Unanswered stop)) = Err (fault_of_stop stop)

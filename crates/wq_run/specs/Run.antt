@@ -1,10 +1,12 @@
 -- A run of `run`: a text is taken from a reader, and answered.
-use Rattle.std.specs.Prelude.{ℕ, List, Option}
+use Rattle.std.specs.Prelude.{ℕ, ◌+◌, List, [], Option, take}
 use Rattle.wq_meter.specs.Meter.{Meter}
 use Rattle.wq_meter.specs.Input.{Gives}
+use Rattle.wq_meter.specs.Shell.{Given}
 use Rattle.wq_commands.specs.declared.end.End.{End}
+use Rattle.wq_commands.specs.declared.why.Outcome.{Outcome}
 use Rattle.wq_commands.specs.Declaration.{max_declaration}
-use Rattle.wq_run.specs.Running.{Runs, IsRunnable}
+use Rattle.wq_run.specs.Running.{Runs, RunsTexts, IsRunnable}
 
 -- this is the answer to the text that a reader had; the reader gave it up to the first byte past the limit
 pub record RunsInput {R : Type 0} (remaining : R → Option (List ℕ)) (old new : Meter R) (end : End) (out : List ℕ) : Type 0 where
@@ -17,3 +19,17 @@ pub record IsRunnableInput {R : Type 0} (remaining : R → Option (List ℕ)) (o
   pub text : List ℕ
   pub given : Gives remaining old new max_declaration text
   pub runnable : IsRunnable text
+
+-- the texts of a command that has only this one
+abbrev pub only : List ℕ → Given
+only text = record { first = text; second = []; third = [] }
+
+-- a reader had a text; this is the answer to it, and why; these bytes of the answer are written, and this is said of what was
+-- read of the text
+pub record IsRun {R : Type 0} (remaining : R → Option (List ℕ)) (old new : Meter R) (outcome : Outcome) (IsWritten : List ℕ → Type 0) (IsTold : Given → Type 0) : Type 0 where
+  pub text : List ℕ
+  pub given : Gives remaining old new max_declaration text
+  pub out : List ℕ
+  pub answer : RunsTexts (only text) outcome out
+  pub written : IsWritten out
+  pub told : IsTold (only (take (max_declaration + 1) text))

@@ -1,5 +1,5 @@
 -- The answer of `run` to a declaration text: what is printed, and how it ends.
-use Rattle.std.specs.Prelude.{◌≡◌, ℕ, ◌+◌, ◌*◌, ◌<◌, ◌≤◌, List, length, true, Result, MatchResult}
+use Rattle.std.specs.Prelude.{◌≡◌, ℕ, ◌+◌, ◌*◌, ◌<◌, ◌≤◌, List, length, true, Option, None, Result, MatchResult}
 use Rattle.wq_items.specs.Table.{flush_count}
 use Rattle.wq_groups.specs.Assignment.{Assignment}
 use Rattle.wq_core.specs.Wiring.{wiring}
@@ -14,6 +14,11 @@ use Rattle.wq_execution.specs.declared.rescuing.Rescued.{Rescued}
 use Rattle.wq_rescuer.specs.Serving.{IsRan}
 use Rattle.wq_commands.specs.declared.end.End.{End}
 use Rattle.wq_commands.specs.declared.end.End.TheVariants.{Good, Bad, Refused}
+use Rattle.wq_meter.specs.Shell.{Given}
+use Rattle.wq_commands.specs.declared.why.Outcome.{Outcome}
+use Rattle.wq_commands.specs.declared.why.Which.TheVariants as which
+use Rattle.wq_commands.specs.declared.why.Why.{Why}
+use Rattle.wq_commands.specs.Why.{refused_for}
 use Rattle.wq_commands.specs.Answer.{declared_waits, refusal_text, IsRefused, PrintsCircle}
 use Rattle.wq_commands.specs.Declaration.{Declared, declaration}
 use Rattle.wq_report.specs.Report.{report_text}
@@ -73,3 +78,19 @@ pub record HasRuntime (s : Declared) : Type 0 where
 -- what the text declares has such a plan
 abbrev pub IsRunnable : List ℕ → Type 0
 IsRunnable text = MatchResult (declaration text) HasRuntime (λ r. ⊥)
+
+-- ---- the answer, and why
+
+-- why what was declared isn't run: the plan has too many workqueues (69)
+abbrev pub run_why : End → Option Why
+run_why Good = None
+run_why Bad = None
+run_why Refused = refused_for which.Declaration (record { code = 69; line = 0 })
+
+-- why a text isn't run: it is refused, or its plan is
+abbrev pub SaysUnrun : List ℕ → End → Option Why → Type 0
+SaysUnrun text end why = MatchResult (declaration text) (λ _. why ≡ run_why end) (λ r. why ≡ refused_for which.Declaration r)
+
+-- the answer to the first of these texts, and why
+abbrev pub RunsTexts : Given → Outcome → List ℕ → Type 0
+RunsTexts texts outcome out = Runs texts.first outcome.end out × SaysUnrun texts.first outcome.end outcome.why

@@ -8,10 +8,11 @@
 
 mod fault;
 pub mod laws;
-mod outputs;
+mod outcome;
 mod run;
 mod running;
 mod serving;
 
-pub use fault::CommandFault;
-pub use run::run_cmd;
+pub use fault::{CommandFault, RunStop};
+pub use outcome::end_of_run;
+pub use run::{carry_out_run, run_cmd};

@@ -15,7 +15,7 @@ ghost use Rattle.wq_under_lock.specs.Refusals.{new_code};
 ghost use Rattle.wq_commands.specs.Answer.{IsRefused};
 ghost use Rattle.wq_run.specs.declared.fault.RunStop.TheVariants.{OutOfMemory};
 ghost use Rattle.wq_run.specs.Fault.{Stops};
-ghost use Rattle.wq_run.specs.Running.{Runs, RunsDeclared, HasRuntime, IsRunnable, rows_for};
+ghost use Rattle.wq_run.specs.Running.{Runs, RunsDeclared, HasRuntime, IsRunnable, SaysUnrun, rows_for, run_why};
 
 use crate::fault::RunStop;
 use crate::serving::serve;
@@ -25,11 +25,14 @@ use std::sync::Wait;
 use std::sync::ledger::Blank;
 use std::thread::Threads;
 use wq_api::{Naming, NewError, WqRuntime};
-use wq_commands::{End, Stop, read_declaration, refuse, text_of_circle};
+use wq_commands::{Answered, End, Stop, Which, Why, read_declaration, refuse, text_of_circle};
 use wq_graph::WaitArc;
 use wq_groups::{Assignment, Groups};
 use wq_items::ItemTable;
 use wq_plan::{Answer, solve};
+
+/// The number of the refusal of a plan that has too many workqueues to run.
+const TOO_MANY: u32 = 69;
 
 /// How many rows a history needs where each item is queued, flushed by a caller and executed once.
 fn rows_for<A: Allocator + Copy>(table: &ItemTable<'_, A>) -> u32
@@ -140,24 +143,64 @@ fn run_declared<A: Allocator + Copy + Send + Sync, R: Threads + Wait + Sync>(
     printed
 }
 
-/// How a run that is given this text ends, and what it prints.
+/// The answer that ends like this and prints this text: where it is a refusal, the plan has too many workqueues.
+fn explained<A: Allocator + Copy>(end: End, text: Vec<u8, A>) -> Answered<A>
+    ensures end { result.end ≡ end }
+    ensures text { result.text ≡ text }
+    ensures why { result.why ≡ run_why end }
+{
+    match end {
+        End::Good | End::Bad => Answered::plain(end, text),
+        End::Refused => Answered {
+            end,
+            text,
+            why: Some(Why::Refused {
+                which: Which::Declaration,
+                code: TOO_MANY,
+                line: 0,
+            }),
+        },
+    }
+}
+
+/// The answer to these items and their groups.
+fn run_explained<A: Allocator + Copy + Send + Sync, R: Threads + Wait + Sync>(
+    rt: &R,
+    alloc: A,
+    table: &ItemTable<'_, A>,
+    groups: &Groups<A>,
+) -> Result<Answered<A>, RunStop>
+    requires { length groups.now.group_of ≡ length table.now.names }
+    ensures ran { IfOk result (λ a. RunsDeclared (record { table = table.now; partition = groups.now }) a.end a.text.items) }
+    ensures why { IfOk result (λ a. a.why ≡ run_why a.end) }
+    ensures stopped { IfErr result (Stops (HasRuntime (record { table = table.now; partition = groups.now }))) }
+{
+    let (end, text) = run_declared(rt, alloc, table, groups)?;
+    Ok(explained(end, text))
+}
+
+/// The answer to the text of a declaration, and why it isn't run, where it isn't.
 pub(crate) fn answer<A: Allocator + Copy + Send + Sync, R: Threads + Wait + Sync>(
     rt: &R,
     alloc: A,
     seed: u64,
     text: &[u8],
-) -> Result<(End, Vec<u8, A>), RunStop>
-    ensures ran { IfOk result (λ printed. Runs text.now printed.0 printed.1.items) }
+) -> Result<Answered<A>, RunStop>
+    ensures ran { IfOk result (λ a. Runs text.now a.end a.text.items) }
+    ensures why { IfOk result (λ a. SaysUnrun text.now a.end a.why) }
     ensures stopped { IfErr result (Stops (IsRunnable text.now)) }
 {
     match read_declaration(alloc, seed, text) {
         Ok(declared) => {
-            let answer = run_declared(rt, alloc, &declared.table, &declared.groups);
+            let answer = run_explained(rt, alloc, &declared.table, &declared.groups);
             // Written as a call, so that the proof has one step for it.
             drop(declared);
             answer
         }
-        Err(Stop::Refused { code, line }) => Ok(refuse(alloc, code, line)?),
+        Err(Stop::Refused { code, line }) => {
+            let refused = Answered::refused(alloc, Which::Declaration, code, line)?;
+            Ok(refused)
+        }
         Err(Stop::OutOfMemory) => Err(RunStop::OutOfMemory),
     }
 }

@@ -1,3 +1,3 @@
 mod CommandLemmas
+mod EndedLemmas
 mod NumberLemmas
-mod KeptTexts

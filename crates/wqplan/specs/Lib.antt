@@ -2,4 +2,3 @@ pub mod CommandLine
 pub mod Status
 pub mod Ended
 pub mod Numbers
-pub mod Kept

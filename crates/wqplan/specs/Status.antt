@@ -1,7 +1,13 @@
 -- How a command ends, and its exit status.
 use Rattle.std.specs.Prelude.{ℕ, Result, Ok, Err}
+use Rattle.wq_meter.specs.declared.fault.Fault.{Fault}
+use Rattle.wq_meter.specs.declared.fault.Fault.TheVariants.{Memory}
+use Rattle.wq_meter.specs.declared.shell.Stopped.{Stopped}
+use Rattle.wq_meter.specs.declared.shell.Stopped.TheVariants.{Faulted, Unanswered}
 use Rattle.wq_commands.specs.declared.end.End.{End}
+use Rattle.wq_commands.specs.declared.why.Outcome.{Outcome}
 use Rattle.wq_run.specs.declared.fault.CommandFault.{CommandFault}
+use Rattle.wq_run.specs.declared.fault.CommandFault.TheVariants.{Common}
 use Rattle.wq_commands.specs.End.{exit_status}
 use Rattle.wq_commands.specs.declared.end.End.TheVariants.{Good, Refused}
 use Rattle.wq_explain.specs.declared.explain.Explained.{Explained}
@@ -16,3 +22,14 @@ explain_end Unknown = Refused
 abbrev pub status_of : Result End CommandFault → ℕ
 status_of (Ok end) = exit_status end
 status_of (Err fault) = 3
+
+-- the end of a command, or the fault that stopped it; if a command has no answer, memory ran out
+abbrev pub end_or_common : {S : Type 0} → Result Outcome (Stopped S) → Result End CommandFault
+end_or_common (Ok outcome) = Ok outcome.end
+end_or_common (Err (Faulted fault)) = Err (Common fault)
+end_or_common (Err (Unanswered stop)) = Err (Common Memory)
+
+-- the same of `explain`
+abbrev pub explained_or_common : Result Explained Fault → Result End CommandFault
+explained_or_common (Ok explained) = Ok (explain_end explained)
+explained_or_common (Err fault) = Err (Common fault)

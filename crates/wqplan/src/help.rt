@@ -31,7 +31,7 @@ pub(crate) const RUN: &str = "Reads a declaration, runs its plan in threads, pri
 
 /// What `explain` prints.
 pub(crate) const EXPLAIN: &str =
-    "Prints what a refusal, a fault or a word of an answer means, and what to do";
+    "Prints what a refusal, a fault or an answer means, and what to do";
 
 /// What FILE is.
 pub(crate) const FILE: &str = "The declaration. Without FILE it is read from standard input";

@@ -6,69 +6,43 @@
 //! error would give the status 1, which means a bad answer. The running time is that of the command.
 #![tactic(auto)]
 
-ghost use Rattle.std.specs.Prelude.{IfOk};
-ghost use Rattle.wqplan.specs.CommandLine.{spelled};
-ghost use Rattle.wqplan.specs.Ended.{EndsAsAsked};
-
-mod check;
-mod circles;
 mod command_line;
-mod deadlock;
-mod diagnosis;
-mod dot;
 mod ending;
-mod explain;
-mod files;
 mod help;
 pub mod laws;
-mod plan;
-mod replay;
-mod run;
-mod seed;
+mod performing;
+mod world;
 
 use command_line::Request;
+use performing::STDIN;
+use std::io::{self, Write};
 use std::process::ExitCode;
 use std::random::RandomSource;
 use std::rt::Files;
 use std::sync::Wait;
 use std::thread::Threads;
-use wq_commands::End;
+use world::{Named, Process};
+use wq_commands::{End, Metered};
 use wq_run::CommandFault;
 
-/// Runs the command that is asked for.
-fn perform<R: Files + Input + Print + Eprint + AllocGlobal + RandomSource + Threads + Wait + Sync>(
-    rt: &R,
-    request: Request<'_>,
-) -> Result<End, CommandFault>
-    ensures { IfOk result (λ end. EndsAsAsked (spelled request.entry) end) }
-{
-    let end = match request {
-        Request::Plan { file } => plan::plan(rt, seed::draw(rt)?, file)?,
-        Request::Check {
-            declaration,
-            certificate,
-        } => check::check(rt, seed::draw(rt)?, declaration, certificate)?,
-        Request::Deadlock {
-            declaration,
-            assignment,
-        } => deadlock::deadlock(rt, seed::draw(rt)?, declaration, assignment)?,
-        Request::Replay {
-            declaration,
-            assignment,
-            run,
-        } => replay::replay(rt, seed::draw(rt)?, declaration, assignment, run)?,
-        Request::Circles {
-            declaration,
-            assignment,
-        } => circles::circles(rt, seed::draw(rt)?, declaration, assignment)?,
-        Request::Dot {
-            declaration,
-            assignment,
-        } => dot::dot(rt, seed::draw(rt)?, declaration, assignment)?,
-        Request::Run { declaration } => run::run(rt, seed::draw(rt)?, declaration)?,
-        Request::Explain { code } => explain::explain(rt, code)?,
-    };
-    Ok(end)
+/// Carries out the command that is asked for, over the files and the standard streams of the process.
+///
+/// Standard output has no buffer. So what was written has left the process, and a write that the system refuses is noticed.
+fn perform<
+    'a,
+    R: Files + Input + Print + Eprint + AllocGlobal + RandomSource + Threads + Wait + Sync,
+    E: Write,
+>(rt: &'a R, request: Request<'a>, error: &mut Metered<E>) -> Result<End, CommandFault> {
+    let mut writer = Metered::new(io::writer(rt));
+    performing::perform(
+        &Process { rt },
+        rt,
+        rt.alloc(),
+        request,
+        Named::new(rt, STDIN, rt.reader()),
+        &mut writer,
+        error,
+    )
 }
 
 fn main(rt: HostRuntime) -> ExitCode {
@@ -77,7 +51,10 @@ fn main(rt: HostRuntime) -> ExitCode {
         Err(error) => return ExitCode::from(ending::unread(&rt, &error)),
     };
     let status = match command_line::parse(rt.alloc(), &words) {
-        Ok(request) => ending::answered(&rt, perform(&rt, request)),
+        Ok(request) => {
+            let mut error = Metered::new(rt.stderr());
+            ending::answered(&rt, perform(&rt, request, &mut error))
+        }
         Err(error) => ending::unasked(&rt, &error),
     };
     ExitCode::from(status)

@@ -1,57 +1,50 @@
-use Rattle.std.proofs.Common.{ap, refl, Err}
 use Rattle.std.proofs.lemmas.Result.{IfOk-weaker}
-use Rattle.wq_meter.specs.Meter.{WritesPrefix, WritesWhole}
-use Rattle.wq_meter.specs.declared.fault.Fault.TheVariants.{Read}
+use Rattle.std.proofs.Common.{List, ℕ}
+use Rattle.wq_meter.specs.Meter.{WritesWhole}
 use Rattle.wq_commands.specs.DeadlockInput.{JudgesInput}
-use Rattle.wq_cert.proofs.GrowthLemmas.{Err-passed}
-use Rattle.wq_commands.proofs.InputLemmas.{Err-kept, JudgesInput-read, written_answer, begun_answer}
+use Rattle.wq_commands.proofs.CommandLemmas.{JudgesTexts-kept, ended_with, stopped_by, first_or_second}
 use Rattle.wq_commands.proofs.deadlock.deadlock_cmd.Goals as goal
-
-pub returns-in_err-text-clause-lost : goal.returns-in_err-text-clause-lost
-returns-in_err-text-clause-lost g c = c.in_err-text.ensures.lost
-
-pub returns-in_err-text-clause-order : goal.returns-in_err-text-clause-order
-returns-in_err-text-clause-order g c = c.in_err-text.ensures.order
-
-pub returns-in_err-text-clause-reads : goal.returns-in_err-text-clause-reads
-returns-in_err-text-clause-reads g c = c.in_err-text.ensures.reads
-
-pub returns-in_err-text-clause-bytes_read : goal.returns-in_err-text-clause-bytes_read
-returns-in_err-text-clause-bytes_read g c = c.in_err-text.ensures.bytes_read
-
-pub returns-in_err-text-clause-read_failed : goal.returns-in_err-text-clause-read_failed
-returns-in_err-text-clause-read_failed g c = λ is. c.in_err-text.ensures.read_failed (ap Err (Err-passed _ _ Read c.from_residual.ensures.1 is))
-
-pub returns-in_err-text-clause-no_read_failed : goal.returns-in_err-text-clause-no_read_failed
-returns-in_err-text-clause-no_read_failed g c = λ not. c.in_err-text.ensures.no_read_failed (λ is. not (Err-kept _ _ _ Read c.from_residual.ensures.1 refl is))
-
-pub returns-clause-unwritten : goal.returns-clause-unwritten
-returns-clause-unwritten g c = λ is. absurd (c.write_answer.ensures.never_reads is)
-
-pub returns-clause-read_failed : goal.returns-clause-read_failed
-returns-clause-read_failed g c = λ is. absurd (c.write_answer.ensures.never_reads is)
-
-pub returns-clause-no_read_failed : goal.returns-clause-no_read_failed
-returns-clause-no_read_failed g c = λ _. (c.in_ok-text.ensures.declared.given.none_failed, c.in_ok-text.ensures.certified.given.none_failed)
-
-pub returns-clause-lost : goal.returns-clause-lost
-returns-clause-lost g c = c.in_ok-text.ensures.lost
-
-pub returns-clause-order : goal.returns-clause-order
-returns-clause-order g c = c.in_ok-text.ensures.order
-
-pub returns-clause-reads : goal.returns-clause-reads
-returns-clause-reads g c = c.in_ok-text.ensures.reads
-
-pub returns-clause-bytes_read : goal.returns-clause-bytes_read
-returns-clause-bytes_read g c = c.in_ok-text.ensures.bytes_read
-
-pub returns-clause-prefix : goal.returns-clause-prefix
-returns-clause-prefix g c =
-    let made = IfOk-weaker c.judge-answer.result _ _ (λ m answers. JudgesInput-read m.0 m.1.items c.deref.result.now c.deref-2.result.now c.in_ok-text.ensures.declared c.in_ok-text.ensures.certified c.deref.ensures.value c.deref-2.ensures.value answers) c.judge-answer.ensures in
-    λ is. begun_answer c.judge-answer.result (λ end out. JudgesInput g.D.Read.remaining g.S.Read.remaining c.args.declaration.now c.read_two.new.declaration c.args.assignment.now c.read_two.new.certificate end out) (WritesPrefix g.W.Write.contents c.args.writer.now c.write_answer.new.writer) made (c.write_answer.ensures.prefix is)
 
 pub returns-clause-answered : goal.returns-clause-answered
 returns-clause-answered g c =
-    let made = IfOk-weaker c.judge-answer.result _ _ (λ m answers. JudgesInput-read m.0 m.1.items c.deref.result.now c.deref-2.result.now c.in_ok-text.ensures.declared c.in_ok-text.ensures.certified c.deref.ensures.value c.deref-2.ensures.value answers) c.judge-answer.ensures in
-    IfOk-weaker c.write_answer.result _ _ (λ end written. written_answer c.judge-answer.result end (λ end out. JudgesInput g.D.Read.remaining g.S.Read.remaining c.args.declaration.now c.read_two.new.declaration c.args.assignment.now c.read_two.new.certificate end out) (WritesWhole g.W.Write.contents c.args.writer.now c.write_answer.new.writer) made written) c.write_answer.ensures.written
+    IfOk-weaker c.end_of.result _ _ (λ end is. ended_with c.carry_out-ended.result end _
+    (λ end. (out : List ℕ) × JudgesInput g.D.Read.remaining g.S.Read.remaining c.args.declaration.now c.carry_out-ended.new.first c.args.assignment.now c.carry_out-ended.new.second end out
+    × WritesWhole g.W.Write.contents c.args.writer.now c.carry_out-ended.new.writer out)
+    (λ outcome h. (h.out, record { text = h.texts.first; declaration = h.from.0; lanes = h.texts.second; assignment = h.from.1; answer = (JudgesTexts-kept h.texts outcome h.out h.answer).0 }, h.written))
+    c.carry_out-ended.ensures.answered is) c.end_of.ensures.end
+
+pub returns-clause-prefix : goal.returns-clause-prefix
+returns-clause-prefix g c = λ is.
+    let h = c.carry_out-ended.ensures.prefix (c.end_of.ensures.write_failed is) in
+    (h.0.end, h.1.out, record { text = h.1.texts.first; declaration = h.1.from.0; lanes = h.1.texts.second; assignment = h.1.from.1; answer = (JudgesTexts-kept h.1.texts h.0 h.1.out h.1.answer).0 }, h.1.written)
+
+pub returns-clause-untouched : goal.returns-clause-untouched
+returns-clause-untouched g c = λ is. stopped_by c.carry_out-ended.result _ _ (c.end_of.ensures.memory is) c.carry_out-ended.ensures.untouched
+
+pub returns-clause-unwritten : goal.returns-clause-unwritten
+returns-clause-unwritten g c = λ is. stopped_by c.carry_out-ended.result _ _ (c.end_of.ensures.read is) c.carry_out-ended.ensures.untouched
+
+pub returns-clause-lost : goal.returns-clause-lost
+returns-clause-lost g c = (c.carry_out-ended.ensures.lost.0, c.carry_out-ended.ensures.lost.1)
+
+pub returns-clause-order : goal.returns-clause-order
+returns-clause-order g c = c.carry_out-ended.ensures.order.0
+
+pub returns-clause-reads : goal.returns-clause-reads
+returns-clause-reads g c = (c.carry_out-ended.ensures.reads.0, c.carry_out-ended.ensures.reads.1)
+
+pub returns-clause-bytes_read : goal.returns-clause-bytes_read
+returns-clause-bytes_read g c = (c.carry_out-ended.ensures.bytes_read.0, c.carry_out-ended.ensures.bytes_read.1)
+
+pub returns-clause-read_failed : goal.returns-clause-read_failed
+returns-clause-read_failed g c = λ is. first_or_second (c.carry_out-ended.ensures.read_failed (c.end_of.ensures.read_failed is))
+
+pub returns-clause-no_read_failed : goal.returns-clause-no_read_failed
+returns-clause-no_read_failed g c = λ not.
+    let h = c.carry_out-ended.ensures.no_read_failed (c.end_of.ensures.no_read_failed not) in (h.0, h.1)
+
+pub returns-clause-write_failed : goal.returns-clause-write_failed
+returns-clause-write_failed g c = λ is. c.carry_out-ended.ensures.write_failed (c.end_of.ensures.write_failed is)
+
+pub returns-clause-no_write_failed : goal.returns-clause-no_write_failed
+returns-clause-no_write_failed g c = λ not. c.carry_out-ended.ensures.no_write_failed (c.end_of.ensures.no_write_failed not)

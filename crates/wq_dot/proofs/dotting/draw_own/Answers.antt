@@ -1,12 +1,21 @@
+use Rattle.std.proofs.Common.{◌≡◌, None}
 use Rattle.std.proofs.lemmas.Result.{IfOk-weaker}
 use Rattle.wq_commands.specs.Answer.{IsRefused}
 use Rattle.wq_commands.specs.Declaration.{Declared, declaration}
+use Rattle.wq_commands.specs.declared.why.Which.TheVariants.{Declaration}
+use Rattle.wq_commands.specs.Why.{refused_for}
 use Rattle.wq_commands.proofs.CheckLemmas.{MatchResult-ok}
 use Rattle.wq_dot.specs.Dotting.{DrawsOwn}
 use Rattle.wq_dot.proofs.dotting.draw_own.Goals as goal
 
-pub returns-in-Ok : goal.returns-in-Ok
-returns-in-Ok g c =
+pub returns-in-Ok-clause-answer : goal.returns-in-Ok-clause-answer
+returns-in-Ok-clause-answer g c =
     IfOk-weaker c.draw_unassigned-answer.result _ _
-    (λ printed drawn. MatchResult-ok (declaration c.args.text.now) _ (λ (s : Declared). DrawsOwn s printed.0 printed.1.items) (λ r. IsRefused r printed.0 printed.1.items) c.in-Ok.ensures.declaration drawn)
-    c.draw_unassigned-answer.ensures
+    (λ a answers. MatchResult-ok (declaration c.args.text.now) _ (λ (s : Declared). DrawsOwn s a.end a.text.items) (λ r. IsRefused r a.end a.text.items) c.in-Ok.ensures.declaration answers)
+    c.draw_unassigned-answer.ensures.answer
+
+pub returns-in-Ok-clause-why : goal.returns-in-Ok-clause-why
+returns-in-Ok-clause-why g c =
+    IfOk-weaker c.draw_unassigned-answer.result _ _
+    (λ a says. MatchResult-ok (declaration c.args.text.now) _ (λ _. a.why ≡ None) (λ r. a.why ≡ refused_for Declaration r) c.in-Ok.ensures.declaration says)
+    c.draw_unassigned-answer.ensures.why

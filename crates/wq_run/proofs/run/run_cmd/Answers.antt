@@ -1,30 +1,54 @@
 use Rattle.std.proofs.lemmas.Result.{IfOk-weaker}
-use Rattle.wq_meter.specs.Meter.{WritesPrefix, WritesWhole}
-use Rattle.wq_commands.proofs.InputLemmas.{written_answer, begun_answer}
+use Rattle.std.proofs.Common.{List, ℕ}
+use Rattle.wq_meter.specs.Meter.{WritesWhole}
+use Rattle.wq_commands.proofs.CommandLemmas.{ended_with, stopped_by}
 use Rattle.wq_run.specs.declared.fault.RunStop.TheVariants as stop
-use Rattle.wq_run.specs.Run.{RunsInput}
-use Rattle.wq_run.specs.Running.{IsRunnable}
-use Rattle.wq_run.proofs.InputLemmas.{RunsInput-read, IsRunnableInput-read, stopped_by}
+use Rattle.wq_run.specs.Fault.{Stops}
+use Rattle.wq_run.specs.Run.{RunsInput, IsRunnableInput}
+use Rattle.wq_run.proofs.InputLemmas.{unanswered_for, unwritten_for}
 use Rattle.wq_run.proofs.run.run_cmd.Goals as goal
-
-pub returns-clause-prefix : goal.returns-clause-prefix
-returns-clause-prefix g c =
-    let made = IfOk-weaker c.answer-answer.result _ _ (λ m runs. RunsInput-read m.0 m.1.items c.deref.result.now c.in_ok-text.ensures.given c.deref.ensures.value runs) c.answer-answer.ensures.ran in
-    λ is. begun_answer c.answer-answer.result (λ end out. RunsInput g.D.Read.remaining c.args.declaration.now c.read_text.new.reader end out) (WritesPrefix g.W.Write.contents c.args.writer.now c.write_answer.new.writer) made (c.write_answer.ensures.prefix is)
 
 pub returns-clause-answered : goal.returns-clause-answered
 returns-clause-answered g c =
-    let made = IfOk-weaker c.answer-answer.result _ _ (λ m runs. RunsInput-read m.0 m.1.items c.deref.result.now c.in_ok-text.ensures.given c.deref.ensures.value runs) c.answer-answer.ensures.ran in
-    IfOk-weaker c.write_answer.result _ _ (λ end written. written_answer c.answer-answer.result end (λ end out. RunsInput g.D.Read.remaining c.args.declaration.now c.read_text.new.reader end out) (WritesWhole g.W.Write.contents c.args.writer.now c.write_answer.new.writer) made written) c.write_answer.ensures.written
+    IfOk-weaker c.end_of_run.result _ _ (λ end is. ended_with c.carry_out_run-ended.result end _
+    (λ end. (out : List ℕ) × RunsInput g.D.Read.remaining c.args.declaration.now c.carry_out_run-ended.new.declaration end out
+    × WritesWhole g.W.Write.contents c.args.writer.now c.carry_out_run-ended.new.writer out)
+    (λ outcome h. (h.out, record { text = h.text; given = h.given; answer = h.answer.0 }, h.written))
+    c.carry_out_run-ended.ensures.answered is) c.end_of_run.ensures.end
+
+pub returns-clause-prefix : goal.returns-clause-prefix
+returns-clause-prefix g c = λ is.
+    let h = c.carry_out_run-ended.ensures.prefix (c.end_of_run.ensures.write_failed is) in
+    (h.0.end, h.1.out, record { text = h.1.text; given = h.1.given; answer = h.1.answer.0 }, h.1.written)
+
+pub returns-clause-untouched : goal.returns-clause-untouched
+returns-clause-untouched g c = λ is. stopped_by c.carry_out_run-ended.result _ _ (c.end_of_run.ensures.memory is) c.carry_out_run-ended.ensures.untouched
+
+pub returns-clause-unwritten : goal.returns-clause-unwritten
+returns-clause-unwritten g c = λ is. stopped_by c.carry_out_run-ended.result _ _ (c.end_of_run.ensures.read is) c.carry_out_run-ended.ensures.untouched
 
 pub returns-clause-no_thread : goal.returns-clause-no_thread
 returns-clause-no_thread g c = λ is.
-    let why = c.write_answer.ensures.no_thread is in
-    let runnable = stopped_by (IsRunnable c.deref.result.now) c.answer-answer.result stop.Thread why.1 c.answer-answer.ensures.stopped in
-    (why.0, IsRunnableInput-read c.deref.result.now c.in_ok-text.ensures.given c.deref.ensures.value runnable)
+    let why = c.end_of_run.ensures.no_thread is in (
+      unwritten_for c.carry_out_run-ended.result stop.Thread _ why c.carry_out_run-ended.ensures.untouched,
+      unanswered_for c.carry_out_run-ended.result stop.Thread (Stops (IsRunnableInput g.D.Read.remaining c.args.declaration.now c.carry_out_run-ended.new.declaration)) why c.carry_out_run-ended.ensures.unanswered,
+    )
 
 pub returns-clause-no_tally : goal.returns-clause-no_tally
 returns-clause-no_tally g c = λ is.
-    let why = c.write_answer.ensures.no_tally is in
-    let runnable = stopped_by (IsRunnable c.deref.result.now) c.answer-answer.result stop.Tally why.1 c.answer-answer.ensures.stopped in
-    (why.0, IsRunnableInput-read c.deref.result.now c.in_ok-text.ensures.given c.deref.ensures.value runnable)
+    let why = c.end_of_run.ensures.no_tally is in (
+      unwritten_for c.carry_out_run-ended.result stop.Tally _ why c.carry_out_run-ended.ensures.untouched,
+      unanswered_for c.carry_out_run-ended.result stop.Tally (Stops (IsRunnableInput g.D.Read.remaining c.args.declaration.now c.carry_out_run-ended.new.declaration)) why c.carry_out_run-ended.ensures.unanswered,
+    )
+
+pub returns-clause-read_failed : goal.returns-clause-read_failed
+returns-clause-read_failed g c = λ is. c.carry_out_run-ended.ensures.read_failed (c.end_of_run.ensures.read_failed is)
+
+pub returns-clause-no_read_failed : goal.returns-clause-no_read_failed
+returns-clause-no_read_failed g c = λ not. c.carry_out_run-ended.ensures.no_read_failed (c.end_of_run.ensures.no_read_failed not)
+
+pub returns-clause-write_failed : goal.returns-clause-write_failed
+returns-clause-write_failed g c = λ is. c.carry_out_run-ended.ensures.write_failed (c.end_of_run.ensures.write_failed is)
+
+pub returns-clause-no_write_failed : goal.returns-clause-no_write_failed
+returns-clause-no_write_failed g c = λ not. c.carry_out_run-ended.ensures.no_write_failed (c.end_of_run.ensures.no_write_failed not)

@@ -1,0 +1,28 @@
+//! Which texts the commands have, and how long these may be.
+
+use crate::declaration::MAX_DECLARATION;
+use wq_meter::Limits;
+
+/// How many bytes a certificate, an assignment or a run may have: 8 MiB.
+const MAX_CERTIFICATE: u32 = 8_388_608;
+
+/// A declaration.
+pub const ONE_TEXT: Limits = Limits {
+    first: MAX_DECLARATION,
+    second: None,
+    third: None,
+};
+
+/// A declaration, and a certificate or an assignment.
+pub const TWO_TEXTS: Limits = Limits {
+    first: MAX_DECLARATION,
+    second: Some(MAX_CERTIFICATE),
+    third: None,
+};
+
+/// A declaration, an assignment and a run.
+pub const THREE_TEXTS: Limits = Limits {
+    first: MAX_DECLARATION,
+    second: Some(MAX_CERTIFICATE),
+    third: Some(MAX_CERTIFICATE),
+};

@@ -1,0 +1,182 @@
+//! What is said beside the answer of a command: the diagnosis of the text that is refused, or of what a certificate lacks; why
+//! a step isn't lawful; or a note on a declaration without an item.
+//!
+//! It takes the time and the memory of the diagnosis.
+
+ghost use Rattle.std.specs.Prelude.{◌≡◌, IfOk, Some, codes, option_map};
+ghost use Rattle.wq_commands.specs.declared.why.Why.TheVariants.{Refused};
+ghost use Rattle.wq_diagnosis.specs.Diagnosis.{IsDiagnosis};
+ghost use Rattle.wq_diagnosis.specs.Voice.{SaysWhy};
+
+use crate::diagnosis::{
+    Source, of_answered_no, of_no_item, of_refused_certificate, of_refused_declaration, of_too_many,
+};
+use crate::replayed::of_unlawful;
+use std::alloc::{AllocError, Allocator};
+use wq_commands::{Outcome, Texts, Voice, Which, Why};
+use wq_findings::Kind;
+
+/// The number of the refusal of a plan that has too many workqueues to run.
+const TOO_MANY: u32 = 69;
+
+/// Says why an answer is no good one.
+#[derive(Clone, Copy, Debug)]
+pub struct Diagnosing<'a> {
+    /// The names are hashed with this. Nothing that is said depends on it.
+    pub seed: u64,
+    /// The name of the file of the declaration.
+    pub declaration: &'a str,
+    /// What the second text should be.
+    pub kind: Kind,
+    /// The name of its file.
+    pub certificate: &'a str,
+    /// The name of the file of the run.
+    pub run: &'a str,
+}
+
+impl<'a> Diagnosing<'a> {
+    /// For a command whose one text is a declaration, from the file of this name.
+    pub fn one(seed: u64, declaration: &'a str) -> Diagnosing<'a>
+        ensures { result.declaration.now ≡ declaration.entry.now }
+    {
+        Diagnosing {
+            seed,
+            declaration,
+            kind: Kind::Assignment,
+            certificate: "",
+            run: "",
+        }
+    }
+
+    /// For a command that has a second text of this kind, from the file of this name.
+    pub fn two(seed: u64, declaration: &'a str, kind: Kind, certificate: &'a str) -> Diagnosing<'a>
+        ensures declaration { result.declaration.now ≡ declaration.entry.now }
+        ensures certificate { result.certificate.now ≡ certificate.entry.now }
+    {
+        Diagnosing {
+            seed,
+            declaration,
+            kind,
+            certificate,
+            run: "",
+        }
+    }
+}
+
+/// The diagnosis of a declaration that is refused, or whose plan is refused by `run`.
+fn of_first<A: Allocator + Copy>(
+    alloc: A,
+    declaration: Source<'_>,
+    code: u32,
+    line: u32,
+) -> Result<Vec<u8, A>, AllocError>
+    ensures { IfOk result (λ said. IsDiagnosis declaration.entry.file.now (codes "refused") code line said.items) }
+{
+    if code == TOO_MANY && line == 0 {
+        return of_too_many(alloc, declaration);
+    }
+    of_refused_declaration(alloc, declaration, code, line)
+}
+
+/// The diagnosis of the text that is refused.
+fn of_text<A: Allocator + Copy>(
+    alloc: A,
+    voice: &Diagnosing<'_>,
+    texts: &Texts<A>,
+    which: Which,
+    code: u32,
+    line: u32,
+) -> Result<Option<Vec<u8, A>>, AllocError>
+    ensures { IfOk result (λ said. SaysWhy voice.now.declaration.now voice.now.certificate.now voice.now.run.now texts.now
+        (Some (Refused which code line)) (option_map (λ text. text.items) said)) }
+{
+    let declaration = Source {
+        file: voice.declaration,
+        text: texts.first(),
+    };
+    let certificate = Source {
+        file: voice.certificate,
+        text: texts.second(),
+    };
+    let run = Source {
+        file: voice.run,
+        text: texts.third(),
+    };
+    match which {
+        Which::Declaration => Ok(Some(of_first(alloc, declaration, code, line)?)),
+        Which::Certificate => of_refused_certificate(
+            alloc,
+            voice.seed,
+            voice.kind,
+            declaration.text,
+            certificate,
+            code,
+            line,
+        ),
+        Which::Run => of_refused_certificate(
+            alloc,
+            voice.seed,
+            Kind::Run,
+            declaration.text,
+            run,
+            code,
+            line,
+        ),
+    }
+}
+
+/// What is said of these texts and the reason of their answer. Where there is none, the declaration may still have no item.
+fn of_why<A: Allocator + Copy>(
+    alloc: A,
+    voice: &Diagnosing<'_>,
+    texts: &Texts<A>,
+    why: Option<Why>,
+) -> Result<Option<Vec<u8, A>>, AllocError>
+    ensures { IfOk result (λ said. SaysWhy voice.now.declaration.now voice.now.certificate.now voice.now.run.now texts.now
+        why (option_map (λ text. text.items) said)) }
+{
+    match why {
+        None => of_no_item(
+            alloc,
+            voice.seed,
+            Source {
+                file: voice.declaration,
+                text: texts.first(),
+            },
+        ),
+        Some(Why::NotLawful(_)) => of_unlawful(
+            alloc,
+            voice.seed,
+            texts.first(),
+            texts.second(),
+            Source {
+                file: voice.run,
+                text: texts.third(),
+            },
+        ),
+        Some(Why::Refused { which, code, line }) => of_text(alloc, voice, texts, which, code, line),
+        Some(Why::No(no)) => {
+            let certificate = Source {
+                file: voice.certificate,
+                text: texts.second(),
+            };
+            of_answered_no(alloc, voice.seed, texts.first(), certificate, &no)
+        }
+    }
+}
+
+impl<A: Allocator + Copy> Voice<A, Outcome> for Diagnosing<'_> {
+    ghost use Rattle.wq_diagnosis.specs.Voice.{SaysWhy};
+
+    ghost says = { λ voice texts outcome said.
+        SaysWhy voice.declaration.now voice.certificate.now voice.run.now texts outcome.why said };
+
+    fn say(
+        &self,
+        alloc: A,
+        texts: &Texts<A>,
+        outcome: &Outcome,
+    ) -> Result<Option<Vec<u8, A>>, AllocError> {
+        of_why(alloc, self, texts, outcome.why)
+    }
+}

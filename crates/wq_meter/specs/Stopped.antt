@@ -1,0 +1,15 @@
+-- Why a command didn't end.
+use Rattle.std.specs.Prelude.{ℕ}
+use Rattle.wq_meter.specs.declared.fault.Fault.{Fault}
+use Rattle.wq_meter.specs.declared.shell.Stopped.{Stopped}
+use Rattle.wq_meter.specs.declared.shell.Stopped.TheVariants.{Faulted, Unanswered}
+
+-- if it has no answer, this holds of the reason
+abbrev pub IfUnanswered : {S : Type 0} → (S → Type 0) → Stopped S → Type 0
+IfUnanswered holds (Faulted fault) = Unit {0}
+IfUnanswered holds (Unanswered stop) = holds stop
+
+-- if a fault stopped it, this holds of the fault
+abbrev pub IfFaulted : {S : Type 0} → (Fault → Type 0) → Stopped S → Type 0
+IfFaulted holds (Faulted fault) = holds fault
+IfFaulted holds (Unanswered stop) = Unit {0}

@@ -1,0 +1,497 @@
+//! The commands over files, standard input and two writers, which in the program are standard output and standard error.
+//!
+//! The files of a command are opened in the order of its arguments, before any of them is read. Then `carry_out` reads them,
+//! writes the answer, and says what is wrong, where something is; for `run`, `carry_out_run` does. The running time is that of the
+//! command.
+
+ghost use Rattle.std.specs.Prelude.{◌≡◌, ◌≢◌, ℕ, List, Err, IfErr, IfOk, OnErr, option_map};
+ghost use Rattle.wq_meter.specs.Input.{IsInput};
+ghost use Rattle.wq_meter.specs.Meter.{count_after, WritesPrefix, WritesWhole};
+ghost use Rattle.wq_meter.specs.Shell.{AreFrom, Given, kept};
+ghost use Rattle.wq_meter.specs.declared.shell.Stopped.TheVariants.{Faulted};
+ghost use Rattle.wq_commands.specs.Answer.{Answers};
+ghost use Rattle.wq_run.specs.Running.{RunsTexts};
+ghost use Rattle.wqplan.specs.CommandLine.{spelled};
+ghost use Rattle.wqplan.specs.Status.{end_or_common, explained_or_common};
+ghost use Rattle.wqplan.specs.Ended.{EndedBy, EndsAsAsked, EndsCheck, EndsCircles, EndsDeadlock, EndsDot, EndsExplain, EndsPlan, EndsReplay, EndsRun, Has, IsInputIf};
+
+use crate::command_line::Request;
+use crate::world::World;
+use std::alloc::{AllocError, Global};
+use std::io::{self, Read, Write};
+use std::sync::Wait;
+use std::thread::Threads;
+use wq_circles::CirclesCommand;
+use wq_commands::{
+    CheckCommand, Command, DeadlockCommand, End, Fault, Metered, Outcome, PlanCommand,
+    ReplayCommand, Stopped, Voice, carry_out,
+};
+use wq_diagnosis::{Diagnosing, Kind};
+use wq_dot::DotCommand;
+use wq_explain::{Explained, explain_cmd};
+use wq_run::{CommandFault, RunStop, carry_out_run, end_of_run};
+
+/// The name of standard input in a diagnosis.
+pub(crate) const STDIN: &str = "<stdin>";
+
+/// Carries out a command on these readers.
+fn carry_out_on<
+    C: Command<Global>,
+    V: Voice<Global, C::End>,
+    D: Read + Drop,
+    S: Read + Drop,
+    T: Read + Drop,
+    W: Write,
+    E: Write,
+>(
+    alloc: Global,
+    command: &C,
+    voice: &V,
+    first: D,
+    second: S,
+    third: T,
+    writer: &mut Metered<W>,
+    teller: &mut Metered<E>,
+) -> Result<C::End, Stopped<C::Stop>>
+    ensures answered { IfOk result (λ end. (texts : Given) × (out : List ℕ)
+        × AreFrom (IsInput (D.remaining first)) (IsInputIf (C.limits command.now).second (S.remaining second))
+        (IsInputIf (C.limits command.now).third (T.remaining third)) texts
+        × C.answers command.now (kept (C.limits command.now) texts) end out × WritesWhole W.contents writer.old writer.new out) }
+    ensures prefix { result ≡ Err (Faulted Fault.Write) → (end : C.End) × (texts : Given) × (out : List ℕ)
+        × AreFrom (IsInput (D.remaining first)) (IsInputIf (C.limits command.now).second (S.remaining second))
+        (IsInputIf (C.limits command.now).third (T.remaining third)) texts
+        × C.answers command.now (kept (C.limits command.now) texts) end out × WritesPrefix W.contents writer.old writer.new out }
+    ensures untouched { IfErr result (λ stopped. stopped ≢ Faulted Fault.Write → writer.new ≡ writer.old) }
+    ensures unsaid { OnErr result (teller.new ≡ teller.old) }
+    ensures write_failed { result ≡ Err (Faulted Fault.Write) → writer.new.failures ≡ count_after writer.old.failures 1 }
+    ensures no_write_failed { result ≢ Err (Faulted Fault.Write) → writer.new.failures ≡ writer.old.failures }
+{
+    let mut first = Metered::new(first);
+    let mut second = Metered::new(second);
+    let mut third = Metered::new(third);
+    carry_out(
+        alloc,
+        command,
+        voice,
+        &mut first,
+        &mut second,
+        &mut third,
+        writer,
+        teller,
+    )
+}
+
+/// The end of a command, or the fault that stopped it. Where it has no answer, memory ran out.
+fn end_of(ended: Result<Outcome, Stopped<AllocError>>) -> Result<End, CommandFault>
+    ensures { result ≡ end_or_common ended }
+{
+    match ended {
+        Ok(outcome) => Ok(outcome.end),
+        Err(Stopped::Faulted(fault)) => Err(CommandFault::Common(fault)),
+        Err(Stopped::Unanswered(AllocError)) => Err(CommandFault::Common(Fault::Memory)),
+    }
+}
+
+/// The end of `explain`, or the fault that stopped it.
+fn end_of_explain(ended: Result<Explained, Fault>) -> Result<End, CommandFault>
+    ensures { result ≡ explained_or_common ended }
+{
+    match ended {
+        Ok(Explained::Known) => Ok(End::Good),
+        Ok(Explained::Unknown) => Ok(End::Refused),
+        Err(fault) => Err(CommandFault::Common(fault)),
+    }
+}
+
+/// Plans the declaration that `input` has. A diagnosis calls it by this name.
+fn plan_input<D: Read + Drop, W: Write, E: Write>(
+    alloc: Global,
+    seed: u64,
+    name: &str,
+    input: D,
+    writer: &mut Metered<W>,
+    teller: &mut Metered<E>,
+) -> Result<End, CommandFault>
+    ensures ended { EndedBy W.contents writer.old writer.new
+        (λ end out. (text : List ℕ) × IsInput (D.remaining input) text × Answers text end out) result }
+    ensures unsaid { OnErr result (teller.new ≡ teller.old) }
+{
+    let ended = carry_out_on(
+        alloc,
+        &PlanCommand { seed },
+        &Diagnosing::one(seed, name),
+        input,
+        io::empty(),
+        io::empty(),
+        writer,
+        teller,
+    );
+    end_of(ended)
+}
+
+/// Plans the declaration in the file at this path, or, without a path, in standard input.
+fn plan<'a, O: World<'a>, I: Read + Drop, W: Write, E: Write>(
+    world: &O,
+    alloc: Global,
+    file: Option<&'a str>,
+    input: I,
+    writer: &mut Metered<W>,
+    teller: &mut Metered<E>,
+) -> Result<End, CommandFault>
+    ensures ended { EndedBy W.contents writer.old writer.new (EndsPlan (Has (O.opens world.now) O.File.Read.remaining)
+        (IsInput (I.remaining input)) (option_map (λ s. s.now) file.entry)) result }
+    ensures unsaid { OnErr result (teller.new ≡ teller.old) }
+{
+    let Some(seed) = world.seed() else {
+        return Err(CommandFault::Common(Fault::Read));
+    };
+    match file {
+        Some(path) => {
+            let Some(declared) = world.open(path, true) else {
+                return Err(CommandFault::Common(Fault::Read));
+            };
+            plan_input(alloc, seed, path, declared, writer, teller)
+        }
+        None => plan_input(alloc, seed, STDIN, input, writer, teller),
+    }
+}
+
+/// Checks the certificate in the second file against the declaration in the first.
+fn check<'a, O: World<'a>, W: Write, E: Write>(
+    world: &O,
+    alloc: Global,
+    declaration: &'a str,
+    certificate: &'a str,
+    writer: &mut Metered<W>,
+    teller: &mut Metered<E>,
+) -> Result<End, CommandFault>
+    ensures ended { EndedBy W.contents writer.old writer.new (EndsCheck (Has (O.opens world.now) O.File.Read.remaining)
+        declaration.now certificate.now) result }
+    ensures unsaid { OnErr result (teller.new ≡ teller.old) }
+{
+    let Some(seed) = world.seed() else {
+        return Err(CommandFault::Common(Fault::Read));
+    };
+    let Some(declared) = world.open(declaration, false) else {
+        return Err(CommandFault::Common(Fault::Read));
+    };
+    let Some(certified) = world.open(certificate, false) else {
+        return Err(CommandFault::Common(Fault::Read));
+    };
+    let ended = carry_out_on(
+        alloc,
+        &CheckCommand { seed },
+        &Diagnosing::two(seed, declaration, Kind::Answer, certificate),
+        declared,
+        certified,
+        io::empty(),
+        writer,
+        teller,
+    );
+    end_of(ended)
+}
+
+/// Judges the assignment in the second file, for the declaration in the first.
+fn deadlock<'a, O: World<'a>, W: Write, E: Write>(
+    world: &O,
+    alloc: Global,
+    declaration: &'a str,
+    assignment: &'a str,
+    writer: &mut Metered<W>,
+    teller: &mut Metered<E>,
+) -> Result<End, CommandFault>
+    ensures ended { EndedBy W.contents writer.old writer.new (EndsDeadlock (Has (O.opens world.now) O.File.Read.remaining)
+        declaration.now assignment.now) result }
+    ensures unsaid { OnErr result (teller.new ≡ teller.old) }
+{
+    let Some(seed) = world.seed() else {
+        return Err(CommandFault::Common(Fault::Read));
+    };
+    let Some(declared) = world.open(declaration, false) else {
+        return Err(CommandFault::Common(Fault::Read));
+    };
+    let Some(assigned) = world.open(assignment, false) else {
+        return Err(CommandFault::Common(Fault::Read));
+    };
+    let ended = carry_out_on(
+        alloc,
+        &DeadlockCommand { seed },
+        &Diagnosing::two(seed, declaration, Kind::Assignment, assignment),
+        declared,
+        assigned,
+        io::empty(),
+        writer,
+        teller,
+    );
+    end_of(ended)
+}
+
+/// Makes the run in the third file, under the assignment in the second, for the declaration in the first.
+fn replay<'a, O: World<'a>, W: Write, E: Write>(
+    world: &O,
+    alloc: Global,
+    declaration: &'a str,
+    assignment: &'a str,
+    run: &'a str,
+    writer: &mut Metered<W>,
+    teller: &mut Metered<E>,
+) -> Result<End, CommandFault>
+    ensures ended { EndedBy W.contents writer.old writer.new (EndsReplay (Has (O.opens world.now) O.File.Read.remaining)
+        declaration.now assignment.now run.now) result }
+    ensures unsaid { OnErr result (teller.new ≡ teller.old) }
+{
+    let Some(seed) = world.seed() else {
+        return Err(CommandFault::Common(Fault::Read));
+    };
+    let Some(declared) = world.open(declaration, false) else {
+        return Err(CommandFault::Common(Fault::Read));
+    };
+    let Some(assigned) = world.open(assignment, false) else {
+        return Err(CommandFault::Common(Fault::Read));
+    };
+    let Some(listed) = world.open(run, false) else {
+        return Err(CommandFault::Common(Fault::Read));
+    };
+    let ended = carry_out_on(
+        alloc,
+        &ReplayCommand { seed },
+        &Diagnosing {
+            seed,
+            declaration,
+            kind: Kind::Assignment,
+            certificate: assignment,
+            run,
+        },
+        declared,
+        assigned,
+        listed,
+        writer,
+        teller,
+    );
+    end_of(ended)
+}
+
+/// Prints the flushes on circles of the declaration in the first file, under the assignment in the second, if there is one.
+fn circles<'a, O: World<'a>, W: Write, E: Write>(
+    world: &O,
+    alloc: Global,
+    declaration: &'a str,
+    assignment: Option<&'a str>,
+    writer: &mut Metered<W>,
+    teller: &mut Metered<E>,
+) -> Result<End, CommandFault>
+    ensures ended { EndedBy W.contents writer.old writer.new (EndsCircles (Has (O.opens world.now) O.File.Read.remaining)
+        declaration.now (option_map (λ s. s.now) assignment.entry)) result }
+    ensures unsaid { OnErr result (teller.new ≡ teller.old) }
+{
+    let Some(seed) = world.seed() else {
+        return Err(CommandFault::Common(Fault::Read));
+    };
+    let Some(declared) = world.open(declaration, false) else {
+        return Err(CommandFault::Common(Fault::Read));
+    };
+    match assignment {
+        Some(assignment) => {
+            let Some(assigned) = world.open(assignment, false) else {
+                return Err(CommandFault::Common(Fault::Read));
+            };
+            let ended = carry_out_on(
+                alloc,
+                &CirclesCommand {
+                    seed,
+                    assigned: true,
+                },
+                &Diagnosing::two(seed, declaration, Kind::Assignment, assignment),
+                declared,
+                assigned,
+                io::empty(),
+                writer,
+                teller,
+            );
+            end_of(ended)
+        }
+        None => {
+            let ended = carry_out_on(
+                alloc,
+                &CirclesCommand {
+                    seed,
+                    assigned: false,
+                },
+                &Diagnosing::one(seed, declaration),
+                declared,
+                io::empty(),
+                io::empty(),
+                writer,
+                teller,
+            );
+            end_of(ended)
+        }
+    }
+}
+
+/// Draws the declaration in the first file, on the workqueues of the assignment in the second, or, if there is none, of its plan.
+fn dot<'a, O: World<'a>, W: Write, E: Write>(
+    world: &O,
+    alloc: Global,
+    declaration: &'a str,
+    assignment: Option<&'a str>,
+    writer: &mut Metered<W>,
+    teller: &mut Metered<E>,
+) -> Result<End, CommandFault>
+    ensures ended { EndedBy W.contents writer.old writer.new (EndsDot (Has (O.opens world.now) O.File.Read.remaining)
+        declaration.now (option_map (λ s. s.now) assignment.entry)) result }
+    ensures unsaid { OnErr result (teller.new ≡ teller.old) }
+{
+    let Some(seed) = world.seed() else {
+        return Err(CommandFault::Common(Fault::Read));
+    };
+    let Some(declared) = world.open(declaration, false) else {
+        return Err(CommandFault::Common(Fault::Read));
+    };
+    match assignment {
+        Some(assignment) => {
+            let Some(assigned) = world.open(assignment, false) else {
+                return Err(CommandFault::Common(Fault::Read));
+            };
+            let ended = carry_out_on(
+                alloc,
+                &DotCommand {
+                    seed,
+                    assigned: true,
+                },
+                &Diagnosing::two(seed, declaration, Kind::Assignment, assignment),
+                declared,
+                assigned,
+                io::empty(),
+                writer,
+                teller,
+            );
+            end_of(ended)
+        }
+        None => {
+            let ended = carry_out_on(
+                alloc,
+                &DotCommand {
+                    seed,
+                    assigned: false,
+                },
+                &Diagnosing::one(seed, declaration),
+                declared,
+                io::empty(),
+                io::empty(),
+                writer,
+                teller,
+            );
+            end_of(ended)
+        }
+    }
+}
+
+/// Carries out `run` on this reader.
+fn run_on<R: Threads + Wait + Sync, V: Voice<Global, Outcome>, D: Read + Drop, W: Write, E: Write>(
+    rt: &R,
+    alloc: Global,
+    seed: u64,
+    voice: &V,
+    declared: D,
+    writer: &mut Metered<W>,
+    teller: &mut Metered<E>,
+) -> Result<Outcome, Stopped<RunStop>>
+    ensures answered { IfOk result (λ outcome. (texts : Given) × (out : List ℕ) × IsInput (D.remaining declared) texts.first
+        × RunsTexts texts outcome out × WritesWhole W.contents writer.old writer.new out) }
+    ensures prefix { result ≡ Err (Faulted Fault.Write) → (outcome : Outcome) × (texts : Given) × (out : List ℕ)
+        × IsInput (D.remaining declared) texts.first × RunsTexts texts outcome out × WritesPrefix W.contents writer.old writer.new out }
+    ensures untouched { IfErr result (λ stopped. stopped ≢ Faulted Fault.Write → writer.new ≡ writer.old) }
+    ensures unsaid { OnErr result (teller.new ≡ teller.old) }
+    ensures write_failed { result ≡ Err (Faulted Fault.Write) → writer.new.failures ≡ count_after writer.old.failures 1 }
+    ensures no_write_failed { result ≢ Err (Faulted Fault.Write) → writer.new.failures ≡ writer.old.failures }
+{
+    let mut input = Metered::new(declared);
+    carry_out_run(rt, alloc, seed, voice, &mut input, writer, teller)
+}
+
+/// Runs the plan of the declaration in this file.
+fn run<'a, O: World<'a>, R: Threads + Wait + Sync, W: Write, E: Write>(
+    world: &O,
+    rt: &R,
+    alloc: Global,
+    declaration: &'a str,
+    writer: &mut Metered<W>,
+    teller: &mut Metered<E>,
+) -> Result<End, CommandFault>
+    ensures ended { EndedBy W.contents writer.old writer.new (EndsRun (Has (O.opens world.now) O.File.Read.remaining)
+        declaration.now) result }
+    ensures unsaid { OnErr result (teller.new ≡ teller.old) }
+{
+    let Some(seed) = world.seed() else {
+        return Err(CommandFault::Common(Fault::Read));
+    };
+    let Some(declared) = world.open(declaration, false) else {
+        return Err(CommandFault::Common(Fault::Read));
+    };
+    let voice = Diagnosing::one(seed, declaration);
+    let ended = run_on(rt, alloc, seed, &voice, declared, writer, teller);
+    end_of_run(ended)
+}
+
+/// Prints what a number or a name means, or, without a word, the list of all that have an explanation. A word without an
+/// explanation ends the command as a refused text does.
+fn explain<W: Write>(
+    alloc: Global,
+    code: Option<&str>,
+    writer: &mut Metered<W>,
+) -> Result<End, CommandFault>
+    ensures { EndedBy W.contents writer.old writer.new (EndsExplain (option_map (λ s. s.now) code.entry)) result }
+{
+    let ended = explain_cmd(alloc, code, writer);
+    end_of_explain(ended)
+}
+
+/// Carries out the command that is asked for.
+pub(crate) fn perform<
+    'a,
+    O: World<'a>,
+    R: Threads + Wait + Sync,
+    I: Read + Drop,
+    W: Write,
+    E: Write,
+>(
+    world: &O,
+    rt: &R,
+    alloc: Global,
+    request: Request<'a>,
+    input: I,
+    writer: &mut Metered<W>,
+    teller: &mut Metered<E>,
+) -> Result<End, CommandFault>
+    ensures ended { EndedBy W.contents writer.old writer.new (EndsAsAsked (Has (O.opens world.now) O.File.Read.remaining)
+        (IsInput (I.remaining input)) (spelled request.entry)) result }
+    ensures unsaid { OnErr result (teller.new ≡ teller.old) }
+{
+    match request {
+        Request::Plan { file } => plan(world, alloc, file, input, writer, teller),
+        Request::Check {
+            declaration,
+            certificate,
+        } => check(world, alloc, declaration, certificate, writer, teller),
+        Request::Deadlock {
+            declaration,
+            assignment,
+        } => deadlock(world, alloc, declaration, assignment, writer, teller),
+        Request::Replay {
+            declaration,
+            assignment,
+            run,
+        } => replay(world, alloc, declaration, assignment, run, writer, teller),
+        Request::Circles {
+            declaration,
+            assignment,
+        } => circles(world, alloc, declaration, assignment, writer, teller),
+        Request::Dot {
+            declaration,
+            assignment,
+        } => dot(world, alloc, declaration, assignment, writer, teller),
+        Request::Run { declaration } => run(world, rt, alloc, declaration, writer, teller),
+        Request::Explain { code } => explain(alloc, code, writer),
+    }
+}
