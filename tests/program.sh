@@ -297,6 +297,26 @@ check 'run: a text of 1,048,576 bytes' 0 'workqueues 0\nfaults 0\n' "largest$no_
 run run <(yes 'item a' 2>/dev/null) </dev/null
 check 'run: a text without end' 2 'refused 1 line 0\n' 'of 1'
 
+# leaves ARG..: counts whether the command leaves standard input to whoever reads it next.
+leaves() {
+    { limited "$program" "$@" >/dev/null 2>&1; cat; } <<<'the rest' >out
+    status=$?
+    : >err
+    check "standard input is left: $*" 0 'the rest\n' ''
+}
+leaves plan declaration
+leaves check declaration plan_of_two
+leaves deadlock chain lanes
+leaves replay chain lanes open
+leaves circles chain
+leaves circles chain lanes
+leaves dot chain
+leaves dot chain lanes
+leaves run declaration
+leaves explain safe
+leaves explain
+leaves plan missing
+
 # The same each time, whatever the threads do: the first run that differs is looked at, or the last one.
 ran3=$(printf 'item %s queued 1 cancelled 0 finished 1\\n' 'a wq 2' 'b wq 1' 'c wq 0')
 for _ in $(seq 50); do
