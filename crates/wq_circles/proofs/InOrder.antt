@@ -12,8 +12,8 @@ use Rattle.wq_graph.specs.declared.arc.WaitArc.{WaitArc}
 use Rattle.wq_graph.specs.Graph.{HasArc, arcs_at, lane_graph}
 use Rattle.wq_graph.proofs.Graphs.{AreArcsFrom-lane_graph}
 use Rattle.wq_graph.proofs.ListLemmas.{IsStrictlyIncreasing-map, AllPairs-from_map}
-use Rattle.wq_components.specs.Leading.{IsLowest, AreLowest}
-use Rattle.wq_components.proofs.Leading.{IsLowest-same}
+use Rattle.wq_circles.specs.Leading.{IsLowest, AreLowest}
+use Rattle.wq_circles.proofs.Leading.{IsLowest-same}
 use Rattle.wq_circles.specs.Components.{joined, loops_at, loops}
 use Rattle.wq_circles.specs.Flushes.{IsBefore}
 use Rattle.wq_circles.proofs.OnCircles.{AreTogether-keeps, AreLoops-loops, IsLoop, IsLoop-loops_at, assigned, flush-items, lane-below, loop-vertex}

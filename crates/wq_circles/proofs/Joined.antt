@@ -11,7 +11,7 @@ use Rattle.wq_groups.specs.Declaration.{Declaration}
 use Rattle.wq_groups.specs.Assignment.{Assignment, IsAssignment, item_lanes}
 use Rattle.wq_graph.specs.declared.arc.WaitArc.{WaitArc}
 use Rattle.wq_graph.specs.Graph.{HasArc, arcs_from, lane_graph}
-use Rattle.wq_components.specs.Leading.{AreLowest}
+use Rattle.wq_circles.specs.Leading.{AreLowest}
 use Rattle.wq_circles.specs.Components.{joined, loops_at}
 
 -- what is at a place within a list isn't the default

@@ -1,3 +1,10 @@
+pub mod Leading
+pub mod Once
+pub mod Turned
+pub mod Searched
+pub mod Walked
+pub mod Settled
+pub mod Completed
 pub mod Joined
 pub mod Loops
 pub mod OnCircles

@@ -14,8 +14,8 @@ use Rattle.wq_graph.specs.declared.arc.WaitArc.{WaitArc}
 use Rattle.wq_graph.specs.Graph.{HasArc, arcs_at, lane_graph, IsArc}
 use Rattle.wq_graph.proofs.Graphs.{AreArcsFrom-lane_graph}
 use Rattle.wq_graph.proofs.ListLemmas.{Contains-map}
-use Rattle.wq_components.specs.Leading.{Leads, AreTogether, AreLowest}
-use Rattle.wq_components.proofs.Leading.{Leads-arc, IsLowest-same, AreTogether-lowest}
+use Rattle.wq_circles.specs.Leading.{Leads, AreTogether, AreLowest}
+use Rattle.wq_circles.proofs.Leading.{Leads-arc, IsLowest-same, AreTogether-lowest}
 use Rattle.wq_circles.specs.Components.{joined, loops_at, loops}
 use Rattle.wq_circles.specs.Flushes.{IsSameFlush, HasFlush, IsInComponents, AreInOneComponent, IsDeclaredFlush}
 use Rattle.wq_circles.proofs.Joined.{AreLowest-within, IsAssignment-joined}

@@ -9,7 +9,7 @@ use Rattle.wq_graph.specs.declared.arc.WaitArc.{WaitArc}
 use Rattle.wq_graph.specs.Graph.{HasArc, lane_graph}
 use Rattle.wq_graph.proofs.Graphs.{VertexWaits-lane_graph}
 use Rattle.wq_core.specs.Wiring.{LaneWaits, wiring, own_lanes}
-use Rattle.wq_components.specs.Leading.{Leads, AreTogether}
+use Rattle.wq_circles.specs.Leading.{Leads, AreTogether}
 use Rattle.wq_meter.specs.Meter.{Meter}
 use Rattle.wq_cert.specs.Ranges.{IsAssignmentOf}
 use Rattle.wq_cert.specs.Texts.{assignment_of_text, cert_refusal}

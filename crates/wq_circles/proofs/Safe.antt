@@ -20,8 +20,8 @@ use Rattle.wq_core.proofs.LaneCircles.{Circle-map}
 use Rattle.wq_core.proofs.Wirings.{IsWiring-wiring}
 use Rattle.wq_deadlock.proofs.Renumbered.{not_safe-deadlocks}
 use Rattle.wq_deadlock.proofs.Verdicts.{IsSafeByRanks-ranks}
-use Rattle.wq_components.specs.Leading.{Leads, AreLowest}
-use Rattle.wq_components.proofs.Leading.{Leads-arc, IsLowest-same}
+use Rattle.wq_circles.specs.Leading.{Leads, AreLowest}
+use Rattle.wq_circles.proofs.Leading.{Leads-arc, IsLowest-same}
 use Rattle.wq_circles.specs.Components.{joined, loops, AreComponents}
 use Rattle.wq_circles.specs.Flushes.{IsInComponents, IsDeclaredFlush}
 use Rattle.wq_circles.proofs.Loops.{IsArc-items}

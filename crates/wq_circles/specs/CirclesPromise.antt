@@ -7,7 +7,7 @@ use Rattle.wq_groups.specs.Assignment.{Assignment, IsAssignment, item_lane}
 use Rattle.wq_graph.specs.declared.arc.WaitArc.{WaitArc}
 use Rattle.wq_core.specs.Wiring.{LaneWaits, wiring, own_lanes}
 use Rattle.wq_core.specs.Deadlock.{IsSafe, Deadlocks}
-use Rattle.wq_components.specs.Leading.{Leads, AreTogether}
+use Rattle.wq_circles.specs.Leading.{Leads, AreTogether}
 use Rattle.wq_cert.specs.Texts.{assignment_of_text}
 use Rattle.wq_commands.specs.declared.end.End.{End}
 use Rattle.wq_commands.specs.declared.end.End.TheVariants.{Good, Bad, Refused}

@@ -5,7 +5,7 @@ use Rattle.wq_groups.specs.Declaration.{Declaration}
 use Rattle.wq_groups.specs.Assignment.{Assignment}
 use Rattle.wq_graph.specs.declared.arc.WaitArc.{WaitArc}
 use Rattle.wq_graph.specs.Graph.{HasArc, arcs_at, lane_graph}
-use Rattle.wq_components.specs.Leading.{AreLowest}
+use Rattle.wq_circles.specs.Leading.{AreLowest}
 
 -- the assignment in which workqueues that lead to one another are joined: each group is on the lowest-numbered workqueue that
 -- is together with its own. `lowest` has this workqueue for each workqueue in turn. The number of workqueues stays the same

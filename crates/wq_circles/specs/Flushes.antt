@@ -4,7 +4,7 @@ use Rattle.std.specs.List.{Any}
 use Rattle.wq_items.specs.declared.target.Target.{Target}
 use Rattle.wq_items.specs.Table.{targets_of}
 use Rattle.wq_graph.specs.declared.arc.WaitArc.{WaitArc}
-use Rattle.wq_components.specs.Leading.{IsLowest}
+use Rattle.wq_circles.specs.Leading.{IsLowest}
 
 -- two arcs are of the same flush
 abbrev pub IsSameFlush : WaitArc → WaitArc → Type 0

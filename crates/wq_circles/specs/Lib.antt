@@ -1,9 +1,13 @@
 pub use Rattle.wq_core.specs.Deadlock
 pub use Rattle.wq_groups.specs.Declaration
 pub use Rattle.wq_groups.specs.Assignment
+pub use Rattle.wq_items.specs.Chain
 pub use Rattle.wq_graph.specs.Graph
-pub use Rattle.wq_components.specs.Leading
 pub use Rattle.wq_commands.specs.Deadlocking
+pub mod Leading
+pub mod Lists
+pub mod Searching
+pub mod Finishing
 pub mod Components
 pub mod ComponentsText
 pub mod Flushes

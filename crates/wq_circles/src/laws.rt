@@ -1,20 +1,22 @@
 //! Laws about components, as contracts of functions with empty bodies. No code runs here: the clauses are the laws.
 //!
 //! They say, in the words of docs/FORMAT.md, "The command `circles`", what components are: of arcs, and of the workqueues that
-//! lead to one another. `LaneWaits` says which workqueue waits for which, and `Leads` of it which leads to which.
+//! lead to one another. `LaneWaits` says which workqueue waits for which, and `Leads` of it which leads to which. The last two
+//! are about the lowest-numbered vertices of a wait graph.
 
-ghost use Rattle.std.specs.Prelude.{◌≡◌, ◌≢◌, ◌≤◌, ◌↔◌, ℕ, List, [], map, AllPairs};
+ghost use Rattle.std.specs.Prelude.{◌≡◌, ◌≤◌, ◌↔◌, ℕ, ◌<◌, List, length, slice_index, ◌≢◌, [], map, AllPairs};
 ghost use Rattle.std.specs.List.{All};
 ghost use Rattle.std.specs.List.Sorted.{IsStrictlyIncreasing};
 ghost use Rattle.wq_groups.specs.Declaration.{Declaration, IsDeclaration};
 ghost use Rattle.wq_groups.specs.Assignment.{Assignment, IsAssignment, item_lane};
 ghost use Rattle.wq_graph.specs.declared.arc.WaitArc.{WaitArc};
+ghost use Rattle.wq_graph.specs.Graph.{HasArc};
 ghost use Rattle.wq_core.specs.Wiring.{LaneWaits, wiring};
 ghost use Rattle.wq_core.specs.Deadlock.{IsSafe};
-ghost use Rattle.wq_components.specs.Leading.{Leads, AreTogether};
 ghost use Rattle.wq_commands.specs.declared.end.End.{End};
 ghost use Rattle.wq_commands.specs.Answer.{Answers};
 ghost use Rattle.wq_commands.specs.Deadlocking.{Judges};
+ghost use Rattle.wq_circles.specs.Leading.{AreLowest, AreTogether, Leads};
 ghost use Rattle.wq_circles.specs.Circling.{Circles, OwnCircles};
 ghost use Rattle.wq_circles.specs.CirclesPromise.{KeepsCircles, KeepsOwnCircles};
 ghost use Rattle.wq_circles.specs.Components.{AreComponents};
@@ -91,4 +93,18 @@ pub fn the_end_is_that_of_the_other_commands()
         Circles declared text end out → Judges declared text other printed → end ≡ other }
     ensures plan { (declared : List ℕ) (end other : End) (out printed : List ℕ) →
         OwnCircles declared end out → Answers declared other printed → end ≡ other }
+{}
+
+/// Two vertices have the same answer exactly where they are together.
+pub fn the_lowest_tells_who_are_together()
+    ensures { (graph : List (List WaitArc)) (lowest : List ℕ) (v w : ℕ) → AreLowest (HasArc graph) (length graph) lowest → v < length graph →
+        w < length graph → (slice_index lowest v ≡ slice_index lowest w) ↔ AreTogether (HasArc graph) v w }
+{}
+
+/// The answer for a vertex is never above it. There is at most one list of answers.
+pub fn the_list_is_the_only_one()
+    ensures below { (graph : List (List WaitArc)) (lowest : List ℕ) (v : ℕ) → AreLowest (HasArc graph) (length graph) lowest →
+        v < length graph → slice_index lowest v ≤ v }
+    ensures one { (graph : List (List WaitArc)) (one other : List ℕ) → AreLowest (HasArc graph) (length graph) one →
+        AreLowest (HasArc graph) (length graph) other → one ≡ other }
 {}

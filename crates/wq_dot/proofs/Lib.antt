@@ -1,3 +1,9 @@
+pub mod Pieces
+pub mod Lines
+pub mod Workqueues
+pub mod Flushes
+pub mod Sums
+pub mod Counts
 pub mod Marked
 pub mod Placed
 pub mod Taking

@@ -6,8 +6,8 @@ use Rattle.std.proofs.lemmas.Bool.{cases_eq, eq-eqb, ne_eqb}
 use Rattle.std.proofs.lemmas.List.{length-set, length-replicate, get_or-set_same, get_or-set_other, get_or-replicate}
 use Rattle.std.proofs.lemmas.List.FromFn.{fill_by_all}
 use Rattle.wq_graph.specs.declared.arc.WaitArc.{WaitArc}
-use Rattle.wq_drawing.specs.declared.look.FlushLook.{FlushLook}
-use Rattle.wq_drawing.specs.declared.look.FlushLook.TheVariants.{Plain}
+use Rattle.wq_dot.specs.declared.look.FlushLook.{FlushLook}
+use Rattle.wq_dot.specs.declared.look.FlushLook.TheVariants.{Plain}
 use Rattle.wq_dot.specs.Flushes.{look_at, looks_of, with_marks}
 
 pub length-with_marks : (look : FlushLook) (looks : List FlushLook) (arcs : List WaitArc) → length (with_marks look looks arcs) ≡ length looks

@@ -14,7 +14,7 @@ use Rattle.wq_commands.specs.Answer.{declared_waits, IsRefused}
 use Rattle.wq_commands.specs.Declaration.{Declared, declaration}
 use Rattle.wq_commands.proofs.Refusals.{MatchResult-unique, IsRefused-unique}
 use Rattle.wq_circles.proofs.Safe.{AreComponents-unique}
-use Rattle.wq_drawing.specs.declared.look.FlushLook.TheVariants.{Red, Bold}
+use Rattle.wq_dot.specs.declared.look.FlushLook.TheVariants.{Red, Bold}
 use Rattle.wq_dot.specs.Dotting.{components_title, drawing_of, plan_title, Draws, DrawsAssigned, DrawsCircles, DrawsDeclared, DrawsGroups, DrawsOwn, DrawsPlan, OwnDraws}
 use Rattle.wq_dot.specs.Flushes.{all_arcs}
 

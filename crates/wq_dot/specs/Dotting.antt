@@ -19,9 +19,9 @@ use Rattle.wq_commands.specs.Commands.{one_text, two_texts}
 use Rattle.wq_commands.specs.Declaration.{Declared, declaration}
 use Rattle.wq_commands.specs.Why.{SaysAssigned, SaysDeclared}
 use Rattle.wq_circles.specs.Components.{AreComponents}
-use Rattle.wq_drawing.specs.declared.look.FlushLook.{FlushLook}
-use Rattle.wq_drawing.specs.declared.look.FlushLook.TheVariants.{Red, Bold}
-use Rattle.wq_drawing.specs.Drawing.{drawing_text}
+use Rattle.wq_dot.specs.declared.look.FlushLook.{FlushLook}
+use Rattle.wq_dot.specs.declared.look.FlushLook.TheVariants.{Red, Bold}
+use Rattle.wq_dot.specs.Drawing.{drawing_text}
 use Rattle.wq_dot.specs.Flushes.{all_arcs, looks_of}
 
 -- ---- titles

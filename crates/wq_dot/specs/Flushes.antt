@@ -2,8 +2,8 @@
 use Rattle.std.specs.Prelude.{ℕ, ◌<◌, ◌==◌, List, map, flat_map, fold, cond, slice_set}
 use Rattle.std.specs.List.{All, list_any, range_with_len}
 use Rattle.wq_graph.specs.declared.arc.WaitArc.{WaitArc}
-use Rattle.wq_drawing.specs.declared.look.FlushLook.{FlushLook}
-use Rattle.wq_drawing.specs.declared.look.FlushLook.TheVariants.{Plain}
+use Rattle.wq_dot.specs.declared.look.FlushLook.{FlushLook}
+use Rattle.wq_dot.specs.declared.look.FlushLook.TheVariants.{Plain}
 
 -- how the flush at this place looks, if the flushes of these arcs have this look
 abbrev pub look_at : FlushLook → List WaitArc → ℕ → FlushLook

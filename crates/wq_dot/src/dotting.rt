@@ -14,7 +14,7 @@ ghost use Rattle.wq_cert.specs.Texts.{assignment_of_text};
 ghost use Rattle.wq_commands.specs.declared.why.Which.TheVariants.{Certificate};
 ghost use Rattle.wq_commands.specs.Why.{SaysFault, SaysAssigned, SaysDeclared};
 ghost use Rattle.wq_circles.specs.Components.{AreComponents};
-ghost use Rattle.wq_drawing.specs.declared.look.FlushLook.{FlushLook};
+ghost use Rattle.wq_dot.specs.declared.look.FlushLook.{FlushLook};
 ghost use Rattle.wq_dot.specs.Flushes.{AreMarkable, all_arcs};
 ghost use Rattle.wq_dot.specs.Dotting.{DrawsAssigned, DrawsCircles, DrawsDeclared, DrawsGroups, DrawsOwn, DrawsPlan, DrawsTexts, Draws, OwnDraws, drawing_of};
 
@@ -25,7 +25,7 @@ use wq_cert::{CertError, read_assignment};
 use wq_circles::components;
 use wq_commands::{Answered, End, Stop, Texts, Which, read_declaration};
 use wq_deadlock::own_lanes;
-use wq_drawing::drawing_text;
+use crate::drawing::drawing_text;
 use wq_graph::WaitArc;
 use wq_groups::{Assignment, Groups};
 use wq_items::ItemTable;

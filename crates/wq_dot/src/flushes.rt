@@ -6,11 +6,11 @@
 ghost use Rattle.std.specs.Prelude.{◌≡◌, ◌<◌, length, map, flat_map, IfOk};
 ghost use Rattle.std.specs.List.{All};
 ghost use Rattle.wq_items.specs.Table.{flush_count};
-ghost use Rattle.wq_drawing.specs.declared.look.FlushLook.{FlushLook};
+ghost use Rattle.wq_dot.specs.declared.look.FlushLook.{FlushLook};
 ghost use Rattle.wq_dot.specs.Flushes.{AreMarkable, all_arcs, looks_of, with_marks};
 
 use std::alloc::{AllocError, Allocator};
-use wq_drawing::FlushLook;
+use crate::look::FlushLook;
 use wq_graph::WaitArc;
 use wq_items::ItemTable;
 

@@ -1,3 +1,4 @@
+pub mod ReportLemmas
 pub mod AnswerLemmas
 pub mod InputLemmas
 pub mod RuntimeLemmas

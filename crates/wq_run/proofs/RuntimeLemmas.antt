@@ -22,8 +22,8 @@ use Rattle.wq_commands.specs.declared.end.End.{End}
 use Rattle.wq_commands.specs.Answer.{declared_waits, IsRefused}
 use Rattle.wq_commands.specs.Declaration.{Declared}
 use Rattle.wq_commands.proofs.AnswerLemmas.{IsSound, IsDeclaration-sound}
-use Rattle.wq_report.specs.Report.{report_text}
-use Rattle.wq_report.proofs.ReportLemmas.{report_text-same}
+use Rattle.wq_run.specs.Report.{report_text}
+use Rattle.wq_run.proofs.ReportLemmas.{report_text-same}
 use Rattle.wq_run.specs.Running.{PrintsRun, RunsDeclared, rows_for, yes_tally}
 
 -- a runtime has as many items as the declaration

@@ -21,7 +21,7 @@ use Rattle.wq_commands.specs.declared.why.Why.{Why}
 use Rattle.wq_commands.specs.Why.{refused_for}
 use Rattle.wq_commands.specs.Answer.{declared_waits, refusal_text, IsRefused, PrintsCircle}
 use Rattle.wq_commands.specs.Declaration.{Declared, declaration}
-use Rattle.wq_report.specs.Report.{report_text}
+use Rattle.wq_run.specs.Report.{report_text}
 
 -- how many rows the history has room for: those that one queueing of each item, its flush by a caller and one execution with
 -- all declared flushes write and reserve

@@ -22,7 +22,7 @@ use std::thread::Threads;
 use wq_api::{Closed, Naming, Seat, WqRuntime};
 use wq_groups::{Assignment, Groups};
 use wq_items::ItemTable;
-use wq_report::report_text;
+use crate::report::report_text;
 use wq_rescuer::{Ran, run_all};
 use wq_script::{script_bodies, script_callers};
 

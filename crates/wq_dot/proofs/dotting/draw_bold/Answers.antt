@@ -1,8 +1,8 @@
 use Rattle.std.proofs.Common.{List, length, ap, ◌∙◌}
 use Rattle.std.proofs.lemmas.List.FromFn.{length-map-range_with_len}
 use Rattle.wq_items.specs.Table.{flush_count}
-use Rattle.wq_drawing.specs.declared.look.FlushLook.{FlushLook}
-use Rattle.wq_drawing.specs.declared.look.FlushLook.TheVariants.{Bold}
+use Rattle.wq_dot.specs.declared.look.FlushLook.{FlushLook}
+use Rattle.wq_dot.specs.declared.look.FlushLook.TheVariants.{Bold}
 use Rattle.wq_dot.specs.Flushes.{look_at}
 use Rattle.wq_dot.proofs.dotting.draw_bold.Goals as goal
 

@@ -4,7 +4,7 @@ use Rattle.std.proofs.lemmas.Result.{IfOk-weaker}
 use Rattle.wq_groups.specs.Declaration.{declaration_of}
 use Rattle.wq_groups.specs.Assignment.{IsAssignment}
 use Rattle.wq_groups.proofs.Declarations.{IsDeclaration-of}
-use Rattle.wq_drawing.specs.declared.look.FlushLook.TheVariants.{Red}
+use Rattle.wq_dot.specs.declared.look.FlushLook.TheVariants.{Red}
 use Rattle.wq_commands.specs.Declaration.{Declared}
 use Rattle.wq_circles.proofs.Loops.{length-components}
 use Rattle.wq_dot.specs.Flushes.{all_arcs}

@@ -3,7 +3,7 @@ use Rattle.std.proofs.lemmas.Result.{IfOk-weaker}
 use Rattle.wq_groups.specs.Declaration.{declaration_of}
 use Rattle.wq_groups.proofs.Declarations.{IsDeclaration-of}
 use Rattle.wq_graph.specs.declared.arc.WaitArc.{WaitArc}
-use Rattle.wq_drawing.specs.declared.look.FlushLook.TheVariants.{Bold}
+use Rattle.wq_dot.specs.declared.look.FlushLook.TheVariants.{Bold}
 use Rattle.wq_commands.specs.Declaration.{Declared}
 use Rattle.wq_dot.specs.Dotting.{drawing_of, plan_title}
 use Rattle.wq_dot.proofs.Placed.{AreMarkable-planned}

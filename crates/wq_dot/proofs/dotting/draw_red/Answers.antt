@@ -2,9 +2,9 @@ use Rattle.std.proofs.Common.{List, length, map, ap, ◌∙◌}
 use Rattle.std.proofs.lemmas.List.FromFn.{length-map-range_with_len}
 use Rattle.std.proofs.lemmas.Result.{IfOk-weaker}
 use Rattle.wq_items.specs.Table.{flush_count}
-use Rattle.wq_drawing.specs.declared.look.FlushLook.{FlushLook}
-use Rattle.wq_drawing.specs.declared.look.FlushLook.TheVariants.{Red}
-use Rattle.wq_drawing.specs.Drawing.{drawing_text}
+use Rattle.wq_dot.specs.declared.look.FlushLook.{FlushLook}
+use Rattle.wq_dot.specs.declared.look.FlushLook.TheVariants.{Red}
+use Rattle.wq_dot.specs.Drawing.{drawing_text}
 use Rattle.wq_dot.specs.Flushes.{all_arcs, look_at}
 use Rattle.wq_dot.proofs.dotting.draw_red.Goals as goal
 

@@ -1,8 +1,8 @@
 use Rattle.std.proofs.Common.{rules, ◌≡◌, ℕ, List, replicate, ap, ◌∙◌, arith}
 use Rattle.std.proofs.lemmas.List.{with_items_is}
 use Rattle.wq_items.specs.Table.{flush_count}
-use Rattle.wq_drawing.specs.declared.look.FlushLook.{FlushLook}
-use Rattle.wq_drawing.specs.declared.look.FlushLook.TheVariants.{Plain, Bold}
+use Rattle.wq_dot.specs.declared.look.FlushLook.{FlushLook}
+use Rattle.wq_dot.specs.declared.look.FlushLook.TheVariants.{Plain, Bold}
 use Rattle.wq_dot.specs.Flushes.{with_marks}
 use Rattle.wq_dot.proofs.Marked.{with_marks-is}
 use Rattle.wq_dot.proofs.flushes.bold_flushes.Goals as goal

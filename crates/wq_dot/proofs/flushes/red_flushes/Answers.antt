@@ -1,8 +1,8 @@
 use Rattle.std.proofs.Common.{rules, ◌≡◌, ℕ, List, length, map, replicate, take, sym, ap, subst, ◌∙◌, arith}
 use Rattle.std.proofs.lemmas.List.{length-map, length-replicate, get_or-map, take_all}
 use Rattle.wq_items.specs.Table.{flush_count}
-use Rattle.wq_drawing.specs.declared.look.FlushLook.{FlushLook}
-use Rattle.wq_drawing.specs.declared.look.FlushLook.TheVariants.{Plain, Red}
+use Rattle.wq_dot.specs.declared.look.FlushLook.{FlushLook}
+use Rattle.wq_dot.specs.declared.look.FlushLook.TheVariants.{Plain, Red}
 use Rattle.wq_dot.specs.Flushes.{AreMarkable, all_arcs, with_marks}
 use Rattle.wq_dot.proofs.Marked.{length-with_marks, with_marks-is}
 use Rattle.wq_dot.proofs.flushes.red_flushes.Goals as goal

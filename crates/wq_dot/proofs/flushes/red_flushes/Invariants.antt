@@ -1,5 +1,5 @@
 use Rattle.std.proofs.Common.{◌≡◌, map, take}
-use Rattle.wq_drawing.specs.declared.look.FlushLook.TheVariants.{Red}
+use Rattle.wq_dot.specs.declared.look.FlushLook.TheVariants.{Red}
 use Rattle.wq_dot.specs.Flushes.{all_arcs, with_marks}
 use Rattle.wq_dot.proofs.flushes.red_flushes.Given as goal
 

@@ -1,0 +1,136 @@
+//! A depth-first search in progress: its steps.
+//!
+//! Each vertex is visited once and finished once, and each place of its list is passed once. Apart from the places that it
+//! passes, a step takes constant time.
+
+ghost use Rattle.std.specs.Prelude.{◌≡◌, ℕ, ◌+◌, ◌-◌, ◌<◌, ◌≤◌, length, map, replicate, true, false, [], slice_get, slice_index, Some, IfOk};
+ghost use Rattle.std.specs.List.{All};
+ghost use Rattle.wq_circles.specs.Searching.{is_marked};
+ghost use Rattle.wq_circles.specs.Finishing.{Follows, IsWalk, WentOn, steps_to, with_finished, with_followed, with_visited};
+
+use std::alloc::{AllocError, Allocator};
+use std::marker::Model;
+
+/// A depth-first search in progress.
+#[derive(Drop)]
+pub(crate) struct Walk<A: Allocator> {
+    visited: Vec<bool, A>,
+    followed: Vec<usize, A>,
+    path: Vec<u16, A>,
+    finished: Vec<u16, A>,
+}
+
+impl<A: Allocator> Model for Walk<A> {
+    ghost use Rattle.wq_circles.specs.Finishing as finishing;
+
+    ghost Value = { finishing.Walk };
+
+    ghost view = { λ w. record {
+      visited = w.visited.items;
+      followed = w.followed.items;
+      path = w.path.items;
+      finished = w.finished.items;
+    } };
+}
+
+/// The first index of this list, from `from` on, with a vertex that wasn't visited, or the length of the list.
+fn next_unvisited(heads: &[u16], visited: &[bool], from: usize) -> usize
+    requires { All (λ w. w < length visited.now) heads.now }
+    ensures passed { (k : ℕ) → from ≤ k → k < result → k < length heads.now → is_marked visited.now (slice_index heads.now k) ≡ true }
+    ensures next { result < length heads.now → is_marked visited.now (slice_index heads.now result) ≡ false }
+{
+    for place in from..heads.len() {
+        if !visited[usize::from(heads[place])] {
+            return place;
+        }
+    }
+    heads.len()
+}
+
+impl<A: Allocator + Copy> Walk<A> {
+    /// Nothing visited yet, for this many vertices.
+    pub(crate) fn none(alloc: A, vertices: usize) -> Result<Self, AllocError>
+        ensures visited { IfOk result (λ w. w.visited ≡ replicate vertices false) }
+        ensures followed { IfOk result (λ w. w.followed ≡ replicate vertices 0) }
+        ensures path { IfOk result (λ w. w.path ≡ []) }
+        ensures finished { IfOk result (λ w. w.finished ≡ []) }
+    {
+        let visited = vec![in alloc; false; vertices]?;
+        let followed = vec![in alloc; 0; vertices]?;
+        let path = Vec::new(alloc);
+        let finished = Vec::new(alloc);
+        Ok(Walk {
+            visited,
+            followed,
+            path,
+            finished,
+        })
+    }
+
+    /// Whether a vertex was visited.
+    pub(crate) fn has(&self, vertex: u16) -> bool
+        requires { vertex < length self.now.visited }
+        ensures { result ≡ is_marked self.now.visited vertex }
+    {
+        self.visited[usize::from(vertex)]
+    }
+
+    /// The vertex where the search is.
+    pub(crate) fn top(&self) -> Option<u16>
+        ensures { result ≡ slice_get self.now.path (length self.now.path - 1) }
+    {
+        self.path.last().copied()
+    }
+
+    /// Comes to a vertex.
+    pub(crate) fn visit(&mut self, vertex: u16) -> Result<(), AllocError>
+        requires { vertex < length self.old.visited }
+        ensures { IfOk result (λ _. self.new ≡ with_visited self.old vertex) }
+    {
+        self.visited[usize::from(vertex)] = true;
+        self.path.push(vertex)?;
+        Ok(())
+    }
+
+    /// Goes back from the vertex where the search is.
+    fn finish(&mut self, vertex: u16) -> Result<(), AllocError>
+        ensures { IfOk result (λ _. self.new ≡ with_finished self.old vertex) }
+    {
+        let _ = self.path.pop();
+        self.finished.push(vertex)?;
+        Ok(())
+    }
+
+    /// Passes the places of the list that hold visited vertices, and gives the first vertex that wasn't visited.
+    fn follow(&mut self, heads: &[u16], vertex: u16) -> Option<u16>
+        requires vertex { vertex < length self.old.followed }
+        requires within { All (λ w. w < length self.old.visited) heads.now }
+        ensures { Follows self.old heads.now vertex result self.new }
+    {
+        let at = usize::from(vertex);
+        let place = next_unvisited(heads, &self.visited, self.followed[at]);
+        self.followed[at] = place;
+        heads.get(place).copied()
+    }
+
+    /// Comes to the next vertex that wasn't visited, or goes back where there is none.
+    pub(crate) fn step(&mut self, lists: &[Vec<u16, A>], vertex: u16) -> Result<(), AllocError>
+        requires walk { IsWalk (map (λ l. l.items) lists.now) self.old }
+        requires top { slice_get self.old.path (length self.old.path - 1) ≡ Some vertex }
+        requires within { All (λ list. All (λ w. w < length lists.now) list.items) lists.now }
+        ensures goes_on { IfOk result (λ _. WentOn (map (λ l. l.items) lists.now) self.old self.new) }
+        ensures counts { IfOk result (λ _. steps_to self.new ≡ steps_to self.old + 1) }
+    {
+        match self.follow(&lists[usize::from(vertex)], vertex) {
+            Some(head) => self.visit(head),
+            None => self.finish(vertex),
+        }
+    }
+
+    /// The vertices that are finished, in that order.
+    pub(crate) fn into_finished(self) -> Vec<u16, A>
+        ensures { result.items ≡ self.finished }
+    {
+        self.finished
+    }
+}

@@ -1,5 +1,0 @@
-use Rattle.wq_components.proofs.Settled.{IsSettling}
-use Rattle.wq_components.proofs.components.settle.Given as goal
-
-abbrev pub invariant-loop-vertex : goal.invariant-loop-vertex
-invariant-loop-vertex l = IsSettling l.vertices l.initial.lowest l.lowest l.least l.vertex-index

@@ -1,6 +1,0 @@
-use Rattle.std.proofs.Common.{◌≡◌, map, take}
-use Rattle.wq_components.specs.Lists.{heads_of}
-use Rattle.wq_components.proofs.lists.heads.Given as goal
-
-abbrev pub invariant-loop-v : goal.invariant-loop-v
-invariant-loop-v g l = map (λ list. list.items) l.lists.items ≡ take l.v (heads_of l.graph)

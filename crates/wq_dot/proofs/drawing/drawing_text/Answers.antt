@@ -1,0 +1,82 @@
+use Rattle.std.proofs.Common.{◌≡◌, ◌<◌, ◌++◌, ℕ, List, length, map, sym, ap, subst, ◌∙◌, arith}
+use Rattle.std.specs.Prelude.{codes, flat_map}
+use Rattle.std.specs.List.{All, range_with_len}
+use Rattle.std.proofs.lemmas.List.{take_all}
+use Rattle.std.proofs.lemmas.List.FromFn.{length-map-range_with_len}
+use Rattle.wq_items.proofs.TableLemmas.{range_with_len-push}
+use Rattle.wq_buckets.specs.Places.{places_of, buckets_of}
+use Rattle.wq_graph.specs.declared.arc.WaitArc.{WaitArc}
+use Rattle.wq_dot.specs.Drawing.{box_lines, flush_line, head_lines, workqueue_lines}
+use Rattle.wq_dot.proofs.Flushes.{IsDrawable-at}
+use Rattle.wq_dot.proofs.Lines.{text_of, text_of-more, text_of-line, text_of-whole}
+use Rattle.wq_dot.proofs.Workqueues.{groups_on-below, groups_on-bucket}
+use Rattle.wq_dot.proofs.drawing.drawing_text.Goals as goal
+
+pub places-requires : goal.places-requires
+places-requires g c =
+    let many = ap length c.in_ok-by_workqueue.ensures.buckets ∙ length-map-range_with_len (places_of c.deref.result.now) 0 c.lanes-workqueues.result in
+    omega (arith, many, c.loop-number-test.true)
+
+pub put_workqueue-requires-clause-own : goal.put_workqueue-requires-clause-own
+put_workqueue-requires-clause-own g c =
+    let a = c.args.assignment.now in
+    let groups = c.args.groups.now.groups in
+    let number = c.loop-number.number in
+    let made = subst (λ n. c.in_ok-by_workqueue.by_workqueue ≡ buckets_of c.deref.result.now n) c.lanes-workqueues.ensures.lanes c.in_ok-by_workqueue.ensures.buckets in
+    let own = groups_on-bucket a c.deref.result.now c.in_ok-by_workqueue.by_workqueue number c.places.result.now (c.deref.ensures.value ∙ c.in_ok-lanes.ensures) made (omega (arith, c.loop-number-test.true, c.lanes-workqueues.ensures.lanes)) c.places.ensures in
+    subst (λ (is : List ℕ). All (λ i. i < groups) is) (sym own) (groups_on-below a groups number c.requires.assigned)
+
+pub loop-number-preserved : goal.loop-number-preserved
+loop-number-preserved g c =
+    let a = c.args.assignment.now in
+    let names = c.args.table.now.names in
+    let group_of = c.args.groups.now.group_of in
+    let number = c.loop-number.number in
+    let out = c.put_head.new.out.items in
+    let made = subst (λ n. c.in_ok-by_workqueue.by_workqueue ≡ buckets_of c.deref.result.now n) c.lanes-workqueues.ensures.lanes c.in_ok-by_workqueue.ensures.buckets in
+    let own = groups_on-bucket a c.deref.result.now c.in_ok-by_workqueue.by_workqueue number c.places.result.now (c.deref.ensures.value ∙ c.in_ok-lanes.ensures) made (omega (arith, c.loop-number-test.true, c.lanes-workqueues.ensures.lanes)) c.places.ensures in
+    c.in_ok-put_workqueue.ensures
+    ∙ ap (λ (is : List ℕ). c.loop-number.out.items ++ text_of (box_lines names group_of number is)) own
+    ∙ ap (λ (o : List ℕ). o ++ text_of (workqueue_lines names group_of a number)) c.loop-number.invariant
+    ∙ text_of-more (workqueue_lines names group_of a) out (range_with_len 0 number) number
+    ∙ ap (λ (qs : List ℕ). out ++ text_of (flat_map (workqueue_lines names group_of a) qs)) (sym (range_with_len-push number))
+
+pub bounds-looks-flush : goal.bounds-looks-flush
+bounds-looks-flush g c =
+    let drawable = IsDrawable-at c.args.table.now c.args.groups.now.group_of c.deref-flush-items.result.now c.loop-flush.flush-index c.flush-item.result c.in_ok-flushes.ensures.table
+    (c.deref-flush-items.ensures.value ∙ c.in_ok-flushes.ensures.arcs) c.loop-flush-test.true c.flush-item.is in
+    omega (arith, drawable.place, c.requires.looks)
+
+pub put_flush-requires-clause-item : goal.put_flush-requires-clause-item
+put_flush-requires-clause-item g c = (
+    IsDrawable-at c.args.table.now c.args.groups.now.group_of c.deref-flush-items.result.now c.loop-flush.flush-index c.flush-item.result c.in_ok-flushes.ensures.table
+    (c.deref-flush-items.ensures.value ∙ c.in_ok-flushes.ensures.arcs) c.loop-flush-test.true c.flush-item.is
+    ).item
+
+pub put_flush-requires-clause-target : goal.put_flush-requires-clause-target
+put_flush-requires-clause-target g c = (
+    IsDrawable-at c.args.table.now c.args.groups.now.group_of c.deref-flush-items.result.now c.loop-flush.flush-index c.flush-item.result c.in_ok-flushes.ensures.table
+    (c.deref-flush-items.ensures.value ∙ c.in_ok-flushes.ensures.arcs) c.loop-flush-test.true c.flush-item.is
+    ).target
+
+pub loop-flush-preserved : goal.loop-flush-preserved
+loop-flush-preserved g c =
+    text_of-line (flush_line c.args.table.now.names c.args.looks.now) c.loop-number.out.items c.loop-flush.out.items _ c.deref-flush-items.result.now c.loop-flush.flush-index c.flush-item.result c.loop-flush-test.true
+    c.flush-item.is c.loop-flush.invariant c.in_ok-put_flush.ensures
+
+pub returns : goal.returns
+returns g c =
+    let t = c.args.table.now in
+    let a = c.args.assignment.now in
+    let looks = c.args.looks.now in
+    let group_of = c.args.groups.now.group_of in
+    let number = c.loop-number.number in
+    let drawn = c.deref-flush-items.result.now in
+    let workqueues = workqueue_lines t.names group_of a in
+    let out = c.put_head.new.out.items in
+    let all : number ≡ a.lanes = omega (arith, c.loop-number-test.false, c.loop-number.auto.number-end, c.lanes-workqueues.ensures.lanes) in
+    let boxes = c.loop-number.invariant ∙ ap (λ (n : ℕ). out ++ text_of (flat_map workqueues (range_with_len 0 n))) all in
+    let arcs = take_all c.loop-flush.flush-index drawn (omega (arith, c.loop-flush-test.false, c.loop-flush.auto.flush-index-end)) ∙ c.deref-flush-items.ensures.value ∙ c.in_ok-flushes.ensures.arcs in
+    let arrows = c.loop-flush.invariant ∙ ap (λ (l : List WaitArc). c.loop-number.out.items ++ text_of (map (flush_line t.names looks) l)) arcs in
+    let head = c.in_ok-put_head.ensures ∙ ap (λ (o : List ℕ). o ++ text_of (head_lines c.args.title.now)) c.new-out.ensures.items in
+    text_of-whole (head_lines c.args.title.now) (flat_map workqueues (range_with_len 0 a.lanes)) (map (flush_line t.names looks) _) (codes "}") _ _ _ _ head boxes arrows c.in_ok-put.ensures.added

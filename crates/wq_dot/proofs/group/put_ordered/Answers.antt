@@ -1,0 +1,27 @@
+use Rattle.std.proofs.Common.{◌≡◌, ◌++◌, [], ℕ, List, map, take, sym, ap, ◌∙◌, arith}
+use Rattle.std.specs.Prelude.{codes}
+use Rattle.std.proofs.lemmas.List.{take_all}
+use Rattle.std.proofs.lemmas.Option.{get_or_from_slice_get}
+use Rattle.std.proofs.lemmas.Result.{on_ok_weaker}
+use Rattle.wq_dot.specs.Drawing.{name_of, member_line, ended}
+use Rattle.wq_dot.proofs.Lines.{text_of, box_closed}
+use Rattle.wq_dot.proofs.Pieces.{put_more, put_end, put_line}
+use Rattle.wq_dot.proofs.group.put_ordered.Goals as goal
+
+pub returns : goal.returns
+returns g c =
+    let names = c.args.table.now.names in
+    let members = c.args.members.now in
+    let out = c.args.out.now.items in
+    let name = name_of names c.args.first in
+    let name_is : c.name.result.now ≡ name = sym (get_or_from_slice_get names c.args.first c.name.result.now [] c.name.ensures) in
+    let front = codes "    subgraph \"cluster ordered " in
+    let back = codes "\" {" in
+    let first : List ℕ = front ++ name ++ back in
+    let second = codes "      graph [label=\"ordered\", style=dashed, color=black];" in
+    let h2 = put_more out front _ name _ _ c.in_ok-put.ensures.added c.in_ok-put-2.ensures.added name_is in
+    let h3 = put_end out (front ++ name) back _ _ h2 c.in_ok-put-3.ensures.added in
+    let h4 = put_line out (ended first) (ended second) _ _ h3 c.in_ok-put-4.ensures.added in
+    let all : take c.loop-item.item-index members ≡ members = take_all c.loop-item.item-index members (omega (arith, c.loop-item-test.false, c.loop-item.auto.item-index-end)) in
+    let filled = c.loop-item.invariant ∙ ap (λ (is : List ℕ). c.put-4.new.out.items ++ text_of (map (member_line names) is)) all in
+    on_ok_weaker c.put-5.result (λ e. box_closed out first second (codes "    }") (map (member_line names) members) _ _ _ h4 filled e) c.put-5.ensures.added

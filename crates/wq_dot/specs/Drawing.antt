@@ -1,0 +1,101 @@
+-- Drawings: the text for Graphviz that shows the items in their groups and workqueues, and the flushes between them, line by
+-- line.
+use Rattle.std.specs.Prelude.{ℕ, ◌==◌, List, [], ◌∷◌, ◌++◌, length, map, flat_map, filter, slice_index_or, codes, decimal}
+use Rattle.std.specs.List.{range_with_len}
+use Rattle.wq_items.specs.Table.{Table, items_at}
+use Rattle.wq_groups.specs.Partition.{Partition}
+use Rattle.wq_groups.specs.Assignment.{Assignment, group_lane}
+use Rattle.wq_graph.specs.declared.arc.WaitArc.{WaitArc}
+use Rattle.wq_graph.specs.Graph.{arcs_by_place}
+use Rattle.wq_dot.specs.declared.look.FlushLook.{FlushLook}
+use Rattle.wq_dot.specs.declared.look.FlushLook.TheVariants.{Plain, Red, Bold}
+
+-- the name of an item
+abbrev pub name_of : List (List ℕ) → ℕ → List ℕ
+name_of names i = slice_index_or names i []
+
+-- ---- the head
+
+-- the four lines of the head; the second one has the title
+abbrev pub head_lines : List ℕ → List (List ℕ)
+head_lines title =
+    codes "digraph wqplan {"
+    ∷ (codes "  graph [label=\"" ++ title ++ codes "\", labelloc=t, labeljust=l, rankdir=LR, nodesep=0.15, ranksep=1, fontname=\"sans-serif\"];")
+    ∷ codes "  node [shape=box, style=filled, fillcolor=white, height=0.3, fontname=\"sans-serif\", fontsize=12];"
+    ∷ codes "  edge [arrowsize=0.7];"
+    ∷ []
+
+-- ---- groups
+
+-- a group of one item: `"NAME";`, after four spaces
+abbrev pub single_line : List (List ℕ) → ℕ → List ℕ
+single_line names i = codes "    \"" ++ name_of names i ++ codes "\";"
+
+-- an item of a group of several: `"NAME";`, after six spaces
+abbrev pub member_line : List (List ℕ) → ℕ → List ℕ
+member_line names i = codes "      \"" ++ name_of names i ++ codes "\";"
+
+-- a group of several items, of which this one is the first: a box within the workqueue's box, with a line for each item
+abbrev pub ordered_lines : List (List ℕ) → ℕ → List ℕ → List (List ℕ)
+ordered_lines names first members =
+    (codes "    subgraph \"cluster ordered " ++ name_of names first ++ codes "\" {")
+    ∷ codes "      graph [label=\"ordered\", style=dashed, color=black];"
+    ∷ (map (member_line names) members ++ (codes "    }" ∷ []))
+
+-- the lines of a group with these items
+abbrev pub group_lines : List (List ℕ) → List ℕ → List (List ℕ)
+group_lines names [] = []
+group_lines names (item ∷ []) = single_line names item ∷ []
+group_lines names (first ∷ second ∷ others) = ordered_lines names first (first ∷ second ∷ others)
+
+-- ---- workqueues
+
+-- the groups on workqueue q, in the order of their numbers
+abbrev pub groups_on : Assignment → ℕ → List ℕ
+groups_on a q = filter (λ g. group_lane a g == q) (range_with_len 0 (length a.lane_of_group))
+
+-- workqueue q with these groups: its three lines, with those of the groups before the third one
+abbrev pub box_lines : List (List ℕ) → List ℕ → ℕ → List ℕ → List (List ℕ)
+box_lines names group_of q own =
+    (codes "  subgraph \"cluster wq " ++ decimal q ++ codes "\" {")
+    ∷ (codes "    graph [label=\"wq " ++ decimal q ++ codes "\", style=filled, color=gray92];")
+    ∷ (flat_map (λ g. group_lines names (items_at group_of g)) own ++ (codes "  }" ∷ []))
+
+-- the lines of workqueue q with its groups
+abbrev pub workqueue_lines : List (List ℕ) → List ℕ → Assignment → ℕ → List (List ℕ)
+workqueue_lines names group_of a q = box_lines names group_of q (groups_on a q)
+
+-- ---- flushes
+
+-- the mark of an arrow
+abbrev pub look_text : FlushLook → List ℕ
+look_text Plain = []
+look_text Red = codes " [color=red]"
+look_text Bold = codes " [style=bold]"
+
+-- a flush with this look: `"NAME" -> "TARGET";`, after two spaces, with the mark of the look before the semicolon
+abbrev pub arrow_line : List (List ℕ) → FlushLook → WaitArc → List ℕ
+arrow_line names look flush =
+    codes "  \"" ++ name_of names flush.src ++ codes "\" -> \"" ++ name_of names flush.dst ++ codes "\"" ++ look_text look ++ codes ";"
+
+-- the line of a flush, with the look that is at its place
+abbrev pub flush_line : List (List ℕ) → List FlushLook → WaitArc → List ℕ
+flush_line names looks flush = arrow_line names (slice_index_or looks flush.place Plain) flush
+
+-- ---- the text
+
+-- all lines: the head, each workqueue from 0 up, each flush in order of place, and the end
+abbrev pub drawing_lines : Table → Partition → Assignment → List ℕ → List FlushLook → List (List ℕ)
+drawing_lines t p a title looks =
+    head_lines title
+    ++ flat_map (workqueue_lines t.names p.group_of a) (range_with_len 0 a.lanes)
+    ++ map (flush_line t.names looks) (arcs_by_place t.waits p.group_of)
+    ++ (codes "}" ∷ [])
+
+-- a line with its LF
+abbrev pub ended : List ℕ → List ℕ
+ended line = line ++ (10 ∷ [])
+
+-- the text of the drawing
+abbrev pub drawing_text : Table → Partition → Assignment → List ℕ → List FlushLook → List ℕ
+drawing_text t p a title looks = flat_map ended (drawing_lines t p a title looks)

@@ -1,0 +1,53 @@
+//! The text of a drawing: its head, its workqueues, its flushes and its end.
+//!
+//! The format is that of "The command `dot`" in docs/FORMAT.md. Drawing takes time and memory in the number of items, groups,
+//! workqueues and flushes, and in the length of the text.
+
+ghost use Rattle.std.specs.Prelude.{◌≡◌, length, IfOk};
+ghost use Rattle.wq_items.specs.Table.{flush_count};
+ghost use Rattle.wq_dot.specs.Drawing.{drawing_text};
+
+use crate::arrow::put_flush;
+use crate::group_lanes::lanes_of_groups;
+use crate::head::put_head;
+use crate::look::FlushLook;
+use crate::workqueue::put_workqueue;
+use std::alloc::{AllocError, Allocator};
+use wq_buckets::Buckets;
+use wq_graph::group_arcs_by_place;
+use wq_groups::{Assignment, Groups};
+use wq_items::ItemTable;
+use wq_lines::put;
+
+/// The drawing of a table's items on the workqueues of an assignment, with this title. `looks` says how each flush looks, in
+/// order of place.
+///
+/// The groups are those of the table's items, and each has a workqueue. The only error is out of memory (20).
+pub fn drawing_text<A: Allocator + Copy>(
+    alloc: A,
+    table: &ItemTable<'_, A>,
+    groups: &Groups<A>,
+    assignment: &Assignment<A>,
+    title: &[u8],
+    looks: &[FlushLook],
+) -> Result<Vec<u8, A>, AllocError>
+    requires grouped { length groups.now.group_of ≡ length table.now.names }
+    requires assigned { length assignment.now.lane_of_group ≡ groups.now.groups }
+    requires looks { length looks.now ≡ flush_count table.now.waits }
+    ensures { IfOk result (λ text. text.items ≡ drawing_text table.now groups.now assignment.now title.now looks.now) }
+{
+    let workqueues = assignment.lanes();
+    let lanes = lanes_of_groups(alloc, assignment, groups.len())?;
+    let by_workqueue = Buckets::new(alloc, &lanes, workqueues)?;
+    let flushes = group_arcs_by_place(alloc, table, groups)?;
+    let mut out = Vec::new(alloc);
+    put_head(&mut out, title)?;
+    for number in 0..workqueues {
+        put_workqueue(&mut out, table, groups, number, by_workqueue.places(number))?;
+    }
+    for flush in &flushes {
+        put_flush(&mut out, table, *flush, looks[flush.place as usize])?;
+    }
+    put(&mut out, b"}\n")?;
+    Ok(out)
+}

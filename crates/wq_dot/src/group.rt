@@ -1,0 +1,79 @@
+//! A group: its item, or a box with its items.
+//!
+//! The lines are those of "The command `dot`" in docs/FORMAT.md. Printing takes time and memory in the length of what is printed.
+
+ghost use Rattle.std.specs.Prelude.{◌≡◌, ◌<◌, ◌++◌, flat_map, length, OnOk};
+ghost use Rattle.std.specs.List.{All};
+ghost use Rattle.wq_dot.specs.Drawing.{ended, group_lines, member_line, ordered_lines, single_line};
+
+use std::alloc::{AllocError, Allocator};
+use wq_items::{ItemId, ItemTable};
+use wq_lines::put;
+
+/// Adds the line of a group of one item.
+fn put_single<A: Allocator + Copy>(
+    out: &mut Vec<u8, A>,
+    table: &ItemTable<'_, A>,
+    item: ItemId,
+) -> Result<(), AllocError>
+    requires { item < length table.now.names }
+    ensures { OnOk result (out.new.items ≡ out.old.items ++ ended (single_line table.now.names item)) }
+{
+    put(out, b"    \"")?;
+    put(out, table.name(item))?;
+    put(out, b"\";\n")
+}
+
+/// Adds the line of one item of a group of several.
+fn put_member<A: Allocator + Copy>(
+    out: &mut Vec<u8, A>,
+    table: &ItemTable<'_, A>,
+    item: ItemId,
+) -> Result<(), AllocError>
+    requires { item < length table.now.names }
+    ensures { OnOk result (out.new.items ≡ out.old.items ++ ended (member_line table.now.names item)) }
+{
+    put(out, b"      \"")?;
+    put(out, table.name(item))?;
+    put(out, b"\";\n")
+}
+
+/// Adds the box of a group of several items. This one is the first of them.
+fn put_ordered<A: Allocator + Copy>(
+    out: &mut Vec<u8, A>,
+    table: &ItemTable<'_, A>,
+    first: ItemId,
+    members: &[ItemId],
+) -> Result<(), AllocError>
+    requires first { first < length table.now.names }
+    requires members { All (λ i. i < length table.now.names) members.now }
+    ensures { OnOk result (out.new.items ≡ out.old.items ++ flat_map ended (ordered_lines table.now.names first members.now)) }
+{
+    put(out, b"    subgraph \"cluster ordered ")?;
+    put(out, table.name(first))?;
+    put(out, b"\" {\n")?;
+    put(
+        out,
+        b"      graph [label=\"ordered\", style=dashed, color=black];\n",
+    )?;
+    for item in members {
+        put_member(out, table, *item)?;
+    }
+    put(out, b"    }\n")
+}
+
+/// Adds the lines of a group with these items.
+pub(crate) fn put_group<A: Allocator + Copy>(
+    out: &mut Vec<u8, A>,
+    table: &ItemTable<'_, A>,
+    members: &[ItemId],
+) -> Result<(), AllocError>
+    requires { All (λ i. i < length table.now.names) members.now }
+    ensures { OnOk result (out.new.items ≡ out.old.items ++ flat_map ended (group_lines table.now.names members.now)) }
+{
+    match members {
+        [] => Ok(()),
+        [item] => put_single(out, table, *item),
+        [first, ..] => put_ordered(out, table, *first, members),
+    }
+}

@@ -1,6 +1,0 @@
-pub mod Pieces
-pub mod Lines
-pub mod Workqueues
-pub mod Flushes
-pub mod Sums
-pub mod Counts

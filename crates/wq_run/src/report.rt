@@ -1,0 +1,103 @@
+//! What is printed about a plan that was run.
+//!
+//! The format is that of "The command `run`" in docs/FORMAT.md. It takes time and memory in the number of items and the length of their
+//! names.
+
+ghost use Rattle.std.specs.Prelude.{◌≡◌, ◌++◌, ◌<◌, ℕ, length, true, OnOk, IfOk, decimal, flat_map};
+ghost use Rattle.wq_lines.specs.LineText.{spaced, line_text};
+ghost use Rattle.wq_counts.specs.declared.kind.Kind.{Kind};
+ghost use Rattle.wq_counts.specs.Counting.{made};
+ghost use Rattle.wq_run.specs.Report.{workqueues_line, count_words, item_line, faults_line, report_text};
+
+use std::alloc::{AllocError, Allocator};
+use wq_counts::Counts;
+use wq_groups::{Assignment, Groups};
+use wq_items::{ItemId, ItemTable};
+use wq_lines::{put, put_count, put_end, put_number, put_word};
+
+/// Adds `workqueues K`.
+fn put_workqueues_line<A: Allocator + Copy>(
+    out: &mut Vec<u8, A>,
+    lanes: u16,
+) -> Result<(), AllocError>
+    ensures { OnOk result (out.new.items ≡ out.old.items ++ line_text (workqueues_line lanes)) }
+{
+    put(out, b"workqueues")?;
+    put_number(out, u32::from(lanes))?;
+    put_end(out)
+}
+
+/// Adds ` queued N cancelled N finished N`.
+fn put_counts<A: Allocator + Copy>(
+    out: &mut Vec<u8, A>,
+    counts: &Counts<A>,
+    item: ItemId,
+) -> Result<(), AllocError>
+    ensures { OnOk result (out.new.items ≡ out.old.items ++ flat_map spaced (count_words (λ kind. made counts.now item kind true))) }
+{
+    put_word(out, b"queued")?;
+    put_count(out, counts.queued(item))?;
+    put_word(out, b"cancelled")?;
+    put_count(out, counts.cancelled(item))?;
+    put_word(out, b"finished")?;
+    put_count(out, counts.finished(item))
+}
+
+/// Adds `item NAME wq Q queued N cancelled N finished N`.
+fn put_item_line<A: Allocator + Copy>(
+    out: &mut Vec<u8, A>,
+    table: &ItemTable<'_, A>,
+    groups: &Groups<A>,
+    assignment: &Assignment<A>,
+    counts: &Counts<A>,
+    item: ItemId,
+) -> Result<(), AllocError>
+    requires item { item < length table.now.names }
+    requires grouped { length groups.now.group_of ≡ length table.now.names }
+    requires assigned { length assignment.now.lane_of_group ≡ groups.now.groups }
+    ensures { OnOk result (out.new.items ≡ out.old.items
+        ++ line_text (item_line (record { table = table.now; partition = groups.now }) assignment.now (λ i kind. made counts.now i kind true) item)) }
+{
+    let lane = assignment.lane(groups.of(item));
+    put(out, b"item")?;
+    put_word(out, table.name(item))?;
+    put_word(out, b"wq")?;
+    put_number(out, u32::from(lane.get()))?;
+    put_counts(out, counts, item)?;
+    put_end(out)
+}
+
+/// Adds `faults N`.
+fn put_faults_line<A: Allocator + Copy>(out: &mut Vec<u8, A>, faults: u64) -> Result<(), AllocError>
+    ensures { OnOk result (out.new.items ≡ out.old.items ++ line_text (faults_line faults)) }
+{
+    put(out, b"faults")?;
+    put_count(out, faults)?;
+    put_end(out)
+}
+
+/// The text about a plan that was run: its workqueues, for each item its workqueue and how often it was queued, cancelled and
+/// finished, and the number of faults. The groups are those of the table's items, and the assignment is one of these groups. The
+/// only error is out of memory (20).
+pub fn report_text<A: Allocator + Copy>(
+    alloc: A,
+    table: &ItemTable<'_, A>,
+    groups: &Groups<A>,
+    assignment: &Assignment<A>,
+    counts: &Counts<A>,
+    faults: u64,
+) -> Result<Vec<u8, A>, AllocError>
+    requires grouped { length groups.now.group_of ≡ length table.now.names }
+    requires assigned { length assignment.now.lane_of_group ≡ groups.now.groups }
+    ensures { IfOk result (λ text. text.items
+        ≡ report_text (record { table = table.now; partition = groups.now }) assignment.now (λ i kind. made counts.now i kind true) faults) }
+{
+    let mut out = Vec::new(alloc);
+    put_workqueues_line(&mut out, assignment.lanes())?;
+    for i in 0..table.len() {
+        let item = ItemId::new(i);
+        put_item_line(&mut out, table, groups, assignment, counts, item)?;
+    }
+    put_faults_line(&mut out, faults)?;
+    Ok(out)
+}
