@@ -3,7 +3,7 @@
 //! The rule is that of "The command `circles`" in docs/FORMAT.md: an arc lies on a circle where the workqueue of its target leads
 //! to that of its item. That is so where the two are one workqueue or lead to one another. So workqueues that lead to one another
 //! are joined, and what then leads from a workqueue to itself lies on a circle. It takes the time and the memory of two wait
-//! graphs and of the components of the first one (`lowest`).
+//! graphs and of the components of the first one (`together`).
 
 ghost use Rattle.std.specs.Prelude.{◌≡◌, ◌<◌, length, map, IfOk, OnErr};
 ghost use Rattle.std.specs.List.{All};
@@ -11,7 +11,7 @@ ghost use Rattle.wq_groups.specs.Declaration.{declaration_of};
 ghost use Rattle.wq_circles.specs.Components.{joined, loops_at, loops, AreComponents};
 
 use std::alloc::{AllocError, Allocator};
-use crate::lowest::lowest;
+use crate::together::lowest;
 use wq_graph::{WaitArc, WaitGraph};
 use wq_groups::{Assignment, GroupId, Groups, LaneId};
 use wq_items::ItemTable;

@@ -14,12 +14,12 @@ mod finishing;
 mod joining;
 pub mod laws;
 mod lists;
-mod lowest;
 mod printing;
 mod progress;
+mod together;
 mod walk;
 
 pub use circles::{CirclesCommand, circles_cmd, own_circles_cmd};
 pub use joining::components;
-pub use lowest::lowest;
 pub use printing::components_text;
+pub use together::lowest;

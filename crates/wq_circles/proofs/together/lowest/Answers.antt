@@ -7,7 +7,7 @@ use Rattle.wq_circles.specs.Lists.{Next, NextBack, heads_of, listed_at, AreTails
 use Rattle.wq_circles.specs.Finishing.{IsFinishing}
 use Rattle.wq_circles.proofs.Turned.{HasArc-heads, HasArc-tails, Next-heads, Next-tails, heads_of-below, tails-below, lists-below}
 use Rattle.wq_circles.proofs.Completed.{IsFinishing-arcs, AreLowest-arcs}
-use Rattle.wq_circles.proofs.lowest.lowest.Goals as goal
+use Rattle.wq_circles.proofs.together.lowest.Goals as goal
 
 pub finishing_order-requires-clause-within : goal.finishing_order-requires-clause-within
 finishing_order-requires-clause-within g c =

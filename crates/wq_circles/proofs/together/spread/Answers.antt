@@ -3,7 +3,7 @@ use Rattle.wq_circles.specs.Lists.{listed_at}
 use Rattle.wq_circles.specs.Searching.{Search, with_found, with_all_found}
 use Rattle.wq_circles.proofs.Turned.{listed_at-read, shown-below}
 use Rattle.wq_circles.proofs.Searched.{AreFound-new, IsSpreading, IsSpreading-at, IsSpreading-first, IsSpreading-more, Spreads-all}
-use Rattle.wq_circles.proofs.lowest.spread.Goals as goal
+use Rattle.wq_circles.proofs.together.spread.Goals as goal
 
 pub loop-vertex-init : goal.loop-vertex-init
 loop-vertex-init g c =

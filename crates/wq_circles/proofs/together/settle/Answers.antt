@@ -1,6 +1,6 @@
 use Rattle.std.proofs.Common.{arith}
 use Rattle.wq_circles.proofs.Settled.{IsSettling-none, IsSettling-more, AreSettled-all}
-use Rattle.wq_circles.proofs.lowest.settle.Goals as goal
+use Rattle.wq_circles.proofs.together.settle.Goals as goal
 
 pub loop-vertex-init : goal.loop-vertex-init
 loop-vertex-init c = IsSettling-none c.args.vertices.now c.args.lowest.now c.in-Some.least

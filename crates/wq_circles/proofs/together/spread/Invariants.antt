@@ -1,6 +1,6 @@
 use Rattle.std.proofs.Common.{◌≤◌, ◌-◌, length, map}
 use Rattle.wq_circles.proofs.Searched.{IsSpreading}
-use Rattle.wq_circles.proofs.lowest.spread.Given as goal
+use Rattle.wq_circles.proofs.together.spread.Given as goal
 
 abbrev pub invariant-loop-vertex : goal.invariant-loop-vertex
 invariant-loop-vertex g l = record {

@@ -7,7 +7,7 @@ use Rattle.wq_circles.specs.Finishing.{IsFinishing}
 use Rattle.wq_circles.proofs.Searched.{AreFound-new}
 use Rattle.wq_circles.proofs.Turned.{listed_at-below}
 use Rattle.wq_circles.proofs.Completed.{AreDone, AreDone-more, AreDone-skipped, AreLowest-done}
-use Rattle.wq_circles.proofs.lowest.lowest_of_components.Goals as goal
+use Rattle.wq_circles.proofs.together.lowest_of_components.Goals as goal
 
 pub loop-place-preserved-then-not-has : goal.loop-place-preserved-then-not-has
 loop-place-preserved-then-not-has g c =
