@@ -1,7 +1,7 @@
 pub mod Pieces
 pub mod Lines
 pub mod Workqueues
-pub mod Flushes
+pub mod Arrows
 pub mod Sums
 pub mod Counts
 pub mod Marked

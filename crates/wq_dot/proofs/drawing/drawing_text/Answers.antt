@@ -7,7 +7,7 @@ use Rattle.wq_items.proofs.TableLemmas.{range_with_len-push}
 use Rattle.wq_buckets.specs.Places.{places_of, buckets_of}
 use Rattle.wq_graph.specs.declared.arc.WaitArc.{WaitArc}
 use Rattle.wq_dot.specs.Drawing.{box_lines, flush_line, head_lines, workqueue_lines}
-use Rattle.wq_dot.proofs.Flushes.{IsDrawable-at}
+use Rattle.wq_dot.proofs.Arrows.{IsDrawable-at}
 use Rattle.wq_dot.proofs.Lines.{text_of, text_of-more, text_of-line, text_of-whole}
 use Rattle.wq_dot.proofs.Workqueues.{groups_on-below, groups_on-bucket}
 use Rattle.wq_dot.proofs.drawing.drawing_text.Goals as goal
