@@ -16,18 +16,19 @@ def what_remains(waits_for):
 
     `waits_for` has, for each group or workqueue, the set of those that it waits for.
     """
-    remaining = set(range(len(waits_for)))
-    downwards = False
-    while True:
-        taken_off = []
-        # The order doesn't matter. It is turned around each time, since that is fast for chains.
-        for number in sorted(remaining, reverse=downwards):
-            if waits_for[number].isdisjoint(remaining):
-                remaining.discard(number)
-                taken_off.append(number)
-        if not taken_off:
-            return remaining
-        downwards = not downwards
+    waited_by = [[] for _ in waits_for]
+    for number, others in enumerate(waits_for):
+        for other in others:
+            waited_by[other].append(number)
+    # Of each, for how many it waits that aren't taken off. One that waits for itself never is.
+    left = [len(others) for others in waits_for]
+    taken_off = [number for number, count in enumerate(left) if count == 0]
+    for number in taken_off:  # those that are found meanwhile, too
+        for other in waited_by[number]:
+            left[other] -= 1
+            if left[other] == 0:
+                taken_off.append(other)
+    return set(range(len(waits_for))).difference(taken_off)
 
 
 def find_circle(arcs, where):
@@ -36,13 +37,13 @@ def find_circle(arcs, where):
     if not remaining:
         return []
     number = min(remaining)
-    visited = []
+    visited = {}  # how many arcs were followed up to there
     followed = []
     while number not in visited:
-        visited.append(number)
+        visited[number] = len(followed)
         item, target = next(
             (item, target) for item, target in arcs[number] if where[target] in remaining
         )
         followed.append((item, target))
         number = where[target]
-    return followed[visited.index(number):]
+    return followed[visited[number]:]
