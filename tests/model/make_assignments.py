@@ -3,6 +3,7 @@
 # same ones. An assignment is here, as in make_certificates.py, the list of the names on each
 # workqueue.
 
+import functools
 import random
 
 import plan
@@ -104,6 +105,7 @@ def large_case(workqueue_count, back):
     return [join(*items, *flushes), join(*[b" ".join(words) for words in wq_lines(wqs)])]
 
 
+@functools.cache
 def limit_deadlock_cases():
     """The cases at the limits: what each is, the declaration and the assignment."""
     cases = []

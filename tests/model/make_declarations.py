@@ -3,6 +3,7 @@
 
 import collections
 import dataclasses
+import functools
 import random
 import string
 
@@ -561,7 +562,7 @@ def chain_of(count):
 
 def limit_run_cases():
     """The cases at the limits, and those of what is run, in the same form."""
-    cases = limit_cases()
+    cases = [*limit_cases()]
     for count in 1, 2, 255, 256, 257, 258:
         cases.append((f"a chain of {count}", chain_of(count)))
     chain = chain_of(256)
@@ -574,6 +575,7 @@ def limit_run_cases():
     return cases
 
 
+@functools.cache
 def limit_cases():
     """The cases at the limits: pairs of what it is and the declaration."""
     cases = []
