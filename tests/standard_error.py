@@ -11,6 +11,7 @@ and show the step. Where OUT is any other answer, ERR must be empty. The words a
 compared here. `belongs` and `meant` do this for other scripts.
 """
 
+import functools
 import pathlib
 import re
 import sys
@@ -35,11 +36,12 @@ def shown(file):
     return re.sub(rb"[^ -~]", b"?", file.replace(b"\t", b" "))
 
 
-def diagnosis(word, code, line, file):
-    """The form of a diagnosis. Where a line is meant, so is a byte of it. With 41 a byte may be meant where no line is."""
+@functools.cache
+def diagnosis(word, code, line):
+    """The form of a diagnosis, behind the file. Where a line is meant, so is a byte of it. With 41 a byte may be meant where no line is."""
     place = b"" if line == b"0" else b":%s:%s" % (line, NUMBER)
-    head = rb"%s%s: [ -~]+ \[%s %s, `wqplan explain %s`\]\n" % (re.escape(shown(file)), place, word, code, code)
-    return head + (MARKED if place else b"(?:%s)?" % MARKED if code == b"41" else b"")
+    head = rb"%s: [ -~]+ \[%s %s, `wqplan explain %s`\]\n" % (place, word, code, code)
+    return re.compile(head + (MARKED if place else b"(?:%s)?" % MARKED if code == b"41" else b""))
 
 
 def note(file):
@@ -69,22 +71,29 @@ def meant(printed, files):
     return files[1:] if 40 <= code < 50 else files[:1]
 
 
-def unlawful(number, file):
-    """The form of what is said of a step that may not be made."""
-    return rb"%s:%s:%s: [ -~]+ \[not lawful %s\]\n%s" % (re.escape(shown(file)), NUMBER, NUMBER, number, MARKED)
+@functools.cache
+def unlawful(number):
+    """The form of what is said of a step that may not be made, behind the file."""
+    return re.compile(rb":%s:%s: [ -~]+ \[not lawful %s\]\n%s" % (NUMBER, NUMBER, number, MARKED))
+
+
+def is_of(file, form, errors):
+    """Whether this names the file first, and has the form behind it."""
+    front = shown(file)
+    return errors.startswith(front) and form.fullmatch(errors, len(front)) is not None
 
 
 def belongs(printed, errors, files):
     """Whether this belongs on standard error beside the answer: the diagnosis of one of these files, a note on the first, or nothing."""
     refused_step = UNLAWFUL.fullmatch(printed)
     if refused_step:
-        return re.fullmatch(unlawful(refused_step[1], files[-1]), errors) is not None
+        return is_of(files[-1], unlawful(refused_step[1]), errors)
     found = answer(printed)
     if NO_ITEM.fullmatch(printed):
         return errors == note(files[0])
     if not found:
         return errors == b"" or (MAY_BE_NO_ITEM.fullmatch(printed) is not None and errors == note(files[0]))
-    return any(re.fullmatch(diagnosis(*found, file), errors) for file in files)
+    return any(is_of(file, diagnosis(*found), errors) for file in files)
 
 
 def main(arguments):
