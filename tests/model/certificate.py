@@ -2,6 +2,7 @@
 # replay.py: docs/FORMAT.md, "Run texts", "Certificates" and "Refusals of certificates".
 
 import dataclasses
+import functools
 
 from declaration import Refused, split_lines, split_words
 
@@ -199,8 +200,9 @@ def read_answer(text, declaration):
     return read_plan_text(lines, declaration)
 
 
+@functools.lru_cache(maxsize=64)
 def read_assignment(text, declaration):
-    """Certificates: An assignment."""
+    """Certificates: An assignment. As with declarations, nobody may change what is returned."""
     lines = Lines(text)
     if lines.first_word() == b"plan":
         return read_plan_text(lines, declaration).assignment

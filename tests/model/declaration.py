@@ -2,6 +2,8 @@
 # "Lines, words and numbers" to "Refusals". See plan.py for what the model is.
 
 import dataclasses
+import functools
+import re
 
 # Limits
 TEXT_LIMIT = 1_048_576
@@ -11,8 +13,9 @@ ITEM_LIMIT = 4_096
 FLUSH_LIMIT = 16_384
 
 LETTERS = b"ABCDEFGHIJKLMNOPQRSTUVWXYZabcdefghijklmnopqrstuvwxyz"
-NAME_BYTES = frozenset(LETTERS + b"0123456789_-.")
-LINE_BYTES = frozenset(b"\t" + bytes(range(0x20, 0x7F)))
+NAME_BYTES = LETTERS + b"0123456789_-."
+LINE_BYTES = b"\t" + bytes(range(0x20, 0x7F))
+WORD = re.compile(rb"[^ \t]+")
 
 # Directives: how many further words a line needs at least.
 FEWEST_WORDS = {b"item": 1, b"flush": 2, b"ordered": 1}
@@ -48,12 +51,17 @@ def before_comment(line):
 
 def split_words(line):
     """Lines, words and numbers: Words."""
-    return [word for word in before_comment(line).replace(b"\t", b" ").split(b" ") if word != b""]
+    return WORD.findall(before_comment(line))
+
+
+def has_only(text, allowed):
+    """Whether each byte of the text is one of these."""
+    return not text.translate(None, allowed)
 
 
 def is_name(word):
     """Names."""
-    return 1 <= len(word) <= NAME_LIMIT and all(byte in NAME_BYTES for byte in word)
+    return 1 <= len(word) <= NAME_LIMIT and has_only(word, NAME_BYTES)
 
 
 def text_pass(text):
@@ -74,7 +82,7 @@ def directives_pass(lines):
     """
     directives = []
     for number, line in enumerate(lines, start=1):
-        if not all(byte in LINE_BYTES for byte in before_comment(line)):
+        if not has_only(before_comment(line), LINE_BYTES):
             raise Refused(3, number)
         words = split_words(line)
         if not words:
@@ -140,7 +148,7 @@ def groups_pass(directives, items):
     return groups
 
 
-@dataclasses.dataclass
+@dataclasses.dataclass(eq=False)  # one may be a key
 class Declaration:
     """A declaration that breaks no rule."""
 
@@ -150,8 +158,12 @@ class Declaration:
     group_of: dict  # by the name of an item, the number of its group
 
 
+@functools.lru_cache(maxsize=64)
 def read_declaration(text):
-    """The declaration that the text holds. Raises Refused where it holds none."""
+    """The declaration that the text holds. Raises Refused where it holds none.
+
+    A text that was read lately isn't read again, so nobody may change what is returned.
+    """
     directives = directives_pass(text_pass(text))
     items, flushes = items_pass(directives)
     groups = groups_pass(directives, items)
