@@ -614,11 +614,12 @@ def look_at_circles(*texts):
     plain = wqs_text(wqs)
     demand(circles.answer(texts[0], plain) == (printed, status),
            "each group alone is the assignment where none is named")
-    on_circles = [place for place, flush in enumerate(declared.flushes) if flush in set(arcs)]
+    on_a_circle = set(arcs)
+    on_circles = [place for place, flush in enumerate(declared.flushes) if flush in on_a_circle]
     demand(len(on_circles) == len(arcs), "each flush of an item and a target is printed, or none is")
     demand(circles.answer(text_declaring(declared, on_circles), plain) == (printed, status),
            "flushes that aren't printed don't matter")
-    rest = [place for place in range(len(declared.flushes)) if place not in set(on_circles)]
+    rest = [place for place, flush in enumerate(declared.flushes) if flush not in on_a_circle]
     demand(circles.answer(text_declaring(declared, rest), plain) == (b"safe\n", 0),
            "without those that are printed it is safe")
     if assignment.count < 4_096:
@@ -689,7 +690,7 @@ def look_at_search(choose):
     count = max(parts, default=-1) + 1
     workqueue_of = {name: parts[group] for name, group in declared.group_of.items()}
     state = State(declared, certificate.Assignment(workqueue_of, count))
-    steps, found = search.Steps(declared, workqueue_of), search.begin(count)
+    steps, found = search.Steps(search.targets_of(declared), workqueue_of), search.begin(count)
     all_steps = [(word, None, name) for word in (b"queue", b"cancel") for name in declared.items]
     all_steps += [(word, number, name) for word in (b"start", b"wait", b"over", b"finish")
                   for number in range(count) for name in declared.items]

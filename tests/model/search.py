@@ -9,6 +9,8 @@
 # workqueues as the smallest assignment by which no run ends stuck, and a circle where there is
 # none. Where PROGRAM is `-`, the model is asked in its place.
 
+import functools
+import itertools
 import os
 import random
 import sys
@@ -68,14 +70,19 @@ def without_one(state, item, count):
     return state
 
 
-class Steps:
-    """The table of the steps, under an assignment."""
+def targets_of(declared):
+    """By item, the targets of its flushes in order of place."""
+    targets = {item: [] for item in declared.items}
+    for item, target in declared.flushes:
+        targets[item].append(target)
+    return targets
 
-    def __init__(self, declared, workqueue_of):
-        self.workqueue_of = workqueue_of
-        self.targets = {item: [] for item in declared.items}
-        for item, target in declared.flushes:
-            self.targets[item].append(target)
+
+class Steps:
+    """The table of the steps, of the items with these targets, under an assignment."""
+
+    def __init__(self, targets, workqueue_of):
+        self.targets, self.workqueue_of = targets, workqueue_of
 
     def unfinished(self, state, item):
         """How many entries of the item are unfinished."""
@@ -129,6 +136,31 @@ class Steps:
 # Searches ----------------------------------------------------------------------------------------
 
 
+def numbered(targets, workqueue_of):
+    """The workqueue and the targets of each item, where items and workqueues are numbers in place of names.
+
+    Of all orders of the items it is the one that makes these the least. So it is the same for all assignments that differ in names,
+    in the order of the items and in the numbers of the workqueues alone: their runs are the same but for these.
+    """
+
+    def in_order(items):
+        number = {item: at for at, item in enumerate(items)}
+        workqueues = {}  # their numbers, in the order of their first items
+        return tuple((workqueues.setdefault(workqueue_of[item], len(workqueues)),
+                      tuple(number[target] for target in targets[item])) for item in items)
+
+    return min(map(in_order, itertools.permutations(targets)))
+
+
+@functools.cache
+def ends(rows):
+    """Whether some run ends stuck, and whether some run deadlocks; `rows` is what `numbered` answers."""
+    steps = Steps({item: targets for item, (_, targets) in enumerate(rows)},
+                  {item: workqueue for item, (workqueue, _) in enumerate(rows)})
+    count = 1 + max((workqueue for workqueue, _ in rows), default=-1)
+    return has_stuck_run(steps, count), has_deadlock(steps, count)
+
+
 def has_stuck_run(steps, count):
     """Whether some run ends stuck. Items are queued and cancelled at any time, however often."""
     first = begin(count)
@@ -136,12 +168,12 @@ def has_stuck_run(steps, count):
     left = [first]
     while left:
         state = left.pop()
-        executions = [behind for _, behind in steps.executions(state)]
-        if not executions and state != first:
+        new = {behind for _, behind in steps.executions(state)}
+        if not new and state != first:
             return True  # an entry is unfinished, since the state isn't the empty one
-        for _, behind in [*steps.queueings(state), *steps.cancellations(state)]:
-            executions.append(behind)
-        new = set(executions) - seen
+        new.update(behind for _, behind in steps.queueings(state))
+        new.update(behind for _, behind in steps.cancellations(state))
+        new -= seen
         seen |= new
         left += new
     return False
@@ -252,8 +284,9 @@ def look_at_assignment(ask, text, declared, parts):
     """Whether no run ends stuck, and what is wrong with the answer of `deadlock`, or None."""
     count = max(parts, default=-1) + 1
     workqueue_of = {name: parts[group] for name, group in declared.group_of.items()}
-    steps = Steps(declared, workqueue_of)
-    stuck, deadlocks = has_stuck_run(steps, count), has_deadlock(steps, count)
+    targets = targets_of(declared)
+    steps = Steps(targets, workqueue_of)
+    stuck, deadlocks = ends(numbered(targets, workqueue_of))
     assignment = assignment_text(declared, parts)
     printed, status = ask("deadlock", [text, assignment])
     is_safe = (printed, status) == (b"safe\n", 0)
