@@ -1,14 +1,14 @@
 # Compares the program with the model of it in plan.py, check.py, replay.py, deadlock.py, circles.py,
 # dot.py and run.py:
 #
-#     compare.py PROGRAM [SEED] [CASES] [--only COMMAND,..]
+#     compare.py PROGRAM [SEED] [CASES] [RUNS] [--only COMMAND,..]
 #
 # It makes up declarations, answers, assignments and runs, gives them to `PROGRAM plan` on standard
 # input, and as files to `PROGRAM check`, `PROGRAM replay`, `PROGRAM deadlock`, `PROGRAM circles`,
 # `PROGRAM dot` and `PROGRAM run`, and compares the bytes that are printed and the exit status with the
 # model's. Standard error must have what belongs to the answer (standard_error.py, in the folder above). Of
 # each command there are the cases at the limits of docs/FORMAT.md and at each place of small texts, once
-# each, and then CASES random ones; of `run`, which makes threads, a fifth as many. The same SEED makes the
+# each, and then CASES random ones; of `run`, which makes threads, RUNS, or a fifth as many. The same SEED makes the
 # same cases. It fails where an answer differs, and where some kind of answer never came, as may be with
 # few CASES. Before all this the model must answer the worked examples of the page (examples.py).
 #
@@ -329,14 +329,14 @@ def show_counts(command, kinds, stood):
 
 
 def options(arguments):
-    """The program, the seed, how many random cases, and the commands that the program is asked for."""
+    """The program, the seed, how many random cases, how many of `run`, and what the program is asked for."""
     arguments = list(arguments)
     asked = list(COMMANDS)
     while "--only" in arguments[:-1]:
         at = arguments.index("--only")
         asked = [] if arguments[at + 1] == "none" else arguments[at + 1].split(",")
         del arguments[at:at + 2]
-    found = seed_and_counts(arguments[1:], DEFAULT_SEED, DEFAULT_CASES)
+    found = seed_and_counts(arguments[1:], DEFAULT_SEED, DEFAULT_CASES, None)
     right = arguments and found and not any(word.startswith("--") for word in arguments)
     return [arguments[0], *found, asked] if right and set(asked) <= set(COMMANDS) else None
 
@@ -344,9 +344,11 @@ def options(arguments):
 def main(arguments):
     found = options(arguments)
     if not found:
-        print("usage: compare.py PROGRAM [SEED] [CASES] [--only COMMAND,..]", file=sys.stderr)
+        print("usage: compare.py PROGRAM [SEED] [CASES] [RUNS] [--only COMMAND,..]", file=sys.stderr)
         return 2
-    program, seed, random_count, asked = found
+    program, seed, random_count, run_count, asked = found
+    if run_count is None:
+        run_count = random_count // CASES_FOR_A_RUN
     program = os.path.realpath(program)
     if asked and (not os.access(program, os.X_OK) or os.path.isdir(program)):
         print(f"model: there is nothing to run at {program}")
@@ -371,7 +373,7 @@ def main(arguments):
     never = []
     different = False
     for command in COMMANDS:
-        cases = random_count // CASES_FOR_A_RUN if command == "run" else random_count
+        cases = run_count if command == "run" else random_count
         compared = compare_all(program, asked, command, seed, cases, folder)
         if compared is None:
             different = True
