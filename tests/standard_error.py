@@ -38,7 +38,10 @@ def shown(file):
 
 @functools.cache
 def diagnosis(word, code, line):
-    """The form of a diagnosis, behind the file. Where a line is meant, so is a byte of it. With 41 a byte may be meant where no line is."""
+    """The form of a diagnosis, behind the file.
+
+    Where a line is meant, so is a byte of it. With 41 a byte may be meant where no line is.
+    """
     place = b"" if line == b"0" else b":%s:%s" % (line, NUMBER)
     head = rb"%s: [ -~]+ \[%s %s, `wqplan explain %s`\]\n" % (place, word, code, code)
     return re.compile(head + (MARKED if place else b"(?:%s)?" % MARKED if code == b"41" else b""))

@@ -139,8 +139,9 @@ class Steps:
 def numbered(targets, workqueue_of):
     """The workqueue and the targets of each item, where items and workqueues are numbers in place of names.
 
-    Of all orders of the items it is the one that makes these the least. So it is the same for all assignments that differ in names,
-    in the order of the items and in the numbers of the workqueues alone: their runs are the same but for these.
+    Of all orders of the items it is the one that makes these the least. So it is the same for all assignments that
+    differ in names, in the order of the items and in the numbers of the workqueues alone: their runs are the same but
+    for these.
     """
 
     def in_order(items):
