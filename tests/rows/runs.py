@@ -101,6 +101,10 @@ LIMITS = [
     (" / ".join(chain(257)) + " / flush x i0", "refused 8 line 514"),
     ("item a / flush a a / " + " / ".join(chain(257)),
      " / ".join(["circle 1", "arc a a", f"run {len(HANGS)}", *HANGS])),
-    # Many items on one workqueue.
+    # Many items on one workqueue, and as many as there may be.
     (" / ".join(f"item i{i}" for i in range(1_000)), ran(*((f"i{i}", 0) for i in range(1_000)))),
+    (" / ".join(f"item i{i}" for i in range(4_096)), ran(*((f"i{i}", 0) for i in range(4_096)))),
+    # 2,000 items, of which each second one flushes the one before it.
+    (" / ".join(f"item i{i} / item j{i} / flush j{i} i{i}" for i in range(1_000)),
+     ran(*((f"{x}{i}", lane) for i in range(1_000) for x, lane in [("i", 0), ("j", 1)]))),
 ]

@@ -1,6 +1,6 @@
 -- The answer to a text is the answer to what it declares.
-use Rattle.std.proofs.Common.{◌≡◌, List, ℕ, Result, Ok, sym, subst}
-use Rattle.std.specs.Prelude.{MatchResult}
+use Rattle.std.proofs.Common.{◌≡◌, List, ℕ, Result, Ok, Err, sym, subst}
+use Rattle.std.specs.Prelude.{IfErr, MatchResult}
 use Rattle.wq_text.specs.Refusal.{Refusal}
 use Rattle.wq_commands.specs.declared.end.End.{End}
 use Rattle.wq_commands.specs.Answer.{IsRefused}
@@ -21,3 +21,10 @@ pub Stops-declared : (text : List ℕ) (s : Declared) (why : RunStop) → declar
 Stops-declared text s OutOfMemory is stops = stops
 Stops-declared text s Thread is stops = IsRunnable-declared text s is stops
 Stops-declared text s Tally is stops = IsRunnable-declared text s is stops
+
+-- if there is a plan that a runtime can have, each reason may stop it
+pub Stops-runnable : {T : Type 0} (result : Result T RunStop) (runnable : Type 0) → runnable → IfErr result (Stops runnable)
+Stops-runnable (Ok x) runnable has = tt
+Stops-runnable (Err OutOfMemory) runnable has = tt
+Stops-runnable (Err Thread) runnable has = has
+Stops-runnable (Err Tally) runnable has = has

@@ -51,22 +51,23 @@ RunsDeclared-no_runtime s w a rows e answer sound plan is room why refused =
     IfOk-weaker answer _ _ (λ printed said. RunsDeclared-refused s w a rows e printed.0 printed.1.items sound plan is room why said) refused
 
 -- a runtime of a plan was closed with all seats of its crew, and its counts are printed
-pub PrintsRun-closed : (s : Declared) (w : Wiring) (a : Assignment) (rows : ℕ) (seats : List (List ℕ)) (faults : ℕ) (book : BookView) (counts out : List ℕ) → items w ≡ length s.table.names
+pub PrintsRun-closed : (s : Declared) (w : Wiring) (a : Assignment) (rows : ℕ) (seats : List (List ℕ)) (runs : List (ℕ → ℕ)) (rescued : List (Result Rescued CallError)) (finished faults : ℕ)
+    (book : BookView) (counts out : List ℕ) → items w ≡ length s.table.names
     → IsPlan (declared_waits s) a → a.lanes ≤ max_runtime_lanes → w ≡ wiring (declared_waits s) a → rows ≡ rows_for s
-    → (runs : List (ℕ → ℕ)) × (rescued : List (Result Rescued CallError)) × (finished : ℕ) × IsRan w w.lanes 2 seats runs 2 2 rescued finished faults
+    → IsRan w w.lanes 2 seats runs 2 2 rescued finished faults
     → IsClosed w rows seats book counts true → out ≡ report_text s a (λ i kind. made counts i kind true) faults → PrintsRun s out
-PrintsRun-closed s w a rows seats faults book counts out of_items plan few is room ran closed text =
+PrintsRun-closed s w a rows seats runs rescued finished faults book counts out of_items plan few is room ran closed text =
     let agrees : Agrees (items w) book counts = closed.agrees.0 refl in
     record {
       assignment = a;
       plan = plan;
       few = few;
       seats = seats;
-      runs = ran.0;
-      rescued = ran.1;
-      finished = ran.2;
+      runs = runs;
+      rescued = rescued;
+      finished = finished;
       faults = faults;
-      ran = subst (λ (x : Wiring). IsRan x x.lanes 2 seats ran.0 2 2 ran.1 ran.2 faults) is ran.3;
+      ran = subst (λ (x : Wiring). IsRan x x.lanes 2 seats runs 2 2 rescued finished faults) is ran;
       book = book;
       counts = counts;
       closed = subst (λ (n : ℕ). IsClosed (wiring (declared_waits s) a) n seats book counts true) room (subst (λ (x : Wiring). IsClosed x rows seats book counts true) is closed);

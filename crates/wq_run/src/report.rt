@@ -1,7 +1,7 @@
 //! What is printed about a plan that was run.
 //!
-//! The format is that of "The command `run`" in docs/FORMAT.md. It takes time and memory in the number of items and the length of their
-//! names.
+//! The format is that of "The command `run`" in docs/FORMAT.md. It takes time and memory in the number of items and the length of
+//! their names.
 
 ghost use Rattle.std.specs.Prelude.{◌≡◌, ◌++◌, ◌<◌, ℕ, length, true, OnOk, IfOk, decimal, flat_map};
 ghost use Rattle.wq_lines.specs.LineText.{spaced, line_text};
@@ -10,10 +10,12 @@ ghost use Rattle.wq_counts.specs.Counting.{made};
 ghost use Rattle.wq_run.specs.Report.{workqueues_line, count_words, item_line, faults_line, report_text};
 
 use std::alloc::{AllocError, Allocator};
+use wq_api::{Closed, Naming};
 use wq_counts::Counts;
 use wq_groups::{Assignment, Groups};
 use wq_items::{ItemId, ItemTable};
 use wq_lines::{put, put_count, put_end, put_number, put_word};
+use wq_rescuer::{Body, Caller, Ran};
 
 /// Adds `workqueues K`.
 fn put_workqueues_line<A: Allocator + Copy>(
@@ -76,28 +78,31 @@ fn put_faults_line<A: Allocator + Copy>(out: &mut Vec<u8, A>, faults: u64) -> Re
     put_end(out)
 }
 
-/// The text about a plan that was run: its workqueues, for each item its workqueue and how often it was queued, cancelled and
-/// finished, and the number of faults. The groups are those of the table's items, and the assignment is one of these groups. The
-/// only error is out of memory (20).
-pub fn report_text<A: Allocator + Copy>(
+/// The report on a plan that was run, from the runtime that was closed and from what all threads left: how many workqueues the
+/// assignment has; for each item its workqueue, and how often it was queued, cancelled and finished, by the counts of the closed
+/// runtime; and how many executions ended with a fault. Nothing else decides on the text. The seats aren't looked at, so they may
+/// have been taken out to close the runtime with.
+///
+/// The groups are those of the table's items, and the assignment is one of these groups. The only error is out of memory (20).
+pub fn report_text<N: Naming, A: Allocator + Copy, B: Body + Drop, C: Caller + Drop>(
     alloc: A,
     table: &ItemTable<'_, A>,
     groups: &Groups<A>,
     assignment: &Assignment<A>,
-    counts: &Counts<A>,
-    faults: u64,
+    closed: &Closed<N, A>,
+    ran: &Ran<N, A, B, C>,
 ) -> Result<Vec<u8, A>, AllocError>
     requires grouped { length groups.now.group_of ≡ length table.now.names }
     requires assigned { length assignment.now.lane_of_group ≡ groups.now.groups }
     ensures { IfOk result (λ text. text.items
-        ≡ report_text (record { table = table.now; partition = groups.now }) assignment.now (λ i kind. made counts.now i kind true) faults) }
+        ≡ report_text (record { table = table.now; partition = groups.now }) assignment.now (λ i kind. made closed.now.counts i kind true) ran.now.faults) }
 {
     let mut out = Vec::new(alloc);
     put_workqueues_line(&mut out, assignment.lanes())?;
     for i in 0..table.len() {
         let item = ItemId::new(i);
-        put_item_line(&mut out, table, groups, assignment, counts, item)?;
+        put_item_line(&mut out, table, groups, assignment, &closed.counts, item)?;
     }
-    put_faults_line(&mut out, faults)?;
+    put_faults_line(&mut out, ran.faults)?;
     Ok(out)
 }

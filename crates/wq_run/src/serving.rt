@@ -1,59 +1,95 @@
 //! Running a plan on a runtime of it: its crew runs, the runtime is closed, and what happened is reported.
 //!
-//! The crew is that of `wq_script`: a body for each workqueue, which makes the declared flushes, and two callers. It takes the time
-//! of all executions and of writing the text, and time and memory in the number of workqueues times that of items.
+//! The crew is that of `wq_script`: a body for each workqueue, which makes the declared flushes, and two callers. It takes the
+//! time of all executions and of writing the text, and time and memory in the number of workqueues times that of items.
 
-ghost use Rattle.std.specs.Prelude.{◌≡◌, ◌≤◌, ℕ, List, Result, IfOk, IfErr, length, true};
+ghost use Rattle.std.specs.Prelude.{◌≡◌, ◌≤◌, ℕ, List, length, map, IfOk, IfErr, true};
+ghost use Rattle.std.specs.List.{All};
 ghost use Rattle.wq_groups.specs.Declaration.{declaration_of};
 ghost use Rattle.wq_core.specs.Wiring.{items, wiring};
 ghost use Rattle.wq_plan.specs.Plan.{IsPlan};
-ghost use Rattle.wq_held.specs.declared.fault.CallError.{CallError};
+ghost use Rattle.wq_counts.specs.Counting.{made};
+ghost use Rattle.wq_history.specs.Book.{BookView};
 ghost use Rattle.wq_held.specs.Locked.{max_runtime_lanes};
 ghost use Rattle.wq_held.specs.Closing.{IsClosed};
-ghost use Rattle.wq_execution.specs.declared.rescuing.Rescued.{Rescued};
+ghost use Rattle.wq_execution.specs.Executing.{NeverRan};
 ghost use Rattle.wq_rescuer.specs.Serving.{IsRan};
+ghost use Rattle.wq_script.specs.Scripts.{runs_of};
+ghost use Rattle.wq_script.specs.Crews.{shared_by_two};
 ghost use Rattle.wq_run.specs.Fault.{Stops};
+ghost use Rattle.wq_run.specs.Report.{report_text};
 ghost use Rattle.wq_run.specs.Running.{PrintsRun, HasRuntime, rows_for};
 
 use crate::fault::RunStop;
-use std::alloc::Allocator;
+use crate::report::report_text;
+use std::alloc::{AllocError, Allocator};
+use std::mem;
 use std::sync::Wait;
 use std::thread::Threads;
 use wq_api::{Closed, Naming, Seat, WqRuntime};
 use wq_groups::{Assignment, Groups};
 use wq_items::ItemTable;
-use crate::report::report_text;
-use wq_rescuer::{Ran, run_all};
-use wq_script::{script_bodies, script_callers};
+use wq_rescuer::{Body, Caller, Ran, run_all};
+use wq_script::{ScriptBody, ScriptCaller, script_bodies, script_callers};
 
-/// Runs the crew of a plan on the workqueues of a runtime. Hands back all seats, and how many executions ended with a fault, counted
-/// by the rescuers that weren't refused.
-fn run_crew<N: Naming + Send + Sync, A: Allocator + Copy + Send + Sync, R: Threads + Wait + Sync>(
+/// Who runs a plan.
+#[derive(Drop)]
+struct Crew<'t, 'a, A: Allocator> {
+    /// A body for each workqueue.
+    bodies: Vec<ScriptBody<'t, 'a, A>, A>,
+    /// Two callers that share the items.
+    callers: Vec<ScriptCaller<A>, A>,
+}
+
+/// What the threads of a crew left.
+type CrewRan<'t, 'a, N, A> = Ran<N, A, ScriptBody<'t, 'a, A>, ScriptCaller<A>>;
+
+/// Makes the crew of a plan with this many workqueues. Each item of the table is queued and then flushed by one of the callers.
+fn make_crew<'t, 'a, A: Allocator + Copy>(
+    alloc: A,
+    table: &'t ItemTable<'a, A>,
+    lanes: u16,
+) -> Result<Crew<'t, 'a, A>, AllocError>
+    ensures waits { IfOk result (λ crew. All (λ b. b.waits ≡ table.now.waits) crew.bodies.items) }
+    ensures width { IfOk result (λ crew. All (λ b. length b.runs ≡ length table.now.names) crew.bodies.items) }
+    ensures never_ran { IfOk result (λ crew. All (λ b. NeverRan (runs_of b)) crew.bodies.items) }
+    ensures callers { IfOk result (λ crew. crew.callers.items ≡ shared_by_two (length table.now.names)) }
+{
+    let bodies = script_bodies(alloc, table, lanes)?;
+    match script_callers(alloc, table.len()) {
+        Ok(callers) => Ok(Crew { bodies, callers }),
+        Err(error) => {
+            drop(bodies);
+            Err(error)
+        }
+    }
+}
+
+/// Runs the crew of a plan on the workqueues of a runtime, and hands back what the threads left.
+fn run_crew<
+    't,
+    'a,
+    N: Naming + Send + Sync,
+    A: Allocator + Copy + Send + Sync,
+    R: Threads + Wait + Sync,
+>(
     rt: &R,
     alloc: A,
     runtime: &WqRuntime<N, A>,
-    table: &ItemTable<'_, A>,
-) -> Result<(Vec<Seat<N, A>, A>, u64), RunStop>
+    table: &'t ItemTable<'a, A>,
+) -> Result<CrewRan<'t, 'a, N, A>, RunStop>
     requires items { items N.wiring ≡ length table.now.names }
-    ensures ran { IfOk result (λ crew. (runs : List (ℕ → ℕ)) × (rescued : List (Result Rescued CallError)) × (finished : ℕ)
-        × IsRan N.wiring N.wiring.lanes 2 crew.0.items runs 2 2 rescued finished crew.1) }
+    ensures ran { IfOk result (λ r. IsRan N.wiring N.wiring.lanes 2 r.seats.items (map runs_of r.bodies.items) 2 2 r.rescued.items r.finished r.faults) }
 {
-    let bodies = script_bodies(alloc, table, runtime.lanes(rt))?;
-    let Ok(callers) = script_callers(alloc, table.len()) else {
-        drop(bodies);
-        return Err(RunStop::OutOfMemory);
-    };
+    let Crew { bodies, callers } = make_crew(alloc, table, runtime.lanes(rt))?;
     match run_all(rt, alloc, runtime, bodies, callers) {
-        Ok(ran) => {
-            let Ran { seats, faults, .. } = ran;
-            Ok((seats, faults))
-        }
+        Ok(ran) => Ok(ran),
         Err(refused) => Err(RunStop::from(refused.why)),
     }
 }
 
-/// Closes a runtime with all its seats, whose counts agree with its history. The error is `Tally`, where the runtime can't be closed or
-/// they don't agree; then all is dropped.
+/// Closes a runtime with all its seats, whose counts agree with its history. The error is `Tally`, where the runtime can't be
+/// closed or they don't agree; then all is dropped.
 fn close<N: Naming, A: Allocator>(
     runtime: WqRuntime<N, A>,
     seats: Vec<Seat<N, A>, A>,
@@ -75,7 +111,36 @@ fn close<N: Naming, A: Allocator>(
     }
 }
 
-/// Runs what is on the lanes of a runtime, closes the runtime, and makes the text of what happened.
+/// Closes a runtime with the seats of what ran on it, and reports on both.
+fn conclude<N: Naming, A: Allocator + Copy, B: Body + Drop, C: Caller + Drop>(
+    alloc: A,
+    runtime: WqRuntime<N, A>,
+    table: &ItemTable<'_, A>,
+    groups: &Groups<A>,
+    assignment: &Assignment<A>,
+    mut ran: Ran<N, A, B, C>,
+) -> Result<Vec<u8, A>, RunStop>
+    requires grouped { length groups.now.group_of ≡ length table.now.names }
+    requires assigned { length assignment.now.lane_of_group ≡ groups.now.groups }
+    ensures reported { IfOk result (λ text. (book : BookView) × (counts : List ℕ) × IsClosed N.wiring N.rows ran.seats.items book counts true
+        × (text.items ≡ report_text (record { table = table.now; partition = groups.now }) assignment.now (λ i kind. made counts i kind true) ran.faults)) }
+{
+    let seats = mem::replace(&mut ran.seats, Vec::new(alloc));
+    match close(runtime, seats) {
+        Ok(closed) => {
+            let text = report_text(alloc, table, groups, assignment, &closed, &ran);
+            drop(closed);
+            drop(ran);
+            Ok(text?)
+        }
+        Err(stop) => {
+            drop(ran);
+            Err(stop)
+        }
+    }
+}
+
+/// Runs the crew of a plan on a runtime of it, closes the runtime with the seats of this run, and reports on both.
 pub(crate) fn serve<
     N: Naming + Send + Sync,
     A: Allocator + Copy + Send + Sync,
@@ -98,15 +163,11 @@ pub(crate) fn serve<
     ensures ran { IfOk result (λ text. PrintsRun (record { table = table.now; partition = groups.now }) text.items) }
     ensures stopped { IfErr result (Stops (HasRuntime (record { table = table.now; partition = groups.now }))) }
 {
-    let (seats, faults) = match run_crew(rt, alloc, &runtime, table) {
-        Ok(crew) => crew,
+    match run_crew(rt, alloc, &runtime, table) {
+        Ok(ran) => conclude(alloc, runtime, table, groups, assignment, ran),
         Err(stop) => {
             drop(runtime);
-            return Err(stop);
+            Err(stop)
         }
-    };
-    let closed = close(runtime, seats)?;
-    let text = report_text(alloc, table, groups, assignment, &closed.counts, faults);
-    drop(closed);
-    Ok(text?)
+    }
 }

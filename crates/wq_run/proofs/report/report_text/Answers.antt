@@ -15,7 +15,7 @@ pub loop-i-preserved : goal.loop-i-preserved
 loop-i-preserved g c =
     let s : Declared = record { table = c.args.table.now; partition = c.args.groups.now } in
     let first = line_text (workqueues_line c.args.assignment.now.lanes) in
-    let line = item_line s c.args.assignment.now (λ (j : ℕ) (kind : Kind). made c.args.counts.now j kind true) in
+    let line = item_line s c.args.assignment.now (λ (j : ℕ) (kind : Kind). made c.args.closed.now.counts j kind true) in
     let i = c.loop-i.i in
     c.in_ok-put_item_line.ensures ∙ ap (λ (j : ℕ). c.loop-i.out.items ++ line_text (line j)) c.new-item.ensures ∙ ap (λ (o : List ℕ). o ++ line_text (line i)) c.loop-i.invariant
     ∙ lines-push line first (range_with_len 0 i) i ∙ ap (λ (is : List ℕ). first ++ lines line is) (sym (range_with_len-push i))
@@ -24,8 +24,8 @@ pub returns : goal.returns
 returns g c =
     let s : Declared = record { table = c.args.table.now; partition = c.args.groups.now } in
     let first = workqueues_line c.args.assignment.now.lanes in
-    let line = item_line s c.args.assignment.now (λ (j : ℕ) (kind : Kind). made c.args.counts.now j kind true) in
-    let last = faults_line c.args.faults in
+    let line = item_line s c.args.assignment.now (λ (j : ℕ) (kind : Kind). made c.args.closed.now.counts j kind true) in
+    let last = faults_line c.args.ran.now.faults in
     let all : c.loop-i.i ≡ length c.args.table.now.names = omega (arith, c.loop-i-test.false, c.len-i-end.ensures.len, c.loop-i.auto.i-end) in
     c.in_ok-put_faults_line.ensures
     ∙ ap (λ (o : List ℕ). o ++ line_text last) (c.loop-i.invariant ∙ ap (λ (n : ℕ). line_text first ++ lines line (range_with_len 0 n)) all)
