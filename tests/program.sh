@@ -6,6 +6,7 @@ set -u
 program=$(realpath -- "${1:-crates/wqplan/out/wqplan}")
 stored=$(realpath -- crates/wqplan)
 rule=$(realpath -- "$(dirname "$0")/standard_error.py")
+typed=$(realpath -- "$(dirname "$0")/typed.py")
 . "$(dirname "$0")/time_limit.bash"
 if [ ! -x "$program" ]; then
     echo "program: there is nothing to run at $program (cd crates/wqplan && rt run builds it)"
@@ -316,6 +317,49 @@ leaves run declaration
 leaves explain safe
 leaves explain
 leaves plan missing
+
+# bounded LIMIT ARG..: counts whether the command takes one byte more than LIMIT of the text that it has as /dev/stdin, or, where no file
+# is named, as standard input, and leaves what follows.
+bounded() {
+    local limit=$1
+    shift
+    { yes '' | head -c "$((limit + 1))"; echo 'the rest'; } | { limited "$program" "$@" >/dev/null 2>&1; cat; } >out
+    status=$?
+    : >err
+    check "no more than a byte past the limit is read: $*" 0 'the rest\n' ''
+}
+bounded 1048576 plan
+bounded 1048576 plan /dev/stdin
+bounded 1048576 check /dev/stdin plan_of_two
+bounded 8388608 check declaration /dev/stdin
+bounded 1048576 deadlock /dev/stdin lanes
+bounded 8388608 deadlock chain /dev/stdin
+bounded 1048576 replay /dev/stdin lanes open
+bounded 8388608 replay chain /dev/stdin open
+bounded 8388608 replay chain lanes /dev/stdin
+bounded 1048576 circles /dev/stdin
+bounded 1048576 circles /dev/stdin lanes
+bounded 8388608 circles chain /dev/stdin
+bounded 1048576 dot /dev/stdin
+bounded 1048576 dot /dev/stdin lanes
+bounded 8388608 dot chain /dev/stdin
+bounded 1048576 run /dev/stdin
+
+# ends TEXT OUT ARG..: counts whether the command answers where TEXT is typed at its standard input, and then one end of the input.
+ends() {
+    local text=$1 wanted=$2
+    shift 2
+    limited python3 -B "$typed" "$text" "$program" "$@" >out 2>err
+    status=$?
+    check "one end of the input is enough: $*" 0 "$wanted" ''
+}
+ends 'item a\nitem b\nflush a b\n' "$plan" plan
+ends 'item a\nitem b\nflush a b\n' "$plan" plan /dev/stdin
+ends "$plan" 'yes 2\n' check declaration /dev/stdin
+ends "$plan" 'safe\n' deadlock declaration /dev/stdin
+ends 'run 1\nqueue a\n' 'open\n' replay chain lanes /dev/stdin
+ends 'item a\n' 'safe\n' circles /dev/stdin
+ends 'item a\n' 'workqueues 1\nitem a wq 0 queued 1 cancelled 0 finished 1\nfaults 0\n' run /dev/stdin
 
 # The same each time, whatever the threads do: the first run that differs is looked at, or the last one.
 ran3=$(printf 'item %s queued 1 cancelled 0 finished 1\\n' 'a wq 2' 'b wq 1' 'c wq 0')
