@@ -1,15 +1,15 @@
 -- Machines as their fields hold them, after one lane has changed.
-use Rattle.std.proofs.Common.{◌≡◌, ◌≢◌, ℕ, zero, suc, ◌==◌, ◌+◌, ◌<◌, ◌≤◌, ◌⊎◌, ◌^◌, List, [], ◌∷◌, map, set, refl, sym, subst, ◌∙◌, ap, arith, inl, inr}
+use Rattle.std.proofs.Common.{◌≡◌, ◌≢◌, ℕ, zero, suc, ◌==◌, ◌+◌, ◌<◌, ◌≤◌, ◌⊎◌, ◌^◌, List, [], ◌∷◌, map, set, refl, sym, subst, ◌∙◌, ap, arith, inl, inr, Bool, true, false}
 use Rattle.std.specs.Prelude.{Option, Some, None, slice_get}
 use Rattle.std.specs.List.{count_by}
 use Rattle.std.proofs.lemmas.List.{get_or-map, map-set, length-set}
 use Rattle.std.proofs.lemmas.Option.{slice_get_within, get_or_from_slice_get}
 use Rattle.wq_items.specs.declared.target.Target.{Target}
 use Rattle.wq_core.specs.declared.step.Step.{Step}
-use Rattle.wq_core.specs.declared.step.Step.TheVariants.{Queue, Cancel, Start, Wait, Over, Finish}
+use Rattle.wq_core.specs.declared.step.Step.TheVariants.{Queue, Cancel, Start, Wait, Over, WaitAll, OverAll, Finish}
 use Rattle.wq_core.specs.Wiring.{lane_of}
 use Rattle.wq_core.specs.State.{Lane, State, idle_lane, lane_at, with_lane}
-use Rattle.wq_core.specs.Rules.{Lawful, effect, with_queued, with_cancelled, with_started, with_wait, with_over, with_finished}
+use Rattle.wq_core.specs.Rules.{Lawful, effect, with_queued, with_cancelled, with_started, with_wait, with_over, with_finished, wait_of, over_of}
 use Rattle.wq_core.specs.Held.{HeldLane, Machine, machine_of, HasRoom, IsNumbering, IsRising, IsHeld, IsMachine, IsNumberOf, UsesUp, machine_after, IsDone}
 use Rattle.wq_core.proofs.Numbered.{IsNumbering-effect, numbers_after}
 use Rattle.wq_core.proofs.Rising.{IsRising-effect}
@@ -89,15 +89,22 @@ module _ (waits : List (List Target)) (lane_of_item : List ℕ) (numbers : List 
         → IsHeld waits lane_of_item numbers (set lanes q new) next × IsDone m (Finish q i) n (machine_of waits lane_of_item (set lanes q new) next)
     finished q i number was is = changed m (Finish q i) n q old new next held view number (λ u. u) was room held.machine.numbers (put q with_finished was is)
 
-    pub over : (q b : ℕ) → IsNumberOf m (Over q b) (Some n) → slice_get lanes q ≡ Some old → new.lane ≡ with_over old.lane
-        → IsHeld waits lane_of_item numbers (set lanes q new) next × IsDone m (Over q b) n (machine_of waits lane_of_item (set lanes q new) next)
-    over q b number was is = changed m (Over q b) n q old new next held view number (λ u. u) was room held.machine.numbers (put q with_over was is)
+    pub over : (q : ℕ) (whole : Bool) (b : ℕ) → IsNumberOf m (over_of whole q b) (Some n) → slice_get lanes q ≡ Some old → new.lane ≡ with_over old.lane
+        → IsHeld waits lane_of_item numbers (set lanes q new) next × IsDone m (over_of whole q b) n (machine_of waits lane_of_item (set lanes q new) next)
+    over q false b number was is = changed m (Over q b) n q old new next held view number (λ u. u) was room held.machine.numbers (put q with_over was is)
+    over q true b number was is = changed m (OverAll q b) n q old new next held view number (λ u. u) was room held.machine.numbers (put q with_over was is)
 
-    pub waited : (q b : ℕ) → IsNumberOf m (Wait q b) (Some n) → slice_get lanes q ≡ Some old → new.lane ≡ with_wait b n old.lane
-        → IsHeld waits lane_of_item numbers (set lanes q new) next × IsDone m (Wait q b) n (machine_of waits lane_of_item (set lanes q new) next)
-    waited q b number was is =
-        let mark : n ≡ next = number.1 ∙ ap (λ (k : Machine). k.state.next) (sym view) in
-        changed m (Wait q b) n q old new next held view number (λ u. u) was room held.machine.numbers (put q (with_wait b next) was (is ∙ ap (λ (k : ℕ). with_wait b k old.lane) mark))
+    -- the lane is the one that the wait makes, by the mark that it gives
+    marked : (q : ℕ) (whole : Bool) (b : ℕ) → slice_get lanes q ≡ Some old → n ≡ m.state.next → new.lane ≡ with_wait whole b n old.lane
+        → record { next = next; lanes = set held_machine.state.lanes q new.lane } ≡ with_lane held_machine.state q (with_wait whole b next (lane_at held_machine.state q))
+    marked q whole b was given is =
+        let mark : n ≡ next = given ∙ ap (λ (k : Machine). k.state.next) (sym view) in
+        put q (with_wait whole b next) was (is ∙ ap (λ (k : ℕ). with_wait whole b k old.lane) mark)
+
+    pub waited : (q : ℕ) (whole : Bool) (b : ℕ) → IsNumberOf m (wait_of whole q b) (Some n) → slice_get lanes q ≡ Some old → new.lane ≡ with_wait whole b n old.lane
+        → IsHeld waits lane_of_item numbers (set lanes q new) next × IsDone m (wait_of whole q b) n (machine_of waits lane_of_item (set lanes q new) next)
+    waited q false b number was is = changed m (Wait q b) n q old new next held view number (λ u. u) was room held.machine.numbers (marked q false b was number.1 is)
+    waited q true b number was is = changed m (WaitAll q b) n q old new next held view number (λ u. u) was room held.machine.numbers (marked q true b was number.1 is)
 
     pub started : (q i : ℕ) → IsNumberOf m (Start q i) (Some n) → slice_get lanes q ≡ Some old → new.lane ≡ with_started old.lane
         → IsHeld waits lane_of_item (set numbers i None) (set lanes q new) next × IsDone m (Start q i) n (machine_of waits lane_of_item (set lanes q new) next)

@@ -3,30 +3,33 @@ use Rattle.std.proofs.Common.{◌≡◌, ℕ, ◌<◌, ◌≤◌, inl, inr, ◌�
 use Rattle.std.specs.Prelude.{slice_get, is_some, IsTrue}
 use Rattle.std.proofs.lemmas.Option.{slice_get_within, slice_get_past, slice_get_cases, get_or_from_slice_get}
 use Rattle.wq_items.specs.declared.target.Target.{Target}
-use Rattle.wq_items.specs.Table.{ItemWaits}
+use Rattle.wq_items.specs.Table.{ItemWaitsBy}
 use Rattle.wq_core.specs.declared.entry.Entry.{Entry}
 use Rattle.wq_core.specs.declared.entry.Waiting.{Waiting}
 use Rattle.wq_core.specs.declared.entry.Running.{Running}
 use Rattle.wq_core.specs.declared.step.Step.{Step}
-use Rattle.wq_core.specs.declared.step.Step.TheVariants.{Queue, Cancel, Start, Wait, Over, Finish}
+use Rattle.wq_core.specs.declared.step.Step.TheVariants.{Queue, Cancel, Start, Wait, Over, WaitAll, OverAll, Finish}
 use Rattle.wq_core.specs.Wiring.{Wiring, declared_by}
-use Rattle.wq_core.specs.State.{Lane, State, lane_at, Runs, HasUnfinishedBelow}
-use Rattle.wq_core.specs.Rules.{MayStart, Lawful}
+use Rattle.wq_core.specs.State.{Lane, State, lane_at, Runs}
+use Rattle.wq_core.specs.Rules.{IsHeldBack, MayStart, Lawful, wait_of, over_of}
 use Rattle.wq_core.specs.Runs.{KeepsOrder}
 use Rattle.wq_core.specs.Held.{IsSoundRunning, IsSoundState}
 use Rattle.wq_core.specs.Played.{IsStepOfLane, CanMove, IsDeclaredStep}
+use Rattle.wq_core.proofs.WaitSteps.{waits-lawful, lawful-waits, goes_on-lawful, lawful-goes_on, next-in_order, in_order-next, in_order-goes_on, of_lane-wait_of, of_lane-over_of}
 use Rattle.wq_core.proofs.LaneLemmas.{same_running, nothing_runs, runs_within, starts_within}
 
 -- ---- steps of a lane
 
 -- what holds for each kind of step of lane q holds for all its steps
-by_kind : (q : ℕ) (P : Step → Type 0) → ((i : ℕ) → P (Start q i)) → ((b : ℕ) → P (Wait q b)) → ((b : ℕ) → P (Over q b))
+by_kind : (q : ℕ) (P : Step → Type 0) → ((i : ℕ) → P (Start q i)) → ((whole : Bool) (b : ℕ) → P (wait_of whole q b)) → ((whole : Bool) (b : ℕ) → P (over_of whole q b))
     → ((i : ℕ) → P (Finish q i)) → (step : Step) → IsStepOfLane q step → P step
 by_kind q P starts waits goes_on finishes (Queue i) is = absurd is
 by_kind q P starts waits goes_on finishes (Cancel i) is = absurd is
 by_kind q P starts waits goes_on finishes (Start p i) is = subst (λ (n : ℕ). P (Start n i)) (sym is) (starts i)
-by_kind q P starts waits goes_on finishes (Wait p b) is = subst (λ (n : ℕ). P (Wait n b)) (sym is) (waits b)
-by_kind q P starts waits goes_on finishes (Over p b) is = subst (λ (n : ℕ). P (Over n b)) (sym is) (goes_on b)
+by_kind q P starts waits goes_on finishes (Wait p b) is = subst (λ (n : ℕ). P (Wait n b)) (sym is) (waits false b)
+by_kind q P starts waits goes_on finishes (WaitAll p b) is = subst (λ (n : ℕ). P (WaitAll n b)) (sym is) (waits true b)
+by_kind q P starts waits goes_on finishes (Over p b) is = subst (λ (n : ℕ). P (Over n b)) (sym is) (goes_on false b)
+by_kind q P starts waits goes_on finishes (OverAll p b) is = subst (λ (n : ℕ). P (OverAll n b)) (sym is) (goes_on true b)
 by_kind q P starts waits goes_on finishes (Finish p i) is = subst (λ (n : ℕ). P (Finish n i)) (sym is) (finishes i)
 
 -- ---- what a lane runs
@@ -50,7 +53,8 @@ module _ (w : Wiring) (s : State) (q : ℕ) where
     starts_only =
         by_kind q (λ (step : Step). Lawful w s step → (e : Entry) × (slice_get (lane_at s q).pending 0 ≡ Some e) × (step ≡ Start q e.item))
         (λ i may. (may.entry, may.first, ap (λ (n : ℕ). Start q n) (sym may.of_item)))
-        (λ b may. absurd (nothing_runs (lane_at s q) idle may.0 may.1)) (λ b may. absurd (nothing_runs (lane_at s q) idle may.0 may.1))
+        (λ whole b may. let runs = waits-lawful w s q whole b may in absurd (nothing_runs (lane_at s q) idle runs.0 runs.1))
+        (λ whole b may. let runs = goes_on-lawful w s q whole b may in absurd (nothing_runs (lane_at s q) idle runs.0 runs.1))
         (λ i may. absurd (nothing_runs (lane_at s q) idle may.0 may.1))
 
     MayStart-first : (e : Entry) → slice_get (lane_at s q).pending 0 ≡ Some e → MayStart (lane_at s q) e.item
@@ -73,11 +77,11 @@ module _ (w : Wiring) (s : State) (q : ℕ) where
   module _ (r : Running) (runs : Runs (lane_at s q) r) where
     -- what waits can only go on
     over_only : (flush : Waiting) → r.waiting ≡ Some flush → (step : Step) → IsStepOfLane q step → Lawful w s step
-        → (¬ HasUnfinishedBelow s flush.target flush.mark) × (step ≡ Over q flush.target)
+        → (¬ IsHeldBack w s flush.whole flush.target flush.mark) × (step ≡ over_of flush.whole q flush.target)
     over_only flush waits =
-        by_kind q (λ (step : Step). Lawful w s step → (¬ HasUnfinishedBelow s flush.target flush.mark) × (step ≡ Over q flush.target))
+        by_kind q (λ (step : Step). Lawful w s step → (¬ IsHeldBack w s flush.whole flush.target flush.mark) × (step ≡ over_of flush.whole q flush.target))
         (λ i may. absurd (nothing_runs (lane_at s q) may.idle r runs))
-        (λ b may. absurd (waits-awake (lane_at s q) r may.0 flush runs waits may.1 may.2.awake)) over
+        (λ whole b may. let begins = waits-lawful w s q whole b may in absurd (waits-awake (lane_at s q) r begins.0 flush runs waits begins.1 begins.2.awake)) over
         (λ i may. absurd (waits-awake (lane_at s q) r may.0 flush runs waits may.1 may.2.awake))
       where
         same_flush : (t : Running) → Runs (lane_at s q) t → (f : Waiting) → t.waiting ≡ Some f → f ≡ flush
@@ -86,25 +90,29 @@ module _ (w : Wiring) (s : State) (q : ℕ) where
             let e : Some f ≡ Some flush = sym begun ∙ same ∙ waits in
             cc
 
-        over : (b : ℕ) → Lawful w s (Over q b) → (¬ HasUnfinishedBelow s flush.target flush.mark) × (Over q b ≡ Over q flush.target)
-        over b (t, there, may) =
+        over : (whole : Bool) (b : ℕ) → Lawful w s (over_of whole q b) → (¬ IsHeldBack w s flush.whole flush.target flush.mark) × (over_of whole q b ≡ over_of flush.whole q flush.target)
+        over whole b lawful =
+            let (t, there, may) = goes_on-lawful w s q whole b lawful in
             let same : may.flush ≡ flush = same_flush t there may.flush may.waits in
             let target : b ≡ flush.target = sym may.target ∙ ap (λ (f : Waiting). f.target) same in
-            let done : ¬ HasUnfinishedBelow s b flush.mark = subst (λ (f : Waiting). ¬ HasUnfinishedBelow s b f.mark) same may.done in
-            (subst (λ (n : ℕ). ¬ HasUnfinishedBelow s n flush.mark) target done, ap (λ (n : ℕ). Over q n) target)
+            let kind : whole ≡ flush.whole = sym may.kind ∙ ap (λ (f : Waiting). f.whole) same in
+            let done : ¬ IsHeldBack w s whole b flush.mark = subst (λ (f : Waiting). ¬ IsHeldBack w s whole b f.mark) same may.done in
+            let here : ¬ IsHeldBack w s whole flush.target flush.mark = subst (λ (n : ℕ). ¬ IsHeldBack w s whole n flush.mark) target done in
+            (subst (λ (k : Bool). ¬ IsHeldBack w s k flush.target flush.mark) kind here, ap (λ (n : ℕ). over_of whole q n) target ∙ ap (λ (k : Bool). over_of k q flush.target) kind)
 
-    Lawful-over : (flush : Waiting) → r.waiting ≡ Some flush → (¬ HasUnfinishedBelow s flush.target flush.mark) → Lawful w s (Over q flush.target)
-    Lawful-over flush waits done = (r, runs, record { flush = flush; waits = waits; target = refl; done = done })
+    Lawful-over : (flush : Waiting) → r.waiting ≡ Some flush → (¬ IsHeldBack w s flush.whole flush.target flush.mark) → Lawful w s (over_of flush.whole q flush.target)
+    Lawful-over flush waits done = lawful-goes_on w s q flush.whole flush.target (r, runs, record { flush = flush; waits = waits; kind = refl; target = refl; done = done })
 
-    pub CanMove-waiting : (flush : Waiting) → r.waiting ≡ Some flush → (b : Bool) → IsTrue b ↔ HasUnfinishedBelow s flush.target flush.mark → IsTrue (not b) ↔ CanMove w s q
+    pub CanMove-waiting : (flush : Waiting) → r.waiting ≡ Some flush → (b : Bool) → IsTrue b ↔ IsHeldBack w s flush.whole flush.target flush.mark → IsTrue (not b) ↔ CanMove w s q
     CanMove-waiting flush waits true left =
         ((λ t. absurd cc), (λ can. absurd ((over_only flush waits can.0 can.1 can.2).0 (left.0 refl))))
     CanMove-waiting flush waits false left =
-        let done : ¬ HasUnfinishedBelow s flush.target flush.mark = λ some. absurd (let e : false ≡ true = left.1 some in cc) in
-        ((λ t. (Over q flush.target, refl, Lawful-over flush waits done)), (λ can. refl))
+        let done : ¬ IsHeldBack w s flush.whole flush.target flush.mark = λ some. absurd (let e : false ≡ true = left.1 some in cc) in
+        ((λ t. (over_of flush.whole q flush.target, of_lane-over_of q flush.whole flush.target, Lawful-over flush waits done)), (λ can. refl))
 
-    pub IsDeclaredStep-over : (flush : Waiting) → r.waiting ≡ Some flush → (¬ HasUnfinishedBelow s flush.target flush.mark) → IsDeclaredStep w s q (Over q flush.target)
-    IsDeclaredStep-over flush waits done = record { of_lane = refl; lawful = Lawful-over flush waits done; in_order = tt }
+    pub IsDeclaredStep-over : (flush : Waiting) → r.waiting ≡ Some flush → (¬ IsHeldBack w s flush.whole flush.target flush.mark) → IsDeclaredStep w s q (over_of flush.whole q flush.target)
+    IsDeclaredStep-over flush waits done =
+        record { of_lane = of_lane-over_of q flush.whole flush.target; lawful = Lawful-over flush waits done; in_order = in_order-goes_on w s q flush.whole flush.target }
 
     module _ (awake : r.waiting ≡ None) where
       -- the targets that its item declares
@@ -113,7 +121,7 @@ module _ (w : Wiring) (s : State) (q : ℕ) where
 
       -- a wait for the next target, or a finish
       abbrev next_step : Option Target → Step
-      next_step (Some t) = Wait q t.item
+      next_step (Some t) = wait_of t.whole q t.item
       next_step None = Finish q r.entry.item
 
       -- what doesn't wait can only make its next step
@@ -121,13 +129,14 @@ module _ (w : Wiring) (s : State) (q : ℕ) where
       next_only step is =
           by_kind q (λ (x : Step). Lawful w s x → KeepsOrder w s x → x ≡ next_step (slice_get targets r.made))
           (λ i may order. absurd (nothing_runs (lane_at s q) may.idle r runs)) wait
-          (λ b may order. absurd (awake-waits (lane_at s q) r may.0 may.2.flush runs awake may.1 may.2.waits)) finish step is.of_lane is.lawful is.in_order
+          (λ whole b may order. let goes = goes_on-lawful w s q whole b may in absurd (awake-waits (lane_at s q) r goes.0 goes.2.flush runs awake goes.1 goes.2.waits)) finish step is.of_lane is.lawful is.in_order
         where
-          wait : (b : ℕ) → Lawful w s (Wait q b) → KeepsOrder w s (Wait q b) → Wait q b ≡ next_step (slice_get targets r.made)
-          wait b may (t, there, (x, next, item)) =
+          wait : (whole : Bool) (b : ℕ) → Lawful w s (wait_of whole q b) → KeepsOrder w s (wait_of whole q b) → wait_of whole q b ≡ next_step (slice_get targets r.made)
+          wait whole b may order =
+              let (t, there, (x, next, item, kind)) = next-in_order w s q whole b order in
               let same : t ≡ r = same_running (lane_at s q) t r there runs in
               let here : slice_get targets r.made ≡ Some x = subst (λ (y : Running). slice_get (declared_by w y.entry.item) y.made ≡ Some x) same next in
-              ap (λ (n : ℕ). Wait q n) (sym item) ∙ sym (ap (λ (o : Option Target). next_step o) here)
+              ap (λ (n : ℕ). wait_of whole q n) (sym item) ∙ ap (λ (k : Bool). wait_of k q x.item) (sym kind) ∙ sym (ap (λ (o : Option Target). next_step o) here)
 
           finish : (i : ℕ) → Lawful w s (Finish q i) → KeepsOrder w s (Finish q i) → Finish q i ≡ next_step (slice_get targets r.made)
           finish i (t, there, may) (u, runs_too, last) =
@@ -143,14 +152,14 @@ module _ (w : Wiring) (s : State) (q : ℕ) where
       pub CanMove-awake : CanMove w s q
       CanMove-awake = (Finish q r.entry.item, refl, Lawful-finish)
 
-      pub IsDeclaredStep-wait : (t : Target) → slice_get targets r.made ≡ Some t → IsDeclaredStep w s q (Wait q t.item)
+      pub IsDeclaredStep-wait : (t : Target) → slice_get targets r.made ≡ Some t → IsDeclaredStep w s q (wait_of t.whole q t.item)
       IsDeclaredStep-wait t next =
           let within : r.made < length targets = slice_get_within targets r.made t next in
-          let declared : ItemWaits w.waits r.entry.item t.item = (r.made, t, within, get_or_from_slice_get targets r.made t t next, refl) in
+          let declared : ItemWaitsBy w.waits t.whole r.entry.item t.item = (r.made, t, within, get_or_from_slice_get targets r.made t t next, (refl, refl)) in
           record {
-            of_lane = refl;
-            lawful = (r, runs, record { awake = awake; declared = declared; fewer = within });
-            in_order = (r, runs, (t, next, refl));
+            of_lane = of_lane-wait_of q t.whole t.item;
+            lawful = lawful-waits w s q t.whole t.item (r, runs, record { awake = awake; declared = declared; fewer = within });
+            in_order = in_order-next w s q t.whole t.item (r, runs, (t, next, refl, refl));
           }
 
       pub IsDeclaredStep-finish : IsSoundRunning w r → slice_get targets r.made ≡ None → IsDeclaredStep w s q (Finish q r.entry.item)
@@ -189,12 +198,12 @@ module _ (w : Wiring) (s : State) (q : ℕ) where
     where
       by_next : (r : Running) → Runs (lane_at s q) r → r.waiting ≡ None → (o : Option Target) → slice_get (declared_by w r.entry.item) r.made ≡ o → (x : Step) × IsDeclaredStep w s q x
       by_next r runs awake None next = (Finish q r.entry.item, IsDeclaredStep-finish r runs awake (sound.running q r runs) next)
-      by_next r runs awake (Some t) next = (Wait q t.item, IsDeclaredStep-wait r runs awake t next)
+      by_next r runs awake (Some t) next = (wait_of t.whole q t.item, IsDeclaredStep-wait r runs awake t next)
 
       by_waiting : (r : Running) → Runs (lane_at s q) r → (o : Option Waiting) → r.waiting ≡ o → (x : Step) × IsDeclaredStep w s q x
       by_waiting r runs None awake = by_next r runs awake (slice_get (declared_by w r.entry.item) r.made) refl
       by_waiting r runs (Some flush) waits =
-          (Over q flush.target, IsDeclaredStep-over r runs flush waits (over_only r runs flush waits step of_lane lawful).0)
+          (over_of flush.whole q flush.target, IsDeclaredStep-over r runs flush waits (over_only r runs flush waits step of_lane lawful).0)
 
       by_running : (o : Option Running) → (lane_at s q).running ≡ o → (x : Step) × IsDeclaredStep w s q x
       by_running None idle = let (e, first, start) = starts_only idle step of_lane lawful in (Start q e.item, IsDeclaredStep-start idle e first)
@@ -204,4 +213,5 @@ module _ (w : Wiring) (s : State) (q : ℕ) where
   pub CanMove-within : CanMove w s q → q < length s.lanes
   CanMove-within (step, of_lane, lawful) =
       by_kind q (λ (x : Step). Lawful w s x → q < length s.lanes) (λ i may. starts_within s q i may)
-      (λ b may. runs_within s q may.0 may.1) (λ b may. runs_within s q may.0 may.1) (λ i may. runs_within s q may.0 may.1) step of_lane lawful
+      (λ whole b may. let waits = waits-lawful w s q whole b may in runs_within s q waits.0 waits.1)
+      (λ whole b may. let goes = goes_on-lawful w s q whole b may in runs_within s q goes.0 goes.1) (λ i may. runs_within s q may.0 may.1) step of_lane lawful

@@ -1,5 +1,5 @@
 -- Items that hold one another up never finish, as long as their lanes flush as declared.
-use Rattle.std.proofs.Common.{◌≡◌, ℕ, zero, suc, ◌+◌, ◌<◌, ◌≤◌, ◌⊎◌, inl, inr, List, [], ◌∷◌, length, Option, Some, None, refl, sym, ap, subst, ◌∙◌, arith}
+use Rattle.std.proofs.Common.{◌≡◌, ℕ, zero, suc, ◌+◌, ◌<◌, ◌≤◌, ◌⊎◌, inl, inr, List, [], ◌∷◌, length, Option, Some, None, refl, sym, ap, subst, ◌∙◌, arith, Bool, true, false}
 use Rattle.std.specs.Prelude.{Contains, slice_get, option_map}
 use Rattle.std.proofs.lemmas.Bool.{cases_lt}
 use Rattle.std.proofs.lemmas.Option.{slice_get_within}
@@ -8,10 +8,11 @@ use Rattle.wq_core.specs.declared.entry.Entry.{Entry}
 use Rattle.wq_core.specs.declared.entry.Waiting.{Waiting}
 use Rattle.wq_core.specs.declared.entry.Running.{Running}
 use Rattle.wq_core.specs.declared.step.Step.{Step}
-use Rattle.wq_core.specs.declared.step.Step.TheVariants.{Queue, Cancel, Start, Wait, Over, Finish}
+use Rattle.wq_core.specs.declared.step.Step.TheVariants.{Queue, Cancel, Start, Wait, Over, WaitAll, OverAll, Finish}
 use Rattle.wq_core.specs.Wiring.{Wiring, items, lane_of, declared_by}
 use Rattle.wq_core.specs.State.{Lane, State, lane_at, with_lane, Runs, IsUnfinishedOn}
-use Rattle.wq_core.specs.Rules.{MayWait, MayBeOver, MayStart, MayFinish, with_started, with_wait, with_over, with_finished, effect}
+use Rattle.wq_core.specs.Runs.{IsNextWait}
+use Rattle.wq_core.specs.Rules.{IsHeldBack, MayWait, MayBeOver, MayStart, MayFinish, with_started, with_wait, with_over, with_finished, effect}
 use Rattle.wq_core.specs.Played.{IsDeclaredStep}
 use Rattle.wq_core.proofs.LaneLemmas.{cases_with_lane, same_running}
 
@@ -38,6 +39,7 @@ pub record IsInWait (place : ℕ) (t : Target) (n : ℕ) (r : Running) : Type 0 
   pub made : r.made ≡ place + 1
   pub flush : Waiting
   pub waits : r.waiting ≡ Some flush
+  pub kind : flush.whole ≡ t.whole
   pub target : flush.target ≡ t.item
   pub mark : n ≤ flush.mark
 
@@ -73,28 +75,28 @@ module _ (w : Wiring) (n m place : ℕ) (t : Target) (lane : Lane) (held : IsHel
       started [] e is item = absurd cc
       started (p ∷ ps) e is item = (record { entry = p; made = 0; waiting = None }, refl, (let same : p ≡ e = cc in ap (λ (x : Entry). x.item) same ∙ item), inl (omega arith))
 
-  IsHeldUp-waiting : (b : ℕ) (r : Running) → Runs lane r → MayWait w b r → (u : Target) → slice_get (declared_by w r.entry.item) r.made ≡ Some u → u.item ≡ b
-      → slice_get (declared_by w m) place ≡ Some t → IsHeldUp w n m place t (with_wait b n lane)
-  IsHeldUp-waiting b r runs may u next is declares =
+  IsHeldUp-waiting : (whole : Bool) (b : ℕ) (r : Running) → Runs lane r → MayWait w whole b r → (u : Target) → slice_get (declared_by w r.entry.item) r.made ≡ Some u → u.item ≡ b → u.whole ≡ whole
+      → slice_get (declared_by w m) place ≡ Some t → IsHeldUp w n m place t (with_wait whole b n lane)
+  IsHeldUp-waiting whole b r runs may u next is kind declares =
       let own = m_runs r runs in
-      let begins : Running → Running = λ (x : Running). record x { made = x.made + 1; waiting = Some (record { target = b; mark = n }) } in
-      IsHeldUp-later (with_wait b n lane) (λ e h. unfinished-going_on lane begins e (λ x. refl) h)
+      let begins : Running → Running = λ (x : Running). record x { made = x.made + 1; waiting = Some (record { target = b; whole = whole; mark = n }) } in
+      IsHeldUp-later (with_wait whole b n lane) (λ e h. unfinished-going_on lane begins e (λ x. refl) h)
       (inr (begins r, ap (λ (o : Option Running). option_map begins o) runs, own.0, going_on own.0 own.1))
     where
-      here : r.entry.item ≡ m → r.made ≡ place → t.item ≡ b
+      here : r.entry.item ≡ m → r.made ≡ place → (t.item ≡ b) × (t.whole ≡ whole)
       here item at =
           let there : slice_get (declared_by w m) place ≡ Some u = subst (λ (k : ℕ). slice_get (declared_by w m) k ≡ Some u) at (subst (λ (i : ℕ). slice_get (declared_by w i) r.made ≡ Some u) item next) in
           let both : Some t ≡ Some u = sym declares ∙ there in
           let same : t ≡ u = cc in
-          ap (λ (x : Target). x.item) same ∙ is
+          (ap (λ (x : Target). x.item) same ∙ is, ap (λ (x : Target). x.whole) same ∙ kind)
 
       going_on : r.entry.item ≡ m → (r.made ≤ place) ⊎ IsInWait place t n r
-          → (r.made + 1 ≤ place) ⊎ IsInWait place t n (record r { made = r.made + 1; waiting = Some (record { target = b; mark = n }) })
+          → (r.made + 1 ≤ place) ⊎ IsInWait place t n (record r { made = r.made + 1; waiting = Some (record { target = b; whole = whole; mark = n }) })
       going_on item (inl le) = elim (cases_lt r.made place) [
         | inl before ↦ inl (omega arith)
         | inr past ↦ (
             let at : r.made ≡ place = omega arith in
-            inr (record { made = omega arith; flush = record { target = b; mark = n }; waits = refl; target = sym (here item at); mark = omega arith })
+            inr (record { made = omega arith; flush = record { target = b; whole = whole; mark = n }; waits = refl; kind = sym (here item at).1; target = sym (here item at).0; mark = omega arith })
             )
       ]
       going_on item (inr wait) = absurd (let never : None ≡ Some wait.flush = sym may.awake ∙ wait.waits in cc)
@@ -144,8 +146,8 @@ module _ (w : Wiring) (Member : ℕ → ℕ → Target → Type 0) (members : Ar
 
   -- the target of a member's wait is unfinished
   target_left : (s : State) → AreHeldUp w Member s → (m place : ℕ) (t : Target) → Member m place t → (r : Running) → IsInWait place t s.next r
-      → (b : ℕ) → MayBeOver s b r → ⊥
-  target_left s held m place t member r wait b may =
+      → (whole : Bool) (b : ℕ) → MayBeOver w s whole b r → ⊥
+  target_left s held m place t member r wait whole b may =
       let other = members.among m place t member in
       let left = (held other.0 other.1 other.2 other.3).unfinished t.item (members.below m place t member) other.4 in
       let both : Some wait.flush ≡ Some may.flush = sym wait.waits ∙ may.waits in
@@ -154,27 +156,39 @@ module _ (w : Wiring) (Member : ℕ → ℕ → Target → Type 0) (members : Ar
       let mark : wait.flush.mark ≡ may.flush.mark = ap (λ (f : Waiting). f.mark) same in
       let least : s.next ≤ wait.flush.mark = wait.mark in
       let given : left.0.number < s.next = left.3 in
-      may.done (record { lane = lane_of w other.0; entry = left.0; unfinished = left.1; of_item = item; below = omega arith })
+      let own : lane_of w other.0 ≡ lane_of w b = sym other.4 ∙ ap (lane_of w) (sym left.2) ∙ ap (lane_of w) item in
+      may.done (held_back whole (lane_of w other.0) left.0 left.1 item own (omega arith))
+    where
+      -- an entry of the target holds back a wait of either kind
+      held_back : (kind : Bool) (q : ℕ) (e : Entry) → IsUnfinishedOn (lane_at s q) e → e.item ≡ b → q ≡ lane_of w b → e.number < may.flush.mark → IsHeldBack w s kind b may.flush.mark
+      held_back false q e unfinished of_item on below = record { lane = q; entry = e; unfinished = unfinished; of_item = of_item; below = below }
+      held_back true q e unfinished of_item on below = record { entry = e; unfinished = subst (λ (p : ℕ). IsUnfinishedOn (lane_at s p) e) on unfinished; below = below }
+
+  AreHeldUp-waiting : (s : State) (p : ℕ) (whole : Bool) (b : ℕ) → AreHeldUp w Member s → (r : Running) → Runs (lane_at s p) r → MayWait w whole b r → IsNextWait w s p whole b
+      → AreHeldUp w Member (with_lane s p (with_wait whole b s.next (lane_at s p)))
+  AreHeldUp-waiting s p whole b held r runs may (x, other, next) =
+      let in_turn : (u : Target) × (slice_get (declared_by w r.entry.item) r.made ≡ Some u) × (u.item ≡ b) × (u.whole ≡ whole) =
+      subst (λ (y : Running). (u : Target) × (slice_get (declared_by w y.entry.item) y.made ≡ Some u) × (u.item ≡ b) × (u.whole ≡ whole)) (same_running (lane_at s p) x r other runs) next in
+      AreHeldUp-with_lane s p (with_wait whole b s.next (lane_at s p)) held (λ m place t member here.
+      IsHeldUp-waiting w s.next m place t (lane_at s p) here whole b r runs may in_turn.0 in_turn.1 in_turn.2 in_turn.3 (members.declares m place t member)
+      )
+
+  AreHeldUp-over : (s : State) (p : ℕ) (whole : Bool) (b : ℕ) → AreHeldUp w Member s → (r : Running) → Runs (lane_at s p) r → MayBeOver w s whole b r
+      → AreHeldUp w Member (with_lane s p (with_over (lane_at s p)))
+  AreHeldUp-over s p whole b held r runs may =
+      AreHeldUp-with_lane s p (with_over (lane_at s p)) held (λ m place t member here.
+      IsHeldUp-over w s.next m place t (lane_at s p) here r runs (λ wait. target_left s held m place t member r wait whole b may)
+      )
 
   pub AreHeldUp-effect : (s : State) (q : ℕ) (step : Step) → AreHeldUp w Member s → IsDeclaredStep w s q step → AreHeldUp w Member (effect w s step)
   AreHeldUp-effect s q (Queue i) held is = absurd is.of_lane
   AreHeldUp-effect s q (Cancel i) held is = absurd is.of_lane
   AreHeldUp-effect s q (Start p i) held is =
       AreHeldUp-with_lane s p (with_started (lane_at s p)) held (λ m place t member here. IsHeldUp-started w s.next m place t (lane_at s p) here i is.lawful)
-  AreHeldUp-effect s q (Wait p b) held is = waiting is.lawful.0 is.lawful.1 is.lawful.2 is.in_order.0 is.in_order.1 is.in_order.2
-    where
-      waiting : (r : Running) → Runs (lane_at s p) r → MayWait w b r → (x : Running) → Runs (lane_at s p) x → ((u : Target) × (slice_get (declared_by w x.entry.item) x.made ≡ Some u) × (u.item ≡ b))
-          → AreHeldUp w Member (effect w s (Wait p b))
-      waiting r runs may x other next =
-          let in_turn : (u : Target) × (slice_get (declared_by w r.entry.item) r.made ≡ Some u) × (u.item ≡ b) =
-          subst (λ (y : Running). (u : Target) × (slice_get (declared_by w y.entry.item) y.made ≡ Some u) × (u.item ≡ b)) (same_running (lane_at s p) x r other runs) next in
-          AreHeldUp-with_lane s p (with_wait b s.next (lane_at s p)) held (λ m place t member here.
-          IsHeldUp-waiting w s.next m place t (lane_at s p) here b r runs may in_turn.0 in_turn.1 in_turn.2 (members.declares m place t member)
-          )
-  AreHeldUp-effect s q (Over p b) held is =
-      AreHeldUp-with_lane s p (with_over (lane_at s p)) held (λ m place t member here.
-      IsHeldUp-over w s.next m place t (lane_at s p) here is.lawful.0 is.lawful.1 (λ wait. target_left s held m place t member is.lawful.0 wait b is.lawful.2)
-      )
+  AreHeldUp-effect s q (Wait p b) held is = AreHeldUp-waiting s p false b held is.lawful.0 is.lawful.1 is.lawful.2 is.in_order
+  AreHeldUp-effect s q (WaitAll p b) held is = AreHeldUp-waiting s p true b held is.lawful.0 is.lawful.1 is.lawful.2 is.in_order
+  AreHeldUp-effect s q (Over p b) held is = AreHeldUp-over s p false b held is.lawful.0 is.lawful.1 is.lawful.2
+  AreHeldUp-effect s q (OverAll p b) held is = AreHeldUp-over s p true b held is.lawful.0 is.lawful.1 is.lawful.2
   AreHeldUp-effect s q (Finish p i) held is = finishing is.lawful.0 is.lawful.1 is.lawful.2 is.in_order.0 is.in_order.1 is.in_order.2
     where
       finishing : (r : Running) → Runs (lane_at s p) r → MayFinish i r → (x : Running) → Runs (lane_at s p) x → x.made ≡ length (declared_by w x.entry.item)

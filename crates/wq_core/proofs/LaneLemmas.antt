@@ -5,6 +5,8 @@ use Rattle.std.specs.List.{filter}
 use Rattle.std.proofs.lemmas.Bool.{cases_lt}
 use Rattle.std.proofs.lemmas.List.{get_or-set_same, get_or-set_other, get_or_past, get_or-replicate, length-replicate}
 use Rattle.std.proofs.lemmas.List.Elements.{All-contains, All-contains_itself, All-filter}
+use Rattle.wq_items.specs.declared.target.Target.{Target}
+use Rattle.wq_items.specs.Table.{ItemWaits, ItemWaitsBy}
 use Rattle.wq_items.proofs.Lists.{Contains-first}
 use Rattle.wq_core.specs.declared.entry.Entry.{Entry}
 use Rattle.wq_core.specs.declared.entry.Running.{Running}
@@ -87,3 +89,8 @@ Contains-filter {X} p xs x h =
 
 pub AllPairs-nil : {X : Type 0} (R : X → X → Type 0) → AllPairs R []
 AllPairs-nil R i j d lt within = absurd (omega arith)
+
+-- ---- waits of either kind
+
+pub ItemWaits-by : (waits : List (List Target)) (whole : Bool) (i j : ℕ) → ItemWaitsBy waits whole i j → ItemWaits waits i j
+ItemWaits-by waits whole i j (k, t, lt, at, is) = (k, t, lt, at, is.0)

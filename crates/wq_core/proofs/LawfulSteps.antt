@@ -1,6 +1,6 @@
 -- What lawful steps say about an item, about what runs, and about what it waits for.
-use Rattle.std.proofs.Common.{◌≡◌, ℕ, ◌<◌, Some, sym, subst, ◌∙◌, ap}
-use Rattle.wq_items.specs.Table.{ItemWaits}
+use Rattle.std.proofs.Common.{◌≡◌, ℕ, ◌<◌, Some, sym, subst, ◌∙◌, ap, Bool, false}
+use Rattle.wq_items.specs.Table.{ItemWaitsBy}
 use Rattle.wq_core.specs.declared.entry.Entry.{Entry}
 use Rattle.wq_core.specs.declared.entry.Waiting.{Waiting}
 use Rattle.wq_core.specs.declared.entry.Running.{Running}
@@ -11,7 +11,7 @@ use Rattle.wq_core.specs.Rules.{MayStart, MayBeOver, Lawful}
 use Rattle.wq_core.specs.Held.{IsSoundState}
 use Rattle.wq_items.proofs.Lists.{Contains-first}
 use Rattle.wq_items.proofs.Tables.{ItemWaits-below}
-use Rattle.wq_core.proofs.LaneLemmas.{same_running}
+use Rattle.wq_core.proofs.LaneLemmas.{same_running, ItemWaits-by}
 use Rattle.wq_core.proofs.Machines.{pending-own_lane}
 
 -- ---- a lane has at most one item to start, one whose wait may be over, and one to finish
@@ -22,15 +22,15 @@ MayStart-one lane i j one other =
     let same : one.entry ≡ other.entry = cc in
     sym one.of_item ∙ ap (λ (e : Entry). e.item) same ∙ other.of_item
 
-pub MayBeOver-one : (s : State) (r : Running) (b c : ℕ) → MayBeOver s b r → MayBeOver s c r → b ≡ c
-MayBeOver-one s r b c one other =
+pub MayBeOver-one : (w : Wiring) (s : State) (r : Running) (whole other_kind : Bool) (b c : ℕ) → MayBeOver w s whole b r → MayBeOver w s other_kind c r → b ≡ c
+MayBeOver-one w s r whole other_kind b c one other =
     let both : Some one.flush ≡ Some other.flush = sym one.waits ∙ other.waits in
     let same : one.flush ≡ other.flush = cc in
     sym one.target ∙ ap (λ (f : Waiting). f.target) same ∙ other.target
 
 pub over-one : (w : Wiring) (s : State) (q b c : ℕ) → Lawful w s (Over q b) → Lawful w s (Over q c) → b ≡ c
 over-one w s q b c (r, runs, may) (x, other, may_too) =
-    MayBeOver-one s r b c may (subst (MayBeOver s c) (sym (same_running (lane_at s q) r x runs other)) may_too)
+    MayBeOver-one w s r false false b c may (subst (MayBeOver w s false c) (sym (same_running (lane_at s q) r x runs other)) may_too)
 
 pub finish-one : (w : Wiring) (s : State) (q i j : ℕ) → Lawful w s (Finish q i) → Lawful w s (Finish q j) → i ≡ j
 finish-one w s q i j (r, runs, may) (x, other, may_too) =
@@ -51,9 +51,9 @@ start-item w s q i sound may =
 -- ---- what runs waits for a declared target
 
 pub waiting-declared : (w : Wiring) (s : State) (q : ℕ) (r : Running) (f : Waiting) → IsSoundState w s → Runs (lane_at s q) r → r.waiting ≡ Some f
-    → ItemWaits w.waits r.entry.item f.target
+    → ItemWaitsBy w.waits f.whole r.entry.item f.target
 waiting-declared w s q r f sound runs waits = ((sound.running q r runs).waits f waits).1
 
 pub waiting-target : (w : Wiring) (s : State) (q : ℕ) (r : Running) (f : Waiting) → IsWiring w → IsSoundState w s → Runs (lane_at s q) r → r.waiting ≡ Some f
     → f.target < items w
-waiting-target w s q r f wiring sound runs waits = ItemWaits-below (items w) w.waits wiring.targets_are_items r.entry.item f.target (waiting-declared w s q r f sound runs waits)
+waiting-target w s q r f wiring sound runs waits = ItemWaits-below (items w) w.waits wiring.targets_are_items r.entry.item f.target (ItemWaits-by w.waits f.whole r.entry.item f.target (waiting-declared w s q r f sound runs waits))

@@ -2,6 +2,7 @@ pub mod Changes
 pub mod CircleKnots
 pub mod DeclaredSteps
 pub mod FirstMachines
+pub mod WaitSteps
 pub mod Knots
 pub mod KnotRuns
 pub mod LaneCircles

@@ -9,7 +9,7 @@ use borrow.Author.Tests.{ltb-true}
 use Rattle.wq_items.proofs.Lists.{Contains-first, Contains-later, Contains-filtered, AllPairs-head}
 use Rattle.wq_core.specs.declared.entry.Entry.{Entry}
 use Rattle.wq_core.specs.declared.step.Step.{Step}
-use Rattle.wq_core.specs.declared.step.Step.TheVariants.{Queue, Cancel, Start, Wait, Over, Finish}
+use Rattle.wq_core.specs.declared.step.Step.TheVariants.{Queue, Cancel, Start, Wait, Over, WaitAll, OverAll, Finish}
 use Rattle.wq_core.specs.Wiring.{Wiring, items, lane_of}
 use Rattle.wq_core.specs.State.{Lane, State, lane_at, with_lane, empty_state, IsPendingOn, HasPending}
 use Rattle.wq_core.specs.Rules.{Lawful, effect, with_queued, with_cancelled, with_started, with_wait, with_over, with_finished}
@@ -25,6 +25,8 @@ numbers_after s (Cancel i) numbers = set numbers i None
 numbers_after s (Start q i) numbers = set numbers i None
 numbers_after s (Wait q b) numbers = numbers
 numbers_after s (Over q b) numbers = numbers
+numbers_after s (WaitAll q b) numbers = numbers
+numbers_after s (OverAll q b) numbers = numbers
 numbers_after s (Finish q i) numbers = numbers
 
 -- ---- before anything is queued
@@ -208,8 +210,10 @@ IsNumbering-effect w s (Start q i) numbers sound within may before =
     let first : IsPendingOn (lane_at s q) may.entry = Contains-first (lane_at s q).pending may.entry may.first in
     let own : lane_of w i ≡ q = subst (λ j. lane_of w j ≡ q) may.of_item (sound.own_lane q may.entry (inl first)).1 in
     IsNumbering-taken w s q i (with_started (lane_at s q)) sound own (lane_within s q may.entry (inl first)) (IsWithout-started i (lane_at s q).pending may.entry may.first may.of_item (sound.once q)) numbers before
-IsNumbering-effect w s (Wait q b) numbers sound within lawful before = IsNumbering-kept w s q (with_wait b s.next (lane_at s q)) numbers refl before
+IsNumbering-effect w s (Wait q b) numbers sound within lawful before = IsNumbering-kept w s q (with_wait false b s.next (lane_at s q)) numbers refl before
+IsNumbering-effect w s (WaitAll q b) numbers sound within lawful before = IsNumbering-kept w s q (with_wait true b s.next (lane_at s q)) numbers refl before
 IsNumbering-effect w s (Over q b) numbers sound within lawful before = IsNumbering-kept w s q (with_over (lane_at s q)) numbers refl before
+IsNumbering-effect w s (OverAll q b) numbers sound within lawful before = IsNumbering-kept w s q (with_over (lane_at s q)) numbers refl before
 IsNumbering-effect w s (Finish q i) numbers sound within lawful before = IsNumbering-kept w s q (with_finished (lane_at s q)) numbers refl before
 
 -- ---- what it answers

@@ -7,9 +7,9 @@ use Rattle.wq_core.specs.declared.entry.Entry.{Entry}
 use Rattle.wq_core.specs.declared.entry.Waiting.{Waiting}
 use Rattle.wq_core.specs.declared.entry.Running.{Running}
 use Rattle.wq_core.specs.declared.step.Step.{Step}
-use Rattle.wq_core.specs.declared.step.Step.TheVariants.{Queue, Cancel, Start, Wait, Over, Finish}
+use Rattle.wq_core.specs.declared.step.Step.TheVariants.{Queue, Cancel, Start, Wait, Over, WaitAll, OverAll, Finish}
 use Rattle.wq_core.specs.Wiring.{Wiring}
-use Rattle.wq_core.specs.State.{State, lane_at, HasPending}
+use Rattle.wq_core.specs.State.{State, lane_at, HasPending, Runs}
 use Rattle.wq_core.specs.Rules.{Lawful, Gives}
 use Rattle.wq_core.specs.Runs.{IsRun, end_of}
 use Rattle.wq_core.specs.Held.{IsSoundState}
@@ -41,6 +41,17 @@ pending-one w s i sound g h =
 
 -- ---- at most one number
 
+-- what runs waits with this mark
+abbrev WaitsWith : State → ℕ → ℕ → Type 0
+WaitsWith s q n = (r : Running) × Runs (lane_at s q) r × ((f : Waiting) × (r.waiting ≡ Some f) × (f.mark ≡ n))
+
+marks-one : (s : State) (q n m : ℕ) → WaitsWith s q n → WaitsWith s q m → n ≡ m
+marks-one s q n m (r, runs, (f, waits, one)) (x, runs_too, (g, waits_too, other)) =
+    let same : r ≡ x = same_running (lane_at s q) r x runs runs_too in
+    let both : Some f ≡ Some g = sym waits ∙ ap (λ (y : Running). y.waiting) same ∙ waits_too in
+    let flush : f ≡ g = cc in
+    sym one ∙ ap (λ (y : Waiting). y.mark) flush ∙ other
+
 pub Gives-one : (w : Wiring) (s : State) (step : Step) (n m : ℕ) → IsSoundState w s → Gives s step n → Gives s step m → n ≡ m
 Gives-one w s (Queue i) n m sound one other = one ∙ sym other
 Gives-one w s (Cancel i) n m sound (g, one) (h, other) = sym one ∙ ap (λ (e : Entry). e.number) (pending-one w s i sound g h) ∙ other
@@ -49,11 +60,9 @@ Gives-one w s (Start q i) n m sound (e, first, one) (f, first_too, other) =
     let same : e ≡ f = cc in
     sym one ∙ ap (λ (x : Entry). x.number) same ∙ other
 Gives-one w s (Wait q b) n m sound one other = one ∙ sym other
-Gives-one w s (Over q b) n m sound (r, runs, (f, waits, one)) (x, runs_too, (g, waits_too, other)) =
-    let same : r ≡ x = same_running (lane_at s q) r x runs runs_too in
-    let both : Some f ≡ Some g = sym waits ∙ ap (λ (y : Running). y.waiting) same ∙ waits_too in
-    let flush : f ≡ g = cc in
-    sym one ∙ ap (λ (y : Waiting). y.mark) flush ∙ other
+Gives-one w s (Over q b) n m sound one other = marks-one s q n m one other
+Gives-one w s (WaitAll q b) n m sound one other = one ∙ sym other
+Gives-one w s (OverAll q b) n m sound one other = marks-one s q n m one other
 Gives-one w s (Finish q i) n m sound (r, runs, one) (x, runs_too, other) =
     sym one ∙ ap (λ (y : Running). y.entry.number) (same_running (lane_at s q) r x runs runs_too) ∙ other
 
@@ -68,4 +77,6 @@ Gives-some w s (Cancel i) lawful = (lawful.entry.number, (lawful, refl))
 Gives-some w s (Start q i) lawful = (lawful.entry.number, (lawful.entry, lawful.first, refl))
 Gives-some w s (Wait q b) lawful = (s.next, refl)
 Gives-some w s (Over q b) (r, runs, may) = (may.flush.mark, (r, runs, (may.flush, may.waits, refl)))
+Gives-some w s (WaitAll q b) lawful = (s.next, refl)
+Gives-some w s (OverAll q b) (r, runs, may) = (may.flush.mark, (r, runs, (may.flush, may.waits, refl)))
 Gives-some w s (Finish q i) (r, runs, may) = (r.entry.number, (r, runs, refl))

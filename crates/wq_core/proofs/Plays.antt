@@ -8,13 +8,14 @@ use Rattle.std.proofs.lemmas.List.Sums.{sum_by-cons}
 use Rattle.wq_items.specs.declared.target.Target.{Target}
 use Rattle.wq_core.specs.declared.entry.Running.{Running}
 use Rattle.wq_core.specs.declared.step.Step.{Step}
-use Rattle.wq_core.specs.declared.step.Step.TheVariants.{Queue, Cancel, Start, Wait, Over, Finish}
+use Rattle.wq_core.specs.declared.step.Step.TheVariants.{Queue, Cancel, Start, Wait, Over, WaitAll, OverAll, Finish}
 use Rattle.wq_core.specs.Wiring.{Wiring, declared_by}
 use Rattle.wq_core.specs.State.{State, lane_at, Runs}
-use Rattle.wq_core.specs.Rules.{Lawful, effect}
+use Rattle.wq_core.specs.Rules.{Lawful, effect, wait_of}
 use Rattle.wq_core.specs.Runs.{after, IsRunFrom, IsRescuerStep, AsDeclaredFrom, IsCancel, queues}
 use Rattle.wq_core.specs.Held.{IsSoundState}
 use Rattle.wq_core.specs.Played.{IsStepOfLane, IsDeclaredStep, HasNoDeclaredStep, IsPlayedFrom}
+use Rattle.wq_core.proofs.WaitSteps.{lawful-waits, in_order-next, of_lane-wait_of}
 use Rattle.wq_core.proofs.Queued.{one_if}
 
 -- ---- one run after another
@@ -49,6 +50,8 @@ IsRescuerStep-of_lane q (Cancel i) is = is
 IsRescuerStep-of_lane q (Start p i) is = tt
 IsRescuerStep-of_lane q (Wait p b) is = tt
 IsRescuerStep-of_lane q (Over p b) is = tt
+IsRescuerStep-of_lane q (WaitAll p b) is = tt
+IsRescuerStep-of_lane q (OverAll p b) is = tt
 IsRescuerStep-of_lane q (Finish p i) is = tt
 
 no_cancel-of_lane : (q : ℕ) (step : Step) → IsStepOfLane q step → ¬ IsCancel step
@@ -57,6 +60,8 @@ no_cancel-of_lane q (Cancel i) is cancel = is
 no_cancel-of_lane q (Start p i) is cancel = cancel
 no_cancel-of_lane q (Wait p b) is cancel = cancel
 no_cancel-of_lane q (Over p b) is cancel = cancel
+no_cancel-of_lane q (WaitAll p b) is cancel = cancel
+no_cancel-of_lane q (OverAll p b) is cancel = cancel
 no_cancel-of_lane q (Finish p i) is cancel = cancel
 
 queues-of_lane : (i q : ℕ) (step : Step) → IsStepOfLane q step → one_if (queues i step) ≡ 0
@@ -65,6 +70,8 @@ queues-of_lane i q (Cancel j) is = absurd is
 queues-of_lane i q (Start p j) is = refl
 queues-of_lane i q (Wait p b) is = refl
 queues-of_lane i q (Over p b) is = refl
+queues-of_lane i q (WaitAll p b) is = refl
+queues-of_lane i q (OverAll p b) is = refl
 queues-of_lane i q (Finish p j) is = refl
 
 -- ---- played runs
@@ -96,9 +103,9 @@ HasNoDeclaredStep-played w s (step ∷ steps) played = HasNoDeclaredStep-played 
 
 -- ---- if a rescuer can move, its lane can move as declared
 
-next_target : (ts : List Target) (k : ℕ) → k < length ts → (t : Target) × (slice_get ts k ≡ Some t) × Any (λ (u : Target). u.item ≡ t.item) ts
+next_target : (ts : List Target) (k : ℕ) → k < length ts → (t : Target) × (slice_get ts k ≡ Some t) × Any (λ (u : Target). (u.item ≡ t.item) × (u.whole ≡ t.whole)) ts
 next_target [] k lt = absurd (omega arith)
-next_target (t ∷ ts) zero lt = (t, refl, (0, t, omega arith, refl, refl))
+next_target (t ∷ ts) zero lt = (t, refl, (0, t, omega arith, refl, (refl, refl)))
 next_target (t ∷ ts) (suc k) lt = let next = next_target ts k (omega arith) in (next.0, next.1, (suc next.2.0, next.2.1, omega (arith, next.2.2), next.2.3, next.2.4))
 
 -- an entry that runs and isn't waiting makes its next declared wait, or finishes after the last
@@ -106,11 +113,11 @@ pub awake_moves : (w : Wiring) (s : State) (q : ℕ) (r : Running) → IsSoundSt
 awake_moves w s q r sound runs awake = elim (cases_lt r.made (length (declared_by w r.entry.item))) [
   | inl before ↦ (
       let next = next_target (declared_by w r.entry.item) r.made before in (
-        Wait q next.0.item,
+        wait_of next.0.whole q next.0.item,
         record {
-          of_lane = refl;
-          lawful = (r, runs, record { awake = awake; declared = next.2; fewer = before });
-          in_order = (r, runs, (next.0, next.1, refl));
+          of_lane = of_lane-wait_of q next.0.whole next.0.item;
+          lawful = lawful-waits w s q next.0.whole next.0.item (r, runs, record { awake = awake; declared = next.2; fewer = before });
+          in_order = in_order-next w s q next.0.whole next.0.item (r, runs, (next.0, next.1, refl, refl));
         },
       )
       )
@@ -126,6 +133,8 @@ moves_as_declared w s (Cancel i) sound is lawful = absurd is
 moves_as_declared w s (Start q i) sound is lawful = (q, Start q i, record { of_lane = refl; lawful = lawful; in_order = tt })
 moves_as_declared w s (Wait q b) sound is (r, runs, may) = let move = awake_moves w s q r sound runs may.awake in (q, move.0, move.1)
 moves_as_declared w s (Over q b) sound is lawful = (q, Over q b, record { of_lane = refl; lawful = lawful; in_order = tt })
+moves_as_declared w s (WaitAll q b) sound is (r, runs, may) = let move = awake_moves w s q r sound runs may.awake in (q, move.0, move.1)
+moves_as_declared w s (OverAll q b) sound is lawful = (q, OverAll q b, record { of_lane = refl; lawful = lawful; in_order = tt })
 moves_as_declared w s (Finish q i) sound is (r, runs, may) = let move = awake_moves w s q r sound runs may.awake in (q, move.0, move.1)
 
 pub no_step-played : (w : Wiring) (s : State) (steps : List Step) → IsPlayedFrom w s steps → IsSoundState w (after w s steps)

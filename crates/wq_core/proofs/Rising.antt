@@ -11,7 +11,7 @@ use borrow.Author.Tests.{ltb-true}
 use Rattle.wq_items.proofs.Lists.{AllPairs-head, AllPairs-tail}
 use Rattle.wq_core.specs.declared.entry.Entry.{Entry}
 use Rattle.wq_core.specs.declared.step.Step.{Step}
-use Rattle.wq_core.specs.declared.step.Step.TheVariants.{Queue, Cancel, Start, Wait, Over, Finish}
+use Rattle.wq_core.specs.declared.step.Step.TheVariants.{Queue, Cancel, Start, Wait, Over, WaitAll, OverAll, Finish}
 use Rattle.wq_core.specs.Wiring.{Wiring, lane_of}
 use Rattle.wq_core.specs.State.{Lane, State, lane_at, with_lane}
 use Rattle.wq_core.specs.Rules.{effect, with_queued, with_cancelled, with_started, with_wait, with_over, with_finished}
@@ -97,6 +97,8 @@ IsRising-effect w s (Cancel i) sound each =
     let q : ℕ = lane_of w i in
     IsRising-with_lane s q (with_cancelled i (lane_at s q)) (AllPairs-filter Rise (λ (e : Entry). not (eqb e.item i)) (lane_at s q).pending (each q)) each
 IsRising-effect w s (Start q i) sound each = IsRising-with_lane s q (with_started (lane_at s q)) (drop_rising (lane_at s q).pending (each q)) each
-IsRising-effect w s (Wait q b) sound each = IsRising-with_lane s q (with_wait b s.next (lane_at s q)) (each q) each
+IsRising-effect w s (Wait q b) sound each = IsRising-with_lane s q (with_wait false b s.next (lane_at s q)) (each q) each
+IsRising-effect w s (WaitAll q b) sound each = IsRising-with_lane s q (with_wait true b s.next (lane_at s q)) (each q) each
 IsRising-effect w s (Over q b) sound each = IsRising-with_lane s q (with_over (lane_at s q)) (each q) each
+IsRising-effect w s (OverAll q b) sound each = IsRising-with_lane s q (with_over (lane_at s q)) (each q) each
 IsRising-effect w s (Finish q i) sound each = IsRising-with_lane s q (with_finished (lane_at s q)) (each q) each

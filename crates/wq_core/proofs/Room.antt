@@ -13,8 +13,8 @@ use Rattle.wq_core.specs.declared.entry.Entry.{Entry}
 use Rattle.wq_core.specs.declared.entry.Running.{Running}
 use Rattle.wq_core.specs.declared.step.Step.TheVariants.{Queue, Cancel, Start, Wait}
 use Rattle.wq_core.specs.Wiring.{Wiring, IsWiring, items, lane_of}
-use Rattle.wq_core.specs.State.{Lane, State, lane_at, IsPendingOn}
-use Rattle.wq_core.specs.Rules.{Lawful, effect, with_queued}
+use Rattle.wq_core.specs.State.{Lane, State, lane_at, IsPendingOn, Runs}
+use Rattle.wq_core.specs.Rules.{Lawful, effect, with_queued, MayWait, wait_of}
 use Rattle.wq_core.specs.Held.{IsSoundState, IsRising, HeldLane, Machine, machine_of, IsHeld, IsMachine, IsNumberOf}
 use Rattle.wq_core.proofs.LaneLemmas.{lane_at-with_lane_same}
 use Rattle.wq_core.proofs.Sound.{Differ, IsSoundState-effect}
@@ -138,14 +138,17 @@ module _ (waits : List (List Target)) (lane_of_item : List ℕ) (numbers : List 
       let longer : length (lane_at after q).pending ≡ length old.lane.pending + 1 = ap (λ (l : Lane). length l.pending) lane ∙ length-append old.lane.pending (e ∷ []) in
       omega (arith, count, longer, held.room q old was)
 
-  pub wait_fits : (b : ℕ) → IsNumberOf m (Wait q b) (Some n) → IfSome old.lane.running (λ (r : Running). r.made + 1 < 4294967296)
-  wait_fits b number =
-      let (r, runs, may) = number.0 in
+  waiting_fits : (whole : Bool) (b : ℕ) → (r : Running) × Runs (lane_at m.state q) r × MayWait m.wiring whole b r → IfSome old.lane.running (λ (r : Running). r.made + 1 < 4294967296)
+  waiting_fits whole b (r, runs, may) =
       let sound : IsMachine m = subst IsMachine view held.machine in
       let there : r.entry.item < items m.wiring = running-item m.wiring m.state q r sound.state runs in
       let few = get_or-le-sum_by length m.wiring.waits r.entry.item [] there in
       let is : old.lane.running ≡ Some r = ap (λ (l : Lane). l.running) (sym (held_lane waits lane_of_item numbers lanes next q old was) ∙ ap (λ (k : Machine). lane_at k.state q) view) ∙ runs in
       subst (λ (o : Option Running). IfSome o (λ (x : Running). x.made + 1 < 4294967296)) (sym is) (omega (arith, may.fewer, few, sound.few_flushes))
+
+  pub wait_fits : (whole : Bool) (b : ℕ) → IsNumberOf m (wait_of whole q b) (Some n) → IfSome old.lane.running (λ (r : Running). r.made + 1 < 4294967296)
+  wait_fits false b number = waiting_fits false b number.0
+  wait_fits true b number = waiting_fits true b number.0
 
   -- the entry that is cancelled is one of the lane's, whose numbers rise and of which each item has one
   pub cancel_pending : (i : ℕ) → q ≡ lane_of m.wiring i → IsNumberOf m (Cancel i) (Some n) → IsPendingOn old.lane (record { number = n; item = i })

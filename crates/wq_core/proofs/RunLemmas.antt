@@ -7,7 +7,7 @@ use Rattle.wq_items.specs.declared.target.Target.{Target}
 use Rattle.wq_core.specs.declared.entry.Entry.{Entry}
 use Rattle.wq_core.specs.declared.entry.Running.{Running}
 use Rattle.wq_core.specs.declared.step.Step.{Step}
-use Rattle.wq_core.specs.declared.step.Step.TheVariants.{Queue, Cancel, Start, Wait, Over, Finish}
+use Rattle.wq_core.specs.declared.step.Step.TheVariants.{Queue, Cancel, Start, Wait, Over, WaitAll, OverAll, Finish}
 use Rattle.wq_core.specs.Wiring.{Wiring}
 use Rattle.wq_core.specs.State.{Lane, State, idle_lane, lane_at, IsUnfinishedOn, HasUnfinished}
 use Rattle.wq_core.specs.Rules.{Lawful, effect}
@@ -34,6 +34,8 @@ next-effect w s (Cancel i) = omega arith
 next-effect w s (Start q i) = omega arith
 next-effect w s (Wait q b) = omega arith
 next-effect w s (Over q b) = omega arith
+next-effect w s (WaitAll q b) = omega arith
+next-effect w s (OverAll q b) = omega arith
 next-effect w s (Finish q i) = omega arith
 
 pub IsRunFrom-more : (w : Wiring) (s : State) (steps : List Step) (step : Step) → IsRunFrom w s steps → Lawful w (after w s steps) step → IsRunFrom w s (steps ++ (step ∷ []))

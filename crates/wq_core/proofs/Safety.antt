@@ -1,18 +1,20 @@
 -- If numbers of lanes fall along every declared flush, no run ends stuck.
-use Rattle.std.proofs.Common.{◌≡◌, ℕ, zero, suc, ◌+◌, ◌<◌, inl, inr, List, [], ◌∷◌, Option, Some, None, refl, sym, ap, subst, ◌∙◌, arith}
+use Rattle.std.proofs.Common.{◌≡◌, ℕ, zero, suc, ◌+◌, ◌<◌, inl, inr, List, [], ◌∷◌, Option, Some, None, refl, sym, ap, subst, ◌∙◌, arith, Bool, true, false}
 use Rattle.std.specs.Prelude.{Contains, slice_get}
 use Rattle.wq_items.specs.Table.{ItemWaits}
 use Rattle.wq_core.specs.declared.entry.Entry.{Entry}
 use Rattle.wq_core.specs.declared.entry.Waiting.{Waiting}
 use Rattle.wq_core.specs.declared.entry.Running.{Running}
 use Rattle.wq_core.specs.declared.step.Step.{Step}
-use Rattle.wq_core.specs.declared.step.Step.TheVariants.{Start, Over, Finish}
+use Rattle.wq_core.specs.declared.step.Step.TheVariants.{Start, Over, OverAll, Finish}
 use Rattle.wq_core.specs.Wiring.{Wiring, lane_of}
-use Rattle.wq_core.specs.State.{Lane, State, lane_at, Runs, IsPendingOn, IsUnfinishedOn, HasUnfinishedBelow}
-use Rattle.wq_core.specs.Rules.{MayStart, Lawful}
+use Rattle.wq_core.specs.State.{Lane, State, lane_at, Runs, IsPendingOn, IsUnfinishedOn}
+use Rattle.wq_core.specs.Rules.{IsHeldBack, MayStart, Lawful}
 use Rattle.wq_core.specs.Runs.{end_of, IsRescuerStep}
 use Rattle.wq_core.specs.Held.{IsSoundState}
 use Rattle.wq_core.specs.Deadlock.{IsSafe}
+use Rattle.wq_core.proofs.LaneLemmas.{ItemWaits-by}
+use Rattle.wq_core.proofs.Machines.{unfinished-own_lane}
 use Rattle.wq_core.proofs.Sound.{IsSoundState-end_of}
 
 -- an idle lane on which an entry is pending may start one
@@ -36,19 +38,23 @@ Falls w number = (i j : ℕ) → ItemWaits w.waits i j → number (lane_of w j) 
 abbrev NoneBelow : State → (ℕ → ℕ) → ℕ → Type 0
 NoneBelow s number n = (p : ℕ) → number p < n → (e : Entry) → ¬ IsUnfinishedOn (lane_at s p) e
 
+-- what holds a wait back is on the lane of its target
+unfinished-held_back : (w : Wiring) (s : State) (whole : Bool) (b mark : ℕ) → IsSoundState w s → IsHeldBack w s whole b mark
+    → (e : Entry) × IsUnfinishedOn (lane_at s (lane_of w b)) e
+unfinished-held_back w s false b mark sound h = (h.entry, subst (λ (p : ℕ). IsUnfinishedOn (lane_at s p) h.entry) (unfinished-own_lane w s b mark sound h).1 h.unfinished)
+unfinished-held_back w s true b mark sound h = (h.entry, h.unfinished)
+
 -- the wait of a lane's context is over if nothing is unfinished on lanes with lower numbers
 wait_is_over : (w : Wiring) (s : State) (number : ℕ → ℕ) (q : ℕ) (r : Running) (flush : Waiting) → Falls w number
     → IsSoundState w s → NoneBelow s number (number q) → Runs (lane_at s q) r → r.waiting ≡ Some flush
-    → ¬ HasUnfinishedBelow s flush.target flush.mark
-wait_is_over w s number q r flush falls sound none runs waits below =
+    → ¬ IsHeldBack w s flush.whole flush.target flush.mark
+wait_is_over w s number q r flush falls sound none runs waits held =
     let own : lane_of w r.entry.item ≡ q = (sound.own_lane q r.entry (inr (r, runs, refl))).1 in
-    let there : lane_of w below.entry.item ≡ below.lane = (sound.own_lane below.lane below.entry below.unfinished).1 in
-    let target : lane_of w flush.target ≡ below.lane = ap (lane_of w) (sym below.of_item) ∙ there in
+    let (e, left) = unfinished-held_back w s flush.whole flush.target flush.mark sound held in
     let lower : number (lane_of w flush.target) < number (lane_of w r.entry.item) =
-    falls r.entry.item flush.target ((sound.running q r runs).waits flush waits).1 in
-    let less : number below.lane < number q =
-    subst (λ (p : ℕ). number p < number q) target (subst (λ (p : ℕ). number (lane_of w flush.target) < number p) own lower) in
-    none below.lane less below.entry below.unfinished
+    falls r.entry.item flush.target (ItemWaits-by w.waits flush.whole r.entry.item flush.target ((sound.running q r runs).waits flush waits).1) in
+    let less : number (lane_of w flush.target) < number q = subst (λ (p : ℕ). number (lane_of w flush.target) < number p) own lower in
+    none (lane_of w flush.target) less e left
 
 none_on : (w : Wiring) (s : State) (number : ℕ → ℕ) (q : ℕ) → Falls w number → IsSoundState w s → NoStep w s
     → NoneBelow s number (number q) → (e : Entry) → ¬ IsUnfinishedOn (lane_at s q) e
@@ -56,9 +62,15 @@ none_on w s number q falls sound no_step none e unfinished = by_running (lane_at
   where
     by_waiting : (r : Running) → Runs (lane_at s q) r → (o : Option Waiting) → r.waiting ≡ o → ⊥
     by_waiting r runs None waits = no_step (Finish q r.entry.item) tt (r, runs, record { entry = refl; awake = waits })
-    by_waiting r runs (Some flush) waits =
-        let done = wait_is_over w s number q r flush falls sound none runs waits in
-        no_step (Over q flush.target) tt (r, runs, record { flush = flush; waits = waits; target = refl; done = done })
+    by_waiting r runs (Some flush) waits = goes_on flush.whole refl
+      where
+        goes_on : (whole : Bool) → flush.whole ≡ whole → ⊥
+        goes_on false kind =
+            let done = subst (λ (k : Bool). ¬ IsHeldBack w s k flush.target flush.mark) kind (wait_is_over w s number q r flush falls sound none runs waits) in
+            no_step (Over q flush.target) tt (r, runs, record { flush = flush; waits = waits; kind = kind; target = refl; done = done })
+        goes_on true kind =
+            let done = subst (λ (k : Bool). ¬ IsHeldBack w s k flush.target flush.mark) kind (wait_is_over w s number q r flush falls sound none runs waits) in
+            no_step (OverAll q flush.target) tt (r, runs, record { flush = flush; waits = waits; kind = kind; target = refl; done = done })
 
     by_running : (o : Option Running) → (lane_at s q).running ≡ o → ⊥
     by_running None idle = elim unfinished [

@@ -1,17 +1,17 @@
 -- What holds for every state after a run.
-use Rattle.std.proofs.Common.{◌≡◌, ◌≢◌, ℕ, ◌+◌, ◌<◌, ◌≤◌, ◌⊎◌, inl, inr, Bool, not, eqb, List, [], ◌∷◌, length, get_or, Option, Some, None, refl, sym, ap, subst, ◌∙◌, arith}
+use Rattle.std.proofs.Common.{◌≡◌, ◌≢◌, ℕ, ◌+◌, ◌<◌, ◌≤◌, ◌⊎◌, inl, inr, Bool, not, eqb, List, [], ◌∷◌, length, get_or, Option, Some, None, refl, sym, ap, subst, ◌∙◌, arith, true, false}
 use Rattle.std.specs.Prelude.{AllPairs, slice_get, option_map}
 use Rattle.std.proofs.lemmas.List.{length-set, length-replicate}
 use Rattle.std.proofs.lemmas.List.Elements.{Contains-get_or, Contains-push_cases}
 use Rattle.std.proofs.lemmas.List.Quantifiers.{all_pairs_push}
-use Rattle.wq_items.specs.Table.{ItemWaits}
+use Rattle.wq_items.specs.Table.{ItemWaitsBy}
 use Rattle.std.proofs.lemmas.List.Kept.{AllPairs-filter}
 use Rattle.wq_items.proofs.Lists.{Contains-later, AllPairs-tail}
 use Rattle.wq_core.specs.declared.entry.Entry.{Entry}
 use Rattle.wq_core.specs.declared.entry.Waiting.{Waiting}
 use Rattle.wq_core.specs.declared.entry.Running.{Running}
 use Rattle.wq_core.specs.declared.step.Step.{Step}
-use Rattle.wq_core.specs.declared.step.Step.TheVariants.{Queue, Cancel, Start, Wait, Over, Finish}
+use Rattle.wq_core.specs.declared.step.Step.TheVariants.{Queue, Cancel, Start, Wait, Over, WaitAll, OverAll, Finish}
 use Rattle.wq_core.specs.Wiring.{Wiring, items, lane_of, declared_by}
 use Rattle.wq_core.specs.State.{Lane, State, idle_lane, lane_at, with_lane, empty_state, Runs, IsUnfinishedOn, HasPending, IsPendingOn}
 use Rattle.wq_core.specs.Rules.{MayWait, MayStart, Lawful, with_queued, with_cancelled, with_started, with_wait, with_over, with_finished, effect}
@@ -183,26 +183,26 @@ IsSoundLane-finished w next q lane sound = IsSoundLane-less w next q lane (with_
   | inr (x, runs, same) ↦ absurd cc
 ]) sound.once (λ x runs. absurd cc)
 
-IsSoundRunning-wait : (w : Wiring) (b mark : ℕ) (r : Running) → MayWait w b r
-    → IsSoundRunning w (record r { made = r.made + 1; waiting = Some (record { target = b; mark = mark }) })
-IsSoundRunning-wait w b mark r may = record {
+IsSoundRunning-wait : (w : Wiring) (whole : Bool) (b mark : ℕ) (r : Running) → MayWait w whole b r
+    → IsSoundRunning w (record r { made = r.made + 1; waiting = Some (record { target = b; whole = whole; mark = mark }) })
+IsSoundRunning-wait w whole b mark r may = record {
   made = let fewer : r.made < length (declared_by w r.entry.item) = may.fewer in omega arith;
   waits = λ f is.
-      let flush : Waiting = record { target = b; mark = mark } in
+      let flush : Waiting = record { target = b; whole = whole; mark = mark } in
       let at : flush ≡ f = cc in
-      (omega arith, subst (λ (g : Waiting). ItemWaits w.waits r.entry.item g.target) at may.declared);
+      (omega arith, subst (λ (g : Waiting). ItemWaitsBy w.waits g.whole r.entry.item g.target) at may.declared);
 }
 
 IsSoundRunning-over : (w : Wiring) (r : Running) → IsSoundRunning w r → IsSoundRunning w (record r { waiting = None })
 IsSoundRunning-over w r sound = record { made = sound.made; waits = λ f is. absurd cc }
 
-IsSoundLane-waiting : (w : Wiring) (next q b mark : ℕ) (lane : Lane) (r : Running) → Runs lane r → MayWait w b r
-    → IsSoundLane w next q lane → IsSoundLane w next q (with_wait b mark lane)
-IsSoundLane-waiting w next q b mark lane r runs may sound =
-    let flush : Waiting = record { target = b; mark = mark } in
+IsSoundLane-waiting : (w : Wiring) (next q : ℕ) (whole : Bool) (b mark : ℕ) (lane : Lane) (r : Running) → Runs lane r → MayWait w whole b r
+    → IsSoundLane w next q lane → IsSoundLane w next q (with_wait whole b mark lane)
+IsSoundLane-waiting w next q whole b mark lane r runs may sound =
+    let flush : Waiting = record { target = b; whole = whole; mark = mark } in
     let begins : Running → Running = λ (x : Running). record x { made = x.made + 1; waiting = Some flush } in
     IsSoundLane-going_on w next q lane begins (λ x. refl) (λ x other.
-    IsSoundRunning-wait w b mark x (subst (MayWait w b) (same_running lane r x runs other) may)
+    IsSoundRunning-wait w whole b mark x (subst (MayWait w whole b) (same_running lane r x runs other) may)
     ) sound
 
 IsSoundLane-over : (w : Wiring) (next q : ℕ) (lane : Lane) → IsSoundLane w next q lane
@@ -221,6 +221,17 @@ not_pending s q i none k d within same =
     let there : IsPendingOn (lane_at s q) (get_or (lane_at s q).pending k d) = Contains-get_or (lane_at s q).pending k d within in
     none (record { lane = q; entry = get_or (lane_at s q).pending k d; pending = there; of_item = same })
 
+IsSoundState-waiting : (w : Wiring) (s : State) (q : ℕ) (whole : Bool) (b : ℕ) → IsSoundState w s → (r : Running) → Runs (lane_at s q) r → MayWait w whole b r
+    → IsSoundState w (with_lane s q (with_wait whole b s.next (lane_at s q)))
+IsSoundState-waiting w s q whole b sound r runs may =
+    let lane : Lane = lane_at s q in
+    IsSoundState-with_lane_now w s q (with_wait whole b s.next lane) sound (IsSoundLane-waiting w s.next q whole b s.next lane r runs may)
+
+IsSoundState-over : (w : Wiring) (s : State) (q : ℕ) → IsSoundState w s → IsSoundState w (with_lane s q (with_over (lane_at s q)))
+IsSoundState-over w s q sound =
+    let lane : Lane = lane_at s q in
+    IsSoundState-with_lane_now w s q (with_over lane) sound (IsSoundLane-over w s.next q lane)
+
 pub IsSoundState-effect : (w : Wiring) (s : State) (step : Step) → IsSoundState w s → Lawful w s step
     → IsSoundState w (effect w s step)
 IsSoundState-effect w s (Queue i) sound (below, none) =
@@ -236,13 +247,10 @@ IsSoundState-effect w s (Cancel i) sound lawful =
 IsSoundState-effect w s (Start q i) sound lawful =
     let lane : Lane = lane_at s q in
     IsSoundState-with_lane_now w s q (with_started lane) sound (IsSoundLane-started w s.next q i lane lawful)
-IsSoundState-effect w s (Wait q b) sound (r, runs, may) =
-    let lane : Lane = lane_at s q in
-    let keeps = IsSoundLane-waiting w s.next q b s.next lane r runs may in
-    IsSoundState-with_lane_now w s q (with_wait b s.next lane) sound keeps
-IsSoundState-effect w s (Over q b) sound lawful =
-    let lane : Lane = lane_at s q in
-    IsSoundState-with_lane_now w s q (with_over lane) sound (IsSoundLane-over w s.next q lane)
+IsSoundState-effect w s (Wait q b) sound (r, runs, may) = IsSoundState-waiting w s q false b sound r runs may
+IsSoundState-effect w s (WaitAll q b) sound (r, runs, may) = IsSoundState-waiting w s q true b sound r runs may
+IsSoundState-effect w s (Over q b) sound lawful = IsSoundState-over w s q sound
+IsSoundState-effect w s (OverAll q b) sound lawful = IsSoundState-over w s q sound
 IsSoundState-effect w s (Finish q i) sound lawful =
     let lane : Lane = lane_at s q in
     IsSoundState-with_lane_now w s q (with_finished lane) sound (IsSoundLane-finished w s.next q lane)

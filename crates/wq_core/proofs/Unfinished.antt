@@ -1,13 +1,14 @@
 -- What is unfinished on a lane, and the tests for it.
-use Rattle.std.proofs.Common.{◌≡◌, ℕ, ◌<◌, ◌↔◌, Bool, true, false, rules, refl, ◌∙◌, ap, arith, inl, inr}
-use Rattle.std.specs.Prelude.{IsTrue, ◌||◌, Option, Some, None}
+use Rattle.std.proofs.Common.{◌≡◌, ℕ, zero, suc, ◌<◌, ◌↔◌, Bool, true, false, ltb, List, [], ◌∷◌, get_or, rules, refl, sym, subst, ◌∙◌, ap, arith, inl, inr}
+use Rattle.std.specs.Prelude.{IsTrue, ◌||◌, Option, Some, None, slice_get, Contains}
 use Rattle.std.specs.List.{list_any, Any}
 use Rattle.std.proofs.lemmas.List.Folds.{Any-from_list_any, list_any-from_Any}
-use borrow.Author.Tests.{tests}
+use borrow.Author.Tests.{tests, ltb-true}
+use Rattle.wq_items.proofs.Lists.{Contains-first}
 use Rattle.wq_core.specs.declared.entry.Entry.{Entry}
 use Rattle.wq_core.specs.declared.entry.Running.{Running}
-use Rattle.wq_core.specs.State.{Lane, Runs, IsUnfinishedOn}
-use Rattle.wq_core.specs.Held.{LaneHasUnfinishedBelow, is_below, runs_below}
+use Rattle.wq_core.specs.State.{Lane, Runs, IsUnfinishedOn, IsBusyBelow}
+use Rattle.wq_core.specs.Held.{LaneHasUnfinishedBelow, IsRising, is_below, runs_below}
 
 -- the test says what its name says
 pub is_below-true : (item mark : ℕ) (e : Entry) → is_below item mark e ≡ true → (e.item ≡ item) × (e.number < mark)
@@ -45,3 +46,38 @@ unfinished_below lane item mark = (to _ refl, from) where
     by_case : IsUnfinishedOn lane h.entry → IsTrue (list_any (is_below item mark) lane.pending || runs_below item mark lane.running)
     by_case (inl p) = grind (arith, list_any-from_Any (is_below item mark) lane.pending (p.0, h.entry, p.1, p.2, passes))
     by_case (inr p) = grind (arith, running p.0 h.entry p.1 p.2 passes)
+
+-- ---- any entry of a lane
+
+-- if the first pending entry isn't below the mark, none is: their numbers rise
+none_pending_below : (ps : List Entry) (mark : ℕ) → IsRising ps → ((e : Entry) → slice_get ps 0 ≡ Some e → ¬ (e.number < mark)) → (e : Entry) → Contains ps e → ¬ (e.number < mark)
+none_pending_below [] mark rising first e (k, lt, at) below = absurd (omega arith)
+none_pending_below (p ∷ ps) mark rising first e (zero, lt, at) below = first p refl (subst (λ (f : Entry). f.number < mark) (sym at) below)
+none_pending_below (p ∷ ps) mark rising first e (suc k, lt, at) below =
+    let later : p.number < (get_or (p ∷ ps) (suc k) e).number = rising 0 (suc k) e (omega arith) lt in
+    let number : p.number < e.number = subst (λ (f : Entry). p.number < f.number) at later in
+    first p refl (omega (arith, number, below))
+
+pub busy-runs : (lane : Lane) (mark : ℕ) (r : Running) → IsRising lane.pending → ((e : Entry) → slice_get lane.pending 0 ≡ Some e → ¬ (e.number < mark)) → Runs lane r
+    → IsTrue (ltb r.entry.number mark) ↔ IsBusyBelow lane mark
+busy-runs lane mark r rising first runs = (
+  (λ h. record { entry = r.entry; unfinished = inr (r, runs, refl); below = ltb-true r.entry.number mark h }),
+  (λ h. elim h.unfinished [
+    | inl pending ↦ absurd (none_pending_below lane.pending mark rising first h.entry pending h.below)
+    | inr (x, other, same) ↦ (
+        let one : Some r ≡ Some x = sym runs ∙ other in
+        let is : r ≡ x = cc in
+        let below : r.entry.number < mark = subst (λ (e : Entry). e.number < mark) (sym (ap (λ (y : Running). y.entry) is ∙ same)) h.below in
+        grind (arith, below)
+        )
+  ]),
+)
+
+pub busy-idle : (lane : Lane) (mark : ℕ) → IsRising lane.pending → ((e : Entry) → slice_get lane.pending 0 ≡ Some e → ¬ (e.number < mark)) → lane.running ≡ None → ¬ IsBusyBelow lane mark
+busy-idle lane mark rising first idle h = elim h.unfinished [
+  | inl pending ↦ none_pending_below lane.pending mark rising first h.entry pending h.below
+  | inr (x, other, same) ↦ (let never : None ≡ Some x = sym idle ∙ other in cc)
+]
+
+pub busy-first : (lane : Lane) (mark : ℕ) (e : Entry) → slice_get lane.pending 0 ≡ Some e → e.number < mark → IsBusyBelow lane mark
+busy-first lane mark e first below = record { entry = e; unfinished = inl (Contains-first lane.pending e first); below = below }

@@ -1,5 +1,5 @@
 -- By how much each lawful step changes the work that is left.
-use Rattle.std.proofs.Common.{◌≡◌, ◌≢◌, ℕ, zero, suc, ◌+◌, ◌-◌, ◌<◌, ◌≤◌, ◌⊎◌, inl, inr, false, not, eqb, List, [], ◌∷◌, length, get_or, Option, Some, None, refl, sym, ap, subst, ◌∙◌, arith}
+use Rattle.std.proofs.Common.{◌≡◌, ◌≢◌, ℕ, zero, suc, ◌+◌, ◌-◌, ◌<◌, ◌≤◌, ◌⊎◌, inl, inr, false, not, eqb, List, [], ◌∷◌, length, get_or, Option, Some, None, refl, sym, ap, subst, ◌∙◌, arith, Bool, true}
 use Rattle.std.specs.Prelude.{AllPairs, Contains, slice_get, option_map}
 use Rattle.std.specs.List.{All, filter}
 use Rattle.std.proofs.lemmas.List.Sums.{sum_by-append, sum_by-cons}
@@ -9,10 +9,10 @@ use Rattle.wq_core.specs.declared.entry.Entry.{Entry}
 use Rattle.wq_core.specs.declared.entry.Waiting.{Waiting}
 use Rattle.wq_core.specs.declared.entry.Running.{Running}
 use Rattle.wq_core.specs.declared.step.Step.{Step}
-use Rattle.wq_core.specs.declared.step.Step.TheVariants.{Queue, Cancel, Start, Wait, Over, Finish}
+use Rattle.wq_core.specs.declared.step.Step.TheVariants.{Queue, Cancel, Start, Wait, Over, WaitAll, OverAll, Finish}
 use Rattle.wq_core.specs.Wiring.{Wiring, IsWiring, items, lane_of, declared_by}
 use Rattle.wq_core.specs.State.{Lane, State, lane_at, with_lane, Runs, HasPending}
-use Rattle.wq_core.specs.Rules.{MayWait, MayStart, Lawful, with_queued, with_cancelled, with_started, with_wait, with_over, with_finished, effect}
+use Rattle.wq_core.specs.Rules.{MayWait, MayStart, Lawful, with_queued, with_cancelled, with_started, with_wait, with_over, with_finished, effect, MayBeOver}
 use Rattle.wq_core.specs.Work.{whole_work, waits_over, running_work, lane_work, work_left}
 use Rattle.wq_core.specs.Held.{IsSoundRunning, IsSoundState}
 use Rattle.wq_core.proofs.LaneLemmas.{lane_within, runs_within, starts_within}
@@ -85,10 +85,10 @@ running_work-waiting : (w : Wiring) (o : Option Running) (r : Running) (flush : 
 running_work-waiting w o r flush runs waits =
     ap (running_work w) runs ∙ ap (λ (f : Option Waiting). whole_work w r.entry.item - (1 + r.made + waits_over r.made f)) waits
 
-lane_work-waiting : (w : Wiring) (b mark : ℕ) (lane : Lane) (r : Running) → Runs lane r → MayWait w b r
-    → lane_work w (with_wait b mark lane) + 1 ≡ lane_work w lane
-lane_work-waiting w b mark lane r runs may =
-    let flush : Waiting = record { target = b; mark = mark } in
+lane_work-waiting : (w : Wiring) (whole : Bool) (b mark : ℕ) (lane : Lane) (r : Running) → Runs lane r → MayWait w whole b r
+    → lane_work w (with_wait whole b mark lane) + 1 ≡ lane_work w lane
+lane_work-waiting w whole b mark lane r runs may =
+    let flush : Waiting = record { target = b; whole = whole; mark = mark } in
     let begins : Running → Running = λ (x : Running). record x { made = x.made + 1; waiting = Some flush } in
     let before = running_work-awake w lane.running r runs may.awake in
     let new = running_work-waiting w (option_map begins lane.running) (begins r) flush (ap (option_map begins) runs) refl in
@@ -145,12 +145,14 @@ pub work_left-started : (w : Wiring) (s : State) (q i : ℕ) → MayStart (lane_
 work_left-started w s q i may =
     work_left-less_by w s q (with_started (lane_at s q)) 1 (starts_within s q i may) (lane_work-started w i (lane_at s q) may)
 
-pub work_left-waiting : (w : Wiring) (s : State) (q b : ℕ) → Lawful w s (Wait q b) → work_left w (effect w s (Wait q b)) + 1 ≡ work_left w s
-work_left-waiting w s q b (r, runs, may) =
-    work_left-less_by w s q (with_wait b s.next (lane_at s q)) 1 (runs_within s q r runs) (lane_work-waiting w b s.next (lane_at s q) r runs may)
+pub work_left-waiting : (w : Wiring) (s : State) (q : ℕ) (whole : Bool) (b : ℕ) → (r : Running) × Runs (lane_at s q) r × MayWait w whole b r
+    → work_left w (with_lane s q (with_wait whole b s.next (lane_at s q))) + 1 ≡ work_left w s
+work_left-waiting w s q whole b (r, runs, may) =
+    work_left-less_by w s q (with_wait whole b s.next (lane_at s q)) 1 (runs_within s q r runs) (lane_work-waiting w whole b s.next (lane_at s q) r runs may)
 
-pub work_left-over : (w : Wiring) (s : State) (q b : ℕ) → IsSoundState w s → Lawful w s (Over q b) → work_left w (effect w s (Over q b)) + 1 ≡ work_left w s
-work_left-over w s q b sound (r, runs, may) =
+pub work_left-over : (w : Wiring) (s : State) (q : ℕ) (whole : Bool) (b : ℕ) → IsSoundState w s → (r : Running) × Runs (lane_at s q) r × MayBeOver w s whole b r
+    → work_left w (with_lane s q (with_over (lane_at s q))) + 1 ≡ work_left w s
+work_left-over w s q whole b sound (r, runs, may) =
     work_left-less_by w s q (with_over (lane_at s q)) 1 (runs_within s q r runs) (lane_work-over w (lane_at s q) r may.flush runs may.waits (sound.running q r runs))
 
 -- a finish removes all that is left of what runs
@@ -172,11 +174,13 @@ module _ (w : Wiring) (s : State) (sound : IsSoundState w s) (step : Step) (lawf
       subst (λ (x : Step). Lawful w s x → (i < items w) × (work_left w (effect w s x) + whole_work w i ≡ work_left w s)) (sym is)
       (λ law. ((pending-own_lane w s i sound law).0, work_left-cancelled w s i sound law)) lawful
 
-  pub work_after-one : ((q : ℕ) × (i : ℕ) × (step ≡ Start q i)) ⊎ (((q : ℕ) × (b : ℕ) × (step ≡ Wait q b)) ⊎ ((q : ℕ) × (b : ℕ) × (step ≡ Over q b)))
+  pub work_after-one : ((q : ℕ) × (i : ℕ) × (step ≡ Start q i)) ⊎ (((q : ℕ) × (b : ℕ) × (step ≡ Wait q b)) ⊎ (((q : ℕ) × (b : ℕ) × (step ≡ Over q b)) ⊎ (((q : ℕ) × (b : ℕ) × (step ≡ WaitAll q b)) ⊎ ((q : ℕ) × (b : ℕ) × (step ≡ OverAll q b)))))
       → work_left w (effect w s step) + 1 ≡ work_left w s
   work_after-one (inl (q, i, is)) = subst (λ (x : Step). Lawful w s x → work_left w (effect w s x) + 1 ≡ work_left w s) (sym is) (work_left-started w s q i) lawful
-  work_after-one (inr (inl (q, b, is))) = subst (λ (x : Step). Lawful w s x → work_left w (effect w s x) + 1 ≡ work_left w s) (sym is) (work_left-waiting w s q b) lawful
-  work_after-one (inr (inr (q, b, is))) = subst (λ (x : Step). Lawful w s x → work_left w (effect w s x) + 1 ≡ work_left w s) (sym is) (work_left-over w s q b sound) lawful
+  work_after-one (inr (inl (q, b, is))) = subst (λ (x : Step). Lawful w s x → work_left w (effect w s x) + 1 ≡ work_left w s) (sym is) (work_left-waiting w s q false b) lawful
+  work_after-one (inr (inr (inl (q, b, is)))) = subst (λ (x : Step). Lawful w s x → work_left w (effect w s x) + 1 ≡ work_left w s) (sym is) (work_left-over w s q false b sound) lawful
+  work_after-one (inr (inr (inr (inl (q, b, is))))) = subst (λ (x : Step). Lawful w s x → work_left w (effect w s x) + 1 ≡ work_left w s) (sym is) (work_left-waiting w s q true b) lawful
+  work_after-one (inr (inr (inr (inr (q, b, is))))) = subst (λ (x : Step). Lawful w s x → work_left w (effect w s x) + 1 ≡ work_left w s) (sym is) (work_left-over w s q true b sound) lawful
 
   pub work_after-finished : (q i : ℕ) → step ≡ Finish q i → work_left w (effect w s step) + running_work w (lane_at s q).running ≡ work_left w s
   work_after-finished q i is =

@@ -1,5 +1,5 @@
 -- Each rescuer step reduces the work that is left, and a cancellation doesn't increase it.
-use Rattle.std.proofs.Common.{◌≡◌, ℕ, ◌+◌, ◌-◌, ◌<◌, ◌≤◌, ◌⊎◌, inl, inr, Bool, cond, not, eqb, List, [], ◌∷◌, length, set, Option, Some, None, refl, ap, ◌∙◌, arith}
+use Rattle.std.proofs.Common.{◌≡◌, ℕ, ◌+◌, ◌-◌, ◌<◌, ◌≤◌, ◌⊎◌, inl, inr, Bool, cond, not, eqb, List, [], ◌∷◌, length, set, Option, Some, None, refl, ap, ◌∙◌, arith, true, false}
 use Rattle.std.specs.Prelude.{slice_get, option_map, sum_by}
 use Rattle.std.specs.List.{All, count_by}
 use Rattle.std.proofs.lemmas.Bool.{cases_lt}
@@ -11,7 +11,7 @@ use Rattle.wq_core.specs.declared.entry.Entry.{Entry}
 use Rattle.wq_core.specs.declared.entry.Waiting.{Waiting}
 use Rattle.wq_core.specs.declared.entry.Running.{Running}
 use Rattle.wq_core.specs.declared.step.Step.{Step}
-use Rattle.wq_core.specs.declared.step.Step.TheVariants.{Queue, Cancel, Start, Wait, Over, Finish}
+use Rattle.wq_core.specs.declared.step.Step.TheVariants.{Queue, Cancel, Start, Wait, Over, WaitAll, OverAll, Finish}
 use Rattle.wq_core.specs.Wiring.{Wiring, lane_of, declared_by}
 use Rattle.wq_core.specs.State.{Lane, State, idle_lane, lane_at, with_lane, Runs}
 use Rattle.wq_core.specs.Rules.{MayWait, MayStart, Lawful, with_cancelled, with_started, with_wait, with_over, with_finished, effect}
@@ -45,11 +45,11 @@ lane_work-started w i lane may = started lane.pending lane.running may.idle may.
         sum_by-cons (λ (e : Entry). whole_work w e.item) p ps in
         omega (arith, all)
 
-lane_work-waiting : (w : Wiring) (b mark : ℕ) (lane : Lane) (r : Running) → Runs lane r → MayWait w b r
-    → lane_work w (with_wait b mark lane) < lane_work w lane
-lane_work-waiting w b mark lane r runs may =
+lane_work-waiting : (w : Wiring) (whole : Bool) (b mark : ℕ) (lane : Lane) (r : Running) → Runs lane r → MayWait w whole b r
+    → lane_work w (with_wait whole b mark lane) < lane_work w lane
+lane_work-waiting w whole b mark lane r runs may =
     let begins : Running → Running =
-    λ (x : Running). record x { made = x.made + 1; waiting = Some (record { target = b; mark = mark }) } in
+    λ (x : Running). record x { made = x.made + 1; waiting = Some (record { target = b; whole = whole; mark = mark }) } in
     let before : running_work w lane.running ≡ whole_work w r.entry.item - (1 + r.made + r.made) =
     ap (running_work w) runs ∙ ap (λ (o : Option Waiting). whole_work w r.entry.item - (1 + r.made + waits_over r.made o)) may.awake in
     let new : running_work w (option_map begins lane.running) ≡ whole_work w r.entry.item - (1 + (r.made + 1) + ((r.made + 1) - 1)) =
@@ -97,6 +97,18 @@ work_left-not_more w s q lane less = elim (cases_lt q (length s.lanes)) [
       )
 ]
 
+work_left-waiting : (w : Wiring) (s : State) (q : ℕ) (whole : Bool) (b : ℕ) (r : Running) → Runs (lane_at s q) r → MayWait w whole b r
+    → work_left w (with_lane s q (with_wait whole b s.next (lane_at s q))) < work_left w s
+work_left-waiting w s q whole b r runs may =
+    let lane : Lane = lane_at s q in
+    work_left-less w s q (with_wait whole b s.next lane) (runs_within s q r runs) (lane_work-waiting w whole b s.next lane r runs may)
+
+work_left-over : (w : Wiring) (s : State) (q : ℕ) (r : Running) (flush : Waiting) → Runs (lane_at s q) r → r.waiting ≡ Some flush → IsSoundState w s
+    → work_left w (with_lane s q (with_over (lane_at s q))) < work_left w s
+work_left-over w s q r flush runs waits sound =
+    let lane : Lane = lane_at s q in
+    work_left-less w s q (with_over lane) (runs_within s q r runs) (lane_work-over w lane r flush runs waits (sound.running q r runs))
+
 -- after a rescuer step less work is left
 pub work_left-rescuer : (w : Wiring) (s : State) (step : Step) → IsSoundState w s → Lawful w s step
     → IsRescuerStep step → work_left w (effect w s step) < work_left w s
@@ -105,13 +117,10 @@ work_left-rescuer w s (Cancel i) sound lawful is = absurd is
 work_left-rescuer w s (Start q i) sound lawful is =
     let lane : Lane = lane_at s q in
     work_left-less w s q (with_started lane) (starts_within s q i lawful) (lane_work-started w i lane lawful)
-work_left-rescuer w s (Wait q b) sound (r, runs, may) is =
-    let lane : Lane = lane_at s q in
-    work_left-less w s q (with_wait b s.next lane) (runs_within s q r runs) (lane_work-waiting w b s.next lane r runs may)
-work_left-rescuer w s (Over q b) sound (r, runs, may) is =
-    let lane : Lane = lane_at s q in
-    let less = lane_work-over w lane r may.flush runs may.waits (sound.running q r runs) in
-    work_left-less w s q (with_over lane) (runs_within s q r runs) less
+work_left-rescuer w s (Wait q b) sound (r, runs, may) is = work_left-waiting w s q false b r runs may
+work_left-rescuer w s (WaitAll q b) sound (r, runs, may) is = work_left-waiting w s q true b r runs may
+work_left-rescuer w s (Over q b) sound (r, runs, may) is = work_left-over w s q r may.flush runs may.waits sound
+work_left-rescuer w s (OverAll q b) sound (r, runs, may) is = work_left-over w s q r may.flush runs may.waits sound
 work_left-rescuer w s (Finish q i) sound (r, runs, may) is =
     let lane : Lane = lane_at s q in
     let less = lane_work-finished w lane r runs may.awake (sound.running q r runs) in
@@ -128,6 +137,8 @@ work_left-cancel w s (Cancel i) is =
 work_left-cancel w s (Start q i) is = absurd is
 work_left-cancel w s (Wait q b) is = absurd is
 work_left-cancel w s (Over q b) is = absurd is
+work_left-cancel w s (WaitAll q b) is = absurd is
+work_left-cancel w s (OverAll q b) is = absurd is
 work_left-cancel w s (Finish q i) is = absurd is
 
 -- ---- runs
@@ -142,6 +153,8 @@ counted-rescuer (Cancel i) is = absurd is
 counted-rescuer (Start q i) is = refl
 counted-rescuer (Wait q b) is = refl
 counted-rescuer (Over q b) is = refl
+counted-rescuer (WaitAll q b) is = refl
+counted-rescuer (OverAll q b) is = refl
 counted-rescuer (Finish q i) is = refl
 
 counted-cancel : (step : Step) → IsCancel step → counted step ≡ 0
@@ -150,6 +163,8 @@ counted-cancel (Cancel i) is = refl
 counted-cancel (Start q i) is = absurd is
 counted-cancel (Wait q b) is = absurd is
 counted-cancel (Over q b) is = absurd is
+counted-cancel (WaitAll q b) is = absurd is
+counted-cancel (OverAll q b) is = absurd is
 counted-cancel (Finish q i) is = absurd is
 
 -- a step and the work that is left after it

@@ -1,14 +1,14 @@
 -- Lanes and machines as the code holds them.
-use Rattle.std.specs.Prelude.{◌≡◌, ◌≢◌, ℕ, ◌<◌, ◌≤◌, ◌^◌, List, [], length, AllPairs, Some, None, Option, map, Bool, false, ◌==◌, ◌&&◌, nat_lt, slice_get, slice_index_or, MatchOption, IsPermutation}
+use Rattle.std.specs.Prelude.{◌≡◌, ◌≢◌, ℕ, ◌<◌, ◌≤◌, ◌+◌, ◌*◌, ◌^◌, if◌then◌else◌, List, [], length, AllPairs, Some, None, Option, map, Bool, false, ◌==◌, ◌&&◌, nat_lt, slice_get, slice_index_or, MatchOption, IsPermutation}
 use Rattle.std.specs.List.Sorted.{IsNonDecreasing}
 use Rattle.wq_items.specs.declared.target.Target.{Target}
-use Rattle.wq_items.specs.Table.{ItemWaits, targets_of, flush_count, max_items, max_flushes}
+use Rattle.wq_items.specs.Table.{ItemWaitsBy, targets_of, flush_count, max_items, max_flushes}
 use Rattle.wq_groups.specs.Assignment.{max_lanes}
 use Rattle.wq_core.specs.declared.entry.Entry.{Entry}
 use Rattle.wq_core.specs.declared.entry.Waiting.{Waiting}
 use Rattle.wq_core.specs.declared.entry.Running.{Running}
 use Rattle.wq_core.specs.declared.step.Step.{Step}
-use Rattle.wq_core.specs.declared.step.Step.TheVariants.{Queue, Cancel, Start, Wait, Over, Finish}
+use Rattle.wq_core.specs.declared.step.Step.TheVariants.{Queue, Cancel, Start, Wait, Over, WaitAll, OverAll, Finish}
 use Rattle.wq_core.specs.declared.step.StepError.{StepError}
 use Rattle.wq_core.specs.declared.step.StepError.TheVariants.{NotLawful, NumbersUsedUp}
 use Rattle.wq_core.specs.Wiring.{Wiring, IsWiring, items, lane_of, declared_by, count_on}
@@ -53,10 +53,14 @@ pub record RunsBelow (s : State) (item mark : ℕ) : Type 0 where
   pub of_item : running.entry.item ≡ item
   pub below : running.entry.number < mark
 
--- the items are those of the targets, sorted
-pub record IsSortedOf (targets : List Target) (items : List ℕ) : Type 0 where
-  pub same : IsPermutation (map (λ (t : Target). t.item) targets) items
-  pub rise : IsNonDecreasing items
+-- a number for each item and each kind of wait
+abbrev pub wait_key : ℕ → Bool → ℕ
+wait_key item whole = 2 * item + (if whole then 1 else 0)
+
+-- the keys are those of the targets, sorted
+pub record IsSortedOf (targets : List Target) (keys : List ℕ) : Type 0 where
+  pub same : IsPermutation (map (λ (t : Target). wait_key t.item t.whole) targets) keys
+  pub rise : IsNonDecreasing keys
 
 -- the targets of each of the first n items, sorted
 pub record AreSorted (n : ℕ) (waits : List (List Target)) (sorted : List (List ℕ)) : Type 0 where
@@ -76,7 +80,7 @@ pub record Machine : Type 0 where
 -- made at least one, and its item declares a flush of what it waits for
 pub record IsSoundRunning (w : Wiring) (r : Running) : Type 0 where
   pub made : r.made ≤ length (declared_by w r.entry.item)
-  pub waits : (f : Waiting) → r.waiting ≡ Some f → (0 < r.made) × ItemWaits w.waits r.entry.item f.target
+  pub waits : (f : Waiting) → r.waiting ≡ Some f → (0 < r.made) × ItemWaitsBy w.waits f.whole r.entry.item f.target
 
 -- what holds for every state after a run: it has the wiring's lanes; each entry is of an item that exists, is on that item's
 -- lane, and has a number that was given; a lane has at most one pending entry of an item; and what runs is sound
@@ -135,6 +139,8 @@ UsesUp s (Cancel i) = ⊥
 UsesUp s (Start q i) = ⊥
 UsesUp s (Wait q b) = ⊥
 UsesUp s (Over q b) = ⊥
+UsesUp s (WaitAll q b) = ⊥
+UsesUp s (OverAll q b) = ⊥
 UsesUp s (Finish q i) = ⊥
 
 -- the machine after a step

@@ -2,7 +2,7 @@
 use Rattle.std.specs.Prelude.{◌≡◌, ℕ, ◌<◌, not, ◌==◌, List, [], ◌∷◌, ◌++◌, filter, map}
 use Rattle.std.specs.List.{list_any, range_with_len}
 use Rattle.wq_core.specs.declared.step.Step.{Step}
-use Rattle.wq_core.specs.declared.step.Step.TheVariants.{Queue, Cancel, Start, Wait, Over, Finish}
+use Rattle.wq_core.specs.declared.step.Step.TheVariants.{Queue, Cancel, Start, Wait, Over, WaitAll, OverAll, Finish}
 use Rattle.wq_core.specs.Wiring.{Wiring, items}
 use Rattle.wq_core.specs.State.{State}
 use Rattle.wq_core.specs.Rules.{Lawful, effect}
@@ -15,6 +15,8 @@ IsStepOfLane q (Cancel i) = ⊥
 IsStepOfLane q (Start p i) = p ≡ q
 IsStepOfLane q (Wait p b) = p ≡ q
 IsStepOfLane q (Over p b) = p ≡ q
+IsStepOfLane q (WaitAll p b) = p ≡ q
+IsStepOfLane q (OverAll p b) = p ≡ q
 IsStepOfLane q (Finish p i) = p ≡ q
 
 -- lane q can make a step

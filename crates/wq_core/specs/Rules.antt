@@ -1,34 +1,62 @@
 -- Rules: which steps are lawful in a state, what they do to it, and which number they give.
-use Rattle.std.specs.Prelude.{◌≡◌, ℕ, ◌+◌, ◌<◌, ◌==◌, not, [], ◌∷◌, ◌++◌, length, filter, drop, slice_get, Some, None, option_map}
-use Rattle.wq_items.specs.Table.{ItemWaits}
+use Rattle.std.specs.Prelude.{◌≡◌, ℕ, Bool, true, false, ◌+◌, ◌<◌, ◌==◌, not, [], ◌∷◌, ◌++◌, length, filter, drop, slice_get, Some, None, option_map}
+use Rattle.wq_items.specs.Table.{ItemWaitsBy}
 use Rattle.wq_core.specs.declared.entry.Entry.{Entry}
 use Rattle.wq_core.specs.declared.entry.Waiting.{Waiting}
 use Rattle.wq_core.specs.declared.entry.Running.{Running}
 use Rattle.wq_core.specs.declared.step.Step.{Step}
-use Rattle.wq_core.specs.declared.step.Step.TheVariants.{Queue, Cancel, Start, Wait, Over, Finish}
+use Rattle.wq_core.specs.declared.step.Step.TheVariants.{Queue, Cancel, Start, Wait, Over, WaitAll, OverAll, Finish}
 use Rattle.wq_core.specs.Wiring.{Wiring, items, lane_of, declared_by}
-use Rattle.wq_core.specs.State.{Lane, State, lane_at, with_lane, Runs, HasPending, HasUnfinishedBelow}
+use Rattle.wq_core.specs.State.{Lane, State, lane_at, with_lane, Runs, HasPending, HasUnfinishedBelow, IsUnfinishedOn, IsBusyBelow}
 
 -- ---- what one context may do with what it runs
 
--- it may begin to wait for item b: it isn't waiting, its item declares a flush of b, and it has made fewer waits than its
--- item declares
-pub record MayWait (w : Wiring) (b : ℕ) (r : Running) : Type 0 where
+-- it may begin to wait for item b, or for the whole lane of b: it isn't waiting, its item declares such a flush, and it has made
+-- fewer waits than its item declares
+pub record MayWait (w : Wiring) (whole : Bool) (b : ℕ) (r : Running) : Type 0 where
   pub awake : r.waiting ≡ None
-  pub declared : ItemWaits w.waits r.entry.item b
+  pub declared : ItemWaitsBy w.waits whole r.entry.item b
   pub fewer : r.made < length (declared_by w r.entry.item)
 
--- its wait for item b is over: no unfinished entry of b has a number below the mark
-pub record MayBeOver (s : State) (b : ℕ) (r : Running) : Type 0 where
+-- what a wait with this mark is for isn't done: an unfinished entry of item b, or, for a wait for the whole lane of b, any
+-- unfinished entry of that lane, has a number below the mark
+abbrev pub IsHeldBack : Wiring → State → Bool → ℕ → ℕ → Type 0
+IsHeldBack w s false b mark = HasUnfinishedBelow s b mark
+IsHeldBack w s true b mark = IsBusyBelow (lane_at s (lane_of w b)) mark
+
+-- item i holds such a wait back: an unfinished entry of i on the lane of b has a number below the mark, and i is b itself unless
+-- the whole lane is waited for
+pub record IsHolder (w : Wiring) (s : State) (whole : Bool) (b mark i : ℕ) : Type 0 where
+  pub entry : Entry
+  pub unfinished : IsUnfinishedOn (lane_at s (lane_of w b)) entry
+  pub of_item : entry.item ≡ i
+  pub below : entry.number < mark
+  pub itself : whole ≡ false → i ≡ b
+
+-- its wait of this kind for item b is over: nothing holds it back
+pub record MayBeOver (w : Wiring) (s : State) (whole : Bool) (b : ℕ) (r : Running) : Type 0 where
   pub flush : Waiting
   pub waits : r.waiting ≡ Some flush
+  pub kind : flush.whole ≡ whole
   pub target : flush.target ≡ b
-  pub done : ¬ HasUnfinishedBelow s b flush.mark
+  pub done : ¬ IsHeldBack w s whole b flush.mark
 
 -- it may finish the entry of item i: it isn't waiting
 pub record MayFinish (i : ℕ) (r : Running) : Type 0 where
   pub entry : r.entry.item ≡ i
   pub awake : r.waiting ≡ None
+
+-- ---- the steps of a wait, by its kind
+
+-- what lane q runs begins to wait for item b, or for the whole lane of b
+abbrev pub wait_of : Bool → ℕ → ℕ → Step
+wait_of false q b = Wait q b
+wait_of true q b = WaitAll q b
+
+-- such a wait is over
+abbrev pub over_of : Bool → ℕ → ℕ → Step
+over_of false q b = Over q b
+over_of true q b = OverAll q b
 
 -- ---- lawful steps
 
@@ -46,8 +74,10 @@ abbrev pub Lawful : Wiring → State → Step → Type 0
 Lawful w s (Queue i) = (i < items w) × (¬ HasPending s i)
 Lawful w s (Cancel i) = HasPending s i
 Lawful w s (Start q i) = MayStart (lane_at s q) i
-Lawful w s (Wait q b) = (r : Running) × Runs (lane_at s q) r × MayWait w b r
-Lawful w s (Over q b) = (r : Running) × Runs (lane_at s q) r × MayBeOver s b r
+Lawful w s (Wait q b) = (r : Running) × Runs (lane_at s q) r × MayWait w false b r
+Lawful w s (Over q b) = (r : Running) × Runs (lane_at s q) r × MayBeOver w s false b r
+Lawful w s (WaitAll q b) = (r : Running) × Runs (lane_at s q) r × MayWait w true b r
+Lawful w s (OverAll q b) = (r : Running) × Runs (lane_at s q) r × MayBeOver w s true b r
 Lawful w s (Finish q i) = (r : Running) × Runs (lane_at s q) r × MayFinish i r
 
 -- ---- what a step does
@@ -67,10 +97,10 @@ with_started lane = record {
   running = option_map (λ (e : Entry). record { entry = e; made = 0; waiting = None }) (slice_get lane.pending 0);
 }
 
--- what runs waits for item b with this mark, and has made one more wait
-abbrev pub with_wait : ℕ → ℕ → Lane → Lane
-with_wait b mark lane = record lane {
-  running = option_map (λ (r : Running). record r { made = r.made + 1; waiting = Some (record { target = b; mark = mark }) }) lane.running;
+-- what runs waits so for item b with this mark, and has made one more wait
+abbrev pub with_wait : Bool → ℕ → ℕ → Lane → Lane
+with_wait whole b mark lane = record lane {
+  running = option_map (λ (r : Running). record r { made = r.made + 1; waiting = Some (record { target = b; whole = whole; mark = mark }) }) lane.running;
 }
 
 -- what runs no longer waits
@@ -88,8 +118,10 @@ effect w s (Queue i) =
     record (with_lane s q (with_queued (record { number = s.next; item = i }) (lane_at s q))) { next = s.next + 1 }
 effect w s (Cancel i) = let q = lane_of w i in with_lane s q (with_cancelled i (lane_at s q))
 effect w s (Start q i) = with_lane s q (with_started (lane_at s q))
-effect w s (Wait q b) = with_lane s q (with_wait b s.next (lane_at s q))
+effect w s (Wait q b) = with_lane s q (with_wait false b s.next (lane_at s q))
 effect w s (Over q b) = with_lane s q (with_over (lane_at s q))
+effect w s (WaitAll q b) = with_lane s q (with_wait true b s.next (lane_at s q))
+effect w s (OverAll q b) = with_lane s q (with_over (lane_at s q))
 effect w s (Finish q i) = with_lane s q (with_finished (lane_at s q))
 
 -- ---- which number a step gives
@@ -101,4 +133,6 @@ Gives s (Cancel i) n = (h : HasPending s i) × (h.entry.number ≡ n)
 Gives s (Start q i) n = (e : Entry) × (slice_get (lane_at s q).pending 0 ≡ Some e) × (e.number ≡ n)
 Gives s (Wait q b) n = n ≡ s.next
 Gives s (Over q b) n = (r : Running) × Runs (lane_at s q) r × ((f : Waiting) × (r.waiting ≡ Some f) × (f.mark ≡ n))
+Gives s (WaitAll q b) n = n ≡ s.next
+Gives s (OverAll q b) n = (r : Running) × Runs (lane_at s q) r × ((f : Waiting) × (r.waiting ≡ Some f) × (f.mark ≡ n))
 Gives s (Finish q i) n = (r : Running) × Runs (lane_at s q) r × (r.entry.number ≡ n)

@@ -68,6 +68,16 @@ pub record HasUnfinishedBelow (s : State) (item mark : ℕ) : Type 0 where
   pub of_item : entry.item ≡ item
   pub below : entry.number < mark
 
+-- an entry of the lane is unfinished
+abbrev pub IsBusy : Lane → Type 0
+IsBusy lane = (e : Entry) × IsUnfinishedOn lane e
+
+-- an unfinished entry of the lane has a number below the mark
+pub record IsBusyBelow (lane : Lane) (mark : ℕ) : Type 0 where
+  pub entry : Entry
+  pub unfinished : IsUnfinishedOn lane entry
+  pub below : entry.number < mark
+
 -- an entry is unfinished
 pub record HasUnfinished (s : State) : Type 0 where
   pub lane : ℕ

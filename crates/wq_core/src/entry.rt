@@ -18,6 +18,8 @@ pub struct Entry {
 pub struct Waiting {
     /// The item.
     pub target: ItemId,
+    /// Whether it waits for the whole lane of the item.
+    pub whole: bool,
     /// The number that the next queueing would have got when the wait began. Entries with lower numbers are waited for.
     pub mark: u32,
 }

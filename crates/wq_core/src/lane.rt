@@ -1,13 +1,13 @@
 //! A lane: what is queued on it, and what its context runs.
 //!
-//! It changes as "Rules" in the specs of this crate says, in terms of one lane alone. `cancel` finds the entry in time in the
-//! logarithm of the number of pending entries, and then moves those before or after it, whichever are fewer. Each other call
-//! takes constant time. Only `new` takes memory.
+//! It changes as "Rules" in the specs of this crate says, in terms of one lane alone. `cancel` and `last_below` find an entry in
+//! time in the logarithm of the number of pending entries, and `cancel` then moves those before or after it, whichever are fewer.
+//! Each other call takes constant time. Only `new` takes memory.
 
-ghost use Rattle.std.specs.Prelude.{◌≡◌, ◌≢◌, ◌<◌, ◌+◌, ◌^◌, ◌↔◌, length, AllPairs, IfOk, OnErr, IfSome, IsTrue, slice_get};
+ghost use Rattle.std.specs.Prelude.{◌≡◌, ◌≢◌, ◌<◌, ◌+◌, ◌^◌, ◌↔◌, length, AllPairs, IfOk, OnErr, IfSome, IfNone, IsTrue, slice_get};
 ghost use Rattle.std.specs.VecDeque.Iter.{deque_iter_rest};
 ghost use Rattle.wq_core.specs.declared.entry.Entry.{Entry};
-ghost use Rattle.wq_core.specs.State.{idle_lane, IsPendingOn};
+ghost use Rattle.wq_core.specs.State.{idle_lane, IsPendingOn, IsUnfinishedOn, IsBusyBelow};
 ghost use Rattle.wq_core.specs.Held.{IsRising, runs_below};
 ghost use Rattle.wq_core.specs.Rules.{with_queued, with_cancelled, with_started, with_wait, with_over, with_finished};
 
@@ -87,6 +87,39 @@ impl<A: Allocator> Lane<A> {
         }
     }
 
+    /// Whether an unfinished entry has a number below the mark. The numbers of the pending ones rise, so the first one tells.
+    pub(crate) fn is_busy_below(&self, mark: u32) -> bool
+        requires { IsRising self.now.lane.pending }
+        ensures { IsTrue result ↔ IsBusyBelow self.now.lane mark }
+    {
+        if let Some(first) = self.first() {
+            if first.number < mark {
+                return true;
+            }
+        }
+        match self.running {
+            Some(r) => r.entry.number < mark,
+            None => false,
+        }
+    }
+
+    /// The last pending entry with a number below the mark, or what runs where none has one. None where no unfinished entry has a
+    /// number below the mark.
+    pub(crate) fn last_below(&self, mark: u32) -> Option<Entry>
+        requires { IsRising self.now.lane.pending }
+        ensures some { IfSome result (λ e. IsUnfinishedOn self.now.lane e × (e.number < mark)) }
+        ensures none { IfNone result (¬ IsBusyBelow self.now.lane mark) }
+    {
+        let below = self.pending.partition_point(|e| e.number < mark);
+        if below > 0 {
+            return self.pending.get(below - 1).copied();
+        }
+        match self.running {
+            Some(r) if r.entry.number < mark => Some(r.entry),
+            _ => None,
+        }
+    }
+
     /// Queues an entry, as the last one.
     pub fn queue(&mut self, entry: Entry)
         requires { length self.old.lane.pending < self.old.room }
@@ -120,16 +153,20 @@ impl<A: Allocator> Lane<A> {
         });
     }
 
-    /// Makes what runs begin to wait for an item.
-    pub fn wait(&mut self, target: ItemId, mark: u32)
+    /// Makes what runs begin to wait for an item, or for the whole lane of the item.
+    pub fn wait(&mut self, whole: bool, target: ItemId, mark: u32)
         requires { IfSome self.old.lane.running (λ r. r.made + 1 < 2 ^ 32) }
-        ensures lane { self.new.lane ≡ with_wait target mark self.old.lane }
+        ensures lane { self.new.lane ≡ with_wait whole target mark self.old.lane }
         ensures room { self.new.room ≡ self.old.room }
     {
         self.running = self.running.map(|r| Running {
             entry: r.entry,
             made: r.made + 1,
-            waiting: Some(Waiting { target, mark }),
+            waiting: Some(Waiting {
+                target,
+                whole,
+                mark,
+            }),
         });
     }
 

@@ -8,13 +8,14 @@
 //! logarithm of the flushes of one item.
 
 ghost use Rattle.std.specs.Prelude.{◌≡◌, ◌<◌, ◌≤◌, length, slice_get, Some, IfSome, IfNone, OnSome, IfOk, OnErr, IfErr, IsTrue, ◌↔◌, take};
-ghost use Rattle.wq_items.specs.Table.{ItemWaits};
+ghost use Rattle.wq_items.specs.Table.{ItemWaitsBy};
 ghost use Rattle.wq_groups.specs.Declaration.{declaration_of};
 ghost use Rattle.wq_core.specs.declared.step.StepError.{StepError};
-ghost use Rattle.wq_core.specs.declared.step.Step.TheVariants.{Queue, Cancel, Start, Wait, Over, Finish};
+ghost use Rattle.wq_core.specs.declared.step.Step.TheVariants.{Queue, Cancel, Start, Wait, Over, WaitAll, OverAll, Finish};
 ghost use Rattle.wq_core.specs.Wiring.{items, lane_of, declared_by};
-ghost use Rattle.wq_core.specs.State.{lane_at, IsPendingOn, HasPending, HasUnfinishedBelow, HasUnfinishedOf, HasUnfinished};
-ghost use Rattle.wq_core.specs.Held.{IsMachine, IsNumberOf, IsDone, IsRefusal, AreDone, machine_after, HasPendingBelow, RunsBelow};
+ghost use Rattle.wq_core.specs.State.{lane_at, IsPendingOn, HasPending, HasUnfinishedBelow, HasUnfinishedOf, HasUnfinished, IsBusyBelow};
+ghost use Rattle.wq_core.specs.Rules.{IsHeldBack, wait_of, over_of};
+ghost use Rattle.wq_core.specs.Held.{IsMachine, IsNumberOf, IsDone, IsRefusal, AreDone, machine_after, HasPendingBelow, RunsBelow, IsRising};
 ghost use Rattle.wq_core.specs.Building.{first_machine};
 
 use crate::building::{count_items, item_lanes};
@@ -101,7 +102,8 @@ impl<A: Allocator> Core<A> {
     /// A lane, where there is such a lane.
     pub(crate) fn lane(&self, q: LaneId) -> &Lane<A>
         requires { q < self.now.wiring.lanes }
-        ensures { result.now.lane ≡ lane_at self.now.state q }
+        ensures lane { result.now.lane ≡ lane_at self.now.state q }
+        ensures rising { IsRising result.now.lane.pending }
     {
         self.lanes.lane(q)
     }
@@ -181,6 +183,30 @@ impl<A: Allocator> Core<A> {
         self.has_pending_below(item, mark) || self.runs_below(item, mark)
     }
 
+    /// Whether an unfinished entry of a lane has a number below the mark. A lane that doesn't exist has none.
+    pub fn lane_unfinished_below(&self, q: LaneId, mark: u32) -> bool
+        ensures { IsTrue result ↔ IsBusyBelow (lane_at self.now.state q) mark }
+    {
+        if usize::from(q.get()) < self.lanes() {
+            self.lane(q).is_busy_below(mark)
+        } else {
+            false
+        }
+    }
+
+    /// Whether what a wait with this mark is for isn't done: an unfinished entry of the item has a lower number, or any unfinished
+    /// entry of its whole lane.
+    pub(crate) fn is_held_back(&self, whole: bool, target: ItemId, mark: u32) -> bool
+        requires { target < items self.now.wiring }
+        ensures { IsTrue result ↔ IsHeldBack self.now.wiring self.now.state whole target mark }
+    {
+        if whole {
+            self.lane_unfinished_below(self.lane_of(target), mark)
+        } else {
+            self.unfinished_below(target, mark)
+        }
+    }
+
     /// Whether an item has an unfinished entry, pending or running. An item that doesn't exist has none.
     pub fn has_unfinished(&self, item: ItemId) -> bool
         ensures { IsTrue result ↔ HasUnfinishedOf self.now.state item }
@@ -204,12 +230,12 @@ impl<A: Allocator> Core<A> {
         self.targets.of(item)
     }
 
-    /// Whether an item declares a flush of another, or of itself.
-    pub fn declares(&self, item: ItemId, target: ItemId) -> bool
+    /// Whether an item declares a flush of another, or of itself: of the item alone, or of its whole workqueue.
+    pub fn declares(&self, item: ItemId, whole: bool, target: ItemId) -> bool
         requires { item < items self.now.wiring }
-        ensures { IsTrue result ↔ ItemWaits self.now.wiring.waits item target }
+        ensures { IsTrue result ↔ ItemWaitsBy self.now.wiring.waits whole item target }
     {
-        self.targets.has(item, target)
+        self.targets.has(item, whole, target)
     }
 
     /// The number that a queueing of an item gives, where it is lawful.
@@ -245,14 +271,14 @@ impl<A: Allocator> Core<A> {
     }
 
     /// The number that a wait on a lane gives, where it is lawful.
-    fn may_wait(&self, q: LaneId, target: ItemId) -> Option<u32>
-        ensures { IsNumberOf self.now (Wait q target) result }
+    fn may_wait(&self, q: LaneId, whole: bool, target: ItemId) -> Option<u32>
+        ensures { IsNumberOf self.now (wait_of whole q target) result }
     {
         let running = self.running_on(q)?;
         let item = running.entry.item;
         if running.waiting.is_none()
             && (running.made as usize) < self.waits(item).len()
-            && self.declares(item, target)
+            && self.declares(item, whole, target)
         {
             Some(self.next)
         } else {
@@ -261,12 +287,15 @@ impl<A: Allocator> Core<A> {
     }
 
     /// The number that the end of a wait on a lane gives, where it is lawful.
-    fn may_be_over(&self, q: LaneId, target: ItemId) -> Option<u32>
-        ensures { IsNumberOf self.now (Over q target) result }
+    fn may_be_over(&self, q: LaneId, whole: bool, target: ItemId) -> Option<u32>
+        ensures { IsNumberOf self.now (over_of whole q target) result }
     {
         let running = self.running_on(q)?;
         let flush = running.waiting?;
-        if flush.target == target && !self.unfinished_below(target, flush.mark) {
+        if flush.whole == whole
+            && flush.target == target
+            && !self.is_held_back(whole, target, flush.mark)
+        {
             Some(flush.mark)
         } else {
             None
@@ -331,23 +360,23 @@ impl<A: Allocator> Core<A> {
     }
 
     /// Makes what a lane runs begin to wait, and gives the mark.
-    fn wait(&mut self, q: LaneId, target: ItemId) -> Result<u32, StepError>
-        ensures done { IfOk result (λ n. IsDone self.old (Wait q target) n self.new) }
-        ensures refused { IfErr result (λ e. IsRefusal self.old (Wait q target) e × (self.new ≡ self.old)) }
+    fn wait(&mut self, q: LaneId, whole: bool, target: ItemId) -> Result<u32, StepError>
+        ensures done { IfOk result (λ n. IsDone self.old (wait_of whole q target) n self.new) }
+        ensures refused { IfErr result (λ e. IsRefusal self.old (wait_of whole q target) e × (self.new ≡ self.old)) }
     {
-        let Some(number) = self.may_wait(q, target) else {
+        let Some(number) = self.may_wait(q, whole, target) else {
             return Err(StepError::NotLawful);
         };
-        self.lanes.lane_mut(q).wait(target, number);
+        self.lanes.lane_mut(q).wait(whole, target, number);
         Ok(number)
     }
 
     /// Ends the wait of what a lane runs, and gives the mark.
-    fn over(&mut self, q: LaneId, target: ItemId) -> Result<u32, StepError>
-        ensures done { IfOk result (λ n. IsDone self.old (Over q target) n self.new) }
-        ensures refused { IfErr result (λ e. IsRefusal self.old (Over q target) e × (self.new ≡ self.old)) }
+    fn over(&mut self, q: LaneId, whole: bool, target: ItemId) -> Result<u32, StepError>
+        ensures done { IfOk result (λ n. IsDone self.old (over_of whole q target) n self.new) }
+        ensures refused { IfErr result (λ e. IsRefusal self.old (over_of whole q target) e × (self.new ≡ self.old)) }
     {
-        let Some(number) = self.may_be_over(q, target) else {
+        let Some(number) = self.may_be_over(q, whole, target) else {
             return Err(StepError::NotLawful);
         };
         self.lanes.lane_mut(q).over();
@@ -379,8 +408,10 @@ impl<A: Allocator> Core<A> {
             },
             Step::Cancel(item) => self.may_cancel(item),
             Step::Start(q, item) => self.may_start(q, item),
-            Step::Wait(q, target) => self.may_wait(q, target),
-            Step::Over(q, target) => self.may_be_over(q, target),
+            Step::Wait(q, target) => self.may_wait(q, false, target),
+            Step::Over(q, target) => self.may_be_over(q, false, target),
+            Step::WaitAll(q, target) => self.may_wait(q, true, target),
+            Step::OverAll(q, target) => self.may_be_over(q, true, target),
             Step::Finish(q, item) => self.may_finish(q, item),
         }
     }
@@ -398,8 +429,10 @@ impl<A: Allocator> Core<A> {
             Step::Queue(item) => self.queue(item),
             Step::Cancel(item) => self.cancel(item),
             Step::Start(q, item) => self.start(q, item),
-            Step::Wait(q, target) => self.wait(q, target),
-            Step::Over(q, target) => self.over(q, target),
+            Step::Wait(q, target) => self.wait(q, false, target),
+            Step::Over(q, target) => self.over(q, false, target),
+            Step::WaitAll(q, target) => self.wait(q, true, target),
+            Step::OverAll(q, target) => self.over(q, true, target),
             Step::Finish(q, item) => self.finish(q, item),
         }
     }

@@ -9,6 +9,7 @@ ghost use Rattle.std.specs.Prelude.{◌≡◌, ◌<◌, ◌↔◌, ℕ, IsTrue, 
 ghost use Rattle.wq_core.specs.declared.step.Step.{Step};
 ghost use Rattle.wq_core.specs.Wiring.{items, declared_by};
 ghost use Rattle.wq_core.specs.State.{lane_at, Runs};
+ghost use Rattle.wq_core.specs.Rules.{IsHeldBack, IsHolder};
 ghost use Rattle.wq_core.specs.Held.{IsMachine};
 ghost use Rattle.wq_core.specs.Played.{CanMove, HasNoDeclaredStep, IsDeclaredStep};
 
@@ -30,7 +31,26 @@ impl<A: Allocator> Core<A> {
         let Some(flush) = running.waiting else {
             return true;
         };
-        !self.unfinished_below(flush.target, flush.mark)
+        !self.is_held_back(flush.whole, flush.target, flush.mark)
+    }
+
+    /// An item that holds back a wait for an item or for its whole lane, with this mark: an unfinished entry of it has a number
+    /// below the mark, and is waited for. It is the item that is waited for, or that of the last such entry of its lane, after
+    /// which the wait is over. None only where nothing holds the wait back.
+    pub fn holder(&self, whole: bool, target: ItemId, mark: u32) -> Option<ItemId>
+        requires { target < items self.now.wiring }
+        ensures some { IfSome result (λ i. IsHolder self.now.wiring self.now.state whole target mark i) }
+        ensures item { IfSome result (λ i. i < items self.now.wiring) }
+        ensures none { IfNone result (¬ IsHeldBack self.now.wiring self.now.state whole target mark) }
+    {
+        if whole {
+            let last = self.lane(self.lane_of(target)).last_below(mark)?;
+            Some(last.item)
+        } else if self.unfinished_below(target, mark) {
+            Some(target)
+        } else {
+            None
+        }
     }
 
     /// The lowest lane that can make a step: a start, a wait, the end of a wait or a finish. None only where no lane can.
@@ -80,14 +100,14 @@ impl<A: Allocator> Core<A> {
         let made = running.made;
         let Some(flush) = running.waiting else {
             return match self.next_target(item, made) {
-                Some(target) => Some(Step::Wait(q, target.item)),
+                Some(target) => Some(Step::wait_of(target.whole, q, target.item)),
                 None => Some(Step::Finish(q, item)),
             };
         };
-        if self.unfinished_below(flush.target, flush.mark) {
+        if self.is_held_back(flush.whole, flush.target, flush.mark) {
             None
         } else {
-            Some(Step::Over(q, flush.target))
+            Some(Step::over_of(flush.whole, q, flush.target))
         }
     }
 

@@ -6,6 +6,7 @@
 
 ghost use Rattle.std.specs.Prelude.{◌≡◌};
 ghost use Rattle.wq_core.specs.Held.{step_code};
+ghost use Rattle.wq_core.specs.Rules.{wait_of, over_of};
 
 use thiserror::Error;
 use wq_groups::LaneId;
@@ -24,8 +25,36 @@ pub enum Step {
     Wait(LaneId, ItemId),
     /// The wait of what the lane runs for this item is over.
     Over(LaneId, ItemId),
+    /// What the lane runs begins to wait for the whole lane of this item.
+    WaitAll(LaneId, ItemId),
+    /// The wait of what the lane runs for the whole lane of this item is over.
+    OverAll(LaneId, ItemId),
     /// The lane finishes what it runs, an entry of this item.
     Finish(LaneId, ItemId),
+}
+
+impl Step {
+    /// What a lane runs begins to wait for an item, or for the whole lane of the item.
+    pub fn wait_of(whole: bool, q: LaneId, item: ItemId) -> Step
+        ensures { result ≡ wait_of whole q item }
+    {
+        if whole {
+            Step::WaitAll(q, item)
+        } else {
+            Step::Wait(q, item)
+        }
+    }
+
+    /// The end of such a wait.
+    pub fn over_of(whole: bool, q: LaneId, item: ItemId) -> Step
+        ensures { result ≡ over_of whole q item }
+    {
+        if whole {
+            Step::OverAll(q, item)
+        } else {
+            Step::Over(q, item)
+        }
+    }
 }
 
 /// Why a step isn't made.

@@ -101,7 +101,11 @@ impl<A: Allocator> Core<A> {
         match *step {
             Step::Queue(item) => work + self.whole_work(item),
             Step::Cancel(item) => work - self.whole_work(item),
-            Step::Start(_, _) | Step::Wait(_, _) | Step::Over(_, _) => work - 1,
+            Step::Start(_, _)
+            | Step::Wait(_, _)
+            | Step::Over(_, _)
+            | Step::WaitAll(_, _)
+            | Step::OverAll(_, _) => work - 1,
             Step::Finish(q, _) => work - self.running_work(q),
         }
     }

@@ -6,11 +6,11 @@ use Rattle.wq_text.specs.Lines.{LineView}
 use Rattle.wq_text.specs.Comments.{before_comment}
 use Rattle.wq_text.specs.Words.{WordView, words_of}
 use Rattle.wq_decl.specs.declared.directive.Directive.{Directive}
-use Rattle.wq_decl.specs.declared.directive.Directive.TheVariants.{Item, Flush, Ordered}
+use Rattle.wq_decl.specs.declared.directive.Directive.TheVariants.{Item, Flush, FlushWq, Ordered}
 use Rattle.wq_decl.specs.declared.fault.DeclError.{DeclError}
 use Rattle.wq_decl.specs.declared.fault.DeclError.TheVariants.{BadName}
 use Rattle.wq_decl.specs.Names.{is_name, are_names}
-use Rattle.wq_decl.specs.Reading.{is_text_byte, item_reading, flush_reading, ordered_reading, words_reading, reading, directive_in, directives, HasNames}
+use Rattle.wq_decl.specs.Reading.{is_text_byte, item_reading, flush_reading, flushwq_reading, ordered_reading, words_reading, reading, directive_in, directives, HasNames}
 
 -- a directive, if the reading found one, has names
 abbrev pub NamesIn : Result (Option Directive) DeclError → Type 0
@@ -44,6 +44,16 @@ flush_names n (name ∷ target ∷ others) = chosen (are_names (name ∷ target 
     chosen true e = let p = both (is_name name.bytes) _ e in (p.0, each_name (target ∷ others) p.1)
     chosen false e = tt
 
+flushwq_names : (n : ℕ) (ws : List WordView) → NamesIn (flushwq_reading n ws)
+flushwq_names n [] = tt
+flushwq_names n (name ∷ []) = tt
+flushwq_names n (name ∷ target ∷ []) = chosen (are_names (name ∷ target ∷ [])) refl
+  where
+    chosen : (b : Bool) → are_names (name ∷ target ∷ []) ≡ b → NamesIn (cond b (Ok (Some (FlushWq name target))) (Err (BadName n)))
+    chosen true e = let p = both (is_name name.bytes) _ e in (p.0, (both (is_name target.bytes) _ p.1).0)
+    chosen false e = tt
+flushwq_names n (name ∷ target ∷ extra ∷ others) = tt
+
 ordered_names : (n : ℕ) (ws : List WordView) → NamesIn (ordered_reading n ws)
 ordered_names n [] = tt
 ordered_names n (name ∷ others) = chosen (are_names (name ∷ others)) refl
@@ -60,7 +70,8 @@ words_names : (n : ℕ) (ws : List WordView) → NamesIn (words_reading n ws)
 words_names n [] = tt
 words_names n (first ∷ others) =
     cond_names (bytes_eq first.bytes (codes "item")) _ _ (item_names n others) (cond_names (bytes_eq first.bytes (codes "flush")) _ _ (flush_names n others)
-    (cond_names (bytes_eq first.bytes (codes "ordered")) _ _ (ordered_names n others) tt))
+    (cond_names (bytes_eq first.bytes (codes "flushwq")) _ _ (flushwq_names n others)
+    (cond_names (bytes_eq first.bytes (codes "ordered")) _ _ (ordered_names n others) tt)))
 
 -- what a line says has names
 pub NamesIn-reading : (line : LineView) → NamesIn (reading line)

@@ -6,17 +6,18 @@ use Rattle.wq_text.specs.Lines.{LineView}
 use Rattle.wq_text.specs.Comments.{before_comment}
 use Rattle.wq_text.specs.Words.{WordView, words_of, words_from, is_blank, begins_word, longer}
 use Rattle.wq_decl.specs.declared.directive.Directive.{Directive}
-use Rattle.wq_decl.specs.declared.directive.Directive.TheVariants.{Item, Flush, Ordered}
+use Rattle.wq_decl.specs.declared.directive.Directive.TheVariants.{Item, Flush, FlushWq, Ordered}
 use Rattle.wq_decl.specs.declared.fault.DeclError.{DeclError}
 use Rattle.wq_decl.specs.declared.fault.DeclError.TheVariants.{UnknownWord, BadName}
 use Rattle.wq_decl.specs.Names.{is_name, are_names}
-use Rattle.wq_decl.specs.Reading.{is_text_byte, item_reading, flush_reading, ordered_reading, words_reading, reading, directive_in, directives, is_ordered, ordered_lines, HasNames}
+use Rattle.wq_decl.specs.Reading.{is_text_byte, item_reading, flush_reading, flushwq_reading, ordered_reading, words_reading, reading, directive_in, directives, is_ordered, ordered_lines, HasNames}
 
 -- the words on them are names
 pub HasNames-ordered_lines : (ds : List (ℕ × Directive)) → AllByRecursion (λ (d : ℕ × Directive). HasNames d.1) ds → AllByRecursion (λ (l : ℕ × List WordView). HasNames (Ordered l.1)) (ordered_lines ds)
 HasNames-ordered_lines [] h = tt
 HasNames-ordered_lines ((n, Item name) ∷ ds) h = HasNames-ordered_lines ds h.1
 HasNames-ordered_lines ((n, Flush name targets) ∷ ds) h = HasNames-ordered_lines ds h.1
+HasNames-ordered_lines ((n, FlushWq name target) ∷ ds) h = HasNames-ordered_lines ds h.1
 HasNames-ordered_lines ((n, Ordered names) ∷ ds) h = (h.0, HasNames-ordered_lines ds h.1)
 
 -- ---- lines that begin with a byte other than that of `ordered`
@@ -40,6 +41,12 @@ flush_nothing : (n : ℕ) (ws : List WordView) → OrdersNothing (flush_reading 
 flush_nothing n [] = tt
 flush_nothing n (name ∷ []) = tt
 flush_nothing n (name ∷ target ∷ others) = cond_nothing (are_names (name ∷ target ∷ others)) (Ok (Some (Flush name (target ∷ others)))) (Err (BadName n)) refl tt
+
+flushwq_nothing : (n : ℕ) (ws : List WordView) → OrdersNothing (flushwq_reading n ws)
+flushwq_nothing n [] = tt
+flushwq_nothing n (name ∷ []) = tt
+flushwq_nothing n (name ∷ target ∷ []) = cond_nothing (are_names (name ∷ target ∷ [])) (Ok (Some (FlushWq name target))) (Err (BadName n)) refl tt
+flushwq_nothing n (name ∷ target ∷ extra ∷ others) = tt
 
 -- the first word begins with this byte
 record BeginsWith (b : ℕ) (ws : List WordView) : Type 0 where
@@ -71,13 +78,15 @@ words_nothing n b ws other begins = subst (λ (ws : List WordView). OrdersNothin
     nothing : OrdersNothing (words_reading n (record { start = begins.start; bytes = b ∷ begins.tail } ∷ begins.others))
     nothing =
         cond_nothing (bytes_eq (b ∷ begins.tail) (codes "item")) _ _ (item_nothing n begins.others)
-        (cond_nothing (bytes_eq (b ∷ begins.tail) (codes "flush")) _ _ (flush_nothing n begins.others) (unknown _ (other begins.tail)))
+        (cond_nothing (bytes_eq (b ∷ begins.tail) (codes "flush")) _ _ (flush_nothing n begins.others)
+        (cond_nothing (bytes_eq (b ∷ begins.tail) (codes "flushwq")) _ _ (flushwq_nothing n begins.others) (unknown _ (other begins.tail))))
 
 passed : (n : ℕ) (r : Result (Option Directive) DeclError) (ds : List (ℕ × Directive)) → OrdersNothing r → ordered_lines (cons_option (directive_in n r) ds) ≡ ordered_lines ds
 passed n (Ok None) ds h = refl
 passed n (Err e) ds h = refl
 passed n (Ok (Some (Item name))) ds h = refl
 passed n (Ok (Some (Flush name targets))) ds h = refl
+passed n (Ok (Some (FlushWq name target))) ds h = refl
 passed n (Ok (Some (Ordered names))) ds h = absurd cc
 
 line_nothing : (line : LineView) (b : ℕ) (bs : List ℕ) → line.bytes ≡ b ∷ bs → is_blank b ≡ false → before_comment (b ∷ bs) ≡ b ∷ before_comment bs → IsOtherByte b → OrdersNothing (reading line)

@@ -8,11 +8,11 @@ use Rattle.wq_text.specs.Comments.{before_comment}
 use Rattle.wq_text.specs.Words.{WordView, words_of}
 use Rattle.wq_text.proofs.LimitLaws.{Any-later}
 use Rattle.wq_decl.specs.declared.directive.Directive.{Directive}
-use Rattle.wq_decl.specs.declared.directive.Directive.TheVariants.{Item, Flush, Ordered}
+use Rattle.wq_decl.specs.declared.directive.Directive.TheVariants.{Item, Flush, FlushWq, Ordered}
 use Rattle.wq_decl.specs.declared.fault.DeclError.{DeclError}
 use Rattle.wq_decl.specs.declared.fault.DeclError.TheVariants.{BadName}
 use Rattle.wq_decl.specs.Names.{is_name, are_names}
-use Rattle.wq_decl.specs.Reading.{is_text_byte, item_reading, flush_reading, ordered_reading, words_reading, reading, directive_in, directives}
+use Rattle.wq_decl.specs.Reading.{is_text_byte, item_reading, flush_reading, flushwq_reading, ordered_reading, words_reading, reading, directive_in, directives}
 use Rattle.wq_decl.specs.Origins.{directive_words, IsFrom}
 
 -- a directive, if the reading found one, has the words after the first
@@ -43,6 +43,16 @@ flush_words n first (name ∷ target ∷ others) = chosen (are_names (name ∷ t
     chosen true = record { first = first; words = refl }
     chosen false = tt
 
+flushwq_words : (n : ℕ) (first : WordView) (ws : List WordView) → WordsAmong (first ∷ ws) (flushwq_reading n ws)
+flushwq_words n first [] = tt
+flushwq_words n first (name ∷ []) = tt
+flushwq_words n first (name ∷ target ∷ []) = chosen (are_names (name ∷ target ∷ []))
+  where
+    chosen : (b : Bool) → WordsAmong (first ∷ name ∷ target ∷ []) (cond b (Ok (Some (FlushWq name target))) (Err (BadName n)))
+    chosen true = record { first = first; words = refl }
+    chosen false = tt
+flushwq_words n first (name ∷ target ∷ extra ∷ others) = tt
+
 ordered_words : (n : ℕ) (first : WordView) (ws : List WordView) → WordsAmong (first ∷ ws) (ordered_reading n ws)
 ordered_words n first [] = tt
 ordered_words n first (name ∷ others) = chosen (are_names (name ∷ others))
@@ -60,7 +70,8 @@ all_words n [] = tt
 all_words n (first ∷ others) =
     cond_words (first ∷ others) (bytes_eq first.bytes (codes "item")) _ _ (item_words n first others)
     (cond_words (first ∷ others) (bytes_eq first.bytes (codes "flush")) _ _ (flush_words n first others)
-    (cond_words (first ∷ others) (bytes_eq first.bytes (codes "ordered")) _ _ (ordered_words n first others) tt))
+    (cond_words (first ∷ others) (bytes_eq first.bytes (codes "flushwq")) _ _ (flushwq_words n first others)
+    (cond_words (first ∷ others) (bytes_eq first.bytes (codes "ordered")) _ _ (ordered_words n first others) tt)))
 
 line_words : (line : LineView) → WordsAmong (words_of line) (reading line)
 line_words line = cond_words (words_of line) (list_all is_text_byte (before_comment line.bytes)) _ _ (all_words line.no (words_of line)) tt

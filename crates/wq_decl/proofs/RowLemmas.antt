@@ -10,11 +10,11 @@ use Rattle.wq_text.specs.Comments.{before_comment}
 use Rattle.wq_text.specs.Words.{WordView, words_of}
 use Rattle.wq_text.proofs.LimitLaws.{Any-later}
 use Rattle.wq_decl.specs.declared.directive.Directive.{Directive}
-use Rattle.wq_decl.specs.declared.directive.Directive.TheVariants.{Item, Flush, Ordered}
+use Rattle.wq_decl.specs.declared.directive.Directive.TheVariants.{Item, Flush, FlushWq, Ordered}
 use Rattle.wq_decl.specs.declared.fault.DeclError.{DeclError}
 use Rattle.wq_decl.specs.declared.fault.DeclError.TheVariants.{BadByte, UnknownWord, MissingName, ExtraWord, BadName}
 use Rattle.wq_decl.specs.Names.{is_name, are_names}
-use Rattle.wq_decl.specs.Reading.{is_text_byte, item_reading, flush_reading, ordered_reading, words_reading, reading}
+use Rattle.wq_decl.specs.Reading.{is_text_byte, item_reading, flush_reading, flushwq_reading, ordered_reading, words_reading, reading}
 use Rattle.wq_decl.specs.Rows.{HasBadByte, IsUnknown, LacksName, HasExtraWord, HasBadName, OfWords, BreaksRow, rows_above, BreaksFirst}
 
 -- ---- a test that some element fails
@@ -114,35 +114,68 @@ module _ (n : ℕ) (bytes : List ℕ) (clean : HasBadByte bytes → ⊥) where
   item : (first : WordView) (others : List WordView) → first.bytes ≡ codes "item" → Says (first ∷ others) (item_reading n others)
   item first [] is = missing first [] (λ u. u.0 is) (inl (inl is, omega arith))
   item first (name ∷ []) is =
-      names first (name ∷ []) (Item name) (is_name name.bytes) (λ u. u.0 is) enough (λ e. absurd (omega (arith, e.1))) (and_true (is_name name.bytes))
+      names first (name ∷ []) (Item name) (is_name name.bytes) (λ u. u.0 is) enough few (and_true (is_name name.bytes))
     where
       enough : LacksName first (name ∷ []) → ⊥
       enough (inl h) = absurd (omega (arith, h.1))
-      enough (inr h) = apart (codes "item") (codes "flush") first.bytes refl is h.0
-  item first (name ∷ second ∷ others) is = extra first (name ∷ second ∷ others) (λ u. u.0 is) enough (is, omega arith)
+      enough (inr (inl flush, h)) = apart (codes "item") (codes "flush") first.bytes refl is flush
+      enough (inr (inr flushwq, h)) = apart (codes "item") (codes "flushwq") first.bytes refl is flushwq
+
+      few : HasExtraWord first (name ∷ []) → ⊥
+      few (inl h) = absurd (omega (arith, h.1))
+      few (inr h) = absurd (omega (arith, h.1))
+  item first (name ∷ second ∷ others) is = extra first (name ∷ second ∷ others) (λ u. u.0 is) enough (inl (is, omega arith))
     where
       enough : LacksName first (name ∷ second ∷ others) → ⊥
       enough (inl h) = absurd (omega (arith, h.1))
       enough (inr h) = absurd (omega (arith, h.1))
 
   flush : (first : WordView) (others : List WordView) → first.bytes ≡ codes "flush" → Says (first ∷ others) (flush_reading n others)
-  flush first [] is = missing first [] (λ u. u.1 is) (inr (is, omega arith))
-  flush first (name ∷ []) is = missing first (name ∷ []) (λ u. u.1 is) (inr (is, omega arith))
+  flush first [] is = missing first [] (λ u. u.1 is) (inr (inl is, omega arith))
+  flush first (name ∷ []) is = missing first (name ∷ []) (λ u. u.1 is) (inr (inl is, omega arith))
   flush first (name ∷ target ∷ others) is =
-      names first (name ∷ target ∷ others) (Flush name (target ∷ others)) (are_names (name ∷ target ∷ others)) (λ u. u.1 is) enough (λ e. apart (codes "flush") (codes "item") first.bytes refl is e.0) refl
+      names first (name ∷ target ∷ others) (Flush name (target ∷ others)) (are_names (name ∷ target ∷ others)) (λ u. u.1 is) enough few refl
     where
       enough : LacksName first (name ∷ target ∷ others) → ⊥
       enough (inl h) = absurd (omega (arith, h.1))
       enough (inr h) = absurd (omega (arith, h.1))
 
+      few : HasExtraWord first (name ∷ target ∷ others) → ⊥
+      few (inl h) = apart (codes "flush") (codes "item") first.bytes refl is h.0
+      few (inr h) = apart (codes "flush") (codes "flushwq") first.bytes refl is h.0
+
+  flushwq : (first : WordView) (others : List WordView) → first.bytes ≡ codes "flushwq" → Says (first ∷ others) (flushwq_reading n others)
+  flushwq first [] is = missing first [] (λ u. u.2 is) (inr (inr is, omega arith))
+  flushwq first (name ∷ []) is = missing first (name ∷ []) (λ u. u.2 is) (inr (inr is, omega arith))
+  flushwq first (name ∷ target ∷ []) is =
+      names first (name ∷ target ∷ []) (FlushWq name target) (are_names (name ∷ target ∷ [])) (λ u. u.2 is) enough few refl
+    where
+      enough : LacksName first (name ∷ target ∷ []) → ⊥
+      enough (inl h) = absurd (omega (arith, h.1))
+      enough (inr h) = absurd (omega (arith, h.1))
+
+      few : HasExtraWord first (name ∷ target ∷ []) → ⊥
+      few (inl h) = apart (codes "flushwq") (codes "item") first.bytes refl is h.0
+      few (inr h) = absurd (omega (arith, h.1))
+  flushwq first (name ∷ target ∷ third ∷ others) is = extra first (name ∷ target ∷ third ∷ others) (λ u. u.2 is) enough (inr (is, omega arith))
+    where
+      enough : LacksName first (name ∷ target ∷ third ∷ others) → ⊥
+      enough (inl h) = absurd (omega (arith, h.1))
+      enough (inr h) = absurd (omega (arith, h.1))
+
   ordered : (first : WordView) (others : List WordView) → first.bytes ≡ codes "ordered" → Says (first ∷ others) (ordered_reading n others)
-  ordered first [] is = missing first [] (λ u. u.2 is) (inl (inr is, omega arith))
+  ordered first [] is = missing first [] (λ u. u.3 is) (inl (inr is, omega arith))
   ordered first (name ∷ others) is =
-      names first (name ∷ others) (Ordered (name ∷ others)) (are_names (name ∷ others)) (λ u. u.2 is) enough (λ e. apart (codes "ordered") (codes "item") first.bytes refl is e.0) refl
+      names first (name ∷ others) (Ordered (name ∷ others)) (are_names (name ∷ others)) (λ u. u.3 is) enough few refl
     where
       enough : LacksName first (name ∷ others) → ⊥
       enough (inl h) = absurd (omega (arith, h.1))
-      enough (inr h) = apart (codes "ordered") (codes "flush") first.bytes refl is h.0
+      enough (inr (inl flush, h)) = apart (codes "ordered") (codes "flush") first.bytes refl is flush
+      enough (inr (inr flushwq, h)) = apart (codes "ordered") (codes "flushwq") first.bytes refl is flushwq
+
+      few : HasExtraWord first (name ∷ others) → ⊥
+      few (inl h) = apart (codes "ordered") (codes "item") first.bytes refl is h.0
+      few (inr h) = apart (codes "ordered") (codes "flushwq") first.bytes refl is h.0
 
   differs : (a b : List ℕ) → bytes_eq a b ≡ false → a ≢ b
   differs a b e same = both_ways (bytes_eq a b) e ((bytes_eq-Decides a b).1 same)
@@ -159,8 +192,9 @@ module _ (n : ℕ) (bytes : List ℕ) (clean : HasBadByte bytes → ⊥) where
   words_say (first ∷ others) =
       follows_test (Breaks n bytes (first ∷ others)) (bytes_eq first.bytes (codes "item")) _ _ (λ e. item first others ((bytes_eq-Decides first.bytes (codes "item")).0 e)) (λ no_item.
       follows_test (Breaks n bytes (first ∷ others)) (bytes_eq first.bytes (codes "flush")) _ _ (λ e. flush first others ((bytes_eq-Decides first.bytes (codes "flush")).0 e)) (λ no_flush.
+      follows_test (Breaks n bytes (first ∷ others)) (bytes_eq first.bytes (codes "flushwq")) _ _ (λ e. flushwq first others ((bytes_eq-Decides first.bytes (codes "flushwq")).0 e)) (λ no_flushwq.
       follows_test (Breaks n bytes (first ∷ others)) (bytes_eq first.bytes (codes "ordered")) _ _ (λ e. ordered first others ((bytes_eq-Decides first.bytes (codes "ordered")).0 e)) (λ no_ordered.
-      unknown first others (differs first.bytes (codes "item") no_item, differs first.bytes (codes "flush") no_flush, differs first.bytes (codes "ordered") no_ordered))))
+      unknown first others (differs first.bytes (codes "item") no_item, differs first.bytes (codes "flush") no_flush, differs first.bytes (codes "flushwq") no_flushwq, differs first.bytes (codes "ordered") no_ordered)))))
 
 -- ---- whole lines
 

@@ -11,11 +11,11 @@ use Rattle.wq_text.specs.Comments.{before_comment}
 use Rattle.wq_text.specs.Words.{WordView, words_of, is_blank, AllBlank, AreTheWords}
 use Rattle.wq_text.proofs.WordLaws.{AreTheWords-words_from}
 use Rattle.wq_decl.specs.declared.directive.Directive.{Directive}
-use Rattle.wq_decl.specs.declared.directive.Directive.TheVariants.{Item, Flush, Ordered}
+use Rattle.wq_decl.specs.declared.directive.Directive.TheVariants.{Item, Flush, FlushWq, Ordered}
 use Rattle.wq_decl.specs.declared.fault.DeclError.{DeclError}
-use Rattle.wq_decl.specs.declared.fault.DeclError.TheVariants.{BadName}
+use Rattle.wq_decl.specs.declared.fault.DeclError.TheVariants.{BadByte, BadName}
 use Rattle.wq_decl.specs.Names.{is_name_byte, is_name, are_names}
-use Rattle.wq_decl.specs.Reading.{is_text_byte, item_reading, flush_reading, ordered_reading, words_reading, reading}
+use Rattle.wq_decl.specs.Reading.{is_text_byte, item_reading, flush_reading, flushwq_reading, ordered_reading, words_reading, reading}
 
 -- ---- bytes
 
@@ -88,6 +88,12 @@ clean_flush n [] = tt
 clean_flush n (name ∷ []) = tt
 clean_flush n (name ∷ target ∷ others) = clean_names n (Flush name (target ∷ others)) (name ∷ target ∷ others) (are_names (name ∷ target ∷ others)) refl
 
+clean_flushwq : (n : ℕ) (ws : List WordView) → Clean ws (flushwq_reading n ws)
+clean_flushwq n [] = tt
+clean_flushwq n (name ∷ []) = tt
+clean_flushwq n (name ∷ target ∷ []) = clean_names n (FlushWq name target) (name ∷ target ∷ []) (are_names (name ∷ target ∷ [])) refl
+clean_flushwq n (name ∷ target ∷ extra ∷ others) = tt
+
 clean_ordered : (n : ℕ) (ws : List WordView) → Clean ws (ordered_reading n ws)
 clean_ordered n [] = tt
 clean_ordered n (name ∷ others) = clean_names n (Ordered (name ∷ others)) (name ∷ others) (are_names (name ∷ others)) refl
@@ -108,7 +114,8 @@ clean_words n [] = refl
 clean_words n (first ∷ others) =
     clean_test (first ∷ others) (bytes_eq first.bytes (codes "item")) _ _ (λ e. with_word first others (codes "item") _ refl e (clean_item n others)) (λ _.
     clean_test (first ∷ others) (bytes_eq first.bytes (codes "flush")) _ _ (λ e. with_word first others (codes "flush") _ refl e (clean_flush n others)) (λ _.
-    clean_test (first ∷ others) (bytes_eq first.bytes (codes "ordered")) _ _ (λ e. with_word first others (codes "ordered") _ refl e (clean_ordered n others)) (λ _. tt)))
+    clean_test (first ∷ others) (bytes_eq first.bytes (codes "flushwq")) _ _ (λ e. with_word first others (codes "flushwq") _ refl e (clean_flushwq n others)) (λ _.
+    clean_test (first ∷ others) (bytes_eq first.bytes (codes "ordered")) _ _ (λ e. with_word first others (codes "ordered") _ refl e (clean_ordered n others)) (λ _. tt))))
 
 -- ---- lines
 
@@ -123,3 +130,11 @@ reading-text line h = rw h refl
 -- also if its words have no fault
 pub reading-words : (line : LineView) → IsOk (words_reading line.no (words_of line)) → words_reading line.no (words_of line) ≡ reading line
 reading-words line ok = reading-text line (text_from_clean line (words_reading line.no (words_of line)) (clean_words line.no (words_of line)) ok)
+
+-- what the words of a line say that has no fault is what it says
+pub reading-known : (line : LineView) (o : Option Directive) → ((n : ℕ) → IsOk (words_reading n (words_of line)) → words_reading n (words_of line) ≡ Ok o) → IsOk (reading line) → reading line ≡ Ok o
+reading-known line o known ok = by (list_all is_text_byte (before_comment line.bytes)) ok
+  where
+    by : (b : Bool) → IsOk (cond b (words_reading line.no (words_of line)) (Err (BadByte line.no))) → cond b (words_reading line.no (words_of line)) (Err (BadByte line.no)) ≡ Ok o
+    by true ok = known line.no ok
+    by false ok = absurd cc

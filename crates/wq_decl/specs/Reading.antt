@@ -7,7 +7,7 @@ use Rattle.wq_text.specs.Comments.{before_comment}
 use Rattle.wq_text.specs.Words.{WordView, words_of}
 use Rattle.wq_text.specs.Refusal.{Refusal}
 use Rattle.wq_decl.specs.declared.directive.Directive.{Directive}
-use Rattle.wq_decl.specs.declared.directive.Directive.TheVariants.{Item, Flush, Ordered}
+use Rattle.wq_decl.specs.declared.directive.Directive.TheVariants.{Item, Flush, FlushWq, Ordered}
 use Rattle.wq_decl.specs.declared.fault.DeclError.{DeclError}
 use Rattle.wq_decl.specs.declared.fault.DeclError.TheVariants.{BadByte, UnknownWord, MissingName, ExtraWord, BadName}
 use Rattle.wq_decl.specs.Names.{is_name, are_names}
@@ -28,6 +28,13 @@ flush_reading n [] = Err (MissingName n)
 flush_reading n (name ∷ []) = Err (MissingName n)
 flush_reading n (name ∷ target ∷ others) = if are_names (name ∷ target ∷ others) then Ok (Some (Flush name (target ∷ others))) else Err (BadName n)
 
+-- the words after `flushwq` on line n: two names
+abbrev pub flushwq_reading : ℕ → List WordView → Result (Option Directive) DeclError
+flushwq_reading n [] = Err (MissingName n)
+flushwq_reading n (name ∷ []) = Err (MissingName n)
+flushwq_reading n (name ∷ target ∷ []) = if are_names (name ∷ target ∷ []) then Ok (Some (FlushWq name target)) else Err (BadName n)
+flushwq_reading n (name ∷ target ∷ extra ∷ others) = Err (ExtraWord n)
+
 -- the words after `ordered` on line n: at least one name
 abbrev pub ordered_reading : ℕ → List WordView → Result (Option Directive) DeclError
 ordered_reading n [] = Err (MissingName n)
@@ -39,7 +46,8 @@ words_reading n [] = Ok None
 words_reading n (first ∷ others) =
     if bytes_eq first.bytes (codes "item") then item_reading n others
     else (if bytes_eq first.bytes (codes "flush") then flush_reading n others
-    else (if bytes_eq first.bytes (codes "ordered") then ordered_reading n others else Err (UnknownWord n)))
+    else (if bytes_eq first.bytes (codes "flushwq") then flushwq_reading n others
+    else (if bytes_eq first.bytes (codes "ordered") then ordered_reading n others else Err (UnknownWord n))))
 
 -- what a line says, or its first fault; its comment may hold any bytes
 abbrev pub reading : LineView → Result (Option Directive) DeclError
@@ -69,6 +77,7 @@ directives lines = filter_map (λ (line : LineView). directive_in line.no (readi
 abbrev pub is_ordered : Directive → Bool
 is_ordered (Item name) = false
 is_ordered (Flush name targets) = false
+is_ordered (FlushWq name target) = false
 is_ordered (Ordered names) = true
 
 -- some line is an `ordered` line
@@ -79,6 +88,7 @@ has_ordered ds = list_any (λ (d : ℕ × Directive). is_ordered d.1) ds
 abbrev pub ordered_line : ℕ × Directive → Option (ℕ × List WordView)
 ordered_line (n, Item name) = None
 ordered_line (n, Flush name targets) = None
+ordered_line (n, FlushWq name target) = None
 ordered_line (n, Ordered names) = Some (n, names)
 
 -- the `ordered` lines among directives, in order
@@ -89,6 +99,7 @@ ordered_lines ds = filter_map ordered_line ds
 abbrev pub HasNames : Directive → Type 0
 HasNames (Item name) = IsTrue (is_name name.bytes)
 HasNames (Flush name targets) = IsTrue (is_name name.bytes) × AllByRecursion (λ (w : WordView). IsTrue (is_name w.bytes)) targets
+HasNames (FlushWq name target) = IsTrue (is_name name.bytes) × IsTrue (is_name target.bytes)
 HasNames (Ordered names) = AllByRecursion (λ (w : WordView). IsTrue (is_name w.bytes)) names
 
 -- code 3, 4, 5, 12 or 6, with the line

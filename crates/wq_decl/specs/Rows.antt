@@ -16,17 +16,19 @@ HasBadByte bytes = Any (λ (b : ℕ). ¬ IsTrue (is_text_byte b)) bytes
 
 -- the first word isn't a directive
 abbrev pub IsUnknown : WordView → List WordView → Type 0
-IsUnknown first others = (first.bytes ≢ codes "item") × (first.bytes ≢ codes "flush") × (first.bytes ≢ codes "ordered")
+IsUnknown first others = (first.bytes ≢ codes "item") × (first.bytes ≢ codes "flush") × (first.bytes ≢ codes "flushwq") × (first.bytes ≢ codes "ordered")
 
--- no word follows `item` or `ordered`, or fewer than two follow `flush`
+-- no word follows `item` or `ordered`, or fewer than two follow `flush` or `flushwq`
 abbrev pub LacksName : WordView → List WordView → Type 0
 LacksName first others =
     (((first.bytes ≡ codes "item") ⊎ (first.bytes ≡ codes "ordered")) × (length others < 1))
-    ⊎ ((first.bytes ≡ codes "flush") × (length others < 2))
+    ⊎ (((first.bytes ≡ codes "flush") ⊎ (first.bytes ≡ codes "flushwq")) × (length others < 2))
 
--- more than one word follows `item`
+-- more than one word follows `item`, or more than two follow `flushwq`
 abbrev pub HasExtraWord : WordView → List WordView → Type 0
-HasExtraWord first others = (first.bytes ≡ codes "item") × (1 < length others)
+HasExtraWord first others =
+    ((first.bytes ≡ codes "item") × (1 < length others))
+    ⊎ ((first.bytes ≡ codes "flushwq") × (2 < length others))
 
 -- some word after the first isn't a name
 abbrev pub HasBadName : WordView → List WordView → Type 0

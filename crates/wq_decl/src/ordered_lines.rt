@@ -1,9 +1,8 @@
 //! The `ordered` lines of a declaration, without its other lines.
 //!
-//! The directives are those of "Directives" in docs/FORMAT.md. The lines have no fault, so nothing is judged again: a line is an
-//! `ordered` line where its first word is as long as `ordered`, since `item` and `flush` are shorter. Most lines begin with one of
-//! these, without a blank before it, and are passed over by their first byte. Of another line the first word is cut, and the names on
-//! an `ordered` line are left to the caller. Going over them takes time in the length of the text.
+//! The directives are those of "Directives" in docs/FORMAT.md. The lines have no fault, so nothing is judged again. Most lines begin
+//! with `item`, `flush` or `flushwq`, without a blank before it, and are passed over by their first byte. Of another line the first
+//! word is cut, and the names on an `ordered` line are left to the caller. Going over them takes time in the length of the text.
 
 ghost use Rattle.std.specs.Prelude.{◌≡◌, ◌∷◌, ℕ, List, None, Some, IsOk, IsTrue, length};
 ghost use Rattle.std.specs.List.{cons_option};
@@ -13,9 +12,6 @@ ghost use Rattle.wq_decl.specs.Reading.{reading, directives, first_fault, ordere
 
 use std::marker::Model;
 use wq_text::{Line, Lines, Words};
-
-/// How many bytes the word `ordered` has.
-const ORDERED_LEN: usize = b"ordered".len();
 
 /// Whether bytes begin as `item` or `flush` does: a line of these bytes is no `ordered` line, and that is told without a cut.
 fn begins_otherwise(bytes: &[u8]) -> bool
@@ -37,7 +33,7 @@ fn read_ordered_line<'a>(line: &Line<'a>) -> Option<(u32, Words<'a>)>
     }
     let mut words = line.words();
     let first = words.next()?;
-    if first.bytes().len() == ORDERED_LEN {
+    if first.bytes() == b"ordered".as_slice() {
         Some((line.no(), words))
     } else {
         None

@@ -5,7 +5,7 @@
 ghost use Rattle.std.specs.Prelude.{◌≡◌};
 ghost use Rattle.std.specs.List.{list_all};
 ghost use Rattle.wq_decl.specs.Names.{is_name_byte, is_name, are_names};
-ghost use Rattle.wq_decl.specs.Reading.{is_text_byte, item_reading, flush_reading, ordered_reading, words_reading, reading};
+ghost use Rattle.wq_decl.specs.Reading.{is_text_byte, item_reading, flush_reading, flushwq_reading, ordered_reading, words_reading, reading};
 
 use crate::directive::Directive;
 use crate::fault::DeclError;
@@ -108,6 +108,25 @@ fn read_flush<'a>(line: u32, mut words: Words<'a>) -> Result<Option<Directive<'a
     }
 }
 
+/// The words after `flushwq` on this line.
+fn read_flushwq<'a>(line: u32, mut words: Words<'a>) -> Result<Option<Directive<'a>>, DeclError>
+    ensures { result ≡ flushwq_reading line words.entry }
+{
+    let Some(name) = words.next() else {
+        return Err(DeclError::MissingName { line });
+    };
+    let Some(target) = words.next() else {
+        return Err(DeclError::MissingName { line });
+    };
+    if words.next().is_some() {
+        return Err(DeclError::ExtraWord { line });
+    }
+    if !is_name(name.bytes()) || !is_name(target.bytes()) {
+        return Err(DeclError::BadName { line });
+    }
+    Ok(Some(Directive::FlushWq(name, target)))
+}
+
 /// The words after `ordered` on this line.
 fn read_ordered<'a>(line: u32, mut words: Words<'a>) -> Result<Option<Directive<'a>>, DeclError>
     ensures { result ≡ ordered_reading line words.entry }
@@ -134,6 +153,8 @@ fn read_words<'a>(line: u32, mut words: Words<'a>) -> Result<Option<Directive<'a
         read_item(line, words)
     } else if first.bytes() == b"flush".as_slice() {
         read_flush(line, words)
+    } else if first.bytes() == b"flushwq".as_slice() {
+        read_flushwq(line, words)
     } else if first.bytes() == b"ordered".as_slice() {
         read_ordered(line, words)
     } else {

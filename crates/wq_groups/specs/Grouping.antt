@@ -5,7 +5,7 @@ use Rattle.std.specs.Option.{unwrap_or}
 use Rattle.wq_text.specs.Refusal.{Refusal}
 use Rattle.wq_text.specs.Words.{WordView}
 use Rattle.wq_decl.specs.declared.directive.Directive.{Directive}
-use Rattle.wq_decl.specs.declared.directive.Directive.TheVariants.{Item, Flush, Ordered}
+use Rattle.wq_decl.specs.declared.directive.Directive.TheVariants.{Item, Flush, FlushWq, Ordered}
 use Rattle.wq_groups.specs.declared.fault.GroupError.{GroupError}
 use Rattle.wq_groups.specs.declared.fault.GroupError.TheVariants.{GroupedTwice, OutOfMemory}
 use Rattle.wq_groups.specs.Partition.{Partition}
@@ -14,6 +14,7 @@ use Rattle.wq_groups.specs.Partition.{Partition}
 abbrev pub names_ordered : ℕ × Directive → List (List ℕ)
 names_ordered (n, Item name) = []
 names_ordered (n, Flush name targets) = []
+names_ordered (n, FlushWq name target) = []
 names_ordered (n, Ordered names) = map (λ (word : WordView). word.bytes) names
 
 -- ---- the first fault

@@ -1,6 +1,6 @@
 -- Reading a text at once: what a line seems to say compared with what it says, and what the lines so far have made.
 use Rattle.std.proofs.Common.{◌≡◌, ◌≢◌, ℕ, ◌+◌, ◌-◌, ◌<◌, Bool, true, false, cond, ◌||◌, List, [], ◌∷◌, ◌++◌, length, Option, Some, None, Result, Ok, Err, IsOk, refl, sym, ap, subst, ◌∙◌, arith}
-use Rattle.std.specs.Prelude.{IsTrue, IfNone, codes, bytes_eq, option_map}
+use Rattle.std.specs.Prelude.{IsTrue, IfSome, IfNone, codes, bytes_eq, option_map}
 use Rattle.std.specs.List.{AllByRecursion, list_all, cons_option}
 use Rattle.std.specs.Option.{option_or}
 use Rattle.std.proofs.lemmas.Bool.{and_from, or_right}
@@ -8,18 +8,19 @@ use Rattle.wq_text.specs.Lines.{LineView}
 use Rattle.wq_text.specs.Comments.{before_comment}
 use Rattle.wq_text.specs.Words.{WordView, words_of}
 use Rattle.wq_decl.specs.declared.directive.Directive.{Directive}
-use Rattle.wq_decl.specs.declared.directive.Directive.TheVariants.{Item, Flush, Ordered}
+use Rattle.wq_decl.specs.declared.directive.Directive.TheVariants.{Item, Flush, FlushWq, Ordered}
 use Rattle.wq_decl.specs.declared.fault.DeclError.{DeclError}
 use Rattle.wq_decl.specs.declared.fault.DeclError.TheVariants.{BadByte, BadName}
 use Rattle.wq_decl.specs.Names.{is_name, are_names}
-use Rattle.wq_decl.specs.Reading.{is_text_byte, item_reading, flush_reading, ordered_reading, words_reading, reading, directives, first_fault, fault_in, directive_in, is_ordered, has_ordered, ordered_lines, HasNames}
+use Rattle.wq_decl.specs.Reading.{is_text_byte, item_reading, flush_reading, flushwq_reading, ordered_reading, words_reading, reading, directives, first_fault, fault_in, directive_in, is_ordered, has_ordered, ordered_lines, HasNames}
 use Rattle.wq_decl.proofs.NameLemmas.{HasNames-directives}
 use Rattle.wq_decl.proofs.TextLemmas.{reading-text, reading-words}
 use Rattle.wq_items.specs.declared.fault.ItemError.{ItemError}
 use Rattle.wq_items.specs.Table.{Table, IsTable, item_named}
-use Rattle.wq_items.specs.Building.{empty_table, items_named, declared, and_then, table_after, table_of}
+use Rattle.wq_items.specs.declared.target.Target.{Target}
+use Rattle.wq_items.specs.Building.{AddsWhole, empty_table, items_named, declared, and_then, table_after, table_of}
 use Rattle.wq_items.specs.FirstFault.{RanOut, DeclaresMore}
-use Rattle.wq_items.specs.AtOnce.{item_unjudged, flush_unjudged, unjudged, is_whole, Foretells}
+use Rattle.wq_items.specs.AtOnce.{item_unjudged, flush_unjudged, flushwq_unjudged, unjudged, is_whole, Foretells}
 use Rattle.wq_items.proofs.TableLemmas.{parts, item_named-below}
 use Rattle.wq_items.proofs.BuildingLemmas.{IsTable-table_of}
 use Rattle.wq_items.proofs.GrownTables.{known_next}
@@ -47,6 +48,12 @@ foretells_flush n [] = λ ok. cc
 foretells_flush n (name ∷ []) = (λ whole. absurd cc, λ ok. absurd cc)
 foretells_flush n (name ∷ target ∷ others) = by_test (Flush name (target ∷ others)) (are_names (name ∷ target ∷ others)) (BadName n) refl
 
+foretells_flushwq : (n : ℕ) (ws : List WordView) → Foretells (flushwq_unjudged ws) (flushwq_reading n ws)
+foretells_flushwq n [] = λ ok. cc
+foretells_flushwq n (name ∷ []) = λ ok. cc
+foretells_flushwq n (name ∷ target ∷ []) = by_test (FlushWq name target) (are_names (name ∷ target ∷ [])) (BadName n) refl
+foretells_flushwq n (name ∷ target ∷ extra ∷ others) = λ ok. cc
+
 foretells_ordered : (n : ℕ) (ws : List WordView) → Foretells (Some (Some (Ordered ws))) (ordered_reading n ws)
 foretells_ordered n [] = (λ whole. absurd cc, λ ok. absurd cc)
 foretells_ordered n (name ∷ others) = by_test (Ordered (name ∷ others)) (are_names (name ∷ others)) (BadName n) refl
@@ -56,7 +63,8 @@ foretells_words n [] = refl
 foretells_words n (first ∷ others) =
     Foretells-cond (bytes_eq first.bytes (codes "item")) _ _ _ _ (foretells_item n others) (
     Foretells-cond (bytes_eq first.bytes (codes "flush")) _ _ _ _ (foretells_flush n others) (
-    Foretells-cond (bytes_eq first.bytes (codes "ordered")) _ _ _ _ (foretells_ordered n others) (λ ok. cc)))
+    Foretells-cond (bytes_eq first.bytes (codes "flushwq")) _ _ _ _ (foretells_flushwq n others) (
+    Foretells-cond (bytes_eq first.bytes (codes "ordered")) _ _ _ _ (foretells_ordered n others) (λ ok. cc))))
 
 -- a line that has no fault holds only bytes that it may hold
 text_of_read : (line : LineView) → IsOk (reading line) → list_all is_text_byte (before_comment line.bytes) ≡ true
@@ -240,11 +248,13 @@ OrdersSoFar-blank any first count line left rest all step said h = passed_line a
 other_order : (n : ℕ) (d : Directive) (ds : List (ℕ × Directive)) → is_ordered d ≡ false → ordered_lines ((n, d) ∷ ds) ≡ ordered_lines ds
 other_order n (Item name) ds e = refl
 other_order n (Flush name targets) ds e = refl
+other_order n (FlushWq name target) ds e = refl
 other_order n (Ordered names) ds e = absurd cc
 
 one_order : (n : ℕ) (d : Directive) (ds : List (ℕ × Directive)) → is_ordered d ≡ true → length (ordered_lines ((n, d) ∷ ds)) ≡ 1 + length (ordered_lines ds)
 one_order n (Item name) ds e = absurd cc
 one_order n (Flush name targets) ds e = absurd cc
+one_order n (FlushWq name target) ds e = absurd cc
 one_order n (Ordered names) ds e = omega arith
 
 -- what is noted of a line with a directive
@@ -331,6 +341,15 @@ module _ (t : Table) (sound : IsTable t) where
   whole_flushes name (target ∷ others) i first next found known more =
       let k = known_next (items_named t.names (target ∷ others)) first next known in
       and_from (is_name name.bytes) (are_names (target ∷ others)) (name_found name.bytes i found) (names_found (target ∷ others) k.0 k.1)
+
+  -- so is a `flushwq` line whose words are found
+  pub whole_both : (name target : WordView) (i j : ℕ) → item_named t.names name.bytes ≡ Some i → item_named t.names target.bytes ≡ Some j → IsTrue (is_whole (FlushWq name target))
+  whole_both name target i j first second =
+      and_from (is_name name.bytes) (are_names (target ∷ [])) (name_found name.bytes i first) (and_from (is_name target.bytes) true (name_found target.bytes j second) refl)
+
+  pub whole_added : {X : Type 0} (o : Option X) (old new : List (List Target)) (name target : WordView) (place : ℕ) → IfSome o (λ _. AddsWhole t.names old name.bytes target.bytes place new) → IfSome o (λ _. IsTrue (is_whole (FlushWq name target)))
+  whole_added None old new name target place h = tt
+  whole_added (Some x) old new name target place h = whole_both name target h.item h.other h.first h.second
 
 -- ---- no answer
 

@@ -7,7 +7,7 @@ use Rattle.std.proofs.lemmas.List.Concat.{flat_map-append}
 use Rattle.std.proofs.lemmas.List.Elements.{All-nil, All-cons, filter_map-append}
 use Rattle.wq_text.specs.Words.{WordView}
 use Rattle.wq_decl.specs.declared.directive.Directive.{Directive}
-use Rattle.wq_decl.specs.declared.directive.Directive.TheVariants.{Item, Flush, Ordered}
+use Rattle.wq_decl.specs.declared.directive.Directive.TheVariants.{Item, Flush, FlushWq, Ordered}
 use Rattle.wq_items.specs.declared.fault.ItemError.{ItemError}
 use Rattle.wq_items.specs.declared.fault.ItemError.TheVariants.{ItemTwice, UnknownItem, TooManyItems, TooManyFlushes, OutOfMemory}
 use Rattle.wq_items.specs.Table.{Table, item_named, flush_count}
@@ -105,15 +105,28 @@ IsWithin-step t (n, Item name) u q h e =
       flushes = omega (arith, ap (λ (v : Table). flush_count v.waits) s.after, flush_count-with_item t name, h.flushes);
     }
 IsWithin-step t (n, Flush name targets) u q h e =
-    let s = flush_step t n name targets u e in
+    let s = flush_step t n false name targets u e in
     record {
       even = IsEven-step t (n, Flush name targets) u q h.even e;
       items = omega (arith, ap (λ (v : Table). length v.names) s.after, h.items);
       flushes = omega (
         arith,
         count_step t (n, Flush name targets) u h.even e,
-        length-map {B = List ℕ × List ℕ} targets (λ (w : WordView). (name.bytes, w.bytes)),
+        length-map {B = List ℕ × (Bool × List ℕ)} targets (λ (w : WordView). (name.bytes, (false, w.bytes))),
         length-items_named t.names targets s.items s.others,
+        s.room,
+      );
+    }
+IsWithin-step t (n, FlushWq name target) u q h e =
+    let s = flush_step t n true name (target ∷ []) u e in
+    record {
+      even = IsEven-step t (n, FlushWq name target) u q h.even e;
+      items = omega (arith, ap (λ (v : Table). length v.names) s.after, h.items);
+      flushes = omega (
+        arith,
+        count_step t (n, FlushWq name target) u h.even e,
+        length-map {B = List ℕ × (Bool × List ℕ)} (target ∷ []) (λ (w : WordView). (name.bytes, (true, w.bytes))),
+        length-items_named t.names (target ∷ []) s.items s.others,
         s.room,
       );
     }
@@ -127,8 +140,11 @@ names_known : (t : Table) (d : ℕ × Directive) (u : Table) → declared t d.0 
 unfolding words_bytes
 names_known t (n, Item name) u e = All-nil (Contains t.names)
 names_known t (n, Flush name targets) u e =
-    let s = flush_step t n name targets u e in
+    let s = flush_step t n false name targets u e in
     All-cons (Contains t.names) name.bytes (words_bytes targets) (Contains-item_named t.names name.bytes s.item s.first) (All-items_named t.names targets s.items s.others)
+names_known t (n, FlushWq name target) u e =
+    let s = flush_step t n true name (target ∷ []) u e in
+    All-cons (Contains t.names) name.bytes (words_bytes (target ∷ [])) (Contains-item_named t.names name.bytes s.item s.first) (All-items_named t.names (target ∷ []) s.items s.others)
 names_known t (n, Ordered names) u e = let s = order_step t n names u e in All-items_named t.names names s.items s.known
 
 pub IsFaultless-table_of : (ds : List (ℕ × Directive)) (t : Table) → table_of ds ≡ Ok t → IsFaultless ds
@@ -184,33 +200,35 @@ module _ (before : List (ℕ × Directive)) (t : Table) (makes : table_of before
         flush_count-table_of before t makes,
       )
 
-  flush_fault : (n : ℕ) (name : WordView) (targets : List WordView) (e : ItemError) → flushes_declared t n (items_named t.names (name ∷ targets)) ≡ Err e → IsFaultOfLine before (n, Flush name targets) e
+  -- the words of a line with flushes: what it uses and how many flushes it declares
+  flush_fault : (n : ℕ) (said : Directive) (whole : Bool) (name : WordView) (targets : List WordView) → names_used (n, said) ≡ words_bytes (name ∷ targets) → length (line_flushes (n, said)) ≡ length targets
+      → (e : ItemError) → flushes_declared t n whole (items_named t.names (name ∷ targets)) ≡ Err e → IsFaultOfLine before (n, said) e
   unfolding words_bytes
-  flush_fault n name targets e is = found (items_named t.names (name ∷ targets)) refl is
+  flush_fault n said whole name targets used count e is = found (items_named t.names (name ∷ targets)) refl is
     where
       room : (i : ℕ) (items : List ℕ) → items_named t.names (name ∷ targets) ≡ Some (i ∷ items) → (b : Bool) → ltb 16384 (flush_count t.waits + length items) ≡ b
-          → cond b (Err (TooManyFlushes n)) (Ok (with_flushes t i items)) ≡ Err e → IsFaultOfLine before (n, Flush name targets) e
+          → cond b (Err (TooManyFlushes n)) (Ok (with_flushes t whole i items)) ≡ Err e → IsFaultOfLine before (n, said) e
       room i items there true full is =
           let same : TooManyFlushes n ≡ e = cc in
-          subst (IsFaultOfLine before (n, Flush name targets)) same (
+          subst (IsFaultOfLine before (n, said)) same (
             refl,
-            subst (λ (l : List (List ℕ)). All (Contains l) (map (λ (word : WordView). word.bytes) (name ∷ targets))) names_are (All-items_named t.names (name ∷ targets) (i ∷ items) there),
+            subst (λ (ns : List (List ℕ)). All (IsDeclared before) ns) (sym used) (subst (λ (l : List (List ℕ)). All (Contains l) (map (λ (word : WordView). word.bytes) (name ∷ targets))) names_are (All-items_named t.names (name ∷ targets) (i ∷ items) there)),
             omega (
               arith,
               ltb-true 16384 (flush_count t.waits + length items) full,
-              flushes_more (n, Flush name targets),
-              length-map {B = List ℕ × List ℕ} targets (λ (w : WordView). (name.bytes, w.bytes)),
+              flushes_more (n, said),
+              count,
               length-items_named t.names (name ∷ targets) (i ∷ items) there,
             ),
           )
       room i items there false full is = absurd cc
 
-      found : (o : Option (List ℕ)) → items_named t.names (name ∷ targets) ≡ o → flushes_declared t n o ≡ Err e → IsFaultOfLine before (n, Flush name targets) e
+      found : (o : Option (List ℕ)) → items_named t.names (name ∷ targets) ≡ o → flushes_declared t n whole o ≡ Err e → IsFaultOfLine before (n, said) e
       found None there is =
           let same : UnknownItem n ≡ e = cc in
-          subst (IsFaultOfLine before (n, Flush name targets)) same (
+          subst (IsFaultOfLine before (n, said)) same (
             refl,
-            subst (λ (l : List (List ℕ)). Any (λ (name : List ℕ). ¬ Contains l name) (map (λ (word : WordView). word.bytes) (name ∷ targets))) names_are (Any-items_named t.names (name ∷ targets) there),
+            subst (λ (ns : List (List ℕ)). Any (λ (name : List ℕ). ¬ IsDeclared before name) ns) (sym used) (subst (λ (l : List (List ℕ)). Any (λ (name : List ℕ). ¬ Contains l name) (map (λ (word : WordView). word.bytes) (name ∷ targets))) names_are (Any-items_named t.names (name ∷ targets) there)),
           )
       found (Some []) there is = absurd cc
       found (Some (i ∷ items)) there is = room i items there (ltb 16384 (flush_count t.waits + length items)) refl is
@@ -229,8 +247,10 @@ module _ (before : List (ℕ × Directive)) (t : Table) (makes : table_of before
       found (Some items) there is = absurd cc
 
   pub IsFaultOfLine-declared : (d : ℕ × Directive) (e : ItemError) → declared t d.0 d.1 ≡ Err e → IsFaultOfLine before d e
+  unfolding words_bytes
   IsFaultOfLine-declared (n, Item name) e is = item_fault n name e is
-  IsFaultOfLine-declared (n, Flush name targets) e is = flush_fault n name targets e is
+  IsFaultOfLine-declared (n, Flush name targets) e is = flush_fault n (Flush name targets) false name targets refl (length-map {B = List ℕ × (Bool × List ℕ)} targets (λ (w : WordView). (name.bytes, (false, w.bytes)))) e is
+  IsFaultOfLine-declared (n, FlushWq name target) e is = flush_fault n (FlushWq name target) true name (target ∷ []) refl refl e is
   IsFaultOfLine-declared (n, Ordered names) e is = order_fault n names e is
 
   -- after faultless lines, such a line is refused
@@ -252,7 +272,7 @@ module _ (before : List (ℕ × Directive)) (t : Table) (makes : table_of before
   declared-from_fault h (n, Flush name targets) (TooManyItems m) p = absurd p.1
   declared-from_fault h (n, Flush name targets) (UnknownItem m) p =
       let unknown = subst (λ (l : List (List ℕ)). Any (λ (name : List ℕ). ¬ Contains l name) (map (λ (word : WordView). word.bytes) (name ∷ targets))) (sym names_are) p.1 in
-      ap (flushes_declared t n) (items_named-from_Any t.names (name ∷ targets) unknown) ∙ ap (λ (k : ℕ). Err (UnknownItem k)) p.0
+      ap (flushes_declared t n false) (items_named-from_Any t.names (name ∷ targets) unknown) ∙ ap (λ (k : ℕ). Err (UnknownItem k)) p.0
   declared-from_fault h (n, Flush name targets) (TooManyFlushes m) p =
       let known = subst (λ (l : List (List ℕ)). All (Contains l) (map (λ (word : WordView). word.bytes) (name ∷ targets))) (sym names_are) p.1 in
       let k = items_named-from_All t.names (name ∷ targets) known in
@@ -262,13 +282,33 @@ module _ (before : List (ℕ × Directive)) (t : Table) (makes : table_of before
         arith,
         p.2,
         flushes_more (n, Flush name targets),
-        length-map {B = List ℕ × List ℕ} targets (λ (w : WordView). (name.bytes, w.bytes)),
+        length-map {B = List ℕ × (Bool × List ℕ)} targets (λ (w : WordView). (name.bytes, (false, w.bytes))),
         length-items_named t.names targets q.others q.rest,
       ) in
-      ap (flushes_declared t n) (k.are ∙ ap Some q.whole)
-      ∙ ap (λ (b : Bool). cond b (Err (TooManyFlushes n)) (Ok (with_flushes t q.item q.others))) (lt-ltb 16384 (flush_count t.waits + length q.others) full)
+      ap (flushes_declared t n false) (k.are ∙ ap Some q.whole)
+      ∙ ap (λ (b : Bool). cond b (Err (TooManyFlushes n)) (Ok (with_flushes t false q.item q.others))) (lt-ltb 16384 (flush_count t.waits + length q.others) full)
       ∙ ap (λ (k : ℕ). Err (TooManyFlushes k)) p.0
   declared-from_fault h (n, Flush name targets) OutOfMemory p = absurd p
+  declared-from_fault h (n, FlushWq name target) (ItemTwice m) p = absurd p.1
+  declared-from_fault h (n, FlushWq name target) (TooManyItems m) p = absurd p.1
+  declared-from_fault h (n, FlushWq name target) (UnknownItem m) p =
+      let unknown = subst (λ (l : List (List ℕ)). Any (λ (name : List ℕ). ¬ Contains l name) (map (λ (word : WordView). word.bytes) (name ∷ target ∷ []))) (sym names_are) p.1 in
+      ap (flushes_declared t n true) (items_named-from_Any t.names (name ∷ target ∷ []) unknown) ∙ ap (λ (k : ℕ). Err (UnknownItem k)) p.0
+  declared-from_fault h (n, FlushWq name target) (TooManyFlushes m) p =
+      let known = subst (λ (l : List (List ℕ)). All (Contains l) (map (λ (word : WordView). word.bytes) (name ∷ target ∷ []))) (sym names_are) p.1 in
+      let k = items_named-from_All t.names (name ∷ target ∷ []) known in
+      let q = parts (item_named t.names name.bytes) (items_named t.names (target ∷ [])) k.items k.are in
+      let full : 16384 < flush_count t.waits + length q.others =
+      omega (
+        arith,
+        p.2,
+        flushes_more (n, FlushWq name target),
+        length-items_named t.names (target ∷ []) q.others q.rest,
+      ) in
+      ap (flushes_declared t n true) (k.are ∙ ap Some q.whole)
+      ∙ ap (λ (b : Bool). cond b (Err (TooManyFlushes n)) (Ok (with_flushes t true q.item q.others))) (lt-ltb 16384 (flush_count t.waits + length q.others) full)
+      ∙ ap (λ (k : ℕ). Err (TooManyFlushes k)) p.0
+  declared-from_fault h (n, FlushWq name target) OutOfMemory p = absurd p
   declared-from_fault h (n, Ordered names) (ItemTwice m) p = absurd p.1
   declared-from_fault h (n, Ordered names) (TooManyItems m) p = absurd p.1
   declared-from_fault h (n, Ordered names) (UnknownItem m) p =
@@ -292,6 +332,7 @@ no_fault_among ds before (n, Item name) after (ItemTwice m) h is p =
     subst (AllPairs (λ (a b : List ℕ). a ≢ b)) (ap (filter_map item_name) is ∙ filter_map-append item_name before ((n, Item name) ∷ after)) h.once
     )
 no_fault_among ds before (n, Flush name targets) after (ItemTwice m) h is p = p.1
+no_fault_among ds before (n, FlushWq name target) after (ItemTwice m) h is p = p.1
 no_fault_among ds before (n, Ordered names) after (ItemTwice m) h is p = p.1
 no_fault_among ds before (n, Item name) after (TooManyItems m) h is p =
     omega (
@@ -302,6 +343,7 @@ no_fault_among ds before (n, Item name) after (TooManyItems m) h is p =
       length-append (filter_map item_name before) (name.bytes ∷ filter_map item_name after),
     )
 no_fault_among ds before (n, Flush name targets) after (TooManyItems m) h is p = p.1
+no_fault_among ds before (n, FlushWq name target) after (TooManyItems m) h is p = p.1
 no_fault_among ds before (n, Ordered names) after (TooManyItems m) h is p = p.1
 no_fault_among ds before d after (UnknownItem m) h is p = not_both (filter_map item_name before) (names_used d) (h.known before d after is) p.1
 no_fault_among ds before d after (TooManyFlushes m) h is p =

@@ -2,7 +2,7 @@
 use Rattle.std.specs.Prelude.{◌≡◌, Bool, false, if◌then◌else◌, List, [], ◌∷◌, Option, Some, None, Result, Ok, IsOk, bytes_eq, codes, IsTrue}
 use Rattle.wq_text.specs.Words.{WordView}
 use Rattle.wq_decl.specs.declared.directive.Directive.{Directive}
-use Rattle.wq_decl.specs.declared.directive.Directive.TheVariants.{Item, Flush, Ordered}
+use Rattle.wq_decl.specs.declared.directive.Directive.TheVariants.{Item, Flush, FlushWq, Ordered}
 use Rattle.wq_decl.specs.declared.fault.DeclError.{DeclError}
 use Rattle.wq_decl.specs.Names.{is_name, are_names}
 
@@ -17,6 +17,13 @@ abbrev pub flush_unjudged : List WordView → Option (Option Directive)
 flush_unjudged [] = None
 flush_unjudged (name ∷ targets) = Some (Some (Flush name targets))
 
+-- the words after `flushwq` as a directive, if there are exactly two
+abbrev pub flushwq_unjudged : List WordView → Option (Option Directive)
+flushwq_unjudged [] = None
+flushwq_unjudged (name ∷ []) = None
+flushwq_unjudged (name ∷ target ∷ []) = Some (Some (FlushWq name target))
+flushwq_unjudged (name ∷ target ∷ extra ∷ others) = None
+
 -- the words of a line as a directive, whatever they are and even if there are too few: nothing on a blank line, and no answer
 -- if they can't be those of a directive
 abbrev pub unjudged : List WordView → Option (Option Directive)
@@ -24,13 +31,15 @@ unjudged [] = Some None
 unjudged (first ∷ others) =
     if bytes_eq first.bytes (codes "item") then item_unjudged others
     else (if bytes_eq first.bytes (codes "flush") then flush_unjudged others
-    else (if bytes_eq first.bytes (codes "ordered") then Some (Some (Ordered others)) else None))
+    else (if bytes_eq first.bytes (codes "flushwq") then flushwq_unjudged others
+    else (if bytes_eq first.bytes (codes "ordered") then Some (Some (Ordered others)) else None)))
 
 -- the directive has as many words as it needs, and each of them is a name
 abbrev pub is_whole : Directive → Bool
 is_whole (Item name) = is_name name.bytes
 is_whole (Flush name []) = false
 is_whole (Flush name (target ∷ others)) = are_names (name ∷ target ∷ others)
+is_whole (FlushWq name target) = are_names (name ∷ target ∷ [])
 is_whole (Ordered []) = false
 is_whole (Ordered (name ∷ others)) = are_names (name ∷ others)
 

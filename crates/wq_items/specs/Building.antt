@@ -1,10 +1,10 @@
 -- Building: how the directives of a declaration make its table, one after the other, or what the first fault is.
-use Rattle.std.specs.Prelude.{◌≡◌, ℕ, ◌+◌, nat_le, nat_lt, if◌then◌else◌, List, [], ◌∷◌, ◌++◌, length, slice_set, Option, Some, None, Result, Ok, Err, is_some}
+use Rattle.std.specs.Prelude.{◌≡◌, Bool, true, false, ℕ, ◌+◌, nat_le, nat_lt, if◌then◌else◌, List, [], ◌∷◌, ◌++◌, length, slice_set, Option, Some, None, Result, Ok, Err, is_some}
 use Rattle.wq_text.specs.declared.span.Span.{Span}
 use Rattle.wq_text.specs.Words.{WordView}
 use Rattle.wq_text.specs.Refusal.{Refusal}
 use Rattle.wq_decl.specs.declared.directive.Directive.{Directive}
-use Rattle.wq_decl.specs.declared.directive.Directive.TheVariants.{Item, Flush, Ordered}
+use Rattle.wq_decl.specs.declared.directive.Directive.TheVariants.{Item, Flush, FlushWq, Ordered}
 use Rattle.wq_items.specs.declared.target.Target.{Target}
 use Rattle.wq_items.specs.declared.fault.ItemError.{ItemError}
 use Rattle.wq_items.specs.declared.fault.ItemError.TheVariants.{ItemTwice, UnknownItem, TooManyItems, TooManyFlushes, OutOfMemory}
@@ -23,14 +23,14 @@ abbrev pub with_item : Table → WordView → Table
 with_item t name =
     record { names = t.names ++ (name.bytes ∷ []); spans = t.spans ++ (span_of name ∷ []); waits = t.waits ++ ([] ∷ []) }
 
--- targets, the first of which is at this place
-abbrev pub targets_from : ℕ → List ℕ → List Target
-targets_from place [] = []
-targets_from place (item ∷ items) = record { item = item; place = place } ∷ targets_from (place + 1) items
+-- targets of one kind, the first of which is at this place
+abbrev pub targets_from : Bool → ℕ → List ℕ → List Target
+targets_from whole place [] = []
+targets_from whole place (item ∷ items) = record { item = item; whole = whole; place = place } ∷ targets_from whole (place + 1) items
 
--- the table in which item i flushes these items too, at the next places
-abbrev pub with_flushes : Table → ℕ → List ℕ → Table
-with_flushes t i items = record t { waits = slice_set t.waits i (targets_of t.waits i ++ targets_from (flush_count t.waits) items) }
+-- the table in which item i flushes these items too, or their whole workqueues, at the next places
+abbrev pub with_flushes : Table → Bool → ℕ → List ℕ → Table
+with_flushes t whole i items = record t { waits = slice_set t.waits i (targets_of t.waits i ++ targets_from whole (flush_count t.waits) items) }
 
 -- an item before the others, if all are known
 abbrev pub and_item : Option ℕ → Option (List ℕ) → Option (List ℕ)
@@ -49,12 +49,20 @@ item_declared t n name =
     if is_some (item_named t.names name.bytes) then Err (ItemTwice n)
     else (if nat_le max_items (length t.names) then Err (TooManyItems n) else Ok (with_item t name))
 
--- line n declares that the first of these items flushes the others, if all names on it are known
-abbrev pub flushes_declared : Table → ℕ → Option (List ℕ) → Result Table ItemError
-flushes_declared t n None = Err (UnknownItem n)
-flushes_declared t n (Some []) = Ok t
-flushes_declared t n (Some (i ∷ items)) =
-    if nat_lt max_flushes (flush_count t.waits + length items) then Err (TooManyFlushes n) else Ok (with_flushes t i items)
+-- line n declares that the first of these items flushes the others, or their whole workqueues, if all names on it are known
+abbrev pub flushes_declared : Table → ℕ → Bool → Option (List ℕ) → Result Table ItemError
+flushes_declared t n whole None = Err (UnknownItem n)
+flushes_declared t n whole (Some []) = Ok t
+flushes_declared t n whole (Some (i ∷ items)) =
+    if nat_lt max_flushes (flush_count t.waits + length items) then Err (TooManyFlushes n) else Ok (with_flushes t whole i items)
+
+-- the whole workqueue of the item with one name was added to the targets of the item with another, at this place
+pub record AddsWhole (names : List (List ℕ)) (old : List (List Target)) (name target : List ℕ) (place : ℕ) (new : List (List Target)) : Type 0 where
+  pub item : ℕ
+  pub other : ℕ
+  pub first : item_named names name ≡ Some item
+  pub second : item_named names target ≡ Some other
+  pub lists : new ≡ slice_set old item (targets_of old item ++ targets_from true place (other ∷ []))
 
 -- line n puts these items into one group, if all names on it are known; the table stays as it is
 abbrev pub items_ordered : Table → ℕ → Option (List ℕ) → Result Table ItemError
@@ -64,7 +72,8 @@ items_ordered t n (Some items) = Ok t
 -- the table after the directive of line n, or its first fault by the rows of the format's table
 abbrev pub declared : Table → ℕ → Directive → Result Table ItemError
 declared t n (Item name) = item_declared t n name
-declared t n (Flush name targets) = flushes_declared t n (items_named t.names (name ∷ targets))
+declared t n (Flush name targets) = flushes_declared t n false (items_named t.names (name ∷ targets))
+declared t n (FlushWq name target) = flushes_declared t n true (items_named t.names (name ∷ target ∷ []))
 declared t n (Ordered names) = items_ordered t n (items_named t.names names)
 
 -- what follows a value, if there is one; an error stays

@@ -1,5 +1,5 @@
 -- Tables: what a declaration declares, item by item.
-use Rattle.std.specs.Prelude.{◌≡◌, ◌≢◌, ℕ, ◌<◌, ◌≤◌, ◌==◌, List, [], length, filter, slice_get, slice_index, slice_index_or, IsTrue, Option, Some, map, position, bytes_eq, sum_by, AllPairs, IsPermutation, flat_map}
+use Rattle.std.specs.Prelude.{◌≡◌, ◌≢◌, ℕ, Bool, ◌<◌, ◌≤◌, ◌==◌, List, [], length, filter, slice_get, slice_index, slice_index_or, IsTrue, Option, Some, map, position, bytes_eq, sum_by, AllPairs, IsPermutation, flat_map}
 use Rattle.std.specs.List.{All, Any, range_with_len}
 use Rattle.std.specs.List.Sorted.{IsStrictlyIncreasing}
 use Rattle.wq_text.specs.declared.span.Span.{Span}
@@ -20,9 +20,13 @@ item_named names name = position (bytes_eq name) names
 abbrev pub targets_of : List (List Target) → ℕ → List Target
 targets_of waits i = slice_index_or waits i []
 
--- item i declares a flush of item j: i waits for j
+-- item i declares a flush of item j, or of its whole workqueue: i waits for j
 abbrev pub ItemWaits : List (List Target) → ℕ → ℕ → Type 0
 ItemWaits waits i j = Any (λ (t : Target). t.item ≡ j) (targets_of waits i)
+
+-- the same of one kind: a flush of item j alone, or of the whole workqueue of item j
+abbrev pub ItemWaitsBy : List (List Target) → Bool → ℕ → ℕ → Type 0
+ItemWaitsBy waits whole i j = Any (λ (t : Target). (t.item ≡ j) × (t.whole ≡ whole)) (targets_of waits i)
 
 -- the items at vertex v, in declaration order, where `vertex_of` has the vertex of each item in turn: its group or its lane
 abbrev pub items_at : List ℕ → ℕ → List ℕ

@@ -10,19 +10,19 @@
 //!
 //! It takes time in the length of the text, on average, and memory in the number of items and flushes: each name is looked up once.
 
-ghost use Rattle.std.specs.Prelude.{◌≡◌, ◌∷◌, ℕ, ◌-◌, ◌<◌, ◌≤◌, ◌^◌, ◌||◌, length, option_map, Ok, IsOk, IfSome, IfNone, IsTrue, None, Some, true, false};
+ghost use Rattle.std.specs.Prelude.{◌≡◌, ◌∷◌, [], ℕ, ◌-◌, ◌<◌, ◌≤◌, ◌^◌, ◌||◌, length, option_map, Ok, IsOk, IfSome, IfNone, IsTrue, None, Some, true, false};
 ghost use Rattle.wq_text.specs.Lines.{lines_of};
 ghost use Rattle.wq_text.specs.Words.{words_of};
-ghost use Rattle.wq_decl.specs.declared.directive.Directive.TheVariants.{Item, Flush, Ordered};
+ghost use Rattle.wq_decl.specs.declared.directive.Directive.TheVariants.{Item, Flush, FlushWq, Ordered};
 ghost use Rattle.wq_decl.specs.Reading.{reading, directives, first_fault};
-ghost use Rattle.wq_items.specs.AtOnce.{unjudged, item_unjudged, flush_unjudged, is_whole, Foretells};
+ghost use Rattle.wq_items.specs.AtOnce.{unjudged, item_unjudged, flush_unjudged, flushwq_unjudged, is_whole, Foretells};
 ghost use Rattle.wq_items.specs.Table.{IsTable};
 ghost use Rattle.wq_items.specs.Building.{empty_table, table_of, declared, item_declared, flushes_declared, items_ordered, items_named};
 ghost use Rattle.wq_items.specs.FirstFault.{RanOut, DeclaresMore};
 
 use crate::flush::Flushes;
 use crate::names::Names;
-use crate::table::{Building, ItemTable, MAX_ITEMS, push_targets};
+use crate::table::{Building, ItemTable, MAX_ITEMS, push_targets, push_whole};
 use crate::target::ItemId;
 use std::alloc::Allocator;
 use std::marker::Model;
@@ -50,6 +50,18 @@ fn flush_unjudged<'a>(mut words: Words<'a>) -> Option<Option<Directive<'a>>>
     Some(Some(Directive::Flush(name, words)))
 }
 
+/// The words after `flushwq` as a directive, if there are exactly two.
+fn flushwq_unjudged<'a>(mut words: Words<'a>) -> Option<Option<Directive<'a>>>
+    ensures { result ≡ flushwq_unjudged words.entry }
+{
+    let name = words.next()?;
+    let target = words.next()?;
+    match words.next() {
+        None => Some(Some(Directive::FlushWq(name, target))),
+        Some(_) => None,
+    }
+}
+
 /// The words of a line as a directive, whatever they are.
 fn words_unjudged<'a>(mut words: Words<'a>) -> Option<Option<Directive<'a>>>
     ensures { result ≡ unjudged words.entry }
@@ -57,11 +69,17 @@ fn words_unjudged<'a>(mut words: Words<'a>) -> Option<Option<Directive<'a>>>
     let Some(first) = words.next() else {
         return Some(None);
     };
-    match first.bytes() {
-        [b'i', b't', b'e', b'm'] => item_unjudged(words),
-        [b'f', b'l', b'u', b's', b'h'] => flush_unjudged(words),
-        [b'o', b'r', b'd', b'e', b'r', b'e', b'd'] => Some(Some(Directive::Ordered(words))),
-        _ => None,
+    let first = first.bytes();
+    if first == b"item".as_slice() {
+        item_unjudged(words)
+    } else if first == b"flush".as_slice() {
+        flush_unjudged(words)
+    } else if first == b"flushwq".as_slice() {
+        flushwq_unjudged(words)
+    } else if first == b"ordered".as_slice() {
+        Some(Some(Directive::Ordered(words)))
+    } else {
+        None
     }
 }
 
@@ -135,6 +153,7 @@ impl<'a, A: Allocator + Copy> Parts<'a, A> {
         match directive {
             Directive::Item(name) => self.take_item(name),
             Directive::Flush(name, targets) => self.take_flushes(name, targets),
+            Directive::FlushWq(name, target) => self.take_whole(name, target),
             Directive::Ordered(names) => self.take_order(names),
         }
     }
@@ -159,7 +178,7 @@ impl<'a, A: Allocator + Copy> Parts<'a, A> {
     /// Adds the flushes that one item declares, if there are some.
     fn take_flushes(&mut self, name: Word<'a>, targets: Words<'a>) -> Option<()>
         requires { IsTable self.old }
-        ensures table { IfSome result (λ _. (n : ℕ) → flushes_declared self.old n (items_named self.old.names (name.entry ∷ targets.entry)) ≡ Ok self.new) }
+        ensures table { IfSome result (λ _. (n : ℕ) → flushes_declared self.old n false (items_named self.old.names (name.entry ∷ targets.entry)) ≡ Ok self.new) }
         ensures whole { IfSome result (λ _. IsTrue (is_whole (Flush name.entry targets.entry))) }
     {
         let item = self.names.find(name.bytes())?;
@@ -169,6 +188,16 @@ impl<'a, A: Allocator + Copy> Parts<'a, A> {
             return None;
         }
         Some(())
+    }
+
+    /// Adds the flush of a whole workqueue.
+    fn take_whole(&mut self, name: Word<'a>, target: Word<'a>) -> Option<()>
+        requires { IsTable self.old }
+        ensures table { IfSome result (λ _. (n : ℕ) → flushes_declared self.old n true (items_named self.old.names (name.entry ∷ target.entry ∷ [])) ≡ Ok self.new) }
+        ensures whole { IfSome result (λ _. IsTrue (is_whole (FlushWq name.entry target.entry))) }
+    {
+        let place = self.waits.len() as u32;
+        push_whole(&self.names, &mut self.waits, name, target, place)
     }
 
     /// Adds nothing, if there are words and each of them names an item.

@@ -8,13 +8,13 @@
 //! one vector, in order of place (`Building`). At the end they are sorted by their items. Afterwards each question is answered in
 //! constant time, except for `find`, which takes the time to hash a name.
 
-ghost use Rattle.std.specs.Prelude.{◌≡◌, ◌+◌, ◌^◌, ◌<◌, ◌≤◌, ℕ, length, Ok, Err, IfOk, IfErr, IfSome, IfNone, OnErr, IsOk, slice_get, slice_set, Some, IsTrue, ◌↔◌, ◌∷◌, ◌++◌, option_map};
+ghost use Rattle.std.specs.Prelude.{◌≡◌, ◌+◌, ◌^◌, ◌<◌, ◌≤◌, ℕ, [], true, false, length, Ok, Err, IfOk, IfErr, IfSome, IfNone, OnErr, IsOk, slice_get, slice_set, Some, IsTrue, ◌↔◌, ◌∷◌, ◌++◌, option_map};
 ghost use Rattle.wq_decl.specs.Names.{is_name};
 ghost use Rattle.wq_decl.specs.Reading.{HasNames};
 ghost use Rattle.wq_items.specs.Table.{Table, IsTable, item_named, targets_of, flush_count};
 ghost use Rattle.wq_items.specs.declared.fault.ItemError.TheVariants.{OutOfMemory};
 ghost use Rattle.wq_items.specs.FirstFault.{RanOut, DeclaresMore};
-ghost use Rattle.wq_items.specs.Building.{table_of, declared, item_declared, flushes_declared, items_ordered, items_named, and_item, targets_from, empty_table, IsFaultOf};
+ghost use Rattle.wq_items.specs.Building.{table_of, declared, item_declared, flushes_declared, items_ordered, items_named, and_item, targets_from, empty_table, IsFaultOf, AddsWhole};
 
 use crate::fault::ItemError;
 use crate::flush::Flushes;
@@ -105,7 +105,7 @@ pub(crate) fn push_targets<'a, A: Allocator + Copy>(
     ensures next { IfSome result (λ next. option_map (λ items. place + length items) (items_named names.now targets.entry) ≡ Some next) }
     ensures room { IfSome result (λ next. next ≤ 16384) }
     ensures added { IfSome result (λ _. IfSome (items_named names.now targets.entry) (λ items.
-        waits.new ≡ slice_set waits.old item (targets_of waits.old item ++ targets_from place items))) }
+        waits.new ≡ slice_set waits.old item (targets_of waits.old item ++ targets_from false place items))) }
     ensures none { IfNone result (0 < length targets.entry) }
 {
     let mut next = place;
@@ -116,12 +116,63 @@ pub(crate) fn push_targets<'a, A: Allocator + Copy>(
         }
         let target = Target {
             item: ItemId::new(target as u16),
+            whole: false,
             place: next,
         };
         waits.push_target(item, target).ok()?;
         next += 1;
     }
     Some(next)
+}
+
+/// Adds the whole workqueue of the item with one name to the targets of the item with another, at this place. It returns nothing where
+/// a name is unknown, where there are too many flushes, or where memory ran out; `refusal_of_whole` says which it is.
+pub(crate) fn push_whole<'a, A: Allocator + Copy>(
+    names: &Names<'a, A>,
+    waits: &mut Flushes<A>,
+    name: Word<'a>,
+    target: Word<'a>,
+    place: u32,
+) -> Option<()>
+    requires each { length waits.old ≡ length names.now }
+    requires items { length names.now ≤ 4096 }
+    ensures room { IfSome result (λ _. place < 16384) }
+    ensures added { IfSome result (λ _. AddsWhole names.now waits.old name.entry.bytes target.entry.bytes place waits.new) }
+{
+    let item = names.find(name.bytes())?;
+    let other = names.find(target.bytes())?;
+    if place >= MAX_FLUSHES {
+        return None;
+    }
+    let target = Target {
+        item: ItemId::new(other as u16),
+        whole: true,
+        place,
+    };
+    waits.push_target(item, target).ok()
+}
+
+/// Why the whole workqueue of an item wasn't added to a table with this many flushes.
+fn refusal_of_whole<'a, A: Allocator + Copy>(
+    names: &Names<'a, A>,
+    flushes: u32,
+    line: u32,
+    name: Word<'a>,
+    target: Word<'a>,
+) -> ItemError
+    requires room { flushes ≤ 16384 }
+    ensures fault { (t : Table) → t.names ≡ names.now → flush_count t.waits ≡ flushes →
+        IsFaultOf result (flushes_declared t line true (items_named t.names (name.entry ∷ target.entry ∷ []))) }
+    ensures memory { (t : Table) → t.names ≡ names.now → flush_count t.waits ≡ flushes → result ≡ OutOfMemory →
+        IsOk (flushes_declared t line true (items_named t.names (name.entry ∷ target.entry ∷ []))) }
+{
+    if names.find(name.bytes()).is_none() || names.find(target.bytes()).is_none() {
+        return ItemError::UnknownItem { line };
+    }
+    if flushes >= MAX_FLUSHES {
+        return ItemError::TooManyFlushes { line };
+    }
+    ItemError::OutOfMemory
 }
 
 /// Why the targets of a line weren't added to a table with this many flushes.
@@ -134,9 +185,9 @@ fn refusal<'a, A: Allocator + Copy>(
     requires few { length targets < 2 ^ 32 }
     requires room { flushes ≤ 16384 }
     ensures fault { (t : Table) (i : ℕ) → flush_count t.waits ≡ flushes →
-        IsFaultOf result (flushes_declared t line (and_item (Some i) (items_named names.now targets.entry))) }
+        IsFaultOf result (flushes_declared t line false (and_item (Some i) (items_named names.now targets.entry))) }
     ensures memory { (t : Table) (i : ℕ) → flush_count t.waits ≡ flushes → result ≡ OutOfMemory →
-        IsOk (flushes_declared t line (and_item (Some i) (items_named names.now targets.entry))) }
+        IsOk (flushes_declared t line false (and_item (Some i) (items_named names.now targets.entry))) }
 {
     match count_known(names, targets) {
         None => ItemError::UnknownItem { line },
@@ -195,6 +246,7 @@ impl<'a, A: Allocator + Copy> Building<'a, A> {
         match directive {
             Directive::Item(name) => self.declare_item(line, name),
             Directive::Flush(name, targets) => self.declare_flushes(line, name, targets),
+            Directive::FlushWq(name, target) => self.declare_whole(line, name, target),
             Directive::Ordered(names) => self.declare_order(line, names),
         }
     }
@@ -235,9 +287,9 @@ impl<'a, A: Allocator + Copy> Building<'a, A> {
         name: Word<'a>,
         targets: Words<'a>,
     ) -> Result<Self, ItemError>
-        ensures table { IfOk result (λ t. flushes_declared self.entry line (items_named self.entry.names (name.entry ∷ targets.entry)) ≡ Ok t) }
-        ensures fault { IfErr result (λ e. IsFaultOf e (flushes_declared self.entry line (items_named self.entry.names (name.entry ∷ targets.entry)))) }
-        ensures memory { IfErr result (λ e. e ≡ OutOfMemory → IsOk (flushes_declared self.entry line (items_named self.entry.names (name.entry ∷ targets.entry)))) }
+        ensures table { IfOk result (λ t. flushes_declared self.entry line false (items_named self.entry.names (name.entry ∷ targets.entry)) ≡ Ok t) }
+        ensures fault { IfErr result (λ e. IsFaultOf e (flushes_declared self.entry line false (items_named self.entry.names (name.entry ∷ targets.entry)))) }
+        ensures memory { IfErr result (λ e. e ≡ OutOfMemory → IsOk (flushes_declared self.entry line false (items_named self.entry.names (name.entry ∷ targets.entry)))) }
         ensures grows { IfErr result (λ e. e ≡ OutOfMemory → 0 < length targets.entry) }
     {
         let Some(item) = self.names.find(name.bytes()) else {
@@ -257,6 +309,29 @@ impl<'a, A: Allocator + Copy> Building<'a, A> {
                 flushes,
             }),
             None => Err(refusal(&names, flushes, line, targets)),
+        }
+    }
+
+    /// The table with a flush of the whole workqueue of an item.
+    fn declare_whole(self, line: u32, name: Word<'a>, target: Word<'a>) -> Result<Self, ItemError>
+        ensures table { IfOk result (λ t. flushes_declared self.entry line true (items_named self.entry.names (name.entry ∷ target.entry ∷ [])) ≡ Ok t) }
+        ensures fault { IfErr result (λ e. IsFaultOf e (flushes_declared self.entry line true (items_named self.entry.names (name.entry ∷ target.entry ∷ [])))) }
+        ensures memory { IfErr result (λ e. e ≡ OutOfMemory → IsOk (flushes_declared self.entry line true (items_named self.entry.names (name.entry ∷ target.entry ∷ [])))) }
+    {
+        let Building {
+            names,
+            spans,
+            mut waits,
+            flushes,
+        } = self;
+        match push_whole(&names, &mut waits, name.again(), target.again(), flushes) {
+            Some(()) => Ok(Building {
+                names,
+                spans,
+                waits,
+                flushes: flushes + 1,
+            }),
+            None => Err(refusal_of_whole(&names, flushes, line, name, target)),
         }
     }
 

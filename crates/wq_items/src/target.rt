@@ -47,5 +47,7 @@ impl Default for ItemId {
 #[derive(Clone, Copy, Debug, Default, PartialEq, Eq)]
 pub struct Target {
     pub item: ItemId,
+    /// Whether the whole workqueue of the item is flushed.
+    pub whole: bool,
     pub place: u32,
 }

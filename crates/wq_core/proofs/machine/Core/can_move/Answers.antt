@@ -1,7 +1,10 @@
-use Rattle.std.proofs.Common.{◌≡◌, ◌↔◌, None, sym, ◌∙◌, subst, refl}
+use Rattle.std.proofs.Common.{◌≡◌, ◌<◌, ◌↔◌, None, sym, ◌∙◌, subst, refl}
 use Rattle.std.specs.Prelude.{IsTrue}
 use Rattle.wq_core.specs.declared.entry.Waiting.{Waiting}
-use Rattle.wq_core.specs.State.{lane_at, HasUnfinishedBelow}
+use Rattle.wq_core.specs.Wiring.{items}
+use Rattle.wq_core.specs.State.{lane_at}
+use Rattle.wq_core.proofs.LawfulSteps.{waiting-target}
+use Rattle.wq_core.specs.Rules.{IsHeldBack}
 use Rattle.wq_core.proofs.DeclaredSteps.{CanMove-idle, CanMove-waiting, CanMove-awake}
 use Rattle.wq_core.proofs.machine.Core.can_move.Goals as goal
 
@@ -16,8 +19,15 @@ returns-in_default-waiting g c =
     let m = c.args.self.now in
     ((λ h. CanMove-awake m.wiring m.state c.args.q c.in-Some.running (sym c.in-Some.ensures.running) c.in_default-waiting.is), (λ can. refl))
 
+pub is_held_back-requires : goal.is_held_back-requires
+is_held_back-requires g c =
+    let m = c.args.self.now in
+    let machine = c.in-Some.ensures.machine in
+    let below = waiting-target m.wiring m.state c.args.q c.in-Some.running c.in-Some-waiting.flush machine.wiring machine.state (sym c.in-Some.ensures.running) c.in-Some-waiting.is in
+    subst (λ (f : Waiting). f.target < items m.wiring) (sym c.in-Some-waiting.flush-is) below
+
 pub returns : goal.returns
 returns g c =
     let m = c.args.self.now in
-    let left = subst (λ (f : Waiting). IsTrue c.unfinished_below.result ↔ HasUnfinishedBelow m.state f.target f.mark) c.in-Some-waiting.flush-is c.unfinished_below.ensures in
-    CanMove-waiting m.wiring m.state c.args.q c.in-Some.running (sym c.in-Some.ensures.running) c.in-Some-waiting.flush c.in-Some-waiting.is c.unfinished_below.result left
+    let left = subst (λ (f : Waiting). IsTrue c.is_held_back.result ↔ IsHeldBack m.wiring m.state f.whole f.target f.mark) c.in-Some-waiting.flush-is c.is_held_back.ensures in
+    CanMove-waiting m.wiring m.state c.args.q c.in-Some.running (sym c.in-Some.ensures.running) c.in-Some-waiting.flush c.in-Some-waiting.is c.is_held_back.result left

@@ -28,7 +28,7 @@ pub loop-entry-init : goal.loop-entry-init
 loop-entry-init g c =
     let m = c.args.self.now in
     let all : deque_iter_rest c.into_iter-entry-iterator.result ≡ (lane_at m.state c.args.q).pending =
-    all_left c.into_iter-entry-iterator.result c.pending-entry-items.result c.lane.result.now.lane (lane_at m.state c.args.q) c.into_iter-entry-iterator.ensures.into_iter_gives c.pending-entry-items.ensures c.lane.ensures in
+    all_left c.into_iter-entry-iterator.result c.pending-entry-items.result c.lane.result.now.lane (lane_at m.state c.args.q) c.into_iter-entry-iterator.ensures.into_iter_gives c.pending-entry-items.ensures c.lane.ensures.lane in
     record {
       so_far = omega (arith, ap (sum_by (λ (e : Entry). whole_work m.wiring e.item)) all);
       rest = subst (All (λ (e : Entry). e.item < items m.wiring)) (sym all) (pending_items-exist m.wiring m.state c.items-items.ensures.machine.state c.args.q);

@@ -5,7 +5,7 @@ use Rattle.wq_core.proofs.machine.Core.runs_below.Goals as goal
 pub returns-then-from-items : goal.returns-then-from-items
 returns-then-from-items g c =
     let m = c.args.self.now in
-    rw c.runs_below.ensures (runs_below-exactly m.wiring m.state c.lane_of.result c.args.item c.args.mark c.lane.result.now.lane c.items.ensures.machine.state c.lane_of.ensures.lane c.lane.ensures)
+    rw c.runs_below.ensures (runs_below-exactly m.wiring m.state c.lane_of.result c.args.item c.args.mark c.lane.result.now.lane c.items.ensures.machine.state c.lane_of.ensures.lane c.lane.ensures.lane)
 
 pub returns-else-from-items : goal.returns-else-from-items
 returns-else-from-items g c =

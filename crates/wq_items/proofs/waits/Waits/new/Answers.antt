@@ -1,4 +1,4 @@
-use Rattle.std.proofs.Common.{◌≡◌, ℕ, ◌<◌, List, length, map, get_or, sym, ap, subst, ◌∙◌}
+use Rattle.std.proofs.Common.{◌≡◌, false, ℕ, ◌<◌, List, length, map, get_or, sym, ap, subst, ◌∙◌}
 use Rattle.std.specs.List.{All}
 use Rattle.std.proofs.lemmas.List.Elements.{All-map}
 use Rattle.std.proofs.lemmas.List.{length-map}
@@ -11,7 +11,7 @@ use Rattle.wq_items.specs.declared.flush.Flush.{Flush}
 use Rattle.wq_items.proofs.waits.Waits.new.Goals as goal
 
 some : Flush
-some = record { item = 0; target = record { item = 0; place = 0 } }
+some = record { item = 0; target = record { item = 0; whole = false; place = 0 } }
 
 pub new-requires-2-clause-keys : goal.new-requires-2-clause-keys
 new-requires-2-clause-keys g c =

@@ -1,0 +1,52 @@
+-- Steps of a wait, whatever its kind.
+use Rattle.std.proofs.Common.{◌≡◌, ℕ, ◌⊎◌, Bool, true, false, refl}
+use Rattle.wq_core.specs.declared.entry.Running.{Running}
+use Rattle.wq_core.specs.Wiring.{Wiring}
+use Rattle.wq_core.specs.State.{State, lane_at, Runs}
+use Rattle.wq_core.specs.Rules.{MayWait, MayBeOver, Lawful, wait_of, over_of}
+use Rattle.wq_core.specs.Runs.{KeepsOrder, IsNextWait}
+use Rattle.wq_core.specs.Played.{IsStepOfLane}
+
+module _ (w : Wiring) (s : State) (q : ℕ) where
+  -- what runs on lane q may make such a wait, or its wait may be over
+  abbrev pub RunsAndWaits : Bool → ℕ → Type 0
+  RunsAndWaits whole b = (r : Running) × Runs (lane_at s q) r × MayWait w whole b r
+
+  abbrev pub RunsAndGoesOn : Bool → ℕ → Type 0
+  RunsAndGoesOn whole b = (r : Running) × Runs (lane_at s q) r × MayBeOver w s whole b r
+
+  pub waits-lawful : (whole : Bool) (b : ℕ) → Lawful w s (wait_of whole q b) → RunsAndWaits whole b
+  waits-lawful false b may = may
+  waits-lawful true b may = may
+
+  pub lawful-waits : (whole : Bool) (b : ℕ) → RunsAndWaits whole b → Lawful w s (wait_of whole q b)
+  lawful-waits false b may = may
+  lawful-waits true b may = may
+
+  pub goes_on-lawful : (whole : Bool) (b : ℕ) → Lawful w s (over_of whole q b) → RunsAndGoesOn whole b
+  goes_on-lawful false b may = may
+  goes_on-lawful true b may = may
+
+  pub lawful-goes_on : (whole : Bool) (b : ℕ) → RunsAndGoesOn whole b → Lawful w s (over_of whole q b)
+  lawful-goes_on false b may = may
+  lawful-goes_on true b may = may
+
+  pub next-in_order : (whole : Bool) (b : ℕ) → KeepsOrder w s (wait_of whole q b) → IsNextWait w s q whole b
+  next-in_order false b next = next
+  next-in_order true b next = next
+
+  pub in_order-next : (whole : Bool) (b : ℕ) → IsNextWait w s q whole b → KeepsOrder w s (wait_of whole q b)
+  in_order-next false b next = next
+  in_order-next true b next = next
+
+  pub in_order-goes_on : (whole : Bool) (b : ℕ) → KeepsOrder w s (over_of whole q b)
+  in_order-goes_on false b = tt
+  in_order-goes_on true b = tt
+
+pub of_lane-wait_of : (q : ℕ) (whole : Bool) (b : ℕ) → IsStepOfLane q (wait_of whole q b)
+of_lane-wait_of q false b = refl
+of_lane-wait_of q true b = refl
+
+pub of_lane-over_of : (q : ℕ) (whole : Bool) (b : ℕ) → IsStepOfLane q (over_of whole q b)
+of_lane-over_of q false b = refl
+of_lane-over_of q true b = refl

@@ -1,0 +1,12 @@
+use Rattle.std.proofs.Common.{◌≡◌, ◌+◌, List, refl, sym, ap, subst, ◌∙◌, arith}
+use Rattle.wq_text.specs.Words.{WordView}
+use Rattle.wq_items.specs.Table.{Table}
+use Rattle.wq_items.specs.Building.{AddsWhole}
+use Rattle.wq_items.proofs.GrownTables.{IsTable-whole_added}
+use Rattle.wq_items.proofs.table.Building.declare_whole.Goals as goal
+
+pub invariant_of-result : goal.invariant_of-result
+invariant_of-result g c =
+    let s = c.self.inside in
+    let t : Table = record { names = s.names; spans = s.spans.items; waits = s.waits } in
+    IsTable-whole_added t c.again.result c.again-2.result s.flushes (s.flushes + 1) c.push_whole.new.waits c.self.invariant.0 c.self.invariant.1 c.in-Some.ensures.room refl c.in-Some.ensures.added
