@@ -1,5 +1,5 @@
 -- Entries of a lane, whose numbers rise: after a step, and when one of them is removed.
-use Rattle.std.proofs.Common.{◌≡◌, ◌≢◌, ℕ, zero, suc, ◌<◌, ◌≤◌, inl, inr, true, false, not, eqb, ltb, List, [], ◌∷◌, length, get_or, drop, refl, sym, ap, subst, ◌∙◌, arith}
+use Rattle.std.proofs.Common.{◌≡◌, ◌≢◌, ℕ, zero, suc, ◌<◌, ◌≤◌, ◌-◌, inl, inr, true, false, not, eqb, ltb, List, [], ◌∷◌, length, get_or, drop, refl, sym, ap, subst, ◌∙◌, arith}
 use Rattle.std.specs.Prelude.{AllPairs, Contains, remove}
 use Rattle.std.specs.List.{All, filter}
 use Rattle.std.specs.List.Sorted.{IsPartitionPoint, IsNonDecreasingBy}
@@ -49,6 +49,25 @@ place_of ps e k rising point (j, within, is) = elim (cases_lt j k) [
     | inr no_behind ↦ let same : j ≡ k = omega arith in (omega arith, subst (λ m. get_or ps m e ≡ e) same is)
   ]
 ]
+
+-- ---- the last entry below a mark
+
+-- the numbers reach the mark at place k
+abbrev pub Reach : List Entry → ℕ → ℕ → Type 0
+Reach ps mark k = IsPartitionPoint (λ (f : Entry). ltb f.number mark ≡ true) (λ (f : Entry). ltb f.number mark ≡ false) ps k
+
+-- the entry before that place has a number below the mark
+pub before_mark : (ps : List Entry) (mark k : ℕ) (d : Entry) → Reach ps mark k → 0 < k → (get_or ps (k - 1) d).number < mark
+before_mark ps mark k d point some = ltb-true (get_or ps (k - 1) d).number mark (point.0 (k - 1) d (omega arith) (omega arith))
+
+-- if it is the first place, no entry has
+pub none_before_mark : (ps : List Entry) (mark : ℕ) (e : Entry) → Reach ps mark 0 → Contains ps e → ¬ (e.number < mark)
+none_before_mark ps mark e point (j, within, is) below =
+    let high : ltb (get_or ps j e).number mark ≡ false = point.1 j e (omega arith) within in
+    let less : (get_or ps j e).number < mark = subst (λ (f : Entry). f.number < mark) (sym is) below in
+    absurd (grind (arith, high, less))
+
+-- ---- removing an item's entry
 
 all_pass : (i : ℕ) (ps : List Entry) → All (λ (e : Entry). e.item ≢ i) ps → filter (λ (e : Entry). not (eqb e.item i)) ps ≡ ps
 all_pass i [] differ = refl

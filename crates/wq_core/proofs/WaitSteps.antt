@@ -1,9 +1,9 @@
 -- Steps of a wait, whatever its kind.
-use Rattle.std.proofs.Common.{◌≡◌, ℕ, ◌⊎◌, Bool, true, false, refl}
+use Rattle.std.proofs.Common.{◌≡◌, ℕ, Bool, true, false, refl, ◌∙◌}
 use Rattle.wq_core.specs.declared.entry.Running.{Running}
-use Rattle.wq_core.specs.Wiring.{Wiring}
+use Rattle.wq_core.specs.Wiring.{Wiring, lane_of}
 use Rattle.wq_core.specs.State.{State, lane_at, Runs}
-use Rattle.wq_core.specs.Rules.{MayWait, MayBeOver, Lawful, wait_of, over_of}
+use Rattle.wq_core.specs.Rules.{MayWait, MayBeOver, Lawful, IsHeldBack, IsHolder, wait_of, over_of}
 use Rattle.wq_core.specs.Runs.{KeepsOrder, IsNextWait}
 use Rattle.wq_core.specs.Played.{IsStepOfLane}
 
@@ -50,3 +50,8 @@ of_lane-wait_of q true b = refl
 pub of_lane-over_of : (q : ℕ) (whole : Bool) (b : ℕ) → IsStepOfLane q (over_of whole q b)
 of_lane-over_of q false b = refl
 of_lane-over_of q true b = refl
+
+-- what an item holds back is held back
+pub held_back-holder : (w : Wiring) (s : State) (whole : Bool) (b mark i : ℕ) → IsHolder w s whole b mark i → IsHeldBack w s whole b mark
+held_back-holder w s false b mark i h = record { lane = lane_of w b; entry = h.entry; unfinished = h.unfinished; of_item = h.of_item ∙ h.itself refl; below = h.below }
+held_back-holder w s true b mark i h = record { entry = h.entry; unfinished = h.unfinished; below = h.below }

@@ -114,9 +114,11 @@ impl<A: Allocator> Lane<A> {
         if below > 0 {
             return self.pending.get(below - 1).copied();
         }
-        match self.running {
-            Some(r) if r.entry.number < mark => Some(r.entry),
-            _ => None,
+        let entry = self.running?.entry;
+        if entry.number < mark {
+            Some(entry)
+        } else {
+            None
         }
     }
 

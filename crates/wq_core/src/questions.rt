@@ -1,9 +1,9 @@
-//! Questions about a lane: whether it can move, and its next step where what runs flushes as declared.
+//! Questions about a lane: whether it can move, its next step where what runs flushes as declared, and what holds a wait back.
 //!
 //! A lane moves by the steps of its rescuer, by the rules of "Rules" in the specs of this crate: an idle lane starts what is
 //! queued, what waits goes on once its wait is over, and anything else that runs can finish. What flushes as declared waits for
-//! the targets of its item in their order, and finishes after the last one. `declared` takes constant time, and `enabled` takes
-//! time in the number of lanes. Nothing takes memory.
+//! the targets of its item in their order, and finishes after the last one. `declared` takes constant time, `enabled` takes time in
+//! the number of lanes, and `holder` in the logarithm of the number of entries that are pending on a lane. Nothing takes memory.
 
 ghost use Rattle.std.specs.Prelude.{◌≡◌, ◌<◌, ◌↔◌, ℕ, IsTrue, IfSome, IfNone, None, slice_get};
 ghost use Rattle.wq_core.specs.declared.step.Step.{Step};

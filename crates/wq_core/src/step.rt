@@ -1,8 +1,9 @@
 //! Steps of the machine, and why a step isn't made.
 //!
-//! Queue and Cancel are `queue_work` and `cancel_work`. Start, Wait, Over and Finish are what the rescuer of a workqueue does: it
-//! takes the next work, whose function may call `flush_work`, which returns once the wait is over; and then the function ends
-//! (kernel/workqueue.c). Nothing is computed here.
+//! Queue and Cancel are `queue_work` and `cancel_work`. The other steps are what the rescuer of a workqueue does: it takes the next
+//! work (Start), whose function may call `flush_work` (Wait) or `flush_workqueue` (WaitAll), which return once the wait is over
+//! (Over, OverAll); and then the function ends (Finish). They are those of kernel/workqueue.c. Nothing is computed here, and each
+//! call takes constant time.
 
 ghost use Rattle.std.specs.Prelude.{◌≡◌};
 ghost use Rattle.wq_core.specs.Held.{step_code};

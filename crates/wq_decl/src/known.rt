@@ -1,8 +1,8 @@
 //! One line that has no fault, as a directive.
 //!
-//! Nothing is judged again: the length of its first word tells which directive a line without a fault holds, or, where it may be
-//! `flushwq` or `ordered`, its first byte does. The words after it are names. So at most three words of a line are looked at, each
-//! byte once.
+//! Nothing is judged again: in a line without a fault, the length of its first word tells whether it is `item`, `flush` or another
+//! one, and the word itself whether that is `flushwq`. The words after it are names. So at most three words of a line are looked at,
+//! each byte once.
 
 ghost use Rattle.std.specs.Prelude.{◌≡◌, ℕ, Ok, IsOk};
 ghost use Rattle.wq_decl.specs.Reading.{words_reading, reading};

@@ -13,7 +13,7 @@ ghost use Rattle.wq_decl.specs.Reading.{reading, directives, first_fault, ordere
 use std::marker::Model;
 use wq_text::{Line, Lines, Words};
 
-/// Whether bytes begin as `item` or `flush` does: a line of these bytes is no `ordered` line, and that is told without a cut.
+/// Whether bytes begin as `item`, `flush` or `flushwq` does: a line of these bytes is no `ordered` line, and that is told without a cut.
 fn begins_otherwise(bytes: &[u8]) -> bool
     ensures { IsTrue result → (line : LineView) (rest : List LineView) → line.bytes ≡ bytes.now → ordered_lines (directives (line ∷ rest)) ≡ ordered_lines (directives rest) }
 {

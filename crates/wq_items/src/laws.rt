@@ -37,7 +37,7 @@ pub fn tables_are_sound()
     ensures { (ds : List (ℕ × Directive)) (t : Table) → AllByRecursion (λ (d : ℕ × Directive). HasNames d.1) ds → table_of ds ≡ Ok t → IsTable t }
 {}
 
-/// The targets of an item are the flushes of the whole text, numbered from 0, that name it: each by the name of the
+/// The targets of an item are the flushes of the whole text, numbered from 0, that name it: each by its kind and the name of the
 /// target, with its number as its place. There is one target for each flush.
 pub fn targets_are_those_of_the_flush_lines()
     ensures count { (ds : List (ℕ × Directive)) (t : Table) → table_of ds ≡ Ok t → flush_count t.waits ≡ length (flushes ds) }

@@ -125,8 +125,8 @@ pub(crate) fn push_targets<'a, A: Allocator + Copy>(
     Some(next)
 }
 
-/// Adds the whole workqueue of the item with one name to the targets of the item with another, at this place. It returns nothing where
-/// a name is unknown, where there are too many flushes, or where memory ran out; `refusal_of_whole` says which it is.
+/// Adds the whole workqueue of the item with one name to the targets of the item with another, at this place. It returns nothing
+/// where a name is unknown, where there are too many flushes, or where memory ran out; `refusal_of_whole` says which it is.
 pub(crate) fn push_whole<'a, A: Allocator + Copy>(
     names: &Names<'a, A>,
     waits: &mut Flushes<A>,
