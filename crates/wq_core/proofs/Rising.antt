@@ -1,8 +1,9 @@
 -- Entries of a lane, whose numbers rise: after a step, and when one of them is removed.
-use Rattle.std.proofs.Common.{◌≡◌, ◌≢◌, ℕ, zero, suc, ◌<◌, ◌≤◌, ◌-◌, inl, inr, true, false, not, eqb, ltb, List, [], ◌∷◌, length, get_or, drop, refl, sym, ap, subst, ◌∙◌, arith}
-use Rattle.std.specs.Prelude.{AllPairs, Contains, remove}
+use Rattle.std.proofs.Common.{◌≡◌, ◌≢◌, ℕ, zero, suc, ◌<◌, ◌≤◌, ◌-◌, ◌⊎◌, inl, inr, true, false, not, eqb, ltb, List, [], ◌∷◌, length, get_or, drop, refl, sym, ap, subst, ◌∙◌, arith}
+use Rattle.std.specs.Prelude.{AllPairs, Contains, remove, slice_get, Some}
 use Rattle.std.specs.List.{All, filter}
 use Rattle.std.specs.List.Sorted.{IsPartitionPoint, IsNonDecreasingBy}
+use Rattle.std.proofs.Math.ListN.{get_or-eq_default}
 use Rattle.std.proofs.lemmas.Bool.{cases_lt, cond-true, cond-false, eq-eqb, ne_eqb}
 use Rattle.std.proofs.lemmas.List.Elements.{All-head, All-tail, Contains-get_or}
 use Rattle.std.proofs.lemmas.List.Quantifiers.{all_pairs_push}
@@ -56,15 +57,27 @@ place_of ps e k rising point (j, within, is) = elim (cases_lt j k) [
 abbrev pub Reach : List Entry → ℕ → ℕ → Type 0
 Reach ps mark k = IsPartitionPoint (λ (f : Entry). ltb f.number mark ≡ true) (λ (f : Entry). ltb f.number mark ≡ false) ps k
 
--- the entry before that place has a number below the mark
-pub before_mark : (ps : List Entry) (mark k : ℕ) (d : Entry) → Reach ps mark k → 0 < k → (get_or ps (k - 1) d).number < mark
-before_mark ps mark k d point some = ltb-true (get_or ps (k - 1) d).number mark (point.0 (k - 1) d (omega arith) (omega arith))
+-- there is an entry before that place, and it has a number below the mark
+pub before_mark : (ps : List Entry) (mark k : ℕ) (d : Entry) → Reach ps mark k → 0 < k → Contains ps (get_or ps (k - 1) d) × ((get_or ps (k - 1) d).number < mark)
+before_mark ps mark k d point some = (Contains-get_or ps (k - 1) d (within (cases_lt (k - 1) (length ps))), below d) where
+  below : (f : Entry) → (get_or ps (k - 1) f).number < mark
+  below f = ltb-true (get_or ps (k - 1) f).number mark (point.0 (k - 1) f (omega arith) (omega arith))
 
--- if it is the first place, no entry has
-pub none_before_mark : (ps : List Entry) (mark : ℕ) (e : Entry) → Reach ps mark 0 → Contains ps e → ¬ (e.number < mark)
-none_before_mark ps mark e point (j, within, is) below =
-    let high : ltb (get_or ps j e).number mark ≡ false = point.1 j e (omega arith) within in
-    let less : (get_or ps j e).number < mark = subst (λ (f : Entry). f.number < mark) (sym is) below in
+  within : (k - 1 < length ps) ⊎ (length ps ≤ k - 1) → k - 1 < length ps
+  within (inl less) = less
+  within (inr past) =
+      let high : Entry = record { number = mark; item = 0 } in
+      let outside : get_or ps (k - 1) high ≡ high = get_or-eq_default ps high (omega arith) in
+      let less : mark < mark = subst (λ (f : Entry). f.number < mark) outside (below high) in
+      absurd (omega arith)
+
+-- if there is none before it, the first entry hasn't
+pub first-no_less : (ps : List Entry) (mark k : ℕ) → Reach ps mark k → k ≤ 0 → (e : Entry) → slice_get ps 0 ≡ Some e → ¬ (e.number < mark)
+first-no_less [] mark k point none e first below = cc
+first-no_less (p ∷ ps) mark k point none e first below =
+    let same : p ≡ e = cc in
+    let high : ltb p.number mark ≡ false = point.1 0 p (omega arith) (omega arith) in
+    let less : p.number < mark = subst (λ (f : Entry). f.number < mark) (sym same) below in
     absurd (grind (arith, high, less))
 
 -- ---- removing an item's entry

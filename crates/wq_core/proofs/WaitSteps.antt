@@ -1,11 +1,13 @@
 -- Steps of a wait, whatever its kind.
-use Rattle.std.proofs.Common.{◌≡◌, ℕ, Bool, true, false, refl, ◌∙◌}
+use Rattle.std.proofs.Common.{◌≡◌, ℕ, Bool, true, false, refl, subst, ◌∙◌}
 use Rattle.wq_core.specs.declared.entry.Running.{Running}
 use Rattle.wq_core.specs.Wiring.{Wiring, lane_of}
-use Rattle.wq_core.specs.State.{State, lane_at, Runs}
+use Rattle.wq_core.specs.State.{State, lane_at, Runs, IsUnfinishedOn, HasUnfinishedBelow}
 use Rattle.wq_core.specs.Rules.{MayWait, MayBeOver, Lawful, IsHeldBack, IsHolder, wait_of, over_of}
 use Rattle.wq_core.specs.Runs.{KeepsOrder, IsNextWait}
+use Rattle.wq_core.specs.Held.{IsSoundState}
 use Rattle.wq_core.specs.Played.{IsStepOfLane}
+use Rattle.wq_core.proofs.Machines.{unfinished-own_lane}
 
 module _ (w : Wiring) (s : State) (q : ℕ) where
   -- what runs on lane q may make such a wait, or its wait may be over
@@ -55,3 +57,15 @@ of_lane-over_of q true b = refl
 pub held_back-holder : (w : Wiring) (s : State) (whole : Bool) (b mark i : ℕ) → IsHolder w s whole b mark i → IsHeldBack w s whole b mark
 held_back-holder w s false b mark i h = record { lane = lane_of w b; entry = h.entry; unfinished = h.unfinished; of_item = h.of_item ∙ h.itself refl; below = h.below }
 held_back-holder w s true b mark i h = record { entry = h.entry; unfinished = h.unfinished; below = h.below }
+
+-- an item with an unfinished entry below the mark holds back a wait for itself
+pub holder-itself : (w : Wiring) (s : State) (whole : Bool) (b mark : ℕ) → IsSoundState w s → HasUnfinishedBelow s b mark → IsHolder w s whole b mark b
+holder-itself w s whole b mark sound h =
+    let own = (unfinished-own_lane w s b mark sound h).1 in
+    record {
+      entry = h.entry;
+      unfinished = subst (λ (q : ℕ). IsUnfinishedOn (lane_at s q) h.entry) own h.unfinished;
+      of_item = h.of_item;
+      below = h.below;
+      itself = λ _. refl;
+    }

@@ -112,7 +112,7 @@ impl<A: Allocator> Lane<A> {
     {
         let below = self.pending.partition_point(|e| e.number < mark);
         if below > 0 {
-            return self.pending.get(below - 1).copied();
+            return Some(self.pending[below - 1]);
         }
         let entry = self.running?.entry;
         if entry.number < mark {

@@ -43,6 +43,7 @@ impl<A: Allocator> Core<A> {
         ensures item { IfSome result (λ i. i < items self.now.wiring) }
         ensures none { IfNone result (¬ IsHeldBack self.now.wiring self.now.state whole target mark) }
     {
+        let _items = self.items();
         if whole {
             let last = self.lane(self.lane_of(target)).last_below(mark)?;
             Some(last.item)
