@@ -11,7 +11,7 @@ use Rattle.wq_items.specs.declared.target.Target.{Target}
 use Rattle.wq_items.proofs.Pigeonhole.{repeats_from_length}
 use Rattle.wq_core.specs.declared.entry.Entry.{Entry}
 use Rattle.wq_core.specs.declared.entry.Running.{Running}
-use Rattle.wq_core.specs.declared.step.Step.TheVariants.{Queue, Cancel, Start, Wait}
+use Rattle.wq_core.specs.declared.step.Step.TheVariants.{Queue, Cancel, Start}
 use Rattle.wq_core.specs.Wiring.{Wiring, IsWiring, items, lane_of}
 use Rattle.wq_core.specs.State.{Lane, State, lane_at, IsPendingOn, Runs}
 use Rattle.wq_core.specs.Rules.{Lawful, effect, with_queued, MayWait, wait_of}

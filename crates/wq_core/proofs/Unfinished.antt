@@ -4,7 +4,6 @@ use Rattle.std.specs.Prelude.{IsTrue, ◌||◌, Option, Some, None, slice_get, C
 use Rattle.std.specs.List.{list_any, Any}
 use Rattle.std.proofs.lemmas.List.Folds.{Any-from_list_any, list_any-from_Any}
 use borrow.Author.Tests.{tests, ltb-true}
-use Rattle.wq_items.proofs.Lists.{Contains-first}
 use Rattle.wq_core.specs.declared.entry.Entry.{Entry}
 use Rattle.wq_core.specs.declared.entry.Running.{Running}
 use Rattle.wq_core.specs.State.{Lane, Runs, IsUnfinishedOn, IsBusyBelow}
@@ -78,6 +77,3 @@ busy-idle lane mark rising first idle h = elim h.unfinished [
   | inl pending ↦ none_pending_below lane.pending mark rising first h.entry pending h.below
   | inr (x, other, same) ↦ (let never : None ≡ Some x = sym idle ∙ other in cc)
 ]
-
-pub busy-first : (lane : Lane) (mark : ℕ) (e : Entry) → slice_get lane.pending 0 ≡ Some e → e.number < mark → IsBusyBelow lane mark
-busy-first lane mark e first below = record { entry = e; unfinished = inl (Contains-first lane.pending e first); below = below }

@@ -1,5 +1,5 @@
 -- Steps of a wait, whatever its kind.
-use Rattle.std.proofs.Common.{◌≡◌, ℕ, Bool, true, false, refl, subst, ◌∙◌}
+use Rattle.std.proofs.Common.{ℕ, Bool, true, false, refl, subst, ◌∙◌}
 use Rattle.wq_core.specs.declared.entry.Running.{Running}
 use Rattle.wq_core.specs.Wiring.{Wiring, lane_of}
 use Rattle.wq_core.specs.State.{State, lane_at, Runs, IsUnfinishedOn, HasUnfinishedBelow}

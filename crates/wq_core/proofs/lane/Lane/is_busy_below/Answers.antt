@@ -1,8 +1,8 @@
-use Rattle.std.proofs.Common.{◌≡◌, ◌↔◌, ◌<◌, true, false, ltb, Some, None, sym, ap, ◌∙◌, arith}
-use Rattle.std.specs.Prelude.{slice_get, IsTrue}
+use Rattle.std.proofs.Common.{◌≡◌, ◌<◌, Some, None, sym, ap, ◌∙◌, arith}
+use Rattle.std.specs.Prelude.{slice_get}
 use Rattle.wq_core.specs.declared.entry.Entry.{Entry}
 use Rattle.wq_core.specs.Held.{HeldLane}
-use Rattle.wq_core.proofs.Unfinished.{busy-runs, busy-idle, busy-first}
+use Rattle.wq_core.proofs.Unfinished.{busy-runs, busy-idle}
 use Rattle.wq_core.proofs.lane.Lane.is_busy_below.Goals as goal
 use Rattle.wq_core.proofs.lane.Lane.is_busy_below.Goals.{in-Some+else-first-mark, in_default}
 

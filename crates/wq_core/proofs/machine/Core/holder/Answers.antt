@@ -1,4 +1,4 @@
-use Rattle.std.proofs.Common.{◌≡◌, false, refl, subst}
+use Rattle.std.proofs.Common.{subst}
 use Rattle.wq_core.specs.State.{Lane, IsUnfinishedOn}
 use Rattle.wq_core.proofs.WaitSteps.{holder-itself}
 use Rattle.wq_core.proofs.machine.Core.holder.Goals as goal

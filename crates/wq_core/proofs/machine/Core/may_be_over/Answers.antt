@@ -1,4 +1,4 @@
-use Rattle.std.proofs.Common.{◌≡◌, rules, ℕ, ◌<◌, sym, subst, ◌∙◌}
+use Rattle.std.proofs.Common.{◌≡◌, rules, ℕ, ◌<◌, sym, subst}
 use Rattle.wq_core.specs.Wiring.{items}
 use Rattle.wq_core.proofs.LawfulSteps.{waiting-target}
 use Rattle.wq_core.proofs.machine.Core.may_be_over.Goals as goal

@@ -1,7 +1,5 @@
-use Rattle.std.proofs.Common.{◌≡◌, ◌+◌, List, refl, sym, ap, subst, ◌∙◌, arith}
-use Rattle.wq_text.specs.Words.{WordView}
+use Rattle.std.proofs.Common.{◌+◌, refl}
 use Rattle.wq_items.specs.Table.{Table}
-use Rattle.wq_items.specs.Building.{AddsWhole}
 use Rattle.wq_items.proofs.GrownTables.{IsTable-whole_added}
 use Rattle.wq_items.proofs.table.Building.declare_whole.Goals as goal
 
