@@ -14,7 +14,7 @@ use Rattle.wq_groups.specs.Declaration.{Declaration, IsDeclaration}
 use Rattle.wq_groups.specs.Assignment.{Assignment}
 use Rattle.wq_core.specs.declared.entry.Entry.{Entry}
 use Rattle.wq_core.specs.declared.step.Step.{Step}
-use Rattle.wq_core.specs.declared.step.Step.TheVariants.{Queue, Cancel, Start, Wait, Over, Finish}
+use Rattle.wq_core.specs.declared.step.Step.TheVariants.{Queue, Cancel, Start, Wait, Over, WaitAll, OverAll, Finish}
 use Rattle.wq_core.specs.Wiring.{Wiring, items, lane_of, wiring}
 use Rattle.wq_core.specs.State.{Lane, State, idle_lane, lane_at, empty_state}
 use Rattle.wq_core.specs.Rules.{Lawful, with_queued, effect}
@@ -84,6 +84,8 @@ queue_cost w (Cancel i) = 0
 queue_cost w (Start q i) = 0
 queue_cost w (Wait q b) = 0
 queue_cost w (Over q b) = 0
+queue_cost w (WaitAll q b) = 0
+queue_cost w (OverAll q b) = 0
 queue_cost w (Finish q i) = 0
 
 work_left-queued : (w : Wiring) (s : State) (i : ℕ) → work_left w (effect w s (Queue i)) ≤ work_left w s + whole_work w i
@@ -112,6 +114,8 @@ step_cost w s (Cancel i) sound lawful not_cancel = absurd (not_cancel tt)
 step_cost w s (Start q i) sound lawful not_cancel = omega (arith, work_left-rescuer w s (Start q i) sound lawful tt)
 step_cost w s (Wait q b) sound lawful not_cancel = omega (arith, work_left-rescuer w s (Wait q b) sound lawful tt)
 step_cost w s (Over q b) sound lawful not_cancel = omega (arith, work_left-rescuer w s (Over q b) sound lawful tt)
+step_cost w s (WaitAll q b) sound lawful not_cancel = omega (arith, work_left-rescuer w s (WaitAll q b) sound lawful tt)
+step_cost w s (OverAll q b) sound lawful not_cancel = omega (arith, work_left-rescuer w s (OverAll q b) sound lawful tt)
 step_cost w s (Finish q i) sound lawful not_cancel = omega (arith, work_left-rescuer w s (Finish q i) sound lawful tt)
 
 length-run_from : (w : Wiring) (s : State) (steps : List Step) → IsSoundState w s → IsRunFrom w s steps → All (λ (step : Step). ¬ IsCancel step) steps
@@ -156,6 +160,8 @@ cost_by_item w s (step ∷ steps) run = sum_by-cons (queue_cost w) step steps �
     by_step rest (Start q i) lawful = omega (arith, rest, queued_cost-other w (Start q i) steps (λ j. count-cons j (Start q i) steps ∙ omega arith))
     by_step rest (Wait q b) lawful = omega (arith, rest, queued_cost-other w (Wait q b) steps (λ j. count-cons j (Wait q b) steps ∙ omega arith))
     by_step rest (Over q b) lawful = omega (arith, rest, queued_cost-other w (Over q b) steps (λ j. count-cons j (Over q b) steps ∙ omega arith))
+    by_step rest (WaitAll q b) lawful = omega (arith, rest, queued_cost-other w (WaitAll q b) steps (λ j. count-cons j (WaitAll q b) steps ∙ omega arith))
+    by_step rest (OverAll q b) lawful = omega (arith, rest, queued_cost-other w (OverAll q b) steps (λ j. count-cons j (OverAll q b) steps ∙ omega arith))
     by_step rest (Finish q i) lawful = omega (arith, rest, queued_cost-other w (Finish q i) steps (λ j. count-cons j (Finish q i) steps ∙ omega arith))
 
 -- what all items cost

@@ -2,10 +2,13 @@
 //!
 //! It is "Played" in the specs of `wq_core`. A start, a wait or the end of a wait makes no lower lane movable, since it finishes
 //! nothing. So the search for the lowest lane goes on from the lane that moved, and begins again at lane 0 only after a finish. A
-//! lane that was found to be stuck is skipped until the item that it waits for is finished. So each lane is asked at most twice
-//! for each of its own steps, and once more. The rest of the search skips stuck lanes after each finish.
+//! lane that was found to be stuck is skipped until an item that holds back its wait is finished. Where it waits for a whole
+//! workqueue, that is the item of the last entry that is waited for; a workqueue finishes its entries in order, so the wait is
+//! over then. So each lane is asked at most twice for each of its own steps, and once more. The rest of the search skips stuck
+//! lanes after each finish.
 
-ghost use Rattle.std.specs.Prelude.{◌≡◌, ◌<◌, ℕ, length, Some, IfOk, IfSome, OnOk, [], ◌∷◌, ◌++◌};
+ghost use Rattle.std.specs.Prelude.{◌≡◌, ◌<◌, ℕ, length, IfOk, IfSome, OnOk, [], ◌∷◌, ◌++◌};
+ghost use Rattle.wq_core.specs.declared.entry.Waiting.{Waiting};
 ghost use Rattle.wq_core.specs.declared.step.Step.TheVariants.{Finish};
 ghost use Rattle.wq_core.specs.Wiring.{items};
 ghost use Rattle.wq_core.specs.Held.{machine_after};
@@ -13,7 +16,7 @@ ghost use Rattle.wq_core.specs.Played.{IsPlayedFrom};
 ghost use Rattle.wq_core.specs.Rules.{Lawful};
 ghost use Rattle.wq_core.specs.Runs.{IsRescuerStep};
 ghost use Rattle.wq_deadlock.specs.Search.{search_from};
-ghost use Rattle.wq_deadlock.specs.Stuck.{Awaits, IsAfter};
+ghost use Rattle.wq_deadlock.specs.Stuck.{Awaits, IsHeldBackBy, IsAfter};
 
 use crate::stuck::Stuck;
 use std::alloc::{AllocError, Allocator};
@@ -26,7 +29,13 @@ fn search_from(q: u16, step: Step) -> u16
     ensures { result ≡ search_from q step }
 {
     match step {
-        Step::Queue(_) | Step::Cancel(_) | Step::Start(..) | Step::Wait(..) | Step::Over(..) => q,
+        Step::Queue(_)
+        | Step::Cancel(_)
+        | Step::Start(..)
+        | Step::Wait(..)
+        | Step::Over(..)
+        | Step::WaitAll(..)
+        | Step::OverAll(..) => q,
         Step::Finish(..) => 0,
     }
 }
@@ -47,14 +56,14 @@ fn make<A: Allocator + Copy>(
     Ok(())
 }
 
-/// The item that a lane waits for, if it waits.
-fn awaited<A: Allocator>(core: &Core<A>, q: LaneId) -> Option<ItemId>
+/// An item that holds back the wait of a lane, if it waits: an unfinished entry of it is waited for.
+fn holder<A: Allocator>(core: &Core<A>, q: LaneId) -> Option<ItemId>
     ensures item { IfSome result (λ i. i < items core.now.wiring) }
-    ensures awaited { (i : ℕ) → Awaits core.now.state q i → result ≡ Some i }
+    ensures holder { (flush : Waiting) → Awaits core.now.state q flush → IsHeldBackBy core.now.wiring core.now.state flush result }
 {
     let running = core.running_on(q)?;
     let flush = running.waiting?;
-    Some(flush.target)
+    core.holder(flush.whole, flush.target, flush.mark)
 }
 
 /// Has lanes that are known to be stuck asked again after a step that may let them move.
@@ -64,7 +73,13 @@ fn release_after<A: Allocator>(stuck: &mut Stuck<'_, A>, step: &Step)
     ensures len { length stuck.new.known ≡ length stuck.old.known }
 {
     match *step {
-        Step::Queue(_) | Step::Cancel(_) | Step::Start(..) | Step::Wait(..) | Step::Over(..) => {}
+        Step::Queue(_)
+        | Step::Cancel(_)
+        | Step::Start(..)
+        | Step::Wait(..)
+        | Step::Over(..)
+        | Step::WaitAll(..)
+        | Step::OverAll(..) => {}
         Step::Finish(_, item) => stuck.release(item),
     }
 }
@@ -89,7 +104,7 @@ pub(crate) fn play<A: Allocator + Copy>(
             release_after(&mut stuck, &step);
             q = search_from(q, step);
         } else {
-            stuck.note(lane, awaited(core, lane))?;
+            stuck.note(lane, holder(core, lane))?;
             q += 1;
         }
     }

@@ -1,9 +1,10 @@
 //! Lanes that are known to be stuck while a machine is played.
 //!
-//! A lane that can't move waits for an item, or has nothing to start. Where nothing is queued, it can move again only once that
-//! item is finished. So it isn't asked again before. Each call takes constant time, except for two: `new` takes time in the
-//! number of lanes and items, and `release` in the number of lanes that are released. Memory is taken once for all lanes and
-//! once for all items; then only where more than eight lanes are found to wait for one item.
+//! A lane that can't move has nothing to start, or waits, and some item holds its wait back: an unfinished entry of that item is
+//! waited for. Where nothing is queued, the lane can move again only once that item is finished. So it isn't asked again before.
+//! Each call takes constant time, except for two: `new` takes time in the number of lanes and items, and `release` in the number
+//! of lanes that are released. Memory is taken once for all lanes and once for all items; then only where one item is found to
+//! hold back more than eight lanes.
 
 ghost use Rattle.std.specs.Prelude.{◌≡◌, ◌<◌, ◌↔◌, ℕ, length, map, replicate, slice_index_or, true, false, [], Contains, IfOk, OnOk, IfSome, IsTrue};
 ghost use Rattle.wq_deadlock.specs.Stuck.{IsKnown, IsReleased, with_stuck};
@@ -14,12 +15,12 @@ use std::marker::Model;
 use wq_groups::LaneId;
 use wq_items::ItemId;
 
-/// The numbers of the lanes that were found to wait for one item: nearly always none or a few. Up to eight lie in the list
+/// The numbers of the lanes that one item was found to hold back: nearly always none or a few. Up to eight lie in the list
 /// itself, which takes as many bytes as with room for four. They are numbers, since a place that isn't used holds a default.
 /// A list keeps its allocator, and the size of that has to be known: that of a reference is.
 type Waiting<'a, A> = SmallVec<u16, 8, &'a A>;
 
-/// For each lane whether it is known to be stuck, and for each item the lanes that were found to wait for it.
+/// For each lane whether it is known to be stuck, and for each item the lanes whose wait it was found to hold back.
 #[derive(Drop)]
 pub(crate) struct Stuck<'a, A: Allocator> {
     known: Vec<bool, &'a A>,
@@ -78,20 +79,20 @@ impl<'a, A: Allocator> Stuck<'a, A> {
         self.known[usize::from(q.get())]
     }
 
-    /// Notes that a lane was found to be stuck, and waits for this item, or for none.
-    pub(crate) fn note(&mut self, q: LaneId, awaited: Option<ItemId>) -> Result<(), AllocError>
+    /// Notes that a lane was found to be stuck, and this item to hold back its wait, or none.
+    pub(crate) fn note(&mut self, q: LaneId, holder: Option<ItemId>) -> Result<(), AllocError>
         requires lane { q < length self.old.known }
-        requires item { IfSome awaited (λ i. i < length self.old.waiting) }
-        ensures { OnOk result (self.new ≡ with_stuck self.old q awaited) }
+        requires item { IfSome holder (λ i. i < length self.old.waiting) }
+        ensures { OnOk result (self.new ≡ with_stuck self.old q holder) }
     {
         self.known[usize::from(q.get())] = true;
-        if let Some(item) = awaited {
+        if let Some(item) = holder {
             self.waiting[usize::from(item.get())].push(q.get())?;
         }
         Ok(())
     }
 
-    /// Notes that an item is finished: the lanes that wait for it are asked again.
+    /// Notes that an item is finished: the lanes whose wait it was found to hold back are asked again.
     pub(crate) fn release(&mut self, item: ItemId)
         requires { item < length self.old.waiting }
         ensures released { IsReleased self.old item self.new }

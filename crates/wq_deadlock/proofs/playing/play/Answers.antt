@@ -3,7 +3,7 @@ use Rattle.wq_core.specs.declared.step.Step.{Step}
 use Rattle.wq_core.specs.Held.{Machine}
 use Rattle.wq_core.specs.Played.{IsDeclaredStep, HasNoDeclaredStep}
 use Rattle.wq_deadlock.specs.Stuck.{StuckLanes}
-use Rattle.wq_deadlock.proofs.KnownStuck.{KnowsStuck, KnowsStuck-start, KnowsStuck-noted, KnowsStuck-step, finished-within, awaited-within}
+use Rattle.wq_deadlock.proofs.KnownStuck.{KnowsStuck, KnowsStuck-start, KnowsStuck-noted, KnowsStuck-step, finished-within}
 use Rattle.wq_deadlock.proofs.Onward.{IsPlaying, IsPlaying-start, IsPlaying-move, IsPlaying-passed, IsPlayedFrom-playing, play_left, play_left-move}
 use Rattle.wq_deadlock.proofs.playing.play.Goals as goal
 
@@ -44,9 +44,8 @@ loop-q-preserved-in-Some g c =
 pub loop-q-preserved : goal.loop-q-preserved
 loop-q-preserved g c =
     let core = c.loop-q.core in
-    let machine = c.declared.ensures.machine in
     let none = subst (λ (n : ℕ). HasNoDeclaredStep core.wiring core.state n) c.new-lane.ensures c.in_default.ensures.none in
-    let noted = KnowsStuck-noted core.wiring core.state c.loop-q.stuck c.new-lane.result c.awaited.result c.loop-q.invariant.stuck c.in_default.ensures.none c.awaited.ensures.awaited (awaited-within core.wiring core.state machine.wiring machine.state) in
+    let noted = KnowsStuck-noted core.wiring core.state c.loop-q.stuck c.new-lane.result c.holder.result c.loop-q.invariant.stuck c.in_default.ensures.none c.holder.ensures.item c.holder.ensures.holder in
     record {
       playing = IsPlaying-passed c.args.core.now core c.loop-q.steps.items c.loop-q.q c.loop-q.invariant.playing none;
       stuck = subst (λ (s : StuckLanes). KnowsStuck core.wiring core.state s) (sym c.in_ok-note.ensures) noted;
