@@ -12,7 +12,7 @@ use Rattle.wq_core.specs.State.{State}
 use Rattle.wq_core.specs.Rules.{effect}
 use Rattle.wq_core.specs.Work.{work_left}
 use Rattle.wq_core.specs.Held.{IsSoundState}
-use Rattle.wq_core.proofs.LaneLemmas.{runs_within, starts_within}
+use Rattle.wq_core.proofs.LaneLemmas.{ItemWaits-by, runs_within, starts_within}
 use Rattle.wq_core.proofs.LawfulSteps.{start-item, waiting-target}
 use Rattle.wq_core.proofs.Machines.{running-item}
 use Rattle.wq_core.proofs.Numbers.{Gives-one}
@@ -143,7 +143,7 @@ exist w rows event said n wiring legal may = by_event event may where
   by_event (Start q i) come = (start-item w s q i sound come.1.0, omega (arith, starts_within s q i come.1.0, sound.one_each))
   by_event (Wait q b) come =
       let (r, runs, wait) = come.1.0 in
-      (ItemWaits-below (items w) w.waits wiring.targets_are_items r.entry.item b wait.declared, omega (arith, runs_within s q r runs, sound.one_each))
+      (ItemWaits-below (items w) w.waits wiring.targets_are_items r.entry.item b (ItemWaits-by w.waits false r.entry.item b wait.declared), omega (arith, runs_within s q r runs, sound.one_each))
   by_event (Over q b) come =
       let (r, runs, over) = come.1.0 in
       (subst (λ k. k < items w) over.target (waiting-target w s q r over.flush wiring sound runs over.waits), omega (arith, runs_within s q r runs, sound.one_each))

@@ -1,6 +1,6 @@
 -- Books: a history with room for a given number of rows, and what each call answers.
 use Rattle.std.specs.Prelude.{◌≡◌, ℕ, ◌+◌, ◌<◌, ◌≤◌, ◌⊎◌, List, ◌∷◌, [], ◌++◌, length, Some, None, Bool, true, false}
-use Rattle.wq_items.specs.Table.{ItemWaits}
+use Rattle.wq_items.specs.Table.{ItemWaitsBy}
 use Rattle.wq_core.specs.declared.entry.Waiting.{Waiting}
 use Rattle.wq_core.specs.declared.entry.Running.{Running}
 use Rattle.wq_core.specs.Wiring.{Wiring, IsWiring, items, declared_by}
@@ -125,12 +125,12 @@ IsNotAwake b q = (r : Running) → ¬ IsAwake b q r
 abbrev pub IsNotWaiting : BookView → ℕ → Type 0
 IsNotWaiting b q = (f : Waiting) → ¬ IsWaiting b q f
 
--- `wait` on lane q for a target: the wrong lane; what runs declares no flush of it; it has made as many waits as its item
--- declares flushes
+-- `wait` on lane q for a target: the wrong lane; what runs declares no flush of it alone; it has made as many waits as
+-- its item declares flushes
 abbrev pub RefusesWait : BookView → ℕ → ℕ → BookError → Type 0
 RefusesWait b q target WrongLane = IsNotAwake b q
-RefusesWait b q target Undeclared = (r : Running) × IsAwake b q r × (¬ ItemWaits b.wiring.waits r.entry.item target)
-RefusesWait b q target TooManyWaits = (r : Running) × IsAwake b q r × ItemWaits b.wiring.waits r.entry.item target
+RefusesWait b q target Undeclared = (r : Running) × IsAwake b q r × (¬ ItemWaitsBy b.wiring.waits false r.entry.item target)
+RefusesWait b q target TooManyWaits = (r : Running) × IsAwake b q r × ItemWaitsBy b.wiring.waits false r.entry.item target
     × (length (declared_by b.wiring r.entry.item) ≤ r.made)
 RefusesWait b q target NoItem = ⊥
 RefusesWait b q target HistoryFull = ⊥

@@ -358,7 +358,7 @@ impl<A: Allocator> Book<A> {
         };
         let item = running.entry.item;
         let made = running.made;
-        if !self.core.declares(item, target) {
+        if !self.core.declares(item, false, target) {
             return Err(BookError::Undeclared);
         }
         if made as usize >= self.core.waits(item).len() {
