@@ -8,7 +8,7 @@ use Rattle.std.proofs.lemmas.List.Elements.{All-nil}
 use Rattle.std.proofs.lemmas.List.Sums.{count_by-le-length}
 use Rattle.std.specs.List.{IsSplitAt}
 use Rattle.wq_core.specs.declared.step.Step.{Step}
-use Rattle.wq_core.specs.declared.step.Step.TheVariants.{Queue as QueueStep, Cancel as CancelStep, Start as StartStep, Wait as WaitStep, Over as OverStep, Finish as FinishStep}
+use Rattle.wq_core.specs.declared.step.Step.TheVariants.{Queue as QueueStep, Cancel as CancelStep, Start as StartStep, Wait as WaitStep, Over as OverStep, WaitAll, OverAll, Finish as FinishStep}
 use Rattle.wq_core.specs.declared.step.StepError.{StepError}
 use Rattle.wq_core.specs.declared.step.StepError.TheVariants.{NotLawful, NumbersUsedUp}
 use Rattle.wq_core.specs.Wiring.{Wiring, items}
@@ -37,6 +37,8 @@ number_left s (CancelStep i) below used = used
 number_left s (StartStep q i) below used = used
 number_left s (WaitStep q b) below used = used
 number_left s (OverStep q b) below used = used
+number_left s (WaitAll q b) below used = used
+number_left s (OverAll q b) below used = used
 number_left s (FinishStep q i) below used = used
 
 refused : (m : Machine) (step : Step) (e : StepError) → m.state.next < 4294967295 → IsRefusal m step e → ¬ Lawful m.wiring m.state step

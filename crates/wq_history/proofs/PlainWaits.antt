@@ -6,15 +6,16 @@ use Rattle.wq_core.specs.declared.entry.Entry.{Entry}
 use Rattle.wq_core.specs.declared.entry.Waiting.{Waiting}
 use Rattle.wq_core.specs.declared.entry.Running.{Running}
 use Rattle.wq_core.specs.Wiring.{Wiring, lane_of}
-use Rattle.wq_core.specs.State.{Lane, State, idle_lane, lane_at, with_lane, empty_state, Runs}
-use Rattle.wq_core.specs.Rules.{with_queued, with_cancelled, with_started, with_wait, with_over, with_finished}
+use Rattle.wq_core.specs.declared.step.Step.TheVariants.{Over as OverStep}
+use Rattle.wq_core.specs.State.{Lane, State, lane_at, with_lane, empty_state, HasUnfinishedBelow}
+use Rattle.wq_core.specs.Rules.{Lawful, with_queued, with_cancelled, with_started, with_wait, with_over, with_finished}
 use Rattle.wq_core.specs.Runs.{after}
 use Rattle.wq_core.proofs.LaneLemmas.{cases_with_lane, lane_at-empty_state}
 use Rattle.wq_rows.specs.declared.event.Event.{Event}
 use Rattle.wq_rows.specs.declared.event.Event.TheVariants.{Queue, Cancel, Start, Wait, Over, Finish, Ask, Told}
 use Rattle.wq_rows.specs.declared.event.Row.{Row}
 use Rattle.wq_history.specs.Events.{step_of, steps_of}
-use Rattle.wq_history.specs.Book.{BookView, LaneRuns, IsWaiting}
+use Rattle.wq_history.specs.Book.{BookView, state, IsWaiting}
 
 -- what runs waits for no whole workqueue
 abbrev IsPlain : Option Running → Type 0
@@ -32,11 +33,11 @@ plain-awake r awake x f is waits =
 
 plain-started : (o : Option Entry) → IsPlain (option_map (λ (e : Entry). record { entry = e; made = 0; waiting = None }) o)
 plain-started None r f is waits = absurd cc
-plain-started (Some e) = plain-awake (record { entry = e; made = 0; waiting = None }) refl
+plain-started (Some e) r f is waits = plain-awake (record { entry = e; made = 0; waiting = None }) refl r f is waits
 
 plain-over : (o : Option Running) → IsPlain (option_map (λ (r : Running). record r { waiting = None }) o)
 plain-over None r f is waits = absurd cc
-plain-over (Some r) = plain-awake (record r { waiting = None }) refl
+plain-over (Some x) r f is waits = plain-awake (record x { waiting = None }) refl r f is waits
 
 plain-wait : (b mark : ℕ) (o : Option Running)
     → IsPlain (option_map (λ (r : Running). record r { made = r.made + 1; waiting = Some (record { target = b; whole = false; mark = mark }) }) o)
@@ -92,5 +93,11 @@ plain-after w (row ∷ rows) s plain = by_event (plain-after w rows) row.event r
   by_event later (Told i) said = later s plain
 
 -- what a lane of a book waits for is an item alone
-pub waits_plainly : (b : BookView) (q : ℕ) (f : Waiting) → IsWaiting b q f → f.whole ≡ false
+waits_plainly : (b : BookView) (q : ℕ) (f : Waiting) → IsWaiting b q f → f.whole ≡ false
 waits_plainly b q f (r, runs, waits) = plain-after b.wiring b.rows (empty_state b.wiring) (plain-empty b.wiring) q r f runs waits
+
+-- so where no entry of that item holds it back, the wait may be over
+pub over_may_come : (b : BookView) (q : ℕ) (f : Waiting) → IsWaiting b q f → ¬ HasUnfinishedBelow (state b) f.target f.mark
+    → Lawful b.wiring (state b) (OverStep q f.target)
+over_may_come b q f (r, runs, waits) done =
+    (r, runs, record { flush = f; waits = waits; kind = waits_plainly b q f (r, runs, waits); target = refl; done = done })
