@@ -39,11 +39,11 @@ def long(i):
 
 # ---- declarations
 
-def declaration(items, flushes, ordered=(), name=short):
-    """All items, of each group a line with its items, and of each flush a line."""
+def declaration(items, flushes, ordered=(), name=short, words=("flush",)):
+    """All items, of each group a line with its items, and of each flush a line, with these first words in turn."""
     lines = [f"item {name(i)}\n" for i in range(items)]
     lines += ["ordered " + " ".join(name(i) for i in group) + "\n" for group in ordered]
-    lines += [f"flush {name(source)} {name(target)}\n" for source, target in flushes]
+    lines += [f"{words[n % len(words)]} {name(source)} {name(target)}\n" for n, (source, target) in enumerate(flushes)]
     return "".join(lines)
 
 
@@ -108,11 +108,23 @@ def waiting_workqueues(name=short):
     return workqueues(queues, name)
 
 
-def waiting_for_group():
+def waiting_for_group(word="flush"):
     """The same as groups: 3,094 items flush the last one of a group of 1,000, and the last two flush each other."""
     group = range(ITEMS - 1002, ITEMS - 2)
     flushes = [(i, ITEMS - 3) for i in range(ITEMS - 1002)] + [(ITEMS - 2, ITEMS - 1), (ITEMS - 1, ITEMS - 2)]
-    return declaration(ITEMS, flushes, [group])
+    return declaration(ITEMS, flushes, [group], words=[word])
+
+
+def waiting_for_workqueue():
+    """The first 2,046 items wait for the workqueue of the next 2,048, each for another one of these, and the last two for each other."""
+    flushes = [(i, WAITING + i) for i in range(WAITING)] + waiting()[WAITING:]
+    return declaration(ITEMS, flushes, words=["flushwq"])
+
+
+def waiting_of_both_kinds():
+    """The same with as many waits as there may be, by `flush` and by `flushwq` in turn."""
+    flushes = waiting()[WAITING:] + [(n // 2 % WAITING, WAITING + n % 2048) for n in range(FLUSHES - 2)]
+    return declaration(ITEMS, flushes, words=["flush", "flushwq"])
 
 
 def padded(line, count, most):
@@ -170,6 +182,13 @@ def runs(most):
     targets = [(0, 1)] * (FLUSHES - 1) + [(0, 2)]
     turn = ["queue 0\n", "start 0 0\n"] + ["wait 0 2\n", "over 0 2\n"] * FLUSHES + ["finish 0 0\n"]
     yield "waits for the last of 16,384 targets", declaration(ITEMS, targets), own(), run_text([], turn, most)
+    both = declaration(ITEMS, targets, words=["flush", "flushwq"])
+    turn = ["queue 0\n", "start 0 0\n"] + ["waitwq 0 2\n", "overwq 0 2\n"] * FLUSHES + ["finish 0 0\n"]
+    yield "waits for the last of 16,384 targets of both kinds", both, own(), run_text([], turn, most)
+    whole = declaration(ITEMS, [(0, LAST)], words=["flushwq"])
+    turn = ["queue 0\n", "start 0 0\n", "waitwq 0 fff\n", *queued(range(1, ITEMS)), "overwq 0 fff\n", "finish 0 0\n"]
+    turn += [f"{step}\n" for i in range(1, ITEMS) for step in (f"start 1 {i:x}", f"finish 1 {i:x}")]
+    yield "waits for a workqueue to which 4,095 entries come", whole, workqueues([[0], range(1, ITEMS)]), run_text([], turn, most)
     several = [(0, 1 + place % LAST) for place in range(FLUSHES)]
     turn = ["queue 0\n", "start 0 0\n"] + [s for place in reversed(range(FLUSHES)) for s in (f"wait 0 {1 + place % LAST:x}\n", f"over 0 {1 + place % LAST:x}\n")] + ["finish 0 0\n"]
     yield "waits for 4,095 targets, the last one first", declaration(ITEMS, several), own(), run_text([], turn, most)
@@ -216,6 +235,7 @@ def declarations():
     yield "2,048 circles of two", declaration(ITEMS, pairs())
     yield "2,046 wait for the last of 2,048", declaration(ITEMS, waiting())
     yield "3,094 wait for the last of a group of 1,000", waiting_for_group()
+    yield "3,094 wait for the whole workqueue of a group of 1,000", waiting_for_group("flushwq")
     yield "groups of two, a chain of them", declaration(ITEMS, [(i, (i + 2) % ITEMS) for i in range(ITEMS - 2) for _ in range(4)], [[i, i + 1] for i in range(0, ITEMS, 2)])
 
 
@@ -259,6 +279,13 @@ def cases(program, folder, write, most_run=MOST_CERTIFICATE):
             yield "dot", f"{name}, two workqueues", [path, write(two())]
     path = write(declaration(ITEMS, waiting()))
     yield "deadlock", "2,046 workqueues wait for the last of 2,048 items", [path, write(waiting_workqueues())]
+    whole = [("2,046 workqueues wait for the whole of one with 2,048 items", waiting_for_workqueue()),
+             ("16,384 waits of both kinds, of 2,046 workqueues for one", waiting_of_both_kinds())]
+    for name, text in whole:
+        path, queues = write(text), write(waiting_workqueues())
+        yield "plan", name, [path]
+        yield "deadlock", name, [path, queues]
+        yield "replay", name, [path, queues, write(program.answer("deadlock", folder, path, queues))]
     for name, text in texts():
         path = write(text)
         yield "plan", name, [path]

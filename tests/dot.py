@@ -27,10 +27,18 @@ ORDERED_LOOKS = rb'      graph \[label="ordered", style=dashed, color=black\];'
 MEMBER = rb'      ' + NAME + rb';'
 END_OF_ORDERED = rb'    \}'
 END_OF_WORKQUEUE = rb'  \}'
-ARROW = rb'  ' + NAME + rb' -> ' + NAME + rb'( \[color=red\]| \[style=bold\]|);'
 END = rb'\}'
 
-COLOURS = {b"": "black", b" [color=red]": "red", b" [style=bold]": "bold"}
+# How an arrow looks: its colour, and whether it waits for a whole workqueue.
+LOOKS = {
+    b"": ("black", False),
+    b" [color=red]": ("red", False),
+    b" [style=bold]": ("bold", False),
+    b" [arrowhead=odiamond]": ("black", True),
+    b" [color=red, arrowhead=odiamond]": ("red", True),
+    b" [style=bold, arrowhead=odiamond]": ("bold", True),
+}
+ARROW = rb'  ' + NAME + rb' -> ' + NAME + rb'(' + b"|".join(map(re.escape, LOOKS)) + rb');'
 
 
 class NotADrawing(Exception):
@@ -43,7 +51,7 @@ class Drawing:
 
     title: str
     workqueues: list  # by number, each as its groups, each of these as the names of its items
-    arrows: list  # in order, each as the names of its item and of its target, and `black`, `red` or `bold`
+    arrows: list  # in order, each as the names of its item and of its target, `black`, `red` or `bold`, and whether it is whole
 
     def workqueue_of(self):
         """By the name of an item, the number of its workqueue."""
@@ -55,7 +63,7 @@ class Drawing:
 
     def coloured(self, colour):
         """The arrows of this colour, without it."""
-        return [(item, target) for item, target, of_arrow in self.arrows if of_arrow == colour]
+        return [(item, target) for item, target, of_arrow, _ in self.arrows if of_arrow == colour]
 
 
 class Reader:
@@ -130,7 +138,7 @@ def read_arrows(reader, items):
     while match := reader.may_take(ARROW):
         item, target = match[1].decode(), match[2].decode()
         reader.must(item in items and target in items, "an end of this arrow is no item")
-        arrows.append((item, target, COLOURS[match[3]]))
+        arrows.append((item, target, *LOOKS[match[3]]))
     return arrows
 
 
@@ -139,7 +147,7 @@ def must_be_plan(reader, drawing, count):
     workqueue_of, group_of = drawing.workqueue_of(), drawing.group_of()
     reader.must(count == len(drawing.workqueues), "TITLE has another number of workqueues")
     reader.must(all(drawing.workqueues), "a workqueue of a plan is empty")
-    reader.must(all(workqueue_of[item] > workqueue_of[target] for item, target, _ in drawing.arrows),
+    reader.must(all(workqueue_of[item] > workqueue_of[target] for item, target, *_ in drawing.arrows),
                 "an arrow of a plan doesn't lead to a lower workqueue")
     chain = sorted(drawing.coloured("bold"), key=lambda arrow: -workqueue_of[arrow[0]])
     reader.must([(workqueue_of[item], workqueue_of[target]) for item, target in chain]

@@ -34,8 +34,8 @@ digraph wqplan {
   }
   "c_c" -> "a";
   "d-d" -> "7" [style=bold];
-  "d-d" -> "7";
-  "node" -> "b.x" [style=bold];
+  "d-d" -> "7" [arrowhead=odiamond];
+  "node" -> "b.x" [style=bold, arrowhead=odiamond];
 }
 """
 CIRCLE = b"""\
@@ -52,7 +52,7 @@ digraph wqplan {
     "b";
   }
   "a" -> "b" [color=red];
-  "b" -> "b" [color=red];
+  "b" -> "b" [color=red, arrowhead=odiamond];
 }
 """
 EMPTY = b"""\
@@ -67,8 +67,9 @@ digraph wqplan {
 GOOD = [
     (PLAN, dot.Drawing(
         "plan 3", [[["a"], ["7"]], [["b.x", "d-d"], ["c_c"]], [["node"]]],
-        [("c_c", "a", "black"), ("d-d", "7", "bold"), ("d-d", "7", "black"), ("node", "b.x", "bold")])),
-    (CIRCLE, dot.Drawing("components 1", [[], [["a"], ["b"]]], [("a", "b", "red"), ("b", "b", "red")])),
+        [("c_c", "a", "black", False), ("d-d", "7", "bold", False), ("d-d", "7", "black", True),
+         ("node", "b.x", "bold", True)])),
+    (CIRCLE, dot.Drawing("components 1", [[], [["a"], ["b"]]], [("a", "b", "red", False), ("b", "b", "red", True)])),
     (EMPTY, dot.Drawing("plan 0", [], [])),
     (EMPTY.replace(b"plan 0", b"safe"), dot.Drawing("safe", [], [])),
 ]
@@ -138,7 +139,14 @@ BROKEN = [
     (PLAN, b'  "c_c" -> "a";\n', b'  "c_c" -> "a" [color=red, style=bold];\n', 23),
     (PLAN, b'  "c_c" -> "a";\n', b'  "c_c" -> "a" -> "7";\n', 23),
     (PLAN, b'  "c_c" -> "a";\n', b'  "c_c" -> "a"\n', 23),
-    (CIRCLE, b'  "b" -> "b" [color=red];\n', b'  subgraph "cluster wq 2" {\n', 14),
+    (PLAN, b'  "c_c" -> "a";\n', b'  "c_c" -> "a" [];\n', 23),
+    (PLAN, b'  "c_c" -> "a";\n', b'  "c_c" -> "a" [arrowhead=diamond];\n', 23),
+    (PLAN, b'  "c_c" -> "a";\n', b'  "c_c" -> "a" [, arrowhead=odiamond];\n', 23),
+    (PLAN, b'"7" [arrowhead=odiamond]', b'"7" [arrowhead=odiamond, color=red]', 25),
+    (PLAN, b'"7" [arrowhead=odiamond]', b'"7" [color=redarrowhead=odiamond]', 25),
+    (PLAN, b'"7" [arrowhead=odiamond]', b'"7" [arrowhead=odiamond, arrowhead=odiamond]', 25),
+    (PLAN, b'"7" [arrowhead=odiamond]', b'"7" [color=red][arrowhead=odiamond]', 25),
+    (CIRCLE, b'  "b" -> "b" [color=red, arrowhead=odiamond];\n', b'  subgraph "cluster wq 2" {\n', 14),
     (CIRCLE, b'    "b";\n  }\n', b'    "b";\n  }\n  "a" -> "a";\n  "c";\n', 14),
     # The end.
     (EMPTY, b"}\n", b"", 5),

@@ -82,6 +82,7 @@ plan='plan 2\nwq 0 b\nwq 1 a\nchain 2\narc a b\n'
 printf 'item a\nitem b\nflush a b\n' >declaration
 printf 'item a # x\r\n\titem\tb\r\n\r\n# \377\r\nflush a b' >carriage_returns
 printf 'item a\nitem b\nitem c\nitem d\nordered b c\nflush a b\nflush c d\n' >ordered
+printf 'item a\nitem b\nitem c\nflushwq a b\nflush c a\n' >whole
 printf 'item a\nflush a a\n' >circle
 printf 'item a\nitem b\nordered a b\nflush a b\n' >ordered_circle
 printf 'item a\nflush a b\nitem b\n' >refused
@@ -107,6 +108,9 @@ run plan carriage_returns </dev/null
 check 'a plan of lines that end with CR LF, with comments' 0 "$plan" ''
 run plan ordered </dev/null
 check 'a plan with an ordered group' 0 'plan 3\nwq 0 d\nwq 1 b c\nwq 2 a\nchain 3\narc a b\narc c d\n' ''
+run plan whole </dev/null
+check 'a plan with a wait for a whole workqueue' 0 \
+    'plan 3\nwq 0 b\nwq 1 a\nwq 2 c\nchain 3\narc c a\narc a b\n' ''
 run plan circle </dev/null
 check 'a circle and its run' 1 'circle 1\narc a a\nrun 3\nqueue a\nstart 0 a\nwait 0 a\n' ''
 run plan ordered_circle </dev/null
@@ -159,6 +163,10 @@ printf 'plan 2\nwq 0 a c\nwq 1 b\nchain 0\n' >lanes_of_a_plan
 printf 'wq 0 c\nwq 1 b\nwq 2 a\n' >safe_lanes
 run deadlock chain lanes </dev/null
 check 'deadlock: a run that deadlocks' 1 "$hangs" ''
+printf 'wq 0 a\nwq 1 b c\n' >whole_lanes
+run deadlock whole whole_lanes </dev/null
+check 'deadlock: a wait for a whole workqueue' 1 \
+    'run 7\nqueue a\nqueue c\nqueue b\nstart 0 a\nwaitwq 0 b\nstart 1 c\nwait 1 a\n' ''
 run deadlock chain safe_lanes </dev/null
 check 'deadlock: a safe assignment' 0 'safe\n' ''
 run deadlock declaration plan_of_two </dev/null
@@ -287,6 +295,8 @@ run run chain256 </dev/null
 check 'run: 256 workqueues' 0 "$ran256\n" ''
 run run chain257 </dev/null
 check 'run: 257 workqueues' 2 'refused 69 line 0\n' 'of 1'
+run run whole </dev/null
+check 'run: a wait for a whole workqueue' 2 'fault flushwq\n' ''
 run run circle </dev/null
 check 'run: a circle and its run' 1 'circle 1\narc a a\nrun 3\nqueue a\nstart 0 a\nwait 0 a\n' ''
 run run refused </dev/null

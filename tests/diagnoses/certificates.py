@@ -38,6 +38,26 @@ WORDS = [
         "    flush a b",
         "    ^^^^^ this looks like a declaration: are the files in the right order?",
     ]),
+    ({"d": AB, "c": "circle 1 / flushwq a b"}, "check d c", "refused 40 line 2", 2, [
+        "c:2:1: expected `arc NAME TARGET`, found `flushwq` [refused 40, `wqplan explain 40`]",
+        "    flushwq a b",
+        "    ^^^^^^^ this looks like a declaration: are the files in the right order?",
+    ]),
+    ({"d": AB, "a": "wq 0 a b", "r": "waitwq 0 b"}, "replay d a r", "refused 40 line 1", 2, [
+        "r:1:1: expected `run M`, found `waitwq` [refused 40, `wqplan explain 40`]",
+        "    waitwq 0 b",
+        "    ^^^^^^ this looks like a run: are the files in the right order?",
+    ]),
+    ({"d": AB, "a": "wq 0 a b", "r": "run 1 / overwq 0"}, "replay d a r", "refused 40 line 2", 2, [
+        "r:2:9: a word is missing [refused 40, `wqplan explain 40`]",
+        "    overwq 0",
+        "            ^ the line should be a step",
+    ]),
+    ({"d": AB, "a": "overwq 0 b"}, "deadlock d a", "refused 41 line 0", 2, [
+        "a: `a`, `b` are on no workqueue: line 1 isn't a `wq` line [refused 41, `wqplan explain 41`]",
+        "    overwq 0 b",
+        "    ^^^^^^ this looks like a run: are the files in the right order?",
+    ]),
     ({"d": AB, "c": "circle 1 / arc a b / ran 1"}, "check d c", "refused 40 line 3", 2, [
         "c:3:1: expected `run M`, found `ran` [refused 40, `wqplan explain 40`]",
         "    ran 1",

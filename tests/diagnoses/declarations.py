@@ -133,10 +133,31 @@ WORDS = [
         "    flushed a",
         "    ^^^^^^^ did you mean `flush`?",
     ]),
+    # `flushw` is one letter from two directives, of which the first is named. The others are more like `flushwq`.
+    ({"d.wq": "item a / flushw a a"}, "plan d.wq", "refused 4 line 2", 2, [
+        "d.wq:2:1: `flushw` isn't a directive [refused 4, `wqplan explain 4`]",
+        "    flushw a a",
+        "    ^^^^^^ did you mean `flush`?",
+    ]),
+    ({"d.wq": "item a / flush_wq a a"}, "plan d.wq", "refused 4 line 2", 2, [
+        "d.wq:2:1: `flush_wq` isn't a directive [refused 4, `wqplan explain 4`]",
+        "    flush_wq a a",
+        "    ^^^^^^^^ did you mean `flushwq`?",
+    ]),
+    ({"d.wq": "item a / flushqw a a"}, "plan d.wq", "refused 4 line 2", 2, [
+        "d.wq:2:1: `flushqw` isn't a directive [refused 4, `wqplan explain 4`]",
+        "    flushqw a a",
+        "    ^^^^^^^ did you mean `flushwq`?",
+    ]),
+    ({"d.wq": "item a / FlushWQ a a"}, "plan d.wq", "refused 4 line 2", 2, [
+        "d.wq:2:1: `FlushWQ` isn't a directive [refused 4, `wqplan explain 4`]",
+        "    FlushWQ a a",
+        "    ^^^^^^^ did you mean `flushwq`?",
+    ]),
     ({"d.wq": "item a / order a"}, "plan d.wq", "refused 4 line 2", 2, [
         "d.wq:2:1: `order` isn't a directive [refused 4, `wqplan explain 4`]",
         "    order a",
-        "    ^^^^^ a line begins with `item`, `flush` or `ordered`",
+        "    ^^^^^ a line begins with `item`, `flush`, `flushwq` or `ordered`",
     ]),
     ({"d.wq": "item: a"}, "plan d.wq", "refused 4 line 1", 2, [
         "d.wq:1:1: `item:` isn't a directive [refused 4, `wqplan explain 4`]",
@@ -146,23 +167,23 @@ WORDS = [
     ({"d.wq": "i a # the last line"}, "plan d.wq", "refused 4 line 1", 2, [
         "d.wq:1:1: `i` isn't a directive [refused 4, `wqplan explain 4`]",
         "    i a # the last line",
-        "    ^ a line begins with `item`, `flush` or `ordered`",
+        "    ^ a line begins with `item`, `flush`, `flushwq` or `ordered`",
     ]),
     ({"d.wq": "depends a b"}, "plan d.wq", "refused 4 line 1", 2, [
         "d.wq:1:1: `depends` isn't a directive [refused 4, `wqplan explain 4`]",
         "    depends a b",
-        "    ^^^^^^^ a line begins with `item`, `flush` or `ordered`",
+        "    ^^^^^^^ a line begins with `item`, `flush`, `flushwq` or `ordered`",
     ]),
     # A last line without a line feed, and one with the carriage return that is dropped.
     ({"d.wq": b"item a\nwork b"}, "plan d.wq", "refused 4 line 2", 2, [
         "d.wq:2:1: `work` isn't a directive [refused 4, `wqplan explain 4`]",
         "    work b",
-        "    ^^^^ a line begins with `item`, `flush` or `ordered`",
+        "    ^^^^ a line begins with `item`, `flush`, `flushwq` or `ordered`",
     ]),
     ({"d.wq": b"\r\n# a\r\nwork b\r\n"}, "plan d.wq", "refused 4 line 3", 2, [
         "d.wq:3:1: `work` isn't a directive [refused 4, `wqplan explain 4`]",
         "    work b",
-        "    ^^^^ a line begins with `item`, `flush` or `ordered`",
+        "    ^^^^ a line begins with `item`, `flush`, `flushwq` or `ordered`",
     ]),
     # Other comments, also where the word is like a directive.
     ({"d.wq": "// the items"}, "plan d.wq", "refused 4 line 1", 2, [
@@ -219,7 +240,7 @@ WORDS = [
     ({"d.wq": "arc a b"}, "plan d.wq", "refused 4 line 1", 2, [
         "d.wq:1:1: `arc` isn't a directive [refused 4, `wqplan explain 4`]",
         "    arc a b",
-        "    ^^^ a line begins with `item`, `flush` or `ordered`",
+        "    ^^^ a line begins with `item`, `flush`, `flushwq` or `ordered`",
     ]),
     ({"circle": "circle 1 / arc a a", "d.wq": "item a / flush a a"}, "check circle d.wq", "refused 4 line 1", 2, [
         "circle:1:1: `circle` isn't a directive [refused 4, `wqplan explain 4`]",
@@ -251,6 +272,16 @@ WORDS = [
         "    wait 0 a",
         "    ^^^^ this looks like a run: are the files in the right order?",
     ]),
+    ({"d.wq": "waitwq 0 a"}, "plan d.wq", "refused 4 line 1", 2, [
+        "d.wq:1:1: `waitwq` isn't a directive [refused 4, `wqplan explain 4`]",
+        "    waitwq 0 a",
+        "    ^^^^^^ this looks like a run: are the files in the right order?",
+    ]),
+    ({"d.wq": "item a / overwq 0 a"}, "plan d.wq", "refused 4 line 2", 2, [
+        "d.wq:2:1: `overwq` isn't a directive [refused 4, `wqplan explain 4`]",
+        "    overwq 0 a",
+        "    ^^^^^^ this looks like a run: are the files in the right order?",
+    ]),
     ({"d.wq": "over 0 a"}, "plan d.wq", "refused 4 line 1", 2, [
         "d.wq:1:1: `over` isn't a directive [refused 4, `wqplan explain 4`]",
         "    over 0 a",
@@ -276,6 +307,11 @@ WORDS = [
         "d.wq:1:1: `wait` isn't a directive [refused 4, `wqplan explain 4`]",
         "    wait a b # item a",
         "    ^^^^ this looks like a run: are the files in the right order?",
+    ]),
+    ({"d.wq": "wait a b / flushwq a b"}, "plan d.wq", "refused 4 line 1", 2, [
+        "d.wq:1:1: `wait` isn't a directive [refused 4, `wqplan explain 4`]",
+        "    wait a b",
+        "    ^^^^ did you mean `flush`?",
     ]),
     ({"d.wq": "wait a b / \tordered a b"}, "plan d.wq", "refused 4 line 1", 2, [
         "d.wq:1:1: `wait` isn't a directive [refused 4, `wqplan explain 4`]",
@@ -388,6 +424,37 @@ FORMS = [
         "    flush#a b",
         "         ^ the line should be `flush NAME TARGET..`",
     ]),
+    ({"d.wq": "flushwq"}, "plan d.wq", "refused 5 line 1", 2, [
+        "d.wq:1:8: a name is missing [refused 5, `wqplan explain 5`]",
+        "    flushwq",
+        "           ^ the line should be `flushwq NAME ITEM`",
+    ]),
+    ({"d.wq": "item a / flushwq a # b"}, "plan d.wq", "refused 5 line 2", 2, [
+        "d.wq:2:10: a name is missing [refused 5, `wqplan explain 5`]",
+        "    flushwq a # b",
+        "             ^ the line should be `flushwq NAME ITEM`",
+    ]),
+    ({"d.wq": "item a / item b / flushwq a b b"}, "plan d.wq", "refused 12 line 3", 2, [
+        "d.wq:3:13: a `flushwq` line has two names [refused 12, `wqplan explain 12`]",
+        "    flushwq a b b",
+        "                ^ each workqueue has a `flushwq` line of its own",
+    ]),
+    # The first word too many, whatever the names are.
+    ({"d.wq": "flushwq a! b ccc dd"}, "plan d.wq", "refused 12 line 1", 2, [
+        "d.wq:1:14: a `flushwq` line has two names [refused 12, `wqplan explain 12`]",
+        "    flushwq a! b ccc dd",
+        "                 ^^^ each workqueue has a `flushwq` line of its own",
+    ]),
+    ({"d.wq": "item a / flushwq a a // all of it"}, "plan d.wq", "refused 12 line 2", 2, [
+        "d.wq:2:13: a `flushwq` line has two names [refused 12, `wqplan explain 12`]",
+        "    flushwq a a // all of it",
+        "                ^^ a comment begins with `#`",
+    ]),
+    ({"d.wq": "item a / flushwq a, a"}, "plan d.wq", "refused 6 line 2", 2, [
+        "d.wq:2:9: `a,` isn't a name [refused 6, `wqplan explain 6`]",
+        "    flushwq a, a",
+        "            ^^ only blanks come between names",
+    ]),
     ({"d.wq": "item a, b"}, "plan d.wq", "refused 12 line 1", 2, [
         "d.wq:1:9: an `item` line has one name [refused 12, `wqplan explain 12`]",
         "    item a, b",
@@ -474,6 +541,11 @@ ITEMS = [
         "rdisk.wq:3:12: no item `lgo` is declared above this line [refused 8, `wqplan explain 8`]",
         "    flush send lgo",
         "               ^^^ did you mean `log`, line 2?",
+    ]),
+    ({"rdisk.wq": "item send / item log / flushwq send lgo"}, "plan rdisk.wq", "refused 8 line 3", 2, [
+        "rdisk.wq:3:14: no item `lgo` is declared above this line [refused 8, `wqplan explain 8`]",
+        "    flushwq send lgo",
+        "                 ^^^ did you mean `log`, line 2?",
     ]),
     # The first such name. It is declared below, where a name above is like it, too.
     ({"d.wq": "item a / item logs / flush log a / item b / item log"}, "plan d.wq", "refused 8 line 3", 2, [

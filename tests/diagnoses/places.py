@@ -121,24 +121,24 @@ CUTS = [
     ({"d.wq": "work " + X[:95]}, "plan d.wq", "refused 4 line 1", 2, [
         "d.wq:1:1: `work` isn't a directive [refused 4, `wqplan explain 4`]",
         "    work " + X[:95],
-        "    ^^^^ a line begins with `item`, `flush` or `ordered`",
+        "    ^^^^ a line begins with `item`, `flush`, `flushwq` or `ordered`",
     ]),
     # Cut at the right end.
     ({"d.wq": "work " + X[:96]}, "plan d.wq", "refused 4 line 1", 2, [
         "d.wq:1:1: `work` isn't a directive [refused 4, `wqplan explain 4`]",
         "    work " + X[:89] + "...",
-        "    ^^^^ a line begins with `item`, `flush` or `ordered`",
+        "    ^^^^ a line begins with `item`, `flush`, `flushwq` or `ordered`",
     ]),
     ({"d.wq": " " * 40 + "work " + X}, "plan d.wq", "refused 4 line 1", 2, [
         "d.wq:1:41: `work` isn't a directive [refused 4, `wqplan explain 4`]",
         "    " + " " * 40 + "work " + X[:49] + "...",
-        "    " + " " * 40 + "^^^^ a line begins with `item`, `flush` or `ordered`",
+        "    " + " " * 40 + "^^^^ a line begins with `item`, `flush`, `flushwq` or `ordered`",
     ]),
     # Cut at both ends.
     ({"d.wq": " " * 41 + "work " + X}, "plan d.wq", "refused 4 line 1", 2, [
         "d.wq:1:42: `work` isn't a directive [refused 4, `wqplan explain 4`]",
         "    ..." + " " * 40 + "work " + X[:49] + "...",
-        "       " + " " * 40 + "^^^^ a line begins with `item`, `flush` or `ordered`",
+        "       " + " " * 40 + "^^^^ a line begins with `item`, `flush`, `flushwq` or `ordered`",
     ]),
     ({"d.wq": "item a / flush" + " a" * 50 + " zz # " + Y}, "plan d.wq", "refused 8 line 2", 2, [
         "d.wq:2:107: no item `zz` is declared above this line [refused 8, `wqplan explain 8`]",
@@ -171,18 +171,18 @@ CUTS = [
     ({"d.wq": X[:120] + " a"}, "plan d.wq", "refused 4 line 1", 2, [
         "d.wq:1:1: `" + X[:120] + "` isn't a directive [refused 4, `wqplan explain 4`]",
         "    " + X[:94] + "...",
-        "    " + "^" * 94 + " a line begins with `item`, `flush` or `ordered`",
+        "    " + "^" * 94 + " a line begins with `item`, `flush`, `flushwq` or `ordered`",
     ]),
     ({"d.wq": " " * 50 + X[:120] + " a"}, "plan d.wq", "refused 4 line 1", 2, [
         "d.wq:1:51: `" + X[:120] + "` isn't a directive [refused 4, `wqplan explain 4`]",
         "    ..." + " " * 40 + X[:54] + "...",
-        "       " + " " * 40 + "^" * 54 + " a line begins with `item`, `flush` or `ordered`",
+        "       " + " " * 40 + "^" * 54 + " a line begins with `item`, `flush`, `flushwq` or `ordered`",
     ]),
     # The bytes of UTF-8 and TABs count one each, also where the cut is within a letter.
     ({"d.wq": b"item a\nwork b" + "\t# ".encode() + "\u00e4".encode() * 60}, "plan d.wq", "refused 4 line 2", 2, [
         "d.wq:2:1: `work` isn't a directive [refused 4, `wqplan explain 4`]",
         "    work b # " + "?" * 85 + "...",
-        "    ^^^^ a line begins with `item`, `flush` or `ordered`",
+        "    ^^^^ a line begins with `item`, `flush`, `flushwq` or `ordered`",
     ]),
     # A certificate.
     ({"d": AB, "p": "plan 1 / wq 0" + " " * 200 + "a b c"}, "check d p", "refused 40 line 2", 2, [
@@ -284,6 +284,23 @@ NOES = [
     ({"d": AB, "p": "plan 2 / wq 0 a / wq 1 b # below / chain 2 / arc a b"}, "check d p", "no 50 a b", 1, [
         "p:2:6: `a` flushes `b`, so it should be on a higher workqueue [no 50, `wqplan explain 50`]",
         "    wq 0 a",
+        "         ^ `b` is on workqueue 1",
+    ]),
+    # By the kind of the wait. Of several waits for the same target the one of least place is meant.
+    ({"d": "item a / item b / flushwq a b", "p": "plan 1 / wq 0 a b / chain 1"}, "check d p", "no 50 a b", 1, [
+        "p:2:6: `a` flushes the workqueue of `b`, so it should be on a higher workqueue [no 50, `wqplan explain 50`]",
+        "    wq 0 a b",
+        "         ^ `b` is on workqueue 0",
+    ]),
+    ({"d": AB + " / flushwq a b", "p": "plan 1 / wq 0 a b / chain 1"}, "check d p", "no 50 a b", 1, [
+        "p:2:6: `a` flushes `b`, so it should be on a higher workqueue [no 50, `wqplan explain 50`]",
+        "    wq 0 a b",
+        "         ^ `b` is on workqueue 0",
+    ]),
+    ({"d": "item a / item b / item c / flush b c / flushwq a b / flush a b", "p": "plan 2 / wq 0 a c / wq 1 b / chain 1"},
+     "check d p", "no 50 a b", 1, [
+        "p:2:6: `a` flushes the workqueue of `b`, so it should be on a higher workqueue [no 50, `wqplan explain 50`]",
+        "    wq 0 a c",
         "         ^ `b` is on workqueue 1",
     ]),
     ({"d": AB, "p": "plan 2 / wq 0 b / wq 1 a / chain 1"}, "check d p", "no 52", 1, [

@@ -4,6 +4,8 @@ AB = "item a / item b / flush a b"
 TWO = "item a / item b / item c / flush a b b / flush c a"
 APART = "wq 0 a / wq 1 b"
 THREE = "wq 0 a / wq 1 b / wq 2 c"
+WHOLE = "item a / item b / item c / flushwq a b / flush a c / flushwq b a"
+BESIDE = "wq 0 a / wq 1 b c"
 
 
 def row(declaration, assignment, run, number, place, what, line, column, last="a"):
@@ -42,6 +44,34 @@ STEPS = [
         "an entry of `b` from before this wait is unfinished", "over 0 b", 8),
     row(AB, APART, "run 6 / queue b / queue a / start 1 b / start 0 a / wait 0 b / over 0 b", 6, 7,
         "an entry of `b` from before this wait is unfinished", "over 0 b", 8),
+    # Waits for a whole workqueue.
+    row(WHOLE, BESIDE, "run 1 / waitwq 1 a", 1, 2, "nothing runs on workqueue 1", "waitwq 1 a", 10),
+    row(WHOLE, BESIDE, "run 1 / overwq 1 a", 1, 2, "nothing runs on workqueue 1", "overwq 1 a", 10),
+    row(WHOLE, BESIDE, "run 1 / waitwq 2 a", 1, 2, "there is no workqueue 2", "waitwq 2 a", 10),
+    row(WHOLE, BESIDE, "run 4 / queue a / start 0 a / waitwq 0 b / wait 0 c", 4, 5,
+        "`a`, which runs on workqueue 0, waits for the workqueue of `b`", "wait 0 c", 8, "c"),
+    row(WHOLE, BESIDE, "run 4 / queue a / start 0 a / wait 0 c / waitwq 0 b", 4, 5,
+        "`a`, which runs on workqueue 0, waits for `c`", "waitwq 0 b", 10),
+    # Another item of the same workqueue isn't declared.
+    row(WHOLE, BESIDE, "run 3 / queue a / start 0 a / waitwq 0 c", 3, 4,
+        "`a`, which runs on workqueue 0, declares no `flushwq` of `c`", "waitwq 0 c", 10),
+    row(WHOLE, BESIDE, "run 3 / queue a / start 0 a / wait 0 b", 3, 4,
+        "`a`, which runs on workqueue 0, declares no flush of `b`", "wait 0 b", 8),
+    # All waits are made: those of both kinds count.
+    row(WHOLE, BESIDE, "run 7 / queue a / start 0 a / wait 0 c / over 0 c / wait 0 c / over 0 c / waitwq 0 b", 7, 8,
+        "`a`, which runs on workqueue 0, has made all of its waits: 2", "waitwq 0 b", 10),
+    row(WHOLE, BESIDE, "run 3 / queue a / start 0 a / overwq 0 b", 3, 4, "`a`, which runs on workqueue 0, doesn't wait",
+        "overwq 0 b", 10),
+    row(WHOLE, BESIDE, "run 4 / queue a / start 0 a / waitwq 0 b / over 0 b", 4, 5,
+        "`a`, which runs on workqueue 0, waits for the workqueue of `b`", "over 0 b", 8),
+    row(WHOLE, BESIDE, "run 4 / queue a / start 0 a / waitwq 0 b / overwq 0 c", 4, 5,
+        "`a`, which runs on workqueue 0, waits for the workqueue of `b`", "overwq 0 c", 10),
+    row(WHOLE, BESIDE, "run 4 / queue a / start 0 a / wait 0 c / overwq 0 c", 4, 5,
+        "`a`, which runs on workqueue 0, waits for `c`", "overwq 0 c", 10),
+    row(WHOLE, BESIDE, "run 5 / queue c / queue a / start 0 a / waitwq 0 b / overwq 0 b", 5, 6,
+        "an entry from before this wait is unfinished on the workqueue of `b`", "overwq 0 b", 10),
+    row(WHOLE, BESIDE, "run 4 / queue b / start 1 b / waitwq 1 a / finish 1 b", 4, 5,
+        "`b`, which runs on workqueue 1, waits for the workqueue of `a`", "finish 1 b", 10),
     row(AB, "wq 0 a b", "run 3 / queue a / start 0 a / finish 0 b", 3, 4, "workqueue 0 runs `a`", "finish 0 b", 10),
     row(AB, APART, "run 4 / queue a / start 0 a / wait 0 b / finish 0 a", 4, 5, "`a`, which runs on workqueue 0, waits for `b`",
         "finish 0 a", 10),

@@ -54,6 +54,8 @@ DECLARATIONS = [
     ("4,097 items", lambda: limits.items(4_097).encode(), lambda: on_one(4_097)),
     ("16,384 flushes", lambda: two(16_384), lambda: b"wq 0 a b\n"),
     ("16,385 flushes", lambda: two(16_385), lambda: b"wq 0 a b\n"),
+    ("16,384 `flushwq` lines", lambda: two(0) + b"flushwq a b\n" * 16_384, lambda: b"wq 0 a b\n"),
+    ("16,385 `flushwq` lines", lambda: two(0) + b"flushwq a b\n" * 16_385, lambda: b"wq 0 a b\n"),
     ("256 workqueues in a plan", lambda: chain(256), lambda: own(256)),
     ("257 workqueues in a plan", lambda: chain(257), lambda: own(257)),
 ]
@@ -159,7 +161,7 @@ RUNS = [
 
 def steps_on(queue):
     """Each step that names a workqueue, with this one."""
-    return [b"run 1\n%s %d a\n" % (word, queue) for word in (b"start", b"wait", b"over", b"finish")]
+    return [b"run 1\n%s %d a\n" % (word, queue) for word in (b"start", b"wait", b"waitwq", b"over", b"overwq", b"finish")]
 
 
 def certificate_cases():

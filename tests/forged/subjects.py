@@ -66,6 +66,19 @@ SUBJECTS = [
         "wq 0 a",
         "run 3 / queue a / start 0 a / wait 0 a",
     ),
+    # An item that waits for the whole workqueue of another one, with its plan, on workqueues that hang; and one that waits for its own.
+    subject(
+        "item a / item b / item c / flushwq a b / flush c a",
+        "plan 3 / wq 0 b / wq 1 a / wq 2 c / chain 3 / arc c a / arc a b",
+        "wq 0 a / wq 1 b c",
+        "run 10 / queue a / queue b / start 0 a / waitwq 0 b / start 1 b / queue c / finish 1 b / overwq 0 b / finish 0 a / start 1 c",
+    ),
+    subject(
+        "item a / flushwq a a",
+        "circle 1 / arc a a / run 3 / queue a / start 0 a / waitwq 0 a",
+        "wq 0 a",
+        "run 3 / queue a / start 0 a / waitwq 0 a",
+    ),
     # Nothing, and a workqueue too many.
     subject("", "plan 1 / wq 0 / chain 1", "wq 0", "run 0"),
 ]

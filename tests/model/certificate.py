@@ -22,7 +22,7 @@ NUMBER_OUT_OF_RANGE = 43
 # The steps: whether a step names a workqueue before its item.
 NAMES_WORKQUEUE = {
     b"queue": False, b"cancel": False,
-    b"start": True, b"wait": True, b"over": True, b"finish": True,
+    b"start": True, b"wait": True, b"waitwq": True, b"over": True, b"overwq": True, b"finish": True,
 }
 
 

@@ -71,13 +71,16 @@ DRAWING = (
     r'(  subgraph "cluster wq N" \{\n    graph \[label="wq N", style=filled,'
     r' color=gray92\];\n(    "Z";\n|    subgraph "cluster ordered Z" \{\n      graph'
     r' \[label="ordered", style=dashed, color=black\];\n(      "Z";\n)+    \}\n)*  \}\n)*'
-    r'(  "Z" -> "Z"(LOOKS)?;\n)*\}\n'
+    r'(  "Z" -> "Z"( \[(LOOK|(LOOK, )?arrowhead=odiamond)\])?;\n)*\}\n'
 )
 
 
-def drawing(title, looks):
+NO_LOOK = "(?!)"
+
+
+def drawing(title, look):
     """The form of a drawing with this title, and with arrows that look so or as most do."""
-    return DRAWING.replace("TITLE", title).replace("LOOKS", looks)
+    return DRAWING.replace("TITLE", title).replace("LOOK", look)
 
 
 COMMANDS = {
@@ -130,8 +133,8 @@ COMMANDS = {
         make_circles.limit_dot_cases,
         lambda seed, number: make_circles.random_circles_case(f"{seed} dot", number),
         ["declaration", "assignment"],
-        [("plans", 0, drawing("plan N", r" \[style=bold\]")), ("safe", 0, drawing("safe", "")),
-         ("components", 0, drawing("components N", r" \[color=red\]"))]
+        [("plans", 0, drawing("plan N", "style=bold")), ("safe", 0, drawing("safe", NO_LOOK)),
+         ("components", 0, drawing("components N", "color=red"))]
         + DECLARATION_REFUSALS + CERTIFICATE_REFUSALS[1:],
     ),
     "run": (
@@ -141,7 +144,8 @@ COMMANDS = {
         ["declaration"],
         [("plans that were run", 0,
           r"workqueues N\n(item Z wq N queued 1 cancelled 0 finished 1\n)*faults 0\n"),
-         ("circles", 1, r"circle N\nA+run N\nS+"), ("refusals 69", 2, r"refused 69 line 0\n")]
+         ("circles", 1, r"circle N\nA+run N\nS+"), ("refusals 69", 2, r"refused 69 line 0\n"),
+         ("waits for a whole workqueue", 2, r"fault flushwq\n")]
         + DECLARATION_REFUSALS,
     ),
 }
@@ -151,7 +155,7 @@ CASES_FOR_A_RUN = 5
 
 
 def form(pattern):
-    pattern = pattern.replace("S", r"(queue Z\n|(start|wait|over|finish) N Z\n)")
+    pattern = pattern.replace("S", r"(queue Z\n|(start|wait|waitwq|over|overwq|finish) N Z\n)")
     pattern = pattern.replace("A", r"(arc Z\n)").replace("N", r"(0|[1-9][0-9]*)")
     return re.compile(pattern.replace("Z", r"[A-Za-z0-9_.-]+( [A-Za-z0-9_.-]+)*").encode())
 

@@ -34,11 +34,12 @@ def step_as_declared(state, workqueue):
         pending = state.pending[workqueue]
         return (b"start", workqueue, pending[0].item) if pending else None
     if entry.target is not None:
-        step = (b"over", workqueue, entry.target)
+        step = (entry.over, workqueue, entry.target)
         return step if state.may(step) else None
-    targets = state.targets[entry.item]
-    if entry.waits < len(targets):
-        return b"wait", workqueue, targets[entry.waits]
+    waits = state.waits[entry.item]
+    if entry.waits < len(waits):
+        word, target = waits[entry.waits]
+        return word, workqueue, target
     return b"finish", workqueue, entry.item
 
 
@@ -52,16 +53,18 @@ def deadlocking_run(declared, assignment):
     for step in steps:
         state.make(step)
 
-    # A workqueue that can't make a step can't before the item for which it waits has finished. Only
-    # then it is looked at again. So `able` has all workqueues that can make a step.
+    # A workqueue that can't make a step can't before some item has finished: the one for which it waits,
+    # or the last one on the workqueue for which it waits. Only then it is looked at again. So `able` has
+    # all workqueues that can make a step.
     able = list(range(assignment.count))
-    waiting = collections.defaultdict(list)  # by item, the other workqueues that wait for it
+    waiting = collections.defaultdict(list)  # by such an item, the other workqueues that wait for it
     while able:
         workqueue = heapq.heappop(able)
         step = step_as_declared(state, workqueue)
         if step is None:
             if workqueue in state.running:
-                waiting[state.running[workqueue].target].append(workqueue)
+                entry = state.running[workqueue]
+                waiting[state.waited_for(entry.over, entry.target)[-1].item].append(workqueue)
             continue
         state.make(step)
         steps.append(step)

@@ -17,8 +17,9 @@ NAME_BYTES = LETTERS + b"0123456789_-."
 LINE_BYTES = b"\t" + bytes(range(0x20, 0x7F))
 WORD = re.compile(rb"[^ \t]+")
 
-# Directives: how many further words a line needs at least.
-FEWEST_WORDS = {b"item": 1, b"flush": 2, b"ordered": 1}
+# Directives: how many further words a line needs at least, and how many it has at most where that is limited.
+FEWEST_WORDS = {b"item": 1, b"flush": 2, b"flushwq": 2, b"ordered": 1}
+MOST_WORDS = {b"item": 1, b"flushwq": 2}
 
 
 class Refused(Exception):
@@ -92,7 +93,7 @@ def directives_pass(lines):
             raise Refused(4, number)
         if len(further) < FEWEST_WORDS[first]:
             raise Refused(5, number)
-        if first == b"item" and len(further) > 1:
+        if len(further) > MOST_WORDS.get(first, len(further)):
             raise Refused(12, number)
         if not all(is_name(word) for word in further):
             raise Refused(6, number)
@@ -103,12 +104,12 @@ def directives_pass(lines):
 def items_pass(directives):
     """Refusals, the pass over the items (7, 9, 8, 10); Items and groups: Items, Flushes and places.
 
-    Returns the names of the items by their numbers, and the flushes by their places, each as the
-    names of its item and of its target.
+    Returns the names of the items by their numbers, the flushes by their places, each as the names
+    of its item and of its target, and the directive of each flush.
     """
     items = []
     declared = set()
-    flushes = []
+    flushes, directive_of = [], []
     for number, first, names in directives:
         if first == b"item":
             if names[0] in declared:
@@ -120,11 +121,12 @@ def items_pass(directives):
         else:
             if not all(name in declared for name in names):
                 raise Refused(8, number)
-            if first == b"flush":
+            if first in (b"flush", b"flushwq"):
                 flushes += [(names[0], target) for target in names[1:]]
+                directive_of += [first] * len(names[1:])
                 if len(flushes) > FLUSH_LIMIT:
                     raise Refused(10, number)
-    return items, flushes
+    return items, flushes, directive_of
 
 
 def groups_pass(directives, items):
@@ -156,6 +158,11 @@ class Declaration:
     flushes: list  # by place, each as the names of its item and of its target
     groups: list  # by number, each as the names of its members
     group_of: dict  # by the name of an item, the number of its group
+    directive_of: list  # by the place of a flush, the directive that declares it: `flush` or `flushwq`
+
+    def flush_line(self, place):
+        """A line that declares the flush of this place alone."""
+        return b"%s %s %s" % (self.directive_of[place], *self.flushes[place])
 
 
 @functools.lru_cache(maxsize=64)
@@ -165,7 +172,7 @@ def read_declaration(text):
     A text that was read lately isn't read again, so nobody may change what is returned.
     """
     directives = directives_pass(text_pass(text))
-    items, flushes = items_pass(directives)
+    items, flushes, directive_of = items_pass(directives)
     groups = groups_pass(directives, items)
     group_of = {name: number for number, members in enumerate(groups) for name in members}
-    return Declaration(items, flushes, groups, group_of)
+    return Declaration(items, flushes, groups, group_of, directive_of)

@@ -73,7 +73,9 @@ CUT = 94
 BEFORE = 40
 
 # The lines of declarations, and the first words of the other texts.
-DIRECTIVE_FORMS = {b"item": b"`item NAME`", b"ordered": b"`ordered NAME..`", b"flush": b"`flush NAME TARGET..`"}
+DIRECTIVE_FORMS = {
+    b"item": b"`item NAME`", b"ordered": b"`ordered NAME..`", b"flush": b"`flush NAME TARGET..`", b"flushwq": b"`flushwq NAME ITEM`",
+}
 STEP = b"a step"
 COMMENTS = (b"//", b"/*", b"*", b";", b"%", b"--")
 CALLS = {
@@ -83,7 +85,7 @@ CALLS = {
                     b"`cancel_work` doesn't wait, and needs no line: for `cancel_work_sync` write `flush`"),
 }
 KINDS = {
-    **dict.fromkeys([b"item", b"flush", b"ordered"], b"a declaration"),
+    **dict.fromkeys(DIRECTIVE_FORMS, b"a declaration"),
     **dict.fromkeys([b"plan", b"wq", b"chain"], b"a plan or an assignment"),
     b"circle": b"a circle",
     **dict.fromkeys([b"run", *certificate.NAMES_WORKQUEUE], b"a run"),
@@ -238,7 +240,7 @@ def directive_hint(word, is_among_directives):
     """(b)"""
     alike = near(word, list(FEWEST_WORDS))
     return (comment_hint(word) or call_hint(word, is_among_directives) or kind_hint(word) or (alike and b"did you mean `%s`?" % alike)
-            or b"a line begins with `item`, `flush` or `ordered`")
+            or b"a line begins with `item`, `flush`, `flushwq` or `ordered`")
 
 
 def name_hint(word):
@@ -320,6 +322,9 @@ def of_declaration(text, code, number):
         return about(words[0], b"`%s` isn't a directive" % words[0].word, hint)
     if code == 5:
         return behind_last(words, b"a name is missing", b"the line should be " + DIRECTIVE_FORMS[words[0].word])
+    if code == 12 and words[0].word == b"flushwq":
+        hint = comment_hint(words[3].word) or b"each workqueue has a `flushwq` line of its own"
+        return about(words[3], b"a `flushwq` line has two names", hint)
     if code == 12:
         hint = comment_hint(words[2].word) or b"each item has an `item` line of its own"
         return about(words[2], b"an `item` line has one name", hint)
@@ -519,7 +524,7 @@ def of_certificate(kind, declaration, text, code, number):
 # The text that is printed ------------------------------------------------------------------------
 
 
-def of_no(text, printed):
+def of_no(declared, text, printed):
     """The rows of a `no`: the number of the line that is meant, and what is found there."""
     code, *rest = printed.split()[1:]
     lines = [(number, words_of(line)) for number, line in enumerate(split_lines(text), start=1) if split_words(line)]
@@ -531,7 +536,8 @@ def of_no(text, printed):
         item, target = rest
         served = {name.word: (number, words[1].word, name) for number, words in beginning(b"wq") for name in words[2:]}
         number, _, name = served[item]
-        what = b"`%s` flushes `%s`, so it should be on a higher workqueue" % (item, target)
+        whole = declared.directive_of[declared.flushes.index((item, target))] == b"flushwq"
+        what = b"`%s` flushes %s`%s`, so it should be on a higher workqueue" % (item, b"the workqueue of " if whole else b"", target)
         return number, about(name, what, b"`%s` is on workqueue %s" % (target, served[target][1]))
     if code in (b"51", b"53") and rest != [b"0"]:
         number, words = beginning(b"arc")[int(rest[0]) - 1]
@@ -595,7 +601,7 @@ def answer(command, files, texts):
     model, kinds = COMMANDS[command]
     printed, status = model(*texts)
     if printed.startswith(b"no "):
-        line, found = of_no(texts[1], printed)
+        line, found = of_no(read_declaration(texts[0]), texts[1], printed)
         return printed, status, printed_of(files[1], texts[1], line, found, b"no", int(printed.split()[1]))
     if printed.startswith(b"not lawful "):
         return printed, status, of_step(files[2], texts, int(printed.split()[2]))
@@ -650,8 +656,8 @@ MUST_COME = [3, 4, 5, 6, 7, 8, 11, 12, 40, 41, 42, 43]
 
 BYTES = b"\t\r\n\0 #,;.-_/!aZ09\x01\x7f\x80\xc3\xa4\xef\xff"
 OTHER_WORDS = [
-    b"item", b"flush", b"ordered", b"plan", b"wq", b"chain", b"arc", b"circle", b"run", b"queue", b"cancel", b"start",
-    b"wait", b"over", b"finish", b"refused", b"Item", b"depends", b"waits", b"flush_work", b"queue_work", b"cancels",
+    b"item", b"flush", b"flushwq", b"ordered", b"plan", b"wq", b"chain", b"arc", b"circle", b"run", b"queue", b"cancel", b"start",
+    b"wait", b"waitwq", b"over", b"overwq", b"finish", b"refused", b"Item", b"depends", b"waits", b"flush_work", b"queue_work", b"cancels",
     b"WQ", b"Plan", b"WQ_UNBOUND", b"md", b"_", b"\xef\xbb\xbfwq", b"\xff\xfe", b"w\0q",
     b"//", b"/*", b"*", b";", b"%", b"--", b"a,", b"a;", b"-",
     b"0", b"1", b"2", b"007", b"4095", b"4096", b"4097", b"4294967295", b"4294967296", b"n" * 63, b"n" * 64,

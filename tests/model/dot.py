@@ -74,12 +74,14 @@ def dot_text(declared, assignment, title, red, bold):
     groups = [[] for _ in range(assignment.count)]
     for members in declared.groups:
         groups[assignment.workqueue_of[members[0]]].append(members)
-    looks = {**dict.fromkeys(red, b" [color=red]"), **dict.fromkeys(bold, b" [style=bold]")}
+    looks = {**dict.fromkeys(red, b"color=red"), **dict.fromkeys(bold, b"style=bold")}
+    heads = {b"flushwq": b"arrowhead=odiamond"}
     lines = [HEAD[0], HEAD[1] % title, *HEAD[2:]]
     for number in range(assignment.count):
         lines += workqueue_lines(number, groups[number])
     for place, (item, target) in enumerate(declared.flushes):
-        lines.append(b'  "%b" -> "%b"%b;' % (item, target, looks.get(place, b"")))
+        look = b", ".join(filter(None, [looks.get(place), heads.get(declared.directive_of[place])]))
+        lines.append(b'  "%b" -> "%b"%b;' % (item, target, look and b" [%b]" % look))
     return [*lines, b"}"]
 
 

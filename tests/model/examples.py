@@ -28,6 +28,7 @@ def text(lines):
 ITEMS = "item a / item b / item c / item d"
 EMPTY = "plan 0 / chain 0"
 CIRCLE_A = "circle 1 / arc a a / run 3 / queue a / start 0 a / wait 0 a"
+CIRCLE_WHOLE = "circle 1 / arc a a / run 3 / queue a / start 0 a / waitwq 0 a"
 
 # The largest chain, one item too many, and the most flushes.
 MANY_ITEMS = ["item i%04d" % number for number in range(4_097)]
@@ -78,6 +79,14 @@ PLANS = [
     (text("item a / item b / item c / flush a b / flush b c / flush c b"),
      "circle 2 / arc b c / arc c b / run 9 / queue b / queue c / queue a / start 0 a / wait 0 b"
      " / start 1 b / wait 1 c / start 2 c / wait 2 b"),
+    (text("item a / item b / item c / flushwq a b"), "plan 2 / wq 0 b c / wq 1 a / chain 2 / arc a b"),
+    (text("item a / item b / item c / flushwq a c / flush a b"), "plan 2 / wq 0 b c / wq 1 a / chain 2 / arc a c"),
+    (text("item a / flushwq a a"), CIRCLE_WHOLE),
+    (text("item a / item b / flushwq a b / flush b a"),
+     "circle 2 / arc a b / arc b a / run 6 / queue a / queue b / start 0 a / waitwq 0 b / start 1 b / wait 1 a"),
+    (text(ITEMS + " / ordered b c / flushwq a b / flush c d / flush d d"),
+     "circle 1 / arc d d / run 12 / queue d / queue a / queue b / queue c / start 0 a / waitwq 0 b / start 1 b"
+     " / finish 1 b / start 1 c / wait 1 d / start 2 d / wait 2 d"),
     (text(ITEMS + " / ordered a d / ordered b c / flush a b / flush c d"),
      "circle 2 / arc a b / arc c d / run 8 / queue a / queue c / queue b / queue d / start 0 a"
      " / wait 0 b / start 1 c / wait 1 d"),
@@ -95,6 +104,10 @@ PLANS = [
     (text("item a / ordered a b / item b"), "refused 8 line 2"),
     (text("item a / item a"), "refused 7 line 2"),
     (text("item a b!"), "refused 12 line 1"),
+    (text("item a / item b / flushwq a b b"), "refused 12 line 3"),
+    (text("flushwq a b! c"), "refused 12 line 1"),
+    (text("item a / flushwq a"), "refused 5 line 2"),
+    (text("item a / flushwq a b"), "refused 8 line 2"),
     (text("item a!"), "refused 6 line 1"),
     (text("item"), "refused 5 line 1"),
     (text("item a / flush a"), "refused 5 line 2"),
@@ -113,6 +126,8 @@ S = "item a / flush a a"
 T = ITEMS + " / ordered a d / ordered b c / flush a b / flush c d"
 U = ITEMS + " / flush a b / flush c d"
 V = "item z / item a / item b / flush a z b / flush b a"
+W = "item a / item b / item c / flushwq a b / flush c a"
+W_HANGS = "run 7 / queue a / queue c / queue b / start 0 a / waitwq 0 b / start 1 c / wait 1 a"
 TWO = "plan 2 / wq 0 b / wq 1 a / chain 2"
 RUN = "queue a / queue b / queue c / start 0 a / wait 0 b / start 1 b"
 
@@ -128,6 +143,10 @@ CHECKS = [
     (S, CIRCLE_A, "yes circle 1"),
     (S, "circle 1 / arc a a / run 2 / queue a / start 0 a", "no 54"),
     (T, "circle 2 / arc a b / arc c d", "yes circle 2"),
+    (W, "plan 3 / wq 0 b / wq 1 a / wq 2 c / chain 3 / arc c a / arc a b", "yes 3"),
+    (W, "plan 2 / wq 0 b a / wq 1 c / chain 1", "no 50 a b"),
+    ("item a / flushwq a a", CIRCLE_WHOLE, "yes circle 1"),
+    ("item a / flushwq a a", CIRCLE_A, "no 54"),
     # What stands between the tables.
     (P, "plan 007", "refused 40 line 1"),
     (P, "plan +1", "refused 40 line 1"),
@@ -144,6 +163,11 @@ REPLAYS = [
     (R, "wq 0 a c / wq 1 b", f"run 7 / {RUN} / wait 1 c", "deadlock"),
     (R, "wq 0 a c / wq 1 b", f"run 6 / {RUN}", "open"),
     (R, "wq 0 a c / wq 1 b", "run 1 / start 0 a", "not lawful 1"),
+    (W, "wq 0 a / wq 1 b c", W_HANGS, "deadlock"),
+    (W, "wq 0 a / wq 1 b c", "run 5 / queue a / queue c / start 0 a / waitwq 0 b / overwq 0 b", "not lawful 5"),
+    (W, "wq 0 a / wq 1 b c", "run 5 / queue a / start 0 a / waitwq 0 b / queue c / overwq 0 b", "open"),
+    (W, "wq 0 a / wq 1 b c", "run 3 / queue a / start 0 a / wait 0 b", "not lawful 3"),
+    (W, "wq 0 a / wq 1 b c", "run 3 / queue a / start 0 a / waitwq 0 c", "not lawful 3"),
     (T, "wq 0 a d / wq 1 b / wq 2 c", "run 0", "refused 42 line 3"),
     (T, "wq 0 a d / wq 1 b", "", "refused 41 line 0"),
     (T, "wq 1 a d", "run", "refused 43 line 1"),
@@ -162,6 +186,8 @@ DEADLOCKS = [
     (V, "wq 0 / wq 1 b / wq 2 a / wq 3 z",
      "run 11 / queue b / queue a / queue z / start 1 b / wait 1 a / start 2 a / wait 2 z / start 3 z"
      " / finish 3 z / over 2 z / wait 2 b"),
+    (W, "wq 0 a / wq 1 b c", W_HANGS),
+    (W, "wq 0 a / wq 1 b / wq 2 c", "safe"),
     (T, "wq 0 a d / wq 1 b / wq 2 c", "refused 42 line 3"),
     (T, "wq 0 a d / wq 1 b", "refused 41 line 0"),
     (T, "wq 1 a d", "refused 43 line 1"),
@@ -180,6 +206,7 @@ RUNS = [
      " / item d wq 0 queued 1 cancelled 0 finished 1 / faults 0"),
     (text(S), CIRCLE_A),
     (text("item a / flush a b / item b"), "refused 8 line 2"),
+    (text(W), "fault flushwq"),
     (join(*MANY_ITEMS[:256], *CHAIN[:255]),
      " / ".join(["workqueues 256"]
                 + ["item i%04d wq %d queued 1 cancelled 0 finished 1" % (number, 255 - number)
@@ -212,6 +239,9 @@ CIRCLES = [
      "components 1 / component 4 / arc a b / arc a c / arc b a / arc c a"),
     ("item a / item b / flush a b b / flush b a / flush a b",
      "components 1 / component 4 / arc a b / arc a b / arc b a / arc a b"),
+    (W, "safe"),
+    ("item a / item b / flush a b / flushwq b a / flushwq a b",
+     "components 1 / component 3 / arc a b / arc b a / arc a b"),
     ("item a / flush a b / item b", "refused 8 line 2"),
     (" / ".join(RING), "safe"),
     (" / ".join([*RING, "flush i0299 i0000"]),
@@ -223,6 +253,8 @@ CIRCLES = [
     (R, "wq 0 a b / wq 1 c", "components 1 / component 1 / arc a b"),
     (U, "wq 0 a d / wq 1 b c", T_CROSSED),
     (U, "wq 0 b d / wq 1 a c", "safe"),
+    (W, "wq 0 a / wq 1 b c", "components 1 / component 2 / arc a b / arc c a"),
+    (W, "wq 0 a / wq 1 b / wq 2 c", "safe"),
     (V, "wq 0 / wq 1 b / wq 2 a / wq 3 z", "components 1 / component 2 / arc a b / arc b a"),
     (D, "wq 0 c d / wq 1 a b",
      "components 2 / component 2 / arc d c / arc c d / component 2 / arc a b / arc b a"),
@@ -284,13 +316,21 @@ DOTS = [
     (R, "wq 0 / wq 1 c a / wq 2 b",
      drawing("components 1", *box(0), *box(1, '    "a";', '    "c";'), *box(2, '    "b";'),
              '  "a" -> "b" [color=red];', '  "b" -> "c" [color=red];')),
+    (W, drawing("plan 3", *box(0, '    "b";'), *box(1, '    "a";'), *box(2, '    "c";'),
+                '  "a" -> "b" [style=bold, arrowhead=odiamond];', '  "c" -> "a" [style=bold];')),
+    (W, "wq 0 a / wq 1 b c",
+     drawing("components 1", *box(0, '    "a";'), *box(1, '    "b";', '    "c";'),
+             '  "a" -> "b" [color=red, arrowhead=odiamond];', '  "c" -> "a" [color=red];')),
+    (W, "wq 0 a / wq 1 b / wq 2 c",
+     drawing("safe", *box(0, '    "a";'), *box(1, '    "b";'), *box(2, '    "c";'),
+             '  "a" -> "b" [arrowhead=odiamond];', '  "c" -> "a";')),
     ("item a / flush a b / item b", "refused 8 line 2"),
     (T, "wq 1 a d", "refused 43 line 1"),
 ]
 
 STATUSES = {"plan": 0, "yes": 0, "open": 0, "safe": 0, "circle": 1, "no": 1, "not": 1,
             "deadlock": 1, "stuck": 1, "run": 1, "workqueues": 0, "components": 1, "digraph": 0,
-            "refused": 2}
+            "refused": 2, "fault": 2}
 
 
 def wanted(answer):

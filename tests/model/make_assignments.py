@@ -105,6 +105,19 @@ def large_case(workqueue_count, back):
     return [join(*items, *flushes), join(*[b" ".join(words) for words in wq_lines(wqs)])]
 
 
+def whole_case(count, turned):
+    """So many workqueues that wait for the whole of one with as many items, beside two items that wait for each other."""
+    names = [line[5:] for line in numbered_items(2 * count + 2)]
+    waiting, waited_for, others = names[:count], names[count:2 * count], names[2 * count:]
+    waits = [b"flushwq %s %s" % pair for pair in zip(waiting, waited_for)]
+    lines = [b"item " + name for name in names] + waits
+    lines += [b"flush %s %s" % tuple(others), b"flushwq %s %s" % tuple(others[::-1])]
+    wqs = [[name] for name in waiting] + [waited_for] + [[name] for name in others]
+    if turned:
+        wqs.reverse()
+    return [join(*lines), join(*[b" ".join(words) for words in wq_lines(wqs)])]
+
+
 @functools.cache
 def limit_deadlock_cases():
     """The cases at the limits: what each is, the declaration and the assignment."""
@@ -153,6 +166,10 @@ def limit_deadlock_cases():
         [b"flush b a", b"flush b c a", b"flush c d d"],
         [b"ordered a d", b"ordered b c", b"flush a b", b"flush c d"],
         [b"ordered d b", b"flush c a", b"flush d a c", b"flush b c"],
+        [b"flushwq a b", b"flushwq c d"],
+        [b"flushwq a b", b"flush b c", b"flushwq c d"],
+        [b"flush a b", b"flushwq a b", b"flush c a"],
+        [b"ordered a d", b"ordered b c", b"flushwq a b", b"flush c d"],
     ]:
         declaration = join(*items, *flushes)
         for text in all_assignments(read_declaration(declaration)):
@@ -209,6 +226,8 @@ def limit_deadlock_cases():
             join(*items, *to_last, b"flush i4095 i4094 i0 i4095"), [names[:-1], names[-1:]])
     others = flush_lines(b"i0", names[1:]) * 4
     add_wqs("4,095 that the first waits for", join(*items, *others), alone)
+    for turned in False, True:
+        add(f"2,046 that wait for the whole workqueue of 2,046 items, turned: {turned}", *whole_case(2_046, turned))
     for count, back in [(2, 0), (2, 1), (4, 2), (64, 1), (64, 2), (1_024, 1), (2_048, 2),
                         (4_096, 0), (4_096, 1), (4_096, 2)]:
         add(f"{count} workqueues, {back} flushes back", *large_case(count, back))

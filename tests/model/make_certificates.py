@@ -15,7 +15,7 @@ from make_declarations import (
 from steps import State
 
 KEYWORDS = [b"plan", b"wq", b"chain", b"circle", b"arc", b"run", b"queue", b"cancel", b"start",
-            b"wait", b"over", b"finish"]
+            b"wait", b"waitwq", b"over", b"overwq", b"finish"]
 STEP_WORDS = KEYWORDS[6:]
 OTHER_NUMBERS = [b"007", b"+1", b"-1", b"1.", b"0x1", b"00", b"01", b"4294967295", b"4294967296",
                  b"42949672950", b"99999999999999999999", b"4095", b"4096", b"4097", b"0", b"1"]
@@ -41,8 +41,8 @@ def model_answer(declared):
     """The words of the lines of the plan text or circle text that the model answers."""
     lines = [[b"item", name] for name in declared.items]
     lines += [[b"ordered"] + members for members in declared.groups if len(members) > 1]
-    lines += [[b"flush", item, target] for item, target in declared.flushes]
-    printed, _ = plan.answer(join(*[b" ".join(words) for words in lines]))
+    flushes = [declared.flush_line(place) for place in range(len(declared.flushes))]
+    printed, _ = plan.answer(join(*[b" ".join(words) for words in lines], *flushes))
     return [split_words(line) for line in printed.splitlines()]
 
 
@@ -320,7 +320,7 @@ def near_step(choose, declared, wqs, state):
         targets = [entry.target] if entry.target else state.targets[entry.item] + [entry.item]
         if choose.random() < 0.4:
             targets = declared.items
-        word = choose.choice([b"over", b"over", b"wait", b"finish"])
+        word = choose.choice([b"over", b"overwq", entry.over or b"over", b"wait", b"waitwq", b"finish"])
         return word, workqueue, choose.choice(targets)
     return word, workqueue, any_item(choose, declared)
 
@@ -373,13 +373,13 @@ def play(choose, declared, wqs, first):
 def is_faithful(state, step):
     """Whether an execution that flushes as declared makes this step, which may be made."""
     word, workqueue, name = step
-    if word in (b"start", b"over"):
+    if word in (b"start", b"over", b"overwq"):
         return True
     entry = state.running[workqueue]
-    targets = state.targets[entry.item]
+    waits = state.waits[entry.item]
     if word == b"finish":
-        return entry.waits == len(targets)
-    return entry.waits < len(targets) and name == targets[entry.waits]
+        return entry.waits == len(waits)
+    return entry.waits < len(waits) and (word, name) == waits[entry.waits]
 
 
 def change_steps(choose, declared, wqs, steps):
@@ -845,6 +845,8 @@ def limit_replay_cases():
             join(b"run 1", b"start %d a" % count))
         add(f"a step on workqueue {count}, a line too long", one, join(b"wq 0 a"),
             join(b"run 1", b"over %d a a" % count))
+        for word in b"waitwq", b"overwq":
+            add(f"{word.decode()} on workqueue {count}", one, join(b"wq 0 a"), join(b"run 1", b"%s %d a" % (word, count)))
 
     # Long runs.
     again = [b"queue a", b"start 0 a", b"wait 0 b", b"over 0 b", b"finish 0 a"] * 3_000
@@ -864,9 +866,20 @@ def limit_replay_cases():
         join(b"run 4097", *queued[1:], *queued[:1], *last))
     add("4,096 items, one queued twice", join(*items), line,
         join(b"run 4097", *queued, queued[7]))
+    whole = join(*items, b"flushwq i0 i4095")
+    lines = join(b"wq 0 " + b" ".join(names[1:]), b"wq 1 i0")
+    last = [b"start 1 i0", b"waitwq 1 i4095", b"overwq 1 i4095"]
+    add("a workqueue of 4,095 items that are queued before the wait", whole, lines, join(b"run 4099", *queued, *last))
+    add("a workqueue of 4,095 items that are queued behind the wait", whole, lines,
+        join(b"run 4099", queued[0], *last[:2], *queued[1:], *last[2:]))
+    add("one of 4,095 items that is queued before the wait", whole, lines,
+        join(b"run 4099", *queued[:2], *last[:2], *queued[2:], *last[2:]))
+    run = [b"queue i1", b"start 0 i1", b"finish 0 i1"] * 2_665 + [queued[0], *last, b"queue i1"]
+    add("a wait for a workqueue that ran 2,665 times", whole, lines, join(b"run %d" % len(run), *run))
 
     # Each step behind each front of a run.
     three = join(b"item a", b"item b", b"item c", b"flush a b c", b"flush b c b")
+    both = join(b"item a", b"item b", b"item c", b"flushwq a b", b"flush a c", b"flushwq b a", b"flushwq c b")
     for declaration, assignment, steps in [
         (two, b"wq 0 b\nwq 1 a\n",
          [b"queue a", b"queue b", b"start 1 a", b"wait 1 b", b"queue a", b"start 0 b", b"cancel a",
@@ -877,6 +890,11 @@ def limit_replay_cases():
         (three, b"wq 0 a b c\n",
          [b"queue c", b"queue b", b"start 0 c", b"queue a", b"finish 0 c", b"start 0 b",
           b"wait 0 c", b"over 0 c", b"wait 0 b"]),
+        (both, b"wq 0 b c\nwq 1 a\n",
+         [b"queue c", b"queue a", b"start 1 a", b"waitwq 1 b", b"queue b", b"start 0 c", b"finish 0 c",
+          b"overwq 1 b", b"wait 1 c", b"over 1 c", b"finish 1 a"]),
+        (both, b"wq 0 a b c\n",
+         [b"queue b", b"start 0 b", b"queue c", b"waitwq 0 a", b"cancel c"]),
     ]:
         names = sorted(read_declaration(declaration).items)
         others = [b"%s %s" % (word, name) for word in STEP_WORDS[:2] for name in names]
@@ -889,6 +907,8 @@ def limit_replay_cases():
 
     # What the steps' table says, each on its own.
     wait = [b"queue a", b"start 0 a", b"wait 0 b"]
+    whole = join(b"item a", b"item b", b"item c", b"flushwq a b")
+    wait_all = [b"queue a", b"start 1 a", b"waitwq 1 b"]
     for what, declaration, assignment, steps in [
         ("an item that waits for itself", b"item a\nflush a a", b"wq 0 a",
          [b"queue a", b"start 0 a", b"wait 0 a"]),
@@ -947,6 +967,40 @@ def limit_replay_cases():
           b"wait 1 a"]),
         ("a deadlock of two", two + b"flush b a", b"wq 0 a\nwq 1 b",
          [b"queue a", b"queue b", b"start 0 a", b"start 1 b", b"wait 0 b", b"wait 1 a"]),
+        ("a whole workqueue, of which only another item is unfinished", whole, b"wq 0 b c\nwq 1 a",
+         [b"queue c", b"start 0 c"] + wait_all + [b"overwq 1 b"]),
+        ("a whole workqueue, with one behind the mark", whole, b"wq 0 b c\nwq 1 a",
+         [b"queue c"] + wait_all + [b"start 0 c", b"queue b", b"queue c", b"finish 0 c", b"overwq 1 b", b"finish 1 a"]),
+        ("a whole workqueue, with two before the mark", whole, b"wq 0 b c\nwq 1 a",
+         [b"queue c", b"queue b"] + wait_all + [b"start 0 c", b"finish 0 c", b"start 0 b", b"overwq 1 b"]),
+        ("a whole workqueue, of which the last entry is cancelled", whole, b"wq 0 b c\nwq 1 a",
+         [b"queue c", b"queue b"] + wait_all + [b"start 0 c", b"finish 0 c", b"cancel b", b"overwq 1 b"]),
+        ("a whole workqueue, of which an entry is cancelled and queued again", whole, b"wq 0 b c\nwq 1 a",
+         [b"queue c"] + wait_all + [b"cancel c", b"queue c", b"overwq 1 b"]),
+        ("an idle workqueue", whole, b"wq 0 b c\nwq 1 a", wait_all + [b"overwq 1 b", b"finish 1 a"]),
+        ("the workqueue that the item is on", whole, b"wq 1 a b c",
+         wait_all + [b"overwq 1 b"]),
+        ("stuck, it waits for the workqueue that it is on", whole, b"wq 0\nwq 1 a b c", wait_all),
+        ("a deadlock, it waits for the workqueue that it is on", join(b"item a", b"flushwq a a"), b"wq 0\nwq 1 a",
+         [b"queue a", b"start 1 a", b"waitwq 1 a"]),
+        ("a deadlock, the last one on the workqueue waits", whole + join(b"flush c a"), b"wq 0 b c\nwq 1 a",
+         [b"queue a", b"queue c", b"queue b", b"start 1 a", b"waitwq 1 b", b"start 0 c", b"wait 0 a"]),
+        ("a wait for a whole workqueue by `flush`", two, b"wq 0 b\nwq 1 a", wait_all),
+        ("a wait for an item by `flushwq`", whole, b"wq 0 b c\nwq 1 a", [b"queue a", b"start 1 a", b"wait 1 b"]),
+        ("a wait for the same workqueue by another item of it", whole, b"wq 0 b c\nwq 1 a",
+         [b"queue a", b"start 1 a", b"waitwq 1 c"]),
+        ("an over of the other kind", whole, b"wq 0 b c\nwq 1 a", wait_all + [b"over 1 b"]),
+        ("an overwq of the other kind", two, b"wq 0 b\nwq 1 a", [b"queue a", b"start 1 a", b"wait 1 b", b"overwq 1 b"]),
+        ("an overwq for another item of the workqueue", whole, b"wq 0 b c\nwq 1 a", wait_all + [b"overwq 1 c"]),
+        ("a finish while it waits for a workqueue", whole, b"wq 0 b c\nwq 1 a", wait_all + [b"finish 1 a"]),
+        ("one wait too many, of the other kind", whole + join(b"flush a b"), b"wq 0 b c\nwq 1 a",
+         wait_all + [b"overwq 1 b", b"waitwq 1 b", b"overwq 1 b", b"wait 1 b"]),
+        ("the waits of both kinds, in the wrong order", whole + join(b"flush a a"), b"wq 0 b c\nwq 1 a",
+         [b"queue b", b"queue c", b"start 0 b", b"finish 0 b", b"start 0 c", b"finish 0 c", b"queue a", b"start 1 a",
+          b"wait 1 a"]),
+        ("the waits of both kinds, in order", whole + join(b"flush a a"), b"wq 0 b c\nwq 1 a",
+         [b"queue b", b"queue c", b"start 0 b", b"finish 0 b", b"start 0 c", b"finish 0 c"] + wait_all
+         + [b"overwq 1 b", b"wait 1 a"]),
     ]:
         for length in range(len(steps) + 1):
             add(f"{what}, {length} steps", declaration, assignment,

@@ -64,6 +64,8 @@ def size_cases():
     cases.append(("128 circles of 2, the last one first", [pairs, turned]))
     joined = join(*[b" ".join(words) for words in wq_lines([names_of(256)[at::4] for at in range(4)])])
     cases.append(("128 circles of 2 on four workqueues", [pairs, joined]))
+    cases.append(("2 circles of 2 with `flushwq` lines", [make_declarations.whole(many_components(2, 2))]))
+    cases.append(("257 circles of 1 with `flushwq` lines", [make_declarations.whole(many_components(1, 257))]))
     cases.append(("16,384 flushes, each of them many times", [many_duplicates()]))
     cases.append(("16,384 flushes, each of them many times, on a workqueue",
                   [many_duplicates(), b"wq 0 b a"]))

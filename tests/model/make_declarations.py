@@ -13,10 +13,10 @@ NAME_LETTERS = (string.ascii_letters + string.digits + "_-.").encode()
 OTHER_LETTERS = bytes(byte for byte in range(0x21, 0x7F) if byte not in NAME_LETTERS + b"#")
 BAD_BYTES = bytes(byte for byte in range(256) if byte not in b"\t\n" + bytes(range(0x20, 0x7F)))
 COMMENT_BYTES = bytes(byte for byte in range(256) if byte != 0x0A)
-TAKEN_WORDS = [b"item", b"flush", b"ordered", b"7", b"-", b".", b"_", b"0", b"plan", b"Item"]
+TAKEN_WORDS = [b"item", b"flush", b"flushwq", b"ordered", b"7", b"-", b".", b"_", b"0", b"plan", b"Item"]
 WRONG_FIRST_WORDS = [
     b"Item", b"ITEM", b"items", b"ite", b"item:", b".item", b"flus", b"Flush", b"flushed",
-    b"flush,", b"order", b"Ordered", b"ordereds", b"orderec", b"a", b"7", b"-", b"itemflush", b"!",
+    b"flush,", b"flushw", b"flushwqs", b"flush_wq", b"Flushwq", b"flushWQ", b"flushqw", b"order", b"Ordered", b"ordereds", b"orderec", b"a", b"7", b"-", b"itemflush", b"!",
     b"x" * 64,
 ]
 
@@ -203,18 +203,23 @@ def make_lines(choose, item_count, shape=None):
         choose.shuffle(pairs)
     flushes = [(choose.choice(groups[group]), choose.choice(groups[to])) for group, to in pairs]
 
-    # Each flush has a line of its own, or is on one with others of the same item.
-    flush_lines = []
+    # Each flush has a line of its own, or is on one with others of the same item. That of a whole
+    # workqueue has one in any case.
+    flush_lines, whole_lines = [], []
     joined = choose.choice([0, 0.3, 0.8])
+    whole = choose.choice([0, 0, 0, 0.2, 0.5, 1])
     for item, target in flushes:
         same = [line for line in flush_lines if line[0] == item]
-        if same and choose.random() < joined:
+        if choose.random() < whole:
+            whole_lines.append([item, target])
+        elif same and choose.random() < joined:
             choose.choice(same).append(target)
         else:
             flush_lines.append([item, target])
 
     # Each of these lines comes anywhere behind the `item` lines that it needs.
-    others = [(b"flush", line) for line in flush_lines] + [(b"ordered", line) for line in ordered]
+    others = [(b"flush", line) for line in flush_lines] + [(b"flushwq", line) for line in whole_lines]
+    others += [(b"ordered", line) for line in ordered]
     choose.shuffle(others)
     early = choose.random() < 0.5
     behind = collections.defaultdict(list)
@@ -256,7 +261,7 @@ def fault_bad_byte(choose, lines):
 
 def fault_unknown_word(choose, lines):
     wrong = choose.choice(WRONG_FIRST_WORDS)
-    known = lines_of(lines, b"item", b"flush", b"ordered")
+    known = lines_of(lines, b"item", b"flush", b"flushwq", b"ordered")
     if known and choose.random() < 0.7:
         choose.choice(known).words[0] = wrong
     else:
@@ -264,24 +269,24 @@ def fault_unknown_word(choose, lines):
 
 
 def fault_missing_name(choose, lines):
-    known = lines_of(lines, b"item", b"flush", b"ordered")
+    known = lines_of(lines, b"item", b"flush", b"flushwq", b"ordered")
     if known and choose.random() < 0.7:
         line = choose.choice(known)
-        most = 2 if line.words[0] == b"flush" else 1
+        most = 2 if line.words[0] in (b"flush", b"flushwq") else 1
         del line.words[choose.randint(1, most):]
     else:
-        short = [[b"item"], [b"flush"], [b"flush", b"a"], [b"ordered"]]
+        short = [[b"item"], [b"flush"], [b"flush", b"a"], [b"flushwq"], [b"flushwq", b"a"], [b"ordered"]]
         insert(choose, lines, choose.choice(short))
 
 
 def fault_extra_word(choose, lines):
-    known = lines_of(lines, b"item")
+    known = lines_of(lines, b"item", b"flushwq")
     words = choose.choices([b"a", b"b!", b"item", b"x" * 64, b"/"], k=choose.randint(1, 3))
     if known:
         line = choose.choice(known)
         line.words[choose.randint(1, len(line.words)):0] = words
     else:
-        insert(choose, lines, [b"item", b"a"] + words)
+        insert(choose, lines, choose.choice([[b"item", b"a"], [b"flushwq", b"a", b"a"]]) + words)
 
 
 def fault_bad_name(choose, lines):
@@ -305,7 +310,7 @@ def fault_item_twice(choose, lines):
 
 
 def fault_unknown_item(choose, lines):
-    users = [line for line in lines_of(lines, b"flush", b"ordered") if len(line.words) > 1]
+    users = [line for line in lines_of(lines, b"flush", b"flushwq", b"ordered") if len(line.words) > 1]
     items = lines_of(lines, b"item")
     way = choose.random()
     if users and way < 0.5:
@@ -320,7 +325,7 @@ def fault_unknown_item(choose, lines):
         if way < 0.75:
             lines.append(line)
     else:
-        insert(choose, lines, choose.choice([[b"flush", b"a", b"a"], [b"ordered", b"a"]]))
+        insert(choose, lines, choose.choice([[b"flush", b"a", b"a"], [b"flushwq", b"a", b"a"], [b"ordered", b"a"]]))
 
 
 def fault_grouped_twice(choose, lines):
@@ -491,9 +496,14 @@ def case_many_flushes(choose):
     wanted = FLUSH_LIMIT + choose.choice([-1, 0, 0, 1, 1, 1, 2, 30, 500])
     lines = [Line([b"item", name]) for name in names]
     circles = choose.random() < 0.5
+    whole = choose.choice([0, 0.1, 0.5])
     while wanted > 0:
         item = choose.randrange(len(names) - 1)
         below = names if circles else names[item + 1:]
+        if choose.random() < whole:
+            lines.append(Line([b"flushwq", names[item], choose.choice(below)]))
+            wanted -= 1
+            continue
         size = min(wanted, choose.randint(1, 4_000 // max(len(name) + 1 for name in below)))
         lines.append(Line([b"flush", names[item]] + choose.choices(below, k=size)))
         wanted -= size
@@ -538,6 +548,15 @@ def longest_run(names, flush_count):
     others = names[1:] * (flush_count // (len(names) - 1) + 1)
     targets = others[:flush_count - 1] + names[:1]
     return join(*[b"item " + name for name in names], *flush_lines(names[0], targets))
+
+
+def whole(declaration):
+    """The same declaration with a `flushwq` line for each flush."""
+    lines = []
+    for line in declaration.splitlines():
+        first, *names = line.split(b" ")
+        lines += [b"flushwq %s %s" % (names[0], target) for target in names[1:]] if first == b"flush" else [line]
+    return join(*lines)
 
 
 def long_names(count):
@@ -647,6 +666,23 @@ def limit_cases():
     add("16,384 flushes on lines of their own", join(*items[:4_096], *flushes[:16_384]))
     add("16,385 flushes on lines of their own", join(*items[:4_096], *flushes))
 
+    # The same with `flushwq` lines.
+    add("16,384 waits for a whole workqueue", join(b"item a", b"item b", *[b"flushwq a b"] * 16_384))
+    add("16,385 waits for a whole workqueue", join(b"item a", b"item b", *[b"flushwq a b"] * 16_385))
+    add("16,384 flushes and a `flushwq` line", join(b"item a", *full, b"flushwq a a"))
+    add("16,384 flushes and a `flushwq` line of an unknown item", join(b"item a", *full, b"flushwq a c"))
+    add("16,320 flushes and 64 `flushwq` lines", join(*near, *[b"flushwq a b"] * 64))
+    add("16,320 flushes and 65 `flushwq` lines", join(*near, *[b"flushwq a b"] * 65))
+    both = [b"flush" + (b"wq" if number % 3 else b"") + line[5:] for number, line in enumerate(flushes)]
+    add("16,384 waits of both kinds", join(*items[:4_096], *both[:16_384]))
+    add("16,385 waits of both kinds", join(*items[:4_096], *both))
+    chain = [b"flushwq i%d i%d" % (number, number + 1) for number in range(4_095)]
+    add("a chain of 4,096 `flushwq` lines", join(*items[:4_096], *chain))
+    add("a circle of 4,096 `flushwq` lines", join(*items[:4_096], *chain, b"flushwq i4095 i0"))
+    for length in 4_096, 4_097:
+        line = b"flushwq a" + b"\t" * (length - 11) + b" a"
+        add(f"a `flushwq` line of {length} bytes", b"item a\n" + line + b"\n")
+
     # 512 groups of 8, with 16,384 flushes: 32 each, of the groups behind, by all members in turn.
     ordered = [b"ordered" + b"".join(b" i%d" % (number + 512 * member) for member in range(8))
                for number in range(512)]
@@ -664,6 +700,7 @@ def limit_cases():
     names = [line[5:] for line in items[:4_096]]
     add("a run of 45,054 steps", longest_run(names, FLUSH_LIMIT))
     add("a run of 45,054 steps, the other way", longest_run(names[::-1], FLUSH_LIMIT))
+    add("a run of 45,054 steps with `flushwq` lines", whole(longest_run(names, FLUSH_LIMIT)))
     add("a run of long names", longest_run(long_names(4_096), 11_500))
     add("a circle beside chains", circle_beside_chains(names))
     add("a circle beside chains, the other way", circle_beside_chains(names[::-1]))

@@ -10,6 +10,7 @@
 # what that search finds must be what the model answers.
 
 import collections
+import dataclasses
 import importlib.util
 import pathlib
 import random
@@ -43,7 +44,7 @@ DEFAULT_CASES = 500
 N = rb"(0|[1-9][0-9]{0,9})"
 W = rb" [^ \n]+"
 ARCS = rb"((?:arc" + W + W + rb"\n)*)"
-RUN = (rb"run " + N + rb"\n((?:(?:queue|cancel)" + W + rb"\n|(?:start|wait|over|finish) "
+RUN = (rb"run " + N + rb"\n((?:(?:queue|cancel)" + W + rb"\n|(?:start|wait|waitwq|over|overwq|finish) "
        + rb"[0-9]+" + W + rb"\n)*)")
 WQS = rb"((?:wq [0-9]+(?:" + W + rb")*\n)*)"
 PLAN = re.compile(rb"plan " + N + rb"\n" + WQS + rb"chain " + N + rb"\n" + ARCS)
@@ -131,6 +132,9 @@ def good(kind, text, declared):
 
 # A second reading of the steps -------------------------------------------------------------------
 
+# The words of the steps that a workqueue makes.
+EXECUTIONS = (b"start", b"wait", b"waitwq", b"over", b"overwq", b"finish")
+
 
 class Past:
     """What the steps up to some step say, without any state between them."""
@@ -156,17 +160,19 @@ class Past:
         return n if n is not None and self.steps[n][0] == b"start" else None
 
     def waits(self, workqueue):
-        """The numbers of the `wait` and `over` steps of what runs on the workqueue."""
+        """The numbers of the steps with which the waits of what runs on the workqueue begin and are over."""
         begin = self.started(workqueue)
         return [n for n in range(begin, len(self.steps)) if self.steps[n][1] == workqueue
-                and self.steps[n][0] in (b"wait", b"over")]
+                and self.steps[n][0] in (b"wait", b"over", b"waitwq", b"overwq")]
 
     def is_waiting(self, workqueue):
         waits = self.waits(workqueue)
-        return bool(waits) and self.steps[waits[-1]][0] == b"wait"
+        return bool(waits) and self.steps[waits[-1]][0] in (b"wait", b"waitwq")
 
     def targets(self, item):
-        return [target for source, target in self.declared.flushes if source == item]
+        """The words of its waits, each with the target, in order of place."""
+        lines = [self.declared.flush_line(place).split(b" ") for place in range(len(self.declared.flushes))]
+        return [(b"wait" + words[0][len(b"flush"):], words[2]) for words in lines if words[1] == item]
 
     def unfinished(self, item):
         """The numbers of the steps that queued the unfinished entries of the item."""
@@ -175,6 +181,11 @@ class Past:
         if begin is not None and self.steps[begin][2] == item:
             numbers.append(self.queued(item, begin))
         return [n for n in numbers if n is not None]
+
+    def unfinished_on(self, workqueue):
+        """The numbers of the steps that queued the unfinished entries on the workqueue."""
+        return [n for item in self.declared.items if self.workqueue_of[item] == workqueue
+                for n in self.unfinished(item)]
 
     def may(self, word, workqueue, name):
         if word == b"queue":
@@ -191,22 +202,24 @@ class Past:
         item = self.steps[begin][2]
         if word == b"finish":
             return item == name and not self.is_waiting(workqueue)
-        if word == b"wait":
-            made = [n for n in self.waits(workqueue) if self.steps[n][0] == b"wait"]
+        if word in (b"wait", b"waitwq"):
+            made = [n for n in self.waits(workqueue) if self.steps[n][0] in (b"wait", b"waitwq")]
             targets = self.targets(item)
-            return (not self.is_waiting(workqueue) and name in targets
+            return (not self.is_waiting(workqueue) and (word, name) in targets
                     and len(made) < len(targets))
         if not self.is_waiting(workqueue):
             return False
         mark = self.waits(workqueue)[-1]
-        return self.steps[mark][2] == name and all(n > mark for n in self.unfinished(name))
+        wait = b"wait" if word == b"over" else b"waitwq"
+        before = self.unfinished(name) if word == b"over" else self.unfinished_on(self.workqueue_of[name])
+        return self.steps[mark] == (wait, workqueue, name) and all(n > mark for n in before)
 
     def is_stuck(self):
         if not any(self.unfinished(item) for item in self.declared.items):
             return False
         return not any(
             self.may(word, workqueue, name)
-            for word in (b"start", b"wait", b"over", b"finish")
+            for word in EXECUTIONS
             for workqueue in set(self.workqueue_of.values())
             for name in self.declared.items
         )
@@ -218,11 +231,11 @@ class Past:
             return False
         # Each item runs at most once, on a workqueue where others run before and behind it.
         for workqueue in set(self.workqueue_of.values()):
-            here = [step for step in self.steps if step[1] == workqueue and step[0] != b"over"]
+            here = [step for step in self.steps if step[1] == workqueue and step[0] not in (b"over", b"overwq")]
             while here:
                 item = here.pop(0)[2]
                 targets = self.targets(item)
-                while targets and here and here[0] == (b"wait", workqueue, targets[0]):
+                while targets and here and here[0] == (targets[0][0], workqueue, targets[0][1]):
                     here.pop(0)
                     targets.pop(0)
                 if here and (targets or here.pop(0)[0] != b"finish"):
@@ -327,6 +340,7 @@ def look_at_plan(text):
     demand(check.answer(text, spelled) == (head + b"\n", 0), "blanks mean nothing")
 
     declared = read_declaration(text)
+    look_at_kinds(declared, printed)
     own = wqs_text(declared.groups)
     if status == 0:
         demand(deadlock.answer(text, printed) == (b"safe\n", 0), "a plan text is safe")
@@ -340,6 +354,15 @@ def look_at_plan(text):
         demand(replay.answer(text, own, printed[at:]) == (b"deadlock\n", 1), "and it deadlocks")
 
 
+def look_at_kinds(declared, printed):
+    """Which waits are for a whole workqueue matters for runs alone."""
+    places = range(len(declared.flushes))
+    for kinds in [b"flush"] * len(places), [b"flushwq"] * len(places), declared.directive_of[::-1]:
+        other = dataclasses.replace(declared, directive_of=kinds)
+        answer, _ = plan.answer(text_declaring(other, places))
+        demand(answer.split(b"\nrun ")[0] == printed.split(b"\nrun ")[0], "plans and circles have no kinds of waits")
+
+
 def look_at_running(text):
     """What is printed of a plan that was run fits the plan, and else it is what plan prints."""
     printed, status = run.answer(text)
@@ -349,9 +372,10 @@ def look_at_running(text):
         return
     lines = planned.split(b"\n")
     count = int(lines[0].split(b" ")[1])
-    demand((status == 2) == (count > 256), "more than 256 workqueues can't be run")
+    whole = b"flushwq" in read_declaration(text).directive_of
+    demand((status == 2) == (count > 256 or whole), "more than 256 workqueues can't be run, nor waits for a whole one")
     if status == 2:
-        demand(printed == b"refused 69 line 0\n", "which is 69, without a line")
+        demand(printed == (b"refused 69 line 0\n" if count > 256 else b"fault flushwq\n"), "which is 69, without a line, or said so")
         return
     rows = [line.split(b" ") for line in printed.split(b"\n")[1:-2]]
     wqs = [[row[1] for row in rows if row[3] == b"%d" % q] for q in range(count)]
@@ -455,7 +479,7 @@ def look_at_replay(declaration_text, assignment_text, run_text):
         else:
             demand(not end.startswith(b"not"), "the steps before an unlawful one may be made")
             later = lines[count].split()[0] if count < bad - 1 else None
-            demand(not (later in (b"start", b"wait", b"over", b"finish") and end != b"open\n"),
+            demand(not (later in EXECUTIONS and end != b"open\n"),
                    "what ends stuck goes on with queue or cancel alone")
             demand(not (end == b"deadlock\n" and later is not None and count < len(lines)
                         and printed == b"deadlock\n"), "no front of a deadlock is one")
@@ -539,7 +563,7 @@ def text_declaring(declared, places):
     """A text that declares the same items and groups, and of the flushes those at these places."""
     lines = [b"item %s" % name for name in declared.items]
     lines += [b"ordered " + b" ".join(members) for members in declared.groups]
-    return joined(lines + [b"flush %s %s" % declared.flushes[place] for place in places])
+    return joined(lines + [declared.flush_line(place) for place in places])
 
 
 def leads(arcs, count):
@@ -672,8 +696,10 @@ def look_at_dot(*texts):
     demand(names_of(arrow[:2] for arrow in drawing.arrows) == declared.flushes, "an arrow for each flush, in order")
     demand(sorted(names_of(drawing.coloured("red"))) == sorted(printed_arcs(circled)), "circles are red")
     demand(sorted(names_of(drawing.coloured("bold"))) == sorted(bold), "the chain is bold")
+    demand([arrow[3] for arrow in drawing.arrows] == [kind == b"flushwq" for kind in declared.directive_of],
+           "waits for a whole workqueue have their own heads")
     first = {}
-    for at, (item, target, colour) in enumerate(drawing.arrows):
+    for at, (item, target, colour, _) in enumerate(drawing.arrows):
         demand(colour != "bold" or (item, target) not in first, "the flush of least place is bold")
         first.setdefault((item, target), at)
     again = text_declaring(declared, range(len(declared.flushes)))
@@ -690,9 +716,9 @@ def look_at_search(choose):
     count = max(parts, default=-1) + 1
     workqueue_of = {name: parts[group] for name, group in declared.group_of.items()}
     state = State(declared, certificate.Assignment(workqueue_of, count))
-    steps, found = search.Steps(search.targets_of(declared), workqueue_of), search.begin(count)
+    steps, found = search.Steps(search.waits_of(declared), workqueue_of), search.begin(count)
     all_steps = [(word, None, name) for word in (b"queue", b"cancel") for name in declared.items]
-    all_steps += [(word, number, name) for word in (b"start", b"wait", b"over", b"finish")
+    all_steps += [(word, number, name) for word in EXECUTIONS
                   for number in range(count) for name in declared.items]
     for _ in range(60):
         behind = dict(steps.all_steps(found))

@@ -37,11 +37,12 @@ SIZES = [(1, 1), (1, 2), (2, 1), (2, 2), (2, 3), (2, 4), (3, 1), (3, 2), (3, 3),
 # entries of a workqueue stand in the order of their numbers anyway. An item has at most two
 # unfinished entries: one runs, and one is pending, which has the higher number. So all that a mark
 # says of its target is how many of these have a number below it, and this is kept. An entry that is
-# queued later has a number that isn't below the mark.
+# queued later has a number that isn't below the mark. It is the same with a wait for a whole
+# workqueue, of which each unfinished entry counts: what runs there has the lowest number of all.
 #
 # A state has a pair for each workqueue: the items of its pending entries, and what runs, or None.
-# What runs is the item, the count of its waits, and while it waits its target and how many
-# unfinished entries of the target it waits for; else None and 0.
+# What runs is the item, the count of its waits, and while it waits the word and the target of its
+# wait, and how many unfinished entries it waits for; else None and 0.
 
 
 def begin(count):
@@ -58,36 +59,53 @@ def runs(state, workqueue, item):
     return running is not None and running[0] == item
 
 
-def without_one(state, item, count):
-    """The state in which each wait for `count` or more entries of the item is for one less.
+def without_one(state, waits, count):
+    """The state in which each of these waits that is for `count` or more entries is for one less.
 
-    So it is where one of them is gone: the first one, with 1 for `count`, or the last of `count`.
+    So it is where the entry is gone that is number `count` of those for which they are.
     """
     for workqueue, (pending, running) in enumerate(state):
-        if running is not None and running[2] == item and running[3] >= count:
-            item_of, waits, target, entries = running
-            state = replaced(state, workqueue, pending, (item_of, waits, target, entries - 1))
+        if running is not None and running[2] in waits and running[3] >= count:
+            item_of, made, wait, entries = running
+            state = replaced(state, workqueue, pending, (item_of, made, wait, entries - 1))
     return state
 
 
-def targets_of(declared):
-    """By item, the targets of its flushes in order of place."""
-    targets = {item: [] for item in declared.items}
-    for item, target in declared.flushes:
-        targets[item].append(target)
-    return targets
+def waits_of(declared):
+    """By item, the waits that it declares, in order of place: each the word of its step and its target."""
+    waits = {item: [] for item in declared.items}
+    for (item, target), directive in zip(declared.flushes, declared.directive_of):
+        waits[item].append((b"wait" if directive == b"flush" else b"waitwq", target))
+    return waits
 
 
 class Steps:
-    """The table of the steps, of the items with these targets, under an assignment."""
+    """The table of the steps, of the items with these waits, under an assignment."""
 
-    def __init__(self, targets, workqueue_of):
-        self.targets, self.workqueue_of = targets, workqueue_of
+    def __init__(self, waits, workqueue_of):
+        self.waits, self.workqueue_of = waits, workqueue_of
 
     def unfinished(self, state, item):
         """How many entries of the item are unfinished."""
         workqueue = self.workqueue_of[item]
         return (item in state[workqueue][0]) + runs(state, workqueue, item)
+
+    def waited_for(self, state, wait):
+        """How many entries a wait that begins now is for."""
+        word, target = wait
+        pending, running = state[self.workqueue_of[target]]
+        if word == b"wait":
+            return self.unfinished(state, target)
+        return len(pending) + (running is not None)
+
+    def without(self, state, item, number_of_item, number):
+        """The state in which no wait is for an entry of the item any longer, one that is gone.
+
+        The numbers are its places, from 1, among the unfinished entries of its item and of its workqueue.
+        """
+        here = self.workqueue_of[item]
+        of_workqueue = [(b"waitwq", other) for other in self.workqueue_of if self.workqueue_of[other] == here]
+        return without_one(without_one(state, [(b"wait", item)], number_of_item), of_workqueue, number)
 
     def queueings(self, state):
         """Each `queue` that may be made, with the state behind it."""
@@ -102,13 +120,14 @@ class Steps:
         for item, workqueue in self.workqueue_of.items():
             pending, running = state[workqueue]
             if item in pending:
-                behind = without_one(state, item, self.unfinished(state, item))
+                number = pending.index(item) + 1 + (running is not None)
+                behind = self.without(state, item, self.unfinished(state, item), number)
                 left = tuple(other for other in pending if other != item)
                 yield (b"cancel", None, item), replaced(behind, workqueue, left,
                                                         behind[workqueue][1])
 
     def executions(self, state):
-        """Each `start`, `wait`, `over` and `finish` that may be made, with the state behind it."""
+        """Each step of the workqueues that may be made, with the state behind it."""
         for workqueue, (pending, running) in enumerate(state):
             if running is None:
                 if pending:
@@ -116,18 +135,19 @@ class Steps:
                     yield ((b"start", workqueue, pending[0]),
                            replaced(state, workqueue, pending[1:], starts))
                 continue
-            item, waits, target, entries = running
-            if target is None:
-                behind = without_one(replaced(state, workqueue, pending, None), item, 1)
+            item, made, wait, entries = running
+            if wait is None:
+                behind = self.without(replaced(state, workqueue, pending, None), item, 1, 1)
                 yield (b"finish", workqueue, item), behind
-                if waits < len(self.targets[item]):
-                    for other in set(self.targets[item]):
-                        waiting = item, waits + 1, other, self.unfinished(state, other)
-                        yield ((b"wait", workqueue, other),
+                if made < len(self.waits[item]):
+                    for word, other in set(self.waits[item]):
+                        waiting = item, made + 1, (word, other), self.waited_for(state, (word, other))
+                        yield ((word, workqueue, other),
                                replaced(state, workqueue, pending, waiting))
             elif entries == 0:
-                behind = replaced(state, workqueue, pending, (item, waits, None, 0))
-                yield (b"over", workqueue, target), behind
+                word, target = wait
+                behind = replaced(state, workqueue, pending, (item, made, None, 0))
+                yield (b"over" if word == b"wait" else b"overwq", workqueue, target), behind
 
     def all_steps(self, state):
         return [*self.executions(state), *self.queueings(state), *self.cancellations(state)]
@@ -136,27 +156,26 @@ class Steps:
 # Searches ----------------------------------------------------------------------------------------
 
 
-def numbered(targets, workqueue_of):
-    """The workqueue and the targets of each item, where items and workqueues are numbers in place of names.
+def numbered(waits, workqueue_of):
+    """The workqueue and the waits of each item, where items and workqueues are numbers in place of names.
 
-    Of all orders of the items it is the one that makes these the least. So it is the same for all assignments that
-    differ in names, in the order of the items and in the numbers of the workqueues alone: their runs are the same but
-    for these.
+    Of all orders of the items it is the one that makes these the least. So it is the same for all assignments that differ in names,
+    in the order of the items and in the numbers of the workqueues alone: their runs are the same but for these.
     """
 
     def in_order(items):
         number = {item: at for at, item in enumerate(items)}
         workqueues = {}  # their numbers, in the order of their first items
         return tuple((workqueues.setdefault(workqueue_of[item], len(workqueues)),
-                      tuple(number[target] for target in targets[item])) for item in items)
+                      tuple((word, number[target]) for word, target in waits[item])) for item in items)
 
-    return min(map(in_order, itertools.permutations(targets)))
+    return min(map(in_order, itertools.permutations(waits)))
 
 
 @functools.cache
 def ends(rows):
     """Whether some run ends stuck, and whether some run deadlocks; `rows` is what `numbered` answers."""
-    steps = Steps({item: targets for item, (_, targets) in enumerate(rows)},
+    steps = Steps({item: waits for item, (_, waits) in enumerate(rows)},
                   {item: workqueue for item, (workqueue, _) in enumerate(rows)})
     count = 1 + max((workqueue for workqueue, _ in rows), default=-1)
     return has_stuck_run(steps, count), has_deadlock(steps, count)
@@ -183,18 +202,18 @@ def has_stuck_run(steps, count):
 def is_as_declared(steps, state, step):
     """Whether a run in which each execution flushes as declared makes this step."""
     word, workqueue, name = step
-    if word not in (b"wait", b"finish"):
+    if word not in (b"wait", b"waitwq", b"finish"):
         return True
-    item, waits, _, _ = state[workqueue][1]
-    targets = steps.targets[item]
-    if word == b"wait":
-        return name == targets[waits]
-    return waits == len(targets)
+    item, made, _, _ = state[workqueue][1]
+    waits = steps.waits[item]
+    if word == b"finish":
+        return made == len(waits)
+    return (word, name) == waits[made]
 
 
 def has_deadlock(steps, count):
     """Whether some run deadlocks: each item is queued once, and none is cancelled."""
-    first = begin(count), frozenset(steps.targets)
+    first = begin(count), frozenset(steps.waits)
     seen = {first}
     left = [first]
     while left:
@@ -221,7 +240,7 @@ def is_deadlock(steps, count, run):
             return False
         state = behind[step]
     queued = [name for word, _, name in run if word == b"queue"]
-    once = sorted(queued) == sorted(steps.targets) and all(word != b"cancel" for word, _, _ in run)
+    once = sorted(queued) == sorted(steps.waits) and all(word != b"cancel" for word, _, _ in run)
     return once and state != begin(count) and not list(steps.executions(state))
 
 
@@ -242,11 +261,13 @@ def make_declaration(choose):
         del left[:size]
 
     downward = choose.random() < 0.7
+    whole = choose.choice([0, 0.5, 0.5, 1])
     for _ in range(flush_count):
         item, target = choose.choice(names), choose.choice(names)
         if downward and count > 1:
             item, target = sorted(choose.sample(names, 2))
-        lines.append(b"flush %s %s" % (item, target))
+        directive = b"flushwq" if choose.random() < whole else b"flush"
+        lines.append(b"%s %s %s" % (directive, item, target))
     return join(*lines)
 
 
@@ -285,9 +306,9 @@ def look_at_assignment(ask, text, declared, parts):
     """Whether no run ends stuck, and what is wrong with the answer of `deadlock`, or None."""
     count = max(parts, default=-1) + 1
     workqueue_of = {name: parts[group] for name, group in declared.group_of.items()}
-    targets = targets_of(declared)
-    steps = Steps(targets, workqueue_of)
-    stuck, deadlocks = ends(numbered(targets, workqueue_of))
+    waits = waits_of(declared)
+    steps = Steps(waits, workqueue_of)
+    stuck, deadlocks = ends(numbered(waits, workqueue_of))
     assignment = assignment_text(declared, parts)
     printed, status = ask("deadlock", [text, assignment])
     is_safe = (printed, status) == (b"safe\n", 0)

@@ -1,6 +1,6 @@
 # A model of what standard error says of a step that may not be made: docs/FORMAT.md, "Diagnoses", the table of `not lawful N`.
 
-from steps import State
+from steps import OVER, State
 
 
 def reason(declared, assignment, steps):
@@ -32,18 +32,21 @@ def why_not(state, assignment, word, workqueue, name):
     if runs is None:
         return b"nothing runs on workqueue %d" % workqueue
     subject = b"`%s`, which runs on workqueue %d, " % (runs.item, workqueue)
-    if word == b"wait":
+    waits = subject + (b"waits for the workqueue of `%s`" if runs.over == b"overwq" else b"waits for `%s`")
+    if word in OVER:
         if runs.target is not None:
-            return subject + b"waits for `%s`" % runs.target
-        if (runs.item, name) not in state.flushes:
-            return subject + b"declares no flush of `%s`" % name
+            return waits % runs.target
+        if (word, name) not in state.declared[runs.item]:
+            return subject + (b"declares no flush of `%s`" if word == b"wait" else b"declares no `flushwq` of `%s`") % name
         return subject + b"has made all of its waits: %d" % len(state.targets[runs.item])
-    if word == b"over":
+    if word in OVER.values():
         if runs.target is None:
             return subject + b"doesn't wait"
-        if runs.target != name:
-            return subject + b"waits for `%s`" % runs.target
+        if (word, name) != (runs.over, runs.target):
+            return waits % runs.target
+        if word == b"overwq":
+            return b"an entry from before this wait is unfinished on the workqueue of `%s`" % name
         return b"an entry of `%s` from before this wait is unfinished" % name
     if runs.item != name:
         return b"workqueue %d runs `%s`" % (workqueue, runs.item)
-    return subject + b"waits for `%s`" % runs.target
+    return waits % runs.target

@@ -84,6 +84,47 @@ CHECKS = [
         ("circle 1 / arc b a", "no 53 1"),
         ("circle 2 / arc a b / arc b a", "no 53 2"),
     ]),
+    # Two items, one of which waits for the whole workqueue of the other.
+    ("item a / item b / item c / flushwq a b", [
+        ("plan 2 / wq 0 b c / wq 1 a / chain 2 / arc a b", "yes 2"),
+        ("plan 2 / wq 0 b / wq 1 c a / chain 2 / arc a b", "yes 2"),
+        ("plan 1 / wq 0 a b c / chain 1", "no 50 a b"),
+        ("plan 2 / wq 0 a b / wq 1 c / chain 2 / arc a b", "no 50 a b"),
+        # It waits for c, too, but only what is declared is an arc.
+        ("plan 2 / wq 0 b c / wq 1 a / chain 2 / arc a c", "no 51 1"),
+        ("plan 2 / wq 0 b c / wq 1 a / chain 2 / flushwq a b", "refused 40 line 5"),
+        ("circle 1 / arc a b", "no 53 1"),
+        ("circle 2 / arc a b / arc b a", "no 53 2"),
+    ]),
+    # Of several flushes that don't lead to a lower workqueue the one of least place, whichever kind it is.
+    ("item a / item b / flushwq a b / flush b a", [
+        ("plan 1 / wq 0 a b / chain 1", "no 50 a b"),
+        ("circle 2 / arc a b / arc b a", "yes circle 2"),
+        ("circle 2 / arc a b / arc b a / run 6 / queue a / queue b / start 0 a / waitwq 0 b / start 1 b / wait 1 a",
+         "yes circle 2"),
+        ("circle 2 / arc a b / arc b a / run 6 / queue a / queue b / start 0 a / wait 0 b / start 1 b / wait 1 a",
+         "no 54"),
+        ("circle 2 / arc a b / arc b a / run 6 / queue a / queue b / start 0 a / waitwq 0 b / start 1 b / waitwq 1 a",
+         "no 54"),
+    ]),
+    ("item a / item b / flush b a / flushwq a b", [
+        ("plan 1 / wq 0 a b / chain 1", "no 50 b a"),
+    ]),
+    ("item a / flushwq a a", [
+        ("plan 1 / wq 0 a / chain 1", "no 50 a a"),
+        ("circle 1 / arc a a", "yes circle 1"),
+        ("circle 1 / arc a a / run 3 / queue a / start 0 a / waitwq 0 a", "yes circle 1"),
+        ("circle 1 / arc a a / run 3 / queue a / start 0 a / wait 0 a", "no 54"),
+        ("circle 1 / arc a a / run 4 / queue a / start 0 a / waitwq 0 a / overwq 0 a", "no 54"),
+        ("circle 1 / arc a a / run 1 / waitwq 0", "refused 40 line 4"),
+        ("circle 1 / arc a a / run 1 / waitwq a", "refused 40 line 4"),
+        ("circle 1 / arc a a / run 1 / overwq a a", "refused 40 line 4"),
+        ("circle 1 / arc a a / run 1 / overwqs 0 a", "refused 40 line 4"),
+        ("circle 1 / arc a a / run 1 / waitwq 4095 a", "no 54"),
+        ("circle 1 / arc a a / run 1 / waitwq 4096 a", "refused 43 line 4"),
+        ("circle 1 / arc a a / run 1 / overwq 4096 a", "refused 43 line 4"),
+        ("circle 1 / arc a a / run 1 / overwq 4096 b", "refused 40 line 4"),
+    ]),
     # No item.
     ("", [
         ("", "refused 40 line 0"),
@@ -173,6 +214,7 @@ CHECKS = [
         ("circle 1 / arc a a / run 3 / queue a / start 1 a / wait 1 a", "no 54"),
         ("circle 1 / arc a a / run 4 / queue a / start 0 a / wait 0 a / over 0 a", "no 54"),
         ("circle 1 / arc a a / run 4 / queue a / start 0 a / wait 0 a / queue a", "no 54"),
+        ("circle 1 / arc a a / run 3 / queue a / start 0 a / waitwq 0 a", "no 54"),
         ("circle 1 / arc a a / run 5 / queue a / cancel a / queue a / start 0 a / wait 0 a",
          "no 54"),
         # Numbers at their limits, and above.

@@ -58,6 +58,11 @@ OWN = [
     # Each flush is an arc of its own.
     ("item a / item b / flush a b b / flush b a / flush a b",
      "components 1 / component 4 / arc a b / arc a b / arc b a / arc a b"),
+    # Waits for a whole workqueue are arcs like others.
+    ("item a / flushwq a a", ONE_LOOP),
+    ("item a / item b / flushwq a b", "safe"),
+    ("item a / item b / flush a b / flushwq b a / flushwq a b",
+     "components 1 / component 3 / arc a b / arc b a / arc a b"),
     (OPEN_RING, "safe"),
     (RING, RING_ANSWER),
     (LOOPS, LOOPS_ANSWER),
@@ -88,6 +93,12 @@ ASSIGNED = [
         ("wq 0 a b c d", ALL_ON_ONE),
         # A whole plan text is an assignment too, though its chain is none.
         ("plan 1 / wq 0 a b c d / chain 0", ALL_ON_ONE),
+    ]),
+    # a waits for the workqueue of b, and so for whatever is on it.
+    ("item a / item b / item c / flushwq a b / flush c a", [
+        ("wq 0 a / wq 1 b / wq 2 c", "safe"),
+        ("wq 0 a / wq 1 b c", "components 1 / component 2 / arc a b / arc c a"),
+        ("wq 0 a b / wq 1 c", "components 1 / component 1 / arc a b"),
     ]),
     (LOOP, [("wq 0 / wq 1 a # x\r / ", ONE_LOOP)]),
     ("", [("", "safe"), ("wq 0 / wq 1", "safe")]),

@@ -96,6 +96,39 @@ DEADLOCKS = [
         ("wq 0 a", "run 3 / queue a / start 0 a / wait 0 a"),
         ("wq 0 / wq 1 a", "run 3 / queue a / start 1 a / wait 1 a"),
     ]),
+    # a waits for the whole workqueue of b.
+    ("item a / item b / item c / flushwq a b / flush c a", [
+        # So it waits for c, too, which waits for a.
+        ("wq 0 a / wq 1 b c",
+         "run 7 / queue a / queue c / queue b / start 0 a / waitwq 0 b / start 1 c / wait 1 a"),
+        ("wq 0 a / wq 1 b / wq 2 c", "safe"),
+        ("wq 0 b / wq 1 a / wq 2 c", "safe"),
+        # Its own workqueue, and one from which it is waited for.
+        ("wq 0 a b / wq 1 c",
+         "run 7 / queue a / queue b / queue c / start 0 a / waitwq 0 b / start 1 c / wait 1 a"),
+        ("wq 0 a c / wq 1 b",
+         "run 7 / queue c / queue a / queue b / start 0 c / wait 0 a / start 1 b / finish 1 b"),
+    ]),
+    # d waits for itself. The wait of a is over once all that was queued on the workqueue of b has finished.
+    ("item a / item b / item c / item d / flushwq a b / flush d d", [
+        ("wq 0 a / wq 1 b c / wq 2 d",
+         "run 14 / queue d / queue a / queue b / queue c / start 0 a / waitwq 0 b / start 1 b / finish 1 b / "
+         "start 1 c / finish 1 c / overwq 0 b / finish 0 a / start 2 d / wait 2 d"),
+        ("wq 0 b c / wq 1 a / wq 2 d",
+         "run 14 / queue d / queue a / queue b / queue c / start 0 b / finish 0 b / start 0 c / finish 0 c / "
+         "start 1 a / waitwq 1 b / overwq 1 b / finish 1 a / start 2 d / wait 2 d"),
+        ("wq 0 a / wq 1 b d / wq 2 c",
+         "run 10 / queue d / queue a / queue b / queue c / start 0 a / waitwq 0 b / start 1 d / wait 1 d / "
+         "start 2 c / finish 2 c"),
+    ]),
+    ("item a / item b / flushwq a b", [
+        ("wq 0 b / wq 1 a", "safe"),
+        ("wq 0 a b", "run 4 / queue a / queue b / start 0 a / waitwq 0 b"),
+    ]),
+    ("item a / flushwq a a", [
+        ("wq 0 a", "run 3 / queue a / start 0 a / waitwq 0 a"),
+        ("wq 0 / wq 1 a", "run 3 / queue a / start 1 a / waitwq 1 a"),
+    ]),
     ("item a / item b", [
         ("wq 0 a b", "safe"),
         ("wq 0 b / wq 1 a", "safe"),

@@ -147,6 +147,14 @@ OWN = [
     ("item a / item b / item c / flush a b b c / flush b a", drawing(
         "components 1", [["a"], ["b"], ["c"]],
         ["a b [color=red]", "a b [color=red]", "a c", "b a [color=red]"])),
+    # Waits for a whole workqueue have heads of their own, whatever they look like beside.
+    ("item a / item b / item c / flushwq a b / flush b c / flushwq b c / flushwq a c", drawing(
+        "plan 3", [["c"], ["b"], ["a"]],
+        ["a b [style=bold, arrowhead=odiamond]", "b c [style=bold]", "b c [arrowhead=odiamond]",
+         "a c [arrowhead=odiamond]"])),
+    ("item a / item b / item c / flushwq a b / flush b a / flushwq c a", drawing(
+        "components 1", [["a"], ["b"], ["c"]],
+        ["a b [color=red, arrowhead=odiamond]", "b a [color=red]", "c a [arrowhead=odiamond]"])),
     # A flush within a group.
     ("item a / item b / ordered b a / flush a b / flush b b", drawing(
         "components 1", [["a b"]], ["a b [color=red]", "b b [color=red]"])),
@@ -163,6 +171,11 @@ ASSIGNED = [
         # Only one of the two flushes is within a workqueue.
         ("wq 0 a b / wq 1 c / wq 2", drawing(
             "components 1", [["a", "b"], ["c"], []], ["a b [color=red]", "b c"])),
+    ]),
+    ("item a / item b / item c / flushwq a b / flush c a", [
+        ("wq 0 a / wq 1 b / wq 2 c", drawing("safe", [["a"], ["b"], ["c"]], ["a b [arrowhead=odiamond]", "c a"])),
+        ("wq 0 a / wq 1 b c", drawing(
+            "components 1", [["a"], ["b", "c"]], ["a b [color=red, arrowhead=odiamond]", "c a [color=red]"])),
     ]),
     # The workqueues of a plan, with another title, and no chain.
     (ITEMS + " / ordered d b / flush c a / flush d a a", [

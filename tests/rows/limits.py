@@ -96,6 +96,13 @@ FLUSHES = [
     (TWO_ITEMS + 16_382 * " / flush a b" + " / flush b a a", CIRCLE_OF_TWO),
     (TWO_ITEMS + 16_382 * " / flush a b" + " / flush b a a a", "refused 10 line 16385"),
     (TWO_ITEMS + 16_383 * " / flush a b" + " / flush b a a / flush c a", "refused 10 line 16386"),
+    # Waits for a whole workqueue count, too, one for each line.
+    (TWO_ITEMS + 16_384 * " / flushwq a b", "plan 2 / wq 0 b / wq 1 a / chain 2 / arc a b"),
+    (TWO_ITEMS + 16_385 * " / flushwq a b", "refused 10 line 16387"),
+    (TWO_ITEMS + 16_382 * " / flush a b" + " / flushwq a b / flush a b", "plan 2 / wq 0 b / wq 1 a / chain 2 / arc a b"),
+    (TWO_ITEMS + 16_383 * " / flush a b" + " / flushwq a b / flush a b", "refused 10 line 16387"),
+    (TWO_ITEMS + 16_384 * " / flush a b" + " / flushwq a b", "refused 10 line 16387"),
+    (TWO_ITEMS + 16_384 * " / flush a b" + " / flushwq a c", "refused 8 line 16387"),
     # The limit comes behind the other fault of its line.
     (TWO_ITEMS + 16_384 * " / flush a b" + " / flush b a c", "refused 8 line 16387"),
     # Sixteen lines of 1,024 targets, and one target more.

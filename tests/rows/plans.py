@@ -74,6 +74,18 @@ PLANS = [
      "plan 3 / wq 0 c / wq 1 b / wq 2 a / chain 3 / arc a b / arc b c"),
     ("item a / item b / item c / flush a c b / flush b c c",
      "plan 3 / wq 0 c / wq 1 b / wq 2 a / chain 3 / arc a b / arc b c"),
+    # Waits for a whole workqueue: where an item waits for one, it is above the item that is named. Other items may be there.
+    ("item a / item b / item c / flushwq a b", "plan 2 / wq 0 b c / wq 1 a / chain 2 / arc a b"),
+    # Both kinds have places in one order, and add up.
+    ("item a / item b / item c / flushwq a c / flush a b", "plan 2 / wq 0 b c / wq 1 a / chain 2 / arc a c"),
+    ("item a / item b / item c / flush a b / flushwq a c", "plan 2 / wq 0 b c / wq 1 a / chain 2 / arc a b"),
+    ("item a / item b / item c / flushwq a b / flush b c",
+     "plan 3 / wq 0 c / wq 1 b / wq 2 a / chain 3 / arc a b / arc b c"),
+    ("item a / item b / flushwq a b / flushwq a b / flush a b b", TWO),
+    ("item a / item b / item c / item d / ordered b c / flushwq a b / flushwq c d",
+     "plan 3 / wq 0 d / wq 1 b c / wq 2 a / chain 3 / arc a b / arc c d"),
+    ("item flushwq / item a / \tflushwq  flushwq\ta # b",
+     "plan 2 / wq 0 a / wq 1 flushwq / chain 2 / arc flushwq a"),
     # Groups: the chain leaves one by whichever member, and the rank of a group is that of its members
     # together.
     ("item a / item b / item c / item d / ordered b c / flush a b / flush c d",
@@ -119,6 +131,33 @@ CIRCLES = [
     ("item a / item b / item c / item d / ordered a d / ordered b c / flush a b / flush c d",
      "circle 2 / arc a b / arc c d",
      "run 8 / queue a / queue c / queue b / queue d / start 0 a / wait 0 b / start 1 c / wait 1 d"),
+    # Waits for a whole workqueue: that of the item itself, that of its group, and those of others.
+    ("item a / flushwq a a", "circle 1 / arc a a", "run 3 / queue a / start 0 a / waitwq 0 a"),
+    ("item a / item b / ordered a b / flushwq a b",
+     "circle 1 / arc a b",
+     "run 4 / queue a / queue b / start 0 a / waitwq 0 b"),
+    ("item a / item b / ordered a b / flushwq b a",
+     "circle 1 / arc b a",
+     "run 4 / queue b / queue a / start 0 b / waitwq 0 a"),
+    ("item a / item b / flushwq a b / flush b a",
+     "circle 2 / arc a b / arc b a",
+     "run 6 / queue a / queue b / start 0 a / waitwq 0 b / start 1 b / wait 1 a"),
+    ("item a / item b / flush a a / flushwq a a / flushwq b a",
+     "circle 1 / arc a a",
+     "run 6 / queue a / queue b / start 0 a / wait 0 a / start 1 b / waitwq 1 a"),
+    ("item a / item b / item c / flushwq a c / flush a b / flush b a",
+     "circle 2 / arc a b / arc b a",
+     "run 11 / queue a / queue b / queue c / start 0 a / waitwq 0 c / start 1 b / wait 1 a / start 2 c / "
+     "finish 2 c / overwq 0 c / wait 0 b"),
+    # Whoever waits for the workqueue of b waits for c, too, which is on it; whoever waits for b doesn't.
+    ("item a / item b / item c / item d / ordered b c / flushwq a b / flush c d / flush d d",
+     "circle 1 / arc d d",
+     "run 12 / queue d / queue a / queue b / queue c / start 0 a / waitwq 0 b / start 1 b / finish 1 b / "
+     "start 1 c / wait 1 d / start 2 d / wait 2 d"),
+    ("item a / item b / item c / item d / ordered b c / flush a b / flush c d / flush d d",
+     "circle 1 / arc d d",
+     "run 14 / queue d / queue a / queue b / queue c / start 0 a / wait 0 b / start 1 b / finish 1 b / "
+     "over 0 b / finish 0 a / start 1 c / wait 1 d / start 2 d / wait 2 d"),
     # Arcs that lead to what is taken off are passed over: here to c where it has no flush, to b before
     # c, and to d. In the runs what is taken off comes to its end, and what waits for it goes on to its
     # next flush.
@@ -246,6 +285,23 @@ REFUSALS = [
     ("Item a", "refused 4 line 1"),
     ("ordereds a", "refused 4 line 1"),
     ("item a / order a", "refused 4 line 2"),
+    # A `flushwq` line has two names.
+    ("item a / item b / flushwq a b b", "refused 12 line 3"),
+    ("flushwq a b c d", "refused 12 line 1"),
+    ("flushwq a b! c", "refused 12 line 1"),
+    ("flushwq a b!", "refused 6 line 1"),
+    ("flushwq a! b", "refused 6 line 1"),
+    ("flushwq", "refused 5 line 1"),
+    ("item a / flushwq a", "refused 5 line 2"),
+    ("item a / flushwq a! # a", "refused 5 line 2"),
+    ("item a / flushwq a b", "refused 8 line 2"),
+    ("item a / flushwq b a / item b", "refused 8 line 2"),
+    ("item a / flushwq a a a / item a", "refused 12 line 2"),
+    ("item a / flushw a a", "refused 4 line 2"),
+    ("item a / flushwqs a a", "refused 4 line 2"),
+    ("item a / Flushwq a a", "refused 4 line 2"),
+    ("item a / item a / flushwq a zz", "refused 7 line 2"),
+    ("item a / flushwq a zz / item b c", "refused 12 line 3"),
     # Directives are judged before items, and items before groups.
     ("item a / flush a zz / items b", "refused 4 line 3"),
     ("item a / item a /  / item", "refused 5 line 4"),

@@ -112,6 +112,41 @@ REPLAYS = [
         ("run 1 / queue a / queue b", "refused 40 line 3"),
         ("run 2 / start 0 a /  / nope", "refused 40 line 4"),
     ]),
+    # Waits for a whole workqueue.
+    ("item a / item b / item c / flushwq a b / flush c a", "wq 0 a / wq 1 b c", [
+        ("run 7 / queue a / queue c / queue b / start 0 a / waitwq 0 b / start 1 c / wait 1 a", "deadlock"),
+        ("run 6 / queue a / queue c / start 0 a / waitwq 0 b / start 1 c / wait 1 a", "stuck"),
+        ("run 7 / queue a / queue b / queue c / start 0 a / waitwq 0 b / start 1 b / finish 1 b", "open"),
+        ("run 9 / queue a / queue b / queue c / start 0 a / waitwq 0 b / start 1 b / finish 1 b / start 1 c / wait 1 a",
+         "deadlock"),
+        # What is queued behind the mark doesn't prolong the wait.
+        ("run 5 / queue a / start 0 a / waitwq 0 b / queue c / overwq 0 b", "open"),
+        ("run 5 / queue a / queue c / start 0 a / waitwq 0 b / overwq 0 b", "not lawful 5"),
+        # Neither kind of wait stands for the other.
+        ("run 3 / queue a / start 0 a / wait 0 b", "not lawful 3"),
+        ("run 3 / queue c / start 1 c / waitwq 1 a", "not lawful 3"),
+        ("run 4 / queue a / start 0 a / waitwq 0 b / over 0 b", "not lawful 4"),
+        ("run 4 / queue c / start 1 c / wait 1 a / overwq 1 a", "not lawful 4"),
+        # Nor does one for another item of the same workqueue.
+        ("run 3 / queue a / start 0 a / waitwq 0 c", "not lawful 3"),
+        ("run 4 / queue a / start 0 a / waitwq 0 b / overwq 0 c", "not lawful 4"),
+        ("run 1 / waitwq a", "refused 40 line 2"),
+        ("run 1 / waitwq 0 a b", "refused 40 line 2"),
+        ("run 1 / waitwq 0 d", "refused 40 line 2"),
+        ("run 1 / Overwq 0 a", "refused 40 line 2"),
+        ("run 1 / overwq 4096 a", "refused 43 line 2"),
+        ("run 1 / waitwq 4095 a", "not lawful 1"),
+    ]),
+    # The n-th wait is of the kind that the n-th flush has.
+    ("item a / flush a a / flushwq a a", "wq 0 a", [
+        ("run 3 / queue a / start 0 a / wait 0 a", "deadlock"),
+        ("run 3 / queue a / start 0 a / waitwq 0 a", "stuck"),
+    ]),
+    ("item a / item b / flushwq a b / flush a a", "wq 0 a / wq 1 b", [
+        ("run 8 / queue a / queue b / start 1 b / finish 1 b / start 0 a / waitwq 0 b / overwq 0 b / wait 0 a",
+         "deadlock"),
+        ("run 6 / queue a / queue b / start 1 b / finish 1 b / start 0 a / wait 0 a", "stuck"),
+    ]),
     # Workqueues without items.
     ("item a / item b / flush a b", "wq 0 b # x /  / wq 1 / wq 2 a", [
         ("run 2 / queue a / start 2 a", "open"),
@@ -183,6 +218,29 @@ STEPS = [
     ("item a / item b / item c / ordered c a / flush b c", "wq 0 / wq 1 b / wq 2 / wq 3 a c", "open",
      "queue c / !start 0 c / !start 2 c / start 3 c / queue b / queue a / start 1 b / wait 1 c / !start 3 a / !over 1 c / "
      "finish 3 c / over 1 c / finish 1 b"),
+    # A wait for a whole workqueue is over when no entry there below its mark is pending or runs, whichever item it is of.
+    ("item a / item b / item c / flushwq a b", "wq 0 b c / wq 1 a", "open",
+     "queue c / queue a / start 1 a / !wait 1 b / !waitwq 1 c / !waitwq 0 b / waitwq 1 b / !waitwq 1 b / !finish 1 a / "
+     "!over 1 b / !overwq 1 b / queue b / start 0 c / !overwq 1 b / queue c / finish 0 c / !overwq 1 c / !overwq 0 b / "
+     "overwq 1 b / !overwq 1 b / !waitwq 1 b / finish 1 a"),
+    # Of two entries there one is cancelled and queued again behind the mark.
+    ("item a / item b / item c / flushwq a b", "wq 0 b c / wq 1 a", "open",
+     "queue c / queue b / queue a / start 1 a / waitwq 1 b / start 0 c / cancel b / !overwq 1 b / queue b / !overwq 1 b / "
+     "finish 0 c / overwq 1 b / finish 1 a"),
+    # An idle workqueue, and one that only has what was queued later.
+    ("item a / item b / item c / flushwq a b / flushwq a c", "wq 0 b c / wq 1 a", "open",
+     "queue a / start 1 a / waitwq 1 b / overwq 1 b / waitwq 1 c / queue b / start 0 b / queue c / overwq 1 c / "
+     "!waitwq 1 b / finish 1 a"),
+    # Whoever waits for the own workqueue waits for itself, whatever else is there.
+    ("item a / item b / flushwq a b", "wq 0 a b", "stuck",
+     "queue a / start 0 a / waitwq 0 b / !overwq 0 b / !finish 0 a / queue b / !start 0 b / cancel b / !overwq 0 b"),
+    # Both kinds of wait for one item, not in the declared order.
+    ("item a / item b / item c / flush a b / flushwq a b", "wq 0 b c / wq 1 a", "open",
+     "queue c / queue a / start 1 a / waitwq 1 b / !over 1 b / !overwq 1 b / start 0 c / finish 0 c / !over 1 b / "
+     "overwq 1 b / wait 1 b / !overwq 1 b / over 1 b / !wait 1 b / !waitwq 1 b / finish 1 a"),
+    # Of the two waits one is for b alone.
+    ("item a / item b / item c / flush a b / flushwq a b", "wq 0 b c / wq 1 a", "open",
+     "queue c / queue a / start 1 a / wait 1 b / over 1 b / waitwq 1 b / !overwq 1 b / cancel c / overwq 1 b / finish 1 a"),
     # Two workqueues wait for each other. Both waits began at the same mark, and neither is over.
     ("item a / item b / item c / item d / flush a b / flush c d", "wq 0 a d / wq 1 b c", "deadlock",
      "queue a / queue c / queue b / queue d / start 0 a / wait 0 b / start 1 c / wait 1 d / !over 0 b / !over 1 d"),

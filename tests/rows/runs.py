@@ -50,6 +50,11 @@ OTHERS = [
     ("item a / item b / item c / flush a c b / flush b a",
      "circle 2 / arc a b / arc b a / run 11 / queue a / queue b / queue c / start 0 a / wait 0 c / "
      "start 1 b / wait 1 a / start 2 c / finish 2 c / over 0 c / wait 0 b"),
+    # No wait for a whole workqueue is made there yet. Faults and circles come first.
+    ("item a / item b / item c / flushwq a b", "fault flushwq"),
+    ("item a / item b / flush a b / flushwq a b", "fault flushwq"),
+    ("item a / flushwq a a", "circle 1 / arc a a / run 3 / queue a / start 0 a / waitwq 0 a"),
+    ("item a / flushwq a b", "refused 8 line 2"),
     ("item a / flush a b / item b", "refused 8 line 2"),
     ("item a / flush a zz / items b", "refused 4 line 3"),
     ("item a / item b / ordered a b / ordered b", "refused 11 line 4"),
@@ -92,6 +97,9 @@ LIMITS = [
     (CHAIN, RAN),
     (" / ".join(chain(257)), "refused 69 line 0"),
     (" / ".join(chain(4_096)), "refused 69 line 0"),
+    # The number of workqueues comes before a wait for a whole one.
+    (CHAIN + " / flushwq i0 i9", "fault flushwq"),
+    (" / ".join(chain(257)) + " / flushwq i0 i9", "refused 69 line 0"),
     # An item beside the longest chain, and one that makes it longer.
     (CHAIN + " / item x / flush x i1 i255", beside(RAN, "x", 255)),
     (CHAIN + " / item x / flush x i1 i0 i255", "refused 69 line 0"),
