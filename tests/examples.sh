@@ -86,7 +86,9 @@ answers() {
     run check "$name.wq" "$name.answer"
     ends "$name: what plan prints, checked" 0 "$yes"
     run run "$name.wq"
-    if [ "$wanted" -eq 0 ]; then
+    if [ "$wanted" -eq 0 ] && grep -q '^flushwq' "$name.wq"; then
+        ends "$name: run" 2 'fault flushwq'
+    elif [ "$wanted" -eq 0 ]; then
         ends "$name: run" 0 "$(ran "$name")"
     else
         ends "$name: run" 1 "$(cat "$name.answer")"
@@ -113,7 +115,7 @@ counts() {
         { sub(/#.*/, "") }
         FILENAME ~ /assign$/ { lanes += $1 == "wq"; next }
         $1 == "item" { items++; groups++ }
-        $1 == "flush" { flushes += NF - 2 }
+        $1 == "flush" || $1 == "flushwq" { flushes += NF - 2 }
         $1 == "ordered" { groups -= NF - 2 }
         END { print items + 0, flushes + 0, groups + 0, lanes + 0 }' "$1.wq" "$1.assign")"
 }
@@ -145,9 +147,9 @@ plan_is_least() {
     done
 }
 
-# arrows LOOK: those of the file `out` that look so, as `arc` lines, sorted.
+# arrows LOOK: those of the file `out` that look so, whatever their heads, as `arc` lines, sorted.
 arrows() {
-    sed -nE "s/^  \"([^\"]*)\" -> \"([^\"]*)\" \[$1\];$/arc \1 \2/p" out | LC_ALL=C sort
+    sed -nE "s/^  \"([^\"]*)\" -> \"([^\"]*)\" \[$1(, arrowhead=odiamond)?\];$/arc \1 \2/p" out | LC_ALL=C sort
 }
 
 # boxes FILE: the items on each workqueue of a drawing, or of a file with `wq` lines, sorted.
@@ -186,6 +188,8 @@ draws() {
 for file in *.wq; do
     is "$file: each flush has a kind, a file, a line and a function" '' \
         "$(grep '^flush' "$file" | grep -vE '# (flush|flushwq|done|cancel) [a-z0-9/_-]+\.c:[0-9].* [a-z_]+')"
+    is "$file: the waits for whole workqueues are the \`flushwq\` lines" \
+        "$(grep -n '^flushwq ' "$file")" "$(grep -n '# flushwq ' "$file")"
 done
 
 # dm-snapshot: six workqueues, safe; with one kcopyd for all it hangs.
@@ -213,7 +217,7 @@ draws dm-integrity 'plan 3: items 8, workqueues 3, arrows 13, red 0, bold 2' dm-
 
 # nvmet-tcp: a circle, so that every assignment hangs: the kernel's, one workqueue for all, and one for each item. The
 # last is the one whose run stands behind the circle.
-counts nvmet-tcp 10 15 10 4
+counts nvmet-tcp 10 9 10 4
 answers nvmet-tcp 'circle 2' nvmet_tcp_io_work nvmet_tcp_release_queue_work nvmet_tcp_io_work
 without_cancel nvmet-tcp 3
 hangs 'nvmet-tcp: the kernel' nvmet-tcp.wq nvmet-tcp.assign
@@ -223,7 +227,7 @@ hangs 'nvmet-tcp: one workqueue' nvmet-tcp.wq one.assign
 awk '$1 == "item" { print "wq", lanes++, $2 }' nvmet-tcp.wq >own.assign
 hangs 'nvmet-tcp: a workqueue for each item' nvmet-tcp.wq own.assign
 is 'nvmet-tcp: the run behind the circle' "$(cat hangs.run)" "$(sed -n '/^run/,$p' nvmet-tcp.answer)"
-draws nvmet-tcp 'components 1: items 10, workqueues 10, arrows 15, red 2, bold 0' nvmet-tcp.wq
+draws nvmet-tcp 'components 1: items 10, workqueues 10, arrows 9, red 2, bold 0' nvmet-tcp.wq
 
 # nvme-auth: two workqueues, of which one hangs; three are enough, and a later kernel has them.
 counts nvme-auth 4 4 4 2
