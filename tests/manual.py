@@ -20,6 +20,8 @@ FORMAT = (ROOT / "docs/FORMAT.md").read_text()
 # Where texts and their limits are described: not histories, nor what is worked out.
 TEXTS = ["Lines, words and numbers", "Names", "Limits", "Certificates"]
 FORMS = ["Plan texts", "Circle texts", "Run texts", "Refusals"]
+# The words of steps.
+STEPS = ["queue", "cancel", "start", "wait", "waitwq", "over", "overwq", "finish"]
 # A drawing is a text of Graphviz, and no page shows it.
 NOT_SHOWN = ["dot"]
 # What the examples of wqplan(5) show, by section, and the files that a command of `$` reads.
@@ -200,7 +202,7 @@ def compare_texts(count, page):
     count.equal("wqplan(5), DECLARATIONS", directives(), page.tags("DECLARATIONS"))
     forms = {line for _, block in page.blocks(".nf", ".fi") for line in block}
     count.equal("wqplan(5): lines of forms", sorted(form_lines()), sorted(forms))
-    steps = [line for line in form_lines() if line.split()[0] in ("queue", "cancel", "start", "wait", "over", "finish")]
+    steps = [line for line in form_lines() if line.split()[0] in STEPS]
     count.equal("wqplan(5), RUNS: steps", sorted(steps), sorted(page.tags("RUNS")))
     refusals, nos = codes()
     count.equal("wqplan(5), REFUSALS", refusals, page.tags("REFUSALS"))
