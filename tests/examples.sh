@@ -87,7 +87,7 @@ answers() {
     ends "$name: what plan prints, checked" 0 "$yes"
     run run "$name.wq"
     if [ "$wanted" -eq 0 ] && grep -q '^flushwq' "$name.wq"; then
-        ends "$name: run" 2 'fault flushwq'
+        ends "$name: run" 3 'fault flushwq'
     elif [ "$wanted" -eq 0 ]; then
         ends "$name: run" 0 "$(ran "$name")"
     else

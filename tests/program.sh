@@ -296,7 +296,7 @@ check 'run: 256 workqueues' 0 "$ran256\n" ''
 run run chain257 </dev/null
 check 'run: 257 workqueues' 2 'refused 69 line 0\n' 'of 1'
 run run whole </dev/null
-check 'run: a wait for a whole workqueue' 2 'fault flushwq\n' ''
+check 'run: a wait for a whole workqueue' 3 '' 'fault flushwq\n'
 run run circle </dev/null
 check 'run: a circle and its run' 1 'circle 1\narc a a\nrun 3\nqueue a\nstart 0 a\nwait 0 a\n' ''
 run run refused </dev/null

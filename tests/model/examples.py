@@ -330,10 +330,12 @@ DOTS = [
 
 STATUSES = {"plan": 0, "yes": 0, "open": 0, "safe": 0, "circle": 1, "no": 1, "not": 1,
             "deadlock": 1, "stuck": 1, "run": 1, "workqueues": 0, "components": 1, "digraph": 0,
-            "refused": 2, "fault": 2}
+            "refused": 2}
 
 
 def wanted(answer):
+    if answer.startswith("fault "):
+        return b"", 3
     return text(answer), STATUSES[answer.split()[0]]
 
 

@@ -27,13 +27,16 @@ from tables import Case, run_cases, text_of  # noqa: E402  (in the folder above)
 STATUS = {
     "plan": 0, "yes": 0, "safe": 0, "open": 0, "workqueues": 0, "digraph": 0,
     "circle": 1, "no": 1, "run": 1, "not": 1, "deadlock": 1, "stuck": 1, "components": 1,
-    "refused": 2, "fault": 2,
+    "refused": 2,
 }
 
 
 def case(table, command, texts, answer):
     answer = text_of(answer)
-    status = STATUS[answer.split(maxsplit=1)[0].decode()]
+    if answer.startswith(b"fault "):
+        answer, status = b"", 3
+    else:
+        status = STATUS[answer.split(maxsplit=1)[0].decode()]
     texts = [text_of(text) for text in texts]
     return Case(table, [command, *range(len(texts))], texts, answer, status, diagnoses=True)
 
