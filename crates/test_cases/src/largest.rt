@@ -29,21 +29,21 @@ item xlog_discard_endio_work  # queued to xfsdiscard at xfs_log_cil.c:723 xlog_d
 #   xlog_ioend_work says.
 # - A metadata block is read: xfs_buf_iowait sleeps until xfs_buf_ioend_work has completed it (xfs_buf.c:1611).
 flush xfs_flush_inodes_worker wb_workfn              # done fs/fs-writeback.c:2822 sync_inodes_sb, from xfs_super.c:600 xfs_flush_inodes_worker
-flush xfs_log_worker xlog_cil_push_work              # flushwq xfs_log_cil.c:1521 xlog_cil_push_now, by xfs_log_force at xfs_log.c:1500 xfs_log_worker
+flushwq xfs_log_worker xlog_cil_push_work            # flushwq xfs_log_cil.c:1521 xlog_cil_push_now, by xfs_log_force at xfs_log.c:1500 xfs_log_worker
 flush xfs_log_worker xlog_ioend_work                 # done xfs_log.c:890 xlog_wait_on_iclog, by the synchronous commit of the superblock at xfs_log.c:1498 xfs_log_worker
 flush wb_workfn xfs_btree_split_worker               # done libxfs/xfs_btree.c:2959 xfs_btree_split, by an allocation of writeback at xfs_aops.c:352 xfs_map_blocks; interpretation: a long path, by reading
-flush wb_workfn xlog_cil_push_work                   # flushwq xfs_log_cil.c:1521 xlog_cil_push_now, for a stale pinned buffer at xfs_buf.c:1119 xfs_buf_lock
+flushwq wb_workfn xlog_cil_push_work                 # flushwq xfs_log_cil.c:1521 xlog_cil_push_now, for a stale pinned buffer at xfs_buf.c:1119 xfs_buf_lock
 flush wb_workfn xfs_buf_ioend_work                   # done xfs_buf.c:1611 xfs_buf_iowait
-flush xfs_inodegc_worker xlog_cil_push_work          # flushwq xfs_log_cil.c:1521 xlog_cil_push_now, at xfs_buf.c:1119 xfs_buf_lock, by xfs_inactive (xfs_icache.c:1879 xfs_inodegc_inactivate)
+flushwq xfs_inodegc_worker xlog_cil_push_work        # flushwq xfs_log_cil.c:1521 xlog_cil_push_now, at xfs_buf.c:1119 xfs_buf_lock, by xfs_inactive (xfs_icache.c:1879 xfs_inodegc_inactivate)
 flush xfs_inodegc_worker xfs_buf_ioend_work          # done xfs_buf.c:1611 xfs_buf_iowait
-flush xfs_blockgc_worker xlog_cil_push_work          # flushwq xfs_log_cil.c:1521 xlog_cil_push_now, at xfs_buf.c:1119 xfs_buf_lock
+flushwq xfs_blockgc_worker xlog_cil_push_work        # flushwq xfs_log_cil.c:1521 xlog_cil_push_now, at xfs_buf.c:1119 xfs_buf_lock
 flush xfs_blockgc_worker xfs_buf_ioend_work          # done xfs_buf.c:1611 xfs_buf_iowait
-flush xfs_end_io xlog_cil_push_work                  # flushwq xfs_log_cil.c:1521 xlog_cil_push_now, at xfs_extent_busy.c:579 xfs_extent_busy_flush or xfs_buf.c:1119 xfs_buf_lock
+flushwq xfs_end_io xlog_cil_push_work                # flushwq xfs_log_cil.c:1521 xlog_cil_push_now, at xfs_extent_busy.c:579 xfs_extent_busy_flush or xfs_buf.c:1119 xfs_buf_lock
 flush xfs_end_io xlog_ioend_work                     # done xfs_log.c:890 xlog_wait_on_iclog, at xfs_extent_busy.c:579 xfs_extent_busy_flush
 flush xfs_end_io xfs_buf_ioend_work                  # done xfs_buf.c:1611 xfs_buf_iowait
 # An allocation that finds only blocks which were freed a moment ago forces the log (libxfs/xfs_alloc.c:1648, 1754, 1839),
 # and with -o discard it waits until these blocks are discarded (xfs_log_cil.c:707 xlog_discard_endio_work).
-flush xfs_btree_split_worker xlog_cil_push_work      # flushwq xfs_log_cil.c:1521 xlog_cil_push_now, at xfs_extent_busy.c:579 xfs_extent_busy_flush
+flushwq xfs_btree_split_worker xlog_cil_push_work    # flushwq xfs_log_cil.c:1521 xlog_cil_push_now, at xfs_extent_busy.c:579 xfs_extent_busy_flush
 flush xfs_btree_split_worker xlog_ioend_work         # done xfs_log.c:890 xlog_wait_on_iclog, at xfs_extent_busy.c:579 xfs_extent_busy_flush
 flush xfs_btree_split_worker xlog_discard_endio_work # done xfs_extent_busy.c:584-587 xfs_extent_busy_flush
 flush xfs_btree_split_worker xfs_buf_ioend_work      # done xfs_buf.c:1611 xfs_buf_iowait
