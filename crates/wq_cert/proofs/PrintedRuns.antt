@@ -8,7 +8,7 @@ use Rattle.std.proofs.lemmas.List.{length-map}
 use Rattle.std.proofs.lemmas.List.Elements.{All-head, All-tail}
 use Rattle.wq_items.specs.Table.{Table, IsTable}
 use Rattle.wq_core.specs.declared.step.Step.{Step}
-use Rattle.wq_core.specs.declared.step.Step.TheVariants.{Queue, Cancel, Start, Wait, Over, Finish}
+use Rattle.wq_core.specs.declared.step.Step.TheVariants.{Queue, Cancel, Start, Wait, Over, WaitAll, OverAll, Finish}
 use Rattle.wq_cert.specs.PlanText.{name_of}
 use Rattle.wq_cert.specs.Ranges.{IsStepOf}
 use Rattle.wq_cert.specs.RunText.{step_line, run_lines, run_text}
@@ -32,6 +32,8 @@ module _ (t : Table) (table : IsTable t) where
   IsPrintableLine-step (Start q i) h = IsPrintableLine-lane (codes "start") q i (IsPrintable-keyword (codes "start") refl (omega arith) (omega arith)) (ltb-false 4095 q h.1) h.0
   IsPrintableLine-step (Wait q b) h = IsPrintableLine-lane (codes "wait") q b (IsPrintable-keyword (codes "wait") refl (omega arith) (omega arith)) (ltb-false 4095 q h.1) h.0
   IsPrintableLine-step (Over q b) h = IsPrintableLine-lane (codes "over") q b (IsPrintable-keyword (codes "over") refl (omega arith) (omega arith)) (ltb-false 4095 q h.1) h.0
+  IsPrintableLine-step (WaitAll q b) h = IsPrintableLine-lane (codes "waitwq") q b (IsPrintable-keyword (codes "waitwq") refl (omega arith) (omega arith)) (ltb-false 4095 q h.1) h.0
+  IsPrintableLine-step (OverAll q b) h = IsPrintableLine-lane (codes "overwq") q b (IsPrintable-keyword (codes "overwq") refl (omega arith) (omega arith)) (ltb-false 4095 q h.1) h.0
   IsPrintableLine-step (Finish q i) h = IsPrintableLine-lane (codes "finish") q i (IsPrintable-keyword (codes "finish") refl (omega arith) (omega arith)) (ltb-false 4095 q h.1) h.0
 
   IsPrintableLine-steps : (steps : List Step) → All (IsStepOf (length t.names)) steps → AllByRecursion IsPrintableLine (map (step_line t.names) steps)

@@ -7,7 +7,7 @@ use Rattle.std.proofs.lemmas.Bool.{ltb-false, lt-ltb, le-ltb}
 use Rattle.wq_items.specs.Table.{item_named}
 use Rattle.wq_groups.proofs.Among.{same_name, bytes_eq-same}
 use Rattle.wq_core.specs.declared.step.Step.{Step}
-use Rattle.wq_core.specs.declared.step.Step.TheVariants.{Queue, Cancel, Start, Wait, Over, Finish}
+use Rattle.wq_core.specs.declared.step.Step.TheVariants.{Queue, Cancel, Start, Wait, Over, WaitAll, OverAll, Finish}
 use Rattle.wq_cert.specs.Forms.{number_of, items_of, count_form, wq_form, arc_form, item_step, lane_step, step_form}
 use Rattle.wq_cert.specs.PlanText.{name_of, workqueue_line}
 use Rattle.wq_cert.specs.RunText.{item_in, step_line}
@@ -111,17 +111,25 @@ module _ (names : List (List ℕ)) (i : ℕ) (known : i < length names) where
   lane_line word q step fits e =
       let words : List ℕ → List (List ℕ) = λ w. w ∷ decimal q ∷ name_of names i ∷ [] in
       let finish : Option Step = cond (bytes_eq word (codes "finish")) (Some (Finish q i)) None in
-      let over : Option Step = cond (bytes_eq word (codes "over")) (Some (Over q i)) finish in
+      let overwq : Option Step = cond (bytes_eq word (codes "overwq")) (Some (OverAll q i)) finish in
+      let waitwq : Option Step = cond (bytes_eq word (codes "waitwq")) (Some (WaitAll q i)) overwq in
+      let over : Option Step = cond (bytes_eq word (codes "over")) (Some (Over q i)) waitwq in
       let wait : Option Step = cond (bytes_eq word (codes "wait")) (Some (Wait q i)) over in
       elim (one_of (bytes_eq word (codes "start")) (Start q i) step wait e) [
         | inl (here, is) ↦ SpellsStep-at names (words word) (words (codes "start")) step (Start q i) (ap words (same_name word (codes "start") here)) is refl known fits
         | inr a ↦ elim (one_of (bytes_eq word (codes "wait")) (Wait q i) step over a) [
           | inl (here, is) ↦ SpellsStep-at names (words word) (words (codes "wait")) step (Wait q i) (ap words (same_name word (codes "wait") here)) is refl known fits
-          | inr b ↦ elim (one_of (bytes_eq word (codes "over")) (Over q i) step finish b) [
+          | inr b ↦ elim (one_of (bytes_eq word (codes "over")) (Over q i) step waitwq b) [
             | inl (here, is) ↦ SpellsStep-at names (words word) (words (codes "over")) step (Over q i) (ap words (same_name word (codes "over") here)) is refl known fits
-            | inr d ↦ elim (one_of (bytes_eq word (codes "finish")) (Finish q i) step None d) [
-              | inl (here, is) ↦ SpellsStep-at names (words word) (words (codes "finish")) step (Finish q i) (ap words (same_name word (codes "finish") here)) is refl known fits
-              | inr none ↦ absurd (cc)
+            | inr d ↦ elim (one_of (bytes_eq word (codes "waitwq")) (WaitAll q i) step overwq d) [
+              | inl (here, is) ↦ SpellsStep-at names (words word) (words (codes "waitwq")) step (WaitAll q i) (ap words (same_name word (codes "waitwq") here)) is refl known fits
+              | inr f ↦ elim (one_of (bytes_eq word (codes "overwq")) (OverAll q i) step finish f) [
+                | inl (here, is) ↦ SpellsStep-at names (words word) (words (codes "overwq")) step (OverAll q i) (ap words (same_name word (codes "overwq") here)) is refl known fits
+                | inr g ↦ elim (one_of (bytes_eq word (codes "finish")) (Finish q i) step None g) [
+                  | inl (here, is) ↦ SpellsStep-at names (words word) (words (codes "finish")) step (Finish q i) (ap words (same_name word (codes "finish") here)) is refl known fits
+                  | inr none ↦ absurd (cc)
+                ]
+              ]
             ]
           ]
         ]
@@ -170,6 +178,8 @@ module _ (names : List (List ℕ)) (differ : AllPairs (λ (a b : List ℕ). a �
   step_form-line (Start q i) known fits = lane_said (codes "start") q i known fits
   step_form-line (Wait q b) known fits = lane_said (codes "wait") q b known fits
   step_form-line (Over q b) known fits = lane_said (codes "over") q b known fits
+  step_form-line (WaitAll q b) known fits = lane_said (codes "waitwq") q b known fits
+  step_form-line (OverAll q b) known fits = lane_said (codes "overwq") q b known fits
   step_form-line (Finish q i) known fits = lane_said (codes "finish") q i known fits
 
 -- a workqueue that isn't above 4,095 is a number
@@ -179,6 +189,8 @@ IsNumbered-near (Cancel i) near = tt
 IsNumbered-near (Start q i) near = omega (arith, ltb-false 4095 q near)
 IsNumbered-near (Wait q b) near = omega (arith, ltb-false 4095 q near)
 IsNumbered-near (Over q b) near = omega (arith, ltb-false 4095 q near)
+IsNumbered-near (WaitAll q b) near = omega (arith, ltb-false 4095 q near)
+IsNumbered-near (OverAll q b) near = omega (arith, ltb-false 4095 q near)
 IsNumbered-near (Finish q i) near = omega (arith, ltb-false 4095 q near)
 
 -- a step that names no workqueue above 4,095
@@ -188,6 +200,8 @@ names_far_lane-near (Cancel i) near = refl
 names_far_lane-near (Start q i) near = le-ltb 4095 q (omega (arith, near))
 names_far_lane-near (Wait q b) near = le-ltb 4095 q (omega (arith, near))
 names_far_lane-near (Over q b) near = le-ltb 4095 q (omega (arith, near))
+names_far_lane-near (WaitAll q b) near = le-ltb 4095 q (omega (arith, near))
+names_far_lane-near (OverAll q b) near = le-ltb 4095 q (omega (arith, near))
 names_far_lane-near (Finish q i) near = le-ltb 4095 q (omega (arith, near))
 
 pub names_far_lane-far : (step : Step) → IsSomeAnd (lane_in step) (λ q. 4095 < q) → names_far_lane step ≡ true
@@ -196,4 +210,6 @@ names_far_lane-far (Cancel i) far = absurd far
 names_far_lane-far (Start q i) far = lt-ltb 4095 q far
 names_far_lane-far (Wait q b) far = lt-ltb 4095 q far
 names_far_lane-far (Over q b) far = lt-ltb 4095 q far
+names_far_lane-far (WaitAll q b) far = lt-ltb 4095 q far
+names_far_lane-far (OverAll q b) far = lt-ltb 4095 q far
 names_far_lane-far (Finish q i) far = lt-ltb 4095 q far

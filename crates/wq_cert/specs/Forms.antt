@@ -5,7 +5,7 @@ use Rattle.std.specs.Option.{option_zip}
 use Rattle.std.specs.Str.Parse.{digits_value}
 use Rattle.wq_items.specs.Table.{item_named}
 use Rattle.wq_core.specs.declared.step.Step.{Step}
-use Rattle.wq_core.specs.declared.step.Step.TheVariants.{Queue, Cancel, Start, Wait, Over, Finish}
+use Rattle.wq_core.specs.declared.step.Step.TheVariants.{Queue, Cancel, Start, Wait, Over, WaitAll, OverAll, Finish}
 
 -- the number whose one spelling a word is: `0`, or a digit from 1 to 9 followed by digits; at most 4,294,967,295
 abbrev pub number_of : List ℕ → Option ℕ
@@ -50,13 +50,15 @@ item_step word item =
     if bytes_eq word (codes "queue") then Some (Queue item)
     else (if bytes_eq word (codes "cancel") then Some (Cancel item) else None)
 
--- `start Q NAME`, `wait Q TARGET`, `over Q TARGET` or `finish Q NAME`: the step
+-- `start Q NAME`, `wait Q TARGET`, `over Q TARGET`, `waitwq Q TARGET`, `overwq Q TARGET` or `finish Q NAME`: the step
 abbrev pub lane_step : List ℕ → ℕ → ℕ → Option Step
 lane_step word lane item =
     if bytes_eq word (codes "start") then Some (Start lane item)
     else (if bytes_eq word (codes "wait") then Some (Wait lane item)
     else (if bytes_eq word (codes "over") then Some (Over lane item)
-    else (if bytes_eq word (codes "finish") then Some (Finish lane item) else None)))
+    else (if bytes_eq word (codes "waitwq") then Some (WaitAll lane item)
+    else (if bytes_eq word (codes "overwq") then Some (OverAll lane item)
+    else (if bytes_eq word (codes "finish") then Some (Finish lane item) else None)))))
 
 -- the step that the words of a line say
 abbrev pub step_form : List (List ℕ) → List (List ℕ) → Option Step

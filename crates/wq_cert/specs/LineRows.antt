@@ -5,7 +5,7 @@ use Rattle.std.specs.List.{All}
 use Rattle.wq_groups.specs.Partition.{Partition}
 use Rattle.wq_groups.specs.Assignment.{max_lanes}
 use Rattle.wq_core.specs.declared.step.Step.{Step}
-use Rattle.wq_core.specs.declared.step.Step.TheVariants.{Queue, Cancel, Start, Wait, Over, Finish}
+use Rattle.wq_core.specs.declared.step.Step.TheVariants.{Queue, Cancel, Start, Wait, Over, WaitAll, OverAll, Finish}
 use Rattle.wq_cert.specs.declared.fault.CertError.{CertError}
 use Rattle.wq_cert.specs.declared.fault.CertError.TheVariants.{BadCertLine, NotAllItems, GroupSplit, NumberOutOfRange, OutOfMemory}
 use Rattle.wq_cert.specs.CircleText.{circle_line}
@@ -48,6 +48,8 @@ lane_in (Cancel i) = None
 lane_in (Start q i) = Some q
 lane_in (Wait q b) = Some q
 lane_in (Over q b) = Some q
+lane_in (WaitAll q b) = Some q
+lane_in (OverAll q b) = Some q
 lane_in (Finish q i) = Some q
 
 -- the words are those of a step of a declared item, whose workqueue, if it names one, is a number

@@ -1,7 +1,7 @@
 -- Run texts: the steps of a run, one on each line.
 use Rattle.std.specs.Prelude.{ℕ, List, [], ◌∷◌, length, map, flat_map, codes, decimal}
 use Rattle.wq_core.specs.declared.step.Step.{Step}
-use Rattle.wq_core.specs.declared.step.Step.TheVariants.{Queue, Cancel, Start, Wait, Over, Finish}
+use Rattle.wq_core.specs.declared.step.Step.TheVariants.{Queue, Cancel, Start, Wait, Over, WaitAll, OverAll, Finish}
 use Rattle.wq_lines.specs.LineText.{line_text}
 use Rattle.wq_cert.specs.PlanText.{name_of}
 
@@ -16,6 +16,8 @@ step_line names (Cancel i) = codes "cancel" ∷ name_of names i ∷ []
 step_line names (Start q i) = codes "start" ∷ decimal q ∷ name_of names i ∷ []
 step_line names (Wait q b) = codes "wait" ∷ decimal q ∷ name_of names b ∷ []
 step_line names (Over q b) = codes "over" ∷ decimal q ∷ name_of names b ∷ []
+step_line names (WaitAll q b) = codes "waitwq" ∷ decimal q ∷ name_of names b ∷ []
+step_line names (OverAll q b) = codes "overwq" ∷ decimal q ∷ name_of names b ∷ []
 step_line names (Finish q i) = codes "finish" ∷ decimal q ∷ name_of names i ∷ []
 
 -- the lines of a run text, as words
@@ -33,4 +35,6 @@ item_in (Cancel i) = i
 item_in (Start q i) = i
 item_in (Wait q b) = b
 item_in (Over q b) = b
+item_in (WaitAll q b) = b
+item_in (OverAll q b) = b
 item_in (Finish q i) = i

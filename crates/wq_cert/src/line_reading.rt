@@ -89,7 +89,7 @@ fn near_lane(line: u32, lane: u32) -> Result<LaneId, CertError>
     Ok(LaneId::new(lane as u16))
 }
 
-/// The step `start`, `wait`, `over` or `finish` of a workqueue and an item, by the word on this line.
+/// The step `start`, `wait`, `over`, `waitwq`, `overwq` or `finish` of a workqueue and an item, by the word on this line.
 fn read_lane_step(line: u32, word: &[u8], lane: u32, item: ItemId) -> Result<Step, CertError>
     ensures { result ≡ step_in_range line (lane_step word.now lane item) }
 {
@@ -99,6 +99,10 @@ fn read_lane_step(line: u32, word: &[u8], lane: u32, item: ItemId) -> Result<Ste
         Ok(Step::Wait(near_lane(line, lane)?, item))
     } else if word == b"over".as_slice() {
         Ok(Step::Over(near_lane(line, lane)?, item))
+    } else if word == b"waitwq".as_slice() {
+        Ok(Step::WaitAll(near_lane(line, lane)?, item))
+    } else if word == b"overwq".as_slice() {
+        Ok(Step::OverAll(near_lane(line, lane)?, item))
     } else if word == b"finish".as_slice() {
         Ok(Step::Finish(near_lane(line, lane)?, item))
     } else {

@@ -73,6 +73,8 @@ fn put_step_line<A: Allocator + Copy>(
         Step::Start(lane, item) => put_lane_step(out, table, b"start", lane, item),
         Step::Wait(lane, target) => put_lane_step(out, table, b"wait", lane, target),
         Step::Over(lane, target) => put_lane_step(out, table, b"over", lane, target),
+        Step::WaitAll(lane, target) => put_lane_step(out, table, b"waitwq", lane, target),
+        Step::OverAll(lane, target) => put_lane_step(out, table, b"overwq", lane, target),
         Step::Finish(lane, item) => put_lane_step(out, table, b"finish", lane, item),
     }
 }
