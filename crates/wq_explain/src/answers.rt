@@ -70,8 +70,9 @@ const ARC: Explanation = (
     "arc",
     "arc answer\n",
     "\
-`arc NAME TARGET`: NAME flushes TARGET. In a plan it is a flush of the chain,
-and in a circle or a component one that lies on a circle.
+`arc NAME TARGET`: NAME flushes TARGET, or the whole workqueue of TARGET. In a
+plan it is a flush of the chain, and in a circle or a component one that lies on
+a circle.
 
 The rule: docs/FORMAT.md, \"Plan texts\"
 
@@ -114,7 +115,8 @@ const RUN: Explanation = (
 `run M`: the M steps below it may happen in this order while memory is short,
 and at their end nothing can go on. `queue` puts an item on its workqueue,
 `start` runs it in the workqueue's one context, `wait` and `over` begin and end
-a flush in it, and `finish` ends it.
+a flush in it, `waitwq` and `overwq` one of a whole workqueue, and `finish` ends
+it.
 
 The rule: docs/FORMAT.md, \"Run texts\"
 
@@ -124,9 +126,10 @@ To see it:
     wqplan deadlock decl assign
 
 What to do:
-Look at the last `wait` of each workqueue: each waits for an item that another
-one of them holds up, or that is behind it. `wqplan circles` prints the flushes
-that cause it, and `wqplan plan` workqueues on which it can't happen.
+Look at the last `wait` or `waitwq` of each workqueue: each waits for an item
+that another one of them holds up, or that is behind it. `wqplan circles` prints
+the flushes that cause it, and `wqplan plan` workqueues on which it can't
+happen.
 ",
 );
 
@@ -215,8 +218,9 @@ To see it:
     wqplan replay decl assign run
 
 What to do:
-Look at the last `wait` of each workqueue. `wqplan circles` prints the flushes
-that cause it, and `wqplan plan` workqueues on which it can't happen.
+Look at the last `wait` or `waitwq` of each workqueue. `wqplan circles` prints
+the flushes that cause it, and `wqplan plan` workqueues on which it can't
+happen.
 ",
 );
 

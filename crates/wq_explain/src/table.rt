@@ -76,8 +76,8 @@ const UNKNOWN_WORD: Explanation = (
     "UnknownWord",
     "4 UnknownWord\n",
     "\
-`refused 4 line N`: the first word of line N is none of `item`, `flush` and
-`ordered`. `Item` isn't `item`.
+`refused 4 line N`: the first word of line N is none of `item`, `flush`,
+`flushwq` and `ordered`. `Item` isn't `item`.
 
 The rule: docs/FORMAT.md, \"Directives\"
 
@@ -85,8 +85,8 @@ To see it:
     printf 'Item a\\n' | wqplan plan
 
 To mend it:
-Begin the line with one of the three words, in lower case. Put a `#` before it
-if it is a comment.
+Begin the line with one of the four words, in lower case. Put a `#` before it if
+it is a comment.
 ",
 );
 
@@ -96,7 +96,8 @@ const MISSING_NAME: Explanation = (
     "5 MissingName\n",
     "\
 `refused 5 line N`: line N has too few words. `item` and `ordered` need at least
-one name, `flush` needs an item and at least one target.
+one name, `flush` needs an item and at least one target, and `flushwq` an item
+and another one, whose workqueue it flushes.
 
 The rule: docs/FORMAT.md, \"Directives\"
 
@@ -105,7 +106,7 @@ To see it:
 
 To mend it:
 Add the name, or take out the line. An item that flushes nothing has no `flush`
-line. What follows a `#` is a comment, not a name.
+or `flushwq` line. What follows a `#` is a comment, not a name.
 ",
 );
 
@@ -151,8 +152,8 @@ const UNKNOWN_ITEM: Explanation = (
     "UnknownItem",
     "8 UnknownItem\n",
     "\
-`refused 8 line N`: line N, a `flush` or `ordered` line, has a name that no
-`item` line above it declares. An `item` line below it doesn't count.
+`refused 8 line N`: line N, a `flush`, `flushwq` or `ordered` line, has a name
+that no `item` line above it declares. An `item` line below it doesn't count.
 
 The rule: docs/FORMAT.md, \"Items and groups\"
 
@@ -190,7 +191,7 @@ const TOO_MANY_FLUSHES: Explanation = (
     "10 TooManyFlushes\n",
     "\
 `refused 10 line N`: with those of line N there are more than 16,384 flushes.
-Each target of each `flush` line is one.
+Each target of each `flush` line is one, and so is each `flushwq` line.
 
 The rule: docs/FORMAT.md, \"Limits\"
 
@@ -228,16 +229,18 @@ const EXTRA_WORD: Explanation = (
     "ExtraWord",
     "12 ExtraWord\n",
     "\
-`refused 12 line N`: line N, an `item` line, has more than one word after
-`item`.
+`refused 12 line N`: line N has too many words: more than one after `item`, or
+more than two after `flushwq`.
 
 The rule: docs/FORMAT.md, \"Directives\"
 
 To see it:
     printf 'item a b\\n' | wqplan plan
+    printf 'item a\\nitem b\\nflushwq a b b\\n' | wqplan plan
 
 To mend it:
-Write an `item` line for each item. A comment begins with `#`.
+Write an `item` line for each item, and a `flushwq` line for each workqueue that
+is flushed. A comment begins with `#`.
 ",
 );
 
@@ -335,8 +338,9 @@ const NOT_FALLING: Explanation = (
     "NotFalling",
     "50 NotFalling\n",
     "\
-`no 50 ITEM TARGET`: ITEM flushes TARGET, and its workqueue isn't above that of
-TARGET. A plan is only taken where each flush leads to a lower workqueue.
+`no 50 ITEM TARGET`: ITEM flushes TARGET, or the whole workqueue of TARGET, and
+its workqueue isn't above that of TARGET. A plan is only taken where each flush
+leads to a lower workqueue.
 
 The rule: docs/FORMAT.md, \"The command `check`\"
 
@@ -357,9 +361,9 @@ const CHAIN_BROKEN: Explanation = (
     "ChainBroken",
     "51 ChainBroken\n",
     "\
-`no 51 AT`: arc AT of the chain, counted from 1, isn't a declared flush, or its
-item isn't in the group of the target of the arc before it. With AT 0 the chain
-is one group, and the declaration has none.
+`no 51 AT`: arc AT of the chain, counted from 1, isn't a declared flush, of
+whichever kind, or its item isn't in the group of the target of the arc before
+it. With AT 0 the chain is one group, and the declaration has none.
 
 The rule: docs/FORMAT.md, \"The command `check`\"
 
@@ -370,7 +374,8 @@ To see it:
 
 To mend it:
 Write the arcs in the order in which the items wait: first the item that waits,
-then the one that it flushes. `wqplan plan` prints such a chain.
+then the one that it flushes, or whose workqueue. `wqplan plan` prints such a
+chain.
 ",
 );
 
@@ -400,9 +405,9 @@ const CIRCLE_BROKEN: Explanation = (
     "CircleBroken",
     "53 CircleBroken\n",
     "\
-`no 53 AT`: arc AT of the circle, counted from 1, isn't a declared flush, or its
-item isn't in the group of the target of the arc before it. The arc before the
-first one is the last.
+`no 53 AT`: arc AT of the circle, counted from 1, isn't a declared flush, of
+whichever kind, or its item isn't in the group of the target of the arc before
+it. The arc before the first one is the last.
 
 The rule: docs/FORMAT.md, \"The command `check`\"
 
