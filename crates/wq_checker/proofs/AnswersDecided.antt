@@ -1,5 +1,5 @@
 -- Each certificate has an answer.
-use Rattle.std.proofs.Common.{◌≡◌, ℕ, zero, suc, ◌+◌, ◌-◌, ◌<◌, ◌⊎◌, inl, inr, List, length, get_or, Option, Some, None, Result, Ok, Err, refl, sym, subst, ◌∙◌, arith}
+use Rattle.std.proofs.Common.{◌≡◌, ℕ, zero, suc, ◌+◌, ◌-◌, ◌<◌, ◌⊎◌, inl, inr, false, List, length, get_or, Option, Some, None, Result, Ok, Err, refl, sym, subst, ◌∙◌, arith}
 use Rattle.std.specs.Prelude.{slice_get, slice_index}
 use Rattle.std.proofs.lemmas.Bool.{cases_eq}
 use Rattle.std.proofs.lemmas.List.{get_or_default}
@@ -33,7 +33,7 @@ module _ (d : Declaration) (is : IsDeclaration d) (a : Assignment) where
 
   -- any target
   abbrev nothing : Target
-  nothing = record { item = 0; place = 0 }
+  nothing = record { item = 0; whole = false; place = 0 }
 
   -- the target of item i at place k of its list falls
   abbrev falls_at : ℕ → ℕ → Type 0

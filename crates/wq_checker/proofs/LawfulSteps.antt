@@ -1,28 +1,27 @@
 -- Whether a step is lawful, whether it keeps to the order of its declaration, and whether a state is stuck.
 use Rattle.std.proofs.Common.{◌≡◌, ℕ, ◌<◌, inl, inr, ◌↔◌, Bool, true, false, List, length, Option, Some, None, refl, sym, ap, subst, ◌∙◌}
-use Rattle.std.specs.Prelude.{IsTrue, ◌||◌, slice_get, is_some}
-use Rattle.std.specs.List.{Any, list_any}
+use Rattle.std.specs.Prelude.{IsTrue, slice_get, is_some}
+use Rattle.std.specs.List.{Any}
 use Rattle.std.proofs.lemmas.Bool.{cases_eq}
 use Rattle.wq_items.specs.declared.target.Target.{Target}
-use Rattle.wq_items.specs.Table.{ItemWaits, targets_of}
+use Rattle.wq_items.specs.Table.{ItemWaitsBy, targets_of}
 use Rattle.wq_core.specs.declared.entry.Entry.{Entry}
 use Rattle.wq_core.specs.declared.entry.Waiting.{Waiting}
 use Rattle.wq_core.specs.declared.entry.Running.{Running}
 use Rattle.wq_core.specs.declared.step.Step.{Step}
-use Rattle.wq_core.specs.declared.step.Step.TheVariants.{Queue, Cancel, Start, Wait, Over, Finish}
+use Rattle.wq_core.specs.declared.step.Step.TheVariants.{Queue, Cancel, Start, Wait, Over, WaitAll, OverAll, Finish}
 use Rattle.wq_core.specs.Wiring.{Wiring, items, declared_by}
-use Rattle.wq_core.specs.State.{Lane, State, lane_at, Runs, HasPending, HasUnfinishedBelow}
-use Rattle.wq_core.specs.Rules.{MayWait, MayBeOver, MayFinish, MayStart, Lawful}
-use Rattle.wq_core.specs.Runs.{KeepsOrder}
+use Rattle.wq_core.specs.State.{Lane, State, lane_at, Runs, HasPending}
+use Rattle.wq_core.specs.Rules.{IsHeldBack, MayWait, MayBeOver, MayFinish, MayStart, Lawful}
+use Rattle.wq_core.specs.Runs.{KeepsOrder, IsNextWait}
 use Rattle.wq_core.specs.Deadlock.{IsStuck}
-use Rattle.wq_core.specs.Held.{LaneHasUnfinishedBelow, is_below, runs_below}
 use Rattle.wq_core.specs.Played.{CanMove}
 use Rattle.wq_core.proofs.DeclaredSteps.{CanMove-idle, CanMove-waiting, CanMove-awake, CanMove-within}
-use Rattle.wq_core.proofs.Unfinished.{unfinished_below}
+use Rattle.wq_core.proofs.Playing.{cases_held_back}
 use Rattle.wq_checker.proofs.Decided.{Decided, both, not_so, alike, cases_below, cases_Any, cases_each_below}
 use Rattle.wq_checker.proofs.StuckStates.{cases_lane, cases_HasUnfinished, IsStuck-can_move, IsStuck-cannot_move}
 
--- ---- what is pending or unfinished
+-- ---- what is pending
 
 cases_HasPending : (s : State) (i : ℕ) → Decided (HasPending s i)
 cases_HasPending s i = elim (cases_lane (λ lane. Any (λ (e : Entry). e.item ≡ i) lane.pending) (λ lane. cases_Any (λ (e : Entry). e.item ≡ i) (λ e. cases_eq e.item i) lane.pending) s.lanes) [
@@ -34,21 +33,20 @@ cases_test : {P : Type 0} (b : Bool) → (IsTrue b ↔ P) → Decided P
 cases_test true test = inl (test.0 refl)
 cases_test false test = inr (λ p. absurd (let e : false ≡ true = test.1 p in cc))
 
-cases_HasUnfinishedBelow : (s : State) (item mark : ℕ) → Decided (HasUnfinishedBelow s item mark)
-cases_HasUnfinishedBelow s item mark =
-    elim (cases_lane (λ lane. LaneHasUnfinishedBelow lane item mark) (λ lane. cases_test (list_any (is_below item mark) lane.pending || runs_below item mark lane.running) (unfinished_below lane item mark)) s.lanes) [
-      | inl some ↦ inl (record { lane = some.0; entry = some.1.entry; unfinished = some.1.unfinished; of_item = some.1.of_item; below = some.1.below })
-      | inr none ↦ inr (λ h. none h.lane (record { entry = h.entry; unfinished = h.unfinished; of_item = h.of_item; below = h.below }))
-    ]
-
 -- ---- what runs
 
 cases_awake : (o : Option Waiting) → Decided (o ≡ None)
 cases_awake None = inl refl
 cases_awake (Some f) = inr (λ e. absurd cc)
 
-cases_ItemWaits : (waits : List (List Target)) (i j : ℕ) → Decided (ItemWaits waits i j)
-cases_ItemWaits waits i j = cases_Any (λ (t : Target). t.item ≡ j) (λ t. cases_eq t.item j) (targets_of waits i)
+cases_kind : (a b : Bool) → Decided (a ≡ b)
+cases_kind true true = inl refl
+cases_kind true false = inr (λ e. absurd cc)
+cases_kind false true = inr (λ e. absurd cc)
+cases_kind false false = inl refl
+
+cases_ItemWaitsBy : (waits : List (List Target)) (whole : Bool) (i j : ℕ) → Decided (ItemWaitsBy waits whole i j)
+cases_ItemWaitsBy waits whole i j = cases_Any (λ (t : Target). (t.item ≡ j) × (t.whole ≡ whole)) (λ t. both (cases_eq t.item j) (cases_kind t.whole whole)) (targets_of waits i)
 
 module _ (w : Wiring) (s : State) where
   -- what runs, and what is said about it
@@ -62,22 +60,22 @@ module _ (w : Wiring) (s : State) where
       by_running None idle = inr (λ h. absurd (let e : None ≡ Some h.0 = sym idle ∙ h.1 in cc))
       by_running (Some r) runs = elim (decide r) [ inl p ↦ inl (r, runs, p) | inr fails ↦ inr (λ h. fails (subst P (at r h.0 runs h.1) h.2)) ]
 
-  cases_MayWait : (b : ℕ) (r : Running) → Decided (MayWait w b r)
-  cases_MayWait b r =
-      alike {P = (r.waiting ≡ None) × (ItemWaits w.waits r.entry.item b × (r.made < length (declared_by w r.entry.item)))} (λ h. record { awake = h.0; declared = h.1.0; fewer = h.1.1 })
-      (λ may. (may.awake, (may.declared, may.fewer))) (both (cases_awake r.waiting) (both (cases_ItemWaits w.waits r.entry.item b) (cases_below r.made (length (declared_by w r.entry.item)))))
+  cases_MayWait : (whole : Bool) (b : ℕ) (r : Running) → Decided (MayWait w whole b r)
+  cases_MayWait whole b r =
+      alike {P = (r.waiting ≡ None) × (ItemWaitsBy w.waits whole r.entry.item b × (r.made < length (declared_by w r.entry.item)))} (λ h. record { awake = h.0; declared = h.1.0; fewer = h.1.1 })
+      (λ may. (may.awake, (may.declared, may.fewer))) (both (cases_awake r.waiting) (both (cases_ItemWaitsBy w.waits whole r.entry.item b) (cases_below r.made (length (declared_by w r.entry.item)))))
 
-  cases_MayBeOver : (b : ℕ) (r : Running) → Decided (MayBeOver s b r)
-  cases_MayBeOver b r = by_waiting r.waiting refl
+  cases_MayBeOver : (whole : Bool) (b : ℕ) (r : Running) → Decided (MayBeOver w s whole b r)
+  cases_MayBeOver whole b r = by_waiting r.waiting refl
     where
-      by_waiting : (o : Option Waiting) → r.waiting ≡ o → Decided (MayBeOver s b r)
+      by_waiting : (o : Option Waiting) → r.waiting ≡ o → Decided (MayBeOver w s whole b r)
       by_waiting None awake = inr (λ may. absurd (let e : None ≡ Some may.flush = sym awake ∙ may.waits in cc))
       by_waiting (Some f) waits =
-          alike (λ (h : (f.target ≡ b) × (¬ HasUnfinishedBelow s b f.mark)). record { flush = f; waits = waits; target = h.0; done = h.1 })
-          (λ (may : MayBeOver s b r).
+          alike (λ (h : (f.whole ≡ whole) × ((f.target ≡ b) × (¬ IsHeldBack w s whole b f.mark))). record { flush = f; waits = waits; kind = h.0; target = h.1.0; done = h.1.1 })
+          (λ (may : MayBeOver w s whole b r).
           let same : may.flush ≡ f = (let e : Some may.flush ≡ Some f = sym may.waits ∙ waits in cc) in
-          (ap (λ (x : Waiting). x.target) (sym same) ∙ may.target, subst (λ (x : Waiting). ¬ HasUnfinishedBelow s b x.mark) same may.done))
-          (both (cases_eq f.target b) (not_so (cases_HasUnfinishedBelow s b f.mark)))
+          (ap (λ (x : Waiting). x.whole) (sym same) ∙ may.kind, (ap (λ (x : Waiting). x.target) (sym same) ∙ may.target, subst (λ (x : Waiting). ¬ IsHeldBack w s whole b x.mark) same may.done)))
+          (both (cases_kind f.whole whole) (both (cases_eq f.target b) (not_so (cases_held_back w s whole b f.mark))))
 
   cases_MayFinish : (i : ℕ) (r : Running) → Decided (MayFinish i r)
   cases_MayFinish i r =
@@ -102,20 +100,34 @@ module _ (w : Wiring) (s : State) where
   cases_Lawful (Queue i) = both (cases_below i (items w)) (not_so (cases_HasPending s i))
   cases_Lawful (Cancel i) = cases_HasPending s i
   cases_Lawful (Start q i) = cases_MayStart (lane_at s q) i
-  cases_Lawful (Wait q b) = cases_runs (lane_at s q) (MayWait w b) (cases_MayWait b)
-  cases_Lawful (Over q b) = cases_runs (lane_at s q) (MayBeOver s b) (cases_MayBeOver b)
+  cases_Lawful (Wait q b) = cases_runs (lane_at s q) (MayWait w false b) (cases_MayWait false b)
+  cases_Lawful (Over q b) = cases_runs (lane_at s q) (MayBeOver w s false b) (cases_MayBeOver false b)
+  cases_Lawful (WaitAll q b) = cases_runs (lane_at s q) (MayWait w true b) (cases_MayWait true b)
+  cases_Lawful (OverAll q b) = cases_runs (lane_at s q) (MayBeOver w s true b) (cases_MayBeOver true b)
   cases_Lawful (Finish q i) = cases_runs (lane_at s q) (MayFinish i) (cases_MayFinish i)
 
-  cases_next : (b : ℕ) (o : Option Target) → Decided ((t : Target) × (o ≡ Some t) × (t.item ≡ b))
-  cases_next b None = inr (λ h. absurd (let e : None ≡ Some h.0 = h.1 in cc))
-  cases_next b (Some t) = alike (λ (of : t.item ≡ b). (t, refl, of)) (λ (h : (x : Target) × (Some t ≡ Some x) × (x.item ≡ b)). (let same : t ≡ h.0 = (let e : Some t ≡ Some h.0 = h.1 in cc) in ap (λ (x : Target). x.item) same ∙ h.2)) (cases_eq t.item b)
+  cases_next : (whole : Bool) (b : ℕ) (o : Option Target) → Decided ((t : Target) × (o ≡ Some t) × (t.item ≡ b) × (t.whole ≡ whole))
+  cases_next whole b None = inr (λ h. absurd (let e : None ≡ Some h.0 = h.1 in cc))
+  cases_next whole b (Some t) =
+      alike (λ (of : (t.item ≡ b) × (t.whole ≡ whole)). (t, refl, of.0, of.1))
+      (λ (h : (x : Target) × (Some t ≡ Some x) × (x.item ≡ b) × (x.whole ≡ whole)).
+      let same : t ≡ h.0 = (let e : Some t ≡ Some h.0 = h.1 in cc) in
+      (ap (λ (x : Target). x.item) same ∙ h.2, ap (λ (x : Target). x.whole) same ∙ h.3))
+      (both (cases_eq t.item b) (cases_kind t.whole whole))
+
+  cases_IsNextWait : (q : ℕ) (whole : Bool) (b : ℕ) → Decided (IsNextWait w s q whole b)
+  cases_IsNextWait q whole b =
+      cases_runs (lane_at s q) (λ r. (t : Target) × (slice_get (declared_by w r.entry.item) r.made ≡ Some t) × (t.item ≡ b) × (t.whole ≡ whole))
+      (λ r. cases_next whole b (slice_get (declared_by w r.entry.item) r.made))
 
   pub cases_KeepsOrder : (step : Step) → Decided (KeepsOrder w s step)
   cases_KeepsOrder (Queue i) = inl tt
   cases_KeepsOrder (Cancel i) = inl tt
   cases_KeepsOrder (Start q i) = inl tt
-  cases_KeepsOrder (Wait q b) = cases_runs (lane_at s q) (λ r. (t : Target) × (slice_get (declared_by w r.entry.item) r.made ≡ Some t) × (t.item ≡ b)) (λ r. cases_next b (slice_get (declared_by w r.entry.item) r.made))
+  cases_KeepsOrder (Wait q b) = cases_IsNextWait q false b
   cases_KeepsOrder (Over q b) = inl tt
+  cases_KeepsOrder (WaitAll q b) = cases_IsNextWait q true b
+  cases_KeepsOrder (OverAll q b) = inl tt
   cases_KeepsOrder (Finish q i) = cases_runs (lane_at s q) (λ r. r.made ≡ length (declared_by w r.entry.item)) (λ r. cases_eq r.made (length (declared_by w r.entry.item)))
 
   -- ---- lanes
@@ -125,7 +137,7 @@ module _ (w : Wiring) (s : State) where
     where
       by_waiting : (r : Running) → Runs (lane_at s q) r → (o : Option Waiting) → r.waiting ≡ o → Decided (CanMove w s q)
       by_waiting r runs None awake = inl (CanMove-awake w s q r runs awake)
-      by_waiting r runs (Some f) waits = elim (cases_HasUnfinishedBelow s f.target f.mark) [
+      by_waiting r runs (Some f) waits = elim (cases_held_back w s f.whole f.target f.mark) [
         | inl left ↦ cases_test false (CanMove-waiting w s q r runs f waits true ((λ e. left), (λ h. refl)))
         | inr done ↦ cases_test true (CanMove-waiting w s q r runs f waits false ((λ e. absurd (let apart : false ≡ true = e in cc)), (λ h. absurd (done h))))
       ]

@@ -4,7 +4,7 @@ use Rattle.std.specs.Prelude.{slice_get}
 use Rattle.std.specs.List.{All, count_by}
 use Rattle.std.proofs.lemmas.Bool.{cases_eq}
 use Rattle.wq_core.specs.declared.step.Step.{Step}
-use Rattle.wq_core.specs.declared.step.Step.TheVariants.{Queue, Cancel, Start, Wait, Over, Finish}
+use Rattle.wq_core.specs.declared.step.Step.TheVariants.{Queue, Cancel, Start, Wait, Over, WaitAll, OverAll, Finish}
 use Rattle.wq_core.specs.Wiring.{Wiring, items}
 use Rattle.wq_core.specs.State.{State, empty_state}
 use Rattle.wq_core.specs.Rules.{Lawful, effect}
@@ -52,6 +52,8 @@ cases_IsCancel (Cancel i) = inr (λ h. h tt)
 cases_IsCancel (Start q i) = inl (λ h. h)
 cases_IsCancel (Wait q b) = inl (λ h. h)
 cases_IsCancel (Over q b) = inl (λ h. h)
+cases_IsCancel (WaitAll q b) = inl (λ h. h)
+cases_IsCancel (OverAll q b) = inl (λ h. h)
 cases_IsCancel (Finish q i) = inl (λ h. h)
 
 cases_IsOnce : (w : Wiring) (steps : List Step) → Decided (IsOnce w steps)

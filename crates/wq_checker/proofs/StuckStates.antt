@@ -4,7 +4,7 @@ use Rattle.std.specs.Prelude.{IsTrue}
 use Rattle.wq_core.specs.declared.entry.Entry.{Entry}
 use Rattle.wq_core.specs.declared.entry.Running.{Running}
 use Rattle.wq_core.specs.declared.step.Step.{Step}
-use Rattle.wq_core.specs.declared.step.Step.TheVariants.{Queue, Cancel, Start, Wait, Over, Finish}
+use Rattle.wq_core.specs.declared.step.Step.TheVariants.{Queue, Cancel, Start, Wait, Over, WaitAll, OverAll, Finish}
 use Rattle.wq_core.specs.Wiring.{Wiring}
 use Rattle.wq_core.specs.State.{Lane, State, idle_lane, IsUnfinishedOn, HasUnfinished}
 use Rattle.wq_core.specs.Rules.{Lawful}
@@ -53,6 +53,8 @@ CanMove-rescuer w s (Cancel i) is lawful = absurd is
 CanMove-rescuer w s (Start q i) is lawful = (q, (Start q i, refl, lawful))
 CanMove-rescuer w s (Wait q b) is lawful = (q, (Wait q b, refl, lawful))
 CanMove-rescuer w s (Over q b) is lawful = (q, (Over q b, refl, lawful))
+CanMove-rescuer w s (WaitAll q b) is lawful = (q, (WaitAll q b, refl, lawful))
+CanMove-rescuer w s (OverAll q b) is lawful = (q, (OverAll q b, refl, lawful))
 CanMove-rescuer w s (Finish q i) is lawful = (q, (Finish q i, refl, lawful))
 
 -- ---- stuck

@@ -17,8 +17,13 @@ fn cancels_none(step: Step) -> bool
 {
     match step {
         Step::Cancel(_) => false,
-        Step::Queue(_) | Step::Start(..) | Step::Wait(..) | Step::Over(..) | Step::Finish(..) =>
-            true,
+        Step::Queue(_)
+        | Step::Start(..)
+        | Step::Wait(..)
+        | Step::Over(..)
+        | Step::WaitAll(..)
+        | Step::OverAll(..)
+        | Step::Finish(..) => true,
     }
 }
 

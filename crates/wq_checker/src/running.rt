@@ -37,8 +37,9 @@ fn keeps_order<A: Allocator>(core: &Core<A>, step: Step) -> bool
     ensures { Lawful core.now.wiring core.now.state step → IsTrue result ↔ KeepsOrder core.now.wiring core.now.state step }
 {
     match step {
-        Step::Queue(_) | Step::Cancel(_) | Step::Start(..) | Step::Over(..) => true,
-        Step::Wait(q, _) | Step::Finish(q, _) => is_declared(core, q, step),
+        Step::Queue(_) | Step::Cancel(_) | Step::Start(..) | Step::Over(..) | Step::OverAll(..) =>
+            true,
+        Step::Wait(q, _) | Step::WaitAll(q, _) | Step::Finish(q, _) => is_declared(core, q, step),
     }
 }
 
