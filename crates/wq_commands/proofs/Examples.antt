@@ -1,5 +1,5 @@
 -- Answers, computed.
-use Rattle.std.proofs.Common.{◌≡◌, ℕ, zero, suc, ◌<◌, ◌≤◌, List, [], ◌∷◌, codes, refl, sym, subst, ◌∙◌, ap, arith, Some, None, inl, inr, true, not}
+use Rattle.std.proofs.Common.{◌≡◌, ℕ, zero, suc, ◌<◌, ◌≤◌, List, [], ◌∷◌, codes, refl, sym, subst, ◌∙◌, ap, arith, Some, None, inl, inr, Bool, true, false, not}
 use Rattle.std.specs.Prelude.{slice_get, map, IsTrue}
 use Rattle.std.proofs.lemmas.Fmt.{decimal_digit, decimal-digits_of}
 use Rattle.std.proofs.lemmas.List.Elements.{All-from_recursion}
@@ -15,11 +15,12 @@ use Rattle.wq_levels.specs.Walks.{Remains, IsWalkedCircle}
 use Rattle.wq_plan.specs.Plan.{chain_of}
 use Rattle.wq_core.specs.declared.entry.Entry.{Entry}
 use Rattle.wq_core.specs.declared.entry.Waiting.{Waiting}
+use Rattle.wq_core.specs.declared.entry.Running.{Running}
 use Rattle.wq_core.specs.declared.step.Step.{Step}
 use Rattle.wq_core.specs.declared.step.Step.TheVariants.{Queue, Start, Wait}
 use Rattle.wq_core.specs.Wiring.{Wiring, declared_by}
-use Rattle.wq_core.specs.State.{State, HasUnfinishedBelow}
-use Rattle.wq_core.specs.Rules.{effect}
+use Rattle.wq_core.specs.State.{State, lane_at, with_lane}
+use Rattle.wq_core.specs.Rules.{IsHeldBack, effect, wait_of, with_wait}
 use Rattle.wq_core.specs.Played.{CanMove, HasNoDeclaredStep, IsPlayedFrom}
 use Rattle.wq_core.proofs.DeclaredSteps.{CanMove-waiting, CanMove-within, IsDeclaredStep-start, IsDeclaredStep-wait}
 use Rattle.wq_deadlock.specs.CircleRun.{IsCircleRun}
@@ -44,6 +45,14 @@ refused_twice = rw (decimal-digits_of 11 (omega arith) (omega arith), decimal_di
 
 pub grouped_twice : Answers (codes "item a\nitem b\nordered a b\nordered b\n") Refused (codes "refused 11 line 4\n")
 grouped_twice = (refl, refused_twice)
+
+-- ---- a `flushwq` line with three names
+
+refused_third : codes "refused 12 line 3\n" ≡ refusal_text (record { code = 12; line = 3 })
+refused_third = rw (decimal-digits_of 12 (omega arith) (omega arith), decimal_digit 3 (omega arith)) refl
+
+pub third_name : Answers (codes "item a\nitem b\nflushwq a b b\n") Refused (codes "refused 12 line 3\n")
+third_name = (refl, refused_third)
 
 -- ---- a group that waits for itself
 
@@ -85,15 +94,23 @@ module _ (w : Wiring) (next : ℕ) (e : Entry) (behind : List Entry) (t : Target
   abbrev started : State
   started = effect w queued (Start 0 e.item)
 
+  abbrev asleep : Running
+  asleep = record { entry = e; made = 1; waiting = Some (record { target = t.item; whole = t.whole; mark = next }) }
+
   abbrev waiting : State
-  waiting = effect w started (Wait 0 t.item)
+  waiting = record { next = next; lanes = record { pending = behind; running = Some asleep } ∷ [] }
+
+  -- whatever the kind of the wait
+  begun : (whole : Bool) → effect w started (wait_of whole 0 t.item) ≡ with_lane started 0 (with_wait whole t.item next (lane_at started 0))
+  begun false = refl
+  begun true = refl
 
   -- what it waits for is unfinished
-  module _ (left : HasUnfinishedBelow waiting t.item next) where
+  module _ (left : IsHeldBack w waiting t.whole t.item next) where
     stays : ¬ CanMove w waiting 0
     stays can =
-        let flush : Waiting = record { target = t.item; mark = next } in
-        let test = CanMove-waiting w waiting 0 (record { entry = e; made = 1; waiting = Some flush }) refl flush refl true ((λ _. left), (λ _. refl)) in
+        let flush : Waiting = record { target = t.item; whole = t.whole; mark = next } in
+        let test = CanMove-waiting w waiting 0 asleep refl flush refl true ((λ _. left), (λ _. refl)) in
         let never : IsTrue (not true) = test.1 can in
         cc
 
@@ -103,45 +120,60 @@ module _ (w : Wiring) (next : ℕ) (e : Entry) (behind : List Entry) (t : Target
         let only : q < 1 = CanMove-within w waiting q can in
         stays (subst (λ (k : ℕ). CanMove w waiting k) (omega (arith, only)) can)
 
-    played : IsPlayedFrom w queued (Start 0 e.item ∷ Wait 0 t.item ∷ [])
+    played : IsPlayedFrom w queued (Start 0 e.item ∷ wait_of t.whole 0 t.item ∷ [])
     played = (
       (0, IsDeclaredStep-start w queued 0 refl e refl, λ p lower. absurd (omega (arith, lower))),
       (
         (0, IsDeclaredStep-wait w started 0 (record { entry = e; made = 0; waiting = None }) refl refl t declares, λ p lower. absurd (omega (arith, lower))),
-        hangs,
+        subst (λ (s : State). (q : ℕ) → HasNoDeclaredStep w s q) (sym (begun t.whole)) hangs,
       ),
     )
 
--- ---- an item that flushes itself
+-- ---- an item that flushes itself, or its own workqueue
 
-abbrev self : Wiring
-self = record { waits = (record { item = 0; place = 0 } ∷ []) ∷ []; lane_of_item = 0 ∷ []; lanes = 1 }
+abbrev own_target : Bool → Target
+own_target whole = record { item = 0; whole = whole; place = 0 }
 
-abbrev run_of_a : List Step
-run_of_a = Queue 0 ∷ Start 0 0 ∷ Wait 0 0 ∷ []
+abbrev self : Bool → Wiring
+self whole = record { waits = (own_target whole ∷ []) ∷ []; lane_of_item = 0 ∷ []; lanes = 1 }
 
-hangs_itself : IsCircleRun self (record { src = 0; dst = 0; head = 0; place = 0 } ∷ []) run_of_a
-hangs_itself =
-    let e : Entry = record { number = 0; item = 0 } in
-    let t : Target = record { item = 0; place = 0 } in
-    record {
-      played = Start 0 0 ∷ Wait 0 0 ∷ [];
-      is_played = played self 1 e [] t refl (record { lane = 0; entry = e; unfinished = inr (record { entry = e; made = 1; waiting = Some (record { target = 0; mark = 1 }) }, refl, refl); of_item = refl; below = omega arith });
-      all = refl;
-    }
+abbrev run_of_a : Bool → List Step
+run_of_a whole = Queue 0 ∷ Start 0 0 ∷ wait_of whole 0 0 ∷ []
 
-circle_of_a : codes "circle 1\narc a a\nrun 3\nqueue a\nstart 0 a\nwait 0 a\n" ≡ circle_text (codes "a" ∷ []) ((0, 0) ∷ []) (Some run_of_a)
+abbrev entry_of_a : Entry
+entry_of_a = record { number = 0; item = 0 }
+
+abbrev arc_of_a : WaitArc
+arc_of_a = record { src = 0; dst = 0; head = 0; place = 0 }
+
+-- its own entry is unfinished
+held_by_itself : (whole : Bool) → IsHeldBack (self whole) (waiting (self whole) 1 entry_of_a [] (own_target whole) refl) whole 0 1
+held_by_itself false = record { lane = 0; entry = entry_of_a; unfinished = inr (asleep (self false) 1 entry_of_a [] (own_target false) refl, refl, refl); of_item = refl; below = omega arith }
+held_by_itself true = record { entry = entry_of_a; unfinished = inr (asleep (self true) 1 entry_of_a [] (own_target true) refl, refl, refl); below = omega arith }
+
+hangs_itself : (whole : Bool) → IsCircleRun (self whole) (arc_of_a ∷ []) (run_of_a whole)
+hangs_itself whole = record {
+  played = Start 0 0 ∷ wait_of whole 0 0 ∷ [];
+  is_played = played (self whole) 1 entry_of_a [] (own_target whole) refl (held_by_itself whole);
+  all = refl;
+}
+
+circle_of_a : codes "circle 1\narc a a\nrun 3\nqueue a\nstart 0 a\nwait 0 a\n" ≡ circle_text (codes "a" ∷ []) ((0, 0) ∷ []) (Some (run_of_a false))
 circle_of_a = rw (decimal_digit 1 (omega arith), decimal_digit 3 (omega arith), decimal_digit 0 (omega arith)) refl
 
 pub self_flush : Answers (codes "item a\nflush a a\n") Bad (codes "circle 1\narc a a\nrun 3\nqueue a\nstart 0 a\nwait 0 a\n")
-self_flush =
-    let arc : WaitArc = record { src = 0; dst = 0; head = 0; place = 0 } in
-    record { circle = arc ∷ []; walked = round arc refl; steps = run_of_a; is_run = hangs_itself; text = circle_of_a }
+self_flush = record { circle = arc_of_a ∷ []; walked = round arc_of_a refl; steps = run_of_a false; is_run = hangs_itself false; text = circle_of_a }
+
+circle_of_own : codes "circle 1\narc a a\nrun 3\nqueue a\nstart 0 a\nwaitwq 0 a\n" ≡ circle_text (codes "a" ∷ []) ((0, 0) ∷ []) (Some (run_of_a true))
+circle_of_own = rw (decimal_digit 1 (omega arith), decimal_digit 3 (omega arith), decimal_digit 0 (omega arith)) refl
+
+pub own_workqueue_flush : Answers (codes "item a\nflushwq a a\n") Bad (codes "circle 1\narc a a\nrun 3\nqueue a\nstart 0 a\nwaitwq 0 a\n")
+own_workqueue_flush = record { circle = arc_of_a ∷ []; walked = round arc_of_a refl; steps = run_of_a true; is_run = hangs_itself true; text = circle_of_own }
 
 -- ---- a flush within a group
 
 abbrev pair : Wiring
-pair = record { waits = (record { item = 1; place = 0 } ∷ []) ∷ [] ∷ []; lane_of_item = 0 ∷ 0 ∷ []; lanes = 1 }
+pair = record { waits = (record { item = 1; whole = false; place = 0 } ∷ []) ∷ [] ∷ []; lane_of_item = 0 ∷ 0 ∷ []; lanes = 1 }
 
 abbrev run_of_pair : List Step
 run_of_pair = Queue 0 ∷ Queue 1 ∷ Start 0 0 ∷ Wait 0 1 ∷ []
@@ -150,7 +182,7 @@ hangs_next : IsCircleRun pair (record { src = 0; dst = 1; head = 0; place = 0 } 
 hangs_next =
     let e : Entry = record { number = 0; item = 0 } in
     let other : Entry = record { number = 1; item = 1 } in
-    let t : Target = record { item = 1; place = 0 } in
+    let t : Target = record { item = 1; whole = false; place = 0 } in
     record {
       played = Start 0 0 ∷ Wait 0 1 ∷ [];
       is_played = played pair 2 e (other ∷ []) t refl (record { lane = 0; entry = other; unfinished = inl (0, omega arith, refl); of_item = refl; below = omega arith });
@@ -169,7 +201,7 @@ ordered_flush =
 
 -- item 0 flushes item 1
 abbrev waits : List (List Target)
-waits = (record { item = 1; place = 0 } ∷ []) ∷ [] ∷ []
+waits = (record { item = 1; whole = false; place = 0 } ∷ []) ∷ [] ∷ []
 
 abbrev groups : List ℕ
 groups = 0 ∷ 1 ∷ []
@@ -181,7 +213,7 @@ abbrev lanes : Assignment
 lanes = record { lanes = 2; lane_of_group = 1 ∷ 0 ∷ [] }
 
 first_waits : GroupWaits two 0 1
-first_waits = let target : Target = record { item = 1; place = 0 } in record { item = 0; target = 1; declares = (0, target, omega arith, refl, refl); of_item = refl; of_target = refl }
+first_waits = let target : Target = record { item = 1; whole = false; place = 0 } in record { item = 0; target = 1; declares = (0, target, omega arith, refl, refl); of_item = refl; of_target = refl }
 
 waited : (j : ℕ) → ItemWaits waits 0 j → 1 ≡ j
 waited j (zero, x, within, is, same) = ap (λ (t : Target). t.item) is ∙ same

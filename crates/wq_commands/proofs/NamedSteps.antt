@@ -6,7 +6,7 @@ use Rattle.std.proofs.lemmas.Bool.{le-ltb}
 use Rattle.std.proofs.lemmas.List.Elements.{All-weaker}
 use Rattle.wq_groups.specs.Assignment.{Assignment}
 use Rattle.wq_core.specs.declared.step.Step.{Step}
-use Rattle.wq_core.specs.declared.step.Step.TheVariants.{Queue, Cancel, Start, Wait, Over, Finish}
+use Rattle.wq_core.specs.declared.step.Step.TheVariants.{Queue, Cancel, Start, Wait, Over, WaitAll, OverAll, Finish}
 use Rattle.wq_core.specs.Wiring.{Wiring, items, wiring}
 use Rattle.wq_core.specs.Deadlock.{DeadlocksBy}
 use Rattle.wq_core.proofs.Wirings.{IsWiring-wiring}
@@ -29,6 +29,8 @@ IsStepOf-named w few (Cancel i) named = (named, refl)
 IsStepOf-named w few (Start q i) named = (named.1, near q w.lanes named.0 few)
 IsStepOf-named w few (Wait q b) named = (named.1, near q w.lanes named.0 few)
 IsStepOf-named w few (Over q b) named = (named.1, near q w.lanes named.0 few)
+IsStepOf-named w few (WaitAll q b) named = (named.1, near q w.lanes named.0 few)
+IsStepOf-named w few (OverAll q b) named = (named.1, near q w.lanes named.0 few)
 IsStepOf-named w few (Finish q i) named = (named.1, near q w.lanes named.0 few)
 
 module _ (s : Declared) (sound : IsSound s) (a : Assignment) (assigned : IsAssignmentOf s.partition.groups a) (steps : List Step) (deadlocks : DeadlocksBy (wiring (declared_waits s) a) steps) where

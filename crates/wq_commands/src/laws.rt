@@ -131,6 +131,17 @@ pub fn an_item_that_flushes_itself_is_a_circle()
         (codes "circle 1\narc a a\nrun 3\nqueue a\nstart 0 a\nwait 0 a\n") }
 {}
 
+/// So has the workqueue of an item that waits for the whole of it: the item itself is unfinished there.
+pub fn an_item_that_flushes_its_own_workqueue_is_a_circle()
+    ensures { Answers (codes "item a\nflushwq a a\n") Bad
+        (codes "circle 1\narc a a\nrun 3\nqueue a\nstart 0 a\nwaitwq 0 a\n") }
+{}
+
+/// A `flushwq` line has two names.
+pub fn a_third_name_on_a_flushwq_line_is_refused()
+    ensures { Answers (codes "item a\nitem b\nflushwq a b b\n") Refused (codes "refused 12 line 3\n") }
+{}
+
 /// A group in which one item flushes another is a circle too: an ordered workqueue executes one item at a time.
 pub fn a_flush_within_an_ordered_line_is_a_circle()
     ensures { Answers (codes "item a\nitem b\nordered a b\nflush a b\n") Bad
