@@ -113,11 +113,11 @@ module _ (p : List ℕ → Bool) (names : List (List ℕ)) (s : ℕ → Bool) (h
 -- the parts of a drawing
 count-drawing : (p : List ℕ → Bool) (t : Table) (r : Partition) (a : Assignment) (title : List ℕ) (looks : List FlushLook) → count_by p (head_lines title) ≡ 0 → p (codes "}") ≡ false
     → count_by p (drawing_lines t r a title looks)
-    ≡ count_by p (flat_map (workqueue_lines t.names r.group_of a) (range_with_len 0 a.lanes)) + count_by p (map (flush_line t.names looks) (arcs_by_place t.waits r.group_of))
+    ≡ count_by p (flat_map (workqueue_lines t.names r.group_of a) (range_with_len 0 a.lanes)) + count_by p (map (flush_line t.names t.waits looks) (arcs_by_place t.waits r.group_of))
 count-drawing p t r a title looks head end =
     let w : List ℕ → ℕ = λ line. one_if (p line) in
     let workqueues : List (List ℕ) = flat_map (workqueue_lines t.names r.group_of a) (range_with_len 0 a.lanes) in
-    let arrows : List (List ℕ) = map (flush_line t.names looks) (arcs_by_place t.waits r.group_of) in
+    let arrows : List (List ℕ) = map (flush_line t.names t.waits looks) (arcs_by_place t.waits r.group_of) in
     let none : w (codes "}") ≡ 0 = ap one_if end in
     omega (
       arith,
@@ -168,7 +168,7 @@ pub one_line_each : (t : Table) (r : Partition) (a : Assignment) (title : List �
 one_line_each t r a title looks i table partition long assigned item =
     let p : List ℕ → Bool = is_line_of t.names i in
     let arcs : List WaitArc = arcs_by_place t.waits r.group_of in
-    let arrows : count_by p (map (flush_line t.names looks) arcs) ≡ 0 = sum_by-map (λ line. one_if (p line)) (flush_line t.names looks) arcs ∙ sum_by-zero arcs in
+    let arrows : count_by p (map (flush_line t.names t.waits looks) arcs) ≡ 0 = sum_by-map (λ line. one_if (p line)) (flush_line t.names t.waits looks) arcs ∙ sum_by-zero arcs in
     let items : count_by (named_as t.names i) (range_with_len 0 (length r.group_of)) ≡ 1 =
     sum_by-same (λ j. one_if (named_as t.names i j)) (λ j. one_if (i == j)) (range_with_len 0 (length r.group_of)) (
     All-range (λ j. one_if (named_as t.names i j) ≡ one_if (i == j)) (length r.group_of) (λ j below. ap one_if (named_as-is t table i j item (omega (arith, below, long))))
@@ -193,7 +193,7 @@ TellsItems-arrow names = record {
 pub one_arrow_each : (t : Table) (r : Partition) (a : Assignment) (title : List ℕ) (looks : List FlushLook) → IsTable t → IsPartition r → IsAssignment r.groups a → count_by is_arrow (drawing_lines t r a title looks) ≡ flush_count t.waits
 one_arrow_each t r a title looks table partition assigned =
     let arcs : List WaitArc = arcs_by_place t.waits r.group_of in
-    let arrows : count_by is_arrow (map (flush_line t.names looks) arcs) ≡ length arcs = sum_by-map (λ line. one_if (is_arrow line)) (flush_line t.names looks) arcs ∙ sum_by-ones arcs in
+    let arrows : count_by is_arrow (map (flush_line t.names t.waits looks) arcs) ≡ length arcs = sum_by-map (λ line. one_if (is_arrow line)) (flush_line t.names t.waits looks) arcs ∙ sum_by-ones arcs in
     let items : count_by (λ (j : ℕ). false) (range_with_len 0 (length r.group_of)) ≡ 0 = sum_by-zero (range_with_len 0 (length r.group_of)) in
     omega (
       arith,

@@ -1,8 +1,9 @@
 -- Drawings: the text for Graphviz that shows the items in their groups and workqueues, and the flushes between them, line by
 -- line.
-use Rattle.std.specs.Prelude.{ℕ, ◌==◌, List, [], ◌∷◌, ◌++◌, length, map, flat_map, filter, slice_index_or, codes, decimal}
-use Rattle.std.specs.List.{range_with_len}
-use Rattle.wq_items.specs.Table.{Table, items_at}
+use Rattle.std.specs.Prelude.{ℕ, ◌==◌, ◌&&◌, Bool, true, false, List, [], ◌∷◌, ◌++◌, length, map, flat_map, filter, slice_index_or, codes, decimal}
+use Rattle.std.specs.List.{list_any, range_with_len}
+use Rattle.wq_items.specs.declared.target.Target.{Target}
+use Rattle.wq_items.specs.Table.{Table, items_at, targets_of}
 use Rattle.wq_groups.specs.Partition.{Partition}
 use Rattle.wq_groups.specs.Assignment.{Assignment, group_lane}
 use Rattle.wq_graph.specs.declared.arc.WaitArc.{WaitArc}
@@ -67,20 +68,27 @@ workqueue_lines names group_of a q = box_lines names group_of q (groups_on a q)
 
 -- ---- flushes
 
--- the mark of an arrow
-abbrev pub look_text : FlushLook → List ℕ
-look_text Plain = []
-look_text Red = codes " [color=red]"
-look_text Bold = codes " [style=bold]"
+-- the flush is of a whole workqueue: the target at its place says so
+abbrev pub is_whole_at : List (List Target) → WaitArc → Bool
+is_whole_at waits flush = list_any (λ (t : Target). (t.place == flush.place) && t.whole) (targets_of waits flush.src)
 
--- a flush with this look: `"NAME" -> "TARGET";`, after two spaces, with the mark of the look before the semicolon
-abbrev pub arrow_line : List (List ℕ) → FlushLook → WaitArc → List ℕ
-arrow_line names look flush =
-    codes "  \"" ++ name_of names flush.src ++ codes "\" -> \"" ++ name_of names flush.dst ++ codes "\"" ++ look_text look ++ codes ";"
+-- the mark of an arrow; that of a flush of a whole workqueue also has another head
+abbrev pub mark_text : FlushLook → Bool → List ℕ
+mark_text Plain false = []
+mark_text Plain true = codes " [arrowhead=odiamond]"
+mark_text Red false = codes " [color=red]"
+mark_text Red true = codes " [color=red, arrowhead=odiamond]"
+mark_text Bold false = codes " [style=bold]"
+mark_text Bold true = codes " [style=bold, arrowhead=odiamond]"
+
+-- a flush with this look: `"NAME" -> "TARGET";`, after two spaces, with its mark before the semicolon
+abbrev pub arrow_line : List (List ℕ) → List (List Target) → FlushLook → WaitArc → List ℕ
+arrow_line names waits look flush =
+    codes "  \"" ++ name_of names flush.src ++ codes "\" -> \"" ++ name_of names flush.dst ++ codes "\"" ++ mark_text look (is_whole_at waits flush) ++ codes ";"
 
 -- the line of a flush, with the look that is at its place
-abbrev pub flush_line : List (List ℕ) → List FlushLook → WaitArc → List ℕ
-flush_line names looks flush = arrow_line names (slice_index_or looks flush.place Plain) flush
+abbrev pub flush_line : List (List ℕ) → List (List Target) → List FlushLook → WaitArc → List ℕ
+flush_line names waits looks flush = arrow_line names waits (slice_index_or looks flush.place Plain) flush
 
 -- ---- the text
 
@@ -89,7 +97,7 @@ abbrev pub drawing_lines : Table → Partition → Assignment → List ℕ → L
 drawing_lines t p a title looks =
     head_lines title
     ++ flat_map (workqueue_lines t.names p.group_of a) (range_with_len 0 a.lanes)
-    ++ map (flush_line t.names looks) (arcs_by_place t.waits p.group_of)
+    ++ map (flush_line t.names t.waits looks) (arcs_by_place t.waits p.group_of)
     ++ (codes "}" ∷ [])
 
 -- a line with its LF

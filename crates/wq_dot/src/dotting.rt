@@ -18,6 +18,7 @@ ghost use Rattle.wq_dot.specs.declared.look.FlushLook.{FlushLook};
 ghost use Rattle.wq_dot.specs.Flushes.{AreMarkable, all_arcs};
 ghost use Rattle.wq_dot.specs.Dotting.{DrawsAssigned, DrawsCircles, DrawsDeclared, DrawsGroups, DrawsOwn, DrawsPlan, DrawsTexts, Draws, OwnDraws, drawing_of};
 
+use crate::drawing::drawing_text;
 use crate::flushes::{bold_flushes, red_flushes};
 use crate::titles::{components_title, plan_title};
 use std::alloc::{AllocError, Allocator};
@@ -25,7 +26,6 @@ use wq_cert::{CertError, read_assignment};
 use wq_circles::components;
 use wq_commands::{Answered, End, Stop, Texts, Which, read_declaration};
 use wq_deadlock::own_lanes;
-use crate::drawing::drawing_text;
 use wq_graph::WaitArc;
 use wq_groups::{Assignment, Groups};
 use wq_items::ItemTable;

@@ -9,8 +9,8 @@ ghost use Rattle.wq_items.specs.Table.{flush_count};
 ghost use Rattle.wq_dot.specs.declared.look.FlushLook.{FlushLook};
 ghost use Rattle.wq_dot.specs.Flushes.{AreMarkable, all_arcs, looks_of, with_marks};
 
-use std::alloc::{AllocError, Allocator};
 use crate::look::FlushLook;
+use std::alloc::{AllocError, Allocator};
 use wq_graph::WaitArc;
 use wq_items::ItemTable;
 

@@ -3,16 +3,17 @@
 //! `Drawing` puts the lines one after the other. The laws say what that means for an item and for a flush, as in "The command
 //! `dot`" in docs/FORMAT.md.
 
-ghost use Rattle.std.specs.Prelude.{◌≡◌, ◌<◌, ℕ, List, length, map};
+ghost use Rattle.std.specs.Prelude.{◌≡◌, ◌<◌, ℕ, List, length, map, Contains};
 ghost use Rattle.std.specs.List.{All, count_by, range_with_len};
-ghost use Rattle.wq_items.specs.Table.{Table, IsTable, flush_count};
+ghost use Rattle.wq_items.specs.declared.target.Target.{Target};
+ghost use Rattle.wq_items.specs.Table.{Table, IsTable, flush_count, targets_of};
 ghost use Rattle.wq_groups.specs.Partition.{Partition, IsPartition};
 ghost use Rattle.wq_groups.specs.Assignment.{Assignment, IsAssignment};
 ghost use Rattle.wq_graph.specs.declared.arc.WaitArc.{WaitArc};
-ghost use Rattle.wq_graph.specs.Graph.{IsArc, arcs_by_place};
+ghost use Rattle.wq_graph.specs.Graph.{IsArc, arc_of, arcs_by_place};
 ghost use Rattle.wq_commands.specs.declared.end.End.{End};
 ghost use Rattle.wq_dot.specs.declared.look.FlushLook.{FlushLook};
-ghost use Rattle.wq_dot.specs.Drawing.{drawing_lines};
+ghost use Rattle.wq_dot.specs.Drawing.{drawing_lines, is_whole_at};
 ghost use Rattle.wq_dot.specs.Laws.{is_arrow, is_line_of};
 ghost use Rattle.wq_dot.specs.Dotting.{Draws, OwnDraws};
 
@@ -44,4 +45,10 @@ pub fn each_flush_has_one_arrow()
     ensures declared { (t : Table) (p : Partition) → IsTable t → All (IsArc t.waits p.group_of) (arcs_by_place t.waits p.group_of) }
     ensures places { (t : Table) (p : Partition) → IsTable t →
         map (λ (a : WaitArc). a.place) (arcs_by_place t.waits p.group_of) ≡ range_with_len 0 (flush_count t.waits) }
+{}
+
+/// An arrow has the head of its flush's kind: that of a whole workqueue exactly where the target that is declared at its place is one.
+pub fn an_arrow_has_the_head_of_its_kind()
+    ensures { (t : Table) (p : Partition) (i : ℕ) (target : Target) → IsTable t → Contains (targets_of t.waits i) target →
+        is_whole_at t.waits (arc_of p.group_of i target) ≡ target.whole }
 {}

@@ -61,7 +61,7 @@ put_flush-requires-clause-target g c = (
 
 pub loop-flush-preserved : goal.loop-flush-preserved
 loop-flush-preserved g c =
-    text_of-line (flush_line c.args.table.now.names c.args.looks.now) c.loop-number.out.items c.loop-flush.out.items _ c.deref-flush-items.result.now c.loop-flush.flush-index c.flush-item.result c.loop-flush-test.true
+    text_of-line (flush_line c.args.table.now.names c.args.table.now.waits c.args.looks.now) c.loop-number.out.items c.loop-flush.out.items _ c.deref-flush-items.result.now c.loop-flush.flush-index c.flush-item.result c.loop-flush-test.true
     c.flush-item.is c.loop-flush.invariant c.in_ok-put_flush.ensures
 
 pub returns : goal.returns
@@ -77,6 +77,6 @@ returns g c =
     let all : number ≡ a.lanes = omega (arith, c.loop-number-test.false, c.loop-number.auto.number-end, c.lanes-workqueues.ensures.lanes) in
     let boxes = c.loop-number.invariant ∙ ap (λ (n : ℕ). out ++ text_of (flat_map workqueues (range_with_len 0 n))) all in
     let arcs = take_all c.loop-flush.flush-index drawn (omega (arith, c.loop-flush-test.false, c.loop-flush.auto.flush-index-end)) ∙ c.deref-flush-items.ensures.value ∙ c.in_ok-flushes.ensures.arcs in
-    let arrows = c.loop-flush.invariant ∙ ap (λ (l : List WaitArc). c.loop-number.out.items ++ text_of (map (flush_line t.names looks) l)) arcs in
+    let arrows = c.loop-flush.invariant ∙ ap (λ (l : List WaitArc). c.loop-number.out.items ++ text_of (map (flush_line t.names t.waits looks) l)) arcs in
     let head = c.in_ok-put_head.ensures ∙ ap (λ (o : List ℕ). o ++ text_of (head_lines c.args.title.now)) c.new-out.ensures.items in
-    text_of-whole (head_lines c.args.title.now) (flat_map workqueues (range_with_len 0 a.lanes)) (map (flush_line t.names looks) _) (codes "}") _ _ _ _ head boxes arrows c.in_ok-put.ensures.added
+    text_of-whole (head_lines c.args.title.now) (flat_map workqueues (range_with_len 0 a.lanes)) (map (flush_line t.names t.waits looks) _) (codes "}") _ _ _ _ head boxes arrows c.in_ok-put.ensures.added
