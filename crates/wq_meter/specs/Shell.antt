@@ -81,12 +81,13 @@ pub record IsUnanswered (limits : Limits) (From : Given → Type 0) (Stops : Giv
   pub from : From texts
   pub stops : Stops (kept limits texts)
 
--- this is said: all of it or, if a write fails, a prefix
+-- this is said: all of it, and no write fails; or a prefix of it, because a write fails; or nothing, if there is nothing to say
 abbrev pub TellsOf : {W : Type 0} → (W → Option (List ℕ)) → Meter W → Meter W → Option (List ℕ) → Type 0
 TellsOf contents old new None = new ≡ old
-TellsOf contents old new (Some text) = WritesWhole contents old new text ⊎ WritesPrefix contents old new text
+TellsOf contents old new (Some text) =
+    (WritesWhole contents old new text × (new.failures ≡ old.failures)) ⊎ (WritesPrefix contents old new text × HasFailed old new)
 
--- what there is to say is said, or nothing if memory for it runs out
+-- what there is to say is said, or nothing if memory for it runs out; no definition tells when it does
 abbrev pub Tells : {W : Type 0} → (W → Option (List ℕ)) → Meter W → Meter W → (Option (List ℕ) → Type 0) → Type 0
 Tells contents old new Says = (new ≡ old) ⊎ ((said : Option (List ℕ)) × Says said × TellsOf contents old new said)
 
@@ -96,3 +97,34 @@ pub record Came {R : Type 0} (remaining : R → Option (List ℕ)) (old new : Me
   pub gives : GivesIf remaining old new limit text
   pub prefix : bytes ≡ kept_text limit text
   pub none_failed : new.failures ≡ old.failures
+
+-- ---- calls, side by side
+
+-- the devices of a call, as it found them and as it left them
+pub record Call (D S T W E : Type 0) : Type 0 where
+  pub first : Meter D
+  pub first_left : Meter D
+  pub second : Meter S
+  pub second_left : Meter S
+  pub third : Meter T
+  pub third_left : Meter T
+  pub writer : Meter W
+  pub writer_left : Meter W
+  pub teller : Meter E
+  pub teller_left : Meter E
+
+-- a reader is known to have this text; if it isn't asked, the text is empty
+abbrev pub IsTextIf : Option ℕ → Option (List ℕ) → List ℕ → Type 0
+IsTextIf None known text = text ≡ []
+IsTextIf (Some limit) known text = known ≡ Some text
+
+-- the readers that a call found are known to have these texts
+abbrev pub FindsTexts : {D S T W E : Type 0} → (D → Option (List ℕ)) → (S → Option (List ℕ)) → (T → Option (List ℕ)) → Limits → Call D S T W E → Given → Type 0
+FindsTexts first_known second_known third_known limits call texts =
+    (first_known call.first.device ≡ Some texts.first)
+    × IsTextIf limits.second (second_known call.second.device) texts.second
+    × IsTextIf limits.third (third_known call.third.device) texts.third
+
+-- a command has one answer to its texts at most: one end, and one text that is written
+abbrev pub HasOneAnswer : {E : Type 0} → (Given → E → List ℕ → Type 0) → Type 0
+HasOneAnswer {E} Answers = (texts : Given) (end other : E) (out printed : List ℕ) → Answers texts end out → Answers texts other printed → (end ≡ other) × (out ≡ printed)

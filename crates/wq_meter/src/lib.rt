@@ -6,6 +6,7 @@
 
 mod fault;
 mod input;
+pub mod laws;
 mod metered;
 mod output;
 mod shell;

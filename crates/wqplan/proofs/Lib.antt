@@ -1,3 +1,4 @@
 mod CommandLemmas
+mod CauseLemmas
 mod EndedLemmas
 mod NumberLemmas

@@ -24,8 +24,8 @@ IsInputIf None known text = text ≡ []
 IsInputIf (Some limit) known text = IsInput known text
 
 -- the reader that opening a path gave had this text
-abbrev pub Has : {F : Type 0} → (List ℕ → F → Type 0) → (F → Option (List ℕ)) → List ℕ → List ℕ → Type 0
-Has opens remaining path text = (file : _) × opens path file × IsInput (remaining file) text
+abbrev pub Has : {F : Type 0} → (List ℕ → Option F → Type 0) → (F → Option (List ℕ)) → List ℕ → List ℕ → Type 0
+Has opens remaining path text = (file : _) × opens path (Some file) × IsInput (remaining file) text
 
 -- `plan`, of a file or of standard input
 abbrev pub EndsPlan : (List ℕ → List ℕ → Type 0) → (List ℕ → Type 0) → Option (List ℕ) → End → List ℕ → Type 0

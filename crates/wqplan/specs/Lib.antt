@@ -2,3 +2,4 @@ pub mod CommandLine
 pub mod Status
 pub mod Ended
 pub mod Numbers
+pub mod Cause

@@ -33,13 +33,14 @@ fn perform<
     R: Files + Input + Print + Eprint + AllocGlobal + RandomSource + Threads + Wait + Sync,
     E: Write,
 >(rt: &'a R, request: Request<'a>, error: &mut Metered<E>) -> Result<End, CommandFault> {
+    let mut input = Metered::new(Named::new(rt, STDIN, rt.reader()));
     let mut writer = Metered::new(io::writer(rt));
     performing::perform(
         &Process { rt },
         rt,
         rt.alloc(),
         request,
-        Named::new(rt, STDIN, rt.reader()),
+        &mut input,
         &mut writer,
         error,
     )

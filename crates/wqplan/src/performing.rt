@@ -1,17 +1,18 @@
 //! The commands over files, standard input and two writers, which in the program are standard output and standard error.
 //!
-//! The files of a command are opened in the order of its arguments, before any of them is read. Then `carry_out` reads them,
-//! writes the answer, and says what is wrong, where something is; for `run`, `carry_out_run` does. The running time is that of the
-//! command.
+//! A seed is drawn, and the files of a command are opened in the order of its arguments, before any of them is read. Then
+//! `carry_out` reads them, writes the answer, and says what is wrong, where something is; for `run`, `carry_out_run` does. The
+//! running time is that of the command.
 
-ghost use Rattle.std.specs.Prelude.{◌≡◌, ◌≢◌, ℕ, List, Err, IfErr, IfOk, OnErr, option_map};
-ghost use Rattle.wq_meter.specs.Input.{IsInput};
+ghost use Rattle.std.specs.Prelude.{◌≡◌, ◌≢◌, ◌∷◌, ℕ, List, [], Err, IfErr, IfOk, IfSome, None, OnErr, Some, option_map, option_to_list};
+ghost use Rattle.wq_meter.specs.Input.{HasFailed, IsInput};
 ghost use Rattle.wq_meter.specs.Meter.{count_after, WritesPrefix, WritesWhole};
 ghost use Rattle.wq_meter.specs.Shell.{AreFrom, Given, kept};
 ghost use Rattle.wq_meter.specs.declared.shell.Stopped.TheVariants.{Faulted};
 ghost use Rattle.wq_commands.specs.Answer.{Answers};
 ghost use Rattle.wq_run.specs.Running.{RunsTexts};
-ghost use Rattle.wqplan.specs.CommandLine.{spelled};
+ghost use Rattle.wqplan.specs.CommandLine.{plans, spelled};
+ghost use Rattle.wqplan.specs.Cause.{EndsAlone, EndsReady, IsCaused, IsReady, IsUnready, ReadsInput};
 ghost use Rattle.wqplan.specs.Status.{end_or_common, explained_or_common};
 ghost use Rattle.wqplan.specs.Ended.{EndedBy, EndsAsAsked, EndsCheck, EndsCircles, EndsDeadlock, EndsDot, EndsExplain, EndsPlan, EndsReplay, EndsRun, Has, IsInputIf};
 
@@ -103,24 +104,72 @@ fn end_of_explain(ended: Result<Explained, Fault>) -> Result<End, CommandFault>
     }
 }
 
-/// Plans the declaration that `input` has. A diagnosis calls it by this name.
-fn plan_input<D: Read + Drop, W: Write, E: Write>(
+/// Draws the seed of a command, and opens its one file. Nothing where there is no seed, or the file can't be opened. `or_input` is
+/// that of `World::open`.
+fn one_file<'a, O: World<'a>>(world: &O, path: &'a str, or_input: bool) -> Option<(u64, O::File)>
+    ensures ready { IfSome result (λ opened. IsReady (O.seeds world.now) (O.opens world.now) (path.now ∷ [])
+        × O.opens world.now path.now (Some opened.1)) }
+    ensures unready { result ≡ None → IsUnready (O.seeds world.now) (O.opens world.now) (path.now ∷ []) }
+{
+    let seed = world.seed()?;
+    let file = world.open(path, or_input)?;
+    Some((seed, file))
+}
+
+/// Draws the seed of a command, and opens its two files in their order. Nothing where there is no seed, or a file can't be opened.
+fn two_files<'a, O: World<'a>>(
+    world: &O,
+    first: &'a str,
+    second: &'a str,
+) -> Option<(u64, O::File, O::File)>
+    ensures ready { IfSome result (λ opened. IsReady (O.seeds world.now) (O.opens world.now) (first.now ∷ second.now ∷ [])
+        × O.opens world.now first.now (Some opened.1) × O.opens world.now second.now (Some opened.2)) }
+    ensures unready { result ≡ None → IsUnready (O.seeds world.now) (O.opens world.now) (first.now ∷ second.now ∷ []) }
+{
+    let (seed, one) = one_file(world, first, false)?;
+    let two = world.open(second, false)?;
+    Some((seed, one, two))
+}
+
+/// Draws the seed of a command, and opens its three files in their order. Nothing where there is no seed, or a file can't be
+/// opened.
+fn three_files<'a, O: World<'a>>(
+    world: &O,
+    first: &'a str,
+    second: &'a str,
+    third: &'a str,
+) -> Option<(u64, O::File, O::File, O::File)>
+    ensures ready { IfSome result (λ opened. IsReady (O.seeds world.now) (O.opens world.now) (first.now ∷ second.now ∷ third.now ∷ [])
+        × O.opens world.now first.now (Some opened.1) × O.opens world.now second.now (Some opened.2)
+        × O.opens world.now third.now (Some opened.3)) }
+    ensures unready { result ≡ None → IsUnready (O.seeds world.now) (O.opens world.now) (first.now ∷ second.now ∷ third.now ∷ []) }
+{
+    let (seed, one, two) = two_files(world, first, second)?;
+    let three = world.open(third, false)?;
+    Some((seed, one, two, three))
+}
+
+/// Plans the declaration in the file at this path.
+fn plan_file<'a, O: World<'a>, W: Write, E: Write>(
+    world: &O,
     alloc: Global,
-    seed: u64,
-    name: &str,
-    input: D,
+    file: &'a str,
     writer: &mut Metered<W>,
     teller: &mut Metered<E>,
 ) -> Result<End, CommandFault>
-    ensures ended { EndedBy W.contents writer.old writer.new
-        (λ end out. (text : List ℕ) × IsInput (D.remaining input) text × Answers text end out) result }
+    ensures ended { EndedBy W.contents writer.old writer.new (EndsPlan (Has (O.opens world.now) O.File.Read.remaining) (λ _. ⊥)
+        (Some file.now)) result }
+    ensures caused { EndsReady (O.seeds world.now) (O.opens world.now) (file.now ∷ []) (Unit {0}) ⊥ result }
     ensures unsaid { OnErr result (teller.new ≡ teller.old) }
 {
+    let Some((seed, declared)) = one_file(world, file, true) else {
+        return Err(CommandFault::Common(Fault::Read));
+    };
     let ended = carry_out_on(
         alloc,
         &PlanCommand { seed },
-        &Diagnosing::one(seed, name),
-        input,
+        &Diagnosing::one(seed, file),
+        declared,
         io::empty(),
         io::empty(),
         writer,
@@ -129,30 +178,57 @@ fn plan_input<D: Read + Drop, W: Write, E: Write>(
     end_of(ended)
 }
 
-/// Plans the declaration in the file at this path, or, without a path, in standard input.
-fn plan<'a, O: World<'a>, I: Read + Drop, W: Write, E: Write>(
+/// Plans the declaration that standard input has. A diagnosis calls it by its name.
+fn plan_input<'a, O: World<'a>, I: Read, W: Write, E: Write>(
     world: &O,
     alloc: Global,
-    file: Option<&'a str>,
-    input: I,
+    input: &mut Metered<I>,
     writer: &mut Metered<W>,
     teller: &mut Metered<E>,
 ) -> Result<End, CommandFault>
     ensures ended { EndedBy W.contents writer.old writer.new (EndsPlan (Has (O.opens world.now) O.File.Read.remaining)
-        (IsInput (I.remaining input)) (option_map (λ s. s.now) file.entry)) result }
+        (IsInput (I.remaining input.old.device)) None) result }
+    ensures caused { EndsReady (O.seeds world.now) (O.opens world.now) [] (HasFailed input.old input.new) ⊥ result }
+    ensures input { ReadsInput I.remaining input.old input.new (plans None) }
     ensures unsaid { OnErr result (teller.new ≡ teller.old) }
 {
     let Some(seed) = world.seed() else {
         return Err(CommandFault::Common(Fault::Read));
     };
+    let mut second = Metered::new(io::empty());
+    let mut third = Metered::new(io::empty());
+    let ended = carry_out(
+        alloc,
+        &PlanCommand { seed },
+        &Diagnosing::one(seed, STDIN),
+        input,
+        &mut second,
+        &mut third,
+        writer,
+        teller,
+    );
+    end_of(ended)
+}
+
+/// Plans the declaration in the file at this path, or, without a path, in standard input.
+fn plan<'a, O: World<'a>, I: Read, W: Write, E: Write>(
+    world: &O,
+    alloc: Global,
+    file: Option<&'a str>,
+    input: &mut Metered<I>,
+    writer: &mut Metered<W>,
+    teller: &mut Metered<E>,
+) -> Result<End, CommandFault>
+    ensures ended { EndedBy W.contents writer.old writer.new (EndsPlan (Has (O.opens world.now) O.File.Read.remaining)
+        (IsInput (I.remaining input.old.device)) (option_map (λ s. s.now) file.entry)) result }
+    ensures caused { IsCaused (O.seeds world.now) (O.opens world.now) (HasFailed input.old input.new)
+        (plans (option_map (λ s. s.now) file.entry)) result }
+    ensures input { ReadsInput I.remaining input.old input.new (plans (option_map (λ s. s.now) file.entry)) }
+    ensures unsaid { OnErr result (teller.new ≡ teller.old) }
+{
     match file {
-        Some(path) => {
-            let Some(declared) = world.open(path, true) else {
-                return Err(CommandFault::Common(Fault::Read));
-            };
-            plan_input(alloc, seed, path, declared, writer, teller)
-        }
-        None => plan_input(alloc, seed, STDIN, input, writer, teller),
+        Some(path) => plan_file(world, alloc, path, writer, teller),
+        None => plan_input(world, alloc, input, writer, teller),
     }
 }
 
@@ -167,15 +243,10 @@ fn check<'a, O: World<'a>, W: Write, E: Write>(
 ) -> Result<End, CommandFault>
     ensures ended { EndedBy W.contents writer.old writer.new (EndsCheck (Has (O.opens world.now) O.File.Read.remaining)
         declaration.now certificate.now) result }
+    ensures caused { EndsReady (O.seeds world.now) (O.opens world.now) (declaration.now ∷ certificate.now ∷ []) (Unit {0}) ⊥ result }
     ensures unsaid { OnErr result (teller.new ≡ teller.old) }
 {
-    let Some(seed) = world.seed() else {
-        return Err(CommandFault::Common(Fault::Read));
-    };
-    let Some(declared) = world.open(declaration, false) else {
-        return Err(CommandFault::Common(Fault::Read));
-    };
-    let Some(certified) = world.open(certificate, false) else {
+    let Some((seed, declared, certified)) = two_files(world, declaration, certificate) else {
         return Err(CommandFault::Common(Fault::Read));
     };
     let ended = carry_out_on(
@@ -202,15 +273,10 @@ fn deadlock<'a, O: World<'a>, W: Write, E: Write>(
 ) -> Result<End, CommandFault>
     ensures ended { EndedBy W.contents writer.old writer.new (EndsDeadlock (Has (O.opens world.now) O.File.Read.remaining)
         declaration.now assignment.now) result }
+    ensures caused { EndsReady (O.seeds world.now) (O.opens world.now) (declaration.now ∷ assignment.now ∷ []) (Unit {0}) ⊥ result }
     ensures unsaid { OnErr result (teller.new ≡ teller.old) }
 {
-    let Some(seed) = world.seed() else {
-        return Err(CommandFault::Common(Fault::Read));
-    };
-    let Some(declared) = world.open(declaration, false) else {
-        return Err(CommandFault::Common(Fault::Read));
-    };
-    let Some(assigned) = world.open(assignment, false) else {
+    let Some((seed, declared, assigned)) = two_files(world, declaration, assignment) else {
         return Err(CommandFault::Common(Fault::Read));
     };
     let ended = carry_out_on(
@@ -238,18 +304,12 @@ fn replay<'a, O: World<'a>, W: Write, E: Write>(
 ) -> Result<End, CommandFault>
     ensures ended { EndedBy W.contents writer.old writer.new (EndsReplay (Has (O.opens world.now) O.File.Read.remaining)
         declaration.now assignment.now run.now) result }
+    ensures caused { EndsReady (O.seeds world.now) (O.opens world.now) (declaration.now ∷ assignment.now ∷ run.now ∷ [])
+        (Unit {0}) ⊥ result }
     ensures unsaid { OnErr result (teller.new ≡ teller.old) }
 {
-    let Some(seed) = world.seed() else {
-        return Err(CommandFault::Common(Fault::Read));
-    };
-    let Some(declared) = world.open(declaration, false) else {
-        return Err(CommandFault::Common(Fault::Read));
-    };
-    let Some(assigned) = world.open(assignment, false) else {
-        return Err(CommandFault::Common(Fault::Read));
-    };
-    let Some(listed) = world.open(run, false) else {
+    let Some((seed, declared, assigned, listed)) = three_files(world, declaration, assignment, run)
+    else {
         return Err(CommandFault::Common(Fault::Read));
     };
     let ended = carry_out_on(
@@ -271,6 +331,71 @@ fn replay<'a, O: World<'a>, W: Write, E: Write>(
     end_of(ended)
 }
 
+/// Prints the flushes on circles of the declaration in the first file, under the assignment in the second.
+fn assigned_circles<'a, O: World<'a>, W: Write, E: Write>(
+    world: &O,
+    alloc: Global,
+    declaration: &'a str,
+    assignment: &'a str,
+    writer: &mut Metered<W>,
+    teller: &mut Metered<E>,
+) -> Result<End, CommandFault>
+    ensures ended { EndedBy W.contents writer.old writer.new (EndsCircles (Has (O.opens world.now) O.File.Read.remaining)
+        declaration.now (Some assignment.now)) result }
+    ensures caused { EndsReady (O.seeds world.now) (O.opens world.now) (declaration.now ∷ assignment.now ∷ []) (Unit {0}) ⊥ result }
+    ensures unsaid { OnErr result (teller.new ≡ teller.old) }
+{
+    let Some((seed, declared, assigned)) = two_files(world, declaration, assignment) else {
+        return Err(CommandFault::Common(Fault::Read));
+    };
+    let ended = carry_out_on(
+        alloc,
+        &CirclesCommand {
+            seed,
+            assigned: true,
+        },
+        &Diagnosing::two(seed, declaration, Kind::Assignment, assignment),
+        declared,
+        assigned,
+        io::empty(),
+        writer,
+        teller,
+    );
+    end_of(ended)
+}
+
+/// Prints the flushes on circles of the declaration in this file, in which each group has a workqueue of its own.
+fn own_circles<'a, O: World<'a>, W: Write, E: Write>(
+    world: &O,
+    alloc: Global,
+    declaration: &'a str,
+    writer: &mut Metered<W>,
+    teller: &mut Metered<E>,
+) -> Result<End, CommandFault>
+    ensures ended { EndedBy W.contents writer.old writer.new (EndsCircles (Has (O.opens world.now) O.File.Read.remaining)
+        declaration.now None) result }
+    ensures caused { EndsReady (O.seeds world.now) (O.opens world.now) (declaration.now ∷ []) (Unit {0}) ⊥ result }
+    ensures unsaid { OnErr result (teller.new ≡ teller.old) }
+{
+    let Some((seed, declared)) = one_file(world, declaration, false) else {
+        return Err(CommandFault::Common(Fault::Read));
+    };
+    let ended = carry_out_on(
+        alloc,
+        &CirclesCommand {
+            seed,
+            assigned: false,
+        },
+        &Diagnosing::one(seed, declaration),
+        declared,
+        io::empty(),
+        io::empty(),
+        writer,
+        teller,
+    );
+    end_of(ended)
+}
+
 /// Prints the flushes on circles of the declaration in the first file, under the assignment in the second, if there is one.
 fn circles<'a, O: World<'a>, W: Write, E: Write>(
     world: &O,
@@ -282,51 +407,79 @@ fn circles<'a, O: World<'a>, W: Write, E: Write>(
 ) -> Result<End, CommandFault>
     ensures ended { EndedBy W.contents writer.old writer.new (EndsCircles (Has (O.opens world.now) O.File.Read.remaining)
         declaration.now (option_map (λ s. s.now) assignment.entry)) result }
+    ensures caused { EndsReady (O.seeds world.now) (O.opens world.now)
+        (declaration.now ∷ option_to_list (option_map (λ s. s.now) assignment.entry)) (Unit {0}) ⊥ result }
     ensures unsaid { OnErr result (teller.new ≡ teller.old) }
 {
-    let Some(seed) = world.seed() else {
-        return Err(CommandFault::Common(Fault::Read));
-    };
-    let Some(declared) = world.open(declaration, false) else {
-        return Err(CommandFault::Common(Fault::Read));
-    };
     match assignment {
-        Some(assignment) => {
-            let Some(assigned) = world.open(assignment, false) else {
-                return Err(CommandFault::Common(Fault::Read));
-            };
-            let ended = carry_out_on(
-                alloc,
-                &CirclesCommand {
-                    seed,
-                    assigned: true,
-                },
-                &Diagnosing::two(seed, declaration, Kind::Assignment, assignment),
-                declared,
-                assigned,
-                io::empty(),
-                writer,
-                teller,
-            );
-            end_of(ended)
-        }
-        None => {
-            let ended = carry_out_on(
-                alloc,
-                &CirclesCommand {
-                    seed,
-                    assigned: false,
-                },
-                &Diagnosing::one(seed, declaration),
-                declared,
-                io::empty(),
-                io::empty(),
-                writer,
-                teller,
-            );
-            end_of(ended)
-        }
+        Some(assignment) => assigned_circles(world, alloc, declaration, assignment, writer, teller),
+        None => own_circles(world, alloc, declaration, writer, teller),
     }
+}
+
+/// Draws the declaration in the first file, on the workqueues of the assignment in the second.
+fn assigned_dot<'a, O: World<'a>, W: Write, E: Write>(
+    world: &O,
+    alloc: Global,
+    declaration: &'a str,
+    assignment: &'a str,
+    writer: &mut Metered<W>,
+    teller: &mut Metered<E>,
+) -> Result<End, CommandFault>
+    ensures ended { EndedBy W.contents writer.old writer.new (EndsDot (Has (O.opens world.now) O.File.Read.remaining)
+        declaration.now (Some assignment.now)) result }
+    ensures caused { EndsReady (O.seeds world.now) (O.opens world.now) (declaration.now ∷ assignment.now ∷ []) (Unit {0}) ⊥ result }
+    ensures unsaid { OnErr result (teller.new ≡ teller.old) }
+{
+    let Some((seed, declared, assigned)) = two_files(world, declaration, assignment) else {
+        return Err(CommandFault::Common(Fault::Read));
+    };
+    let ended = carry_out_on(
+        alloc,
+        &DotCommand {
+            seed,
+            assigned: true,
+        },
+        &Diagnosing::two(seed, declaration, Kind::Assignment, assignment),
+        declared,
+        assigned,
+        io::empty(),
+        writer,
+        teller,
+    );
+    end_of(ended)
+}
+
+/// Draws the declaration in this file, on the workqueues of its plan.
+fn own_dot<'a, O: World<'a>, W: Write, E: Write>(
+    world: &O,
+    alloc: Global,
+    declaration: &'a str,
+    writer: &mut Metered<W>,
+    teller: &mut Metered<E>,
+) -> Result<End, CommandFault>
+    ensures ended { EndedBy W.contents writer.old writer.new (EndsDot (Has (O.opens world.now) O.File.Read.remaining)
+        declaration.now None) result }
+    ensures caused { EndsReady (O.seeds world.now) (O.opens world.now) (declaration.now ∷ []) (Unit {0}) ⊥ result }
+    ensures unsaid { OnErr result (teller.new ≡ teller.old) }
+{
+    let Some((seed, declared)) = one_file(world, declaration, false) else {
+        return Err(CommandFault::Common(Fault::Read));
+    };
+    let ended = carry_out_on(
+        alloc,
+        &DotCommand {
+            seed,
+            assigned: false,
+        },
+        &Diagnosing::one(seed, declaration),
+        declared,
+        io::empty(),
+        io::empty(),
+        writer,
+        teller,
+    );
+    end_of(ended)
 }
 
 /// Draws the declaration in the first file, on the workqueues of the assignment in the second, or, if there is none, of its plan.
@@ -340,50 +493,13 @@ fn dot<'a, O: World<'a>, W: Write, E: Write>(
 ) -> Result<End, CommandFault>
     ensures ended { EndedBy W.contents writer.old writer.new (EndsDot (Has (O.opens world.now) O.File.Read.remaining)
         declaration.now (option_map (λ s. s.now) assignment.entry)) result }
+    ensures caused { EndsReady (O.seeds world.now) (O.opens world.now)
+        (declaration.now ∷ option_to_list (option_map (λ s. s.now) assignment.entry)) (Unit {0}) ⊥ result }
     ensures unsaid { OnErr result (teller.new ≡ teller.old) }
 {
-    let Some(seed) = world.seed() else {
-        return Err(CommandFault::Common(Fault::Read));
-    };
-    let Some(declared) = world.open(declaration, false) else {
-        return Err(CommandFault::Common(Fault::Read));
-    };
     match assignment {
-        Some(assignment) => {
-            let Some(assigned) = world.open(assignment, false) else {
-                return Err(CommandFault::Common(Fault::Read));
-            };
-            let ended = carry_out_on(
-                alloc,
-                &DotCommand {
-                    seed,
-                    assigned: true,
-                },
-                &Diagnosing::two(seed, declaration, Kind::Assignment, assignment),
-                declared,
-                assigned,
-                io::empty(),
-                writer,
-                teller,
-            );
-            end_of(ended)
-        }
-        None => {
-            let ended = carry_out_on(
-                alloc,
-                &DotCommand {
-                    seed,
-                    assigned: false,
-                },
-                &Diagnosing::one(seed, declaration),
-                declared,
-                io::empty(),
-                io::empty(),
-                writer,
-                teller,
-            );
-            end_of(ended)
-        }
+        Some(assignment) => assigned_dot(world, alloc, declaration, assignment, writer, teller),
+        None => own_dot(world, alloc, declaration, writer, teller),
     }
 }
 
@@ -421,12 +537,10 @@ fn run<'a, O: World<'a>, R: Threads + Wait + Sync, W: Write, E: Write>(
 ) -> Result<End, CommandFault>
     ensures ended { EndedBy W.contents writer.old writer.new (EndsRun (Has (O.opens world.now) O.File.Read.remaining)
         declaration.now) result }
+    ensures caused { EndsReady (O.seeds world.now) (O.opens world.now) (declaration.now ∷ []) (Unit {0}) (Unit {0}) result }
     ensures unsaid { OnErr result (teller.new ≡ teller.old) }
 {
-    let Some(seed) = world.seed() else {
-        return Err(CommandFault::Common(Fault::Read));
-    };
-    let Some(declared) = world.open(declaration, false) else {
+    let Some((seed, declared)) = one_file(world, declaration, false) else {
         return Err(CommandFault::Common(Fault::Read));
     };
     let voice = Diagnosing::one(seed, declaration);
@@ -441,31 +555,27 @@ fn explain<W: Write>(
     code: Option<&str>,
     writer: &mut Metered<W>,
 ) -> Result<End, CommandFault>
-    ensures { EndedBy W.contents writer.old writer.new (EndsExplain (option_map (λ s. s.now) code.entry)) result }
+    ensures ended { EndedBy W.contents writer.old writer.new (EndsExplain (option_map (λ s. s.now) code.entry)) result }
+    ensures caused { EndsAlone result }
 {
     let ended = explain_cmd(alloc, code, writer);
     end_of_explain(ended)
 }
 
 /// Carries out the command that is asked for.
-pub(crate) fn perform<
-    'a,
-    O: World<'a>,
-    R: Threads + Wait + Sync,
-    I: Read + Drop,
-    W: Write,
-    E: Write,
->(
+pub(crate) fn perform<'a, O: World<'a>, R: Threads + Wait + Sync, I: Read, W: Write, E: Write>(
     world: &O,
     rt: &R,
     alloc: Global,
     request: Request<'a>,
-    input: I,
+    input: &mut Metered<I>,
     writer: &mut Metered<W>,
     teller: &mut Metered<E>,
 ) -> Result<End, CommandFault>
     ensures ended { EndedBy W.contents writer.old writer.new (EndsAsAsked (Has (O.opens world.now) O.File.Read.remaining)
-        (IsInput (I.remaining input)) (spelled request.entry)) result }
+        (IsInput (I.remaining input.old.device)) (spelled request.entry)) result }
+    ensures caused { IsCaused (O.seeds world.now) (O.opens world.now) (HasFailed input.old input.new) (spelled request.entry) result }
+    ensures input { ReadsInput I.remaining input.old input.new (spelled request.entry) }
     ensures unsaid { OnErr result (teller.new ≡ teller.old) }
 {
     match request {

@@ -22,22 +22,26 @@ const LEAVE_OUT: &str = "no such file (leave FILE out to read standard input)";
 
 /// Opens files by their paths, and draws seeds.
 pub(crate) trait World<'a> {
-    ghost use Rattle.std.specs.Prelude.{ℕ, List, IfSome};
+    ghost use Rattle.std.specs.Prelude.{ℕ, List, Option};
 
     /// What a file is read by.
     type File: Read + Drop;
 
-    // opening this path gave this reader
-    ghost opens: { Self → List ℕ → Self.File → Type 0 };
+    // opening this path gave this reader, or nothing where it can't be opened
+    ghost opens: { Self → List ℕ → Option Self.File → Type 0 };
+
+    // this seed was drawn, or nothing where there is none
+    ghost seeds: { Self → Option ℕ → Type 0 };
 
     /// Opens the file at this path. Nothing where it can't be opened. `or_input` says whether the path may be left out, and standard
     /// input is read then.
     fn open(&self, path: &'a str, or_input: bool) -> Option<Self::File>
-        ensures { IfSome result (opens self.now path.now) };
+        ensures { opens self.now path.now result };
 
     /// Draws the number with which the names of a declaration are hashed. Nothing where there is none. It is drawn anew for each
     /// command, so that whoever writes a declaration can't know which names have the same hash.
-    fn seed(&self) -> Option<u64>;
+    fn seed(&self) -> Option<u64>
+        ensures { seeds self.now result };
 }
 
 /// The files and the random bytes of a process.
@@ -50,6 +54,8 @@ impl<'a, R: Files + RandomSource + Eprint + AllocGlobal> World<'a> for Process<'
     type File = Named<'a, R, R::File>;
 
     ghost opens = { λ _ _ _. Unit {0} };
+
+    ghost seeds = { λ _ _. Unit {0} };
 
     fn open(&self, path: &'a str, or_input: bool) -> Option<Named<'a, R, R::File>> {
         let rt: &'a R = self.rt;

@@ -6,15 +6,15 @@ use Rattle.wqplan.proofs.performing.perform.Goals as goal
 
 pub returns-in-Check-clause-ended : goal.returns-in-Check-clause-ended
 returns-in-Check-clause-ended g c =
-    subst (λ r. EndedBy g.W.Write.contents c.args.writer.now c.check.new.writer (EndsAsAsked (Has (g.O.World.opens c.args.world.now) g.O.File.Read.remaining) (IsInput (g.I.Read.remaining c.args.input)) (spelled r)) c.check.result)
+    subst (λ r. EndedBy g.W.Write.contents c.args.writer.now c.check.new.writer (EndsAsAsked (Has (g.O.World.opens c.args.world.now) g.O.File.Read.remaining) (IsInput (g.I.Read.remaining c.args.input.now.device)) (spelled r)) c.check.result)
     (sym c.in-Check.is) c.check.ensures.ended
 
 pub returns-in-Deadlock-clause-ended : goal.returns-in-Deadlock-clause-ended
 returns-in-Deadlock-clause-ended g c =
-    subst (λ r. EndedBy g.W.Write.contents c.args.writer.now c.deadlock.new.writer (EndsAsAsked (Has (g.O.World.opens c.args.world.now) g.O.File.Read.remaining) (IsInput (g.I.Read.remaining c.args.input)) (spelled r)) c.deadlock.result)
+    subst (λ r. EndedBy g.W.Write.contents c.args.writer.now c.deadlock.new.writer (EndsAsAsked (Has (g.O.World.opens c.args.world.now) g.O.File.Read.remaining) (IsInput (g.I.Read.remaining c.args.input.now.device)) (spelled r)) c.deadlock.result)
     (sym c.in-Deadlock.is) c.deadlock.ensures.ended
 
 pub returns-in-Replay-clause-ended : goal.returns-in-Replay-clause-ended
 returns-in-Replay-clause-ended g c =
-    subst (λ r. EndedBy g.W.Write.contents c.args.writer.now c.replay.new.writer (EndsAsAsked (Has (g.O.World.opens c.args.world.now) g.O.File.Read.remaining) (IsInput (g.I.Read.remaining c.args.input)) (spelled r)) c.replay.result)
+    subst (λ r. EndedBy g.W.Write.contents c.args.writer.now c.replay.new.writer (EndsAsAsked (Has (g.O.World.opens c.args.world.now) g.O.File.Read.remaining) (IsInput (g.I.Read.remaining c.args.input.now.device)) (spelled r)) c.replay.result)
     (sym c.in-Replay.is) c.replay.ensures.ended

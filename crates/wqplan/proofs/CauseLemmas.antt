@@ -1,0 +1,160 @@
+-- Seeds that are drawn, files that are opened, and what follows for the ends of a command.
+use Rattle.std.proofs.Common.{◌≡◌, ◌≢◌, ◌⊎◌, ℕ, List, [], ◌∷◌, ◌++◌, Option, Some, None, Result, Ok, Err, inl, inr, refl, sym, subst, arith}
+use Rattle.std.specs.Prelude.{option_to_list}
+use Rattle.std.proofs.lemmas.Grind.{common_steps}
+use Rattle.std.proofs.lemmas.List.Elements.{All-contains, All-nil, All-push}
+use Rattle.std.proofs.lemmas.List.Quantifiers.{Any-push}
+use Rattle.std.specs.List.{Any, Contains}
+use Rattle.wq_meter.specs.declared.fault.Fault.{Fault}
+use Rattle.wq_meter.specs.declared.fault.Fault.TheVariants.{Memory, Read, Write}
+use Rattle.wq_meter.specs.declared.shell.Stopped.{Stopped}
+use Rattle.wq_meter.specs.declared.shell.Stopped.TheVariants.{Faulted, Unanswered}
+use Rattle.wq_commands.specs.declared.end.End.{End}
+use Rattle.wq_commands.specs.declared.why.Outcome.{Outcome}
+use Rattle.wq_explain.specs.declared.explain.Explained.{Explained}
+use Rattle.wq_run.specs.declared.fault.CommandFault.{CommandFault}
+use Rattle.wq_run.specs.declared.fault.CommandFault.TheVariants.{Common, Tally, Thread}
+use Rattle.wq_run.specs.declared.fault.RunStop.{RunStop}
+use Rattle.wq_run.specs.declared.fault.RunStop.TheVariants as stop
+use Rattle.wq_run.specs.Fault.{end_or_stop}
+use Rattle.wqplan.specs.Cause.{EndsAlone, EndsReady, IsCaused, IsReady, IsUnready, files_of}
+use Rattle.clap.specs.Words.{Text}
+use Rattle.wqplan.specs.CommandLine.{Asked, plans, checks, judges, replays, finds, draws, runs, explains}
+use Rattle.wqplan.specs.Status.{end_or_common, explained_or_common}
+
+Any-more : {X : Type 0} (P : X → Type 0) (xs : List X) (y : X) → Any P xs → Any P (xs ++ y ∷ [])
+Any-more P xs y (k, x, below, is, holds) = (k, x, grind (arith, common_steps), grind (arith, common_steps), holds)
+
+module _ {F : Type 0} (Seeds : Option ℕ → Type 0) (Opens : Text → Option F → Type 0) where
+  abbrev pub Opened : Text → Type 0
+  Opened path = (file : F) × Opens path (Some file)
+
+  -- ---- one more file
+
+  pub ready_seed : (seed : ℕ) → Seeds (Some seed) → IsReady Seeds Opens []
+  ready_seed seed drawn = ((seed, drawn), All-nil Opened)
+
+  pub ready_more : (files : List Text) (path : Text) (file : F) → IsReady Seeds Opens files → Opens path (Some file) → IsReady Seeds Opens (files ++ path ∷ [])
+  ready_more files path file ready opened = (ready.0, All-push Opened files path ready.1 (file, opened))
+
+  pub unready_more : (files : List Text) (path : Text) → IsUnready Seeds Opens files → IsUnready Seeds Opens (files ++ path ∷ [])
+  unready_more files path (inl none) = inl none
+  unready_more files path (inr closed) = inr (Any-more (λ p. Opens p None) files path closed)
+
+  pub unready_last : (files : List Text) (path : Text) → Opens path None → IsUnready Seeds Opens (files ++ path ∷ [])
+  unready_last files path closed = inr (Any-push (λ p. Opens p None) files path closed)
+
+  -- ---- ends
+
+  module _ (files : List Text) (ready : IsReady Seeds Opens files) where
+    caused : (MayFail : Type 0) {S : Type 0} (ended : Result Outcome (Stopped S)) → (ended ≡ Err (Faulted Read) → MayFail) → EndsReady Seeds Opens files MayFail ⊥ (end_or_common ended)
+    caused MayFail (Ok o) may_fail = ready
+    caused MayFail (Err (Faulted Memory)) may_fail = ready
+    caused MayFail (Err (Faulted Read)) may_fail = inr (ready, may_fail refl)
+    caused MayFail (Err (Faulted Write)) may_fail = ready
+    caused MayFail (Err (Unanswered s)) may_fail = ready
+
+    pub caused_by : (MayFail : Type 0) {S : Type 0} (ended : Result Outcome (Stopped S)) (result : Result End CommandFault) → result ≡ end_or_common ended
+        → (ended ≡ Err (Faulted Read) → MayFail) → EndsReady Seeds Opens files MayFail ⊥ result
+    caused_by MayFail ended result is may_fail = subst (EndsReady Seeds Opens files MayFail ⊥) (sym is) (caused MayFail ended may_fail)
+
+    -- a read of a file may always have failed
+    pub files_caused : {S : Type 0} (ended : Result Outcome (Stopped S)) (result : Result End CommandFault) → result ≡ end_or_common ended → EndsReady Seeds Opens files (Unit {0}) ⊥ result
+    files_caused ended result is = caused_by (Unit {0}) ended result is (λ _. tt)
+
+    run_caused : (ended : Result Outcome (Stopped RunStop)) → EndsReady Seeds Opens files (Unit {0}) (Unit {0}) (end_or_stop ended)
+    run_caused (Ok o) = ready
+    run_caused (Err (Faulted Memory)) = ready
+    run_caused (Err (Faulted Read)) = inr (ready, tt)
+    run_caused (Err (Faulted Write)) = ready
+    run_caused (Err (Unanswered stop.OutOfMemory)) = ready
+    run_caused (Err (Unanswered stop.Thread)) = (ready, tt)
+    run_caused (Err (Unanswered stop.Tally)) = (ready, tt)
+
+    pub run_caused_by : (ended : Result Outcome (Stopped RunStop)) (result : Result End CommandFault) → result ≡ end_or_stop ended → EndsReady Seeds Opens files (Unit {0}) (Unit {0}) result
+    run_caused_by ended result is = subst (EndsReady Seeds Opens files (Unit {0}) (Unit {0})) (sym is) (run_caused ended)
+
+  -- a file that never opens leaves only a fault of reading
+  pub never_opened : (files : List Text) (MayFail MayStart : Type 0) (result : Result End CommandFault) → EndsReady Seeds Opens files MayFail MayStart result
+      → (path : Text) → Contains files path → ((file : F) → ¬ Opens path (Some file)) → result ≡ Err (Common Read)
+  never_opened files MayFail MayStart (Ok end) ready path contains never = let opened = All-contains Opened files path ready.1 contains in absurd (never opened.0 opened.1)
+  never_opened files MayFail MayStart (Err (Common Read)) unready path contains never = refl
+  never_opened files MayFail MayStart (Err (Common Write)) ready path contains never = let opened = All-contains Opened files path ready.1 contains in absurd (never opened.0 opened.1)
+  never_opened files MayFail MayStart (Err (Common Memory)) ready path contains never = let opened = All-contains Opened files path ready.1 contains in absurd (never opened.0 opened.1)
+  never_opened files MayFail MayStart (Err Thread) ready path contains never = let opened = All-contains Opened files path ready.0.1 contains in absurd (never opened.0 opened.1)
+  never_opened files MayFail MayStart (Err Tally) ready path contains never = let opened = All-contains Opened files path ready.0.1 contains in absurd (never opened.0 opened.1)
+
+  -- so does a seed that is never drawn
+  pub never_drawn : (files : List Text) (MayFail MayStart : Type 0) (result : Result End CommandFault) → EndsReady Seeds Opens files MayFail MayStart result
+      → ((seed : ℕ) → ¬ Seeds (Some seed)) → result ≡ Err (Common Read)
+  never_drawn files MayFail MayStart (Ok end) ready never = absurd (never ready.0.0 ready.0.1)
+  never_drawn files MayFail MayStart (Err (Common Read)) unready never = refl
+  never_drawn files MayFail MayStart (Err (Common Write)) ready never = absurd (never ready.0.0 ready.0.1)
+  never_drawn files MayFail MayStart (Err (Common Memory)) ready never = absurd (never ready.0.0 ready.0.1)
+  never_drawn files MayFail MayStart (Err Thread) ready never = absurd (never ready.0.0.0 ready.0.0.1)
+  never_drawn files MayFail MayStart (Err Tally) ready never = absurd (never ready.0.0.0 ready.0.0.1)
+
+  -- ---- what is asked for
+
+  module _ (InputFailed : Type 0) (result : Result End CommandFault) where
+    pub caused_file : (asked : Asked) → IsCaused Seeds Opens InputFailed asked result → (path : Text) → Contains (files_of asked) path → ((file : F) → ¬ Opens path (Some file))
+        → result ≡ Err (Common Read)
+    caused_file (plans None) = never_opened [] InputFailed ⊥ result
+    caused_file (plans (Some file)) = never_opened (file ∷ []) (Unit {0}) ⊥ result
+    caused_file (checks declaration certificate) = never_opened (declaration ∷ certificate ∷ []) (Unit {0}) ⊥ result
+    caused_file (judges declaration assignment) = never_opened (declaration ∷ assignment ∷ []) (Unit {0}) ⊥ result
+    caused_file (replays declaration assignment run) = never_opened (declaration ∷ assignment ∷ run ∷ []) (Unit {0}) ⊥ result
+    caused_file (finds declaration assignment) = never_opened (declaration ∷ option_to_list assignment) (Unit {0}) ⊥ result
+    caused_file (draws declaration assignment) = never_opened (declaration ∷ option_to_list assignment) (Unit {0}) ⊥ result
+    caused_file (runs declaration) = never_opened (declaration ∷ []) (Unit {0}) (Unit {0}) result
+    caused_file (explains code) = λ alone path contains never. absurd (omega (arith, contains.1))
+
+    pub caused_seed : (asked : Asked) → IsCaused Seeds Opens InputFailed asked result → ((code : Option Text) → asked ≢ explains code) → ((seed : ℕ) → ¬ Seeds (Some seed))
+        → result ≡ Err (Common Read)
+    caused_seed (plans None) = λ caused other. never_drawn [] InputFailed ⊥ result caused
+    caused_seed (plans (Some file)) = λ caused other. never_drawn (file ∷ []) (Unit {0}) ⊥ result caused
+    caused_seed (checks declaration certificate) = λ caused other. never_drawn (declaration ∷ certificate ∷ []) (Unit {0}) ⊥ result caused
+    caused_seed (judges declaration assignment) = λ caused other. never_drawn (declaration ∷ assignment ∷ []) (Unit {0}) ⊥ result caused
+    caused_seed (replays declaration assignment run) = λ caused other. never_drawn (declaration ∷ assignment ∷ run ∷ []) (Unit {0}) ⊥ result caused
+    caused_seed (finds declaration assignment) = λ caused other. never_drawn (declaration ∷ option_to_list assignment) (Unit {0}) ⊥ result caused
+    caused_seed (draws declaration assignment) = λ caused other. never_drawn (declaration ∷ option_to_list assignment) (Unit {0}) ⊥ result caused
+    caused_seed (runs declaration) = λ caused other. never_drawn (declaration ∷ []) (Unit {0}) (Unit {0}) result caused
+    caused_seed (explains code) = λ caused other never. absurd (other code refl)
+
+  not_started : (files : List Text) (MayFail : Type 0) (result : Result End CommandFault) → EndsReady Seeds Opens files MayFail ⊥ result → (result ≡ Err Thread) ⊎ (result ≡ Err Tally) → ⊥
+  not_started files MayFail (Ok end) caused (inl is) = cc
+  not_started files MayFail (Ok end) caused (inr is) = cc
+  not_started files MayFail (Err (Common fault)) caused (inl is) = cc
+  not_started files MayFail (Err (Common fault)) caused (inr is) = cc
+  not_started files MayFail (Err Thread) caused is = caused.1
+  not_started files MayFail (Err Tally) caused is = caused.1
+
+  not_alone : (result : Result End CommandFault) → EndsAlone result → (result ≡ Err Thread) ⊎ (result ≡ Err Tally) → ⊥
+  not_alone (Ok end) caused (inl is) = cc
+  not_alone (Ok end) caused (inr is) = cc
+  not_alone (Err (Common fault)) caused (inl is) = cc
+  not_alone (Err (Common fault)) caused (inr is) = cc
+  not_alone (Err Thread) caused is = caused
+  not_alone (Err Tally) caused is = caused
+
+  pub only_run : (InputFailed : Type 0) (result : Result End CommandFault) (asked : Asked) → IsCaused Seeds Opens InputFailed asked result
+      → (result ≡ Err Thread) ⊎ (result ≡ Err Tally) → (path : Text) × (asked ≡ runs path)
+  only_run InputFailed result (plans None) caused is = absurd (not_started [] InputFailed result caused is)
+  only_run InputFailed result (plans (Some file)) caused is = absurd (not_started (file ∷ []) (Unit {0}) result caused is)
+  only_run InputFailed result (checks declaration certificate) caused is = absurd (not_started (declaration ∷ certificate ∷ []) (Unit {0}) result caused is)
+  only_run InputFailed result (judges declaration assignment) caused is = absurd (not_started (declaration ∷ assignment ∷ []) (Unit {0}) result caused is)
+  only_run InputFailed result (replays declaration assignment run) caused is = absurd (not_started (declaration ∷ assignment ∷ run ∷ []) (Unit {0}) result caused is)
+  only_run InputFailed result (finds declaration assignment) caused is = absurd (not_started (declaration ∷ option_to_list assignment) (Unit {0}) result caused is)
+  only_run InputFailed result (draws declaration assignment) caused is = absurd (not_started (declaration ∷ option_to_list assignment) (Unit {0}) result caused is)
+  only_run InputFailed result (runs declaration) caused is = (declaration, refl)
+  only_run InputFailed result (explains code) caused is = absurd (not_alone result caused is)
+
+-- `explain` reads nothing and starts no threads
+alone : (ended : Result Explained Fault) → ended ≢ Err Read → EndsAlone (explained_or_common ended)
+alone (Ok e) never = tt
+alone (Err Memory) never = tt
+alone (Err Read) never = absurd (never refl)
+alone (Err Write) never = tt
+
+pub alone_by : (ended : Result Explained Fault) (result : Result End CommandFault) → result ≡ explained_or_common ended → ended ≢ Err Read → EndsAlone result
+alone_by ended result is never = subst EndsAlone (sym is) (alone ended never)

@@ -1,0 +1,75 @@
+-- What a command needs before it reads, and what follows from how it ends.
+use Rattle.std.specs.Prelude.{◌≡◌, ◌⊎◌, ℕ, ◌+◌, ◌≤◌, List, [], ◌∷◌, Option, Some, None, Result, Ok, Err, option_to_list}
+use Rattle.std.specs.List.{All, Any}
+use Rattle.wq_meter.specs.declared.fault.Fault.TheVariants.{Memory, Read, Write}
+use Rattle.wq_meter.specs.Meter.{LosesPrefix, Meter}
+use Rattle.wq_commands.specs.Declaration.{max_declaration}
+use Rattle.wq_commands.specs.declared.end.End.{End}
+use Rattle.wq_run.specs.declared.fault.CommandFault.{CommandFault}
+use Rattle.wq_run.specs.declared.fault.CommandFault.TheVariants.{Common, Tally, Thread}
+use Rattle.clap.specs.Words.{Text}
+use Rattle.wqplan.specs.CommandLine.{Asked, plans, checks, judges, replays, finds, draws, runs, explains}
+
+-- the files of a command, in the order in which they are opened
+abbrev pub files_of : Asked → List Text
+files_of (plans file) = option_to_list file
+files_of (checks declaration certificate) = declaration ∷ certificate ∷ []
+files_of (judges declaration assignment) = declaration ∷ assignment ∷ []
+files_of (replays declaration assignment run) = declaration ∷ assignment ∷ run ∷ []
+files_of (finds declaration assignment) = declaration ∷ option_to_list assignment
+files_of (draws declaration assignment) = declaration ∷ option_to_list assignment
+files_of (runs declaration) = declaration ∷ []
+files_of (explains code) = []
+
+-- a seed was drawn, and each of these files was opened
+abbrev pub IsReady : {F : Type 0} → (Option ℕ → Type 0) → (Text → Option F → Type 0) → List Text → Type 0
+IsReady {F} Seeds Opens files = ((seed : ℕ) × Seeds (Some seed)) × All (λ path. (file : F) × Opens path (Some file)) files
+
+-- there was no seed, or one of these files couldn't be opened
+abbrev pub IsUnready : {F : Type 0} → (Option ℕ → Type 0) → (Text → Option F → Type 0) → List Text → Type 0
+IsUnready Seeds Opens files = Seeds None ⊎ Any (λ path. Opens path None) files
+
+-- a command with these files ended like this: `fault read` if it wasn't ready, or if a read may have failed; anything else only
+-- after it was ready; and what stops only `run`, only if threads may be started
+abbrev pub EndsReady : {F : Type 0} → (Option ℕ → Type 0) → (Text → Option F → Type 0) → List Text → Type 0 → Type 0 → Result End CommandFault → Type 0
+EndsReady Seeds Opens files MayFail MayStart (Ok end) = IsReady Seeds Opens files
+EndsReady Seeds Opens files MayFail MayStart (Err (Common Read)) = IsUnready Seeds Opens files ⊎ (IsReady Seeds Opens files × MayFail)
+EndsReady Seeds Opens files MayFail MayStart (Err (Common Write)) = IsReady Seeds Opens files
+EndsReady Seeds Opens files MayFail MayStart (Err (Common Memory)) = IsReady Seeds Opens files
+EndsReady Seeds Opens files MayFail MayStart (Err Thread) = IsReady Seeds Opens files × MayStart
+EndsReady Seeds Opens files MayFail MayStart (Err Tally) = IsReady Seeds Opens files × MayStart
+
+-- a command ended like this that reads nothing and starts no threads
+abbrev pub EndsAlone : Result End CommandFault → Type 0
+EndsAlone (Ok end) = Unit {0}
+EndsAlone (Err (Common Read)) = ⊥
+EndsAlone (Err (Common Write)) = Unit {0}
+EndsAlone (Err (Common Memory)) = Unit {0}
+EndsAlone (Err Thread) = ⊥
+EndsAlone (Err Tally) = ⊥
+
+-- the command that is asked for ended like this. A read of a file may always have failed, since no clause sees the reads of a file;
+-- a read of standard input failed if `InputFailed` holds
+abbrev pub IsCaused : {F : Type 0} → (Option ℕ → Type 0) → (Text → Option F → Type 0) → Type 0 → Asked → Result End CommandFault → Type 0
+IsCaused Seeds Opens InputFailed (plans None) result = EndsReady Seeds Opens [] InputFailed ⊥ result
+IsCaused Seeds Opens InputFailed (plans (Some file)) result = EndsReady Seeds Opens (file ∷ []) (Unit {0}) ⊥ result
+IsCaused Seeds Opens InputFailed (checks declaration certificate) result = EndsReady Seeds Opens (declaration ∷ certificate ∷ []) (Unit {0}) ⊥ result
+IsCaused Seeds Opens InputFailed (judges declaration assignment) result = EndsReady Seeds Opens (declaration ∷ assignment ∷ []) (Unit {0}) ⊥ result
+IsCaused Seeds Opens InputFailed (replays declaration assignment run) result = EndsReady Seeds Opens (declaration ∷ assignment ∷ run ∷ []) (Unit {0}) ⊥ result
+IsCaused Seeds Opens InputFailed (finds declaration assignment) result = EndsReady Seeds Opens (declaration ∷ option_to_list assignment) (Unit {0}) ⊥ result
+IsCaused Seeds Opens InputFailed (draws declaration assignment) result = EndsReady Seeds Opens (declaration ∷ option_to_list assignment) (Unit {0}) ⊥ result
+IsCaused Seeds Opens InputFailed (runs declaration) result = EndsReady Seeds Opens (declaration ∷ []) (Unit {0}) (Unit {0}) result
+IsCaused Seeds Opens InputFailed (explains code) result = EndsAlone result
+
+-- what a command takes from standard input: a declaration up to the first byte past its limit, in at most as many calls, if `plan` is
+-- asked for without a file, and else nothing
+abbrev pub ReadsInput : {I : Type 0} → (I → Option (List ℕ)) → Meter I → Meter I → Asked → Type 0
+ReadsInput remaining old new (plans None) = LosesPrefix remaining old new (max_declaration + 1) × (new.calls ≤ old.calls + (max_declaration + 1))
+ReadsInput remaining old new (plans (Some file)) = new ≡ old
+ReadsInput remaining old new (checks declaration certificate) = new ≡ old
+ReadsInput remaining old new (judges declaration assignment) = new ≡ old
+ReadsInput remaining old new (replays declaration assignment run) = new ≡ old
+ReadsInput remaining old new (finds declaration assignment) = new ≡ old
+ReadsInput remaining old new (draws declaration assignment) = new ≡ old
+ReadsInput remaining old new (runs declaration) = new ≡ old
+ReadsInput remaining old new (explains code) = new ≡ old
