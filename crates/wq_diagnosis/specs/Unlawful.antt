@@ -1,12 +1,13 @@
 -- Why a step of a run isn't lawful, and what is said of it.
 use Rattle.std.specs.Prelude.{◌≡◌, ◌<◌, ℕ, List, [], ◌∷◌, ◌++◌, Some, None, codes, decimal, length, slice_get}
-use Rattle.wq_items.specs.Table.{ItemWaits}
+use Rattle.wq_items.specs.Table.{ItemWaitsBy}
 use Rattle.wq_core.specs.declared.entry.Entry.{Entry}
 use Rattle.wq_core.specs.declared.entry.Running.{Running}
 use Rattle.wq_core.specs.declared.entry.Waiting.{Waiting}
 use Rattle.wq_core.specs.declared.step.Step.{Step}
-use Rattle.wq_core.specs.declared.step.Step.TheVariants.{Queue, Cancel, Start, Wait, Over, Finish}
-use Rattle.wq_core.specs.State.{State, lane_at, Runs, HasPending, HasUnfinishedBelow}
+use Rattle.wq_core.specs.declared.step.Step.TheVariants.{Queue, Cancel, Start, Wait, Over, WaitAll, OverAll, Finish}
+use Rattle.wq_core.specs.Rules.{IsHeldBack}
+use Rattle.wq_core.specs.State.{State, lane_at, Runs, HasPending}
 use Rattle.wq_core.specs.Wiring.{Wiring, items, declared_by}
 use Rattle.wq_diagnosis.specs.declared.unlawful.Unlawful.{Unlawful}
 use Rattle.wq_diagnosis.specs.declared.unlawful.Unlawful.TheVariants as why
@@ -20,6 +21,8 @@ workqueue_of (Cancel i) = 0
 workqueue_of (Start q i) = q
 workqueue_of (Wait q b) = q
 workqueue_of (Over q b) = q
+workqueue_of (WaitAll q b) = q
+workqueue_of (OverAll q b) = q
 workqueue_of (Finish q i) = q
 
 -- the item that a step names
@@ -29,6 +32,8 @@ item_of (Cancel i) = i
 item_of (Start q i) = i
 item_of (Wait q b) = b
 item_of (Over q b) = b
+item_of (WaitAll q b) = b
+item_of (OverAll q b) = b
 item_of (Finish q i) = i
 
 -- an entry of item j runs on the workqueue
@@ -44,11 +49,11 @@ Holds w s q i (why.Runs j) = (r : Running) × RunsItem s q j r
 Holds w s q i why.NothingPending = slice_get (lane_at s q).pending 0 ≡ None
 Holds w s q i (why.First j) = (e : Entry) × (slice_get (lane_at s q).pending 0 ≡ Some e) × (e.item ≡ j)
 Holds w s q i why.NothingRuns = (lane_at s q).running ≡ None
-Holds w s q i (why.Waits j b) = (r : Running) × RunsItem s q j r × (f : Waiting) × (r.waiting ≡ Some f) × (f.target ≡ b)
-Holds w s q i (why.Undeclared j) = (r : Running) × RunsItem s q j r × (¬ ItemWaits w.waits j i)
+Holds w s q i (why.Waits j f) = (r : Running) × RunsItem s q j r × (r.waiting ≡ Some f)
+Holds w s q i (why.Undeclared j whole) = (r : Running) × RunsItem s q j r × (¬ ItemWaitsBy w.waits whole j i)
 Holds w s q i (why.AllMade j) = (r : Running) × RunsItem s q j r × (¬ (r.made < length (declared_by w j)))
 Holds w s q i (why.Awake j) = (r : Running) × RunsItem s q j r × (r.waiting ≡ None)
-Holds w s q i why.Unfinished = (r : Running) × Runs (lane_at s q) r × (f : Waiting) × (r.waiting ≡ Some f) × HasUnfinishedBelow s i f.mark
+Holds w s q i (why.Unfinished whole) = (r : Running) × Runs (lane_at s q) r × (f : Waiting) × (r.waiting ≡ Some f) × (f.whole ≡ whole) × IsHeldBack w s whole i f.mark
 
 -- the first line about step n: the file, the place in it, why the step isn't lawful, and the answer
 abbrev pub unlawful_head : List ℕ → List ℕ → List ℕ → ℕ → List ℕ

@@ -59,8 +59,12 @@ fn name<'a, A: Allocator + Copy>(table: &ItemTable<'a, A>, item: ItemId) -> Quot
 fn named(step: Step) -> (u16, ItemId) {
     match step {
         Step::Queue(item) | Step::Cancel(item) => (0, item),
-        Step::Start(q, item) | Step::Wait(q, item) | Step::Over(q, item) | Step::Finish(q, item) =>
-            { (q.get(), item) }
+        Step::Start(q, item)
+        | Step::Wait(q, item)
+        | Step::Over(q, item)
+        | Step::WaitAll(q, item)
+        | Step::OverAll(q, item)
+        | Step::Finish(q, item) => (q.get(), item),
     }
 }
 
@@ -70,16 +74,16 @@ fn others(why: Unlawful, item: ItemId) -> (ItemId, ItemId) {
     match why {
         Unlawful::Runs(other)
         | Unlawful::First(other)
-        | Unlawful::Undeclared(other)
+        | Unlawful::Undeclared(other, _)
         | Unlawful::AllMade(other)
         | Unlawful::Awake(other) => (other, item),
-        Unlawful::Waits(other, target) => (other, target),
+        Unlawful::Waits(other, flush) => (other, flush.target),
         Unlawful::NoItem
         | Unlawful::Pending
         | Unlawful::NotPending
         | Unlawful::NothingPending
         | Unlawful::NothingRuns
-        | Unlawful::Unfinished => (item, item),
+        | Unlawful::Unfinished(_) => (item, item),
     }
 }
 
@@ -120,17 +124,19 @@ impl fmt::Display for Sentence<'_> {
                 )
             }
             Unlawful::NothingRuns => write!(f, "nothing runs on workqueue {q}"),
-            Unlawful::Waits(..) => {
+            Unlawful::Waits(_, flush) => {
+                let of = if flush.whole { "the workqueue of " } else { "" };
                 write!(
                     f,
-                    "`{}`, which runs on workqueue {q}, waits for `{}`",
+                    "`{}`, which runs on workqueue {q}, waits for {of}`{}`",
                     self.other, self.target
                 )
             }
-            Unlawful::Undeclared(_) => {
+            Unlawful::Undeclared(_, whole) => {
+                let flush = if whole { "`flushwq`" } else { "flush" };
                 write!(
                     f,
-                    "`{}`, which runs on workqueue {q}, declares no flush of `{}`",
+                    "`{}`, which runs on workqueue {q}, declares no {flush} of `{}`",
                     self.other, self.item
                 )
             }
@@ -146,10 +152,17 @@ impl fmt::Display for Sentence<'_> {
                 "`{}`, which runs on workqueue {q}, doesn't wait",
                 self.other
             ),
-            Unlawful::Unfinished => {
+            Unlawful::Unfinished(false) => {
                 write!(
                     f,
                     "an entry of `{}` from before this wait is unfinished",
+                    self.item
+                )
+            }
+            Unlawful::Unfinished(true) => {
+                write!(
+                    f,
+                    "an entry from before this wait is unfinished on the workqueue of `{}`",
                     self.item
                 )
             }

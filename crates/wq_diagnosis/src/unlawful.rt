@@ -6,7 +6,7 @@ ghost use Rattle.std.specs.Prelude.{IfSome};
 ghost use Rattle.wq_diagnosis.specs.Unlawful.{Holds, item_of, workqueue_of};
 
 use std::alloc::Allocator;
-use wq_core::{Core, Step};
+use wq_core::{Core, Step, Waiting};
 use wq_groups::LaneId;
 use wq_items::ItemId;
 
@@ -27,16 +27,16 @@ pub enum Unlawful {
     First(ItemId),
     /// Nothing runs on the workqueue.
     NothingRuns,
-    /// An entry of the first item runs on the workqueue, and waits for the second one.
-    Waits(ItemId, ItemId),
-    /// This item runs on the workqueue, and declares no flush of the other one.
-    Undeclared(ItemId),
+    /// An entry of this item runs on the workqueue, and waits so.
+    Waits(ItemId, Waiting),
+    /// This item runs on the workqueue, and declares no flush of the other one; or, where this is so, none of its whole workqueue.
+    Undeclared(ItemId, bool),
     /// This item runs on the workqueue, and has made as many waits as it declares flushes.
     AllMade(ItemId),
     /// This item runs on the workqueue, and doesn't wait.
     Awake(ItemId),
-    /// An entry of the item that was queued before the wait is unfinished.
-    Unfinished,
+    /// An entry that was queued before the wait is unfinished: one of the item, or, where this is so, one on its workqueue.
+    Unfinished(bool),
 }
 
 /// Why the item may not be queued.
@@ -80,8 +80,13 @@ fn start_reason<A: Allocator>(core: &Core<A>, q: LaneId, item: ItemId) -> Option
     }
 }
 
-/// Why what the workqueue runs may not begin to wait for the target.
-fn wait_reason<A: Allocator>(core: &Core<A>, q: LaneId, target: ItemId) -> Option<Unlawful>
+/// Why what the workqueue runs may not begin to wait for the target, or for its whole workqueue.
+fn wait_reason<A: Allocator>(
+    core: &Core<A>,
+    q: LaneId,
+    whole: bool,
+    target: ItemId,
+) -> Option<Unlawful>
     ensures { IfSome result (Holds core.now.wiring core.now.state q target) }
 {
     let Some(running) = core.running_on(q) else {
@@ -89,13 +94,13 @@ fn wait_reason<A: Allocator>(core: &Core<A>, q: LaneId, target: ItemId) -> Optio
     };
     let item = running.entry.item;
     if let Some(flush) = running.waiting {
-        return Some(Unlawful::Waits(item, flush.target));
+        return Some(Unlawful::Waits(item, flush));
     }
     if item.get() as usize >= core.items() {
         return None;
     }
-    if !core.declares(item, target) {
-        return Some(Unlawful::Undeclared(item));
+    if !core.declares(item, whole, target) {
+        return Some(Unlawful::Undeclared(item, whole));
     }
     if running.made as usize >= core.waits(item).len() {
         return Some(Unlawful::AllMade(item));
@@ -103,8 +108,13 @@ fn wait_reason<A: Allocator>(core: &Core<A>, q: LaneId, target: ItemId) -> Optio
     None
 }
 
-/// Why the wait of what the workqueue runs for the target may not be over.
-fn over_reason<A: Allocator>(core: &Core<A>, q: LaneId, target: ItemId) -> Option<Unlawful>
+/// Why the wait of what the workqueue runs for the target, or for its whole workqueue, may not be over.
+fn over_reason<A: Allocator>(
+    core: &Core<A>,
+    q: LaneId,
+    whole: bool,
+    target: ItemId,
+) -> Option<Unlawful>
     ensures { IfSome result (Holds core.now.wiring core.now.state q target) }
 {
     let Some(running) = core.running_on(q) else {
@@ -114,13 +124,14 @@ fn over_reason<A: Allocator>(core: &Core<A>, q: LaneId, target: ItemId) -> Optio
     let Some(flush) = running.waiting else {
         return Some(Unlawful::Awake(item));
     };
-    if flush.target != target {
-        return Some(Unlawful::Waits(item, flush.target));
+    if flush.whole != whole || flush.target != target {
+        return Some(Unlawful::Waits(item, flush));
     }
-    if core.unfinished_below(target, flush.mark) {
-        return Some(Unlawful::Unfinished);
+    if target.get() as usize >= core.items() {
+        return None;
     }
-    None
+    core.holder(whole, target, flush.mark)?;
+    Some(Unlawful::Unfinished(whole))
 }
 
 /// Why the workqueue may not finish the item.
@@ -134,7 +145,7 @@ fn finish_reason<A: Allocator>(core: &Core<A>, q: LaneId, item: ItemId) -> Optio
         return Some(Unlawful::Runs(running.entry.item));
     }
     let flush = running.waiting?;
-    Some(Unlawful::Waits(item, flush.target))
+    Some(Unlawful::Waits(item, flush))
 }
 
 /// What keeps the step from being lawful; nothing where it is. Of several reasons it is the first one in the order of the rules.
@@ -145,8 +156,10 @@ pub fn reason_of<A: Allocator>(core: &Core<A>, step: Step) -> Option<Unlawful>
         Step::Queue(item) => queue_reason(core, item),
         Step::Cancel(item) => cancel_reason(core, item),
         Step::Start(q, item) => start_reason(core, q, item),
-        Step::Wait(q, target) => wait_reason(core, q, target),
-        Step::Over(q, target) => over_reason(core, q, target),
+        Step::Wait(q, target) => wait_reason(core, q, false, target),
+        Step::Over(q, target) => over_reason(core, q, false, target),
+        Step::WaitAll(q, target) => wait_reason(core, q, true, target),
+        Step::OverAll(q, target) => over_reason(core, q, true, target),
         Step::Finish(q, item) => finish_reason(core, q, item),
     }
 }

@@ -6,7 +6,7 @@
 ghost use Rattle.std.specs.Prelude.{◌≡◌, length};
 
 use crate::finding::Finding;
-use crate::guess::{first_like, foreign_hint, text_with};
+use crate::guess::{foreign_hint, most_like, text_with};
 use crate::hint::Hint;
 use crate::names::nearest;
 use crate::placed::{find_split, find_twice, find_unplaced};
@@ -215,7 +215,7 @@ fn stray_hint<A: Allocator + Copy>(
         return Ok(Hint::LooksLike(text));
     }
     let known: &[&'static str] = if next == 0 { &["wq", "plan"] } else { &["wq"] };
-    Ok(match first_like(alloc, word, known)? {
+    Ok(match most_like(alloc, word, known)? {
         Some(meant) => Hint::Directive(meant),
         None => Hint::Nothing,
     })

@@ -126,7 +126,10 @@ fn has_directive(text: &Text<'_>) -> bool {
 
 /// Whether a word is a directive.
 fn is_directive(word: &[u8]) -> bool {
-    word == b"item".as_slice() || word == b"flush".as_slice() || word == b"ordered".as_slice()
+    word == b"item".as_slice()
+        || word == b"flush".as_slice()
+        || word == b"flushwq".as_slice()
+        || word == b"ordered".as_slice()
 }
 
 /// What a word that isn't a directive was most likely meant to be.
@@ -146,7 +149,7 @@ fn directive_hint<A: Allocator + Copy>(
     }
     Ok(match directive_like(alloc, word)? {
         Some(directive) => Hint::Directive(directive),
-        None => Hint::Said("a line begins with `item`, `flush` or `ordered`"),
+        None => Hint::Said("a line begins with `item`, `flush`, `flushwq` or `ordered`"),
     })
 }
 
@@ -155,6 +158,7 @@ fn form_of(line: &Line<'_>) -> &'static str {
     match bytes_at(line, 0) {
         b"item" => "item NAME",
         b"ordered" => "ordered NAME..",
+        b"flushwq" => "flushwq NAME ITEM",
         _ => "flush NAME TARGET..",
     }
 }
@@ -165,14 +169,26 @@ fn missing_name<'a>(line: &Line<'a>) -> Finding<'a> {
     Finding::marked(Mark::behind(line), what, Hint::Form(form_of(line)))
 }
 
-/// An `item` line with more than one name.
+/// An `item` line with more than one name, or a `flushwq` line with more than two.
 fn extra_word<'a>(line: &Line<'a>) -> Finding<'a> {
-    let hint = if begins_comment(bytes_at(line, 2)) {
+    let (at, what, hint) = match bytes_at(line, 0) {
+        b"flushwq" => (
+            3,
+            "a `flushwq` line has two names",
+            "each workqueue has a `flushwq` line of its own",
+        ),
+        _ => (
+            2,
+            "an `item` line has one name",
+            "each item has an `item` line of its own",
+        ),
+    };
+    let hint = if begins_comment(bytes_at(line, at)) {
         Hint::COMMENT
     } else {
-        Hint::Said("each item has an `item` line of its own")
+        Hint::Said(hint)
     };
-    Finding::at_word(line, 2, What::Said("an `item` line has one name"), hint)
+    Finding::at_word(line, at, What::Said(what), hint)
 }
 
 /// Whether a byte may be in a name.

@@ -106,10 +106,11 @@ pub(crate) fn text_with(word: &[u8]) -> Option<&'static str> {
         return None;
     };
     match word {
-        "item" | "flush" | "ordered" => Some("a declaration"),
+        "item" | "flush" | "flushwq" | "ordered" => Some("a declaration"),
         "plan" | "wq" | "chain" => Some("a plan or an assignment"),
         "circle" => Some("a circle"),
-        "run" | "queue" | "cancel" | "start" | "wait" | "over" | "finish" => Some("a run"),
+        "run" | "queue" | "cancel" | "start" | "wait" | "over" | "waitwq" | "overwq" | "finish" =>
+            Some("a run"),
         "refused" => Some("a refusal, written here in place of an answer"),
         _ => None,
     }
@@ -120,29 +121,34 @@ pub(crate) fn directive_like<A: Allocator + Copy>(
     alloc: A,
     word: &[u8],
 ) -> Result<Option<&'static str>, AllocError> {
-    first_like(alloc, word, &["item", "flush", "ordered"])
+    most_like(alloc, word, &["item", "flush", "flushwq", "ordered"])
 }
 
-/// The first of these words that is like a word of a text.
-pub(crate) fn first_like<A: Allocator + Copy>(
+/// The one of these words that a word of a text is most like, if it is like one; of several the first.
+pub(crate) fn most_like<A: Allocator + Copy>(
     alloc: A,
     word: &[u8],
     known: &[&'static str],
 ) -> Result<Option<&'static str>, AllocError> {
     let word = letters(alloc, word)?;
-    first_like_shown(alloc, &word, known)
+    most_like_shown(alloc, &word, known)
 }
 
 /// The same for a word as it is shown.
-fn first_like_shown<A: Allocator + Copy>(
+fn most_like_shown<A: Allocator + Copy>(
     alloc: A,
     word: &str,
     known: &[&'static str],
 ) -> Result<Option<&'static str>, AllocError> {
+    let mut like = None;
+    let mut least = usize::MAX;
     for other in known {
-        if edits_between(alloc, word, other.as_bytes())?.is_some() {
-            return Ok(Some(*other));
+        if let Some(edits) = edits_between(alloc, word, other.as_bytes())?
+            && edits < least
+        {
+            least = edits;
+            like = Some(*other);
         }
     }
-    Ok(None)
+    Ok(like)
 }

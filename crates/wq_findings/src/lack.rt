@@ -1,6 +1,7 @@
 //! What a certificate lacks to which the checker says no.
 //!
-//! The reasons are those of "The command `check`" in docs/FORMAT.md. It takes time in the length of the text.
+//! The reasons are those of "The command `check`" in docs/FORMAT.md. It takes time in the length of the text and in the number of
+//! flushes that one item declares.
 
 use crate::finding::Finding;
 use crate::hint::Hint;
@@ -84,6 +85,23 @@ fn word_of<'a, A: Allocator + Copy>(
     None
 }
 
+/// Whether the first flush of a target that an item declares is of its whole workqueue.
+fn flushes_whole<A: Allocator + Copy>(
+    table: &ItemTable<'_, A>,
+    item: ItemId,
+    target: ItemId,
+) -> bool {
+    if item.get() >= table.len() {
+        return false;
+    }
+    for flush in table.waits(item) {
+        if flush.item == target {
+            return flush.whole;
+        }
+    }
+    false
+}
+
 /// An item that isn't above what it flushes.
 fn not_falling<'a, A: Allocator + Copy>(
     table: &ItemTable<'_, A>,
@@ -105,9 +123,10 @@ fn not_falling<'a, A: Allocator + Copy>(
         }
     }
     match (low, flushed) {
-        (Some((line, word)), Some((target, workqueue))) => {
-            let what = What::TooLow(word.quoted(), target);
-            let hint = Hint::OnWorkqueue(target, workqueue);
+        (Some((line, word)), Some((name, workqueue))) => {
+            let whole = flushes_whole(table, item, target);
+            let what = What::TooLow(word.quoted(), name, whole);
+            let hint = Hint::OnWorkqueue(name, workqueue);
             Lack::marked(line, word.mark, what, hint)
         }
         _ => Lack::whole(What::Said(

@@ -215,6 +215,8 @@ fn is_step(word: &[u8]) -> bool {
         || word == b"start".as_slice()
         || word == b"wait".as_slice()
         || word == b"over".as_slice()
+        || word == b"waitwq".as_slice()
+        || word == b"overwq".as_slice()
         || word == b"finish".as_slice()
 }
 

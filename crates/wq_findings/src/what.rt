@@ -48,8 +48,8 @@ pub enum What<'a> {
     PlacedAlready(Quoted<'a>),
     /// Two names of one `ordered` line that are on two workqueues.
     Split(Quoted<'a>, Quoted<'a>),
-    /// An item that should be above this target.
-    TooLow(Quoted<'a>, Quoted<'a>),
+    /// An item that should be above this target, and whether it flushes the whole workqueue of the target.
+    TooLow(Quoted<'a>, Quoted<'a>, bool),
     /// The item and the target of an arc, and which arc it should follow.
     WrongArc(Quoted<'a>, Quoted<'a>, &'static str),
 }
@@ -76,7 +76,7 @@ impl fmt::Display for What<'_> {
             What::CutOff(items, line) => write!(f, "{items}: line {line} isn't a `wq` line"),
             What::PlacedAlready(name) => say(f, "", name, " is on a workqueue already"),
             What::Split(name, other) => split(f, name, other),
-            What::TooLow(item, target) => too_low(f, item, target),
+            What::TooLow(item, target, whole) => too_low(f, item, target, whole),
             What::WrongArc(item, target, before) => wrong_arc(f, item, target, before),
         }
     }
@@ -128,8 +128,14 @@ fn too_low<W: fmt::Write>(
     f: &mut fmt::Formatter<W>,
     item: Quoted<'_>,
     target: Quoted<'_>,
+    whole: bool,
 ) -> fmt::Result {
-    say(f, "", item, " flushes ")?;
+    let flushes = if whole {
+        " flushes the workqueue of "
+    } else {
+        " flushes "
+    };
+    say(f, "", item, flushes)?;
     say(f, "", target, ", so it should be on a higher workqueue")
 }
 
