@@ -1,4 +1,4 @@
-# Rows for `test_runtime crew` and `test_runtime script`: a declaration, an assignment, how many rows there are, what the bodies and
+# Rows for `test_runtime crew`, `report` and `script`: a declaration, an assignment, how many rows there are, what the bodies and
 # callers do, the answer, and the status. All were worked out by hand from docs/FORMAT.md.
 #
 # Where the schedule of the threads decides in which order rows stand, only what is printed before
@@ -108,6 +108,34 @@ CREWS = [
     (*ONE, 10, "body a", "mistake line 1", 2),
     (*ONE, 10, "body / fail x", "mistake line 2", 2),
     (*ONE, 10, "body / fail 4294967296", "mistake line 2", 2),
+]
+
+# What `run` prints of a plan that was run, here of what the deeds say.
+REPORTS = [
+    ("", "", 10, "", "workqueues 0 / faults 0", 0),
+    (*ONE, 10, "body", "workqueues 1 / item a wq 0 queued 0 cancelled 0 finished 0 / faults 0", 0),
+    # Three executions, each with a fault.
+    (*ONE, 100, "body / fail 5 / caller / queue a / flush a / queue a / flush a / queue a",
+     "workqueues 1 / item a wq 0 queued 3 cancelled 0 finished 3 / faults 3", 0),
+    # `b` stays pending until the caller comes to its `meet`: the second queueing in a row and the second cancellation in a row say no,
+    # and aren't counted. Nobody queues `d`. Two of three executions have a fault.
+    ("item c / item a / item b / item d", "wq 0 a b / wq 1 c d", 100,
+     "body / meet / fail 7 / body / meet"
+     " / caller / queue c / queue a / queue b / queue b / cancel b / cancel b / queue b / meet",
+     "workqueues 2 / item c wq 1 queued 1 cancelled 0 finished 1 / item a wq 0 queued 1 cancelled 0 finished 1"
+     " / item b wq 0 queued 2 cancelled 1 finished 1 / item d wq 1 queued 0 cancelled 0 finished 0 / faults 2", 0),
+    # A thousand executions with a fault, on two workqueues; and a thousand items.
+    (*APART, 10_000, " / ".join(["body / fail 5 / body / fail 6 / caller", *["queue a / flush a"] * 600,
+                                 "caller", *["queue b / flush b"] * 400]),
+     "workqueues 2 / item a wq 0 queued 600 cancelled 0 finished 600 / item b wq 1 queued 400 cancelled 0 finished 400"
+     " / faults 1000", 0),
+    (" / ".join(f"item i{i}" for i in range(1_000)), " ".join(["wq 0", *(f"i{i}" for i in range(1_000))]), 10_000,
+     " / ".join(["body / fail 5 / caller", *(f"queue i{i}" for i in range(1_000))]),
+     " / ".join(["workqueues 1", *(f"item i{i} wq 0 queued 1 cancelled 0 finished 1" for i in range(1_000)), "faults 1000"]), 0),
+    # What isn't run has no report.
+    (*ONE, 10, "", "refused 73 seats 0 bodies 0 callers 0", 1),
+    (*ONE, 16_777_217, "body", "refused 68", 2),
+    (*ONE, 10, "body / nothing", "mistake line 2", 2),
 ]
 
 # What is printed begins as this regular expression says.

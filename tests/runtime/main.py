@@ -2,7 +2,7 @@
 #
 #     main.py TEST_RUNTIME
 #
-# Each row is texts and the answer to them: `test_runtime calls`, `crew` or `script` must print just that, with the
+# Each row is texts and the answer to them: `test_runtime calls`, `crew`, `report` or `script` must print just that, with the
 # exit status that goes with it, and nothing to standard error. It takes some seconds. A run that takes too long is
 # ended, and has failed: a wake-up may be lost.
 
@@ -57,9 +57,10 @@ def table_cases():
         yield one_thread("runtimes", declaration, assignment, rows, lines, answer)
     for declaration, assignment, rows, lines, answer in calls.TEXTS:
         yield one_thread("texts of calls", declaration, assignment, rows, lines, text_of(answer))
-    for declaration, assignment, rows, deeds, answer, status in crews.CREWS:
-        texts = [text_of(text) for text in (declaration, assignment, deeds)]
-        yield Case("crews", ["crew", 0, 1, str(rows), 2], texts, text_of(answer), status)
+    for table, command, given in [("crews", "crew", crews.CREWS), ("reports", "report", crews.REPORTS)]:
+        for declaration, assignment, rows, deeds, answer, status in given:
+            texts = [text_of(text) for text in (declaration, assignment, deeds)]
+            yield Case(table, [command, 0, 1, str(rows), 2], texts, text_of(answer), status)
     for declaration, assignment, rows, deeds, answer in crews.MEETINGS:
         texts = [text_of(text) for text in (declaration, assignment, deeds)]
         pattern = answer.replace(" / ", "\n").encode("latin-1")
@@ -91,11 +92,13 @@ def table_cases():
         ["calls"], ["calls", 0, 0, "1"], ["calls", 0, 0, "x", 0], ["calls", 0, 0, "01", 0],
         ["calls", 0, 0, "4294967296", 0], ["calls", 0, 0, "1", 0, 0],
         ["crew"], ["crew", 0, 0, "1"], ["crew", 0, 0, "x", 0], ["crew", 0, 0, "1", 0, 0],
+        ["report"], ["report", 0, 0, "1"], ["report", 0, 0, "x", 0], ["report", 0, 0, "1", 0, 0],
         ["script"], ["script", 0, 0], ["script", 0, 0, "x"], ["script", 0, 0, "1", 0, 0],
     ]:
         yield Case("command lines", words, [b""], b"", 2, complains=True)
     for words in [
         ["calls", 0, 0, "1", "nowhere"], ["calls", "nowhere", 0, "1", 0], ["crew", 0, 0, "1", "nowhere"],
+        ["report", 0, 0, "1", "nowhere"],
         ["script", 0, "nowhere", "1"], ["script", 0, 0, "1", "nowhere"],
     ]:
         yield Case("faults", words, [b""], b"", 3, complains=True)

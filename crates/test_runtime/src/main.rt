@@ -19,8 +19,8 @@ use wq_commands::Fault;
 
 const USAGE: &str = "usage: test_runtime book DECL ASSIGN ROWS EVENTS \
     | check DECL ASSIGN HEX | calls DECL ASSIGN ROWS CALLS | crew DECL ASSIGN ROWS DEEDS \
-    | script DECL ASSIGN ROWS [ACTS] | stress DECL ASSIGN ROWS SEED CALLS \
-    | bench DECL ASSIGN ROWS rounds|storm|fill CALLERS N";
+    | report DECL ASSIGN ROWS DEEDS | script DECL ASSIGN ROWS [ACTS] \
+    | stress DECL ASSIGN ROWS SEED CALLS | bench DECL ASSIGN ROWS rounds|storm|fill CALLERS N";
 
 /// A task in a setting, and the file of its text, if it has one.
 #[derive(Clone, Copy)]
@@ -42,6 +42,7 @@ fn order_of<'a>(
         ("check", [path]) => (Task::Check, "0", Some(path.as_str())),
         ("calls", [rows, path]) => (Task::Calls, rows.as_str(), Some(path.as_str())),
         ("crew", [rows, path]) => (Task::Crew, rows.as_str(), Some(path.as_str())),
+        ("report", [rows, path]) => (Task::Report, rows.as_str(), Some(path.as_str())),
         ("script", [rows]) => (Task::Script, rows.as_str(), None),
         ("script", [rows, path]) => (Task::Acts, rows.as_str(), Some(path.as_str())),
         _ => return None,
@@ -80,8 +81,8 @@ fn perform<R: Files + Print + AllocGlobal + Threads + Wait + Clock + Sync>(
     print_answer(rt, &out, status)
 }
 
-/// Does what `book`, `check`, `calls`, `crew` or `script` asks for by the words after it. Returns the status, or none where the words
-/// have none of their forms.
+/// Does what `book`, `check`, `calls`, `crew`, `report` or `script` asks for by the words after it. Returns the status, or none where
+/// the words have none of their forms.
 fn session<R: Files + Print + Eprint + AllocGlobal + Threads + Wait + Clock + Sync>(
     rt: &R,
     command: &str,
@@ -143,7 +144,9 @@ fn dispatch<R: Files + Print + Eprint + AllocGlobal + Threads + Wait + Clock + S
 ) -> Option<u8> {
     match words {
         [_, command, rest @ ..] => match command.as_str() {
-            "book" | "check" | "calls" | "crew" | "script" => session(rt, command.as_str(), rest),
+            "book" | "check" | "calls" | "crew" | "report" | "script" => {
+                session(rt, command.as_str(), rest)
+            }
             "stress" | "bench" => loaded(rt, command.as_str(), rest),
             _ => None,
         },

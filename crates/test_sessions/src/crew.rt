@@ -12,7 +12,7 @@ use crate::deed::{Deed, Plot};
 use crate::doer::Doer;
 use crate::lines::tell_text;
 use crate::meeting::Flags;
-use crate::ran::put_end;
+use crate::ran::{Account, put_end};
 use crate::testbed::Bed;
 use std::alloc::{AllocError, Global};
 use std::sync::Wait;
@@ -88,18 +88,19 @@ impl Crew {
         Ok(run_all(rt, alloc, runtime, bodies, callers))
     }
 
-    /// Has rescuers and callers do it, closes the runtime, and adds what came of it. Returns the status.
+    /// Has rescuers and callers do it, closes the runtime, and adds what is to be printed of it. Returns the status.
     pub(crate) fn run<N: Naming + Send + Sync, R: Threads + Wait + Sync>(
         &self,
         rt: &R,
         alloc: Global,
         runtime: WqRuntime<N, Global>,
         bed: &Bed<'_>,
+        account: Account,
         out: &mut String,
     ) -> Result<u8, AllocError>
         requires { N.wiring ≡ wiring (declaration_of bed.now.table.now bed.now.groups.now) bed.now.assignment.now }
     {
         let ran = self.perform(rt, alloc, &runtime, bed);
-        put_end(out, bed.table, runtime, ran)
+        put_end(out, alloc, bed, runtime, ran, account)
     }
 }

@@ -1,11 +1,22 @@
 //! What is printed once all rescuers and callers have ended. It takes time in the length of what is printed.
 
-use crate::testbed::{fault, put_closed, put_done};
+use crate::testbed::{Bed, fault, put_closed, put_done};
 use std::alloc::{AllocError, Global};
+use std::{mem, str};
 use wq_api::{CallError, Naming, Seat, WqRuntime};
 use wq_items::ItemTable;
 use wq_rescuer::{Body, Caller, Ran, Rescued, RunFault};
+use wq_run::report_text;
 use wq_script::{ScriptBody, ScriptCaller};
+
+/// What is printed of a run.
+#[derive(Clone, Copy)]
+pub(crate) enum Account {
+    /// All that the threads left, and what the closed runtime hands back.
+    Whole,
+    /// The report that `run` prints.
+    Report,
+}
 
 /// A body or a caller of which something is printed.
 pub(crate) trait Shown {
@@ -142,6 +153,37 @@ fn put_ran<N: Naming, B: Body + Shown + Drop, C: Caller + Shown + Drop>(
     printed.and(status)
 }
 
+/// Adds a text, if there was memory for it. Returns the status.
+fn put_text(out: &mut String, text: Result<Vec<u8>, AllocError>) -> Result<u8, AllocError> {
+    let text = text?;
+    out.push_str(str::from_utf8(&text).unwrap_or("-"))?;
+    Ok(0)
+}
+
+/// Closes a runtime with the seats of a run, and adds the report on both. Returns the status.
+fn put_report<N: Naming, B: Body + Drop, C: Caller + Drop>(
+    out: &mut String,
+    alloc: Global,
+    bed: &Bed<'_>,
+    runtime: WqRuntime<N, Global>,
+    mut ran: Ran<N, Global, B, C>,
+) -> Result<u8, AllocError> {
+    let seats = mem::replace(&mut ran.seats, Vec::new(alloc));
+    match runtime.close(seats) {
+        Ok(closed) => {
+            let text = report_text(alloc, bed.table, bed.groups, bed.assignment, &closed, &ran);
+            drop(closed);
+            drop(ran);
+            put_text(out, text)
+        }
+        Err(refused) => {
+            drop(refused);
+            drop(ran);
+            fault(out, "close")
+        }
+    }
+}
+
 /// Adds that not everything was run on a runtime. Returns the status.
 fn put_refused<N: Naming, B: Body + Drop, C: Caller + Drop>(
     out: &mut String,
@@ -154,17 +196,20 @@ fn put_refused<N: Naming, B: Body + Drop, C: Caller + Drop>(
     status
 }
 
-/// Adds what came of a run, closes the runtime, and adds what is handed back. Returns the status.
+/// Adds what came of a run, closes the runtime, and adds what is handed back, or the report on it. Returns the status.
 pub(crate) fn put_end<N: Naming, B: Body + Shown + Drop, C: Caller + Shown + Drop>(
     out: &mut String,
-    table: &ItemTable<'_, Global>,
+    alloc: Global,
+    bed: &Bed<'_>,
     runtime: WqRuntime<N, Global>,
     ran: Result<Result<Ran<N, Global, B, C>, RunFault<N, Global, B, C>>, AllocError>,
+    account: Account,
 ) -> Result<u8, AllocError> {
-    match ran {
-        Ok(Ok(ran)) => put_ran(out, table, runtime, ran),
-        Ok(Err(refused)) => put_refused(out, runtime, refused),
-        Err(error) => {
+    match (ran, account) {
+        (Ok(Ok(ran)), Account::Whole) => put_ran(out, bed.table, runtime, ran),
+        (Ok(Ok(ran)), Account::Report) => put_report(out, alloc, bed, runtime, ran),
+        (Ok(Err(refused)), _) => put_refused(out, runtime, refused),
+        (Err(error), _) => {
             drop(runtime);
             Err(error)
         }

@@ -7,6 +7,7 @@ ghost use Rattle.wq_core.specs.Wiring.{wiring};
 use crate::book::keep_book;
 use crate::crew::Crew;
 use crate::judging::judge;
+use crate::ran::Account;
 use crate::scripted::Script;
 use crate::session::keep_session;
 use crate::testbed::{Bed, make, mistake};
@@ -29,6 +30,8 @@ pub enum Task {
     Calls,
     /// Rescuers and callers of a runtime do what a text says.
     Crew,
+    /// They do so, and the report that `run` prints is printed of it.
+    Report,
     /// Rescuers of a runtime make the declared flushes, and two callers queue and flush all items. There is no text.
     Script,
     /// Rescuers of a runtime make the declared flushes, and a caller the calls of a text.
@@ -46,13 +49,26 @@ pub struct Request<'a> {
 #[derive(Drop)]
 enum Play<'a> {
     Calls(&'a [u8]),
-    Crew(Crew),
+    Crew(Crew, Account),
     Script(Script),
     /// Nothing: this line of the text is the first mistake.
     Mistake(u32),
 }
 
 impl Play<'_> {
+    /// What a text has rescuers and callers do, and what is to be printed of it.
+    fn of_crew(
+        alloc: Global,
+        bed: &Bed<'_>,
+        text: &[u8],
+        account: Account,
+    ) -> Result<Self, AllocError> {
+        match Crew::read(alloc, bed.table, text)? {
+            Ok(crew) => Ok(Play::Crew(crew, account)),
+            Err(line) => Ok(Play::Mistake(line)),
+        }
+    }
+
     /// Does it with this runtime. Returns the status.
     fn run<N: Naming + Send + Sync, R: Threads + Wait + Clock + Sync>(
         &self,
@@ -66,7 +82,7 @@ impl Play<'_> {
     {
         match self {
             Play::Calls(text) => keep_session(rt, alloc, runtime, bed.table, *text, out),
-            Play::Crew(crew) => crew.run(rt, alloc, runtime, bed, out),
+            Play::Crew(crew, account) => crew.run(rt, alloc, runtime, bed, *account, out),
             Play::Script(script) => script.run(rt, alloc, runtime, bed, out),
             Play::Mistake(line) => {
                 drop(runtime);
@@ -122,10 +138,8 @@ impl Request<'_> {
             Task::Book => return keep_book(alloc, bed, self.text, out),
             Task::Check => return judge(alloc, bed, self.text, out),
             Task::Calls => Play::Calls(self.text),
-            Task::Crew => match Crew::read(alloc, bed.table, self.text)? {
-                Ok(crew) => Play::Crew(crew),
-                Err(line) => Play::Mistake(line),
-            },
+            Task::Crew => Play::of_crew(alloc, bed, self.text, Account::Whole)?,
+            Task::Report => Play::of_crew(alloc, bed, self.text, Account::Report)?,
             Task::Script => Play::Script(Script::of_all()),
             Task::Acts => match Script::read(alloc, bed.table, self.text)? {
                 Ok(script) => Play::Script(script),

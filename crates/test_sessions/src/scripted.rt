@@ -8,7 +8,7 @@ ghost use Rattle.wq_groups.specs.Declaration.{declaration_of};
 ghost use Rattle.wq_core.specs.Wiring.{wiring};
 
 use crate::lines::tell_text;
-use crate::ran::put_end;
+use crate::ran::{Account, put_end};
 use crate::testbed::Bed;
 use std::alloc::{AllocError, Global};
 use std::sync::Wait;
@@ -88,6 +88,6 @@ impl Script {
         requires { N.wiring ≡ wiring (declaration_of bed.now.table.now bed.now.groups.now) bed.now.assignment.now }
     {
         let ran = self.perform(rt, alloc, &runtime, bed);
-        put_end(out, bed.table, runtime, ran)
+        put_end(out, alloc, bed, runtime, ran, Account::Whole)
     }
 }
