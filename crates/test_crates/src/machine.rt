@@ -142,7 +142,8 @@ fn assert_wiring(rt: &impl Abort, core: &Core<Global>) {
     let (a, b) = (ItemId::new(0), ItemId::new(1));
     assert!(rt; core.items() == 2 && core.lanes() == 2);
     assert!(rt; core.lane_of(a).get() == 1 && core.lane_of(b).get() == 0);
-    assert!(rt; core.declares(a, b) && core.waits(a).len() == 1 && core.waits(b).is_empty());
+    assert!(rt; core.declares(a, false, b) && !core.declares(a, true, b));
+    assert!(rt; core.waits(a).len() == 1 && core.waits(b).is_empty());
 }
 
 /// Has the first item run, wait for the second one, which is pending, and be queued again; then a step is refused.
@@ -178,7 +179,11 @@ fn assert_lane(
 fn assert_stands(rt: &impl Abort, core: &Core<Global>) {
     let (a, b) = (ItemId::new(0), ItemId::new(1));
     let entry = Entry { number: 0, item: a };
-    let waiting = Some(Waiting { target: b, mark: 2 });
+    let waiting = Some(Waiting {
+        target: b,
+        whole: false,
+        mark: 2,
+    });
     let made = 1;
     let running = Running {
         entry,
@@ -196,6 +201,9 @@ fn assert_stands(rt: &impl Abort, core: &Core<Global>) {
     assert_lane(rt, core, 2, None, None);
     assert!(rt; core.unfinished_below(a, 1) && !core.unfinished_below(a, 0));
     assert!(rt; core.unfinished_below(b, 2) && !core.unfinished_below(b, 1));
+    let (first, second) = (LaneId::new(0), LaneId::new(1));
+    assert!(rt; core.lane_unfinished_below(first, 2) && !core.lane_unfinished_below(first, 1));
+    assert!(rt; core.lane_unfinished_below(second, 1) && !core.lane_unfinished_below(second, 0));
     assert!(rt; core.has_unfinished(a) && core.has_unfinished(b) && core.is_pending(a));
 }
 

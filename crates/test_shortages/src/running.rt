@@ -13,7 +13,7 @@ use wq_run::{CommandFault, run_cmd};
 #[derive(Clone, Copy)]
 struct Asked<'a> {
     text: &'a [u8],
-    end: End,
+    end: Result<End, CommandFault>,
     answer: &'a [u8],
 }
 
@@ -29,8 +29,10 @@ fn outcome<R: Threads + Wait + Sync>(
     let end = run_cmd(rt, heap, SEED, &mut reader, &mut writer);
     let is_untouched = writer.calls() == 0;
     let written = writer.into_inner();
+    if end == asked.end && written.as_slice() == asked.answer {
+        return Outcome::Answered;
+    }
     match end {
-        Ok(end) if end == asked.end && written.as_slice() == asked.answer => Outcome::Answered,
         Err(CommandFault::Common(Fault::Memory) | CommandFault::Thread) if is_untouched => {
             Outcome::Refused
         }
@@ -43,7 +45,7 @@ fn put_case<R: Print + AllocGlobal + Threads + Wait + Sync>(
     rt: &R,
     name: &str,
     text: &[u8],
-    end: End,
+    end: Result<End, CommandFault>,
     answer: &[u8],
 ) -> io::Result<bool> {
     let alloc = rt.alloc();
@@ -56,16 +58,11 @@ fn put_case<R: Print + AllocGlobal + Threads + Wait + Sync>(
     )
 }
 
-/// Runs the largest declaration of examples/ with each request refused in turn. Gives whether all runs ended as they should.
+/// Runs the largest declaration of examples/, whose items wait for a whole workqueue, with each request refused in turn: such
+/// waits aren't run yet. Gives whether all runs ended as they should.
 fn put_largest<R: Print + AllocGlobal + Threads + Wait + Sync>(rt: &R) -> io::Result<bool> {
-    let text = LARGEST.as_bytes();
-    let mut writer = Metered::new(Vec::new(rt.alloc()));
-    let end = run_cmd(rt, rt.alloc(), SEED, &mut Metered::new(text), &mut writer);
-    let answer = writer.into_inner();
-    match end {
-        Ok(end) => put_case(rt, "xfs", text, end, &answer),
-        Err(_) => Ok(false),
-    }
+    let end = Err(CommandFault::FlushWq);
+    put_case(rt, "xfs", LARGEST.as_bytes(), end, b"")
 }
 
 /// A chain of 257 items, whose plan has one workqueue more than can be run.
@@ -88,7 +85,7 @@ fn put_too_many<R: Print + AllocGlobal + Threads + Wait + Sync>(rt: &R) -> io::R
         rt,
         "a plan of 257 workqueues",
         text.as_bytes(),
-        End::Refused,
+        Ok(End::Refused),
         answer,
     )
 }
@@ -100,7 +97,7 @@ pub(crate) fn put_running<R: Print + AllocGlobal + Threads + Wait + Sync>(
     let mut is_right = true;
     for case in run_cases() {
         let text = case.text.as_bytes();
-        is_right &= put_case(rt, case.name, text, case.end, case.answer.as_bytes())?;
+        is_right &= put_case(rt, case.name, text, Ok(case.end), case.answer.as_bytes())?;
     }
     is_right &= put_too_many(rt)?;
     is_right &= put_largest(rt)?;

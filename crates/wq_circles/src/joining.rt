@@ -10,8 +10,8 @@ ghost use Rattle.std.specs.List.{All};
 ghost use Rattle.wq_groups.specs.Declaration.{declaration_of};
 ghost use Rattle.wq_circles.specs.Components.{joined, loops_at, loops, AreComponents};
 
-use std::alloc::{AllocError, Allocator};
 use crate::together::lowest;
+use std::alloc::{AllocError, Allocator};
 use wq_graph::{WaitArc, WaitGraph};
 use wq_groups::{Assignment, GroupId, Groups, LaneId};
 use wq_items::ItemTable;

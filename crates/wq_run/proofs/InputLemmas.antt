@@ -74,7 +74,7 @@ runnable_by : (declared : Result Declared Refusal) (whole : Bool) → MatchResul
 runnable_by (Ok s) whole has = has.0
 runnable_by (Err r) whole has = absurd has
 
-module _ {R : Type 0} {remaining : R → Option (List ℕ)} {old new : Meter R} where
+module _ {R : Type 0} (remaining : R → Option (List ℕ)) (old new : Meter R) where
   IsRunnableInput-by : (whole : Bool) → IsRunnableInputBy remaining old new whole → IsRunnableInput remaining old new
   IsRunnableInput-by whole h = record { text = h.text; given = h.given; runnable = runnable_by (declaration h.text) whole h.runnable }
 

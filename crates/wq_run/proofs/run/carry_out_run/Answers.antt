@@ -26,7 +26,7 @@ returns-clause-prefix g c = λ is.
 
 pub returns-clause-unanswered : goal.returns-clause-unanswered
 returns-clause-unanswered g c =
-    IfErr-weaker c.respond-ended.result _ _ (λ stopped h. IfUnanswered-by stopped (IfUnanswered-read c.in_ok-text.ensures.given c.only-texts.result c.only-texts.ensures stopped h))
+    IfErr-weaker c.respond-ended.result _ _ (λ stopped h. IfUnanswered-by _ _ _ stopped (IfUnanswered-read c.in_ok-text.ensures.given c.only-texts.result c.only-texts.ensures stopped h))
     c.respond-ended.ensures.unanswered
 
 pub returns-clause-by_kind : goal.returns-clause-by_kind

@@ -12,7 +12,7 @@ make-requires-clause-may g c n gives = (
   refl,
   (
     over_may_come c.args.self.now c.args.q c.in-Some.flush c.in-Some.ensures.some
-    (λ held. absurd (let never : false ≡ true = c.if-unfinished_below.ensures.1 held in cc)),
+        (λ held. absurd (let never : false ≡ true = c.if-unfinished_below.ensures.1 held in cc)),
     gives,
   ),
 )
