@@ -144,7 +144,7 @@ def follow_ups(cases):
     """What must be said of the plans, the circles and the runs that are printed."""
     for given in cases:
         texts, answer = given.texts, given.answer
-        word, *rest = answer.split(maxsplit=2)
+        word, *rest = answer.split(maxsplit=2) or [b""]
         if word == b"plan":
             yield case("plans that are checked", "check", [texts[0], answer], b"yes %s\n" % rest[0])
         elif word == b"circle":
