@@ -32,6 +32,9 @@ def make_declaration(choose):
     way = choose.random()
     count = 0 if way < 0.01 else choose.randint(1, 8) if way < 0.95 else choose.randint(9, 16)
     lines = make_lines(choose, count)
+    for line in lines:
+        if line.words[0] == b"flushwq":  # which books don't know yet
+            line.words[0] = b"flush"
     names = [line.words[1] for line in lines if line.words[0] == b"item"]
     if names and choose.random() < 0.2:
         lines = [line for line in lines if line.words[0] != b"flush"]
