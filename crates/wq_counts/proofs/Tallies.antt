@@ -1,58 +1,155 @@
 -- Tallies: counts that are raised row by row are those of the rows.
 use Rattle.std.proofs.Common.{◌≡◌, ◌≢◌, ℕ, suc, ◌+◌, ◌*◌, ◌<◌, ◌≤◌, ◌⊎◌, inl, inr, Bool, true, false, cond, List, [], ◌∷◌, ◌++◌, length, get_or, replicate, append_assoc, refl, sym, ap, subst, ◌∙◌, arith}
 use Rattle.std.specs.Prelude.{◌==◌, sum, Option, Some, None, ◌&&◌}
-use Rattle.std.proofs.lemmas.Bool.{cases_eq, eq-eqb, eqb-true, and_parts, and_from, false_from_ne_true, false≢true}
+use Rattle.std.specs.List.{count_by}
+use Rattle.std.proofs.Math.Path.{fun_ext}
+use Rattle.std.proofs.lemmas.Bool.{cases_eq, eq-eqb, ne_eqb, eqb-true, and_parts, and_from, false≢true}
 use Rattle.std.proofs.lemmas.List.{get_or-replicate, length-replicate, append-nil}
 use Rattle.std.proofs.lemmas.List.Sums.{sum_by_push, sum_by-append, count_by-le-length}
 use Rattle.std.proofs.lemmas.List.Folds.{sum_by-replicate}
 use Rattle.wq_rows.specs.declared.event.Event.{Event}
-use Rattle.wq_rows.specs.declared.event.Event.TheVariants.{Queue, Cancel, Start, Wait, Over, Finish, Ask, Told}
+use Rattle.wq_rows.specs.declared.event.Event.TheVariants.{Queue, Cancel, Start, Wait, Over, Finish, Ask, Told, WaitAll, OverAll, AskLane, ToldLane}
 use Rattle.wq_rows.specs.declared.event.Row.{Row}
-use Rattle.wq_rows.specs.Packing.{item_in}
+use Rattle.wq_rows.specs.Packing.{item_in, lane_in}
 use Rattle.wq_counts.specs.declared.kind.Kind.{Kind}
-use Rattle.wq_counts.specs.declared.kind.Kind.TheVariants.{Queue as QueueKind, Cancel as CancelKind, Wait as WaitKind, Over as OverKind, Ask as AskKind, Told as ToldKind, Finish as FinishKind}
-use Rattle.wq_counts.specs.Counting.{kind_in, kind_place, answer_place, place, HasCountsOf, made, raised, has_kind, is_of, is_counted, tally, counted_rows, AreRowsOf, AreTallies, with_row, noted}
-use Rattle.wq_counts.proofs.Places.{same_counts, kind_place-same, answer_place-same, place-same, place-lt, sum-raised, length-raised, made-raised_same, made-raised_other}
+use Rattle.wq_counts.specs.declared.kind.Kind.TheVariants.{Queue as QueueKind, Cancel as CancelKind, Wait as WaitKind, Over as OverKind, Ask as AskKind, Told as ToldKind, Finish as FinishKind, WaitAll as WaitAllKind, OverAll as OverAllKind}
+use Rattle.wq_counts.specs.declared.kind.LaneKind.{LaneKind}
+use Rattle.wq_counts.specs.declared.kind.LaneKind.TheVariants.{Ask as AskLaneKind, Told as ToldLaneKind}
+use Rattle.wq_counts.specs.Counting.{counts_each, kind_in, lane_kind_in, kind_place, lane_kind_place, answer_place, place, lane_place, counted_place, slot_in, HasCountsOf, made, made_lane, raised_at, raised_where, has_kind, has_lane_kind, is_of, is_of_lane, is_counted, is_at, raises, tally, tally_lane, counted_rows, AreRowsOf, AreTallies, noted_as, noted}
+use Rattle.wq_counts.proofs.Places.{same_counts, cases_place, kind_place-same, lane_kind_place-same, answer_place-same, place-same, lane_place-same, place-ne-lane_place, place-ge, place-below, lane_place-below, place-lt, lane_place-lt, length-raised_at, sum-raised_at, raised_at-same, raised_at-other}
 
 -- ---- rows that are counted
 
--- the kind of an event, or none
-pub cases_kind : (kind : Option Kind) → (kind ≡ None) ⊎ ((one : Kind) × (kind ≡ Some one))
-cases_kind None = inl refl
-cases_kind (Some one) = inr (one, refl)
+-- the place of a row, or none
+pub cases_counted : (place : Option ℕ) → (place ≡ None) ⊎ ((p : ℕ) × (place ≡ Some p))
+cases_counted None = inl refl
+cases_counted (Some p) = inr (p, refl)
 
--- a row is counted exactly if it has a kind
-pub is_counted-some : (event : Event) (kind : Kind) → kind_in event ≡ Some kind → is_counted event ≡ true
-is_counted-some (Queue i) kind is = refl
-is_counted-some (Cancel i) kind is = refl
-is_counted-some (Start q i) kind is = absurd cc
-is_counted-some (Wait q b) kind is = refl
-is_counted-some (Over q b) kind is = refl
-is_counted-some (Finish q i) kind is = refl
-is_counted-some (Ask i) kind is = refl
-is_counted-some (Told i) kind is = refl
+Some-same : {X : Type 0} {x y : X} → Some x ≡ Some y → x ≡ y
+Some-same e = cc
 
-pub is_counted-none : (event : Event) → kind_in event ≡ None → is_counted event ≡ false
-is_counted-none (Queue i) is = absurd cc
-is_counted-none (Cancel i) is = absurd cc
-is_counted-none (Start q i) is = refl
-is_counted-none (Wait q b) is = absurd cc
-is_counted-none (Over q b) is = absurd cc
-is_counted-none (Finish q i) is = absurd cc
-is_counted-none (Ask i) is = absurd cc
-is_counted-none (Told i) is = absurd cc
+-- a row is counted exactly if it has a place
+pub is_counted-some : (event : Event) (said : Bool) (p : ℕ) → counted_place event said ≡ Some p → is_counted event ≡ true
+is_counted-some (Queue i) said p is = refl
+is_counted-some (Cancel i) said p is = refl
+is_counted-some (Start q i) said p is = absurd cc
+is_counted-some (Wait q b) said p is = refl
+is_counted-some (Over q b) said p is = refl
+is_counted-some (Finish q i) said p is = refl
+is_counted-some (Ask i) said p is = refl
+is_counted-some (Told i) said p is = refl
+is_counted-some (WaitAll q b) said p is = refl
+is_counted-some (OverAll q b) said p is = refl
+is_counted-some (AskLane q) said p is = refl
+is_counted-some (ToldLane q) said p is = refl
 
-pub kind_in-counted : (event : Event) → is_counted event ≡ true → (kind : Kind) × (kind_in event ≡ Some kind)
-kind_in-counted (Queue i) counted = (QueueKind, refl)
-kind_in-counted (Cancel i) counted = (CancelKind, refl)
-kind_in-counted (Start q i) counted = absurd cc
-kind_in-counted (Wait q b) counted = (WaitKind, refl)
-kind_in-counted (Over q b) counted = (OverKind, refl)
-kind_in-counted (Finish q i) counted = (FinishKind, refl)
-kind_in-counted (Ask i) counted = (AskKind, refl)
-kind_in-counted (Told i) counted = (ToldKind, refl)
+pub is_counted-none : (event : Event) (said : Bool) → counted_place event said ≡ None → is_counted event ≡ false
+is_counted-none (Queue i) said is = absurd cc
+is_counted-none (Cancel i) said is = absurd cc
+is_counted-none (Start q i) said is = refl
+is_counted-none (Wait q b) said is = absurd cc
+is_counted-none (Over q b) said is = absurd cc
+is_counted-none (Finish q i) said is = absurd cc
+is_counted-none (Ask i) said is = absurd cc
+is_counted-none (Told i) said is = absurd cc
+is_counted-none (WaitAll q b) said is = absurd cc
+is_counted-none (OverAll q b) said is = absurd cc
+is_counted-none (AskLane q) said is = absurd cc
+is_counted-none (ToldLane q) said is = absurd cc
 
--- ---- which item and kind a row is of, and with which answer
+-- that place is in its slot
+at_item : (i : ℕ) (kind : Kind) (said : Bool) (p : ℕ) → place i kind said ≡ p → (counts_each * i ≤ p) × (p < counts_each * i + counts_each)
+at_item i kind said p is = (omega (arith, is, place-ge i kind said), omega (arith, is, place-below i kind said))
+
+at_lane : (q : ℕ) (kind : LaneKind) (said : Bool) (p : ℕ) → lane_place q kind said ≡ p → (counts_each * q ≤ p) × (p < counts_each * q + counts_each)
+at_lane q kind said p is = (omega (arith, is), omega (arith, is, lane_place-below q kind said))
+
+pub in_slot : (event : Event) (said : Bool) (p : ℕ) → counted_place event said ≡ Some p
+    → (counts_each * slot_in event ≤ p) × (p < counts_each * slot_in event + counts_each)
+in_slot (Queue i) said p is = at_item i QueueKind said p (Some-same is)
+in_slot (Cancel i) said p is = at_item i CancelKind said p (Some-same is)
+in_slot (Start q i) said p is = absurd cc
+in_slot (Wait q b) said p is = at_item b WaitKind said p (Some-same is)
+in_slot (Over q b) said p is = at_item b OverKind said p (Some-same is)
+in_slot (Finish q i) said p is = at_item i FinishKind said p (Some-same is)
+in_slot (Ask i) said p is = at_item i AskKind said p (Some-same is)
+in_slot (Told i) said p is = at_item i ToldKind said p (Some-same is)
+in_slot (WaitAll q b) said p is = at_item b WaitAllKind said p (Some-same is)
+in_slot (OverAll q b) said p is = at_item b OverAllKind said p (Some-same is)
+in_slot (AskLane q) said p is = at_lane q AskLaneKind said p (Some-same is)
+in_slot (ToldLane q) said p is = at_lane q ToldLaneKind said p (Some-same is)
+
+-- it is within the counts of this many slots
+pub place_within : (n : ℕ) (event : Event) (said : Bool) (p : ℕ) (counts : List ℕ) → HasCountsOf n counts → counted_place event said ≡ Some p
+    → slot_in event < n → p < length counts
+place_within n event said p counts has is within = omega (arith, (in_slot event said p is).1, has, within)
+
+-- a row is counted exactly if it has a kind, of an item or of a lane
+pub counted-kind : (event : Event) → is_counted event ≡ true
+    → ((kind : Kind) × (kind_in event ≡ Some kind)) ⊎ ((kind : LaneKind) × (lane_kind_in event ≡ Some kind))
+counted-kind (Queue i) counted = inl (QueueKind, refl)
+counted-kind (Cancel i) counted = inl (CancelKind, refl)
+counted-kind (Start q i) counted = absurd cc
+counted-kind (Wait q b) counted = inl (WaitKind, refl)
+counted-kind (Over q b) counted = inl (OverKind, refl)
+counted-kind (Finish q i) counted = inl (FinishKind, refl)
+counted-kind (Ask i) counted = inl (AskKind, refl)
+counted-kind (Told i) counted = inl (ToldKind, refl)
+counted-kind (WaitAll q b) counted = inl (WaitAllKind, refl)
+counted-kind (OverAll q b) counted = inl (OverAllKind, refl)
+counted-kind (AskLane q) counted = inr (AskLaneKind, refl)
+counted-kind (ToldLane q) counted = inr (ToldLaneKind, refl)
+
+pub kind-counted : (event : Event) (kind : Kind) → kind_in event ≡ Some kind → is_counted event ≡ true
+kind-counted (Queue i) kind is = refl
+kind-counted (Cancel i) kind is = refl
+kind-counted (Start q i) kind is = absurd cc
+kind-counted (Wait q b) kind is = refl
+kind-counted (Over q b) kind is = refl
+kind-counted (Finish q i) kind is = refl
+kind-counted (Ask i) kind is = refl
+kind-counted (Told i) kind is = refl
+kind-counted (WaitAll q b) kind is = refl
+kind-counted (OverAll q b) kind is = refl
+kind-counted (AskLane q) kind is = absurd cc
+kind-counted (ToldLane q) kind is = absurd cc
+
+pub lane_kind-counted : (event : Event) (kind : LaneKind) → lane_kind_in event ≡ Some kind → is_counted event ≡ true
+lane_kind-counted (Queue i) kind is = absurd cc
+lane_kind-counted (Cancel i) kind is = absurd cc
+lane_kind-counted (Start q i) kind is = absurd cc
+lane_kind-counted (Wait q b) kind is = absurd cc
+lane_kind-counted (Over q b) kind is = absurd cc
+lane_kind-counted (Finish q i) kind is = absurd cc
+lane_kind-counted (Ask i) kind is = absurd cc
+lane_kind-counted (Told i) kind is = absurd cc
+lane_kind-counted (WaitAll q b) kind is = absurd cc
+lane_kind-counted (OverAll q b) kind is = absurd cc
+lane_kind-counted (AskLane q) kind is = refl
+lane_kind-counted (ToldLane q) kind is = refl
+
+-- and it has no kind of both
+pub one_kind : (event : Event) (kind : Kind) → kind_in event ≡ Some kind → lane_kind_in event ≡ None
+one_kind (Queue i) kind is = refl
+one_kind (Cancel i) kind is = refl
+one_kind (Start q i) kind is = absurd cc
+one_kind (Wait q b) kind is = refl
+one_kind (Over q b) kind is = refl
+one_kind (Finish q i) kind is = refl
+one_kind (Ask i) kind is = refl
+one_kind (Told i) kind is = refl
+one_kind (WaitAll q b) kind is = refl
+one_kind (OverAll q b) kind is = refl
+one_kind (AskLane q) kind is = absurd cc
+one_kind (ToldLane q) kind is = absurd cc
+
+-- ---- which item or lane and kind a row is of, and with which answer
+
+-- two tests that answer yes alike answer alike
+same_tests : (a b : Bool) → (a ≡ true → b ≡ true) → (b ≡ true → a ≡ true) → a ≡ b
+same_tests true b there back = sym (there refl)
+same_tests false true there back = back refl
+same_tests false false there back = refl
 
 -- a row that is counted is of its own item and kind, with its own answer
 pub is_of-own : (row : Row) (kind : Kind) → kind_in row.event ≡ Some kind
@@ -76,31 +173,129 @@ is_of-parts row i kind said is =
     let rest = and_parts (item_in row.event == i) (answer_place row.yes == answer_place said) parts.1 in
     (has_kind-own (kind_in row.event) kind parts.0, eqb-true (item_in row.event) i rest.0, answer_place-same row.yes said (eqb-true (answer_place row.yes) (answer_place said) rest.1))
 
--- it is of those that have the same place as its own
-pub is_of-at : (row : Row) (own : Kind) (i : ℕ) (kind : Kind) (said : Bool) → kind_in row.event ≡ Some own
-    → place (item_in row.event) own row.yes ≡ place i kind said → is_of i kind said row ≡ true
-is_of-at row own i kind said is at =
-    let same = place-same (item_in row.event) i own kind row.yes said at in
-    ap (λ j. is_of j kind said row) (sym same.0) ∙ ap (λ k. is_of (item_in row.event) k said row) (sym same.1)
-    ∙ ap (λ b. is_of (item_in row.event) own b row) (sym same.2) ∙ is_of-own row own is
+-- the same of a lane
+pub is_of_lane-own : (row : Row) (kind : LaneKind) → lane_kind_in row.event ≡ Some kind
+    → is_of_lane (lane_in row.event) kind row.yes row ≡ true
+is_of_lane-own row kind is =
+    and_from (has_lane_kind (lane_kind_in row.event) kind) ((lane_in row.event == lane_in row.event) && (answer_place row.yes == answer_place row.yes))
+    (ap (λ o. has_lane_kind o kind) is ∙ eq-eqb (lane_kind_place kind) (lane_kind_place kind) refl)
+    (and_from (lane_in row.event == lane_in row.event) (answer_place row.yes == answer_place row.yes)
+    (eq-eqb (lane_in row.event) (lane_in row.event) refl) (eq-eqb (answer_place row.yes) (answer_place row.yes) refl))
 
-pub is_of-elsewhere : (row : Row) (own : Kind) (i : ℕ) (kind : Kind) (said : Bool) → kind_in row.event ≡ Some own
-    → place (item_in row.event) own row.yes ≢ place i kind said → is_of i kind said row ≡ false
-is_of-elsewhere row own i kind said is ne = false_from_ne_true (is_of i kind said row) (λ hit.
-    let parts = is_of-parts row i kind said hit in
-    let same : own ≡ kind = cc (is, parts.0) in
-    ne (ap (λ j. place j own row.yes) parts.1 ∙ ap (λ k. place i k row.yes) same ∙ ap (λ b. place i kind b) parts.2))
+has_lane_kind-own : (own : Option LaneKind) (kind : LaneKind) → has_lane_kind own kind ≡ true → own ≡ Some kind
+has_lane_kind-own None kind has = absurd (false≢true has)
+has_lane_kind-own (Some one) kind has = ap Some (lane_kind_place-same one kind (eqb-true (lane_kind_place one) (lane_kind_place kind) has))
 
--- a row that isn't counted is of none
-pub is_of-none : (row : Row) (i : ℕ) (kind : Kind) (said : Bool) → kind_in row.event ≡ None
-    → is_of i kind said row ≡ false
-is_of-none row i kind said kindless = ap (λ o. has_kind o kind && ((item_in row.event == i) && (answer_place row.yes == answer_place said))) kindless
+pub is_of_lane-parts : (row : Row) (q : ℕ) (kind : LaneKind) (said : Bool) → is_of_lane q kind said row ≡ true
+    → (lane_kind_in row.event ≡ Some kind) × (lane_in row.event ≡ q) × (row.yes ≡ said)
+is_of_lane-parts row q kind said is =
+    let parts = and_parts (has_lane_kind (lane_kind_in row.event) kind) ((lane_in row.event == q) && (answer_place row.yes == answer_place said)) is in
+    let rest = and_parts (lane_in row.event == q) (answer_place row.yes == answer_place said) parts.1 in
+    (has_lane_kind-own (lane_kind_in row.event) kind parts.0, eqb-true (lane_in row.event) q rest.0, answer_place-same row.yes said (eqb-true (answer_place row.yes) (answer_place said) rest.1))
+
+-- ---- a row is counted where its item or lane, its kind and its answer have their place
+
+item_at : (own : Kind) (j : ℕ) (answered : Bool) (i : ℕ) (kind : Kind) (said : Bool)
+    → (place j own answered == place i kind said) ≡ ((kind_place own == kind_place kind) && ((j == i) && (answer_place answered == answer_place said)))
+item_at own j answered i kind said = same_tests (place j own answered == place i kind said) ((kind_place own == kind_place kind) && ((j == i) && (answer_place answered == answer_place said)))
+    (λ at.
+    let same = place-same j i own kind answered said (eqb-true (place j own answered) (place i kind said) at) in
+    and_from (kind_place own == kind_place kind) ((j == i) && (answer_place answered == answer_place said))
+    (eq-eqb (kind_place own) (kind_place kind) (ap kind_place same.1))
+    (and_from (j == i) (answer_place answered == answer_place said) (eq-eqb j i same.0) (eq-eqb (answer_place answered) (answer_place said) (ap answer_place same.2))))
+    (λ each.
+    let parts = and_parts (kind_place own == kind_place kind) ((j == i) && (answer_place answered == answer_place said)) each in
+    let rest = and_parts (j == i) (answer_place answered == answer_place said) parts.1 in
+    eq-eqb (place j own answered) (place i kind said)
+    (omega (arith, eqb-true (kind_place own) (kind_place kind) parts.0, eqb-true j i rest.0, eqb-true (answer_place answered) (answer_place said) rest.1)))
+
+lane_at : (own : LaneKind) (p : ℕ) (answered : Bool) (q : ℕ) (kind : LaneKind) (said : Bool)
+    → (lane_place p own answered == lane_place q kind said) ≡ ((lane_kind_place own == lane_kind_place kind) && ((p == q) && (answer_place answered == answer_place said)))
+lane_at own p answered q kind said = same_tests (lane_place p own answered == lane_place q kind said) ((lane_kind_place own == lane_kind_place kind) && ((p == q) && (answer_place answered == answer_place said)))
+    (λ at.
+    let same = lane_place-same p q own kind answered said (eqb-true (lane_place p own answered) (lane_place q kind said) at) in
+    and_from (lane_kind_place own == lane_kind_place kind) ((p == q) && (answer_place answered == answer_place said))
+    (eq-eqb (lane_kind_place own) (lane_kind_place kind) (ap lane_kind_place same.1))
+    (and_from (p == q) (answer_place answered == answer_place said) (eq-eqb p q same.0) (eq-eqb (answer_place answered) (answer_place said) (ap answer_place same.2))))
+    (λ each.
+    let parts = and_parts (lane_kind_place own == lane_kind_place kind) ((p == q) && (answer_place answered == answer_place said)) each in
+    let rest = and_parts (p == q) (answer_place answered == answer_place said) parts.1 in
+    eq-eqb (lane_place p own answered) (lane_place q kind said)
+    (omega (arith, eqb-true (lane_kind_place own) (lane_kind_place kind) parts.0, eqb-true p q rest.0, eqb-true (answer_place answered) (answer_place said) rest.1)))
+
+-- the place of a lane is none of an item
+item_not_at : (i : ℕ) (kind : Kind) (said : Bool) (q : ℕ) (other : LaneKind) (answer : Bool)
+    → (place i kind said == lane_place q other answer) ≡ false
+item_not_at i kind said q other answer = ne_eqb (place i kind said) (lane_place q other answer) (place-ne-lane_place i q kind other said answer)
+
+lane_not_at : (q : ℕ) (kind : LaneKind) (said : Bool) (i : ℕ) (other : Kind) (answer : Bool)
+    → (lane_place q kind said == place i other answer) ≡ false
+lane_not_at q kind said i other answer = ne_eqb (lane_place q kind said) (place i other answer) (λ e. place-ne-lane_place i q other kind answer said (sym e))
+
+pub raises-item : (event : Event) (answered : Bool) (i : ℕ) (kind : Kind) (said : Bool)
+    → is_at (counted_place event answered) (place i kind said) ≡ (has_kind (kind_in event) kind && ((item_in event == i) && (answer_place answered == answer_place said)))
+raises-item (Queue j) answered i kind said = item_at QueueKind j answered i kind said
+raises-item (Cancel j) answered i kind said = item_at CancelKind j answered i kind said
+raises-item (Start q j) answered i kind said = refl
+raises-item (Wait q b) answered i kind said = item_at WaitKind b answered i kind said
+raises-item (Over q b) answered i kind said = item_at OverKind b answered i kind said
+raises-item (Finish q j) answered i kind said = item_at FinishKind j answered i kind said
+raises-item (Ask j) answered i kind said = item_at AskKind j answered i kind said
+raises-item (Told j) answered i kind said = item_at ToldKind j answered i kind said
+raises-item (WaitAll q b) answered i kind said = item_at WaitAllKind b answered i kind said
+raises-item (OverAll q b) answered i kind said = item_at OverAllKind b answered i kind said
+raises-item (AskLane q) answered i kind said = lane_not_at q AskLaneKind answered i kind said
+raises-item (ToldLane q) answered i kind said = lane_not_at q ToldLaneKind answered i kind said
+
+pub raises-lane : (event : Event) (answered : Bool) (q : ℕ) (kind : LaneKind) (said : Bool)
+    → is_at (counted_place event answered) (lane_place q kind said) ≡ (has_lane_kind (lane_kind_in event) kind && ((lane_in event == q) && (answer_place answered == answer_place said)))
+raises-lane (Queue i) answered q kind said = item_not_at i QueueKind answered q kind said
+raises-lane (Cancel i) answered q kind said = item_not_at i CancelKind answered q kind said
+raises-lane (Start p i) answered q kind said = refl
+raises-lane (Wait p b) answered q kind said = item_not_at b WaitKind answered q kind said
+raises-lane (Over p b) answered q kind said = item_not_at b OverKind answered q kind said
+raises-lane (Finish p i) answered q kind said = item_not_at i FinishKind answered q kind said
+raises-lane (Ask i) answered q kind said = item_not_at i AskKind answered q kind said
+raises-lane (Told i) answered q kind said = item_not_at i ToldKind answered q kind said
+raises-lane (WaitAll p b) answered q kind said = item_not_at b WaitAllKind answered q kind said
+raises-lane (OverAll p b) answered q kind said = item_not_at b OverAllKind answered q kind said
+raises-lane (AskLane p) answered q kind said = lane_at AskLaneKind p answered q kind said
+raises-lane (ToldLane p) answered q kind said = lane_at ToldLaneKind p answered q kind said
+
+-- as many rows are counted at the place of an item as are of this item, and at that of a lane as are of this lane
+pub tally-item : (rows : List Row) (i : ℕ) (kind : Kind) (said : Bool) → count_by (raises (place i kind said)) rows ≡ tally rows i kind said
+tally-item rows i kind said =
+    let same : raises (place i kind said) ≡ is_of i kind said = fun_ext (λ row. raises-item row.event row.yes i kind said) in
+    ap (λ (f : Row → Bool). count_by f rows) same
+
+pub tally-lane : (rows : List Row) (q : ℕ) (kind : LaneKind) (said : Bool) → count_by (raises (lane_place q kind said)) rows ≡ tally_lane rows q kind said
+tally-lane rows q kind said =
+    let same : raises (lane_place q kind said) ≡ is_of_lane q kind said = fun_ext (λ row. raises-lane row.event row.yes q kind said) in
+    ap (λ (f : Row → Bool). count_by f rows) same
+
+-- so tallies by place are those of each item and those of each lane
+pub made-tally : (n : ℕ) (rows : List Row) (counts : List ℕ) → AreTallies n rows counts
+    → (i : ℕ) (kind : Kind) (said : Bool) → i < n → made counts i kind said ≡ tally rows i kind said
+made-tally n rows counts tallies i kind said within = tallies (place i kind said) (place-lt i n kind said within) ∙ tally-item rows i kind said
+
+pub made_lane-tally : (n : ℕ) (rows : List Row) (counts : List ℕ) → AreTallies n rows counts
+    → (q : ℕ) (kind : LaneKind) (said : Bool) → q < n → made_lane counts q kind said ≡ tally_lane rows q kind said
+made_lane-tally n rows counts tallies q kind said within = tallies (lane_place q kind said) (lane_place-lt q n kind said within) ∙ tally-lane rows q kind said
+
+pub AreTallies-each : (n : ℕ) (rows : List Row) (counts : List ℕ)
+    → ((i : ℕ) (kind : Kind) (said : Bool) → i < n → made counts i kind said ≡ tally rows i kind said)
+    → ((q : ℕ) (kind : LaneKind) (said : Bool) → q < n → made_lane counts q kind said ≡ tally_lane rows q kind said)
+    → AreTallies n rows counts
+AreTallies-each n rows counts items lanes p h = elim (cases_place n p h) [
+  | inl at ↦ ap (λ (k : ℕ). get_or counts k 0) (sym at.is) ∙ (items at.item at.kind at.said at.within ∙ (sym (tally-item rows at.item at.kind at.said) ∙ ap (λ (k : ℕ). count_by (raises k) rows) at.is))
+  | inr at ↦ ap (λ (k : ℕ). get_or counts k 0) (sym at.is) ∙ (lanes at.lane at.kind at.said at.within ∙ (sym (tally-lane rows at.lane at.kind at.said) ∙ ap (λ (k : ℕ). count_by (raises k) rows) at.is))
+]
 
 -- ---- one more row
 
-pub tally-more : (rows : List Row) (row : Row) (i : ℕ) (kind : Kind) (said : Bool)
-    → tally (rows ++ (row ∷ [])) i kind said ≡ tally rows i kind said + cond (is_of i kind said row) 1 0
-tally-more rows row i kind said = sum_by_push (λ (r : Row). cond (is_of i kind said r) 1 0) rows row
+tally-more : (rows : List Row) (row : Row) (p : ℕ)
+    → count_by (raises p) (rows ++ (row ∷ [])) ≡ count_by (raises p) rows + cond (raises p row) 1 0
+tally-more rows row p = sum_by_push (λ (r : Row). cond (raises p r) 1 0) rows row
 
 pub counted_rows-more : (rows : List Row) (row : Row)
     → counted_rows (rows ++ (row ∷ [])) ≡ counted_rows rows + cond (is_counted row.event) 1 0
@@ -110,104 +305,97 @@ counted_rows-more rows row = sum_by_push (λ (r : Row). cond (is_counted r.event
 pub counted_rows-le-length : (rows : List Row) → counted_rows rows ≤ length rows
 counted_rows-le-length rows = count_by-le-length (λ (row : Row). is_counted row.event) rows
 
--- no rows, for this many items
-pub AreTallies-none : (n : ℕ) → AreTallies n [] (replicate (14 * n) 0)
-AreTallies-none n = λ i kind said within. get_or-replicate (14 * n) (place i kind said) 0 0 (place-lt i n kind said within)
+-- no rows, for this many slots
+pub AreTallies-none : (n : ℕ) → AreTallies n [] (replicate (counts_each * n) 0)
+AreTallies-none n = λ p within. get_or-replicate (counts_each * n) p 0 0 within
 
-pub HasCountsOf-none : (n : ℕ) → HasCountsOf n (replicate (14 * n) 0)
-HasCountsOf-none n = length-replicate (14 * n) 0
+pub HasCountsOf-none : (n : ℕ) → HasCountsOf n (replicate (counts_each * n) 0)
+HasCountsOf-none n = length-replicate (counts_each * n) 0
 
--- what is inside the counts of this many items
-pub item_within : (n i : ℕ) (counts : List ℕ) → HasCountsOf n counts → i < n → 14 * i + 14 ≤ length counts
+-- what is inside the counts of this many slots
+pub item_within : (n i : ℕ) (counts : List ℕ) → HasCountsOf n counts → i < n → counts_each * i + counts_each ≤ length counts
 item_within n i counts has within = omega (arith, has, within)
 
--- a row of this kind raises the count of its item and answer
-pub AreTallies-raised : (n : ℕ) (rows : List Row) (row : Row) (counts : List ℕ) (own : Kind) → HasCountsOf n counts
-    → kind_in row.event ≡ Some own → item_in row.event < n → AreTallies n rows counts
-    → AreTallies n (rows ++ (row ∷ [])) (raised counts (item_in row.event) own row.yes)
-AreTallies-raised n rows row counts own has is within tallies = λ i kind said inside.
-    each i kind said inside (cases_eq (place (item_in row.event) own row.yes) (place i kind said))
-  where
-    each : (i : ℕ) (kind : Kind) (said : Bool) → i < n
-        → (place (item_in row.event) own row.yes ≡ place i kind said) ⊎ (place (item_in row.event) own row.yes ≢ place i kind said)
-        → made (raised counts (item_in row.event) own row.yes) i kind said ≡ tally (rows ++ (row ∷ [])) i kind said
-    each i kind said inside (inl at) =
-        let hit = is_of-at row own i kind said is at in
-        let more = tally-more rows row i kind said ∙ ap (λ b. tally rows i kind said + cond b 1 0) hit in
-        let there : made (raised counts (item_in row.event) own row.yes) i kind said ≡ made counts (item_in row.event) own row.yes + 1 =
-        ap (λ p. get_or (raised counts (item_in row.event) own row.yes) p 0) (sym at)
-        ∙ made-raised_same counts (item_in row.event) own row.yes (item_within n (item_in row.event) counts has within) in
-        let here : made counts (item_in row.event) own row.yes ≡ made counts i kind said = ap (λ p. get_or counts p 0) at in
-        omega (arith, more, there, here, tallies i kind said inside)
-    each i kind said inside (inr ne) =
-        let miss = is_of-elsewhere row own i kind said is ne in
-        let more = tally-more rows row i kind said ∙ ap (λ b. tally rows i kind said + cond b 1 0) miss in
-        let there = made-raised_other counts (item_in row.event) i own kind row.yes said (λ e. ne (sym e)) in
-        omega (arith, more, there, tallies i kind said inside)
+-- a row that is counted at a place raises the count there
+AreTallies-raised : (n : ℕ) (rows : List Row) (row : Row) (counts : List ℕ) (own : ℕ) → counted_place row.event row.yes ≡ Some own
+    → own < length counts → AreTallies n rows counts → AreTallies n (rows ++ (row ∷ [])) (raised_at counts own)
+AreTallies-raised n rows row counts own is within tallies p inside = by_place (cases_eq own p) where
+  by_place : (own ≡ p) ⊎ (own ≢ p) → get_or (raised_at counts own) p 0 ≡ count_by (raises p) (rows ++ (row ∷ []))
+  by_place (inl at) =
+      let hit : raises p row ≡ true = ap (λ o. is_at o p) is ∙ eq-eqb own p at in
+      let more = tally-more rows row p ∙ ap (λ b. count_by (raises p) rows + cond b 1 0) hit in
+      let there : get_or (raised_at counts own) p 0 ≡ get_or counts own 0 + 1 = ap (λ (k : ℕ). get_or (raised_at counts own) k 0) (sym at) ∙ raised_at-same counts own within in
+      let here : get_or counts own 0 ≡ get_or counts p 0 = ap (λ (k : ℕ). get_or counts k 0) at in
+      omega (arith, more, there, here, tallies p inside)
+  by_place (inr ne) =
+      let miss : raises p row ≡ false = ap (λ o. is_at o p) is ∙ ne_eqb own p ne in
+      let more = tally-more rows row p ∙ ap (λ b. count_by (raises p) rows + cond b 1 0) miss in
+      let there = raised_at-other counts own p (λ e. ne (sym e)) in
+      omega (arith, more, there, tallies p inside)
 
 -- a row that isn't counted raises no count
-pub AreTallies-not_counted : (n : ℕ) (rows : List Row) (row : Row) (counts : List ℕ) → kind_in row.event ≡ None
+AreTallies-not_counted : (n : ℕ) (rows : List Row) (row : Row) (counts : List ℕ) → counted_place row.event row.yes ≡ None
     → AreTallies n rows counts → AreTallies n (rows ++ (row ∷ [])) counts
-AreTallies-not_counted n rows row counts kindless tallies = λ i kind said within.
-    let more = tally-more rows row i kind said ∙ ap (λ b. tally rows i kind said + cond b 1 0) (is_of-none row i kind said kindless) in
-    omega (arith, more, tallies i kind said within)
+AreTallies-not_counted n rows row counts none tallies p inside =
+    let miss : raises p row ≡ false = ap (λ o. is_at o p) none in
+    let more = tally-more rows row p ∙ ap (λ b. count_by (raises p) rows + cond b 1 0) miss in
+    omega (arith, more, tallies p inside)
 
--- what noting a row does, by whether it is counted
-pub noted-some : (counts : List ℕ) (row : Row) (kind : Kind) → kind_in row.event ≡ Some kind
-    → noted counts row ≡ raised counts (item_in row.event) kind row.yes
-noted-some counts row kind is = ap (λ o. with_row counts o (item_in row.event) row.yes) is
+-- what another row of an event does, by whether it is counted
+noted_as-some : (counts : List ℕ) (event : Event) (said : Bool) (p : ℕ) → counted_place event said ≡ Some p
+    → noted_as counts event said ≡ raised_at counts p
+noted_as-some counts event said p is = ap (λ o. raised_where counts o) is
 
-pub noted-none : (counts : List ℕ) (row : Row) → kind_in row.event ≡ None → noted counts row ≡ counts
-noted-none counts row kindless = ap (λ o. with_row counts o (item_in row.event) row.yes) kindless
+noted_as-none : (counts : List ℕ) (event : Event) (said : Bool) → counted_place event said ≡ None → noted_as counts event said ≡ counts
+noted_as-none counts event said none = ap (λ o. raised_where counts o) none
 
 pub AreTallies-more : (n : ℕ) (rows : List Row) (row : Row) (counts : List ℕ) → HasCountsOf n counts
-    → (is_counted row.event ≡ true → item_in row.event < n) → AreTallies n rows counts
+    → (is_counted row.event ≡ true → slot_in row.event < n) → AreTallies n rows counts
     → AreTallies n (rows ++ (row ∷ [])) (noted counts row)
-AreTallies-more n rows row counts has within tallies = by_kind (cases_kind (kind_in row.event))
-  where
-    by_kind : (kind_in row.event ≡ None) ⊎ ((one : Kind) × (kind_in row.event ≡ Some one))
-        → AreTallies n (rows ++ (row ∷ [])) (noted counts row)
-    by_kind (inl kindless) =
-        let P : List ℕ → Type 0 = λ c. AreTallies n (rows ++ (row ∷ [])) c in
-        subst P (sym (noted-none counts row kindless)) (AreTallies-not_counted n rows row counts kindless tallies)
-    by_kind (inr (one, is)) =
-        let P : List ℕ → Type 0 = λ c. AreTallies n (rows ++ (row ∷ [])) c in
-        subst P (sym (noted-some counts row one is)) (AreTallies-raised n rows row counts one has is (within (is_counted-some row.event one is)) tallies)
+AreTallies-more n rows row counts has within tallies = by_place (cases_counted (counted_place row.event row.yes)) where
+  by_place : (counted_place row.event row.yes ≡ None) ⊎ ((p : ℕ) × (counted_place row.event row.yes ≡ Some p))
+      → AreTallies n (rows ++ (row ∷ [])) (noted counts row)
+  by_place (inl none) =
+      let P : List ℕ → Type 0 = λ c. AreTallies n (rows ++ (row ∷ [])) c in
+      subst P (sym (noted_as-none counts row.event row.yes none)) (AreTallies-not_counted n rows row counts none tallies)
+  by_place (inr (p, is)) =
+      let P : List ℕ → Type 0 = λ c. AreTallies n (rows ++ (row ∷ [])) c in
+      let inside = place_within n row.event row.yes p counts has is (within (is_counted-some row.event row.yes p is)) in
+      subst P (sym (noted_as-some counts row.event row.yes p is)) (AreTallies-raised n rows row counts p is inside tallies)
 
-pub length-noted : (counts : List ℕ) (row : Row) → length (noted counts row) ≡ length counts
-length-noted counts row = by_kind (cases_kind (kind_in row.event))
-  where
-    by_kind : (kind_in row.event ≡ None) ⊎ ((one : Kind) × (kind_in row.event ≡ Some one))
-        → length (noted counts row) ≡ length counts
-    by_kind (inl kindless) = ap length (noted-none counts row kindless)
-    by_kind (inr (one, is)) = ap length (noted-some counts row one is) ∙ length-raised counts (item_in row.event) one row.yes
+pub length-noted_as : (counts : List ℕ) (event : Event) (said : Bool) → length (noted_as counts event said) ≡ length counts
+length-noted_as counts event said = by_place (cases_counted (counted_place event said)) where
+  by_place : (counted_place event said ≡ None) ⊎ ((p : ℕ) × (counted_place event said ≡ Some p))
+      → length (noted_as counts event said) ≡ length counts
+  by_place (inl none) = ap length (noted_as-none counts event said none)
+  by_place (inr (p, is)) = ap length (noted_as-some counts event said p is) ∙ length-raised_at counts p
 
-pub HasCountsOf-noted : (n : ℕ) (counts : List ℕ) (row : Row) → HasCountsOf n counts → HasCountsOf n (noted counts row)
-HasCountsOf-noted n counts row has = length-noted counts row ∙ has
+pub HasCountsOf-noted_as : (n : ℕ) (counts : List ℕ) (event : Event) (said : Bool) → HasCountsOf n counts → HasCountsOf n (noted_as counts event said)
+HasCountsOf-noted_as n counts event said has = length-noted_as counts event said ∙ has
 
-pub sum-noted : (counts : List ℕ) (row : Row)
-    → (is_counted row.event ≡ true → 14 * item_in row.event + 14 ≤ length counts)
-    → sum (noted counts row) ≡ sum counts + cond (is_counted row.event) 1 0
-sum-noted counts row within = by_kind (cases_kind (kind_in row.event))
-  where
-    by_kind : (kind_in row.event ≡ None) ⊎ ((one : Kind) × (kind_in row.event ≡ Some one))
-        → sum (noted counts row) ≡ sum counts + cond (is_counted row.event) 1 0
-    by_kind (inl kindless) =
-        let miss = ap (λ b. sum counts + cond b 1 0) (is_counted-none row.event kindless) in
-        let same = ap sum (noted-none counts row kindless) in
-        omega (arith, miss, same)
-    by_kind (inr (one, is)) =
-        let counted = is_counted-some row.event one is in
-        let hit = ap (λ b. sum counts + cond b 1 0) counted in
-        let same = ap sum (noted-some counts row one is) in
-        omega (arith, hit, same, sum-raised counts (item_in row.event) one row.yes (within counted))
+pub sum-noted_as : (counts : List ℕ) (event : Event) (said : Bool)
+    → (is_counted event ≡ true → counts_each * slot_in event + counts_each ≤ length counts)
+    → sum (noted_as counts event said) ≡ sum counts + cond (is_counted event) 1 0
+sum-noted_as counts event said within = by_place (cases_counted (counted_place event said)) where
+  by_place : (counted_place event said ≡ None) ⊎ ((p : ℕ) × (counted_place event said ≡ Some p))
+      → sum (noted_as counts event said) ≡ sum counts + cond (is_counted event) 1 0
+  by_place (inl none) =
+      let miss = ap (λ b. sum counts + cond b 1 0) (is_counted-none event said none) in
+      let same = ap sum (noted_as-none counts event said none) in
+      omega (arith, miss, same)
+  by_place (inr (p, is)) =
+      let counted = is_counted-some event said p is in
+      let hit = ap (λ b. sum counts + cond b 1 0) counted in
+      let same = ap sum (noted_as-some counts event said p is) in
+      let inside : p < length counts = omega (arith, (in_slot event said p is).1, within counted) in
+      omega (arith, hit, same, sum-raised_at counts p inside)
 
 -- ---- what tallies say about all rows
 
 -- two lists of counts that are those of the same rows are the same
 pub AreTallies-only : (n : ℕ) (rows : List Row) (a b : List ℕ) → HasCountsOf n a → HasCountsOf n b
     → AreTallies n rows a → AreTallies n rows b → a ≡ b
-AreTallies-only n rows a b ha hb ta tb = same_counts n a b ha hb (λ i kind said within. ta i kind said within ∙ sym (tb i kind said within))
+AreTallies-only n rows a b ha hb ta tb = same_counts n a b ha hb (λ p within. ta p within ∙ sym (tb p within))
 
 -- counts of these rows that add up to the number of those that are counted
 pub record HasTallies (n : ℕ) (rows : List Row) : Type 0 where
@@ -218,20 +406,20 @@ pub record HasTallies (n : ℕ) (rows : List Row) : Type 0 where
 
 pub HasTallies-none : (n : ℕ) → HasTallies n []
 HasTallies-none n = record {
-  counts = replicate (14 * n) 0;
+  counts = replicate (counts_each * n) 0;
   has = HasCountsOf-none n;
   tallies = AreTallies-none n;
-  in_all = sum_by-replicate (λ (x : ℕ). x) (14 * n) 0 ∙ (let zeros : 14 * n * 0 ≡ 0 = omega arith in zeros);
+  in_all = sum_by-replicate (λ (x : ℕ). x) (counts_each * n) 0 ∙ (let zeros : counts_each * n * 0 ≡ 0 = omega arith in zeros);
 }
 
-pub HasTallies-more : (n : ℕ) (rows : List Row) (row : Row) → (is_counted row.event ≡ true → item_in row.event < n)
+pub HasTallies-more : (n : ℕ) (rows : List Row) (row : Row) → (is_counted row.event ≡ true → slot_in row.event < n)
     → HasTallies n rows → HasTallies n (rows ++ (row ∷ []))
 HasTallies-more n rows row within old = record {
   counts = noted old.counts row;
-  has = HasCountsOf-noted n old.counts row old.has;
+  has = HasCountsOf-noted_as n old.counts row.event row.yes old.has;
   tallies = AreTallies-more n rows row old.counts old.has within old.tallies;
   in_all =
-      let summed = sum-noted old.counts row (λ counted. item_within n (item_in row.event) old.counts old.has (within counted)) in
+      let summed = sum-noted_as old.counts row.event row.yes (λ counted. item_within n (slot_in row.event) old.counts old.has (within counted)) in
       omega (arith, summed, old.in_all, counted_rows-more rows row);
 }
 
@@ -254,11 +442,8 @@ sum-tallies n rows counts has of tallies =
 
 -- ---- rows of two runs
 
-pub tally-append : (rows more : List Row) (i : ℕ) (kind : Kind) (said : Bool)
-    → tally (rows ++ more) i kind said ≡ tally rows i kind said + tally more i kind said
-tally-append rows more i kind said = sum_by-append (λ (r : Row). cond (is_of i kind said r) 1 0) rows more
-
 pub AreTallies-append : (n : ℕ) (rows more : List Row) (a b c : List ℕ) → AreTallies n rows a → AreTallies n more b
     → ((p : ℕ) → get_or c p 0 ≡ get_or a p 0 + get_or b p 0) → AreTallies n (rows ++ more) c
-AreTallies-append n rows more a b c ta tb each = λ i kind said within.
-    omega (arith, each (place i kind said), ta i kind said within, tb i kind said within, tally-append rows more i kind said)
+AreTallies-append n rows more a b c ta tb each = λ p within.
+    let both = sum_by-append (λ (r : Row). cond (raises p r) 1 0) rows more in
+    omega (arith, each p, ta p within, tb p within, both)

@@ -1,23 +1,25 @@
-//! How many rows there are, for each item, kind and answer, and in total.
+//! How many rows there are, for each item or lane, kind and answer, and in total.
 //!
-//! There are 14 counts for each item in turn, two for each of the 7 kinds: no before yes. `new`, `add` and `is_same` take time in
-//! the number of items. Each other call takes constant time. Only `new` takes memory: 8 bytes for each count.
+//! Counts stand in slots. A slot has 22 counts, two for each kind, no before yes: those of the item with its number, for each of
+//! the 9 kinds, and then those of the lane with its number, for each of the 2 kinds of a lane. So there are as many slots as items
+//! or lanes, whichever are more. `new`, `add` and `is_same` take time in the number of slots. Each other call takes constant time.
+//! Only `new` takes memory: 8 bytes for each count.
 
 ghost use Rattle.std.specs.Prelude.{◌≡◌, ℕ, ◌+◌, ◌*◌, ◌<◌, ◌≤◌, ◌↔◌, IsTrue, length, replicate, sum, slice_index, if◌then◌else◌, IfOk, OnErr, true};
-ghost use Rattle.wq_rows.specs.Packing.{item_in};
 ghost use Rattle.wq_counts.specs.declared.kind.Kind.TheVariants.{Queue, Cancel, Finish};
-ghost use Rattle.wq_counts.specs.Counting.{place as place_of, made, raised, noted, is_counted};
+ghost use Rattle.wq_counts.specs.Counting.{counts_each, place as place_of, lane_place as lane_place_of, counted_place as counted_place_of, slot_in, made, asked_lane, told_lane, raised_at, noted_as, noted, is_counted};
 
-use crate::kind::Kind;
+use crate::kind::{Kind, LaneKind};
 use std::alloc::{AllocError, Allocator};
 use std::marker::Model;
+use wq_groups::LaneId;
 use wq_items::ItemId;
-use wq_rows::Row;
+use wq_rows::{Event, Row};
 
-/// How many counts an item has: one for each kind and answer.
-const PER_ITEM: usize = 14;
+/// How many counts a slot has: one for each kind, of an item or of a lane, and answer.
+pub const COUNTS_EACH: usize = 22;
 
-/// The counts. Contracts see them as a list, 14 for each item in turn.
+/// The counts. Contracts see them as a list, 22 for each slot in turn.
 #[derive(Drop)]
 pub struct Counts<A: Allocator> {
     counts: Vec<u64, A>,
@@ -38,7 +40,34 @@ impl<A: Allocator> Model for Counts<A> {
 fn place(item: ItemId, kind: Kind, yes: bool) -> usize
     ensures { result ≡ place_of item kind yes }
 {
-    PER_ITEM * usize::from(item.get()) + 2 * kind.place() + usize::from(yes)
+    COUNTS_EACH * usize::from(item.get()) + 2 * kind.place() + usize::from(yes)
+}
+
+/// The index of the count of a lane, a kind and an answer.
+fn lane_place(lane: LaneId, kind: LaneKind, yes: bool) -> usize
+    ensures { result ≡ lane_place_of lane kind yes }
+{
+    COUNTS_EACH * usize::from(lane.get()) + 2 * kind.place() + usize::from(yes)
+}
+
+/// The index of the count of an event and an answer; none for a start.
+fn counted_place(event: &Event, yes: bool) -> Option<usize>
+    ensures { result ≡ counted_place_of event.now yes }
+{
+    match *event {
+        Event::Queue(item) => Some(place(item, Kind::Queue, yes)),
+        Event::Cancel(item) => Some(place(item, Kind::Cancel, yes)),
+        Event::Start(..) => None,
+        Event::Wait(_, target) => Some(place(target, Kind::Wait, yes)),
+        Event::Over(_, target) => Some(place(target, Kind::Over, yes)),
+        Event::Finish(_, item) => Some(place(item, Kind::Finish, yes)),
+        Event::Ask(item) => Some(place(item, Kind::Ask, yes)),
+        Event::Told(item) => Some(place(item, Kind::Told, yes)),
+        Event::WaitAll(_, target) => Some(place(target, Kind::WaitAll, yes)),
+        Event::OverAll(_, target) => Some(place(target, Kind::OverAll, yes)),
+        Event::AskLane(lane) => Some(lane_place(lane, LaneKind::Ask, yes)),
+        Event::ToldLane(lane) => Some(lane_place(lane, LaneKind::Told, yes)),
+    }
 }
 
 /// Adds to each number the one at the same place of the other slice.
@@ -54,25 +83,46 @@ fn add_each(counts: &mut [u64], more: &[u64])
 }
 
 impl<A: Allocator> Counts<A> {
-    /// Counts of this many items, all 0. The only error is out of memory, which can't occur where there is no item.
-    pub fn new(alloc: A, items: usize) -> Result<Self, AllocError>
-        ensures counts { IfOk result (λ c. c ≡ replicate (14 * items) 0) }
-        ensures memory { OnErr result (0 < items) }
+    /// Counts of this many slots, all 0. The only error is out of memory, which can't occur where there is no slot.
+    pub fn new(alloc: A, slots: usize) -> Result<Self, AllocError>
+        ensures counts { IfOk result (λ c. c ≡ replicate (counts_each * slots) 0) }
+        ensures memory { OnErr result (0 < slots) }
     {
-        let count = items.checked_mul(PER_ITEM).ok_or(AllocError)?;
+        let count = slots.checked_mul(COUNTS_EACH).ok_or(AllocError)?;
         let mut counts = Vec::with_capacity(alloc, count)?;
         counts.resize(count, 0)?;
         Ok(Counts { counts, total: 0 })
+    }
+
+    /// The count at a place; 0 where there is no such place.
+    fn at(&self, place: usize) -> u64
+        ensures { result ≡ slice_index self.now place }
+    {
+        match self.counts.get(place) {
+            Some(count) => *count,
+            None => 0,
+        }
     }
 
     /// How many rows of an item and a kind there are, with an answer; 0 for an item that doesn't exist.
     pub fn made(&self, item: ItemId, kind: Kind, yes: bool) -> u64
         ensures { result ≡ made self.now item kind yes }
     {
-        match self.counts.get(place(item, kind, yes)) {
-            Some(count) => *count,
-            None => 0,
-        }
+        self.at(place(item, kind, yes))
+    }
+
+    /// How many asks about a lane there are, with an answer; 0 for a lane that doesn't exist.
+    pub fn asked_lane(&self, lane: LaneId, yes: bool) -> u64
+        ensures { result ≡ asked_lane self.now lane yes }
+    {
+        self.at(lane_place(lane, LaneKind::Ask, yes))
+    }
+
+    /// How many callers that waited for a lane were told that their wait is over; 0 for a lane that doesn't exist.
+    pub fn told_lane(&self, lane: LaneId) -> u64
+        ensures { result ≡ told_lane self.now lane }
+    {
+        self.at(lane_place(lane, LaneKind::Told, true))
     }
 
     /// How many rows there are in total.
@@ -82,32 +132,43 @@ impl<A: Allocator> Counts<A> {
         self.total
     }
 
-    /// Counts another row of an item and a kind, with an answer.
-    pub fn raise(&mut self, item: ItemId, kind: Kind, yes: bool)
-        requires item { 14 * item + 14 ≤ length self.old }
+    /// Counts another row at a place.
+    fn raise_at(&mut self, place: usize)
+        requires place { place < length self.old }
         requires few { sum self.old < 18446744073709551615 }
-        ensures counts { self.new ≡ raised self.old item kind yes }
+        ensures counts { self.new ≡ raised_at self.old place }
         ensures total { sum self.new ≡ sum self.old + 1 }
         ensures length { length self.new ≡ length self.old }
     {
-        self.counts[place(item, kind, yes)] += 1;
+        self.counts[place] += 1;
         self.total += 1;
+    }
+
+    /// Counts another row of an event, with an answer. That of a start raises no count.
+    pub fn note_as(&mut self, event: &Event, yes: bool)
+        requires slot { counts_each * slot_in event.now + counts_each ≤ length self.old }
+        requires few { sum self.old < 18446744073709551615 }
+        ensures counts { self.new ≡ noted_as self.old event.now yes }
+        ensures total { sum self.new ≡ sum self.old + (if is_counted event.now then 1 else 0) }
+        ensures length { length self.new ≡ length self.old }
+    {
+        if let Some(place) = counted_place(event, yes) {
+            self.raise_at(place);
+        }
     }
 
     /// Counts another row. That of a start raises no count.
     pub fn note(&mut self, row: &Row)
-        requires item { 14 * item_in row.now.event + 14 ≤ length self.old }
+        requires slot { counts_each * slot_in row.now.event + counts_each ≤ length self.old }
         requires few { sum self.old < 18446744073709551615 }
         ensures counts { self.new ≡ noted self.old row.now }
         ensures total { sum self.new ≡ sum self.old + (if is_counted row.now.event then 1 else 0) }
         ensures length { length self.new ≡ length self.old }
     {
-        if let Some(kind) = Kind::of(&row.event) {
-            self.raise(row.event.item(), kind, row.yes);
-        }
+        self.note_as(&row.event, row.yes);
     }
 
-    /// Adds the counts of other rows of the same items.
+    /// Adds the counts of other rows of the same items and lanes.
     pub fn add(&mut self, other: &Self)
         requires items { length self.old ≡ length other.now }
         requires few { sum self.old + sum other.now < 18446744073709551616 }
@@ -119,7 +180,7 @@ impl<A: Allocator> Counts<A> {
         self.total += other.total;
     }
 
-    /// Whether there are as many items in both, and all counts are the same.
+    /// Whether there are as many slots in both, and all counts are the same.
     pub fn is_same(&self, other: &Self) -> bool
         ensures { IsTrue result ↔ (self.now ≡ other.now) }
     {

@@ -1,13 +1,14 @@
 //! Kinds of rows that are counted: those of all events except starts, which no seat counts.
 //!
-//! The events are those of wq_rows. Each answer takes constant time.
+//! The events are those of wq_rows. Asks about a whole lane, and the ends of such waits, are counted for the lane; all others for
+//! an item. Each answer takes constant time.
 
 ghost use Rattle.std.specs.Prelude.{◌≡◌};
-ghost use Rattle.wq_counts.specs.Counting.{kind_in, kind_place};
+ghost use Rattle.wq_counts.specs.Counting.{kind_in, kind_place, lane_kind_place};
 
 use wq_rows::Event;
 
-/// The kind of a row that is counted.
+/// The kind of a row that is counted for an item.
 #[derive(Clone, Copy, Debug, PartialEq, Eq)]
 pub enum Kind {
     /// The item was to be queued.
@@ -24,11 +25,24 @@ pub enum Kind {
     Told,
     /// An entry of the item was finished.
     Finish,
+    /// A lane began to wait for the whole lane of the item.
+    WaitAll,
+    /// A lane had waited for the whole lane of the item.
+    OverAll,
+}
+
+/// The kind of a row that is counted for a lane.
+#[derive(Clone, Copy, Debug, PartialEq, Eq)]
+pub enum LaneKind {
+    /// A caller asked whether the lane has an unfinished entry.
+    Ask,
+    /// A caller that waited for the lane was told that its wait is over.
+    Told,
 }
 
 impl Kind {
     /// All kinds, in order.
-    pub const ALL: [Kind; 7] = [
+    pub const ALL: [Kind; 9] = [
         Kind::Queue,
         Kind::Cancel,
         Kind::Wait,
@@ -36,9 +50,11 @@ impl Kind {
         Kind::Ask,
         Kind::Told,
         Kind::Finish,
+        Kind::WaitAll,
+        Kind::OverAll,
     ];
 
-    /// The kind of an event; none for a start.
+    /// The kind of an event that is counted for its item; none for a start, and for the events of a whole lane.
     pub fn of(event: &Event) -> Option<Self>
         ensures { result ≡ kind_in event.now }
     {
@@ -51,6 +67,9 @@ impl Kind {
             Event::Finish(..) => Some(Kind::Finish),
             Event::Ask(_) => Some(Kind::Ask),
             Event::Told(_) => Some(Kind::Told),
+            Event::WaitAll(..) => Some(Kind::WaitAll),
+            Event::OverAll(..) => Some(Kind::OverAll),
+            Event::AskLane(_) | Event::ToldLane(_) => None,
         }
     }
 
@@ -66,6 +85,20 @@ impl Kind {
             Kind::Ask => 4,
             Kind::Told => 5,
             Kind::Finish => 6,
+            Kind::WaitAll => 7,
+            Kind::OverAll => 8,
+        }
+    }
+}
+
+impl LaneKind {
+    /// Its place among the kinds, from 9: after those of an item.
+    pub(crate) fn place(self) -> usize
+        ensures { result ≡ lane_kind_place self }
+    {
+        match self {
+            LaneKind::Ask => 9,
+            LaneKind::Told => 10,
         }
     }
 }

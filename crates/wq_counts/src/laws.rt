@@ -2,52 +2,82 @@
 //!
 //! They are about lists of counts and rows alone, whatever code counts them.
 
-ghost use Rattle.std.specs.Prelude.{◌≡◌, ℕ, ◌+◌, ◌*◌, ◌<◌, ◌≤◌, ◌↔◌, Some, Bool, true, List, [], ◌∷◌, ◌++◌, length, replicate, sum, slice_index};
+ghost use Rattle.std.specs.Prelude.{◌≡◌, ℕ, ◌+◌, ◌*◌, ◌<◌, ◌≤◌, ◌↔◌, ◌⊎◌, Some, None, Bool, true, List, [], ◌∷◌, ◌++◌, length, replicate, sum, slice_index};
 ghost use Rattle.wq_rows.specs.declared.event.Row.{Row};
-ghost use Rattle.wq_rows.specs.Packing.{item_in};
+ghost use Rattle.wq_rows.specs.Packing.{item_in, lane_in};
 ghost use Rattle.wq_counts.specs.declared.kind.Kind.{Kind};
-ghost use Rattle.wq_counts.specs.Counting.{kind_in, is_of, is_counted, HasCountsOf, made, raised, noted, counted_rows, AreRowsOf, AreTallies};
+ghost use Rattle.wq_counts.specs.declared.kind.LaneKind.{LaneKind};
+ghost use Rattle.wq_counts.specs.Counting.{kind_in, lane_kind_in, slot_in, is_of, is_of_lane, is_counted, counts_each, HasCountsOf, made, made_lane, raised, raised_lane, noted, tally, tally_lane, counted_rows, AreRowsOf, AreTallies};
 
 /// Another row of an item, a kind and an answer raises the count of these by one, and no other count.
 pub fn one_more_raises_one_count()
-    ensures same { (counts : List ℕ) (i : ℕ) (kind : Kind) (said : Bool) → 14 * i + 14 ≤ length counts →
+    ensures same { (counts : List ℕ) (i : ℕ) (kind : Kind) (said : Bool) → counts_each * i + counts_each ≤ length counts →
         made (raised counts i kind said) i kind said ≡ made counts i kind said + 1 }
     ensures other { (counts : List ℕ) (i j : ℕ) (kind other : Kind) (said answer : Bool) →
         (¬ ((j ≡ i) × (other ≡ kind) × (answer ≡ said))) →
         made (raised counts i kind said) j other answer ≡ made counts j other answer }
+    ensures no_lane { (counts : List ℕ) (i q : ℕ) (kind : Kind) (other : LaneKind) (said answer : Bool) →
+        made_lane (raised counts i kind said) q other answer ≡ made_lane counts q other answer }
 {}
 
-/// The counts of this many items are equal exactly where each item, kind and answer has the same count in both.
+/// Another row of a lane, a kind and an answer raises the count of these by one, and no other count.
+pub fn one_more_of_a_lane_raises_one_count()
+    ensures same { (counts : List ℕ) (q : ℕ) (kind : LaneKind) (said : Bool) → counts_each * q + counts_each ≤ length counts →
+        made_lane (raised_lane counts q kind said) q kind said ≡ made_lane counts q kind said + 1 }
+    ensures other { (counts : List ℕ) (q p : ℕ) (kind other : LaneKind) (said answer : Bool) →
+        (¬ ((p ≡ q) × (other ≡ kind) × (answer ≡ said))) →
+        made_lane (raised_lane counts q kind said) p other answer ≡ made_lane counts p other answer }
+    ensures no_item { (counts : List ℕ) (q i : ℕ) (kind : LaneKind) (other : Kind) (said answer : Bool) →
+        made (raised_lane counts q kind said) i other answer ≡ made counts i other answer }
+{}
+
+/// The counts of this many slots are equal exactly where each item, kind and answer has the same count in both, and each lane,
+/// kind and answer.
 pub fn counts_are_equal_where_each_count_is()
-    ensures { (items : ℕ) (a b : List ℕ) → HasCountsOf items a → HasCountsOf items b → (a ≡ b)
-        ↔ ((i : ℕ) (kind : Kind) (said : Bool) → i < items → made a i kind said ≡ made b i kind said) }
+    ensures { (slots : ℕ) (a b : List ℕ) → HasCountsOf slots a → HasCountsOf slots b → (a ≡ b)
+        ↔ (((i : ℕ) (kind : Kind) (said : Bool) → i < slots → made a i kind said ≡ made b i kind said)
+        × ((q : ℕ) (kind : LaneKind) (said : Bool) → q < slots → made_lane a q kind said ≡ made_lane b q kind said)) }
 {}
 
-/// A row that is counted belongs to one item and kind, with one answer: its own. A start belongs to none.
+/// A row that is counted belongs to one item or lane and one kind, with one answer: its own. A start belongs to none.
 pub fn a_counted_row_is_of_one_item_kind_and_answer()
-    ensures counted { (row : Row) → (is_counted row.event ≡ true) ↔ ((kind : Kind) × (kind_in row.event ≡ Some kind)) }
+    ensures counted { (row : Row) → (is_counted row.event ≡ true)
+        ↔ (((kind : Kind) × (kind_in row.event ≡ Some kind)) ⊎ ((kind : LaneKind) × (lane_kind_in row.event ≡ Some kind))) }
     ensures own { (row : Row) (kind : Kind) → kind_in row.event ≡ Some kind →
         is_of (item_in row.event) kind row.yes row ≡ true }
     ensures no_other { (row : Row) (i : ℕ) (kind : Kind) (said : Bool) → is_of i kind said row ≡ true →
         (kind_in row.event ≡ Some kind) × (item_in row.event ≡ i) × (row.yes ≡ said) }
+    ensures own_lane { (row : Row) (kind : LaneKind) → lane_kind_in row.event ≡ Some kind →
+        is_of_lane (lane_in row.event) kind row.yes row ≡ true }
+    ensures no_other_lane { (row : Row) (q : ℕ) (kind : LaneKind) (said : Bool) → is_of_lane q kind said row ≡ true →
+        (lane_kind_in row.event ≡ Some kind) × (lane_in row.event ≡ q) × (row.yes ≡ said) }
+    ensures not_both { (row : Row) (kind : Kind) → kind_in row.event ≡ Some kind → lane_kind_in row.event ≡ None }
+{}
+
+/// The counts are the tallies of the rows exactly where each says how many of the rows are of its item, kind and answer, or of
+/// its lane, kind and answer.
+pub fn tallies_are_those_of_each_item_and_lane()
+    ensures { (slots : ℕ) (rows : List Row) (counts : List ℕ) → AreTallies slots rows counts
+        ↔ (((i : ℕ) (kind : Kind) (said : Bool) → i < slots → made counts i kind said ≡ tally rows i kind said)
+        × ((q : ℕ) (kind : LaneKind) (said : Bool) → q < slots → made_lane counts q kind said ≡ tally_lane rows q kind said)) }
 {}
 
 /// The counts of no rows are 0. They stay those of the rows with each row that is added.
 pub fn tallies_are_kept_row_by_row()
-    ensures none { (items : ℕ) → AreTallies items [] (replicate (14 * items) 0) }
-    ensures more { (items : ℕ) (rows : List Row) (row : Row) (counts : List ℕ) → HasCountsOf items counts →
-        (is_counted row.event ≡ true → item_in row.event < items) → AreTallies items rows counts →
-        AreTallies items (rows ++ (row ∷ [])) (noted counts row) }
+    ensures none { (slots : ℕ) → AreTallies slots [] (replicate (counts_each * slots) 0) }
+    ensures more { (slots : ℕ) (rows : List Row) (row : Row) (counts : List ℕ) → HasCountsOf slots counts →
+        (is_counted row.event ≡ true → slot_in row.event < slots) → AreTallies slots rows counts →
+        AreTallies slots (rows ++ (row ∷ [])) (noted counts row) }
 {}
 
 /// The counts of some rows sum up to the number of those rows that are counted. None is left out or counted twice.
 pub fn tallies_sum_up_to_the_counted_rows()
-    ensures { (items : ℕ) (rows : List Row) (counts : List ℕ) → HasCountsOf items counts → AreRowsOf items rows →
-        AreTallies items rows counts → sum counts ≡ counted_rows rows }
+    ensures { (slots : ℕ) (rows : List Row) (counts : List ℕ) → HasCountsOf slots counts → AreRowsOf slots rows →
+        AreTallies slots rows counts → sum counts ≡ counted_rows rows }
 {}
 
 /// Where the counts of some rows are added to those of others, they are the counts of both.
 pub fn tallies_of_two_runs_of_rows_are_added()
-    ensures { (items : ℕ) (rows more : List Row) (a b c : List ℕ) → AreTallies items rows a → AreTallies items more b →
-        ((p : ℕ) → slice_index c p ≡ slice_index a p + slice_index b p) → AreTallies items (rows ++ more) c }
+    ensures { (slots : ℕ) (rows more : List Row) (a b c : List ℕ) → AreTallies slots rows a → AreTallies slots more b →
+        ((p : ℕ) → slice_index c p ≡ slice_index a p + slice_index b p) → AreTallies slots (rows ++ more) c }
 {}

@@ -1,4 +1,4 @@
-//! Counts of rows: how many there are of each item, of each kind and with each answer.
+//! Counts of rows: how many there are of each item or lane, of each kind and with each answer.
 //!
 //! What the layers above rely on: a row raises exactly one count, or none where it is a start; the counts of two runs of rows are
 //! added place by place; and two lists of counts are equal exactly where each count is. So callers can count their own rows, and
@@ -9,5 +9,5 @@ mod counts;
 mod kind;
 pub mod laws;
 
-pub use counts::Counts;
-pub use kind::Kind;
+pub use counts::{COUNTS_EACH, Counts};
+pub use kind::{Kind, LaneKind};

@@ -1,32 +1,34 @@
 -- What a book holds, and that it still holds this after one more row.
-use Rattle.std.proofs.Common.{◌≡◌, ℕ, zero, suc, ◌+◌, ◌-◌, ◌<◌, ◌≤◌, ◌^◌, inl, inr, cond, Bool, true, false, List, [], ◌∷◌, ◌++◌, length, length-append, get_or, replicate, refl, sym, ap, subst, ◌∙◌, arith}
-use Rattle.std.specs.Prelude.{Option, Some, None, IfSome, slice_get, sum_by, ◌&&◌}
+use Rattle.std.proofs.Common.{◌≡◌, ℕ, zero, suc, ◌+◌, ◌-◌, ◌*◌, ◌<◌, ◌≤◌, ◌^◌, inl, inr, cond, Bool, true, false, List, [], ◌∷◌, ◌++◌, length, length-append, get_or, replicate, refl, sym, ap, subst, ◌∙◌, arith}
+use Rattle.std.specs.Prelude.{Option, Some, None, IfSome, slice_get, sum_by, max, ◌&&◌}
+use Rattle.std.proofs.Math.Nat.{le-max_left, le-max_right}
 use Rattle.std.proofs.lemmas.List.{length-replicate}
 use Rattle.std.proofs.lemmas.List.Folds.{sum_by-replicate}
 use Rattle.wq_items.proofs.Lists.{Contains-first}
 use Rattle.wq_core.specs.declared.entry.Entry.{Entry}
 use Rattle.wq_core.specs.declared.entry.Running.{Running}
 use Rattle.wq_core.specs.declared.step.Step.{Step}
-use Rattle.wq_core.specs.declared.step.Step.TheVariants.{Queue as QueueStep, Cancel as CancelStep, Start as StartStep, Wait as WaitStep, Over as OverStep, Finish as FinishStep}
+use Rattle.wq_core.specs.declared.step.Step.TheVariants.{Queue as QueueStep, Cancel as CancelStep, Start as StartStep, Wait as WaitStep, Over as OverStep, WaitAll as WaitAllStep, OverAll as OverAllStep, Finish as FinishStep}
 use Rattle.wq_core.specs.Wiring.{Wiring, items, lane_of}
 use Rattle.wq_core.specs.State.{State, Lane, idle_lane, lane_at, empty_state}
 use Rattle.wq_core.specs.Rules.{Lawful, effect}
 use Rattle.wq_core.specs.Runs.{IsRescuerStep}
 use Rattle.wq_core.specs.Work.{lane_work, work_left}
 use Rattle.wq_core.specs.Held.{Machine, IsMachine, IsDone, machine_after}
-use Rattle.wq_core.proofs.Machines.{running-item}
 use Rattle.wq_core.proofs.RunLemmas.{next-effect}
 use Rattle.wq_core.proofs.Sound.{IsSoundState-effect}
 use Rattle.wq_core.proofs.WorkLemmas.{work_left-rescuer}
 use Rattle.wq_core.proofs.WorkChanges.{work_left-queued, work_left-cancelled}
 use Rattle.wq_rows.specs.declared.event.Event.{Event}
-use Rattle.wq_rows.specs.declared.event.Event.TheVariants.{Queue, Cancel, Start, Wait, Over, Finish, Ask, Told}
+use Rattle.wq_rows.specs.declared.event.Event.TheVariants.{Queue, Cancel, Start, Wait, Over, Finish, Ask, Told, WaitAll, OverAll, AskLane, ToldLane}
 use Rattle.wq_rows.specs.declared.event.Row.{Row}
 use Rattle.wq_rows.specs.Stored.{max_rows}
+use Rattle.wq_history.specs.declared.asking.Subject.{Subject}
+use Rattle.wq_history.specs.declared.asking.Subject.TheVariants.{Item as OfItem, Lane as OfLane}
 use Rattle.wq_history.specs.Events.{step_of, is_ask, is_told}
-use Rattle.wq_history.specs.History.{state_after, MayCome, MayFollow}
+use Rattle.wq_history.specs.History.{state_after, IsThere, MayCome, MayFollow}
 use Rattle.wq_history.specs.Reserve.{reserved, free_rows, rows_needed}
-use Rattle.wq_history.specs.Counts.{AskView, CountsAsks, Replays, HoldsBook}
+use Rattle.wq_history.specs.Counts.{AskView, CountsAsks, Replays, HoldsBook, ask_place}
 use Rattle.wq_history.specs.Book.{IsBook}
 use Rattle.wq_history.proofs.Histories.{state_after-step, state_after-none, IsLegal-more}
 use Rattle.wq_history.proofs.Counting.{count-more, IsNobodys-step, CountsAsks-same, all_asks_waiting-count}
@@ -86,7 +88,7 @@ Replays-noted m rows asks new row replays none may counts same = record {
   machine_is = replays.machine_is;
   replay = replays.replay ∙ sym (state_after-none m.wiring rows row none);
   legal = IsLegal-more m.wiring rows row replays.legal may;
-  a_count_each = same ∙ replays.a_count_each;
+  a_count_each = λ x there. subst (λ (n : ℕ). ask_place x < n) (sym same) (replays.a_count_each x there);
   asked = counts;
   numbers = omega (arith, length-more rows row, replays.numbers);
 }
@@ -127,6 +129,10 @@ not_told w rows (Over q b) n may = refl
 not_told w rows (Finish q i) n may = refl
 not_told w rows (Ask i) n may = refl
 not_told w rows (Told i) n may = let said : false ≡ true = may.0 in absurd cc
+not_told w rows (WaitAll q b) n may = refl
+not_told w rows (OverAll q b) n may = refl
+not_told w rows (AskLane q) n may = refl
+not_told w rows (ToldLane q) n may = let said : false ≡ true = may.0 in absurd cc
 
 pub needs_a_row : (w : Wiring) (rows : List Row) (event : Event) (n : ℕ) → MayCome w rows event false n → step_of event false ≡ None → 1 ≤ rows_needed w event false
 needs_a_row w rows (Queue i) n may none = omega arith
@@ -137,6 +143,10 @@ needs_a_row w rows (Over q b) n may none = absurd cc
 needs_a_row w rows (Finish q i) n may none = absurd cc
 needs_a_row w rows (Ask i) n may none = omega arith
 needs_a_row w rows (Told i) n may none = let said : false ≡ true = may.0 in absurd cc
+needs_a_row w rows (WaitAll q b) n may none = absurd cc
+needs_a_row w rows (OverAll q b) n may none = absurd cc
+needs_a_row w rows (AskLane q) n may none = omega arith
+needs_a_row w rows (ToldLane q) n may none = let said : false ≡ true = may.0 in absurd cc
 
 -- the same, for rows and room under other names
 pub HoldsBook-read : (m : Machine) (new : List Row) (room_new : ℕ) (asks : AskView) (work : ℕ) {rows : List Row} {room : ℕ} → new ≡ rows → room_new ≡ room
@@ -170,6 +180,12 @@ step_is_paid m (Finish q i) said step machine makes = subst (IsPaidFor m (Finish
     (rescuer_pays m (Finish q i) said (FinishStep q i) machine tt)
 step_is_paid m (Ask i) said step machine makes = absurd cc
 step_is_paid m (Told i) said step machine makes = absurd cc
+step_is_paid m (WaitAll q b) said step machine makes = subst (IsPaidFor m (WaitAll q b) said) (let same : WaitAllStep q b ≡ step = cc in same)
+    (rescuer_pays m (WaitAll q b) said (WaitAllStep q b) machine tt)
+step_is_paid m (OverAll q b) said step machine makes = subst (IsPaidFor m (OverAll q b) said) (let same : OverAllStep q b ≡ step = cc in same)
+    (rescuer_pays m (OverAll q b) said (OverAllStep q b) machine tt)
+step_is_paid m (AskLane q) said step machine makes = absurd cc
+step_is_paid m (ToldLane q) said step machine makes = absurd cc
 
 -- the row of a step, with the machine and the work that are left after it
 pub HoldsBook-made : (m new : Machine) (rows : List Row) (room : ℕ) (asks : AskView) (work left : ℕ) (event : Event) (said : Bool) (n : ℕ) (step : Step)
@@ -213,22 +229,39 @@ zeros (suc n) (suc i) none = zeros n i none
 no_work : (w : Wiring) (n : ℕ) → sum_by (lane_work w) (replicate n idle_lane) ≡ 0
 no_work w n = omega (arith, sum_by-replicate (lane_work w) n idle_lane)
 
-pub Replays-first : (m : Machine) (asks : AskView) → IsMachine m → m.state ≡ empty_state m.wiring
-    → asks ≡ record { counts = replicate (items m.wiring) 0; all = 0 } → Replays m [] asks
+-- the first counts of the asks that wait: all are 0
+abbrev pub AreFirst : Wiring → AskView → Type 0
+AreFirst w asks = asks ≡ record { counts = replicate (2 * max (items w) w.lanes) 0; all = 0 }
+
+place-within : (w : Wiring) (x : Subject) → IsThere w x → ask_place x < 2 * max (items w) w.lanes
+place-within w (OfItem i) there = let below : i < items w = there in omega (arith, below, le-max_left (items w) w.lanes)
+place-within w (OfLane q) there = let below : q < w.lanes = there in omega (arith, below, le-max_right (items w) w.lanes)
+
+pub each-first : (w : Wiring) (asks : AskView) (x : Subject) → AreFirst w asks → IsThere w x → ask_place x < length asks.counts
+each-first w asks x first there =
+    subst (λ (n : ℕ). ask_place x < n) (sym (ap (λ (a : AskView). length a.counts) first ∙ length-replicate (2 * max (items w) w.lanes) 0)) (place-within w x there)
+
+pub asked-first : (w : Wiring) (asks : AskView) → AreFirst w asks → CountsAsks [] asks
+asked-first w asks first = record {
+  each = λ x.
+      let at : get_or asks.counts (ask_place x) 0 ≡ 0 =
+      ap (λ (a : AskView). get_or a.counts (ask_place x) 0) first ∙ zeros (2 * max (items w) w.lanes) (ask_place x) 0 in
+      omega (arith, at);
+  in_all = ap (λ (a : AskView). a.all + 0) first;
+}
+
+pub Replays-first : (m : Machine) (asks : AskView) → IsMachine m → m.state ≡ empty_state m.wiring → AreFirst m.wiring asks → Replays m [] asks
 Replays-first m asks machine empty none = record {
   machine_is = machine;
   replay = empty;
   legal = λ n row at. absurd cc;
-  a_count_each = ap (λ (a : AskView). length a.counts) none ∙ length-replicate (items m.wiring) 0;
-  asked = record {
-    each = λ i. let at : get_or asks.counts i 0 ≡ 0 = ap (λ (a : AskView). get_or a.counts i 0) none ∙ zeros (items m.wiring) i 0 in omega (arith, at);
-    in_all = ap (λ (a : AskView). a.all + 0) none;
-  };
+  a_count_each = λ x there. each-first m.wiring asks x none there;
+  asked = asked-first m.wiring asks none;
   numbers = let next : m.state.next ≡ 0 = ap (λ (s : State). s.next) empty in omega (arith, next);
 }
 
 pub HoldsBook-first : (m : Machine) (room : ℕ) (asks : AskView) → IsMachine m → m.state ≡ empty_state m.wiring → room ≤ max_rows
-    → asks ≡ record { counts = replicate (items m.wiring) 0; all = 0 } → HoldsBook m [] room asks 0
+    → AreFirst m.wiring asks → HoldsBook m [] room asks 0
 HoldsBook-first m room asks machine empty limit none = record {
   replays = Replays-first m asks machine empty none;
   work_is = sym (ap (work_left m.wiring) empty ∙ no_work m.wiring m.wiring.lanes);

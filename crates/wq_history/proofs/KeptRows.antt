@@ -1,33 +1,34 @@
 -- Rows that are kept, and what may come at a place of a legal history.
-use Rattle.std.proofs.Common.{◌≡◌, ℕ, ◌+◌, ◌<◌, ◌≤◌, Bool, true, false, cond, List, [], ◌∷◌, ◌++◌, length, append_assoc, refl, sym, ap, subst, ◌∙◌, arith}
-use Rattle.std.specs.Prelude.{Some, ◌&&◌}
+use Rattle.std.proofs.Common.{◌≡◌, ℕ, ◌+◌, ◌<◌, ◌≤◌, ◌↔◌, Bool, true, false, cond, List, [], ◌∷◌, ◌++◌, length, append_assoc, refl, sym, ap, subst, ◌∙◌, arith}
+use Rattle.std.specs.Prelude.{Some, IsTrue, ◌&&◌}
 use Rattle.std.specs.List.{All, count_by}
 use Rattle.std.specs.Cmp.{both_ways}
 use Rattle.std.proofs.lemmas.List.Elements.{All-head, All-tail}
-use Rattle.wq_items.proofs.Tables.{ItemWaits-below}
 use Rattle.wq_core.specs.declared.step.Step.{Step}
-use Rattle.wq_core.specs.declared.step.Step.TheVariants.{Queue as QueueStep, Cancel as CancelStep, Start as StartStep, Wait as WaitStep, Over as OverStep, Finish as FinishStep}
+use Rattle.wq_core.specs.declared.step.Step.TheVariants.{Queue as QueueStep, Cancel as CancelStep, Start as StartStep, Wait as WaitStep, Over as OverStep, WaitAll as WaitAllStep, OverAll as OverAllStep, Finish as FinishStep}
 use Rattle.wq_core.specs.Wiring.{Wiring, IsWiring, items, lane_of}
-use Rattle.wq_core.specs.State.{State}
+use Rattle.wq_core.specs.State.{State, lane_at, HasUnfinishedOf, IsBusy}
 use Rattle.wq_core.specs.Rules.{effect}
 use Rattle.wq_core.specs.Work.{work_left}
 use Rattle.wq_core.specs.Held.{IsSoundState}
-use Rattle.wq_core.proofs.LaneLemmas.{ItemWaits-by, runs_within, starts_within}
+use Rattle.wq_core.proofs.LaneLemmas.{runs_within, starts_within}
 use Rattle.wq_core.proofs.LawfulSteps.{start-item, waiting-target}
 use Rattle.wq_core.proofs.Machines.{running-item}
 use Rattle.wq_core.proofs.Numbers.{Gives-one}
 use Rattle.wq_core.proofs.WorkLemmas.{work_left-rescuer}
 use Rattle.wq_core.proofs.WorkChanges.{work_left-cancelled}
 use Rattle.wq_rows.specs.declared.event.Event.{Event}
-use Rattle.wq_rows.specs.declared.event.Event.TheVariants.{Queue, Cancel, Start, Wait, Over, Finish, Ask, Told}
+use Rattle.wq_rows.specs.declared.event.Event.TheVariants.{Queue, Cancel, Start, Wait, Over, Finish, Ask, Told, WaitAll, OverAll, AskLane, ToldLane}
 use Rattle.wq_rows.specs.declared.event.Row.{Row}
-use Rattle.wq_rows.specs.Packing.{item_in, lane_in}
-use Rattle.wq_history.specs.Events.{step_of, is_ask, is_told}
-use Rattle.wq_history.specs.History.{state_after, all_asks_waiting, SaysUnfinished, MayCome, MayFollow, IsLegal}
+use Rattle.wq_rows.specs.Packing.{lane_in}
+use Rattle.wq_history.specs.declared.asking.Subject.TheVariants.{Item as OfItem, Lane as OfLane}
+use Rattle.wq_history.specs.Events.{step_of, subject_in, is_ask, is_told}
+use Rattle.wq_history.specs.History.{state_after, all_asks_waiting, IsThere, MayCome, MayFollow, IsLegal}
 use Rattle.wq_history.specs.Reserve.{reserved, rows_needed}
 use Rattle.wq_history.proofs.Histories.{state_after-step, state_after-none}
 use Rattle.wq_history.proofs.Counting.{count-more}
-use Rattle.wq_history.proofs.LegalRows.{IsLegal-prefix, IsLegal-last, IsSoundState-legal, asked-item, some-wait}
+use Rattle.wq_history.proofs.LegalRows.{IsLegal-prefix, IsLegal-last, IsSoundState-legal, asked-there, some-wait}
+use Rattle.wq_history.proofs.WaitEvents.{declared-item}
 
 -- ---- rows that need none free
 
@@ -78,7 +79,19 @@ kept_row w rows row legal may none = by_event row.event row.yes row.number may n
       let left : work_left w (state_after w (rows ++ (r ∷ []))) ≡ work_left w s = ap (work_left w) (state_after-none w rows r refl) in
       let a = count-more (λ (x : Row). is_ask x.event && x.yes) rows r in
       let t = count-more (λ (x : Row). is_told x.event) rows r in
-      omega (arith, left, a, t, some-wait w rows i legal come.1)
+      omega (arith, left, a, t, some-wait w rows (OfItem i) legal come.1)
+  by_event (WaitAll q b) said n come none_needed =
+      stepping (WaitAll q b) said n (WaitAllStep q b) refl refl refl (omega (arith, work_left-rescuer w s (WaitAllStep q b) sound come.1.0 tt))
+  by_event (OverAll q b) said n come none_needed =
+      stepping (OverAll q b) said n (OverAllStep q b) refl refl refl (omega (arith, work_left-rescuer w s (OverAllStep q b) sound come.1.0 tt))
+  by_event (AskLane q) true n come none_needed = absurd (omega (arith, none_needed))
+  by_event (AskLane q) false n come none_needed = absurd (omega (arith, none_needed))
+  by_event (ToldLane q) said n come none_needed =
+      let r : Row = record { event = ToldLane q; yes = said; number = n } in
+      let left : work_left w (state_after w (rows ++ (r ∷ []))) ≡ work_left w s = ap (work_left w) (state_after-none w rows r refl) in
+      let a = count-more (λ (x : Row). is_ask x.event && x.yes) rows r in
+      let t = count-more (λ (x : Row). is_told x.event) rows r in
+      omega (arith, left, a, t, some-wait w rows (OfLane q) legal come.1)
 
 pub kept_rows : (w : Wiring) (rows more : List Row) → IsLegal w (rows ++ more) → All (λ (row : Row). rows_needed w row.event row.yes ≡ 0) more
     → length more ≤ reserved w rows
@@ -101,8 +114,8 @@ one_answer w rows event said other n m legal not_told a b = by_event event said 
   sound : IsSoundState w s
   sound = IsSoundState-legal w rows legal
 
-  same_word : (i : ℕ) (x y : Bool) → SaysUnfinished s i x → SaysUnfinished s i y → x ≡ y
-  same_word i x y of_x of_y = both_ways x y (λ t. of_y.1 (of_x.0 t)) (λ t. of_x.1 (of_y.0 t))
+  same_word : (Said : Type 0) (x y : Bool) → IsTrue x ↔ Said → IsTrue y ↔ Said → x ≡ y
+  same_word Said x y of_x of_y = both_ways x y (λ t. of_y.1 (of_x.0 t)) (λ t. of_x.1 (of_y.0 t))
 
   by_event : (e : Event) (x y : Bool) → is_told e ≡ false → MayCome w rows e x n → MayCome w rows e y m → (x ≡ y) × (n ≡ m)
   by_event (Queue i) true true told a b = (refl, Gives-one w s (QueueStep i) n m sound a.1.1 b.1.1)
@@ -114,16 +127,21 @@ one_answer w rows event said other n m legal not_told a b = by_event event said 
   by_event (Cancel i) false true told a b = absurd (a.1.0 b.1.0)
   by_event (Cancel i) false false told a b = (refl, a.1.1 ∙ sym b.1.1)
   by_event (Start q i) x y told a b = (a.0 ∙ sym b.0, Gives-one w s (StartStep q i) n m sound a.1.1 b.1.1)
-  by_event (Wait q t) x y told a b = (same_word t x y a.0 b.0, Gives-one w s (WaitStep q t) n m sound a.1.1 b.1.1)
+  by_event (Wait q t) x y told a b = (same_word (HasUnfinishedOf s t) x y a.0 b.0, Gives-one w s (WaitStep q t) n m sound a.1.1 b.1.1)
   by_event (Over q t) x y told a b = (a.0 ∙ sym b.0, Gives-one w s (OverStep q t) n m sound a.1.1 b.1.1)
   by_event (Finish q i) x y told a b = (a.0 ∙ sym b.0, Gives-one w s (FinishStep q i) n m sound a.1.1 b.1.1)
-  by_event (Ask i) x y told a b = (same_word i x y a.1 b.1, a.2 ∙ sym b.2)
+  by_event (Ask i) x y told a b = (same_word (HasUnfinishedOf s i) x y a.1 b.1, a.2 ∙ sym b.2)
   by_event (Told i) x y told a b = absurd cc
+  by_event (WaitAll q t) x y told a b =
+      (same_word (IsBusy (lane_at s (lane_of w t))) x y a.0 b.0, Gives-one w s (WaitAllStep q t) n m sound a.1.1 b.1.1)
+  by_event (OverAll q t) x y told a b = (a.0 ∙ sym b.0, Gives-one w s (OverAllStep q t) n m sound a.1.1 b.1.1)
+  by_event (AskLane q) x y told a b = (same_word (IsBusy (lane_at s q)) x y a.1 b.1, a.2 ∙ sym b.2)
+  by_event (ToldLane q) x y told a b = absurd cc
 
 -- ---- items and lanes
 
 pub exist : (w : Wiring) (rows : List Row) (event : Event) (said : Bool) (n : ℕ) → IsWiring w → IsLegal w rows → MayCome w rows event said n
-    → (item_in event < items w) × (lane_in event < w.lanes)
+    → IsThere w (subject_in event) × (lane_in event < w.lanes)
 exist w rows event said n wiring legal may = by_event event may where
   s : State
   s = state_after w rows
@@ -137,13 +155,13 @@ exist w rows event said n wiring legal may = by_event event may where
       let on : lane_of w i < w.lanes = wiring.within i 0 (omega (arith, there, wiring.one_lane_each)) in
       omega (arith, on)
 
-  by_event : (e : Event) → MayCome w rows e said n → (item_in e < items w) × (lane_in e < w.lanes)
+  by_event : (e : Event) → MayCome w rows e said n → IsThere w (subject_in e) × (lane_in e < w.lanes)
   by_event (Queue i) come = (come.0, with_lane i come.0)
   by_event (Cancel i) come = (come.0, with_lane i come.0)
   by_event (Start q i) come = (start-item w s q i sound come.1.0, omega (arith, starts_within s q i come.1.0, sound.one_each))
   by_event (Wait q b) come =
       let (r, runs, wait) = come.1.0 in
-      (ItemWaits-below (items w) w.waits wiring.targets_are_items r.entry.item b (ItemWaits-by w.waits false r.entry.item b wait.declared), omega (arith, runs_within s q r runs, sound.one_each))
+      (declared-item w false r.entry.item b wiring wait.declared, omega (arith, runs_within s q r runs, sound.one_each))
   by_event (Over q b) come =
       let (r, runs, over) = come.1.0 in
       (subst (λ k. k < items w) over.target (waiting-target w s q r over.flush wiring sound runs over.waits), omega (arith, runs_within s q r runs, sound.one_each))
@@ -151,4 +169,12 @@ exist w rows event said n wiring legal may = by_event event may where
       let (r, runs, end) = come.1.0 in
       (subst (λ k. k < items w) end.entry (running-item w s q r sound runs), omega (arith, runs_within s q r runs, sound.one_each))
   by_event (Ask i) come = (come.0, with_lane i come.0)
-  by_event (Told i) come = let there = asked-item w rows i legal come.1 in (there, with_lane i there)
+  by_event (Told i) come = let there = asked-there w rows (OfItem i) legal come.1 in (there, with_lane i there)
+  by_event (WaitAll q b) come =
+      let (r, runs, wait) = come.1.0 in
+      (declared-item w true r.entry.item b wiring wait.declared, omega (arith, runs_within s q r runs, sound.one_each))
+  by_event (OverAll q b) come =
+      let (r, runs, over) = come.1.0 in
+      (subst (λ k. k < items w) over.target (waiting-target w s q r over.flush wiring sound runs over.waits), omega (arith, runs_within s q r runs, sound.one_each))
+  by_event (AskLane q) come = (come.0, come.0)
+  by_event (ToldLane q) come = let there = asked-there w rows (OfLane q) legal come.1 in (there, there)

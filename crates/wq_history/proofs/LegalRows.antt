@@ -1,13 +1,14 @@
 -- What holds for legal histories: prefixes, runs, and the asks that wait.
-use Rattle.std.proofs.Common.{◌≡◌, ℕ, zero, suc, ◌+◌, ◌-◌, ◌<◌, ◌≤◌, ◌↔◌, Bool, true, false, List, [], ◌∷◌, ◌++◌, length, take, get_or, set, replicate, append_assoc, refl, sym, ap, subst, ◌∙◌, arith}
-use Rattle.std.specs.Prelude.{Option, Some, None, slice_get, sum, ◌&&◌}
+use Rattle.std.proofs.Common.{◌≡◌, ℕ, zero, suc, ◌+◌, ◌-◌, ◌*◌, ◌<◌, ◌≤◌, ◌↔◌, Bool, true, false, cond, eqb, List, [], ◌∷◌, ◌++◌, length, take, get_or, set, replicate, append_assoc, refl, sym, ap, subst, ◌∙◌, arith}
+use Rattle.std.specs.Prelude.{Option, Some, None, slice_get, sum, max, ◌&&◌}
+use Rattle.std.proofs.lemmas.Bool.{eqb-true}
 use Rattle.std.specs.List.{count_by, cons_option}
-use Rattle.std.proofs.lemmas.List.{append-nil, length-replicate, length-set, take-append-le}
+use Rattle.std.proofs.lemmas.List.{append-nil, length-set, take-append-le}
 use Rattle.std.proofs.lemmas.List.Folds.{sum_by-replicate}
 use Rattle.std.proofs.lemmas.List.Sums.{sum_by-set, get_or-le-sum_by}
 use Rattle.std.proofs.lemmas.Option.{slice_get_within}
 use Rattle.wq_core.specs.declared.step.Step.{Step}
-use Rattle.wq_core.specs.declared.step.Step.TheVariants.{Queue as QueueStep, Cancel as CancelStep, Start as StartStep, Wait as WaitStep, Over as OverStep, Finish as FinishStep}
+use Rattle.wq_core.specs.declared.step.Step.TheVariants.{Queue as QueueStep, Cancel as CancelStep, Start as StartStep, Wait as WaitStep, Over as OverStep, WaitAll as WaitAllStep, OverAll as OverAllStep, Finish as FinishStep}
 use Rattle.wq_core.specs.Wiring.{Wiring, items}
 use Rattle.wq_core.specs.State.{empty_state}
 use Rattle.wq_core.specs.Runs.{IsRun}
@@ -15,15 +16,17 @@ use Rattle.wq_core.specs.Held.{IsSoundState}
 use Rattle.wq_core.proofs.RunLemmas.{IsRunFrom-more}
 use Rattle.wq_core.proofs.Sound.{IsSoundState-end_of}
 use Rattle.wq_rows.specs.declared.event.Event.{Event}
-use Rattle.wq_rows.specs.declared.event.Event.TheVariants.{Queue, Cancel, Start, Wait, Over, Finish, Ask, Told}
+use Rattle.wq_rows.specs.declared.event.Event.TheVariants.{Queue, Cancel, Start, Wait, Over, Finish, Ask, Told, WaitAll, OverAll, AskLane, ToldLane}
 use Rattle.wq_rows.specs.declared.event.Row.{Row}
-use Rattle.wq_history.specs.Events.{step_of, steps_of, begins_to_wait, ends_a_wait, is_ask, is_told}
-use Rattle.wq_history.specs.History.{state_after, asks_waiting, all_asks_waiting, MayCome, MayFollow, IsLegal}
-use Rattle.wq_history.specs.Counts.{AskView, CountsAll, CountsAsks}
-use Rattle.wq_history.specs.Judging.{counted}
+use Rattle.wq_history.specs.declared.asking.Subject.{Subject}
+use Rattle.wq_history.specs.declared.asking.Subject.TheVariants.{Item as OfItem, Lane as OfLane}
+use Rattle.wq_history.specs.Events.{step_of, steps_of, ask_event, told_event, begins_to_wait, ends_a_wait, is_ask, is_told}
+use Rattle.wq_history.specs.History.{state_after, asks_waiting, all_asks_waiting, IsThere, MayCome, MayFollow, IsLegal}
+use Rattle.wq_history.specs.Counts.{AskView, CountsAll, CountsAsks, ask_place}
+use Rattle.wq_history.specs.Judging.{with_ask, without_ask}
 use Rattle.wq_history.proofs.Histories.{steps_of-more, IsLegal-more, MayCome-lawful}
-use Rattle.wq_history.proofs.Counting.{IsNobodys, IsNobodys-nothing, IsNobodys-step, CountsAsks-same, CountsAsks-asked, CountsAsks-told, asks_waiting-count, all_asks_waiting-count, within-some}
-use Rattle.wq_history.proofs.Holding.{zeros}
+use Rattle.wq_history.proofs.Counting.{IsNobodys, IsNobodys-nothing, IsNobodys-step, count-more, CountsAsks-same, CountsAsks-asked, CountsAsks-told, asks_waiting-count, all_asks_waiting-count, within-some}
+use Rattle.wq_history.proofs.Holding.{each-first, asked-first}
 
 -- ---- prefixes
 
@@ -82,12 +85,53 @@ IsRun-legal w rows legal = from_front (GivesRun w) (λ xs x before. one_more_ste
 pub IsSoundState-legal : (w : Wiring) (rows : List Row) → IsLegal w rows → IsSoundState w (state_after w rows)
 IsSoundState-legal w rows legal = IsSoundState-end_of w (steps_of rows) (IsRun-legal w rows legal)
 
+-- ---- what was asked about exists
+
+and-left : (a b : Bool) → (a && b) ≡ true → a ≡ true
+and-left true b both = refl
+and-left false b both = absurd cc
+
+-- an ask that begins to wait is about an item or a lane that exists
+begins-there : (w : Wiring) (rows : List Row) (x : Subject) (event : Event) (said : Bool) (n : ℕ) → MayCome w rows event said n
+    → begins_to_wait x (record { event = event; yes = said; number = n }) ≡ true → IsThere w x
+begins-there w rows x (Queue i) said n may is = absurd cc
+begins-there w rows x (Cancel i) said n may is = absurd cc
+begins-there w rows x (Start q i) said n may is = absurd cc
+begins-there w rows x (Wait q b) said n may is = absurd cc
+begins-there w rows x (Over q b) said n may is = absurd cc
+begins-there w rows x (Finish q i) said n may is = absurd cc
+begins-there w rows (OfItem j) (Ask i) said n may is = subst (λ k. k < items w) (eqb-true i j (and-left (eqb i j) said is)) may.0
+begins-there w rows (OfLane q) (Ask i) said n may is = absurd cc
+begins-there w rows x (Told i) said n may is = absurd cc
+begins-there w rows x (WaitAll q b) said n may is = absurd cc
+begins-there w rows x (OverAll q b) said n may is = absurd cc
+begins-there w rows (OfItem j) (AskLane p) said n may is = absurd cc
+begins-there w rows (OfLane q) (AskLane p) said n may is = subst (λ k. k < w.lanes) (eqb-true p q (and-left (eqb p q) said is)) may.0
+begins-there w rows x (ToldLane q) said n may is = absurd cc
+
+-- while rows are legal, what was asked about with yes exists
+abbrev AsksThere : Wiring → List Row → Type 0
+AsksThere w rows = IsLegal w rows → (x : Subject) → 0 < count_by (begins_to_wait x) rows → IsThere w x
+
+one_more_ask : (w : Wiring) (rows : List Row) (row : Row) → AsksThere w rows → AsksThere w (rows ++ (row ∷ []))
+one_more_ask w rows row before legal x some = by_row (begins_to_wait x row) refl where
+  by_row : (b : Bool) → begins_to_wait x row ≡ b → IsThere w x
+  by_row true is = begins-there w rows x row.event row.yes row.number (IsLegal-last w rows row legal) is
+  by_row false is =
+      let same = count-more (begins_to_wait x) rows row ∙ ap (λ b. count_by (begins_to_wait x) rows + cond b 1 0) is in
+      before (IsLegal-prefix w rows (row ∷ []) legal) x (omega (arith, some, same))
+
+-- an item or a lane about which an ask waits exists
+pub asked-there : (w : Wiring) (rows : List Row) (x : Subject) → IsLegal w rows → 0 < asks_waiting x rows → IsThere w x
+asked-there w rows x legal some =
+    from_front (AsksThere w) (λ xs row before. one_more_ask w xs row before) [] rows (λ none y never. absurd (omega (arith, never))) legal x (omega (arith, some))
+
 -- ---- asks that wait
 
--- counts of the asks that wait, one for each item, whose sum is that of all
+-- counts of the asks that wait, one for each item and each lane, whose sum is that of all
 pub record AreCounted (w : Wiring) (rows : List Row) : Type 0 where
   pub asks : AskView
-  pub each_item : length asks.counts ≡ items w
+  pub each : (x : Subject) → IsThere w x → ask_place x < length asks.counts
   pub sum_is : CountsAll asks
   pub counts : CountsAsks rows asks
 
@@ -95,12 +139,14 @@ abbrev GivesCounts : Wiring → List Row → Type 0
 GivesCounts w rows = IsLegal w rows → AreCounted w rows
 
 no_asks : (w : Wiring) → AreCounted w []
-no_asks w = record {
-  asks = record { counts = replicate (items w) 0; all = 0 };
-  each_item = length-replicate (items w) 0;
-  sum_is = omega (arith, sum_by-replicate (λ (n : ℕ). n) (items w) 0);
-  counts = record { each = λ i. let at : get_or (replicate (items w) 0) i 0 ≡ 0 = zeros (items w) i 0 in omega (arith, at); in_all = refl };
-}
+no_asks w =
+    let asks : AskView = record { counts = replicate (2 * max (items w) w.lanes) 0; all = 0 } in
+    record {
+      asks = asks;
+      each = λ x there. each-first w asks x refl there;
+      sum_is = omega (arith, sum_by-replicate (λ (n : ℕ). n) (2 * max (items w) w.lanes) 0);
+      counts = asked-first w asks refl;
+    }
 
 -- the sum after one count is replaced
 sum-set : (xs : List ℕ) (i y : ℕ) → i < length xs → sum (set xs i y) + get_or xs i 0 ≡ sum xs + y
@@ -115,10 +161,37 @@ one_more_count w rows row before legal = by_event row.event row.yes row.number (
       → AreCounted w (rows ++ (record { event = event; yes = said; number = n } ∷ []))
   same event said n nobody = record {
     asks = old.asks;
-    each_item = old.each_item;
+    each = old.each;
     sum_is = old.sum_is;
     counts = CountsAsks-same rows (record { event = event; yes = said; number = n }) old.asks nobody old.counts;
   }
+
+  -- a count is replaced
+  each_still : (x y : Subject) (k : ℕ) → IsThere w y → ask_place y < length (set old.asks.counts (ask_place x) k)
+  each_still x y k there = subst (λ (n : ℕ). ask_place y < n) (sym (length-set old.asks.counts (ask_place x) k)) (old.each y there)
+
+  asked : (x : Subject) (n : ℕ) → IsThere w x → AreCounted w (rows ++ (record { event = ask_event x; yes = true; number = n } ∷ []))
+  asked x n there =
+      let within = old.each x there in
+      record {
+        asks = with_ask x old.asks;
+        each = λ y is. each_still x y (get_or old.asks.counts (ask_place x) 0 + 1) is;
+        sum_is = omega (arith, sum-set old.asks.counts (ask_place x) (get_or old.asks.counts (ask_place x) 0 + 1) within, old.sum_is);
+        counts = CountsAsks-asked rows old.asks (with_ask x old.asks) x n within old.counts refl refl;
+      }
+
+  told : (x : Subject) (n : ℕ) → 0 < asks_waiting x rows → AreCounted w (rows ++ (record { event = told_event x; yes = true; number = n } ∷ []))
+  told x n waiting =
+      let some : 0 < get_or old.asks.counts (ask_place x) 0 = omega (arith, waiting, asks_waiting-count rows old.asks x old.counts) in
+      let within : ask_place x < length old.asks.counts = within-some old.asks.counts (ask_place x) some in
+      let part : get_or old.asks.counts (ask_place x) 0 ≤ sum old.asks.counts = get_or-le-sum_by (λ (k : ℕ). k) old.asks.counts (ask_place x) 0 within in
+      let all : 0 < old.asks.all = omega (arith, some, part, old.sum_is) in
+      record {
+        asks = without_ask x old.asks;
+        each = λ y is. each_still x y (get_or old.asks.counts (ask_place x) 0 - 1) is;
+        sum_is = omega (arith, sum-set old.asks.counts (ask_place x) (get_or old.asks.counts (ask_place x) 0 - 1) within, old.sum_is, some, all);
+        counts = CountsAsks-told rows old.asks (without_ask x old.asks) x n within some all old.counts refl refl;
+      }
 
   by_event : (event : Event) (said : Bool) (n : ℕ) → MayCome w rows event said n → AreCounted w (rows ++ (record { event = event; yes = said; number = n } ∷ []))
   by_event (Queue i) true n may = same (Queue i) true n (IsNobodys-step (Queue i) true n (QueueStep i) refl)
@@ -130,48 +203,30 @@ one_more_count w rows row before legal = by_event row.event row.yes row.number (
   by_event (Over q b) said n may = same (Over q b) said n (IsNobodys-step (Over q b) said n (OverStep q b) refl)
   by_event (Finish q i) said n may = same (Finish q i) said n (IsNobodys-step (Finish q i) said n (FinishStep q i) refl)
   by_event (Ask i) false n may = same (Ask i) false n (IsNobodys-nothing (Ask i) n refl)
-  by_event (Ask i) true n may =
-      let within : i < length old.asks.counts = omega (arith, may.0, old.each_item) in
-      record {
-        asks = counted old.asks (Ask i) true;
-        each_item = length-set old.asks.counts i (get_or old.asks.counts i 0 + 1) ∙ old.each_item;
-        sum_is = omega (arith, sum-set old.asks.counts i (get_or old.asks.counts i 0 + 1) within, old.sum_is);
-        counts = CountsAsks-asked rows old.asks (counted old.asks (Ask i) true) i n within old.counts refl refl;
-      }
+  by_event (Ask i) true n may = asked (OfItem i) n may.0
   by_event (Told i) false n may = let said : false ≡ true = may.0 in absurd cc
-  by_event (Told i) true n may =
-      let some : 0 < get_or old.asks.counts i 0 = omega (arith, may.1, asks_waiting-count rows old.asks i old.counts) in
-      let within : i < length old.asks.counts = within-some old.asks.counts i some in
-      let part : get_or old.asks.counts i 0 ≤ sum old.asks.counts = get_or-le-sum_by (λ (n : ℕ). n) old.asks.counts i 0 within in
-      let all : 0 < old.asks.all = omega (arith, some, part, old.sum_is) in
-      record {
-        asks = counted old.asks (Told i) true;
-        each_item = length-set old.asks.counts i (get_or old.asks.counts i 0 - 1) ∙ old.each_item;
-        sum_is = omega (arith, sum-set old.asks.counts i (get_or old.asks.counts i 0 - 1) within, old.sum_is, some, all);
-        counts = CountsAsks-told rows old.asks (counted old.asks (Told i) true) i n within some all old.counts refl refl;
-      }
+  by_event (Told i) true n may = told (OfItem i) n may.1
+  by_event (WaitAll q b) said n may = same (WaitAll q b) said n (IsNobodys-step (WaitAll q b) said n (WaitAllStep q b) refl)
+  by_event (OverAll q b) said n may = same (OverAll q b) said n (IsNobodys-step (OverAll q b) said n (OverAllStep q b) refl)
+  by_event (AskLane q) false n may = same (AskLane q) false n (IsNobodys-nothing (AskLane q) n refl)
+  by_event (AskLane q) true n may = asked (OfLane q) n may.0
+  by_event (ToldLane q) false n may = let said : false ≡ true = may.0 in absurd cc
+  by_event (ToldLane q) true n may = told (OfLane q) n may.1
 
 pub AreCounted-legal : (w : Wiring) (rows : List Row) → IsLegal w rows → AreCounted w rows
 AreCounted-legal w rows legal = from_front (GivesCounts w) (λ xs x before. one_more_count w xs x before) [] rows (λ none. no_asks w) legal
 
--- an item of which an ask waits is one of the table
-pub asked-item : (w : Wiring) (rows : List Row) (i : ℕ) → IsLegal w rows → 0 < asks_waiting i rows → i < items w
-asked-item w rows i legal some =
+-- if an ask about an item or a lane waits, at least one waits in all
+pub some-wait : (w : Wiring) (rows : List Row) (x : Subject) → IsLegal w rows → 0 < asks_waiting x rows → 0 < all_asks_waiting rows
+some-wait w rows x legal some =
     let c = AreCounted-legal w rows legal in
-    let waits : 0 < get_or c.asks.counts i 0 = omega (arith, some, asks_waiting-count rows c.asks i c.counts) in
-    omega (arith, within-some c.asks.counts i waits, c.each_item)
-
--- if an ask of an item waits, at least one waits in all
-pub some-wait : (w : Wiring) (rows : List Row) (i : ℕ) → IsLegal w rows → 0 < asks_waiting i rows → 0 < all_asks_waiting rows
-some-wait w rows i legal some =
-    let c = AreCounted-legal w rows legal in
-    let waits : 0 < get_or c.asks.counts i 0 = omega (arith, some, asks_waiting-count rows c.asks i c.counts) in
-    let within : i < length c.asks.counts = within-some c.asks.counts i waits in
-    let part : get_or c.asks.counts i 0 ≤ sum c.asks.counts = get_or-le-sum_by (λ (n : ℕ). n) c.asks.counts i 0 within in
+    let waits : 0 < get_or c.asks.counts (ask_place x) 0 = omega (arith, some, asks_waiting-count rows c.asks x c.counts) in
+    let within : ask_place x < length c.asks.counts = within-some c.asks.counts (ask_place x) waits in
+    let part : get_or c.asks.counts (ask_place x) 0 ≤ sum c.asks.counts = get_or-le-sum_by (λ (n : ℕ). n) c.asks.counts (ask_place x) 0 within in
     omega (arith, waits, part, c.sum_is, all_asks_waiting-count rows c.asks c.counts)
 
-pub told-asked : (w : Wiring) (rows : List Row) (i : ℕ) → IsLegal w rows → count_by (ends_a_wait i) rows ≤ count_by (begins_to_wait i) rows
-told-asked w rows i legal = let c = AreCounted-legal w rows legal in omega (arith, c.counts.each i)
+pub told-asked : (w : Wiring) (rows : List Row) (x : Subject) → IsLegal w rows → count_by (ends_a_wait x) rows ≤ count_by (begins_to_wait x) rows
+told-asked w rows x legal = let c = AreCounted-legal w rows legal in omega (arith, c.counts.each x)
 
 pub told-asked_all : (w : Wiring) (rows : List Row) → IsLegal w rows
     → count_by (λ (row : Row). is_told row.event) rows ≤ count_by (λ (row : Row). is_ask row.event && row.yes) rows

@@ -4,4 +4,4 @@ pub mod Holding
 pub mod Judged
 pub mod LegalRows
 pub mod KeptRows
-pub mod PlainWaits
+pub mod WaitEvents

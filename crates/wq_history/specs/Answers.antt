@@ -1,13 +1,20 @@
 -- Answers: what the calls of a book answer, and by which row.
 use Rattle.std.specs.Prelude.{◌≡◌, ℕ, ◌<◌, Option, Some, None, Bool, true, false}
 use Rattle.wq_core.specs.declared.entry.Waiting.{Waiting}
-use Rattle.wq_core.specs.State.{HasUnfinishedBelow}
-use Rattle.wq_rows.specs.declared.event.Event.TheVariants.{Start, Over, Ask as AskEvent, Told as ToldEvent}
+use Rattle.wq_core.specs.State.{lane_at, HasUnfinishedBelow, IsBusyBelow}
+use Rattle.wq_rows.specs.declared.event.Event.TheVariants.{Start, Ask as AskEvent, Told as ToldEvent, AskLane as AskLaneEvent, ToldLane as ToldLaneEvent}
 use Rattle.wq_history.specs.declared.asking.Ask.{Ask}
 use Rattle.wq_history.specs.declared.asking.Ask.TheVariants.{Idle, Waiting as WaitingAnswer}
 use Rattle.wq_history.specs.declared.asking.Asked.{Asked}
 use Rattle.wq_history.specs.declared.asking.Told.{Told}
 use Rattle.wq_history.specs.declared.asking.Told.TheVariants.{Done, NotYet, NotAsked}
+use Rattle.wq_history.specs.declared.asking.LaneAsk.{LaneAsk}
+use Rattle.wq_history.specs.declared.asking.LaneAsk.TheVariants.{Idle as LaneIdle, Waiting as LaneWaitingAnswer}
+use Rattle.wq_history.specs.declared.asking.LaneAsked.{LaneAsked}
+use Rattle.wq_history.specs.declared.asking.LaneTold.{LaneTold}
+use Rattle.wq_history.specs.declared.asking.LaneTold.TheVariants.{Done as LaneDone, NotYet as LaneNotYet, NotAsked as LaneNotAsked}
+use Rattle.wq_history.specs.declared.asking.Subject.TheVariants.{Item as OfItem, Lane as OfLane}
+use Rattle.wq_history.specs.Events.{over_event}
 use Rattle.wq_history.specs.History.{asks_waiting}
 use Rattle.wq_history.specs.Book.{BookView, state, Appends, AppendsOne, IsWaiting, HasNothingToStart, WaitGoesOn}
 
@@ -21,17 +28,31 @@ AnswersAsk old new i (WaitingAnswer asked) = (asked.item ≡ i) × Appends old n
 -- is unfinished, or because no ask of its item waits
 abbrev pub AnswersTold : BookView → BookView → Asked → Told → Type 0
 AnswersTold old new asked Done = Appends old new (ToldEvent asked.item) true asked.mark
-AnswersTold old new asked (NotYet same) = (same ≡ asked) × (new ≡ old) × (0 < asks_waiting asked.item old.rows)
+AnswersTold old new asked (NotYet same) = (same ≡ asked) × (new ≡ old) × (0 < asks_waiting (OfItem asked.item) old.rows)
     × HasUnfinishedBelow (state old) asked.item asked.mark
-AnswersTold old new asked (NotAsked same) = (same ≡ asked) × (new ≡ old) × (asks_waiting asked.item old.rows ≡ 0)
+AnswersTold old new asked (NotAsked same) = (same ≡ asked) × (new ≡ old) × (asks_waiting (OfItem asked.item) old.rows ≡ 0)
+
+-- `ask_lane` of lane q: a row says whether it has an unfinished entry; a caller who waits holds the lane, and the number of the
+-- row as its mark
+abbrev pub AnswersAskLane : BookView → BookView → ℕ → LaneAsk → Type 0
+AnswersAskLane old new q LaneIdle = AppendsOne old new (AskLaneEvent q) false
+AnswersAskLane old new q (LaneWaitingAnswer asked) = (asked.lane ≡ q) × Appends old new (AskLaneEvent q) true asked.mark
+
+-- `told_lane`: a row says that the wait is over; or nothing is changed and the ask is given back, because an entry that it waits
+-- for is unfinished, or because no ask of its lane waits
+abbrev pub AnswersToldLane : BookView → BookView → LaneAsked → LaneTold → Type 0
+AnswersToldLane old new asked LaneDone = Appends old new (ToldLaneEvent asked.lane) true asked.mark
+AnswersToldLane old new asked (LaneNotYet same) = (same ≡ asked) × (new ≡ old) × (0 < asks_waiting (OfLane asked.lane) old.rows)
+    × IsBusyBelow (lane_at (state old) asked.lane) asked.mark
+AnswersToldLane old new asked (LaneNotAsked same) = (same ≡ asked) × (new ≡ old) × (asks_waiting (OfLane asked.lane) old.rows ≡ 0)
 
 -- `start` on lane q: a row says which item is started; or nothing is changed, because the lane has nothing to start
 abbrev pub AnswersStart : BookView → BookView → ℕ → Option ℕ → Type 0
 AnswersStart old new q (Some i) = AppendsOne old new (Start q i) true
 AnswersStart old new q None = HasNothingToStart old q × (new ≡ old)
 
--- `over` on lane q: a row says that the wait is over for the target that the lane waited for; or nothing is changed, because
--- the wait goes on
+-- `over` on lane q: a row says that the wait is over, of the kind and for the target for which the lane waited; or nothing is
+-- changed, because the wait goes on
 abbrev pub AnswersOver : BookView → BookView → ℕ → Bool → Type 0
-AnswersOver old new q true = (f : Waiting) × IsWaiting old q f × AppendsOne old new (Over q f.target) true
+AnswersOver old new q true = (f : Waiting) × IsWaiting old q f × AppendsOne old new (over_event f.whole q f.target) true
 AnswersOver old new q false = WaitGoesOn old q × (new ≡ old)

@@ -4,9 +4,10 @@ use Rattle.wq_items.specs.Table.{ItemWaitsBy}
 use Rattle.wq_core.specs.declared.entry.Waiting.{Waiting}
 use Rattle.wq_core.specs.declared.entry.Running.{Running}
 use Rattle.wq_core.specs.Wiring.{Wiring, IsWiring, items, declared_by}
-use Rattle.wq_core.specs.State.{State, idle_lane, lane_at, Runs, HasUnfinishedBelow}
+use Rattle.wq_core.specs.State.{State, idle_lane, lane_at, Runs}
+use Rattle.wq_core.specs.Rules.{IsHeldBack}
 use Rattle.wq_rows.specs.declared.event.Event.{Event}
-use Rattle.wq_rows.specs.declared.event.Event.TheVariants.{Queue}
+use Rattle.wq_rows.specs.declared.event.Event.TheVariants.{Queue, AskLane}
 use Rattle.wq_rows.specs.declared.event.Row.{Row}
 use Rattle.wq_rows.specs.Stored.{max_rows}
 use Rattle.wq_history.specs.declared.fault.BookError.{BookError}
@@ -67,12 +68,16 @@ IsAwake b q r = LaneRuns b q r × (r.waiting ≡ None)
 abbrev pub IsWaiting : BookView → ℕ → Waiting → Type 0
 IsWaiting b q f = (r : Running) × LaneRuns b q r × (r.waiting ≡ Some f)
 
+-- lane q runs an entry that waits for this, by a wait of this kind: for the whole lane of the target, or for the target alone
+abbrev pub IsWaitingBy : BookView → ℕ → Bool → Waiting → Type 0
+IsWaitingBy b q whole f = IsWaiting b q f × (f.whole ≡ whole)
+
 -- ---- why a call is refused: the first cause that holds
 
--- making a book of this many rows: too many rows; out of memory, which happens only if there are rows or items
+-- making a book of this many rows: too many rows; out of memory, which happens only if there are rows, items or lanes
 abbrev pub RefusesNew : Wiring → ℕ → BookError → Type 0
 RefusesNew w rows TooManyRows = max_rows < rows
-RefusesNew w rows OutOfMemory = (rows ≤ max_rows) × ((0 < rows) ⊎ (0 < items w))
+RefusesNew w rows OutOfMemory = (rows ≤ max_rows) × ((0 < rows) ⊎ ((0 < items w) ⊎ (0 < w.lanes)))
 RefusesNew w rows HistoryFull = ⊥
 RefusesNew w rows Closed = ⊥
 RefusesNew w rows Undeclared = ⊥
@@ -102,6 +107,17 @@ RefusesItem b i event WrongLane = ⊥
 RefusesItem b i event TooManyRows = ⊥
 RefusesItem b i event OutOfMemory = ⊥
 
+-- `ask_lane` of lane q: no such lane; too few rows are free
+abbrev pub RefusesAskLane : BookView → ℕ → BookError → Type 0
+RefusesAskLane b q WrongLane = b.wiring.lanes ≤ q
+RefusesAskLane b q HistoryFull = (q < b.wiring.lanes) × LacksRows b (AskLane q)
+RefusesAskLane b q NoItem = ⊥
+RefusesAskLane b q Closed = ⊥
+RefusesAskLane b q Undeclared = ⊥
+RefusesAskLane b q TooManyWaits = ⊥
+RefusesAskLane b q TooManyRows = ⊥
+RefusesAskLane b q OutOfMemory = ⊥
+
 -- the call is refused because its lane is the wrong one, which this states
 abbrev pub RefusesLane : Type 0 → BookError → Type 0
 RefusesLane wrong WrongLane = wrong
@@ -117,7 +133,7 @@ RefusesLane wrong OutOfMemory = ⊥
 abbrev pub IsWrongToStart : BookView → ℕ → Type 0
 IsWrongToStart b q = (b.wiring.lanes ≤ q) ⊎ ((r : Running) × LaneRuns b q r)
 
--- `wait` and `finish` on lane q are wrong: there is no such lane, it runs nothing, or its entry waits
+-- `wait`, `wait_all` and `finish` on lane q are wrong: there is no such lane, it runs nothing, or its entry waits
 abbrev pub IsNotAwake : BookView → ℕ → Type 0
 IsNotAwake b q = (r : Running) → ¬ IsAwake b q r
 
@@ -125,18 +141,18 @@ IsNotAwake b q = (r : Running) → ¬ IsAwake b q r
 abbrev pub IsNotWaiting : BookView → ℕ → Type 0
 IsNotWaiting b q = (f : Waiting) → ¬ IsWaiting b q f
 
--- `wait` on lane q for a target: the wrong lane; what runs declares no flush of it alone; it has made as many waits as
--- its item declares flushes
-abbrev pub RefusesWait : BookView → ℕ → ℕ → BookError → Type 0
-RefusesWait b q target WrongLane = IsNotAwake b q
-RefusesWait b q target Undeclared = (r : Running) × IsAwake b q r × (¬ ItemWaitsBy b.wiring.waits false r.entry.item target)
-RefusesWait b q target TooManyWaits = (r : Running) × IsAwake b q r × ItemWaitsBy b.wiring.waits false r.entry.item target
+-- `wait` on lane q for a target, or `wait_all` for its whole lane: the wrong lane; what runs declares no such flush; it has made
+-- as many waits as its item declares flushes, of both kinds
+abbrev pub RefusesWait : BookView → ℕ → Bool → ℕ → BookError → Type 0
+RefusesWait b q whole target WrongLane = IsNotAwake b q
+RefusesWait b q whole target Undeclared = (r : Running) × IsAwake b q r × (¬ ItemWaitsBy b.wiring.waits whole r.entry.item target)
+RefusesWait b q whole target TooManyWaits = (r : Running) × IsAwake b q r × ItemWaitsBy b.wiring.waits whole r.entry.item target
     × (length (declared_by b.wiring r.entry.item) ≤ r.made)
-RefusesWait b q target NoItem = ⊥
-RefusesWait b q target HistoryFull = ⊥
-RefusesWait b q target Closed = ⊥
-RefusesWait b q target TooManyRows = ⊥
-RefusesWait b q target OutOfMemory = ⊥
+RefusesWait b q whole target NoItem = ⊥
+RefusesWait b q whole target HistoryFull = ⊥
+RefusesWait b q whole target Closed = ⊥
+RefusesWait b q whole target TooManyRows = ⊥
+RefusesWait b q whole target OutOfMemory = ⊥
 
 -- ---- answers without a row
 
@@ -144,9 +160,9 @@ RefusesWait b q target OutOfMemory = ⊥
 abbrev pub HasNothingToStart : BookView → ℕ → Type 0
 HasNothingToStart b q = (q < b.wiring.lanes) × (lane_at (state b) q ≡ idle_lane)
 
--- the wait of lane q isn't over
+-- the wait of lane q isn't over: an unfinished entry of its target, or of the whole lane of that, holds it back
 abbrev pub WaitGoesOn : BookView → ℕ → Type 0
-WaitGoesOn b q = (f : Waiting) × IsWaiting b q f × HasUnfinishedBelow (state b) f.target f.mark
+WaitGoesOn b q = (f : Waiting) × IsWaiting b q f × IsHeldBack b.wiring (state b) f.whole f.target f.mark
 
 -- the number of a refusal
 abbrev pub book_code : BookError → ℕ

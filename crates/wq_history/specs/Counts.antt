@@ -1,15 +1,21 @@
 -- Counts of the asks that wait.
-use Rattle.std.specs.Prelude.{◌≡◌, ℕ, ◌+◌, ◌≤◌, List, length, sum, slice_index, ◌&&◌}
+use Rattle.std.specs.Prelude.{◌≡◌, ℕ, ◌+◌, ◌*◌, ◌<◌, ◌≤◌, List, length, sum, slice_index, ◌&&◌}
 use Rattle.std.specs.List.{count_by}
-use Rattle.wq_core.specs.Wiring.{items}
 use Rattle.wq_core.specs.Work.{work_left}
 use Rattle.wq_core.specs.Held.{Machine, IsMachine}
 use Rattle.wq_rows.specs.declared.event.Row.{Row}
 use Rattle.wq_rows.specs.Stored.{max_rows}
+use Rattle.wq_history.specs.declared.asking.Subject.{Subject}
+use Rattle.wq_history.specs.declared.asking.Subject.TheVariants.{Item as OfItem, Lane as OfLane}
 use Rattle.wq_history.specs.Events.{begins_to_wait, ends_a_wait, is_ask, is_told}
-use Rattle.wq_history.specs.History.{state_after, IsLegal}
+use Rattle.wq_history.specs.History.{state_after, IsThere, IsLegal}
 
--- how many asks wait for each item in turn, and how many in all
+-- where the count of the asks about an item or a lane is: that of item 0, of lane 0, of item 1, of lane 1, and so on
+abbrev pub ask_place : Subject → ℕ
+ask_place (OfItem i) = 2 * i
+ask_place (OfLane q) = 2 * q + 1
+
+-- how many asks wait for each item and each lane, by place, and how many in all
 pub record AskView : Type 0 where
   pub counts : List ℕ
   pub all : ℕ
@@ -18,19 +24,19 @@ pub record AskView : Type 0 where
 abbrev pub CountsAll : AskView → Type 0
 CountsAll asks = sum asks.counts ≡ asks.all
 
--- the counts are those of these rows: item by item and in all, the asks that wait and those that were told add up to those that
--- were answered with yes
+-- the counts are those of these rows: for each item, for each lane and in all, the asks that wait and those that were told add up
+-- to those that were answered with yes
 pub record CountsAsks (rows : List Row) (asks : AskView) : Type 0 where
-  pub each : (i : ℕ) → slice_index asks.counts i + count_by (ends_a_wait i) rows ≡ count_by (begins_to_wait i) rows
+  pub each : (x : Subject) → slice_index asks.counts (ask_place x) + count_by (ends_a_wait x) rows ≡ count_by (begins_to_wait x) rows
   pub in_all : asks.all + count_by (λ (row : Row). is_told row.event) rows ≡ count_by (λ (row : Row). is_ask row.event && row.yes) rows
 
--- a machine is the replay of rows: they are legal, the asks that wait are counted, and no more numbers were given than there
--- are rows
+-- a machine is the replay of rows: they are legal, the asks that wait are counted, each item and each lane has a count, and no
+-- more numbers were given than there are rows
 pub record Replays (machine : Machine) (rows : List Row) (asks : AskView) : Type 0 where
   pub machine_is : IsMachine machine
   pub replay : machine.state ≡ state_after machine.wiring rows
   pub legal : IsLegal machine.wiring rows
-  pub a_count_each : length asks.counts ≡ items machine.wiring
+  pub a_count_each : (x : Subject) → IsThere machine.wiring x → ask_place x < length asks.counts
   pub asked : CountsAsks rows asks
   pub numbers : machine.state.next ≤ length rows
 

@@ -1,11 +1,13 @@
--- Events: which step of the machine a row records.
+-- Events: which step of the machine a row records, and what a caller asks about.
 use Rattle.std.specs.Prelude.{ℕ, List, Option, Some, None, Bool, true, false, ◌==◌, ◌&&◌}
 use Rattle.std.specs.List.{filter_map}
 use Rattle.wq_core.specs.declared.step.Step.{Step}
-use Rattle.wq_core.specs.declared.step.Step.TheVariants.{Queue as QueueStep, Cancel as CancelStep, Start as StartStep, Wait as WaitStep, Over as OverStep, Finish as FinishStep}
+use Rattle.wq_core.specs.declared.step.Step.TheVariants.{Queue as QueueStep, Cancel as CancelStep, Start as StartStep, Wait as WaitStep, Over as OverStep, WaitAll as WaitAllStep, OverAll as OverAllStep, Finish as FinishStep}
 use Rattle.wq_rows.specs.declared.event.Event.{Event}
-use Rattle.wq_rows.specs.declared.event.Event.TheVariants.{Queue, Cancel, Start, Wait, Over, Finish, Ask, Told}
+use Rattle.wq_rows.specs.declared.event.Event.TheVariants.{Queue, Cancel, Start, Wait, Over, Finish, Ask, Told, WaitAll, OverAll, AskLane, ToldLane}
 use Rattle.wq_rows.specs.declared.event.Row.{Row}
+use Rattle.wq_history.specs.declared.asking.Subject.{Subject}
+use Rattle.wq_history.specs.declared.asking.Subject.TheVariants.{Item as OfItem, Lane as OfLane}
 
 -- the step that an event with this `yes` makes, if it makes one: a queueing that isn't accepted and a cancellation that finds
 -- nothing make none, nor do callers who ask or are told
@@ -20,42 +22,100 @@ step_of (Over q b) said = Some (OverStep q b)
 step_of (Finish q i) said = Some (FinishStep q i)
 step_of (Ask i) said = None
 step_of (Told i) said = None
+step_of (WaitAll q b) said = Some (WaitAllStep q b)
+step_of (OverAll q b) said = Some (OverAllStep q b)
+step_of (AskLane q) said = None
+step_of (ToldLane q) said = None
 
 -- the steps that rows make, in their order
 abbrev pub steps_of : List Row → List Step
 steps_of rows = filter_map (λ (row : Row). step_of row.event row.yes) rows
 
--- a caller asks for the item
-abbrev pub asks : ℕ → Event → Bool
-asks i (Queue j) = false
-asks i (Cancel j) = false
-asks i (Start q j) = false
-asks i (Wait q b) = false
-asks i (Over q b) = false
-asks i (Finish q j) = false
-asks i (Ask j) = j == i
-asks i (Told j) = false
+-- ---- waits, by their kind
 
--- a caller is told of the item
-abbrev pub tells : ℕ → Event → Bool
-tells i (Queue j) = false
-tells i (Cancel j) = false
-tells i (Start q j) = false
-tells i (Wait q b) = false
-tells i (Over q b) = false
-tells i (Finish q j) = false
-tells i (Ask j) = false
-tells i (Told j) = j == i
+-- what lane q runs begins to wait for item b, or for the whole lane of b
+abbrev pub wait_event : Bool → ℕ → ℕ → Event
+wait_event false q b = Wait q b
+wait_event true q b = WaitAll q b
 
--- the row is of a caller who begins to wait for the item
-abbrev pub begins_to_wait : ℕ → Row → Bool
-begins_to_wait i row = asks i row.event && row.yes
+-- such a wait is over
+abbrev pub over_event : Bool → ℕ → ℕ → Event
+over_event false q b = Over q b
+over_event true q b = OverAll q b
+
+-- ---- asks, by what they are about
+
+-- what an event is about: a lane for AskLane and ToldLane, and an item for all others
+abbrev pub subject_in : Event → Subject
+subject_in (Queue i) = OfItem i
+subject_in (Cancel i) = OfItem i
+subject_in (Start q i) = OfItem i
+subject_in (Wait q b) = OfItem b
+subject_in (Over q b) = OfItem b
+subject_in (Finish q i) = OfItem i
+subject_in (Ask i) = OfItem i
+subject_in (Told i) = OfItem i
+subject_in (WaitAll q b) = OfItem b
+subject_in (OverAll q b) = OfItem b
+subject_in (AskLane q) = OfLane q
+subject_in (ToldLane q) = OfLane q
+
+-- a caller asks about this
+abbrev pub ask_event : Subject → Event
+ask_event (OfItem i) = Ask i
+ask_event (OfLane q) = AskLane q
+
+-- a caller who asked about this is told
+abbrev pub told_event : Subject → Event
+told_event (OfItem i) = Told i
+told_event (OfLane q) = ToldLane q
+
+-- two subjects are the same
+abbrev pub is_subject : Subject → Subject → Bool
+is_subject (OfItem i) (OfItem j) = j == i
+is_subject (OfItem i) (OfLane p) = false
+is_subject (OfLane q) (OfItem j) = false
+is_subject (OfLane q) (OfLane p) = p == q
+
+-- a caller asks about the subject
+abbrev pub asks : Subject → Event → Bool
+asks x (Queue j) = false
+asks x (Cancel j) = false
+asks x (Start q j) = false
+asks x (Wait q b) = false
+asks x (Over q b) = false
+asks x (Finish q j) = false
+asks x (Ask j) = is_subject x (OfItem j)
+asks x (Told j) = false
+asks x (WaitAll q b) = false
+asks x (OverAll q b) = false
+asks x (AskLane q) = is_subject x (OfLane q)
+asks x (ToldLane q) = false
+
+-- a caller who asked about the subject is told
+abbrev pub tells : Subject → Event → Bool
+tells x (Queue j) = false
+tells x (Cancel j) = false
+tells x (Start q j) = false
+tells x (Wait q b) = false
+tells x (Over q b) = false
+tells x (Finish q j) = false
+tells x (Ask j) = false
+tells x (Told j) = is_subject x (OfItem j)
+tells x (WaitAll q b) = false
+tells x (OverAll q b) = false
+tells x (AskLane q) = false
+tells x (ToldLane q) = is_subject x (OfLane q)
+
+-- the row is of a caller who begins to wait for the subject
+abbrev pub begins_to_wait : Subject → Row → Bool
+begins_to_wait x row = asks x row.event && row.yes
 
 -- the row ends such a wait
-abbrev pub ends_a_wait : ℕ → Row → Bool
-ends_a_wait i row = tells i row.event
+abbrev pub ends_a_wait : Subject → Row → Bool
+ends_a_wait x row = tells x row.event
 
--- a caller asks for some item
+-- a caller asks about some item or some lane
 abbrev pub is_ask : Event → Bool
 is_ask (Queue j) = false
 is_ask (Cancel j) = false
@@ -65,8 +125,12 @@ is_ask (Over q b) = false
 is_ask (Finish q j) = false
 is_ask (Ask j) = true
 is_ask (Told j) = false
+is_ask (WaitAll q b) = false
+is_ask (OverAll q b) = false
+is_ask (AskLane q) = true
+is_ask (ToldLane q) = false
 
--- a caller is told of some item
+-- a caller who asked about some item or some lane is told
 abbrev pub is_told : Event → Bool
 is_told (Queue j) = false
 is_told (Cancel j) = false
@@ -76,3 +140,7 @@ is_told (Over q b) = false
 is_told (Finish q j) = false
 is_told (Ask j) = false
 is_told (Told j) = true
+is_told (WaitAll q b) = false
+is_told (OverAll q b) = false
+is_told (AskLane q) = false
+is_told (ToldLane q) = true

@@ -1,17 +1,19 @@
 -- Judging a history: what its bytes say about a machine on which nothing has happened.
-use Rattle.std.specs.Prelude.{◌≡◌, ℕ, ◌+◌, ◌-◌, ◌<◌, List, ◌++◌, length, take, slice_index, slice_set, Option, Some, None, Bool, true, false}
+use Rattle.std.specs.Prelude.{◌≡◌, ℕ, ◌+◌, ◌-◌, ◌<◌, ◌⊎◌, List, ◌++◌, length, take, slice_index, slice_set, Option, Some, None, Bool, true, false}
 use Rattle.wq_core.specs.declared.step.Step.{Step}
 use Rattle.wq_core.specs.Wiring.{items}
 use Rattle.wq_core.specs.Held.{Machine, machine_after}
 use Rattle.wq_rows.specs.declared.event.Event.{Event}
-use Rattle.wq_rows.specs.declared.event.Event.TheVariants.{Queue, Cancel, Start, Wait, Over, Finish, Ask, Told}
+use Rattle.wq_rows.specs.declared.event.Event.TheVariants.{Queue, Cancel, Start, Wait, Over, Finish, Ask, Told, WaitAll, OverAll, AskLane, ToldLane}
 use Rattle.wq_rows.specs.declared.event.Row.{Row}
 use Rattle.wq_rows.specs.Packing.{IsPackedRow}
 use Rattle.wq_rows.specs.Stored.{IsStored}
+use Rattle.wq_history.specs.declared.asking.Subject.{Subject}
+use Rattle.wq_history.specs.declared.asking.Subject.TheVariants.{Item as OfItem, Lane as OfLane}
 use Rattle.wq_history.specs.declared.row_error.RowFault.{RowFault}
 use Rattle.wq_history.specs.declared.row_error.RowFault.TheVariants.{BadRow, NotLegal, OutOfMemory}
 use Rattle.wq_history.specs.History.{state_after, MayFollow, IsLegal}
-use Rattle.wq_history.specs.Counts.{AskView}
+use Rattle.wq_history.specs.Counts.{AskView, ask_place}
 
 -- the bytes hold these rows, they are a legal history of the machine, and the machine, which was new, is now their replay
 pub record IsJudged (old : Machine) (bytes : List ℕ) (rows : List Row) (new : Machine) : Type 0 where
@@ -30,11 +32,11 @@ pub record IsJudgedUpTo (old : Machine) (bytes : List ℕ) (at : ℕ) (new : Mac
   pub at_is : at ≡ length rows + 1
 
 -- why bytes aren't a legal history: the next 12 of them, or those that are left if they are fewer, aren't a row; they are a row
--- that may not follow; out of memory, which comes before any row, and only if there are items
+-- that may not follow; out of memory, which comes before any row, and only if there are items or lanes
 abbrev pub IsFaultAt : Machine → List ℕ → ℕ → Machine → RowFault → Type 0
 IsFaultAt old bytes at new BadRow = (place : IsJudgedUpTo old bytes at new) × ((row : Row) → ¬ IsPackedRow (take 12 place.left) row)
 IsFaultAt old bytes at new NotLegal = (place : IsJudgedUpTo old bytes at new) × ((row : Row) × IsPackedRow (take 12 place.left) row × (¬ MayFollow old.wiring place.rows row))
-IsFaultAt old bytes at new OutOfMemory = (at ≡ 0) × (new ≡ old) × (0 < items old.wiring)
+IsFaultAt old bytes at new OutOfMemory = (at ≡ 0) × (new ≡ old) × ((0 < items old.wiring) ⊎ (0 < old.wiring.lanes))
 
 -- ---- one more row
 
@@ -42,6 +44,14 @@ IsFaultAt old bytes at new OutOfMemory = (at ≡ 0) × (new ≡ old) × (0 < ite
 abbrev pub stepped : Machine → Option Step → Machine
 stepped m None = m
 stepped m (Some step) = machine_after m step
+
+-- one more ask about this waits
+abbrev pub with_ask : Subject → AskView → AskView
+with_ask x asks = record { counts = slice_set asks.counts (ask_place x) (slice_index asks.counts (ask_place x) + 1); all = asks.all + 1 }
+
+-- one ask about this waits no longer
+abbrev pub without_ask : Subject → AskView → AskView
+without_ask x asks = record { counts = slice_set asks.counts (ask_place x) (slice_index asks.counts (ask_place x) - 1); all = asks.all - 1 }
 
 -- the counts of the asks that wait after an event with this `yes`
 abbrev pub counted : AskView → Event → Bool → AskView
@@ -51,9 +61,14 @@ counted asks (Start q i) said = asks
 counted asks (Wait q b) said = asks
 counted asks (Over q b) said = asks
 counted asks (Finish q i) said = asks
-counted asks (Ask i) true = record { counts = slice_set asks.counts i (slice_index asks.counts i + 1); all = asks.all + 1 }
+counted asks (Ask i) true = with_ask (OfItem i) asks
 counted asks (Ask i) false = asks
-counted asks (Told i) said = record { counts = slice_set asks.counts i (slice_index asks.counts i - 1); all = asks.all - 1 }
+counted asks (Told i) said = without_ask (OfItem i) asks
+counted asks (WaitAll q b) said = asks
+counted asks (OverAll q b) said = asks
+counted asks (AskLane q) true = with_ask (OfLane q) asks
+counted asks (AskLane q) false = asks
+counted asks (ToldLane q) said = without_ask (OfLane q) asks
 
 -- ---- numbers
 

@@ -3,7 +3,7 @@ use Rattle.std.specs.Prelude.{ℕ, ◌+◌, ◌-◌, List, length, Bool, true, f
 use Rattle.wq_core.specs.Wiring.{Wiring}
 use Rattle.wq_core.specs.Work.{whole_work, work_left}
 use Rattle.wq_rows.specs.declared.event.Event.{Event}
-use Rattle.wq_rows.specs.declared.event.Event.TheVariants.{Queue, Cancel, Start, Wait, Over, Finish, Ask, Told}
+use Rattle.wq_rows.specs.declared.event.Event.TheVariants.{Queue, Cancel, Start, Wait, Over, Finish, Ask, Told, WaitAll, OverAll, AskLane, ToldLane}
 use Rattle.wq_rows.specs.declared.event.Row.{Row}
 use Rattle.wq_history.specs.History.{state_after, all_asks_waiting}
 
@@ -30,3 +30,8 @@ rows_needed w (Finish q i) said = 0
 rows_needed w (Ask i) true = 2
 rows_needed w (Ask i) false = 1
 rows_needed w (Told i) said = 0
+rows_needed w (WaitAll q b) said = 0
+rows_needed w (OverAll q b) said = 0
+rows_needed w (AskLane q) true = 2
+rows_needed w (AskLane q) false = 1
+rows_needed w (ToldLane q) said = 0

@@ -1,15 +1,16 @@
-//! How many asks are waiting, for each item and in total.
+//! How many asks are waiting, for each item, for each lane, and in total.
 //!
-//! Every call takes constant time. Only `new` takes memory: a count for each item.
+//! The counts of an item and of the lane with the same number stand side by side. Every call takes constant time. Only `new` takes
+//! memory: two counts for each item or each lane, whichever are more.
 
-ghost use Rattle.std.specs.Prelude.{◌≡◌, ℕ, ◌+◌, ◌-◌, ◌<◌, ◌≤◌, length, replicate, slice_index, slice_set, IfOk, OnErr};
-ghost use Rattle.wq_history.specs.Counts.{AskView, CountsAll};
+ghost use Rattle.std.specs.Prelude.{◌≡◌, ℕ, ◌+◌, ◌-◌, ◌*◌, ◌<◌, ◌≤◌, ◌⊎◌, max, length, replicate, slice_index, slice_set, IfOk, OnErr};
+ghost use Rattle.wq_history.specs.Counts.{AskView, CountsAll, ask_place};
 
+use crate::asking::Subject;
 use std::alloc::{AllocError, Allocator};
 use std::marker::Model;
-use wq_items::ItemId;
 
-/// The counts. Contracts see them item by item, and their sum.
+/// The counts. Contracts see them by place, and their sum.
 #[derive(Drop)]
 pub struct AskCounts<A: Allocator> {
     counts: Vec<u32, A>,
@@ -26,24 +27,37 @@ impl<A: Allocator> Model for AskCounts<A> {
     ghost invariant = { λ c. CountsAll (record { counts = c.counts.items; all = c.all }) };
 }
 
+/// Where the count of the asks about an item or a lane is.
+fn place(subject: Subject) -> usize
+    ensures { result ≡ ask_place subject }
+{
+    match subject {
+        Subject::Item(item) => 2 * usize::from(item.get()),
+        Subject::Lane(q) => 2 * usize::from(q.get()) + 1,
+    }
+}
+
 impl<A: Allocator> AskCounts<A> {
-    /// Counts of this many items; no ask is waiting. The only error is out of memory (20), which can't occur where there is no
-    /// item.
-    pub fn new(alloc: A, items: usize) -> Result<Self, AllocError>
-        ensures counts { IfOk result (λ c. c ≡ record { counts = replicate items 0; all = 0 }) }
-        ensures memory { OnErr result (0 < items) }
+    /// Counts for this many items and lanes; no ask is waiting. The only error is out of memory (20), which can't occur where there
+    /// is no item and no lane.
+    pub fn new(alloc: A, items: usize, lanes: usize) -> Result<Self, AllocError>
+        requires items { items ≤ 65536 }
+        requires lanes { lanes ≤ 65536 }
+        ensures counts { IfOk result (λ c. c ≡ record { counts = replicate (2 * max items lanes) 0; all = 0 }) }
+        ensures memory { OnErr result ((0 < items) ⊎ (0 < lanes)) }
     {
-        let mut counts = Vec::with_capacity(alloc, items)?;
-        counts.resize(items, 0)?;
+        let places = 2 * items.max(lanes);
+        let mut counts = Vec::with_capacity(alloc, places)?;
+        counts.resize(places, 0)?;
         Ok(AskCounts { counts, all: 0 })
     }
 
-    /// How many asks wait for an item; 0 for an item that doesn't exist.
-    pub fn of(&self, item: ItemId) -> u32
-        ensures count { result ≡ slice_index self.now.counts item }
+    /// How many asks about an item or a lane wait; 0 for one that doesn't exist.
+    pub fn of(&self, subject: Subject) -> u32
+        ensures count { result ≡ slice_index self.now.counts (ask_place subject) }
         ensures part { result ≤ self.now.all }
     {
-        match self.counts.get(usize::from(item.get())) {
+        match self.counts.get(place(subject)) {
             Some(count) => *count,
             None => 0,
         }
@@ -57,25 +71,25 @@ impl<A: Allocator> AskCounts<A> {
         self.all
     }
 
-    /// Counts another ask that waits for an item.
-    pub fn add(&mut self, item: ItemId)
-        requires item { item < length self.old.counts }
+    /// Counts another ask that waits.
+    pub fn add(&mut self, subject: Subject)
+        requires place { ask_place subject < length self.old.counts }
         requires few { self.old.all < 4294967295 }
-        ensures counts { self.new.counts ≡ slice_set self.old.counts item (slice_index self.old.counts item + 1) }
+        ensures counts { self.new.counts ≡ slice_set self.old.counts (ask_place subject) (slice_index self.old.counts (ask_place subject) + 1) }
         ensures all { self.new.all ≡ self.old.all + 1 }
     {
-        self.counts[usize::from(item.get())] += 1;
+        self.counts[place(subject)] += 1;
         self.all += 1;
     }
 
-    /// Counts that one of the asks for an item waits no longer.
-    pub fn take_off(&mut self, item: ItemId)
-        requires { 0 < slice_index self.old.counts item }
-        ensures counts { self.new.counts ≡ slice_set self.old.counts item (slice_index self.old.counts item - 1) }
+    /// Counts that one of the asks about an item or a lane waits no longer.
+    pub fn take_off(&mut self, subject: Subject)
+        requires { 0 < slice_index self.old.counts (ask_place subject) }
+        ensures counts { self.new.counts ≡ slice_set self.old.counts (ask_place subject) (slice_index self.old.counts (ask_place subject) - 1) }
         ensures all { self.new.all ≡ self.old.all - 1 }
         ensures some { 0 < self.old.all }
     {
-        self.counts[usize::from(item.get())] -= 1;
+        self.counts[place(subject)] -= 1;
         self.all -= 1;
     }
 }

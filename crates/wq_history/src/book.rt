@@ -2,27 +2,30 @@
 //!
 //! A book holds a machine and the history of all that happened to it. Its rules are those of "Histories" in the specs of this
 //! crate; the rows that it keeps free are those of "Reserve". An event takes the time of the step that it makes, and nothing that
-//! grows with the number of rows, of lanes or of asks. Only `new` takes memory: 12 bytes for each row and a count for each item.
+//! grows with the number of rows, of lanes or of asks. An ask about a lane takes constant time. Only `new` takes memory: 12 bytes
+//! for each row, and two counts for each item or each lane, whichever are more.
 
 ghost use Rattle.std.specs.Prelude.{◌≡◌, ℕ, ◌+◌, ◌<◌, ◌≤◌, ◌↔◌, [], length, Some, None, true, false, IfOk, IfErr, OnOk, IfSome, IfNone, IsTrue, MatchBool, slice_get};
 ghost use Rattle.std.specs.List.{count_by};
 ghost use Rattle.wq_core.specs.declared.entry.Running.{Running};
 ghost use Rattle.wq_core.specs.declared.entry.Waiting.{Waiting};
 ghost use Rattle.wq_core.specs.Wiring.{IsWiring, items, lane_of, declared_by};
-ghost use Rattle.wq_core.specs.State.{empty_state, lane_at, HasPending, HasUnfinished, HasUnfinishedBelow};
-ghost use Rattle.wq_core.specs.Rules.{Lawful, Gives};
-ghost use Rattle.wq_rows.specs.declared.event.Event.TheVariants.{Queue, Cancel, Start, Wait, Over, Finish, Ask as AskEvent, Told as ToldEvent};
+ghost use Rattle.wq_core.specs.State.{empty_state, lane_at, HasPending, HasUnfinished, HasUnfinishedBelow, IsBusy, IsBusyBelow};
+ghost use Rattle.wq_core.specs.Rules.{Lawful, Gives, IsHeldBack};
+ghost use Rattle.wq_rows.specs.declared.event.Event.TheVariants.{Queue, Cancel, Start, Wait, WaitAll, Finish, Ask as AskEvent};
 ghost use Rattle.wq_rows.specs.Packing.{packed_rows};
 ghost use Rattle.wq_rows.specs.Stored.{max_rows};
-ghost use Rattle.wq_history.specs.Events.{step_of, begins_to_wait, ends_a_wait};
-ghost use Rattle.wq_history.specs.History.{asks_waiting, all_asks_waiting, MayCome};
+ghost use Rattle.wq_history.specs.declared.asking.Subject.{Subject as SubjectValue};
+ghost use Rattle.wq_history.specs.Events.{step_of, wait_event, ask_event, told_event, begins_to_wait, ends_a_wait};
+ghost use Rattle.wq_history.specs.History.{asks_waiting, all_asks_waiting, MayCome, SaysUnfinished, SaysBusy};
 ghost use Rattle.wq_history.specs.Reserve.{rows_needed};
-ghost use Rattle.wq_history.specs.Book.{BookView, state, free, IsBook, Appends, AppendsOne, LaneRuns, IsAwake, IsWaiting, IsNotWaiting, IsNotAwake, IsWrongToStart, RefusesNew, RefusesQueue, RefusesItem, RefusesLane, RefusesWait, WaitGoesOn};
-ghost use Rattle.wq_history.specs.Answers.{AnswersAsk, AnswersTold, AnswersStart, AnswersOver};
+ghost use Rattle.wq_history.specs.Book.{BookView, state, free, IsBook, Appends, AppendsOne, LaneRuns, IsAwake, IsWaiting, IsWaitingBy, IsNotWaiting, IsNotAwake, IsWrongToStart, RefusesNew, RefusesQueue, RefusesItem, RefusesAskLane, RefusesLane, RefusesWait, WaitGoesOn};
+ghost use Rattle.wq_history.specs.Answers.{AnswersAsk, AnswersTold, AnswersAskLane, AnswersToldLane, AnswersStart, AnswersOver};
 
 use crate::ask_counts::AskCounts;
-use crate::asking::{Ask, Asked, Told};
+use crate::asking::{Ask, Asked, LaneAsk, LaneAsked, LaneTold, Subject, Told};
 use crate::fault::BookError;
+use crate::waits::{is_awaited, is_busy, is_held_back, over_event, wait_event};
 use std::alloc::Allocator;
 use std::marker::Model;
 use wq_core::{Core, Entry, Running, Step, Waiting};
@@ -56,7 +59,7 @@ impl<A: Allocator + Copy> Book<A> {
     /// Makes the book of a machine on which nothing has happened, with room for this many rows.
     ///
     /// The error is `TooManyRows` (68) exactly where there are more than 16,777,216 rows. Otherwise it is out of memory (20),
-    /// which can't occur where there are no rows and no items.
+    /// which can't occur where there are no rows, no items and no lanes.
     pub fn new(alloc: A, core: Core<A>, rows: u32) -> Result<Self, BookError>
         requires { core.state ≡ empty_state core.wiring }
         ensures book { IfOk result (λ b. b ≡ record { wiring = core.wiring; rows = []; room = rows; closed = false }) }
@@ -66,7 +69,7 @@ impl<A: Allocator + Copy> Book<A> {
         if rows > MAX_ROWS {
             return Err(BookError::TooManyRows);
         }
-        let asks = AskCounts::new(alloc, core.items())?;
+        let asks = AskCounts::new(alloc, core.items(), core.lanes())?;
         let history = History::new(alloc, rows)?;
         Ok(Book {
             core,
@@ -118,29 +121,31 @@ impl<A: Allocator> Book<A> {
         });
     }
 
-    /// Appends the row of an ask about an item that has an unfinished entry.
-    fn begin_to_wait(&mut self, item: ItemId, mark: u32)
-        requires may { MayCome self.old.wiring self.old.rows (AskEvent item) true mark }
+    /// Appends the row of an ask about an item or a lane that has an unfinished entry.
+    fn begin_to_wait(&mut self, subject: Subject, mark: u32)
+        requires may { MayCome self.old.wiring self.old.rows (ask_event subject) true mark }
         requires room { 2 ≤ free self.old }
-        ensures row { Appends self.old self.new (AskEvent item) true mark }
+        ensures row { Appends self.old self.new (ask_event subject) true mark }
         ensures left { free self.old ≤ free self.new + 2 }
     {
-        self.asks.add(item);
+        let event = subject.ask();
+        self.asks.add(subject);
         self.history.push(&Row {
-            event: Event::Ask(item),
+            event,
             yes: true,
             number: mark,
         });
     }
 
-    /// Appends the row of a caller who waited for an item and is told that its wait is over.
-    fn end_a_wait(&mut self, item: ItemId, mark: u32)
-        requires { MayCome self.old.wiring self.old.rows (ToldEvent item) true mark }
-        ensures { Appends self.old self.new (ToldEvent item) true mark }
+    /// Appends the row of a caller who waited for an item or a lane and is told that its wait is over.
+    fn end_a_wait(&mut self, subject: Subject, mark: u32)
+        requires { MayCome self.old.wiring self.old.rows (told_event subject) true mark }
+        ensures { Appends self.old self.new (told_event subject) true mark }
     {
-        self.asks.take_off(item);
+        let event = subject.told();
+        self.asks.take_off(subject);
         self.history.push(&Row {
-            event: Event::Told(item),
+            event,
             yes: true,
             number: mark,
         });
@@ -160,11 +165,18 @@ impl<A: Allocator> Book<A> {
         usize::from(item.get()) < self.core.items()
     }
 
-    /// How many asks about an item are waiting.
-    fn asks_waiting(&self, item: ItemId) -> u32
-        ensures { result ≡ asks_waiting item self.now.rows }
+    /// Whether there is such a lane.
+    fn is_lane(&self, q: LaneId) -> bool
+        ensures { IsTrue result ↔ (q < self.now.wiring.lanes) }
     {
-        self.asks.of(item)
+        usize::from(q.get()) < self.core.lanes()
+    }
+
+    /// How many asks about an item or a lane are waiting.
+    fn asks_waiting(&self, subject: Subject) -> u32
+        ensures { result ≡ asks_waiting subject self.now.rows }
+    {
+        self.asks.of(subject)
     }
 
     /// Whether an unfinished entry of an item has a number below the mark.
@@ -172,6 +184,37 @@ impl<A: Allocator> Book<A> {
         ensures { IsTrue result ↔ HasUnfinishedBelow (state self.now) item mark }
     {
         self.core.unfinished_below(item, mark)
+    }
+
+    /// Whether an unfinished entry of a lane has a number below the mark.
+    fn lane_unfinished_below(&self, q: LaneId, mark: u32) -> bool
+        ensures { IsTrue result ↔ IsBusyBelow (lane_at (state self.now) q) mark }
+    {
+        self.core.lane_unfinished_below(q, mark)
+    }
+
+    /// Whether a lane has an unfinished entry.
+    fn is_busy(&self, q: LaneId) -> bool
+        ensures { IsTrue result ↔ IsBusy (lane_at (state self.now) q) }
+    {
+        is_busy(&self.core, q)
+    }
+
+    /// Whether anything is unfinished that a wait would be for: an entry of the item, or any entry on its lane.
+    fn is_awaited(&self, whole: bool, target: ItemId) -> bool
+        requires { target < items self.now.wiring }
+        ensures item { whole ≡ false → SaysUnfinished (state self.now) target result }
+        ensures lane { whole ≡ true → SaysBusy (state self.now) (lane_of self.now.wiring target) result }
+    {
+        is_awaited(&self.core, whole, target)
+    }
+
+    /// Whether what a lane waits for isn't done.
+    fn is_held_back(&self, q: LaneId, flush: &Waiting) -> bool
+        requires { IsWaiting self.now q flush.now }
+        ensures { IsTrue result ↔ IsHeldBack self.now.wiring (state self.now) flush.now.whole flush.now.target flush.now.mark }
+    {
+        is_held_back(&self.core, flush.whole, flush.target, flush.mark)
     }
 
     /// What a lane runs; nothing where there is no such lane.
@@ -194,7 +237,7 @@ impl<A: Allocator> Book<A> {
     fn is_idle_lane(&self, q: LaneId) -> bool
         ensures { MatchBool result ((q < self.now.wiring.lanes) × ((lane_at (state self.now) q).running ≡ None)) (IsWrongToStart self.now q) }
     {
-        usize::from(q.get()) < self.core.lanes() && self.running_on(q).is_none()
+        self.is_lane(q) && self.running_on(q).is_none()
     }
 
     /// What a lane runs, where it doesn't wait.
@@ -296,7 +339,7 @@ impl<A: Allocator> Book<A> {
             if self.lacks(2) {
                 return Err(BookError::HistoryFull);
             }
-            self.begin_to_wait(item, mark);
+            self.begin_to_wait(Subject::Item(item), mark);
             return Ok(Ask::Waiting(Asked::new(item, mark)));
         }
         if self.lacks(1) {
@@ -314,15 +357,61 @@ impl<A: Allocator> Book<A> {
     {
         let item = asked.item();
         let mark = asked.mark();
-        if self.asks_waiting(item) == 0 {
+        if self.asks_waiting(Subject::Item(item)) == 0 {
             return Told::NotAsked(asked);
         }
         if self.unfinished_below(item, mark) {
             return Told::NotYet(asked);
         }
         asked.give_up();
-        self.end_a_wait(item, mark);
+        self.end_a_wait(Subject::Item(item), mark);
         Told::Done
+    }
+
+    /// Asks whether a lane has an unfinished entry. Where it has, the caller waits for the whole lane. This takes two of the free
+    /// rows at most.
+    ///
+    /// The error is `WrongLane` (64), where there is no such lane, or else `HistoryFull` (60). After an error nothing is changed.
+    pub fn ask_lane(&mut self, q: LaneId) -> Result<LaneAsk, BookError>
+        ensures row { IfOk result (λ answer. AnswersAskLane self.old self.new q answer) }
+        ensures left { OnOk result (free self.old ≤ free self.new + 2) }
+        ensures refused { IfErr result (λ e. RefusesAskLane self.old q e × (self.new ≡ self.old)) }
+    {
+        if !self.is_lane(q) {
+            return Err(BookError::WrongLane);
+        }
+        let mark = self.core.next_number();
+        if self.is_busy(q) {
+            if self.lacks(2) {
+                return Err(BookError::HistoryFull);
+            }
+            self.begin_to_wait(Subject::Lane(q), mark);
+            return Ok(LaneAsk::Waiting(LaneAsked::new(q, mark)));
+        }
+        if self.lacks(1) {
+            return Err(BookError::HistoryFull);
+        }
+        self.note(Event::AskLane(q), mark);
+        Ok(LaneAsk::Idle)
+    }
+
+    /// Tells a caller who waits for a whole lane whether its wait is over. The answer is `NotAsked` (65) exactly where no ask about
+    /// its lane waits, and otherwise `NotYet` exactly where an unfinished entry of the lane has a number below the mark. In both
+    /// cases nothing is changed, and the ask is given back.
+    pub fn told_lane(&mut self, asked: LaneAsked) -> LaneTold
+        ensures { AnswersToldLane self.old self.new asked result }
+    {
+        let q = asked.lane();
+        let mark = asked.mark();
+        if self.asks_waiting(Subject::Lane(q)) == 0 {
+            return LaneTold::NotAsked(asked);
+        }
+        if self.lane_unfinished_below(q, mark) {
+            return LaneTold::NotYet(asked);
+        }
+        asked.give_up();
+        self.end_a_wait(Subject::Lane(q), mark);
+        LaneTold::Done
     }
 
     /// Starts the first pending entry of a lane, and gives its item, which is one of this lane. Where none is pending it gives
@@ -345,31 +434,56 @@ impl<A: Allocator> Book<A> {
         Ok(Some(item))
     }
 
-    /// Makes what a lane runs begin to wait for an item: true where that item has an unfinished entry.
-    ///
-    /// The error is the first of these that holds: `WrongLane` (64), where there is no such lane, it runs nothing, or its entry
-    /// waits; `Undeclared` (62); `TooManyWaits` (63). After an error nothing is changed.
-    pub fn wait(&mut self, q: LaneId, target: ItemId) -> Result<bool, BookError>
-        ensures row { IfOk result (λ unfinished. AppendsOne self.old self.new (Wait q target) unfinished) }
-        ensures refused { IfErr result (λ e. RefusesWait self.old q target e × (self.new ≡ self.old)) }
+    /// Makes what a lane runs begin to wait for an item, as `wait`, or for the whole lane of the item, as `wait_all`: true where that
+    /// has an unfinished entry. The errors are theirs.
+    pub fn wait_by(&mut self, q: LaneId, whole: bool, target: ItemId) -> Result<bool, BookError>
+        ensures row { IfOk result (λ unfinished. AppendsOne self.old self.new (wait_event whole q target) unfinished) }
+        ensures refused { IfErr result (λ e. RefusesWait self.old q whole target e × (self.new ≡ self.old)) }
     {
         let Some(running) = self.awake_on(q) else {
             return Err(BookError::WrongLane);
         };
         let item = running.entry.item;
         let made = running.made;
-        if !self.core.declares(item, false, target) {
+        if !self.core.declares(item, whole, target) {
             return Err(BookError::Undeclared);
         }
         if made as usize >= self.core.waits(item).len() {
             return Err(BookError::TooManyWaits);
         }
-        let unfinished = self.core.has_unfinished(target);
-        self.make(&Step::Wait(q, target), Event::Wait(q, target), unfinished);
+        let unfinished = self.is_awaited(whole, target);
+        let step = Step::wait_of(whole, q, target);
+        let event = wait_event(whole, q, target);
+        self.make(&step, event, unfinished);
         Ok(unfinished)
     }
 
-    /// Lets what a lane runs go on, where its wait is over. It gives false where the wait isn't over; then nothing is changed.
+    /// Makes what a lane runs begin to wait for an item: true where that item has an unfinished entry.
+    ///
+    /// The error is the first of these that holds: `WrongLane` (64), where there is no such lane, it runs nothing, or its entry
+    /// waits; `Undeclared` (62), where what runs declares no flush of the item alone; `TooManyWaits` (63). After an error nothing is
+    /// changed.
+    pub fn wait(&mut self, q: LaneId, target: ItemId) -> Result<bool, BookError>
+        ensures row { IfOk result (λ unfinished. AppendsOne self.old self.new (Wait q target) unfinished) }
+        ensures refused { IfErr result (λ e. RefusesWait self.old q false target e × (self.new ≡ self.old)) }
+    {
+        self.wait_by(q, false, target)
+    }
+
+    /// Makes what a lane runs begin to wait for the whole lane of an item: true where that lane has an unfinished entry.
+    ///
+    /// The error is the first of these that holds: `WrongLane` (64), where there is no such lane, it runs nothing, or its entry
+    /// waits; `Undeclared` (62), where what runs declares no flush of the whole lane of the item; `TooManyWaits` (63). After an
+    /// error nothing is changed.
+    pub fn wait_all(&mut self, q: LaneId, target: ItemId) -> Result<bool, BookError>
+        ensures row { IfOk result (λ unfinished. AppendsOne self.old self.new (WaitAll q target) unfinished) }
+        ensures refused { IfErr result (λ e. RefusesWait self.old q true target e × (self.new ≡ self.old)) }
+    {
+        self.wait_by(q, true, target)
+    }
+
+    /// Lets what a lane runs go on, where its wait is over, for an item or for a whole lane. It gives false where the wait isn't
+    /// over; then nothing is changed.
     ///
     /// The error is `WrongLane` (64), exactly where there is no such lane, it runs nothing, or its entry doesn't wait. After an
     /// error nothing is changed.
@@ -380,11 +494,14 @@ impl<A: Allocator> Book<A> {
         let Some(flush) = self.wait_on(q) else {
             return Err(BookError::WrongLane);
         };
-        let target = flush.target;
-        if self.unfinished_below(target, flush.mark) {
+        if self.is_held_back(q, &flush) {
             return Ok(false);
         }
-        self.make(&Step::Over(q, target), Event::Over(q, target), true);
+        let whole = flush.whole;
+        let target = flush.target;
+        let step = Step::over_of(whole, q, target);
+        let event = over_event(whole, q, target);
+        self.make(&step, event, true);
         Ok(true)
     }
 
@@ -425,10 +542,11 @@ impl<A: Allocator> Book<A> {
         self.core.is_idle()
     }
 
-    /// Whether some ask is waiting. Where none is, for each item as many callers were told as asked about it with `yes`.
+    /// Whether some ask is waiting. Where none is, for each item and each lane as many callers were told as asked about it with
+    /// `yes`.
     pub fn has_waiting_asks(&self) -> bool
         ensures some { IsTrue result ↔ (0 < all_asks_waiting self.now.rows) }
-        ensures none { result ≡ false → (i : ℕ) → count_by (ends_a_wait i) self.now.rows ≡ count_by (begins_to_wait i) self.now.rows }
+        ensures none { result ≡ false → (x : SubjectValue) → count_by (ends_a_wait x) self.now.rows ≡ count_by (begins_to_wait x) self.now.rows }
     {
         self.asks.all() > 0
     }
@@ -450,13 +568,38 @@ impl<A: Allocator> Book<A> {
         Some(running.entry.item)
     }
 
-    /// The item that a lane waits for; nothing where it doesn't wait, runs none, or there is no such lane.
-    pub fn waiting(&self, q: LaneId) -> Option<ItemId>
-        ensures some { IfSome result (λ target. (f : Waiting) × IsWaiting self.now q f × (f.target ≡ target)) }
-        ensures none { IfNone result (IsNotWaiting self.now q) }
+    /// The target of the wait of a lane, where it waits for an item alone, as `waiting`, or where it waits for a whole lane, as
+    /// `waiting_all`.
+    pub fn waiting_by(&self, q: LaneId, whole: bool) -> Option<ItemId>
+        ensures some { IfSome result (λ target. (f : Waiting) × IsWaitingBy self.now q whole f × (f.target ≡ target)) }
+        ensures none { IfNone result ((f : Waiting) → ¬ IsWaitingBy self.now q whole f) }
     {
-        let flush = self.wait_on(q)?;
-        Some(flush.target)
+        let Some(flush) = self.wait_on(q) else {
+            return None;
+        };
+        if flush.whole == whole {
+            Some(flush.target)
+        } else {
+            None
+        }
+    }
+
+    /// The item that a lane waits for, where it waits for an item alone; nothing where it waits for a whole lane, doesn't wait, runs
+    /// none, or where there is no such lane.
+    pub fn waiting(&self, q: LaneId) -> Option<ItemId>
+        ensures some { IfSome result (λ target. (f : Waiting) × IsWaitingBy self.now q false f × (f.target ≡ target)) }
+        ensures none { IfNone result ((f : Waiting) → ¬ IsWaitingBy self.now q false f) }
+    {
+        self.waiting_by(q, false)
+    }
+
+    /// The item for whose whole lane a lane waits; nothing where it waits for an item alone, doesn't wait, runs none, or where there
+    /// is no such lane.
+    pub fn waiting_all(&self, q: LaneId) -> Option<ItemId>
+        ensures some { IfSome result (λ target. (f : Waiting) × IsWaitingBy self.now q true f × (f.target ≡ target)) }
+        ensures none { IfNone result ((f : Waiting) → ¬ IsWaitingBy self.now q true f) }
+    {
+        self.waiting_by(q, true)
     }
 
     /// The lane of an item, where there is such an item.

@@ -18,10 +18,10 @@ pub enum BookError {
     /// The book is closed: nothing is queued any more (61).
     #[error("the book is closed")]
     Closed,
-    /// The running item declares no flush of the item (62).
+    /// The running item declares no such flush: of the item, or of its whole workqueue (62).
     #[error("the item declares no such flush")]
     Undeclared,
-    /// The running item has made as many waits as it declares flushes (63).
+    /// The running item has made as many waits as it declares flushes, of both kinds (63).
     #[error("the item has made all its waits")]
     TooManyWaits,
     /// There is no such lane, or it can't make this step (64).

@@ -1,23 +1,29 @@
 //! Judging a history, row by row, from nothing but its bytes and a machine on which nothing has happened.
 //!
 //! A row may follow those before it by the rules of "History" in the specs of this crate. Each row takes the time of the step
-//! that it records. Memory is taken before any row: a count for each item.
+//! that it records; the row of an ask about a lane takes constant time. Memory is taken before any row: two counts for each item or
+//! each lane, whichever are more.
 
-ghost use Rattle.std.specs.Prelude.{◌≡◌, ℕ, ◌<◌, ◌≤◌, ◌*◌, ◌↔◌, List, length, slice_index, IfOk, IfErr, IfSome, IsTrue};
+ghost use Rattle.std.specs.Prelude.{◌≡◌, ◌<◌, ◌≤◌, ◌*◌, ◌↔◌, List, length, slice_index, IfOk, IfErr, IfSome, IsTrue};
 ghost use Rattle.wq_core.specs.Rules.{Lawful};
-ghost use Rattle.wq_core.specs.Wiring.{items};
+ghost use Rattle.wq_core.specs.Wiring.{items, lane_of};
+ghost use Rattle.wq_core.specs.declared.step.Step.TheVariants.{WaitAll};
 ghost use Rattle.wq_core.specs.State.{empty_state};
 ghost use Rattle.wq_rows.specs.declared.event.Row.{Row as RowValue};
-ghost use Rattle.wq_rows.specs.declared.event.Event.TheVariants.{Ask, Told};
 ghost use Rattle.wq_rows.specs.Stored.{max_rows};
-ghost use Rattle.wq_history.specs.History.{Makes, MayComeIn};
-ghost use Rattle.wq_history.specs.Events.{step_of as step_of_event};
+ghost use Rattle.wq_history.specs.declared.asking.Subject.{Subject as SubjectValue};
+ghost use Rattle.wq_history.specs.History.{Makes, SaysBusy, MayComeIn};
+ghost use Rattle.wq_history.specs.Events.{step_of as step_of_event, ask_event, told_event};
+ghost use Rattle.wq_history.specs.Counts.{ask_place};
 ghost use Rattle.wq_history.specs.Judging.{IsJudged, IsFaultAt, stepped, counted};
 
 use crate::ask_counts::AskCounts;
+use crate::asking::Subject;
 use crate::row_error::{RowError, RowFault};
+use crate::waits::is_busy;
 use std::alloc::Allocator;
 use wq_core::{Core, Step};
+use wq_groups::LaneId;
 use wq_items::ItemId;
 use wq_rows::{Event, ROW_LEN, Row, unpack};
 
@@ -26,6 +32,13 @@ fn is_item<A: Allocator>(core: &Core<A>, item: ItemId) -> bool
     ensures { IsTrue result ↔ (item < items core.now.wiring) }
 {
     usize::from(item.get()) < core.items()
+}
+
+/// Whether there is such a lane.
+fn is_lane<A: Allocator>(core: &Core<A>, q: LaneId) -> bool
+    ensures { IsTrue result ↔ (q < core.now.wiring.lanes) }
+{
+    usize::from(q.get()) < core.lanes()
 }
 
 /// Whether a step is lawful and gives this number.
@@ -37,7 +50,26 @@ fn makes<A: Allocator>(core: &Core<A>, step: &Step, number: u32) -> bool
     core.peek(step) == Some(number)
 }
 
-/// Whether a row may come next, where this many asks about its item are waiting.
+/// Whether a wait for the whole lane of an item may come next, with this answer and this number.
+fn may_wait_all<A: Allocator>(
+    core: &Core<A>,
+    q: LaneId,
+    target: ItemId,
+    yes: bool,
+    number: u32,
+) -> bool
+    requires { core.now.state.next < 4294967295 }
+    ensures { IsTrue result ↔ (SaysBusy core.now.state (lane_of core.now.wiring target) yes
+        × Makes core.now.wiring core.now.state (WaitAll q target) number) }
+{
+    if usize::from(target.get()) >= core.items() {
+        return false;
+    }
+    let busy = is_busy(core, core.lane_of(target));
+    busy == yes && makes(core, &Step::WaitAll(q, target), number)
+}
+
+/// Whether a row may come next, where this many asks about its item or its lane are waiting.
 fn may_come<A: Allocator>(core: &Core<A>, waiting: u32, row: &Row) -> bool
     requires { core.now.state.next < 4294967295 }
     ensures { IsTrue result ↔ MayComeIn core.now.wiring core.now.state waiting row.now.event row.now.yes row.now.number }
@@ -69,6 +101,12 @@ fn may_come<A: Allocator>(core: &Core<A>, waiting: u32, row: &Row) -> bool
             is_item(core, item) && core.has_unfinished(item) == yes && number == core.next_number()
         }
         Event::Told(item) => yes && waiting > 0 && !core.unfinished_below(item, number),
+        Event::WaitAll(q, target) => may_wait_all(core, q, target, yes, number),
+        Event::OverAll(q, target) => yes && makes(core, &Step::OverAll(q, target), number),
+        Event::AskLane(q) => {
+            is_lane(core, q) && is_busy(core, q) == yes && number == core.next_number()
+        }
+        Event::ToldLane(q) => yes && waiting > 0 && !core.lane_unfinished_below(q, number),
     }
 }
 
@@ -83,7 +121,14 @@ fn step_of(event: &Event, yes: bool) -> Option<Step>
         Event::Wait(q, target) => Some(Step::Wait(q, target)),
         Event::Over(q, target) => Some(Step::Over(q, target)),
         Event::Finish(q, item) => Some(Step::Finish(q, item)),
-        Event::Queue(_) | Event::Cancel(_) | Event::Ask(_) | Event::Told(_) => None,
+        Event::WaitAll(q, target) => Some(Step::WaitAll(q, target)),
+        Event::OverAll(q, target) => Some(Step::OverAll(q, target)),
+        Event::Queue(_)
+        | Event::Cancel(_)
+        | Event::Ask(_)
+        | Event::Told(_)
+        | Event::AskLane(_)
+        | Event::ToldLane(_) => None,
     }
 }
 
@@ -101,18 +146,24 @@ fn make<A: Allocator>(core: &mut Core<A>, step: Option<Step>)
 
 /// Counts the ask that waits from this event on, or that is told by it.
 fn count<A: Allocator>(asks: &mut AskCounts<A>, event: &Event, yes: bool)
-    requires item { (i : ℕ) → event.now ≡ Ask i → i < length asks.old.counts }
-    requires some { (i : ℕ) → event.now ≡ Told i → 0 < slice_index asks.old.counts i }
+    requires place { (x : SubjectValue) → event.now ≡ ask_event x → ask_place x < length asks.old.counts }
+    requires some { (x : SubjectValue) → event.now ≡ told_event x → 0 < slice_index asks.old.counts (ask_place x) }
     requires few { asks.old.all < 4294967295 }
     ensures { asks.new ≡ counted asks.old event.now yes }
 {
     match *event {
         Event::Ask(item) => {
             if yes {
-                asks.add(item);
+                asks.add(Subject::Item(item));
             }
         }
-        Event::Told(item) => asks.take_off(item),
+        Event::AskLane(q) => {
+            if yes {
+                asks.add(Subject::Lane(q));
+            }
+        }
+        Event::Told(item) => asks.take_off(Subject::Item(item)),
+        Event::ToldLane(q) => asks.take_off(Subject::Lane(q)),
         _ => {}
     }
 }
@@ -122,7 +173,8 @@ fn count<A: Allocator>(asks: &mut AskCounts<A>, event: &Event, yes: bool)
 ///
 /// The error has the place of the lowest row at fault, from 1, and the cause: `BadRow` (75), where the bytes there are fewer than
 /// 12 or hold no row, or `NotLegal` (76), where the row may not follow those before it. The machine is then the replay of the
-/// rows before it. Or the error is `OutOfMemory` (20) at 0, which comes before any row and can't occur where there are no items.
+/// rows before it. Or the error is `OutOfMemory` (20) at 0, which comes before any row and can't occur where there are no items and
+/// no lanes.
 pub fn check_rows<A: Allocator + Copy>(
     alloc: A,
     core: &mut Core<A>,
@@ -133,7 +185,7 @@ pub fn check_rows<A: Allocator + Copy>(
     ensures legal { IfOk result (λ n. (rows : List RowValue) × IsJudged core.old packed.now rows core.new × (n ≡ length rows)) }
     ensures refused { IfErr result (λ e. IsFaultAt core.old packed.now e.at core.new e.why) }
 {
-    let Ok(mut asks) = AskCounts::new(alloc, core.items()) else {
+    let Ok(mut asks) = AskCounts::new(alloc, core.items(), core.lanes()) else {
         return Err(RowError {
             at: 0,
             why: RowFault::OutOfMemory,
@@ -149,7 +201,8 @@ pub fn check_rows<A: Allocator + Copy>(
                 why: RowFault::BadRow,
             });
         };
-        let waiting = asks.of(row.event.item());
+        let subject = Subject::of(&row.event);
+        let waiting = asks.of(subject);
         if !may_come(core, waiting, &row) {
             return Err(RowError {
                 at,

@@ -4,18 +4,20 @@
 
 ghost use Rattle.std.specs.Prelude.{◌≡◌, ℕ, ◌<◌, ◌≤◌, ◌↔◌, ◌⊎◌, List, [], ◌∷◌, ◌++◌, length, Bool, true, false, ◌&&◌};
 ghost use Rattle.std.specs.List.{All, count_by};
-ghost use Rattle.wq_core.specs.Wiring.{Wiring, IsWiring, items};
-ghost use Rattle.wq_core.specs.State.{HasUnfinishedBelow};
+ghost use Rattle.wq_core.specs.Wiring.{Wiring, IsWiring};
+ghost use Rattle.wq_core.specs.State.{lane_at, HasUnfinishedBelow, IsBusyBelow};
 ghost use Rattle.wq_core.specs.declared.step.Step.{Step};
 ghost use Rattle.wq_core.specs.Runs.{IsRun, IsRunFrom, IsRescuerStep, IsCancel, is_rescuer_step};
 ghost use Rattle.wq_core.specs.Work.{work_left};
 ghost use Rattle.wq_core.specs.Deadlock.{IsStuck, IsSafe};
 ghost use Rattle.wq_rows.specs.declared.event.Event.{Event};
-ghost use Rattle.wq_rows.specs.declared.event.Event.TheVariants.{Told};
+ghost use Rattle.wq_rows.specs.declared.event.Event.TheVariants.{Told, ToldLane};
 ghost use Rattle.wq_rows.specs.declared.event.Row.{Row};
-ghost use Rattle.wq_rows.specs.Packing.{item_in, lane_in};
-ghost use Rattle.wq_history.specs.Events.{steps_of, begins_to_wait, ends_a_wait, is_ask, is_told};
-ghost use Rattle.wq_history.specs.History.{state_after, asks_waiting, MayCome, MayFollow, IsLegal};
+ghost use Rattle.wq_rows.specs.Packing.{lane_in};
+ghost use Rattle.wq_history.specs.declared.asking.Subject.{Subject};
+ghost use Rattle.wq_history.specs.declared.asking.Subject.TheVariants.{Item as OfItem, Lane as OfLane};
+ghost use Rattle.wq_history.specs.Events.{steps_of, subject_in, begins_to_wait, ends_a_wait, is_ask, is_told};
+ghost use Rattle.wq_history.specs.History.{state_after, asks_waiting, IsThere, MayCome, MayFollow, IsLegal};
 ghost use Rattle.wq_history.specs.Reserve.{reserved, rows_needed};
 
 /// A history is legal exactly where it is legal without its last row, and that row may follow the others.
@@ -50,29 +52,31 @@ pub fn rows_are_kept_for_all_that_needs_none()
         All (λ (row : Row). rows_needed w row.event row.yes ≡ 0) more → length more ≤ reserved w rows }
 {}
 
-/// For each event except Told, at most one `yes` and one number may come at a place of a history.
+/// For each event except Told and ToldLane, at most one `yes` and one number may come at a place of a history.
 pub fn an_event_but_told_has_one_answer()
     ensures { (w : Wiring) (rows : List Row) (event : Event) (said other : Bool) (n m : ℕ) → IsLegal w rows →
         is_told event ≡ false → MayCome w rows event said n → MayCome w rows event other m → (said ≡ other) × (n ≡ m) }
 {}
 
-/// A caller is told with `yes` while an ask about the item waits, and with exactly those numbers below which no entry of the item
-/// is unfinished.
+/// A caller is told with `yes` while an ask about the item, or the lane, waits, and with exactly those numbers below which no entry
+/// of it is unfinished.
 pub fn a_caller_is_told_where_nothing_below_is_unfinished()
-    ensures { (w : Wiring) (rows : List Row) (i n : ℕ) (said : Bool) → MayCome w rows (Told i) said n
-        ↔ ((said ≡ true) × (0 < asks_waiting i rows) × (¬ HasUnfinishedBelow (state_after w rows) i n)) }
+    ensures of_an_item { (w : Wiring) (rows : List Row) (i n : ℕ) (said : Bool) → MayCome w rows (Told i) said n
+        ↔ ((said ≡ true) × (0 < asks_waiting (OfItem i) rows) × (¬ HasUnfinishedBelow (state_after w rows) i n)) }
+    ensures of_a_lane { (w : Wiring) (rows : List Row) (q n : ℕ) (said : Bool) → MayCome w rows (ToldLane q) said n
+        ↔ ((said ≡ true) × (0 < asks_waiting (OfLane q) rows) × (¬ IsBusyBelow (lane_at (state_after w rows) q) n)) }
 {}
 
-/// The items and the lanes of legal rows exist.
+/// The items and the lanes of legal rows exist. (AskLane and ToldLane have no item, and what they are about is their lane.)
 pub fn items_and_lanes_of_legal_rows_exist()
     ensures { (w : Wiring) (rows : List Row) (event : Event) (said : Bool) (n : ℕ) → IsWiring w → IsLegal w rows →
-        MayCome w rows event said n → (item_in event < items w) × (lane_in event < w.lanes) }
+        MayCome w rows event said n → IsThere w (subject_in event) × (lane_in event < w.lanes) }
 {}
 
-/// No more callers are told than asked with `yes`, for each item and in total.
+/// No more callers are told than asked with `yes`, for each item, for each lane, and in total.
 pub fn no_more_are_told_than_asked()
-    ensures of_an_item { (w : Wiring) (rows : List Row) (i : ℕ) → IsLegal w rows →
-        count_by (ends_a_wait i) rows ≤ count_by (begins_to_wait i) rows }
+    ensures of_each { (w : Wiring) (rows : List Row) (x : Subject) → IsLegal w rows →
+        count_by (ends_a_wait x) rows ≤ count_by (begins_to_wait x) rows }
     ensures in_all { (w : Wiring) (rows : List Row) → IsLegal w rows →
         count_by (λ (row : Row). is_told row.event) rows ≤ count_by (λ (row : Row). is_ask row.event && row.yes) rows }
 {}

@@ -13,10 +13,12 @@ mod fault;
 mod judging;
 pub mod laws;
 mod row_error;
+mod waits;
 
-pub use asking::{Ask, Asked, Told};
+pub use asking::{Ask, Asked, LaneAsk, LaneAsked, LaneTold, Subject, Told};
 pub use book::Book;
 pub use fault::BookError;
 pub use judging::check_rows;
 pub use row_error::{RowError, RowFault};
+pub use waits::{over_event, wait_event};
 pub use wq_rows::{Event, MAX_ROWS, Row, Rows, pack, unpack};

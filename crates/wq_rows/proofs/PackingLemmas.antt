@@ -8,7 +8,7 @@ use Rattle.std.proofs.lemmas.Nat.{from_le_bytes-to_le_bytes_2, from_le_bytes-to_
 use Rattle.std.proofs.lemmas.Grind.{flat_map-append}
 use Rattle.std.proofs.lemmas.List.{append-nil}
 use Rattle.wq_rows.specs.declared.event.Event.{Event}
-use Rattle.wq_rows.specs.declared.event.Event.TheVariants.{Queue, Cancel, Start, Wait, Over, Finish, Ask, Told}
+use Rattle.wq_rows.specs.declared.event.Event.TheVariants.{Queue, Cancel, Start, Wait, Over, Finish, Ask, Told, WaitAll, OverAll, AskLane, ToldLane}
 use Rattle.wq_rows.specs.declared.event.Row.{Row}
 use Rattle.wq_rows.specs.Packing.{kind_of, item_in, lane_in, answer_byte, packed, packed_rows, IsRowInRange}
 use Rattle.wq_rows.specs.Stored.{event_of, rows_of}
@@ -23,6 +23,10 @@ event_of-same (Over lane target) = refl
 event_of-same (Finish lane item) = refl
 event_of-same (Ask item) = refl
 event_of-same (Told item) = refl
+event_of-same (WaitAll lane target) = refl
+event_of-same (OverAll lane target) = refl
+event_of-same (AskLane lane) = refl
+event_of-same (ToldLane lane) = refl
 
 -- the byte of an answer is 1 exactly if the answer is yes
 answer_byte-same : (said : Bool) → (answer_byte said == 1) ≡ said

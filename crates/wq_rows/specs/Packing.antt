@@ -1,13 +1,13 @@
 -- Packing: the 12 bytes that hold a row.
 --
--- Byte 0 is the kind of the event; byte 1 is 1 if the answer is yes, else 0; bytes 2 and 3 are the item; bytes 4 and 5 are the
--- lane, or 0 if the event has none; bytes 6 and 7 are 0; bytes 8 to 11 are the number. The least significant byte of a number
+-- Byte 0 is the kind of the event; byte 1 is 1 if the answer is yes, else 0; bytes 2 and 3 are the item, bytes 4 and 5 the lane,
+-- each 0 if the event has none; bytes 6 and 7 are 0; bytes 8 to 11 are the number. The least significant byte of a number
 -- comes first.
 use Rattle.std.specs.Prelude.{◌≡◌, ℕ, ◌<◌, ◌^◌, ⊤, Bool, true, false, IsTrue, List, ◌∷◌, ◌++◌}
 use Rattle.std.specs.Int.{w16, w32, to_le_bytes}
 use Rattle.std.specs.List.{flat_map}
 use Rattle.wq_rows.specs.declared.event.Event.{Event}
-use Rattle.wq_rows.specs.declared.event.Event.TheVariants.{Queue, Cancel, Start, Wait, Over, Finish, Ask, Told}
+use Rattle.wq_rows.specs.declared.event.Event.TheVariants.{Queue, Cancel, Start, Wait, Over, Finish, Ask, Told, WaitAll, OverAll, AskLane, ToldLane}
 use Rattle.wq_rows.specs.declared.event.Row.{Row}
 
 -- the number of the kind of an event
@@ -20,8 +20,12 @@ kind_of (Over lane target) = 5
 kind_of (Finish lane item) = 6
 kind_of (Ask item) = 7
 kind_of (Told item) = 8
+kind_of (WaitAll lane target) = 9
+kind_of (OverAll lane target) = 10
+kind_of (AskLane lane) = 11
+kind_of (ToldLane lane) = 12
 
--- the item of an event; for Wait and Over, the item that is waited for
+-- the item of an event, or 0 if it has none; for Wait, Over, WaitAll and OverAll, the target of the wait
 abbrev pub item_in : Event → ℕ
 item_in (Queue item) = item
 item_in (Cancel item) = item
@@ -31,6 +35,10 @@ item_in (Over lane target) = target
 item_in (Finish lane item) = item
 item_in (Ask item) = item
 item_in (Told item) = item
+item_in (WaitAll lane target) = target
+item_in (OverAll lane target) = target
+item_in (AskLane lane) = 0
+item_in (ToldLane lane) = 0
 
 -- the lane of an event, or 0 if it has none
 abbrev pub lane_in : Event → ℕ
@@ -42,6 +50,10 @@ lane_in (Over lane target) = lane
 lane_in (Finish lane item) = lane
 lane_in (Ask item) = 0
 lane_in (Told item) = 0
+lane_in (WaitAll lane target) = lane
+lane_in (OverAll lane target) = lane
+lane_in (AskLane lane) = lane
+lane_in (ToldLane lane) = lane
 
 -- 1 if the answer is yes, else 0
 abbrev pub answer_byte : Bool → ℕ
@@ -67,6 +79,10 @@ MayAnswer (Over lane target) said = IsTrue said
 MayAnswer (Finish lane item) said = IsTrue said
 MayAnswer (Ask item) said = ⊤
 MayAnswer (Told item) said = IsTrue said
+MayAnswer (WaitAll lane target) said = ⊤
+MayAnswer (OverAll lane target) said = IsTrue said
+MayAnswer (AskLane lane) said = ⊤
+MayAnswer (ToldLane lane) said = IsTrue said
 
 -- a row that may be packed: its event may have its answer
 abbrev pub IsPackable : Row → Type 0

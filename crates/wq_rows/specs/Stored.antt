@@ -4,7 +4,7 @@ use Rattle.std.specs.Int.{w16, w32, from_le_bytes}
 use Rattle.std.specs.List.{All}
 use Rattle.std.specs.Option.{option_to_list}
 use Rattle.wq_rows.specs.declared.event.Event.{Event}
-use Rattle.wq_rows.specs.declared.event.Event.TheVariants.{Queue, Cancel, Start, Wait, Over, Finish, Ask, Told}
+use Rattle.wq_rows.specs.declared.event.Event.TheVariants.{Queue, Cancel, Start, Wait, Over, Finish, Ask, Told, WaitAll, OverAll, AskLane, ToldLane}
 use Rattle.wq_rows.specs.declared.event.Row.{Row}
 use Rattle.wq_rows.specs.Packing.{packed_rows, IsPackable, IsRowInRange}
 
@@ -23,6 +23,10 @@ event_of kind item lane =
     else if kind == 6 then Some (Finish lane item)
     else if kind == 7 then Some (Ask item)
     else if kind == 8 then Some (Told item)
+    else if kind == 9 then Some (WaitAll lane item)
+    else if kind == 10 then Some (OverAll lane item)
+    else if kind == 11 then Some (AskLane lane)
+    else if kind == 12 then Some (ToldLane lane)
     else None
 
 -- the rows that some bytes hold, 12 bytes each. This is meant for bytes that hold rows. From others it reads what it can: 12

@@ -1,8 +1,9 @@
 //! Events, and the rows that record them.
 //!
-//! Queue, Cancel, Start, Wait, Over and Finish record steps of the machine, or that no step was due. Ask and Told record a flush
-//! from outside a workqueue: a caller asks whether an item has an unfinished entry, and is told once each entry that it waits for
-//! is finished (`flush_work` in kernel/workqueue.c). Nothing is computed here.
+//! Queue, Cancel, Start, Wait, Over, WaitAll, OverAll and Finish record steps of the machine, or that no step was due. Ask and
+//! Told record a flush of an item from outside a workqueue: a caller asks whether the item has an unfinished entry, and is told
+//! once each entry that it waits for is finished (`flush_work` in kernel/workqueue.c). AskLane and ToldLane record the same of a
+//! whole workqueue (`flush_workqueue` there). Nothing is computed here.
 
 ghost use Rattle.std.specs.Prelude.{◌≡◌};
 ghost use Rattle.wq_rows.specs.Packing.{kind_of, item_in, lane_in};
@@ -29,6 +30,14 @@ pub enum Event {
     Ask(ItemId),
     /// A caller that waited for the item was told that its wait is over.
     Told(ItemId),
+    /// What the lane runs began to wait for the whole lane of this item.
+    WaitAll(LaneId, ItemId),
+    /// What the lane runs had waited for the whole lane of this item.
+    OverAll(LaneId, ItemId),
+    /// A caller asked whether the lane has an unfinished entry, to wait for the whole lane.
+    AskLane(LaneId),
+    /// A caller that waited for the whole lane was told that its wait is over.
+    ToldLane(LaneId),
 }
 
 /// A row of a history: what happened, and the outcome.
@@ -37,7 +46,8 @@ pub struct Row {
     /// What happened.
     pub event: Event,
     /// For Queue, whether the item was accepted; for Cancel, whether an entry was removed; for Wait and Ask, whether the item had
-    /// an unfinished entry; for all others true.
+    /// an unfinished entry; for WaitAll, whether the lane of the item had one; for AskLane, whether the lane had one; for all
+    /// others true.
     pub yes: bool,
     /// The number of the entry that was queued, removed, started or finished; the mark of a wait or an ask. 0 where nothing was
     /// queued or removed.
@@ -58,10 +68,15 @@ impl Event {
             Event::Finish(..) => 6,
             Event::Ask(_) => 7,
             Event::Told(_) => 8,
+            Event::WaitAll(..) => 9,
+            Event::OverAll(..) => 10,
+            Event::AskLane(_) => 11,
+            Event::ToldLane(_) => 12,
         }
     }
 
-    /// Its item. For Wait and Over that is the item that is waited for.
+    /// Its item. For Wait, Over, WaitAll and OverAll that is the target of the wait. AskLane and ToldLane have none: for them it is
+    /// item 0, which says nothing.
     pub fn item(&self) -> ItemId
         ensures { result ≡ item_in self.now }
     {
@@ -74,6 +89,9 @@ impl Event {
             Event::Finish(_, item) => item,
             Event::Ask(item) => item,
             Event::Told(item) => item,
+            Event::WaitAll(_, target) => target,
+            Event::OverAll(_, target) => target,
+            Event::AskLane(_) | Event::ToldLane(_) => ItemId::new(0),
         }
     }
 
@@ -85,7 +103,11 @@ impl Event {
             Event::Start(lane, _)
             | Event::Wait(lane, _)
             | Event::Over(lane, _)
-            | Event::Finish(lane, _) => lane.get(),
+            | Event::Finish(lane, _)
+            | Event::WaitAll(lane, _)
+            | Event::OverAll(lane, _)
+            | Event::AskLane(lane)
+            | Event::ToldLane(lane) => lane.get(),
             Event::Queue(_) | Event::Cancel(_) | Event::Ask(_) | Event::Told(_) => 0,
         }
     }

@@ -2,9 +2,9 @@
 //!
 //! | Bytes | What they hold |
 //! |---|---|
-//! | 0 | the kind: 1 Queue, 2 Cancel, 3 Start, 4 Wait, 5 Over, 6 Finish, 7 Ask, 8 Told |
-//! | 1 | 1 where the answer is yes, else 0; Start, Over, Finish and Told always have yes |
-//! | 2, 3 | the item, or the target of Wait and Over |
+//! | 0 | the kind, 1 to 12: Queue, Cancel, Start, Wait, Over, Finish, Ask, Told, WaitAll, OverAll, AskLane, ToldLane |
+//! | 1 | 1 where the answer is yes, else 0; Start, Over, OverAll, Finish, Told and ToldLane always have yes |
+//! | 2, 3 | the item, or the target of Wait, Over, WaitAll and OverAll; 0 for AskLane and ToldLane |
 //! | 4, 5 | the lane; 0 for Queue, Cancel, Ask and Told |
 //! | 6, 7 | 0 |
 //! | 8 to 11 | the number of the row |
@@ -62,15 +62,18 @@ fn answer_of(byte: u8) -> Option<bool>
     }
 }
 
-/// The event of a kind, an item and the number of a lane, where it may have this answer.
+/// The event of a kind, an item and the number of a lane, where it may have this answer. The item of an event that has none is 0,
+/// and so is its lane.
 fn event_of(kind: u8, item: ItemId, lane: u16, yes: bool) -> Option<Event>
     ensures kind { IfSome result (λ event. kind_of event ≡ kind) }
     ensures item { IfSome result (λ event. item_in event ≡ item) }
     ensures lane { IfSome result (λ event. lane_in event ≡ lane) }
     ensures answer { IfSome result (λ event. MayAnswer event yes) }
-    ensures none { IfNone result ((event : EventValue) → kind_of event ≡ kind → lane_in event ≡ lane → ¬ MayAnswer event yes) }
+    ensures none { IfNone result ((event : EventValue) → kind_of event ≡ kind → item_in event ≡ item → lane_in event ≡ lane
+        → ¬ MayAnswer event yes) }
 {
     let on = LaneId::new(lane);
+    let no_item = item.get() == 0;
     match kind {
         1 if lane == 0 => Some(Event::Queue(item)),
         2 if lane == 0 => Some(Event::Cancel(item)),
@@ -80,6 +83,10 @@ fn event_of(kind: u8, item: ItemId, lane: u16, yes: bool) -> Option<Event>
         6 if yes => Some(Event::Finish(on, item)),
         7 if lane == 0 => Some(Event::Ask(item)),
         8 if lane == 0 && yes => Some(Event::Told(item)),
+        9 => Some(Event::WaitAll(on, item)),
+        10 if yes => Some(Event::OverAll(on, item)),
+        11 if no_item => Some(Event::AskLane(on)),
+        12 if no_item && yes => Some(Event::ToldLane(on)),
         _ => None,
     }
 }

@@ -1,19 +1,23 @@
-use Rattle.std.proofs.Common.{◌≡◌, ◌≢◌, ◌+◌, true, false, Option, length, get_or, replicate, sym, ap, subst, ◌∙◌, arith}
-use Rattle.std.specs.Prelude.{IfSome}
+use Rattle.std.proofs.Common.{◌≡◌, ◌≢◌, ℕ, ◌+◌, ◌*◌, true, false, Option, length, get_or, replicate, sym, ap, subst, ◌∙◌, arith}
+use Rattle.std.specs.Prelude.{IfSome, max}
 use Rattle.std.proofs.lemmas.Bool.{eqb-true, eqb-false}
 use Rattle.wq_core.specs.declared.step.Step.{Step}
+use Rattle.wq_core.specs.Wiring.{items}
 use Rattle.wq_core.specs.Rules.{Lawful}
 use Rattle.wq_core.specs.Held.{Machine}
+use Rattle.wq_history.specs.declared.asking.Subject.{Subject}
 use Rattle.wq_history.specs.Events.{step_of}
-use Rattle.wq_history.specs.Counts.{AskView}
+use Rattle.wq_history.specs.Counts.{AskView, ask_place}
 use Rattle.wq_history.specs.Judging.{stepped}
-use Rattle.wq_history.proofs.Judged.{JudgedSoFar, judged-length, judged-first, judged-next, judged-all, bad-row, cut-off, not-legal, step-lawful, few_asks}
+use Rattle.wq_history.proofs.Judged.{JudgedSoFar, judged-length, judged-first, judged-next, judged-all, bad-row, cut-off, not-legal, step-lawful, few_asks, ask-counted, told-counted}
 use Rattle.wq_history.proofs.judging.check_rows.Goals as goal
 
 pub loop-bytes-init : goal.loop-bytes-init
 loop-bytes-init g c =
     judged-first c.args.core.now c.args.packed.now c.in-Ok.asks c.items.ensures.machine c.requires.new
-    (c.in-Ok.ensures.counts ∙ ap (λ n. record { counts = replicate n 0; all = 0 }) c.items.ensures.items)
+    (c.in-Ok.ensures.counts
+    ∙ ap (λ (n : ℕ). record { counts = replicate (2 * max n c.lanes.result) 0; all = 0 }) c.items.ensures.items
+    ∙ ap (λ (n : ℕ). record { counts = replicate (2 * max (items c.args.core.now.wiring) n) 0; all = 0 }) c.lanes.ensures.lanes)
 
 pub overflow_add-at : goal.overflow_add-at
 overflow_add-at g c =
@@ -34,7 +38,7 @@ pub returns-then-not-may_come-clause-refused : goal.returns-then-not-may_come-cl
 returns-then-not-may_come-clause-refused g c =
     let l = c.loop-bytes in
     not-legal c.args.core.now c.args.packed.now l.left.now c.in-Some.bytes.now c.in-Some.after.now l.core l.asks l.rows c.of-waiting.result c.in-Some-unpack.row l.invariant
-    c.in-Some.ensures.cases c.in-Some-unpack.ensures.some (c.of-waiting.ensures.count ∙ ap (λ i. get_or l.asks.counts i 0) c.item.ensures)
+    c.in-Some.ensures.cases c.in-Some-unpack.ensures.some (c.of-waiting.ensures.count ∙ ap (λ (x : Subject). get_or l.asks.counts (ask_place x) 0) c.of-subject.ensures)
     (λ may. let both : true ≡ false = sym (c.may_come.ensures.1 may) ∙ c.if-not-may_come.true in absurd cc)
 
 pub make-requires-clause-lawful : goal.make-requires-clause-lawful
@@ -49,6 +53,19 @@ make-requires-clause-numbers g c =
     let l = c.loop-bytes in
     omega (arith, l.invariant.replays.numbers, l.invariant.counted_rows, judged-length c.args.core.now c.args.packed.now l.left.now l.core l.asks l.rows l.invariant, c.requires.few)
 
+pub count-requires-clause-place : goal.count-requires-clause-place
+count-requires-clause-place g c x is =
+    let l = c.loop-bytes in
+    let row = c.in-Some-unpack.row in
+    ask-counted l.core l.invariant.rows l.asks c.of-waiting.result row.event row.yes row.number x l.invariant.replays (c.may_come.ensures.0 c.if-not-may_come.false) is
+
+pub count-requires-clause-some : goal.count-requires-clause-some
+count-requires-clause-some g c x is =
+    let l = c.loop-bytes in
+    let row = c.in-Some-unpack.row in
+    told-counted l.core l.asks c.of-waiting.result row.event row.yes row.number x
+    (c.of-waiting.ensures.count ∙ ap (λ (y : Subject). get_or l.asks.counts (ask_place y) 0) c.of-subject.ensures) (c.may_come.ensures.0 c.if-not-may_come.false) is
+
 pub count-requires-clause-few : goal.count-requires-clause-few
 count-requires-clause-few g c =
     let l = c.loop-bytes in
@@ -62,7 +79,7 @@ loop-bytes-preserved g c =
     subst (λ (m : Machine). JudgedSoFar c.args.core.now c.args.packed.now c.in-Some.after.now m c.count.new.asks (l.rows + 1)) (sym core)
     (subst (λ (a : AskView). JudgedSoFar c.args.core.now c.args.packed.now c.in-Some.after.now (stepped l.core (step_of row.event row.yes)) a (l.rows + 1)) (sym c.count.ensures)
     (judged-next c.args.core.now c.args.packed.now l.left.now c.in-Some.bytes.now c.in-Some.after.now l.core l.asks l.rows c.of-waiting.result row l.invariant
-    c.in-Some.ensures.cases c.in-Some-unpack.ensures.some (c.of-waiting.ensures.count ∙ ap (λ i. get_or l.asks.counts i 0) c.item.ensures) c.of-waiting.ensures.part
+    c.in-Some.ensures.cases c.in-Some-unpack.ensures.some (c.of-waiting.ensures.count ∙ ap (λ (x : Subject). get_or l.asks.counts (ask_place x) 0) c.of-subject.ensures) c.of-waiting.ensures.part
     c.requires.few (c.may_come.ensures.0 c.if-not-may_come.false)))
 
 pub returns-then-is_empty-clause-legal : goal.returns-then-is_empty-clause-legal

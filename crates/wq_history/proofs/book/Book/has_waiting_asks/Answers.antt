@@ -15,8 +15,8 @@ returns-clause-some g c =
     ((λ is. omega (arith, waiting, ltb-true 0 c.all.result is)), (λ some. lt-ltb 0 c.all.result (omega (arith, waiting, some))))
 
 pub returns-clause-none : goal.returns-clause-none
-returns-clause-none g c is i =
+returns-clause-none g c is x =
     let b = c.self.inside in
     let none : b.asks.all ≡ 0 = omega (arith, c.all.ensures.all, ltb-false 0 c.all.result is) in
-    subst (λ (x : BookView). count_by (ends_a_wait i) x.rows ≡ count_by (begins_to_wait i) x.rows) c.self.view_is
-    (CountsAsks-none b.history.rows b.asks i c.all.ensures.sum c.self.invariant.replays.asked none)
+    subst (λ (v : BookView). count_by (ends_a_wait x) v.rows ≡ count_by (begins_to_wait x) v.rows) c.self.view_is
+    (CountsAsks-none b.history.rows b.asks x c.all.ensures.sum c.self.invariant.replays.asked none)

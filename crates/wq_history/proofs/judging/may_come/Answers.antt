@@ -1,0 +1,11 @@
+use Rattle.std.proofs.Common.{◌↔◌, sym, subst}
+use Rattle.std.specs.Prelude.{IsTrue}
+use Rattle.wq_rows.specs.declared.event.Event.{Event}
+use Rattle.wq_history.specs.History.{MayComeIn}
+use Rattle.wq_history.proofs.judging.may_come.Goals as goal
+
+pub returns-in-WaitAll : goal.returns-in-WaitAll
+returns-in-WaitAll g c =
+    let m = c.args.core.now in
+    let row = c.args.row.now in
+    subst (λ (e : Event). IsTrue c.may_wait_all.result ↔ MayComeIn m.wiring m.state c.args.waiting e row.yes row.number) (sym c.in-WaitAll.is) c.may_wait_all.ensures
