@@ -5,26 +5,56 @@ use Rattle.std.proofs.lemmas.List.{length-replicate}
 use Rattle.std.proofs.lemmas.List.Folds.{sum_by-replicate}
 use Rattle.wq_core.specs.Wiring.{Wiring, items}
 use Rattle.wq_core.specs.Deadlock.{IsSafe, IsStuck}
-use Rattle.wq_core.specs.State.{HasUnfinishedBelow}
+use Rattle.wq_core.specs.Rules.{IsHeldBack}
 use Rattle.wq_core.specs.declared.entry.Running.{Running}
 use Rattle.wq_core.specs.declared.entry.Waiting.{Waiting}
 use Rattle.wq_rows.specs.declared.event.Event.{Event}
-use Rattle.wq_rows.specs.declared.event.Event.TheVariants.{Over, Finish}
+use Rattle.wq_rows.specs.declared.event.Event.TheVariants.{Queue, Cancel, Start, Wait, Over, Finish, Ask, Told, WaitAll, OverAll, AskLane, ToldLane}
 use Rattle.wq_rows.specs.declared.event.Row.{Row}
-use Rattle.wq_rows.specs.Packing.{item_in, lane_in}
-use Rattle.wq_counts.specs.declared.kind.Kind.{Kind}
-use Rattle.wq_counts.specs.Counting.{kind_in, AreTallies, raised, counted_rows}
-use Rattle.wq_counts.proofs.Places.{HasCountsOf-raised, sum-raised}
-use Rattle.wq_counts.proofs.Tallies.{AreTallies-raised, counted_rows-more, counted_rows-le-length, AreTallies-none, is_counted-some, item_within}
+use Rattle.wq_rows.specs.Packing.{lane_in}
+use Rattle.wq_counts.specs.Counting.{counts_each, wait_kind, over_kind, slot_in, is_counted, AreTallies, raised, noted_as, counted_rows}
+use Rattle.wq_counts.proofs.Tallies.{AreTallies-more, HasCountsOf-noted_as, sum-noted_as, counted_rows-more, counted_rows-le-length, AreTallies-none, item_within}
 use Rattle.wq_history.specs.declared.fault.BookError.{BookError}
 use Rattle.wq_history.specs.declared.fault.BookError.TheVariants.{HistoryFull, Closed, Undeclared, TooManyWaits, WrongLane, NoItem, TooManyRows, OutOfMemory}
-use Rattle.wq_history.specs.Events.{steps_of}
-use Rattle.wq_history.specs.History.{state_after, IsLegal}
+use Rattle.wq_history.specs.Events.{steps_of, subject_in, wait_event, over_event}
+use Rattle.wq_history.specs.History.{state_after, IsThere, IsLegal}
 use Rattle.wq_history.proofs.LegalRows.{IsRun-legal}
 use Rattle.wq_history.specs.Book.{BookView, state, IsBook, LaneRuns, Appends, AppendsOne, IsWaiting, IsNotWaiting, RefusesLane}
 use Rattle.wq_history.specs.Answers.{AnswersOver}
 use Rattle.wq_history.proofs.KeptRows.{exist}
-use Rattle.wq_held.specs.Locked.{max_runtime_lanes, IsHeld, Holds, RunsItem, WaitsFor, AnswersOverOf}
+use Rattle.wq_held.specs.Locked.{max_runtime_lanes, slots, IsHeld, Holds, RunsItem, WaitsFor, AnswersOverOf}
+
+-- ---- slots of counts
+
+-- each item has a slot, and each lane
+pub items_within_slots : (w : Wiring) → items w ≤ slots w
+items_within_slots w = omega arith
+
+pub lanes_within_slots : (w : Wiring) → w.lanes ≤ slots w
+lanes_within_slots w = omega arith
+
+pub item_slot : (w : Wiring) (i : ℕ) → i < items w → i < slots w
+item_slot w i there = omega (arith, there, items_within_slots w)
+
+pub lane_slot : (w : Wiring) (q : ℕ) → q < w.lanes → q < slots w
+lane_slot w q there = omega (arith, there, lanes_within_slots w)
+
+-- an event has one, if its item or lane exists
+in_slots : (w : Wiring) (event : Event) → IsThere w (subject_in event) → slot_in event < slots w
+in_slots w (Queue i) there = item_slot w i there
+in_slots w (Cancel i) there = item_slot w i there
+in_slots w (Start q i) there = item_slot w i there
+in_slots w (Wait q b) there = item_slot w b there
+in_slots w (Over q b) there = item_slot w b there
+in_slots w (Finish q i) there = item_slot w i there
+in_slots w (Ask i) there = item_slot w i there
+in_slots w (Told i) there = item_slot w i there
+in_slots w (WaitAll q b) there = item_slot w b there
+in_slots w (OverAll q b) there = item_slot w b there
+in_slots w (AskLane q) there = lane_slot w q there
+in_slots w (ToldLane q) there = lane_slot w q there
+
+-- ---- one more row
 
 -- a sum of nothing but 0
 pub sum-replicate_zero : (n : ℕ) → sum (replicate n 0) ≡ 0
@@ -36,35 +66,42 @@ pub few_tallies : (w : Wiring) (rows parts : ℕ) (b : BookView) (tallies sums :
 few_tallies w rows parts b tallies sums seats left amount held book =
     omega (arith, held.counted, counted_rows-le-length b.rows, book.enough, book.limit)
 
--- the item of a row that is appended exists
-pub item-appended : (w : Wiring) (b new : BookView) (event : Event) (said : Bool) (n : ℕ) → b.wiring ≡ w → IsBook b → Appends b new event said n
-    → item_in event < items w
-item-appended w b new event said n of_wiring book appends =
-    subst (λ (x : Wiring). item_in event < items x) of_wiring (exist b.wiring b.rows event said n book.wiring book.legal appends.may).0
+-- the item or the lane of a row that is appended exists
+pub there-appended : (w : Wiring) (b new : BookView) (event : Event) (said : Bool) (n : ℕ) → b.wiring ≡ w → IsBook b → Appends b new event said n
+    → IsThere w (subject_in event)
+there-appended w b new event said n of_wiring book appends =
+    subst (λ (x : Wiring). IsThere x (subject_in event)) of_wiring (exist b.wiring b.rows event said n book.wiring book.legal appends.may).0
 
--- and its lane
+-- so it has a slot
+pub slot-appended : (w : Wiring) (b new : BookView) (event : Event) (said : Bool) (n : ℕ) → b.wiring ≡ w → IsBook b → Appends b new event said n
+    → slot_in event < slots w
+slot-appended w b new event said n of_wiring book appends = in_slots w event (there-appended w b new event said n of_wiring book appends)
+
+-- and its lane, if it has one
 pub lane-appended : (w : Wiring) (b new : BookView) (event : Event) (said : Bool) (n : ℕ) → b.wiring ≡ w → IsBook b → Appends b new event said n
     → lane_in event < w.lanes
 lane-appended w b new event said n of_wiring book appends =
     subst (λ (x : Wiring). lane_in event < x.lanes) of_wiring (exist b.wiring b.rows event said n book.wiring book.legal appends.may).1
 
--- a counted row is appended, and its count raised
-IsHeld-raised : (w : Wiring) (rows parts : ℕ) (b new : BookView) (tallies sums : List ℕ) (seats left amount : ℕ) (event : Event) (said : Bool) (n : ℕ) (kind : Kind)
-    → IsHeld w rows parts b tallies sums seats left amount → Appends b new event said n → kind_in event ≡ Some kind → item_in event < items w
-    → IsHeld w rows parts new (raised tallies (item_in event) kind said) sums seats left amount
-IsHeld-raised w rows parts b new tallies sums seats left amount event said n kind held appends is within =
+-- a row is appended, and counted, unless it is one that isn't counted
+pub IsHeld-noted : (w : Wiring) (rows parts : ℕ) (b new : BookView) (tallies sums : List ℕ) (seats left amount : ℕ) (event : Event) (said : Bool) (n : ℕ)
+    → IsHeld w rows parts b tallies sums seats left amount → IsBook b → Appends b new event said n
+    → IsHeld w rows parts new (noted_as tallies event said) sums seats left amount
+IsHeld-noted w rows parts b new tallies sums seats left amount event said n held book appends =
     let row : Row = record { event = event; yes = said; number = n } in
+    let within : slot_in event < slots w = slot-appended w b new event said n held.of_wiring book appends in
     let rows_are : new.rows ≡ b.rows ++ (row ∷ []) = ap (λ (x : BookView). x.rows) appends.is_new in
-    let more : counted_rows (b.rows ++ (row ∷ [])) ≡ counted_rows b.rows + 1 = counted_rows-more b.rows row ∙ ap (λ c. counted_rows b.rows + cond c 1 0) (is_counted-some event kind is) in
+    let more : counted_rows (b.rows ++ (row ∷ [])) ≡ counted_rows b.rows + cond (is_counted event) 1 0 = counted_rows-more b.rows row in
+    let summed = sum-noted_as tallies event said (λ _. item_within (slots w) (slot_in event) tallies held.a_count_each within) in
     record {
       of_wiring = ap (λ (x : BookView). x.wiring) appends.is_new ∙ held.of_wiring;
       of_rows = ap (λ (x : BookView). x.room) appends.is_new ∙ held.of_rows;
       few_lanes = held.few_lanes;
       safe = held.safe;
-      a_count_each = HasCountsOf-raised (items w) tallies (item_in event) kind said held.a_count_each;
-      tallied = subst (λ rs. AreTallies (items w) rs (raised tallies (item_in event) kind said)) (sym rows_are)
-          (AreTallies-raised (items w) b.rows row tallies kind held.a_count_each is within held.tallied);
-      counted = omega (arith, sum-raised tallies (item_in event) kind said (item_within (items w) (item_in event) tallies held.a_count_each within), held.counted, more, ap counted_rows rows_are);
+      a_count_each = HasCountsOf-noted_as (slots w) tallies event said held.a_count_each;
+      tallied = subst (λ rs. AreTallies (slots w) rs (noted_as tallies event said)) (sym rows_are)
+          (AreTallies-more (slots w) b.rows row tallies held.a_count_each (λ _. within) held.tallied);
+      counted = omega (arith, summed, held.counted, more, ap counted_rows rows_are);
       no_sums = held.no_sums;
       all_parts = held.all_parts;
       parts_given = held.parts_given;
@@ -73,25 +110,55 @@ IsHeld-raised w rows parts b new tallies sums seats left amount event said n kin
     }
 
 -- the same for counts that are known to be these
-pub IsHeld-counted : (w : Wiring) (rows parts : ℕ) (b new : BookView) (tallies sums : List ℕ) (seats left amount : ℕ) (event : Event) (said : Bool) (n : ℕ) (kind : Kind) (counts : List ℕ)
-    → counts ≡ raised tallies (item_in event) kind said
-    → IsHeld w rows parts b tallies sums seats left amount → Appends b new event said n → kind_in event ≡ Some kind → item_in event < items w
+pub IsHeld-counted : (w : Wiring) (rows parts : ℕ) (b new : BookView) (tallies sums : List ℕ) (seats left amount : ℕ) (event : Event) (said : Bool) (n : ℕ) (counts : List ℕ)
+    → counts ≡ noted_as tallies event said
+    → IsHeld w rows parts b tallies sums seats left amount → IsBook b → Appends b new event said n
     → IsHeld w rows parts new counts sums seats left amount
-IsHeld-counted w rows parts b new tallies sums seats left amount event said n kind counts counts_are held appends is within =
-    subst (λ ts. IsHeld w rows parts new ts sums seats left amount) (sym counts_are) (IsHeld-raised w rows parts b new tallies sums seats left amount event said n kind held appends is within)
+IsHeld-counted w rows parts b new tallies sums seats left amount event said n counts counts_are held book appends =
+    subst (λ ts. IsHeld w rows parts new ts sums seats left amount) (sym counts_are) (IsHeld-noted w rows parts b new tallies sums seats left amount event said n held book appends)
+
+-- ---- waits, by their kind
+
+-- the beginning of a wait is counted, for its target, which exists
+pub counted-wait : (whole : Bool) (q b : ℕ) → is_counted (wait_event whole q b) ≡ true
+counted-wait false q b = refl
+counted-wait true q b = refl
+
+pub noted-wait : (counts : List ℕ) (whole : Bool) (q b : ℕ) (said : Bool) → noted_as counts (wait_event whole q b) said ≡ raised counts b (wait_kind whole) said
+noted-wait counts false q b said = refl
+noted-wait counts true q b said = refl
+
+pub target-there : (w : Wiring) (whole : Bool) (q b : ℕ) → IsThere w (subject_in (wait_event whole q b)) → b < items w
+target-there w false q b there = there
+target-there w true q b there = there
+
+pub lane-wait : (whole : Bool) (q b : ℕ) → lane_in (wait_event whole q b) ≡ q
+lane-wait false q b = refl
+lane-wait true q b = refl
+
+-- and so is its end
+pub counted-over : (whole : Bool) (q b : ℕ) → is_counted (over_event whole q b) ≡ true
+counted-over false q b = refl
+counted-over true q b = refl
+
+pub noted-over : (counts : List ℕ) (whole : Bool) (q b : ℕ) (said : Bool) → noted_as counts (over_event whole q b) said ≡ raised counts b (over_kind whole) said
+noted-over counts false q b said = refl
+noted-over counts true q b said = refl
+
+-- ---- the first and the last
 
 -- a runtime on which nothing has happened
 pub IsHeld-first : (w : Wiring) (rows parts : ℕ) (b : BookView) (tallies sums : List ℕ) (left amount : ℕ) → b.wiring ≡ w → b.room ≡ rows → b.rows ≡ []
-    → w.lanes ≤ max_runtime_lanes → IsSafe w → parts ≡ 65536 → tallies ≡ replicate (14 * items w) 0 → sums ≡ replicate (14 * items w) 0 → left ≡ parts → amount ≡ 0
+    → w.lanes ≤ max_runtime_lanes → IsSafe w → parts ≡ 65536 → tallies ≡ replicate (counts_each * slots w) 0 → sums ≡ replicate (counts_each * slots w) 0 → left ≡ parts → amount ≡ 0
     → IsHeld w rows parts b tallies sums 0 left amount
 IsHeld-first w rows parts b tallies sums left amount of_wiring of_rows empty few_lanes safe all_parts no_tallies no_sums all_left none_counted = record {
   of_wiring = of_wiring;
   of_rows = of_rows;
   few_lanes = few_lanes;
   safe = safe;
-  a_count_each = ap length no_tallies ∙ length-replicate (14 * items w) 0;
-  tallied = subst (λ ts. AreTallies (items w) b.rows ts) (sym no_tallies) (subst (λ rs. AreTallies (items w) rs (replicate (14 * items w) 0)) (sym empty) (AreTallies-none (items w)));
-  counted = ap sum no_tallies ∙ (sum-replicate_zero (14 * items w) ∙ sym (ap counted_rows empty));
+  a_count_each = ap length no_tallies ∙ length-replicate (counts_each * slots w) 0;
+  tallied = subst (λ ts. AreTallies (slots w) b.rows ts) (sym no_tallies) (subst (λ rs. AreTallies (slots w) rs (replicate (counts_each * slots w) 0)) (sym empty) (AreTallies-none (slots w)));
+  counted = ap sum no_tallies ∙ (sum-replicate_zero (counts_each * slots w) ∙ sym (ap counted_rows empty));
   no_sums = no_sums;
   all_parts = all_parts;
   parts_given = omega (arith, all_left);
@@ -121,28 +188,31 @@ waits_once b q f g (r, runs, waits) (other, others, wait) =
     Some-same : {X : Type 0} {x y : X} → Some x ≡ Some y → x ≡ y
     Some-same e = cc
 
--- a lane that waits for one item waits for no other
-pub waits_for_one : (b : BookView) (q one other : ℕ) → WaitsFor b q one → WaitsFor b q other → one ≡ other
-waits_for_one b q one other (f, waits, of_one) (g, wait, of_other) = sym of_one ∙ (ap (λ (x : Waiting). x.target) (waits_once b q f g waits wait) ∙ of_other)
-
--- if a lane waits for an item, what it is answered is about this item
-pub AnswersOverOf-over : (b new : BookView) (q target : ℕ) (answer : Bool) → WaitsFor b q target → AnswersOver b new q answer → AnswersOverOf b new q target answer
-AnswersOverOf-over b new q target true waits (g, wait, appends) =
-    subst (λ (x : ℕ). AppendsOne b new (Over q x) true) (waits_for_one b q g.target target (g, wait, refl) waits) appends
-AnswersOverOf-over b new q target false waits ((g, wait, below), same) =
-    let is = waits_for_one b q g.target target (g, wait, refl) waits in
-    (g, wait, is, subst (λ (x : ℕ). HasUnfinishedBelow (state b) x g.mark) is below, same)
+-- if a lane waits so, what it is answered is about this wait
+pub AnswersOverOf-over : (b new : BookView) (q : ℕ) (whole : Bool) (target : ℕ) (answer : Bool) → WaitsFor b q whole target → AnswersOver b new q answer
+    → AnswersOverOf b new q whole target answer
+AnswersOverOf-over b new q whole target true (f, (waits, kind), of_target) (g, wait, appends) =
+    let same : g ≡ f = waits_once b q g f wait waits in
+    let P : Bool → ℕ → Type 0 = λ k x. AppendsOne b new (over_event k q x) true in
+    subst (λ (x : ℕ). P whole x) (ap (λ (x : Waiting). x.target) same ∙ of_target)
+    (subst (λ (k : Bool). P k g.target) (ap (λ (x : Waiting). x.whole) same ∙ kind) appends)
+AnswersOverOf-over b new q whole target false (f, (waits, kind), of_target) ((g, wait, back), same_book) =
+    let same : g ≡ f = waits_once b q g f wait waits in
+    let of : g.target ≡ target = ap (λ (x : Waiting). x.target) same ∙ of_target in
+    let by : g.whole ≡ whole = ap (λ (x : Waiting). x.whole) same ∙ kind in
+    let P : Bool → ℕ → Type 0 = λ k x. IsHeldBack b.wiring (state b) k x g.mark in
+    (g, (wait, by), of, subst (λ (x : ℕ). P whole x) of (subst (λ (k : Bool). P k g.target) by back), same_book)
 
 -- the end of the wait of a lane that waits isn't refused
-pub over-not_refused : (b : BookView) (q target : ℕ) (e : BookError) → WaitsFor b q target → RefusesLane (IsNotWaiting b q) e → ⊥
-over-not_refused b q target WrongLane waits wrong = wrong waits.0 waits.1
-over-not_refused b q target HistoryFull waits wrong = wrong
-over-not_refused b q target Closed waits wrong = wrong
-over-not_refused b q target Undeclared waits wrong = wrong
-over-not_refused b q target TooManyWaits waits wrong = wrong
-over-not_refused b q target NoItem waits wrong = wrong
-over-not_refused b q target TooManyRows waits wrong = wrong
-over-not_refused b q target OutOfMemory waits wrong = wrong
+pub over-not_refused : (b : BookView) (q : ℕ) (whole : Bool) (target : ℕ) (e : BookError) → WaitsFor b q whole target → RefusesLane (IsNotWaiting b q) e → ⊥
+over-not_refused b q whole target WrongLane (f, waits, of_target) wrong = wrong f waits.0
+over-not_refused b q whole target HistoryFull waits wrong = wrong
+over-not_refused b q whole target Closed waits wrong = wrong
+over-not_refused b q whole target Undeclared waits wrong = wrong
+over-not_refused b q whole target TooManyWaits waits wrong = wrong
+over-not_refused b q whole target NoItem waits wrong = wrong
+over-not_refused b q whole target TooManyRows waits wrong = wrong
+over-not_refused b q whole target OutOfMemory waits wrong = wrong
 
 -- a lane that runs an entry of one item doesn't run one of another
 runs_one : (b : BookView) (q i : ℕ) (r : Running) → RunsItem b q i → LaneRuns b q r → r.entry.item ≡ i

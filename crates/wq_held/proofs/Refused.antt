@@ -1,9 +1,9 @@
 -- The refusals of a book that was made are refusals of a runtime's calls.
-use Rattle.std.proofs.Common.{ℕ, refl}
+use Rattle.std.proofs.Common.{ℕ, Bool, refl}
 use Rattle.wq_rows.specs.declared.event.Event.{Event}
 use Rattle.wq_history.specs.declared.fault.BookError.{BookError}
 use Rattle.wq_history.specs.declared.fault.BookError.TheVariants.{HistoryFull, Closed, Undeclared, TooManyWaits, WrongLane, NoItem, TooManyRows, OutOfMemory}
-use Rattle.wq_history.specs.Book.{BookView, RefusesQueue, RefusesItem, RefusesLane, RefusesWait}
+use Rattle.wq_history.specs.Book.{BookView, RefusesQueue, RefusesItem, RefusesAskLane, RefusesLane, RefusesWait}
 use Rattle.wq_held.specs.declared.fault.CallError.TheVariants.{HistoryFull as CallFull, Closed as CallClosed, Undeclared as CallUndeclared, TooManyWaits as CallTooManyWaits, WrongLane as CallWrongLane, NoItem as CallNoItem}
 use Rattle.wq_held.specs.Errors.{IsOfCall}
 
@@ -37,12 +37,22 @@ of_call_lane wrong NoItem why = (CallNoItem, refl)
 of_call_lane wrong TooManyRows why = absurd why
 of_call_lane wrong OutOfMemory why = absurd why
 
-pub of_call_wait : (b : BookView) (q target : ℕ) (e : BookError) → RefusesWait b q target e → IsOfCall e
-of_call_wait b q target HistoryFull why = (CallFull, refl)
-of_call_wait b q target Closed why = (CallClosed, refl)
-of_call_wait b q target Undeclared why = (CallUndeclared, refl)
-of_call_wait b q target TooManyWaits why = (CallTooManyWaits, refl)
-of_call_wait b q target WrongLane why = (CallWrongLane, refl)
-of_call_wait b q target NoItem why = (CallNoItem, refl)
-of_call_wait b q target TooManyRows why = absurd why
-of_call_wait b q target OutOfMemory why = absurd why
+pub of_call_ask_lane : (b : BookView) (q : ℕ) (e : BookError) → RefusesAskLane b q e → IsOfCall e
+of_call_ask_lane b q HistoryFull why = (CallFull, refl)
+of_call_ask_lane b q Closed why = (CallClosed, refl)
+of_call_ask_lane b q Undeclared why = (CallUndeclared, refl)
+of_call_ask_lane b q TooManyWaits why = (CallTooManyWaits, refl)
+of_call_ask_lane b q WrongLane why = (CallWrongLane, refl)
+of_call_ask_lane b q NoItem why = (CallNoItem, refl)
+of_call_ask_lane b q TooManyRows why = absurd why
+of_call_ask_lane b q OutOfMemory why = absurd why
+
+pub of_call_wait : (b : BookView) (q : ℕ) (whole : Bool) (target : ℕ) (e : BookError) → RefusesWait b q whole target e → IsOfCall e
+of_call_wait b q whole target HistoryFull why = (CallFull, refl)
+of_call_wait b q whole target Closed why = (CallClosed, refl)
+of_call_wait b q whole target Undeclared why = (CallUndeclared, refl)
+of_call_wait b q whole target TooManyWaits why = (CallTooManyWaits, refl)
+of_call_wait b q whole target WrongLane why = (CallWrongLane, refl)
+of_call_wait b q whole target NoItem why = (CallNoItem, refl)
+of_call_wait b q whole target TooManyRows why = absurd why
+of_call_wait b q whole target OutOfMemory why = absurd why

@@ -1,19 +1,25 @@
 -- What the lock of a runtime guards, and what the calls under the lock do to it and to the caller's seat.
-use Rattle.std.specs.Prelude.{◌≡◌, ◌≢◌, ℕ, ◌+◌, ◌*◌, ◌<◌, ◌≤◌, ◌⊎◌, List, sum, replicate, Bool, true, false}
+use Rattle.std.specs.Prelude.{◌≡◌, ◌≢◌, ℕ, max, ◌+◌, ◌*◌, ◌<◌, ◌≤◌, ◌⊎◌, List, sum, replicate, Bool, true, false}
 use Rattle.wq_core.specs.declared.entry.Running.{Running}
 use Rattle.wq_core.specs.declared.entry.Waiting.{Waiting as WaitingOf}
 use Rattle.wq_core.specs.Wiring.{Wiring, items, lane_of}
-use Rattle.wq_core.specs.State.{HasUnfinished, HasUnfinishedBelow}
+use Rattle.wq_core.specs.State.{HasUnfinished}
+use Rattle.wq_core.specs.Rules.{IsHeldBack}
 use Rattle.wq_core.specs.Deadlock.{IsStuck, IsSafe}
-use Rattle.wq_rows.specs.declared.event.Event.TheVariants.{Cancel, Over}
-use Rattle.wq_counts.specs.declared.kind.Kind.TheVariants.{Cancel as CancelKind, Over as OverKind, Ask as AskKind, Told as ToldKind}
-use Rattle.wq_counts.specs.Counting.{HasCountsOf, AreTallies, raised, counted_rows}
+use Rattle.wq_rows.specs.declared.event.Event.TheVariants.{Cancel}
+use Rattle.wq_counts.specs.declared.kind.Kind.TheVariants.{Cancel as CancelKind, Ask as AskKind, Told as ToldKind}
+use Rattle.wq_counts.specs.Counting.{counts_each, over_kind, HasCountsOf, AreTallies, raised, raised_asked, raised_told, counted_rows}
 use Rattle.wq_history.specs.declared.asking.Ask.{Ask}
 use Rattle.wq_history.specs.declared.asking.Ask.TheVariants.{Idle, Waiting}
 use Rattle.wq_history.specs.declared.asking.Told.{Told}
 use Rattle.wq_history.specs.declared.asking.Told.TheVariants.{Done, NotYet, NotAsked as BookNotAsked}
+use Rattle.wq_history.specs.declared.asking.LaneAsk.{LaneAsk}
+use Rattle.wq_history.specs.declared.asking.LaneAsk.TheVariants.{Idle as LaneIdle, Waiting as LaneWaiting}
+use Rattle.wq_history.specs.declared.asking.LaneTold.{LaneTold}
+use Rattle.wq_history.specs.declared.asking.LaneTold.TheVariants.{Done as LaneDone, NotYet as LaneNotYet, NotAsked as LaneNotAsked}
+use Rattle.wq_history.specs.Events.{over_event}
 use Rattle.wq_history.specs.History.{all_asks_waiting}
-use Rattle.wq_history.specs.Book.{BookView, state, free, IsBook, LaneRuns, IsWaiting, IsNotAwake, AppendsOne}
+use Rattle.wq_history.specs.Book.{BookView, state, free, IsBook, LaneRuns, IsWaitingBy, IsNotAwake, AppendsOne}
 use Rattle.wq_history.specs.Answers.{AnswersAsk}
 use Rattle.wq_held.specs.declared.fault.CallError.{CallError}
 use Rattle.wq_held.specs.declared.fault.CallError.TheVariants.{HistoryFull, Closed, Undeclared, TooManyWaits, WrongLane, NotAsked, NoItem}
@@ -31,6 +37,11 @@ pub record HeldView : Type 0 where
 abbrev pub max_runtime_lanes : ℕ
 max_runtime_lanes = 256
 
+-- how many slots of counts a runtime has: as many as items or lanes, whichever are more. Slot n holds the counts of item n and
+-- those of lane n
+abbrev pub slots : Wiring → ℕ
+slots w = max (items w) w.lanes
+
 -- for a runtime with this wiring, this many rows and this many parts of its ledger: the book is of this wiring and has room for
 -- this many rows; there are at most 256 lanes, and no run of the assignment ends stuck; the tallies are those of the book's
 -- rows, and add up to the number of its counted rows; the room for the sums is kept empty. Each part of the ledger was given to
@@ -40,10 +51,10 @@ pub record IsHeld (w : Wiring) (rows parts : ℕ) (book : BookView) (tallies sum
   pub of_rows : book.room ≡ rows
   pub few_lanes : w.lanes ≤ max_runtime_lanes
   pub safe : IsSafe w
-  pub a_count_each : HasCountsOf (items w) tallies
-  pub tallied : AreTallies (items w) book.rows tallies
+  pub a_count_each : HasCountsOf (slots w) tallies
+  pub tallied : AreTallies (slots w) book.rows tallies
   pub counted : sum tallies ≡ counted_rows book.rows
-  pub no_sums : sums ≡ replicate (14 * items w) 0
+  pub no_sums : sums ≡ replicate (counts_each * slots w) 0
   pub all_parts : parts ≡ 65536
   pub parts_given : parts_left + seats ≡ parts
   pub a_part_left : 0 < parts_left
@@ -51,13 +62,13 @@ pub record IsHeld (w : Wiring) (rows parts : ℕ) (book : BookView) (tallies sum
 
 -- a seat: its counts, and one part of the ledger, whose amount is what the counts add up to
 pub record IsSeat (w : Wiring) (counts : List ℕ) (parts amount : ℕ) : Type 0 where
-  pub a_count_each : HasCountsOf (items w) counts
+  pub a_count_each : HasCountsOf (slots w) counts
   pub one_part : parts ≡ 1
   pub amount_is : amount ≡ sum counts
 
 -- the tallies: they add up to the total of the ledger, which is that of all its parts
 pub record IsLedgered (w : Wiring) (tallies : List ℕ) (total : ℕ) : Type 0 where
-  pub a_count_each : HasCountsOf (items w) tallies
+  pub a_count_each : HasCountsOf (slots w) tallies
   pub total_is : total ≡ sum tallies
 
 -- whenever the lock is taken, the book is of this wiring and has room for this many rows; its rows are a legal history whose
@@ -90,10 +101,21 @@ CountsTold old new i Done = new ≡ raised old i ToldKind true
 CountsTold old new i (NotYet same) = new ≡ old
 CountsTold old new i (BookNotAsked same) = new ≡ old
 
--- a lane that waits: a row says that its wait is over, or there is no row
-abbrev pub CountsOver : List ℕ → List ℕ → ℕ → Bool → Type 0
-CountsOver old new b true = new ≡ raised old b OverKind true
-CountsOver old new b false = new ≡ old
+-- a caller who asked about a whole lane: a row says whether it waits
+abbrev pub CountsAskLane : List ℕ → List ℕ → ℕ → LaneAsk → Type 0
+CountsAskLane old new q LaneIdle = new ≡ raised_asked old q false
+CountsAskLane old new q (LaneWaiting asked) = new ≡ raised_asked old q true
+
+-- a caller who waits for a whole lane: a row says that its wait is over, or there is no row
+abbrev pub CountsToldLane : List ℕ → List ℕ → ℕ → LaneTold → Type 0
+CountsToldLane old new q LaneDone = new ≡ raised_told old q
+CountsToldLane old new q (LaneNotYet same) = new ≡ old
+CountsToldLane old new q (LaneNotAsked same) = new ≡ old
+
+-- a lane that waits, by a wait of this kind: a row says that its wait is over, or there is no row
+abbrev pub CountsOver : List ℕ → List ℕ → Bool → ℕ → Bool → Type 0
+CountsOver old new whole b true = new ≡ raised old b (over_kind whole) true
+CountsOver old new whole b false = new ≡ old
 
 -- ---- two events under one hold of the lock
 
@@ -128,18 +150,20 @@ RefusesAskAndCancel b i NotAsked = ⊥
 abbrev pub IsOnLane : Wiring → ℕ → ℕ → Type 0
 IsOnLane w q i = (i < items w) × (lane_of w i ≡ q)
 
--- lane q waits for item `target`
-abbrev pub WaitsFor : BookView → ℕ → ℕ → Type 0
-WaitsFor b q target = (f : WaitingOf) × IsWaiting b q f × (f.target ≡ target)
+-- lane q waits for item `target`, or for the whole lane of `target`
+abbrev pub WaitsFor : BookView → ℕ → Bool → ℕ → Type 0
+WaitsFor b q whole target = (f : WaitingOf) × IsWaitingBy b q whole f × (f.target ≡ target)
 
--- lane q doesn't wait for item `target`
-abbrev pub IsWrongToGoOn : BookView → ℕ → ℕ → Type 0
-IsWrongToGoOn b q target = ¬ WaitsFor b q target
+-- lane q doesn't wait so
+abbrev pub IsWrongToGoOn : BookView → ℕ → Bool → ℕ → Type 0
+IsWrongToGoOn b q whole target = ¬ WaitsFor b q whole target
 
--- whether the wait of lane q for item `target` is over: a row says that it is; or nothing is changed, because the wait goes on
-abbrev pub AnswersOverOf : BookView → BookView → ℕ → ℕ → Bool → Type 0
-AnswersOverOf old new q target true = AppendsOne old new (Over q target) true
-AnswersOverOf old new q target false = (f : WaitingOf) × IsWaiting old q f × (f.target ≡ target) × HasUnfinishedBelow (state old) target f.mark × (new ≡ old)
+-- whether the wait of lane q for item `target`, or for the whole lane of `target`, is over: a row says that it is; or nothing is
+-- changed, because the wait goes on
+abbrev pub AnswersOverOf : BookView → BookView → ℕ → Bool → ℕ → Bool → Type 0
+AnswersOverOf old new q whole target true = AppendsOne old new (over_event whole q target) true
+AnswersOverOf old new q whole target false = (f : WaitingOf) × IsWaitingBy old q whole f × (f.target ≡ target)
+    × IsHeldBack old.wiring (state old) whole target f.mark × (new ≡ old)
 
 -- lane q runs an entry of item i
 abbrev pub RunsItem : BookView → ℕ → ℕ → Type 0

@@ -1,14 +1,13 @@
 //! What is handed back when a runtime is closed: its history, and the sums of all that its callers counted.
 //!
-//! Where the sums agree with the tallies of the history, all callers together counted, for each item, kind and answer, as many
-//! rows as were written. Starts aren't counted. Closing takes time in the number of all counts, which are 14 for each seat and item, and
-//! no memory.
+//! Where the sums agree with the tallies of the history, all callers together counted, for each item or lane, kind and answer, as
+//! many rows as were written. Starts aren't counted. Closing takes time in the number of all counts, which are 22 for each seat and
+//! slot (there are as many slots as items or lanes, whichever are more), and no memory.
 
 ghost use Rattle.std.specs.Prelude.{◌≡◌, ℕ, ◌+◌, ◌<◌, ◌≤◌, ◌*◌, sum, replicate, vec_len};
 ghost use Rattle.std.specs.List.{sum_by};
-ghost use Rattle.wq_core.specs.Wiring.{items};
-ghost use Rattle.wq_counts.specs.Counting.{HasCountsOf, counted_rows};
-ghost use Rattle.wq_held.specs.Locked.{Closes};
+ghost use Rattle.wq_counts.specs.Counting.{counts_each, HasCountsOf, counted_rows};
+ghost use Rattle.wq_held.specs.Locked.{slots, Closes};
 ghost use Rattle.wq_held.specs.Closing.{SumsSeats, IsClosed};
 
 use crate::held::Held;
@@ -41,12 +40,12 @@ fn gather<N: Naming, A: Allocator>(
     rest: &mut Share<N>,
     mut seats: Vec<Seat<N, A>, A>,
 )
-    requires empty { sums.old ≡ replicate (14 * items N.wiring) 0 }
+    requires empty { sums.old ≡ replicate (counts_each * slots N.wiring) 0 }
     requires few { ledger.old.total < 4294967296 }
     requires parts { rest.old.parts + vec_len seats ≡ N.parts }
     requires amount { rest.old.amount ≡ 0 }
     ensures sums { SumsSeats seats.items sums.new }
-    ensures length { HasCountsOf (items N.wiring) sums.new }
+    ensures length { HasCountsOf (slots N.wiring) sums.new }
     ensures total { sum sums.new ≡ ledger.old.total }
     ensures ledger { ledger.new.total ≡ ledger.old.total }
 {

@@ -51,17 +51,17 @@ pub enum CallError {
     /// The runtime is closed: nothing is queued any more (61).
     #[error("the runtime is closed")]
     Closed,
-    /// The running item declares no flush of the item (62).
+    /// The running item declares no such flush: of the item, or of its whole workqueue (62).
     #[error("the item declares no such flush")]
     Undeclared,
-    /// The running item has made as many waits as it declares flushes (63).
+    /// The running item has made as many waits as it declares flushes, of both kinds (63).
     #[error("the item has made all its waits")]
     TooManyWaits,
     /// There is no such workqueue, the item belongs to another, or the workqueue can't make this step (64).
     #[error("the workqueue can't do this")]
     WrongLane,
-    /// No ask about the item is waiting (65). Each call hands in only the ask that it made itself.
-    #[error("no caller waits for the item")]
+    /// No ask about the item, or about the workqueue, is waiting (65). Each call hands in only the ask that it made itself.
+    #[error("no caller waits for the item, or for the workqueue")]
     NotAsked,
     /// No such item (66).
     #[error("no such item")]

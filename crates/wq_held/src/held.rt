@@ -1,21 +1,23 @@
 //! What the lock protects: the book, its tallies, and the parts of the ledger that no seat holds.
 //!
-//! Each event of a book is one call here, with the same name. The call makes the event. Where the event writes a row that is
+//! Each event of a book is one call here, with the same name. (`wait` and `over` take the kind of the wait: `wait` makes what the
+//! book's `wait` or `wait_all` makes, and `over` goes on only where the wait is of this kind.) The call makes the event. Where the event writes a row that is
 //! counted, the call counts it in the tallies and in the caller's seat. Whoever calls holds the lock. A call takes the time of
-//! the book's own call, and no memory. Only `new` and `seat` take more: time and memory in the number of items, 224 and 112 bytes
-//! for each.
+//! the book's own call, and no memory. Only `new` and `seat` take more: time and memory in the number of items or lanes, whichever
+//! are more, 352 and 176 bytes for each.
 
 ghost use Rattle.std.specs.Prelude.{◌≡◌, ℕ, ◌+◌, ◌<◌, ◌≤◌, ◌↔◌, [], sum, replicate, ◌*◌, true, false, IsTrue, IfOk, IfErr, OnOk, OnErr, IfSome, IfNone};
 ghost use Rattle.wq_core.specs.Wiring.{items, lane_of};
 ghost use Rattle.wq_core.specs.State.{HasUnfinished};
 ghost use Rattle.wq_core.specs.Deadlock.{IsSafe};
-ghost use Rattle.wq_rows.specs.declared.event.Event.TheVariants.{Queue, Cancel, Start, Wait, Over, Finish, Ask as AskEvent, Told as ToldEvent};
-ghost use Rattle.wq_counts.specs.declared.kind.Kind.TheVariants.{Queue as QueueKind, Cancel as CancelKind, Wait as WaitKind, Over as OverKind, Finish as FinishKind};
-ghost use Rattle.wq_counts.specs.Counting.{raised, counted_rows};
-ghost use Rattle.wq_history.specs.Book.{BookView, state, free, AppendsOne, IsWaiting, IsWrongToStart, IsNotAwake, RefusesQueue, RefusesItem, RefusesLane, RefusesWait};
-ghost use Rattle.wq_history.specs.Answers.{AnswersAsk, AnswersTold, AnswersStart};
+ghost use Rattle.wq_rows.specs.declared.event.Event.TheVariants.{Queue, Cancel, Start, Finish, Ask as AskEvent, Told as ToldEvent};
+ghost use Rattle.wq_counts.specs.declared.kind.Kind.TheVariants.{Queue as QueueKind, Cancel as CancelKind, Finish as FinishKind};
+ghost use Rattle.wq_counts.specs.Counting.{counts_each, wait_kind, raised, counted_rows};
+ghost use Rattle.wq_history.specs.Events.{wait_event};
+ghost use Rattle.wq_history.specs.Book.{BookView, state, free, AppendsOne, IsWrongToStart, IsNotAwake, RefusesQueue, RefusesItem, RefusesAskLane, RefusesLane, RefusesWait};
+ghost use Rattle.wq_history.specs.Answers.{AnswersAsk, AnswersTold, AnswersAskLane, AnswersToldLane, AnswersStart};
 ghost use Rattle.wq_held.specs.Errors.{RefusedAs};
-ghost use Rattle.wq_held.specs.Locked.{max_runtime_lanes, RefusesAskAndCancel, IsOnLane, HeldView, Holds, CountsAsk, CountsTold, CountsOver, AsksAndCancels, CountsAskAndCancel, RunsItem, WaitsFor, AnswersOverOf, IsWrongToGoOn, IsWrongToFinish, RefusesClose, Closes};
+ghost use Rattle.wq_held.specs.Locked.{max_runtime_lanes, slots, RefusesAskAndCancel, IsOnLane, HeldView, Holds, CountsAsk, CountsTold, CountsAskLane, CountsToldLane, CountsOver, AsksAndCancels, CountsAskAndCancel, RunsItem, WaitsFor, AnswersOverOf, IsWrongToGoOn, IsWrongToFinish, RefusesClose, Closes};
 ghost use Rattle.wq_held.specs.declared.fault.CallError.TheVariants.{WrongLane, HistoryFull, NoItem};
 ghost use Rattle.wq_held.specs.declared.fault.SeatError.TheVariants.{TooManySeats, OutOfMemory as SeatOutOfMemory};
 
@@ -26,10 +28,11 @@ use crate::tallies::Tallies;
 use std::alloc::{AllocError, Allocator};
 use std::marker::Model;
 use std::sync::ledger::{Blank, Share};
-use wq_counts::{Counts, Kind};
+use wq_counts::Counts;
 use wq_groups::LaneId;
-use wq_history::{Ask, Asked, Book, Told};
+use wq_history::{Ask, Asked, Book, LaneAsk, LaneAsked, LaneTold, Told, over_event, wait_event};
 use wq_items::ItemId;
+use wq_rows::Event;
 
 /// The most seats that a runtime makes: 65,535. One part of the ledger is never given out.
 pub const MAX_SEATS: u32 = 65_535;
@@ -54,24 +57,31 @@ impl<N: Naming, A: Allocator> Model for Held<N, A> {
     ghost invariant = { λ h. IsHeld N.wiring N.rows N.parts h.book h.tallies h.sums h.seats h.rest.parts h.rest.amount };
 }
 
+/// How many slots of counts there are for a book: as many as items or lanes, whichever are more.
+fn slots_of<A: Allocator>(book: &Book<A>) -> usize
+    ensures { result ≡ slots book.now.wiring }
+{
+    book.items().max(book.lanes())
+}
+
 /// The counts for the tallies and those for the sums, all 0. The only error is out of memory, which can't occur where there is
-/// no item.
+/// no slot.
 fn two_counts<A: Allocator + Copy>(
     alloc: A,
-    items: usize,
+    slots: usize,
 ) -> Result<(Counts<A>, Counts<A>), AllocError>
-    ensures counts { IfOk result (λ both. (both.0 ≡ replicate (14 * items) 0) × (both.1 ≡ replicate (14 * items) 0)) }
-    ensures memory { OnErr result (0 < items) }
+    ensures counts { IfOk result (λ both. (both.0 ≡ replicate (counts_each * slots) 0) × (both.1 ≡ replicate (counts_each * slots) 0)) }
+    ensures memory { OnErr result (0 < slots) }
 {
-    let tallies = Counts::new(alloc, items)?;
-    let sums = Counts::new(alloc, items)?;
+    let tallies = Counts::new(alloc, slots)?;
+    let sums = Counts::new(alloc, slots)?;
     Ok((tallies, sums))
 }
 
 impl<N: Naming, A: Allocator + Copy> Held<N, A> {
     /// Starts with a book in which nothing has happened, of the runtime that this blank ledger belongs to. No seat is made.
     ///
-    /// The only error is out of memory (20), which can't occur where there is no item.
+    /// The only error is out of memory (20), which can't occur where there are no items and no lanes.
     pub fn new(alloc: A, blank: Blank, book: Book<A>) -> Result<Self, AllocError>
         requires name { blank.name ≡ N.name }
         requires parts { blank.parts ≡ N.parts }
@@ -82,9 +92,9 @@ impl<N: Naming, A: Allocator + Copy> Held<N, A> {
         requires few_lanes { N.wiring.lanes ≤ max_runtime_lanes }
         requires safe { IsSafe N.wiring }
         ensures held { IfOk result (λ h. h ≡ record { book = book; seats = 0 }) }
-        ensures memory { OnErr result (0 < items N.wiring) }
+        ensures memory { OnErr result (0 < slots N.wiring) }
     {
-        let (counts, sums) = two_counts(alloc, book.items())?;
+        let (counts, sums) = two_counts(alloc, slots_of(&book))?;
         let (ledger, rest) = blank.open::<N>();
         Ok(Held {
             book,
@@ -98,18 +108,18 @@ impl<N: Naming, A: Allocator + Copy> Held<N, A> {
     /// Makes a seat, with no counts.
     ///
     /// The error is `TooManySeats` (70) exactly where 65,535 were made. Otherwise it is out of memory (20), which can't occur
-    /// where there is no item. After an error nothing is changed, and no seat counts as made.
+    /// where there are no items and no lanes. After an error nothing is changed, and no seat counts as made.
     pub fn seat(&mut self, alloc: A) -> Result<Seat<N, A>, SeatError>
-        ensures seat { IfOk result (λ s. s ≡ replicate (14 * items N.wiring) 0) }
+        ensures seat { IfOk result (λ s. s ≡ replicate (counts_each * slots N.wiring) 0) }
         ensures made { OnOk result ((self.old.seats < 65535) × (self.new ≡ record self.old { seats = self.old.seats + 1 })) }
         ensures refused { IfErr result (λ e. self.new ≡ self.old) }
         ensures limit { result ≡ Err TooManySeats → self.old.seats ≡ 65535 }
-        ensures memory { result ≡ Err SeatOutOfMemory → (self.old.seats < 65535) × (0 < items N.wiring) }
+        ensures memory { result ≡ Err SeatOutOfMemory → (self.old.seats < 65535) × (0 < slots N.wiring) }
     {
         if self.seats >= MAX_SEATS {
             return Err(SeatError::TooManySeats);
         }
-        let counts = Counts::new(alloc, self.book.items())?;
+        let counts = Counts::new(alloc, slots_of(&self.book))?;
         let share = self.rest.split_off(1, 0);
         self.seats += 1;
         Ok(Seat { counts, share })
@@ -183,7 +193,7 @@ impl<N: Naming, A: Allocator> Held<N, A> {
         self.book.legal();
         match self.book.queue(item) {
             Ok(accepted) => {
-                self.tallies.count(seat, item, Kind::Queue, accepted);
+                self.tallies.count(seat, &Event::Queue(item), accepted);
                 Ok(accepted)
             }
             Err(e) => Err(CallError::of(e)),
@@ -203,7 +213,7 @@ impl<N: Naming, A: Allocator> Held<N, A> {
         self.book.legal();
         match self.book.cancel(item) {
             Ok(taken) => {
-                self.tallies.count(seat, item, Kind::Cancel, taken);
+                self.tallies.count(seat, &Event::Cancel(item), taken);
                 Ok(taken)
             }
             Err(e) => Err(CallError::of(e)),
@@ -224,11 +234,11 @@ impl<N: Naming, A: Allocator> Held<N, A> {
         self.book.legal();
         match self.book.ask(item) {
             Ok(Ask::Idle) => {
-                self.tallies.count(seat, item, Kind::Ask, false);
+                self.tallies.count(seat, &Event::Ask(item), false);
                 Ok(Ask::Idle)
             }
             Ok(Ask::Waiting(asked)) => {
-                self.tallies.count(seat, item, Kind::Ask, true);
+                self.tallies.count(seat, &Event::Ask(item), true);
                 Ok(Ask::Waiting(asked))
             }
             Err(e) => Err(CallError::of(e)),
@@ -246,11 +256,56 @@ impl<N: Naming, A: Allocator> Held<N, A> {
         let item = asked.item();
         match self.book.told(asked) {
             Told::Done => {
-                self.tallies.count(seat, item, Kind::Told, true);
+                self.tallies.count(seat, &Event::Told(item), true);
                 Told::Done
             }
             Told::NotYet(asked) => Told::NotYet(asked),
             Told::NotAsked(asked) => Told::NotAsked(asked),
+        }
+    }
+
+    /// Asks whether a workqueue has an unfinished entry. Where it has, the caller waits for the whole workqueue.
+    ///
+    /// The errors are those of the book: `WrongLane` (64), `HistoryFull` (60). After an error nothing is changed.
+    #[tactic(auto, using(crate::proofs::Refused::of_call_ask_lane))]
+    pub fn ask_lane(&mut self, seat: &mut Seat<N, A>, q: LaneId) -> Result<LaneAsk, CallError>
+        ensures row { IfOk result (λ answer. AnswersAskLane self.old.book self.new.book q answer) }
+        ensures left { OnOk result (free self.old.book ≤ free self.new.book + 2) }
+        ensures known { OnOk result (q < N.wiring.lanes) }
+        ensures counted { IfOk result (λ answer. CountsAskLane seat.old seat.new q answer) }
+        ensures seats { self.new.seats ≡ self.old.seats }
+        ensures refused { IfErr result (λ e. RefusedAs (RefusesAskLane self.old.book q) e × (self.new ≡ self.old) × (seat.new ≡ seat.old)) }
+    {
+        self.book.legal();
+        match self.book.ask_lane(q) {
+            Ok(LaneAsk::Idle) => {
+                self.tallies.count(seat, &Event::AskLane(q), false);
+                Ok(LaneAsk::Idle)
+            }
+            Ok(LaneAsk::Waiting(asked)) => {
+                self.tallies.count(seat, &Event::AskLane(q), true);
+                Ok(LaneAsk::Waiting(asked))
+            }
+            Err(e) => Err(CallError::of(e)),
+        }
+    }
+
+    /// Tells a caller who waits for a whole workqueue whether its wait is over. Where it isn't, or no ask about its workqueue is
+    /// waiting (65), nothing is changed, and the ask is given back.
+    pub fn told_lane(&mut self, seat: &mut Seat<N, A>, asked: LaneAsked) -> LaneTold
+        ensures row { AnswersToldLane self.old.book self.new.book asked result }
+        ensures counted { CountsToldLane seat.old seat.new asked.lane result }
+        ensures seats { self.new.seats ≡ self.old.seats }
+    {
+        self.book.legal();
+        let q = asked.lane();
+        match self.book.told_lane(asked) {
+            LaneTold::Done => {
+                self.tallies.count(seat, &Event::ToldLane(q), true);
+                LaneTold::Done
+            }
+            LaneTold::NotYet(asked) => LaneTold::NotYet(asked),
+            LaneTold::NotAsked(asked) => LaneTold::NotAsked(asked),
         }
     }
 
@@ -305,7 +360,8 @@ impl<N: Naming, A: Allocator> Held<N, A> {
         Ok(started)
     }
 
-    /// Makes what a workqueue runs begin to wait for an item: true where that item has an unfinished entry.
+    /// Makes what a workqueue runs begin to wait for an item, or for the whole workqueue of the item: true where that has an
+    /// unfinished entry.
     ///
     /// The errors are those of the book: `WrongLane` (64), `Undeclared` (62), `TooManyWaits` (63). After an error nothing is
     /// changed.
@@ -314,51 +370,54 @@ impl<N: Naming, A: Allocator> Held<N, A> {
         &mut self,
         seat: &mut Seat<N, A>,
         q: LaneId,
+        whole: bool,
         target: ItemId,
     ) -> Result<bool, CallError>
-        ensures row { IfOk result (λ unfinished. AppendsOne self.old.book self.new.book (Wait q target) unfinished) }
+        ensures row { IfOk result (λ unfinished. AppendsOne self.old.book self.new.book (wait_event whole q target) unfinished) }
         ensures known { OnOk result ((q < N.wiring.lanes) × (target < items N.wiring)) }
-        ensures counted { IfOk result (λ unfinished. seat.new ≡ raised seat.old target WaitKind unfinished) }
+        ensures counted { IfOk result (λ unfinished. seat.new ≡ raised seat.old target (wait_kind whole) unfinished) }
         ensures seats { self.new.seats ≡ self.old.seats }
-        ensures refused { IfErr result (λ e. RefusedAs (RefusesWait self.old.book q target) e × (self.new ≡ self.old) × (seat.new ≡ seat.old)) }
+        ensures refused { IfErr result (λ e. RefusedAs (RefusesWait self.old.book q whole target) e × (self.new ≡ self.old) × (seat.new ≡ seat.old)) }
     {
         self.book.legal();
-        match self.book.wait(q, target) {
+        match self.book.wait_by(q, whole, target) {
             Ok(unfinished) => {
-                self.tallies.count(seat, target, Kind::Wait, unfinished);
+                self.tallies
+                    .count(seat, &wait_event(whole, q, target), unfinished);
                 Ok(unfinished)
             }
             Err(e) => Err(CallError::of(e)),
         }
     }
 
-    /// Whether a lane waits for an item.
-    fn waits_for(&self, q: LaneId, target: ItemId) -> bool
-        ensures { IsTrue result ↔ WaitsFor self.now.book q target }
+    /// Whether a lane waits for an item, or for the whole lane of the item.
+    fn waits_for(&self, q: LaneId, whole: bool, target: ItemId) -> bool
+        ensures { IsTrue result ↔ WaitsFor self.now.book q whole target }
     {
-        match self.book.waiting(q) {
+        match self.book.waiting_by(q, whole) {
             Some(waits) => waits == target,
             None => false,
         }
     }
 
-    /// Lets what a workqueue runs go on, where it waits for this item and that wait is over. It gives false where the wait isn't
-    /// over; then nothing is changed.
+    /// Lets what a workqueue runs go on, where it waits for this item, or for the whole workqueue of this item, and that wait is
+    /// over. It gives false where the wait isn't over; then nothing is changed.
     ///
-    /// The only error is `WrongLane` (64), exactly where the workqueue doesn't wait for this item. After an error nothing is
-    /// changed.
+    /// The only error is `WrongLane` (64), exactly where the workqueue doesn't wait so: it waits for another item, or for this item
+    /// by the other kind of wait, or not at all. After an error nothing is changed.
     pub fn over(
         &mut self,
         seat: &mut Seat<N, A>,
         q: LaneId,
+        whole: bool,
         target: ItemId,
     ) -> Result<bool, CallError>
-        ensures row { IfOk result (λ answer. AnswersOverOf self.old.book self.new.book q target answer) }
-        ensures counted { IfOk result (λ answer. CountsOver seat.old seat.new target answer) }
+        ensures row { IfOk result (λ answer. AnswersOverOf self.old.book self.new.book q whole target answer) }
+        ensures counted { IfOk result (λ answer. CountsOver seat.old seat.new whole target answer) }
         ensures seats { self.new.seats ≡ self.old.seats }
-        ensures refused { IfErr result (λ e. (e ≡ WrongLane) × IsWrongToGoOn self.old.book q target × (self.new ≡ self.old) × (seat.new ≡ seat.old)) }
+        ensures refused { IfErr result (λ e. (e ≡ WrongLane) × IsWrongToGoOn self.old.book q whole target × (self.new ≡ self.old) × (seat.new ≡ seat.old)) }
     {
-        if !self.waits_for(q, target) {
+        if !self.waits_for(q, whole, target) {
             return Err(CallError::WrongLane);
         }
         self.book.legal();
@@ -366,7 +425,8 @@ impl<N: Naming, A: Allocator> Held<N, A> {
             unreachable!()
         };
         if is_over {
-            self.tallies.count(seat, target, Kind::Over, true);
+            self.tallies
+                .count(seat, &over_event(whole, q, target), true);
         }
         Ok(is_over)
     }
@@ -405,7 +465,7 @@ impl<N: Naming, A: Allocator> Held<N, A> {
         self.book.legal();
         match self.book.finish(q) {
             Ok(()) => {
-                self.tallies.count(seat, item, Kind::Finish, true);
+                self.tallies.count(seat, &Event::Finish(q, item), true);
                 Ok(())
             }
             Err(e) => Err(CallError::of(e)),

@@ -4,9 +4,8 @@
 //! all seats count together is known when they come back. Every call takes constant time.
 
 ghost use Rattle.std.specs.Prelude.{◌≡◌, ℕ, ◌+◌, ◌*◌, ◌<◌, ◌≤◌, ◌↔◌, sum, replicate, length, true, IsTrue, IfOk, OnErr};
-ghost use Rattle.wq_core.specs.Wiring.{items};
-ghost use Rattle.wq_counts.specs.Counting.{HasCountsOf, made};
-ghost use Rattle.wq_held.specs.Locked.{seat_rows};
+ghost use Rattle.wq_counts.specs.Counting.{HasCountsOf, made, asked_lane, told_lane};
+ghost use Rattle.wq_held.specs.Locked.{slots, seat_rows};
 ghost use Rattle.wq_counts.specs.declared.kind.Kind.TheVariants.{Queue, Cancel, Finish};
 
 use crate::naming::Naming;
@@ -14,6 +13,7 @@ use std::alloc::Allocator;
 use std::marker::Model;
 use std::sync::ledger::Share;
 use wq_counts::{Counts, Kind};
+use wq_groups::LaneId;
 use wq_items::ItemId;
 
 /// How many rows a seat counts before calls are refused: 33,554,432.
@@ -47,6 +47,20 @@ impl<N: Naming, A: Allocator> Seat<N, A> {
         self.counts.made(item, kind, yes)
     }
 
+    /// How many asks about a whole workqueue, with this answer, its holder's calls made; 0 for a workqueue that doesn't exist.
+    pub fn asked_lane(&self, q: LaneId, yes: bool) -> u64
+        ensures { result ≡ asked_lane self.now q yes }
+    {
+        self.counts.asked_lane(q, yes)
+    }
+
+    /// How many times its holder was told that its wait for a whole workqueue is over; 0 for a workqueue that doesn't exist.
+    pub fn told_lane(&self, q: LaneId) -> u64
+        ensures { result ≡ told_lane self.now q }
+    {
+        self.counts.told_lane(q)
+    }
+
     /// How many rows its holder's calls made in all.
     pub fn total(&self) -> u64
         ensures { result ≡ sum self.now }
@@ -75,9 +89,9 @@ impl<N: Naming, A: Allocator> Seat<N, A> {
         self.counts.made(item, Kind::Finish, true)
     }
 
-    /// States what holds of every seat: it has 14 counts for each item.
+    /// States what holds of every seat: it has 22 counts for each slot, of an item and of a lane.
     pub fn holds(&self)
-        ensures { HasCountsOf (items N.wiring) self.now }
+        ensures { HasCountsOf (slots N.wiring) self.now }
     {
         self.counts.total();
     }

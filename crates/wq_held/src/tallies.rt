@@ -3,17 +3,17 @@
 //! Each counted row is counted twice: here, for the history, and in the seat of the caller whose call wrote it. The ledger
 //! shows that both grow by one together. A count takes constant time and no memory.
 
-ghost use Rattle.std.specs.Prelude.{◌≡◌, ℕ, ◌+◌, ◌*◌, ◌<◌, ◌≤◌, sum, replicate, length, IfOk, OnErr};
-ghost use Rattle.wq_core.specs.Wiring.{items};
-ghost use Rattle.wq_counts.specs.Counting.{HasCountsOf, raised};
+ghost use Rattle.std.specs.Prelude.{◌≡◌, ◌+◌, ◌<◌, ◌≤◌, sum, true};
+ghost use Rattle.wq_counts.specs.Counting.{is_counted, slot_in, noted_as};
+ghost use Rattle.wq_held.specs.Locked.{slots};
 
 use crate::naming::Naming;
 use crate::seat::Seat;
 use std::alloc::Allocator;
 use std::marker::Model;
 use std::sync::ledger;
-use wq_counts::{Counts, Kind};
-use wq_items::ItemId;
+use wq_counts::Counts;
+use wq_rows::Event;
 
 /// The tallies. Contracts see the counts.
 #[derive(Drop)]
@@ -42,18 +42,19 @@ impl<N: Naming, A: Allocator> Tallies<N, A> {
         self.ledger.audit(&mut seat.share);
     }
 
-    /// Counts a row of an item and a kind, with this answer: here, and in the seat of the caller who made the row.
-    pub fn count(&mut self, seat: &mut Seat<N, A>, item: ItemId, kind: Kind, yes: bool)
-        requires item { item < items N.wiring }
+    /// Counts a row of an event that is counted, with this answer: here, and in the seat of the caller who made the row.
+    pub fn count(&mut self, seat: &mut Seat<N, A>, event: &Event, yes: bool)
+        requires counted { is_counted event.now ≡ true }
+        requires slot { slot_in event.now < slots N.wiring }
         requires few { sum self.old < 4294967295 }
-        ensures tallies { self.new ≡ raised self.old item kind yes }
-        ensures seat { seat.new ≡ raised seat.old item kind yes }
+        ensures tallies { self.new ≡ noted_as self.old event.now yes }
+        ensures seat { seat.new ≡ noted_as seat.old event.now yes }
         ensures total { sum self.new ≡ sum self.old + 1 }
         ensures seat_total { sum seat.new ≡ sum seat.old + 1 }
     {
         self.ledger.audit(&mut seat.share);
-        self.counts.raise(item, kind, yes);
-        seat.counts.raise(item, kind, yes);
+        self.counts.note_as(event, yes);
+        seat.counts.note_as(event, yes);
         self.ledger.add(&mut seat.share, 1);
     }
 }

@@ -1,20 +1,21 @@
 -- What a book refuses, as causes that a caller of a runtime can know; and why making a runtime can be refused.
 use Rattle.std.proofs.Common.{◌≡◌, ℕ, ◌<◌, ◌≤◌, ◌⊎◌, inl, inr, Bool, true, false, List, refl, sym, subst, ◌∙◌, arith}
 use Rattle.std.specs.Prelude.{Some, None, IsTrue, ◌↔◌}
+use Rattle.std.proofs.lemmas.Bool.{cases_lt}
 use Rattle.wq_core.specs.Wiring.{Wiring, IsWiring, items, lane_of}
 use Rattle.wq_core.specs.Deadlock.{IsSafe}
 use Rattle.wq_rows.specs.declared.event.Event.{Event}
 use Rattle.wq_rows.specs.Stored.{max_rows}
 use Rattle.wq_history.specs.declared.fault.BookError.{BookError}
 use Rattle.wq_history.specs.declared.fault.BookError.TheVariants.{HistoryFull, Closed, Undeclared, TooManyWaits, WrongLane, NoItem, TooManyRows, OutOfMemory}
-use Rattle.wq_history.specs.Book.{BookView, IsBook, RefusesNew, RefusesQueue, RefusesItem, RefusesLane, RefusesWait}
+use Rattle.wq_history.specs.Book.{BookView, IsBook, RefusesNew, RefusesQueue, RefusesItem, RefusesAskLane, RefusesLane, RefusesWait}
 use Rattle.wq_history.specs.Answers.{AnswersStart}
 use Rattle.wq_held.specs.declared.fault.CallError.{CallError}
 use Rattle.wq_held.specs.declared.fault.CallError.TheVariants.{HistoryFull as CallFull, Closed as CallClosed, Undeclared as CallUndeclared, TooManyWaits as CallTooManyWaits, WrongLane as CallWrongLane, NotAsked as CallNotAsked, NoItem as CallNoItem}
 use Rattle.wq_under_lock.specs.declared.fault.NewError.TheVariants.{NotSafe}
 use Rattle.wq_held.specs.Errors.{call_error, RefusedAs}
-use Rattle.wq_held.specs.Locked.{max_runtime_lanes, IsOnLane, HasRoom, RefusesAskAndCancel}
-use Rattle.wq_under_lock.specs.Refusals.{RefusesRuntime, RefusesQueueWork, RefusesCancelWork, RefusesWaitFor}
+use Rattle.wq_held.specs.Locked.{max_runtime_lanes, slots, IsOnLane, HasRoom, RefusesAskAndCancel}
+use Rattle.wq_under_lock.specs.Refusals.{RefusesRuntime, RefusesQueueWork, RefusesCancelWork, RefusesFlushLane, RefusesWaitFor}
 
 -- what holds for a refusal holds for the same refusal
 moved : (P : CallError → Type 0) (x e : CallError) → Some x ≡ Some e → P x → P e
@@ -107,22 +108,40 @@ start_wrong wrong e why = wrong_cases wrong e why.0 why.1 why.2
 pub start_none : (w : Wiring) (old new : BookView) (q : ℕ) → old.wiring ≡ w → AnswersStart old new q None → q < w.lanes
 start_none w old new q of_wiring answer = subst (λ (x : Wiring). q < x.lanes) of_wiring answer.0.0
 
+-- ---- an ask about a lane
+
+flush_lane_cases : (w : Wiring) (b : BookView) (q : ℕ) (e : CallError) → b.wiring ≡ w
+    → (x : BookError) → RefusesAskLane b q x → call_error x ≡ Some e → RefusesFlushLane w q e
+flush_lane_cases w b q e of_wiring HistoryFull why is =
+    moved (λ y. RefusesFlushLane w q y) CallFull e is (subst (λ (x : Wiring). q < x.lanes) of_wiring why.0)
+flush_lane_cases w b q e of_wiring Closed why is = absurd why
+flush_lane_cases w b q e of_wiring Undeclared why is = absurd why
+flush_lane_cases w b q e of_wiring TooManyWaits why is = absurd why
+flush_lane_cases w b q e of_wiring WrongLane why is =
+    moved (λ y. RefusesFlushLane w q y) CallWrongLane e is (subst (λ (x : Wiring). x.lanes ≤ q) of_wiring why)
+flush_lane_cases w b q e of_wiring NoItem why is = absurd why
+flush_lane_cases w b q e of_wiring TooManyRows why is = absurd why
+flush_lane_cases w b q e of_wiring OutOfMemory why is = absurd why
+
+pub flush_lane_refused : (w : Wiring) (b : BookView) (q : ℕ) (e : CallError) → b.wiring ≡ w → RefusedAs (RefusesAskLane b q) e → RefusesFlushLane w q e
+flush_lane_refused w b q e of_wiring why = flush_lane_cases w b q e of_wiring why.0 why.1 why.2
+
 -- ---- wait
 
-wait_cases : (P : CallError → Type 0) (b : BookView) (q target : ℕ) (e : CallError) → P CallWrongLane → P CallUndeclared → P CallTooManyWaits
-    → (x : BookError) → RefusesWait b q target x → call_error x ≡ Some e → P e
-wait_cases P b q target e wrong undeclared many HistoryFull why is = absurd why
-wait_cases P b q target e wrong undeclared many Closed why is = absurd why
-wait_cases P b q target e wrong undeclared many Undeclared why is = moved P CallUndeclared e is undeclared
-wait_cases P b q target e wrong undeclared many TooManyWaits why is = moved P CallTooManyWaits e is many
-wait_cases P b q target e wrong undeclared many WrongLane why is = moved P CallWrongLane e is wrong
-wait_cases P b q target e wrong undeclared many NoItem why is = absurd why
-wait_cases P b q target e wrong undeclared many TooManyRows why is = absurd why
-wait_cases P b q target e wrong undeclared many OutOfMemory why is = absurd why
+wait_cases : (P : CallError → Type 0) (b : BookView) (q : ℕ) (whole : Bool) (target : ℕ) (e : CallError) → P CallWrongLane → P CallUndeclared → P CallTooManyWaits
+    → (x : BookError) → RefusesWait b q whole target x → call_error x ≡ Some e → P e
+wait_cases P b q whole target e wrong undeclared many HistoryFull why is = absurd why
+wait_cases P b q whole target e wrong undeclared many Closed why is = absurd why
+wait_cases P b q whole target e wrong undeclared many Undeclared why is = moved P CallUndeclared e is undeclared
+wait_cases P b q whole target e wrong undeclared many TooManyWaits why is = moved P CallTooManyWaits e is many
+wait_cases P b q whole target e wrong undeclared many WrongLane why is = moved P CallWrongLane e is wrong
+wait_cases P b q whole target e wrong undeclared many NoItem why is = absurd why
+wait_cases P b q whole target e wrong undeclared many TooManyRows why is = absurd why
+wait_cases P b q whole target e wrong undeclared many OutOfMemory why is = absurd why
 
-pub wait_refused : (w : Wiring) (b : BookView) (counts : List ℕ) (q target : ℕ) (e : CallError) → q < w.lanes → HasRoom counts → RefusedAs (RefusesWait b q target) e
+pub wait_refused : (w : Wiring) (b : BookView) (counts : List ℕ) (q : ℕ) (whole : Bool) (target : ℕ) (e : CallError) → q < w.lanes → HasRoom counts → RefusedAs (RefusesWait b q whole target) e
     → RefusesWaitFor w counts q e
-wait_refused w b counts q target e lane room why = wait_cases (λ y. RefusesWaitFor w counts q y) b q target e (inr room) (lane, room) (lane, room) why.0 why.1 why.2
+wait_refused w b counts q whole target e lane room why = wait_cases (λ y. RefusesWaitFor w counts q y) b q whole target e (inr room) (lane, room) (lane, room) why.0 why.1 why.2
 
 -- ---- making a runtime
 
@@ -139,9 +158,10 @@ not_safe_refused w v rows safe same few_lanes few_rows means is = (
 pub book_refused : (w : Wiring) (rows : ℕ) (x : BookError) → IsWiring w → rows ≤ max_rows → RefusesNew w rows x → (0 < w.lanes) ⊎ (0 < rows)
 book_refused w rows TooManyRows sound few why = absurd (omega (arith, few, why))
 book_refused w rows OutOfMemory sound few why = by_cause why.1 where
-  by_cause : (0 < rows) ⊎ (0 < items w) → (0 < w.lanes) ⊎ (0 < rows)
+  by_cause : (0 < rows) ⊎ ((0 < items w) ⊎ (0 < w.lanes)) → (0 < w.lanes) ⊎ (0 < rows)
   by_cause (inl some_rows) = inr some_rows
-  by_cause (inr some_items) = let below : lane_of w 0 < w.lanes = lane_exists w 0 sound some_items in inl (omega (arith, below))
+  by_cause (inr (inl some_items)) = let below : lane_of w 0 < w.lanes = lane_exists w 0 sound some_items in inl (omega (arith, below))
+  by_cause (inr (inr some_lanes)) = inl some_lanes
 book_refused w rows HistoryFull sound few why = absurd why
 book_refused w rows Closed sound few why = absurd why
 book_refused w rows Undeclared sound few why = absurd why
@@ -149,5 +169,9 @@ book_refused w rows TooManyWaits sound few why = absurd why
 book_refused w rows WrongLane sound few why = absurd why
 book_refused w rows NoItem sound few why = absurd why
 
-pub some_lanes : (w : Wiring) → IsWiring w → 0 < items w → 0 < w.lanes
-some_lanes w sound some_items = let below : lane_of w 0 < w.lanes = lane_exists w 0 sound some_items in omega (arith, below)
+-- where there are counts to keep, there are lanes
+pub some_lanes : (w : Wiring) → IsWiring w → 0 < slots w → 0 < w.lanes
+some_lanes w sound some_slots = by_cause (cases_lt 0 (items w)) where
+  by_cause : (0 < items w) ⊎ (items w ≤ 0) → 0 < w.lanes
+  by_cause (inl some_items) = let below : lane_of w 0 < w.lanes = lane_exists w 0 sound some_items in omega (arith, below)
+  by_cause (inr no_items) = omega (arith, no_items, some_slots)

@@ -2,13 +2,16 @@
 use Rattle.std.proofs.Common.{◌≡◌, ℕ, Bool, true, false, refl, ap, ◌∙◌}
 use Rattle.std.specs.Prelude.{None, Result, Ok, Err, IfOk, IfErr, OnErr}
 use Rattle.wq_rows.specs.declared.event.Event.{Event}
-use Rattle.wq_rows.specs.declared.event.Event.TheVariants.{Cancel, Ask as AskEvent, Told as ToldEvent}
+use Rattle.wq_rows.specs.declared.event.Event.TheVariants.{Cancel, Ask as AskEvent, Told as ToldEvent, AskLane as AskLaneEvent, ToldLane as ToldLaneEvent}
 use Rattle.wq_history.specs.declared.asking.Ask.{Ask}
 use Rattle.wq_history.specs.declared.asking.Ask.TheVariants.{Idle, Waiting}
 use Rattle.wq_history.specs.declared.asking.Asked.{Asked}
+use Rattle.wq_history.specs.declared.asking.LaneAsk.{LaneAsk}
+use Rattle.wq_history.specs.declared.asking.LaneAsk.TheVariants.{Idle as LaneIdle, Waiting as LaneWaiting}
+use Rattle.wq_history.specs.declared.asking.LaneAsked.{LaneAsked}
 use Rattle.wq_history.specs.Events.{step_of}
 use Rattle.wq_history.specs.Book.{BookView, state, Appends, AppendsOne}
-use Rattle.wq_history.specs.Answers.{AnswersAsk}
+use Rattle.wq_history.specs.Answers.{AnswersAsk, AnswersAskLane}
 use Rattle.wq_history.proofs.Histories.{state_after-none}
 use Rattle.wq_held.specs.declared.fault.CallError.{CallError}
 use Rattle.wq_held.specs.Locked.{HeldView, AsksAndCancels}
@@ -56,6 +59,13 @@ pub wakes-asked : (old new : HeldView) (i : ℕ) (r : Result Ask CallError) → 
 wakes-asked old new i (Ok answer) row refused = same-asked old.book new.book i answer row
 wakes-asked old new i (Err e) row refused = same-unchanged old new refused
 
+-- an ask about a lane
+pub wakes-asked_lane : (old new : HeldView) (q : ℕ) (r : Result LaneAsk CallError) → IfOk r (λ answer. AnswersAskLane old.book new.book q answer) → OnErr r (new ≡ old)
+    → IsSameToSleepers old new
+wakes-asked_lane old new q (Ok LaneIdle) row refused = same-appended old.book new.book (AskLaneEvent q) false row.0 refl row.1
+wakes-asked_lane old new q (Ok (LaneWaiting asked)) row refused = same-appended old.book new.book (AskLaneEvent q) true asked.mark refl row.1
+wakes-asked_lane old new q (Err e) row refused = same-unchanged old new refused
+
 -- an ask, and a cancellation that finds nothing
 both-same : (old between new : BookView) → IsSameBook old between → IsSameBook between new → IsSameBook old new
 both-same old between new first second = (second.0 ∙ first.0, second.1 ∙ first.1)
@@ -72,3 +82,6 @@ wakes-both old new i answer false Nobody rows is =
 -- a caller who is told
 pub same-told : (old new : HeldView) (asked : Asked) → Appends old.book new.book (ToldEvent asked.item) true asked.mark → IsSameToSleepers old new
 same-told old new asked row = same-appended old.book new.book (ToldEvent asked.item) true asked.mark refl row
+
+pub same-told_lane : (old new : HeldView) (asked : LaneAsked) → Appends old.book new.book (ToldLaneEvent asked.lane) true asked.mark → IsSameToSleepers old new
+same-told_lane old new asked row = same-appended old.book new.book (ToldLaneEvent asked.lane) true asked.mark refl row

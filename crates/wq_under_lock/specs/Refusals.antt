@@ -55,8 +55,18 @@ RefusesCancelWork w i TooManyWaits = ⊥
 RefusesCancelWork w i WrongLane = ⊥
 RefusesCancelWork w i NotAsked = ⊥
 
--- `wait_for` on lane q, through a seat with these counts: no such lane, or it can't make this step; the seat is full; what the
--- lane runs declares no such flush, or has made as many waits as it declares
+-- an ask about the whole of lane q: no such lane; the seat or the history is full
+abbrev pub RefusesFlushLane : Wiring → ℕ → CallError → Type 0
+RefusesFlushLane w q WrongLane = w.lanes ≤ q
+RefusesFlushLane w q HistoryFull = q < w.lanes
+RefusesFlushLane w q Closed = ⊥
+RefusesFlushLane w q Undeclared = ⊥
+RefusesFlushLane w q TooManyWaits = ⊥
+RefusesFlushLane w q NotAsked = ⊥
+RefusesFlushLane w q NoItem = ⊥
+
+-- `wait_for` or `wait_all_for` on lane q, through a seat with these counts: no such lane, or it can't make this step; the seat is
+-- full; what the lane runs declares no such flush, or has made as many waits as it declares
 abbrev pub RefusesWaitFor : Wiring → List ℕ → ℕ → CallError → Type 0
 RefusesWaitFor w counts q WrongLane = (w.lanes ≤ q) ⊎ HasRoom counts
 RefusesWaitFor w counts q HistoryFull = (q < w.lanes) × (seat_rows ≤ sum counts)

@@ -5,20 +5,21 @@
 
 ghost use Rattle.std.specs.Prelude.{◌≡◌, ◌<◌, ◌≤◌, IfOk, IfErr, OnOk, OnErr, IfSome, true, false};
 ghost use Rattle.wq_core.specs.Wiring.{items};
-ghost use Rattle.wq_rows.specs.declared.event.Event.TheVariants.{Queue, Cancel, Wait, Ask as AskEvent};
-ghost use Rattle.wq_counts.specs.declared.kind.Kind.TheVariants.{Queue as QueueKind, Cancel as CancelKind, Wait as WaitKind};
-ghost use Rattle.wq_counts.specs.Counting.{raised};
-ghost use Rattle.wq_history.specs.Book.{AppendsOne, IsWrongToStart, RefusesItem, RefusesQueue, RefusesWait, free};
-ghost use Rattle.wq_history.specs.Answers.{AnswersAsk, AnswersStart};
+ghost use Rattle.wq_rows.specs.declared.event.Event.TheVariants.{Queue, Cancel, Ask as AskEvent};
+ghost use Rattle.wq_counts.specs.declared.kind.Kind.TheVariants.{Queue as QueueKind, Cancel as CancelKind};
+ghost use Rattle.wq_counts.specs.Counting.{wait_kind, raised};
+ghost use Rattle.wq_history.specs.Events.{wait_event};
+ghost use Rattle.wq_history.specs.Book.{AppendsOne, IsWrongToStart, RefusesItem, RefusesQueue, RefusesAskLane, RefusesWait, free};
+ghost use Rattle.wq_history.specs.Answers.{AnswersAsk, AnswersAskLane, AnswersStart};
 ghost use Rattle.wq_held.specs.declared.fault.CallError.TheVariants.{WrongLane};
 ghost use Rattle.wq_held.specs.Errors.{RefusedAs};
-ghost use Rattle.wq_held.specs.Locked.{IsOnLane, HasRoom, CountsAsk, AsksAndCancels, CountsAskAndCancel, RefusesAskAndCancel};
-ghost use Rattle.wq_under_lock.specs.Refusals.{RefusesQueueWork, RefusesCancelWork, RefusesWaitFor};
+ghost use Rattle.wq_held.specs.Locked.{IsOnLane, HasRoom, CountsAsk, CountsAskLane, AsksAndCancels, CountsAskAndCancel, RefusesAskAndCancel};
+ghost use Rattle.wq_under_lock.specs.Refusals.{RefusesQueueWork, RefusesCancelWork, RefusesFlushLane, RefusesWaitFor};
 
 use std::alloc::Allocator;
 use wq_groups::LaneId;
 use wq_held::{CallError, Held, Naming, Seat};
-use wq_history::Ask;
+use wq_history::{Ask, LaneAsk};
 use wq_items::ItemId;
 
 /// Whether there is such an item, and room in the seat of whoever calls.
@@ -59,6 +60,27 @@ fn admit_on<N: Naming, A: Allocator>(
         return Err(CallError::NoItem);
     };
     if lane != q {
+        return Err(CallError::WrongLane);
+    }
+    if seat.is_full() {
+        return Err(CallError::HistoryFull);
+    }
+    Ok(())
+}
+
+/// Whether there is such a workqueue, and room in the seat of whoever calls.
+///
+/// The error is `WrongLane` (64), or else `HistoryFull` (60).
+fn admit_lane<N: Naming, A: Allocator>(
+    held: &Held<N, A>,
+    seat: &Seat<N, A>,
+    q: LaneId,
+) -> Result<(), CallError>
+    ensures admitted { OnOk result ((q < N.wiring.lanes) × HasRoom seat.now) }
+    ensures barred { OnErr result (¬ ((q < N.wiring.lanes) × HasRoom seat.now)) }
+    ensures refused { IfErr result (λ e. RefusesFlushLane N.wiring q e) }
+{
+    if usize::from(q.get()) >= held.lanes() {
         return Err(CallError::WrongLane);
     }
     if seat.is_full() {
@@ -133,6 +155,27 @@ pub fn ask<N: Naming, A: Allocator>(
     held.ask(seat, item)
 }
 
+/// Asks whether a workqueue has an unfinished entry. Where it has, the caller waits for the whole workqueue.
+///
+/// The error is `WrongLane` (64), where there is no such workqueue, or else `HistoryFull` (60), where the seat is full or fewer rows
+/// are free than it needs: 1 where the workqueue is idle, else 2. After an error nothing is changed or counted.
+#[tactic(auto, using(crate::proofs::CallsRefused::flush_lane_refused))]
+pub fn ask_lane<N: Naming, A: Allocator>(
+    held: &mut Held<N, A>,
+    seat: &mut Seat<N, A>,
+    q: LaneId,
+) -> Result<LaneAsk, CallError>
+    ensures row { IfOk result (λ answer. AnswersAskLane held.old.book held.new.book q answer) }
+    ensures counted { IfOk result (λ answer. (q < N.wiring.lanes) × HasRoom seat.old × CountsAskLane seat.old seat.new q answer) }
+    ensures seats { held.new.seats ≡ held.old.seats }
+    ensures refused { IfErr result (λ e. RefusesFlushLane N.wiring q e × (held.new ≡ held.old) × (seat.new ≡ seat.old)) }
+    ensures cause { IfErr result (λ e. q < N.wiring.lanes → HasRoom seat.old → RefusedAs (RefusesAskLane held.old.book q) e) }
+{
+    admit_lane(held, seat, q)?;
+    held.holds();
+    held.ask_lane(seat, q)
+}
+
 /// Asks whether an item has an unfinished entry, then removes its pending one, and gives both answers.
 ///
 /// The error is `NoItem` (66), or else `HistoryFull` (60), where the seat is full or fewer than 3 rows are free. After an error
@@ -174,7 +217,8 @@ pub fn start<N: Naming, A: Allocator>(
     held.start(q)
 }
 
-/// Makes what a workqueue runs begin to wait for an item: true where that item has an unfinished entry.
+/// Makes what a workqueue runs begin to wait for an item, or for the whole workqueue of the item: true where that has an unfinished
+/// entry.
 ///
 /// The error is the first of these that holds: `WrongLane` (64), where there is no such workqueue; `HistoryFull` (60), where
 /// the seat is full; `WrongLane` (64), where the workqueue runs nothing or waits; `Undeclared` (62); `TooManyWaits` (63). After an
@@ -184,13 +228,14 @@ pub fn wait<N: Naming, A: Allocator>(
     held: &mut Held<N, A>,
     seat: &mut Seat<N, A>,
     q: LaneId,
+    whole: bool,
     target: ItemId,
 ) -> Result<bool, CallError>
-    ensures row { IfOk result (λ unfinished. AppendsOne held.old.book held.new.book (Wait q target) unfinished) }
-    ensures counted { IfOk result (λ unfinished. (q < N.wiring.lanes) × (target < items N.wiring) × HasRoom seat.old × (seat.new ≡ raised seat.old target WaitKind unfinished)) }
+    ensures row { IfOk result (λ unfinished. AppendsOne held.old.book held.new.book (wait_event whole q target) unfinished) }
+    ensures counted { IfOk result (λ unfinished. (q < N.wiring.lanes) × (target < items N.wiring) × HasRoom seat.old × (seat.new ≡ raised seat.old target (wait_kind whole) unfinished)) }
     ensures seats { held.new.seats ≡ held.old.seats }
     ensures refused { IfErr result (λ e. RefusesWaitFor N.wiring seat.old q e × (held.new ≡ held.old) × (seat.new ≡ seat.old)) }
-    ensures cause { IfErr result (λ e. q < N.wiring.lanes → HasRoom seat.old → RefusedAs (RefusesWait held.old.book q target) e) }
+    ensures cause { IfErr result (λ e. q < N.wiring.lanes → HasRoom seat.old → RefusedAs (RefusesWait held.old.book q whole target) e) }
 {
     if usize::from(q.get()) >= held.lanes() {
         return Err(CallError::WrongLane);
@@ -198,5 +243,5 @@ pub fn wait<N: Naming, A: Allocator>(
     if seat.is_full() {
         return Err(CallError::HistoryFull);
     }
-    held.wait(seat, q, target)
+    held.wait(seat, q, whole, target)
 }

@@ -13,11 +13,12 @@ mod making;
 mod turn;
 mod turns;
 
-pub use calls::{ask, ask_and_cancel, cancel, queue, start, wait};
+pub use calls::{ask, ask_and_cancel, ask_lane, cancel, queue, start, wait};
 pub use fault::NewError;
 pub use making::{MAX_LANES, new_held};
 pub use turn::{Turn, Wake, Watched};
 pub use turns::{
-    be_idle, be_told, begin_cancel_sync, begin_flush, begin_wait, cancel_work, close, finish_work,
-    go_on, lane_of, lanes, next, queue_work, refuse_queueings, seat,
+    be_idle, be_told, be_told_lane, begin_cancel_sync, begin_flush, begin_flush_lane, begin_wait,
+    cancel_work, close, finish_work, go_on, lane_of, lanes, next, queue_work, refuse_queueings,
+    seat,
 };

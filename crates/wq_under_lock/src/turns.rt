@@ -2,21 +2,25 @@
 //!
 //! A call that waits has two parts: it begins, which is a call that answers at once, and then it takes a turn whenever something
 //! has changed, until that answers. A turn without an answer changes nothing. A turn takes the time of the book's events, and no
-//! memory; only `seat` takes more: time and memory in the number of items.
+//! memory; only `seat` takes more: time and memory in the number of items or workqueues, whichever are more.
 
 ghost use Rattle.std.specs.Prelude.{◌≡◌, ℕ, ◌+◌, ◌*◌, ◌<◌, ◌≤◌, replicate, vec_len, IfOk, IfErr, OnOk, OnErr, IfSome, IfNone, true, false};
 ghost use Rattle.wq_core.specs.Wiring.{items};
-ghost use Rattle.wq_core.specs.State.{HasUnfinished, HasUnfinishedBelow};
-ghost use Rattle.wq_rows.specs.declared.event.Event.TheVariants.{Queue, Cancel, Wait as WaitEvent, Over as OverEvent, Finish as FinishEvent, Told as ToldEvent};
-ghost use Rattle.wq_counts.specs.declared.kind.Kind.TheVariants.{Queue as QueueKind, Cancel as CancelKind, Wait as WaitKind, Over as OverKind, Finish as FinishKind, Told as ToldKind};
-ghost use Rattle.wq_counts.specs.Counting.{raised};
-ghost use Rattle.wq_history.specs.Book.{state, Appends, AppendsOne, HasNothingToStart};
-ghost use Rattle.wq_history.specs.Answers.{AnswersAsk, AnswersStart};
+ghost use Rattle.wq_core.specs.State.{lane_at, HasUnfinished, HasUnfinishedBelow, IsBusyBelow};
+ghost use Rattle.wq_rows.specs.declared.event.Event.TheVariants.{Queue, Cancel, Ask as AskEvent, Finish as FinishEvent, Told as ToldEvent, ToldLane as ToldLaneEvent};
+ghost use Rattle.wq_counts.specs.declared.kind.Kind.TheVariants.{Queue as QueueKind, Cancel as CancelKind, Finish as FinishKind, Told as ToldKind};
+ghost use Rattle.wq_counts.specs.Counting.{counts_each, wait_kind, over_kind, raised, raised_told};
+ghost use Rattle.wq_history.specs.declared.asking.Subject.TheVariants.{Item as OfItem, Lane as OfLane};
+ghost use Rattle.wq_history.specs.Events.{wait_event, over_event};
+ghost use Rattle.wq_history.specs.History.{asks_waiting};
+ghost use Rattle.wq_history.specs.Book.{state, Appends, AppendsOne, HasNothingToStart, IsWrongToStart, RefusesQueue, RefusesItem, RefusesAskLane, RefusesWait};
+ghost use Rattle.wq_history.specs.Answers.{AnswersAsk, AnswersAskLane, AnswersStart};
 ghost use Rattle.wq_held.specs.declared.fault.CallError.TheVariants.{WrongLane, NotAsked};
 ghost use Rattle.wq_held.specs.declared.fault.SeatError.TheVariants.{TooManySeats, OutOfMemory as SeatOutOfMemory};
-ghost use Rattle.wq_held.specs.Locked.{max_runtime_lanes, IsOnLane, HasRoom, Holds, CountsAsk, AsksAndCancels, CountsAskAndCancel, RefusesClose};
+ghost use Rattle.wq_held.specs.Locked.{max_runtime_lanes, slots, IsOnLane, HasRoom, Holds, CountsAsk, CountsAskLane, AsksAndCancels, CountsAskAndCancel, RefusesAskAndCancel, AnswersOverOf, IsWrongToGoOn, IsWrongToFinish, RefusesClose};
+ghost use Rattle.wq_held.specs.Errors.{RefusedAs};
 ghost use Rattle.wq_held.specs.Closing.{IsClosed};
-ghost use Rattle.wq_under_lock.specs.Refusals.{RefusesQueueWork, RefusesCancelWork, RefusesWaitFor};
+ghost use Rattle.wq_under_lock.specs.Refusals.{RefusesQueueWork, RefusesCancelWork, RefusesFlushLane, RefusesWaitFor};
 ghost use Rattle.wq_under_lock.specs.Turns.{AnswersWith, IfAnswers, IfSleeps, Wakes, IsSameToSleepers, woken, woken_by, woken_unless_refused};
 ghost use Rattle.wq_under_lock.specs.declared.turn.Wake.TheVariants.{Nobody, Everybody};
 
@@ -25,7 +29,7 @@ use crate::turn::{Turn, Wake};
 use std::alloc::Allocator;
 use wq_groups::LaneId;
 use wq_held::{CallError, CloseWhy, Closed, Held, Naming, Seat, SeatError};
-use wq_history::{Ask, Asked, Told};
+use wq_history::{Ask, Asked, LaneAsk, LaneAsked, LaneTold, Told};
 use wq_items::ItemId;
 
 // ---- calls that only look
@@ -52,16 +56,16 @@ pub fn lane_of<N: Naming, A: Allocator>(held: &Held<N, A>, item: ItemId) -> Turn
 /// Makes a seat, with no counts.
 ///
 /// The error is `TooManySeats` (70) exactly where 65,535 were made. Otherwise it is out of memory (20), which can't occur where
-/// there is no item. After an error nothing is changed.
+/// there are no items and no workqueues. After an error nothing is changed.
 pub fn seat<N: Naming, A: Allocator + Copy>(
     held: &mut Held<N, A>,
     alloc: A,
 ) -> Turn<Result<Seat<N, A>, SeatError>, ()>
-    ensures seat { AnswersWith result (λ r wake. IfOk r (λ s. s ≡ replicate (14 * items N.wiring) 0)) }
+    ensures seat { AnswersWith result (λ r wake. IfOk r (λ s. s ≡ replicate (counts_each * slots N.wiring) 0)) }
     ensures made { AnswersWith result (λ r wake. OnOk r ((held.old.seats < 65535) × (held.new ≡ record held.old { seats = held.old.seats + 1 }))) }
     ensures refused { AnswersWith result (λ r wake. IfErr r (λ e. held.new ≡ held.old)) }
     ensures limit { AnswersWith result (λ r wake. r ≡ Err TooManySeats → held.old.seats ≡ 65535) }
-    ensures memory { AnswersWith result (λ r wake. r ≡ Err SeatOutOfMemory → (held.old.seats < 65535) × (0 < items N.wiring)) }
+    ensures memory { AnswersWith result (λ r wake. r ≡ Err SeatOutOfMemory → (held.old.seats < 65535) × (0 < slots N.wiring)) }
     ensures wakes { AnswersWith result (λ r wake. (wake ≡ Nobody) × IsSameToSleepers held.old held.new) }
     ensures holds { Holds N.wiring N.rows held.old.book }
 {
@@ -81,6 +85,7 @@ pub fn queue_work<N: Naming, A: Allocator>(
     ensures row { AnswersWith result (λ r wake. IfOk r (λ accepted. AppendsOne held.old.book held.new.book (Queue item) accepted)) }
     ensures counted { AnswersWith result (λ r wake. IfOk r (λ accepted. IsOnLane N.wiring q item × HasRoom seat.old × (seat.new ≡ raised seat.old item QueueKind accepted))) }
     ensures refused { AnswersWith result (λ r wake. IfErr r (λ e. RefusesQueueWork N.wiring seat.old q item e × (held.new ≡ held.old) × (seat.new ≡ seat.old))) }
+    ensures cause { AnswersWith result (λ r wake. IfErr r (λ e. IsOnLane N.wiring q item → HasRoom seat.old → RefusedAs (RefusesQueue held.old.book item) e)) }
     ensures woken { AnswersWith result (λ r wake. wake ≡ woken_by r) }
     ensures wakes { Wakes IsSameToSleepers held.old held.new result }
 {
@@ -98,6 +103,7 @@ pub fn cancel_work<N: Naming, A: Allocator>(
     ensures row { AnswersWith result (λ r wake. IfOk r (λ taken. AppendsOne held.old.book held.new.book (Cancel item) taken)) }
     ensures counted { AnswersWith result (λ r wake. IfOk r (λ taken. (item < items N.wiring) × HasRoom seat.old × (seat.new ≡ raised seat.old item CancelKind taken))) }
     ensures refused { AnswersWith result (λ r wake. IfErr r (λ e. RefusesCancelWork N.wiring item e × (held.new ≡ held.old) × (seat.new ≡ seat.old))) }
+    ensures cause { AnswersWith result (λ r wake. IfErr r (λ e. item < items N.wiring → HasRoom seat.old → RefusedAs (RefusesItem held.old.book item Cancel) e)) }
     ensures woken { AnswersWith result (λ r wake. wake ≡ woken_by r) }
     ensures wakes { Wakes IsSameToSleepers held.old held.new result }
 {
@@ -119,6 +125,7 @@ pub fn finish_work<N: Naming, A: Allocator>(
     ensures row { AnswersWith result (λ r wake. OnOk r (AppendsOne held.old.book held.new.book (FinishEvent q item) true)) }
     ensures counted { AnswersWith result (λ r wake. OnOk r (IsOnLane N.wiring q item × (seat.new ≡ raised seat.old item FinishKind true))) }
     ensures refused { AnswersWith result (λ r wake. IfErr r (λ e. (e ≡ WrongLane) × (held.new ≡ held.old) × (seat.new ≡ seat.old))) }
+    ensures cause { AnswersWith result (λ r wake. OnErr r (IsWrongToFinish held.old.book q item)) }
     ensures woken { AnswersWith result (λ r wake. wake ≡ woken_unless_refused r) }
     ensures wakes { Wakes IsSameToSleepers held.old held.new result }
 {
@@ -139,6 +146,7 @@ pub fn begin_flush<N: Naming, A: Allocator>(
     ensures row { AnswersWith result (λ r wake. IfOk r (λ answer. AnswersAsk held.old.book held.new.book item answer)) }
     ensures counted { AnswersWith result (λ r wake. IfOk r (λ answer. (item < items N.wiring) × HasRoom seat.old × CountsAsk seat.old seat.new item answer)) }
     ensures refused { AnswersWith result (λ r wake. IfErr r (λ e. RefusesCancelWork N.wiring item e × (held.new ≡ held.old) × (seat.new ≡ seat.old))) }
+    ensures cause { AnswersWith result (λ r wake. IfErr r (λ e. item < items N.wiring → HasRoom seat.old → RefusedAs (RefusesItem held.old.book item AskEvent) e)) }
     ensures woken { AnswersWith result (λ r wake. wake ≡ Nobody) }
     ensures wakes { Wakes IsSameToSleepers held.old held.new result }
 {
@@ -154,6 +162,7 @@ pub fn begin_cancel_sync<N: Naming, A: Allocator>(
     ensures rows { AnswersWith result (λ r wake. IfOk r (λ both. AsksAndCancels held.old.book held.new.book item both.0 both.1)) }
     ensures counted { AnswersWith result (λ r wake. IfOk r (λ both. (item < items N.wiring) × HasRoom seat.old × CountsAskAndCancel seat.old seat.new item both.0 both.1)) }
     ensures refused { AnswersWith result (λ r wake. IfErr r (λ e. RefusesCancelWork N.wiring item e × (held.new ≡ held.old) × (seat.new ≡ seat.old))) }
+    ensures cause { AnswersWith result (λ r wake. IfErr r (λ e. item < items N.wiring → HasRoom seat.old → RefusesAskAndCancel held.old.book item e)) }
     ensures woken { AnswersWith result (λ r wake. IfOk r (λ both. wake ≡ woken both.1) × OnErr r (wake ≡ Nobody)) }
     ensures wakes { Wakes IsSameToSleepers held.old held.new result }
 {
@@ -174,6 +183,7 @@ pub fn be_told<N: Naming, A: Allocator>(
     ensures row { IfAnswers result (λ r wake. OnOk r (Appends held.old.book held.new.book (ToldEvent asked.item) true asked.mark)) }
     ensures counted { IfAnswers result (λ r wake. OnOk r (seat.new ≡ raised seat.old asked.item ToldKind true)) }
     ensures refused { IfAnswers result (λ r wake. IfErr r (λ e. (e ≡ NotAsked) × (held.new ≡ held.old) × (seat.new ≡ seat.old))) }
+    ensures cause { IfAnswers result (λ r wake. OnErr r (asks_waiting (OfItem asked.item) held.old.book.rows ≡ 0)) }
     ensures woken { IfAnswers result (λ r wake. wake ≡ Nobody) }
     ensures sleeps { IfSleeps result (λ again. (again ≡ asked) × (seat.new ≡ seat.old) × HasUnfinishedBelow (state held.old.book) asked.item asked.mark) }
     ensures wakes { Wakes IsSameToSleepers held.old held.new result }
@@ -182,6 +192,50 @@ pub fn be_told<N: Naming, A: Allocator>(
         Told::Done => Turn::Answers(Ok(()), Wake::Nobody),
         Told::NotYet(again) => Turn::Sleeps(again),
         Told::NotAsked(again) => {
+            again.give_up();
+            Turn::Answers(Err(CallError::NotAsked), Wake::Nobody)
+        }
+    }
+}
+
+// ---- `flush_workqueue`
+
+/// Begins a flush of a whole workqueue, as `ask_lane`. It changes nothing that a caller may wait for.
+pub fn begin_flush_lane<N: Naming, A: Allocator>(
+    held: &mut Held<N, A>,
+    seat: &mut Seat<N, A>,
+    q: LaneId,
+) -> Turn<Result<LaneAsk, CallError>, ()>
+    ensures row { AnswersWith result (λ r wake. IfOk r (λ answer. AnswersAskLane held.old.book held.new.book q answer)) }
+    ensures counted { AnswersWith result (λ r wake. IfOk r (λ answer. (q < N.wiring.lanes) × HasRoom seat.old × CountsAskLane seat.old seat.new q answer)) }
+    ensures refused { AnswersWith result (λ r wake. IfErr r (λ e. RefusesFlushLane N.wiring q e × (held.new ≡ held.old) × (seat.new ≡ seat.old))) }
+    ensures cause { AnswersWith result (λ r wake. IfErr r (λ e. q < N.wiring.lanes → HasRoom seat.old → RefusedAs (RefusesAskLane held.old.book q) e)) }
+    ensures woken { AnswersWith result (λ r wake. wake ≡ Nobody) }
+    ensures wakes { Wakes IsSameToSleepers held.old held.new result }
+{
+    Turn::Answers(calls::ask_lane(held, seat, q), Wake::Nobody)
+}
+
+/// Tells a caller that its wait for a whole workqueue is over, once none of the entries that it waits for is unfinished.
+///
+/// The only error is `NotAsked` (65), where no ask about its workqueue is waiting. Then nothing is changed or counted.
+pub fn be_told_lane<N: Naming, A: Allocator>(
+    held: &mut Held<N, A>,
+    seat: &mut Seat<N, A>,
+    asked: LaneAsked,
+) -> Turn<Result<(), CallError>, LaneAsked>
+    ensures row { IfAnswers result (λ r wake. OnOk r (Appends held.old.book held.new.book (ToldLaneEvent asked.lane) true asked.mark)) }
+    ensures counted { IfAnswers result (λ r wake. OnOk r (seat.new ≡ raised_told seat.old asked.lane)) }
+    ensures refused { IfAnswers result (λ r wake. IfErr r (λ e. (e ≡ NotAsked) × (held.new ≡ held.old) × (seat.new ≡ seat.old))) }
+    ensures cause { IfAnswers result (λ r wake. OnErr r (asks_waiting (OfLane asked.lane) held.old.book.rows ≡ 0)) }
+    ensures woken { IfAnswers result (λ r wake. wake ≡ Nobody) }
+    ensures sleeps { IfSleeps result (λ again. (again ≡ asked) × (seat.new ≡ seat.old) × IsBusyBelow (lane_at (state held.old.book) asked.lane) asked.mark) }
+    ensures wakes { Wakes IsSameToSleepers held.old held.new result }
+{
+    match held.told_lane(seat, asked) {
+        LaneTold::Done => Turn::Answers(Ok(()), Wake::Nobody),
+        LaneTold::NotYet(again) => Turn::Sleeps(again),
+        LaneTold::NotAsked(again) => {
             again.give_up();
             Turn::Answers(Err(CallError::NotAsked), Wake::Nobody)
         }
@@ -202,6 +256,7 @@ pub fn next<N: Naming, A: Allocator>(
     ensures known { IfAnswers result (λ r wake. IfOk r (λ next. (q < N.wiring.lanes) × IfSome next (λ item. IsOnLane N.wiring q item))) }
     ensures ended { IfAnswers result (λ r wake. IfOk r (λ next. IfNone next (held.old.book.closed ≡ true))) }
     ensures refused { IfAnswers result (λ r wake. IfErr r (λ e. (e ≡ WrongLane) × (held.new ≡ held.old))) }
+    ensures cause { IfAnswers result (λ r wake. OnErr r (IsWrongToStart held.old.book q)) }
     ensures sleeps { IfSleeps result (λ none. HasNothingToStart held.old.book q × (held.old.book.closed ≡ false)) }
     ensures wakes { Wakes IsSameToSleepers held.old held.new result }
     ensures holds { Holds N.wiring N.rows held.old.book }
@@ -225,38 +280,44 @@ pub fn begin_wait<N: Naming, A: Allocator>(
     held: &mut Held<N, A>,
     seat: &mut Seat<N, A>,
     q: LaneId,
+    whole: bool,
     target: ItemId,
 ) -> Turn<Result<bool, CallError>, ()>
-    ensures row { AnswersWith result (λ r wake. IfOk r (λ unfinished. AppendsOne held.old.book held.new.book (WaitEvent q target) unfinished)) }
-    ensures counted { AnswersWith result (λ r wake. IfOk r (λ unfinished. (q < N.wiring.lanes) × (target < items N.wiring) × HasRoom seat.old × (seat.new ≡ raised seat.old target WaitKind unfinished))) }
+    ensures row { AnswersWith result (λ r wake. IfOk r (λ unfinished. AppendsOne held.old.book held.new.book (wait_event whole q target) unfinished)) }
+    ensures counted { AnswersWith result (λ r wake. IfOk r (λ unfinished. (q < N.wiring.lanes) × (target < items N.wiring) × HasRoom seat.old × (seat.new ≡ raised seat.old target (wait_kind whole) unfinished))) }
     ensures refused { AnswersWith result (λ r wake. IfErr r (λ e. RefusesWaitFor N.wiring seat.old q e × (held.new ≡ held.old) × (seat.new ≡ seat.old))) }
+    ensures cause { AnswersWith result (λ r wake. IfErr r (λ e. q < N.wiring.lanes → HasRoom seat.old → RefusedAs (RefusesWait held.old.book q whole target) e)) }
     ensures woken { AnswersWith result (λ r wake. wake ≡ woken_unless_refused r) }
     ensures wakes { Wakes IsSameToSleepers held.old held.new result }
 {
-    match calls::wait(held, seat, q, target) {
+    match calls::wait(held, seat, q, whole, target) {
         Ok(unfinished) => Turn::Answers(Ok(unfinished), Wake::Everybody),
         Err(e) => Turn::Answers(Err(e), Wake::Nobody),
     }
 }
 
-/// Lets what a workqueue runs go on, once its wait for this item is over. All who sleep are woken.
+/// Lets what a workqueue runs go on, once its wait for this item, or for the whole workqueue of this item, is over. All who sleep
+/// are woken.
 ///
-/// The only error is `WrongLane` (64), where the workqueue doesn't wait for this item. After an error nothing is changed or
-/// counted.
+/// The only error is `WrongLane` (64), where the workqueue doesn't wait for this item by this kind of wait. After an error nothing
+/// is changed or counted.
 pub fn go_on<N: Naming, A: Allocator>(
     held: &mut Held<N, A>,
     seat: &mut Seat<N, A>,
     q: LaneId,
+    whole: bool,
     target: ItemId,
 ) -> Turn<Result<(), CallError>, ()>
-    ensures row { IfAnswers result (λ r wake. OnOk r (AppendsOne held.old.book held.new.book (OverEvent q target) true)) }
-    ensures counted { IfAnswers result (λ r wake. OnOk r (seat.new ≡ raised seat.old target OverKind true)) }
+    ensures row { IfAnswers result (λ r wake. OnOk r (AppendsOne held.old.book held.new.book (over_event whole q target) true)) }
+    ensures counted { IfAnswers result (λ r wake. OnOk r (seat.new ≡ raised seat.old target (over_kind whole) true)) }
     ensures refused { IfAnswers result (λ r wake. IfErr r (λ e. (e ≡ WrongLane) × (held.new ≡ held.old) × (seat.new ≡ seat.old))) }
+    ensures cause { IfAnswers result (λ r wake. OnErr r (IsWrongToGoOn held.old.book q whole target)) }
     ensures woken { IfAnswers result (λ r wake. wake ≡ woken_unless_refused r) }
     ensures sleeps { IfSleeps result (λ none. seat.new ≡ seat.old) }
+    ensures waits { IfSleeps result (λ none. AnswersOverOf held.old.book held.new.book q whole target false) }
     ensures wakes { Wakes IsSameToSleepers held.old held.new result }
 {
-    match held.over(seat, q, target) {
+    match held.over(seat, q, whole, target) {
         Ok(true) => Turn::Answers(Ok(()), Wake::Everybody),
         Ok(false) => Turn::Sleeps(()),
         Err(e) => Turn::Answers(Err(e), Wake::Nobody),

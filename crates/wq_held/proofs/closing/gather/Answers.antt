@@ -1,11 +1,11 @@
 use Rattle.std.proofs.Common.{vec_len, sym, ◌∙◌}
-use Rattle.wq_core.specs.Wiring.{items}
+use Rattle.wq_held.specs.Locked.{slots}
 use Rattle.wq_held.proofs.Closings.{none_left, IsGathered-none, IsGathered-more, few_gathered, SumsSeats-gathered, total-gathered}
 use Rattle.wq_held.proofs.closing.gather.Goals as goal
 
 pub loop-seat-init : goal.loop-seat-init
 loop-seat-init g c =
-    IsGathered-none (items g.N.Naming.wiring) g.N.Ledger.parts c.args.ledger.now.total c.args.seats.items c.args.sums.now c.args.rest.now.parts c.args.rest.now.amount (vec_len c.args.seats) c.requires.empty c.requires.parts c.requires.amount
+    IsGathered-none (slots g.N.Naming.wiring) g.N.Ledger.parts c.args.ledger.now.total c.args.seats.items c.args.sums.now c.args.rest.now.parts c.args.rest.now.amount (vec_len c.args.seats) c.requires.empty c.requires.parts c.requires.amount
 
 pub add-requires-clause-items : goal.add-requires-clause-items
 add-requires-clause-items g c = c.loop-seat.invariant.a_count_each ∙ sym c.seat.invariant.a_count_each
@@ -27,7 +27,7 @@ loop-seat-preserved g c =
 
 pub returns-clause-sums : goal.returns-clause-sums
 returns-clause-sums g c =
-    SumsSeats-gathered (items g.N.Naming.wiring) g.N.Ledger.parts c.args.ledger.now.total c.args.seats.items c.loop-seat.seats.items c.loop-seat.sums
+    SumsSeats-gathered (slots g.N.Naming.wiring) g.N.Ledger.parts c.args.ledger.now.total c.args.seats.items c.loop-seat.seats.items c.loop-seat.sums
     c.loop-seat.rest.parts c.loop-seat.rest.amount (vec_len c.loop-seat.seats) c.loop-seat.ledger.total c.loop-seat.invariant
     (none_left c.loop-seat.seats.items c.pop.new.self.items (vec_len c.loop-seat.seats) c.in_default.ensures.cases.0 c.in_default.ensures.items c.in_default.ensures.rest)
 
@@ -36,7 +36,7 @@ returns-clause-length g c = c.loop-seat.invariant.a_count_each
 
 pub returns-clause-total : goal.returns-clause-total
 returns-clause-total g c =
-    total-gathered (items g.N.Naming.wiring) g.N.Ledger.parts c.args.ledger.now.total c.args.seats.items c.loop-seat.seats.items c.loop-seat.sums
+    total-gathered (slots g.N.Naming.wiring) g.N.Ledger.parts c.args.ledger.now.total c.args.seats.items c.loop-seat.seats.items c.loop-seat.sums
     c.loop-seat.rest.parts c.loop-seat.rest.amount (vec_len c.loop-seat.seats) c.loop-seat.ledger.total c.loop-seat.invariant c.in_default.ensures.cases.0 c.audit-2.ensures.whole
 
 pub returns-clause-ledger : goal.returns-clause-ledger

@@ -1,10 +1,14 @@
-use Rattle.std.proofs.Common.{refl, subst}
+use Rattle.std.proofs.Common.{subst}
 use Rattle.wq_rows.specs.declared.event.Event.TheVariants.{Queue}
-use Rattle.wq_counts.specs.declared.kind.Kind.TheVariants.{Queue as QueueKind}
 use Rattle.wq_history.specs.Book.{AppendsOne}
 use Rattle.wq_held.specs.Locked.{HeldView}
-use Rattle.wq_held.proofs.Locking.{few_tallies, item-appended, IsHeld-counted}
+use Rattle.wq_held.proofs.Locking.{few_tallies, slot-appended, IsHeld-counted}
 use Rattle.wq_held.proofs.held.Held.queue.Goals as goal
+
+pub count-requires-clause-slot : goal.count-requires-clause-slot
+count-requires-clause-slot g c =
+    let row = c.in-Ok.ensures.row in
+    slot-appended _ c.self.inside.book c.queue.new.self (Queue c.args.item) c.in-Ok.accepted row.0 c.self.invariant.of_wiring c.legal.ensures row.1
 
 pub count-requires-clause-few : goal.count-requires-clause-few
 count-requires-clause-few g c =
@@ -15,9 +19,8 @@ pub invariant_of-self : goal.invariant_of-self
 invariant_of-self g c =
     let h = c.self.inside in
     let row = c.in-Ok.ensures.row in
-    let within = item-appended _ h.book c.queue.new.self (Queue c.args.item) c.in-Ok.accepted row.0 c.self.invariant.of_wiring c.legal.ensures row.1 in
-    IsHeld-counted _ _ _ h.book c.queue.new.self h.tallies h.sums h.seats h.rest.parts h.rest.amount (Queue c.args.item) c.in-Ok.accepted row.0 QueueKind
-    c.count.new.self c.count.ensures.tallies c.self.invariant row.1 refl within
+    IsHeld-counted _ _ _ h.book c.queue.new.self h.tallies h.sums h.seats h.rest.parts h.rest.amount (Queue c.args.item) c.in-Ok.accepted row.0
+    c.count.new.self c.count.ensures.tallies c.self.invariant c.legal.ensures row.1
 
 pub returns-in-Ok-clause-row : goal.returns-in-Ok-clause-row
 returns-in-Ok-clause-row g c = subst (λ (x : HeldView). AppendsOne x.book c.queue.new.self (Queue c.args.item) c.in-Ok.accepted) c.self.view_is c.in-Ok.ensures.row
