@@ -1,1 +1,2 @@
 pub mod WaitsRefused
+pub mod Waiters

@@ -1,11 +1,12 @@
 -- The calls that wait: what they are refused for, and what they count in the caller's seat.
-use Rattle.std.specs.Prelude.{◌≡◌, ℕ, ◌<◌, ◌≤◌, ◌⊎◌, List, Bool, true, false}
+use Rattle.std.specs.Prelude.{◌≡◌, ℕ, ◌<◌, ◌≤◌, ◌⊎◌, List, Bool, true, false, Result, Ok, Err}
+use Rattle.wq_items.specs.Table.{ItemWaitsBy}
 use Rattle.wq_core.specs.Wiring.{Wiring, items}
-use Rattle.wq_counts.specs.declared.kind.Kind.TheVariants.{Wait as WaitKind, Over as OverKind, Ask as AskKind, Told as ToldKind}
-use Rattle.wq_counts.specs.Counting.{raised}
+use Rattle.wq_counts.specs.declared.kind.Kind.TheVariants.{Ask as AskKind, Told as ToldKind}
+use Rattle.wq_counts.specs.Counting.{raised, raised_asked, raised_told, wait_kind, over_kind}
 use Rattle.wq_held.specs.declared.fault.CallError.{CallError}
 use Rattle.wq_held.specs.declared.fault.CallError.TheVariants.{HistoryFull, Closed, Undeclared, TooManyWaits, WrongLane, NotAsked, NoItem}
-use Rattle.wq_held.specs.Locked.{HasRoom, asked_and_cancelled}
+use Rattle.wq_held.specs.Locked.{HasRoom, IsOnLane, asked_and_cancelled}
 
 -- ---- flushes and cancellations
 
@@ -51,19 +52,68 @@ RefusedCancelSync old new i TooManyWaits = new ≡ old
 RefusedCancelSync old new i WrongLane = new ≡ old
 RefusedCancelSync old new i NoItem = new ≡ old
 
--- ---- waits of lanes
+-- ---- flushes of lanes
 
--- counts after a wait that is over, with this answer
-abbrev pub waited_for : List ℕ → ℕ → Bool → List ℕ
-waited_for old b unfinished = raised (raised old b WaitKind unfinished) b OverKind true
+-- `flush_workqueue` of lane q, through a seat with these counts: no such lane; the seat or the history is full; or, after the
+-- ask, no ask of the lane waits
+abbrev pub RefusesFlushWorkqueue : Wiring → List ℕ → ℕ → CallError → Type 0
+RefusesFlushWorkqueue w counts q WrongLane = w.lanes ≤ q
+RefusesFlushWorkqueue w counts q HistoryFull = q < w.lanes
+RefusesFlushWorkqueue w counts q NotAsked = (q < w.lanes) × HasRoom counts
+RefusesFlushWorkqueue w counts q Closed = ⊥
+RefusesFlushWorkqueue w counts q Undeclared = ⊥
+RefusesFlushWorkqueue w counts q TooManyWaits = ⊥
+RefusesFlushWorkqueue w counts q NoItem = ⊥
 
--- counts after a refused wait on lane q: if the lane no longer waits (64), its wait stays counted; otherwise nothing was
+-- counts after a flush of a lane that waited, or found its lane idle
+abbrev pub lane_flushed : List ℕ → ℕ → Bool → List ℕ
+lane_flushed old q true = raised_told (raised_asked old q true) q
+lane_flushed old q false = raised_asked old q false
+
+-- counts after a refused flush of a lane: if no ask of the lane waits (65), its own ask stays counted; otherwise nothing was
 -- counted
-abbrev pub RefusedWaitFor : Wiring → List ℕ → List ℕ → ℕ → ℕ → CallError → Type 0
-RefusedWaitFor w old new q b WrongLane = (new ≡ old) ⊎ ((q < w.lanes) × (unfinished : Bool) × (new ≡ raised old b WaitKind unfinished))
-RefusedWaitFor w old new q b HistoryFull = new ≡ old
-RefusedWaitFor w old new q b Closed = new ≡ old
-RefusedWaitFor w old new q b Undeclared = new ≡ old
-RefusedWaitFor w old new q b TooManyWaits = new ≡ old
-RefusedWaitFor w old new q b NotAsked = new ≡ old
-RefusedWaitFor w old new q b NoItem = new ≡ old
+abbrev pub lane_flush_refused : List ℕ → ℕ → CallError → List ℕ
+lane_flush_refused old q NotAsked = raised_asked old q true
+lane_flush_refused old q HistoryFull = old
+lane_flush_refused old q Closed = old
+lane_flush_refused old q Undeclared = old
+lane_flush_refused old q TooManyWaits = old
+lane_flush_refused old q WrongLane = old
+lane_flush_refused old q NoItem = old
+
+-- ---- waits of lanes, for an item or for its whole lane
+
+-- some item of lane q declares such a flush of item b, alone or of its whole lane
+abbrev pub IsDeclaredOn : Wiring → ℕ → Bool → ℕ → Type 0
+IsDeclaredOn w q whole b = (i : ℕ) × IsOnLane w q i × ItemWaitsBy w.waits whole i b
+
+-- some item of lane q doesn't
+abbrev pub IsUndeclaredOn : Wiring → ℕ → Bool → ℕ → Type 0
+IsUndeclaredOn w q whole b = (i : ℕ) × IsOnLane w q i × (¬ ItemWaitsBy w.waits whole i b)
+
+-- which item lane q runs, by the answer to a wait of this kind for item b: one that declares such a flush, if the wait began, or if
+-- too many were made (63); one that doesn't, if it is undeclared (62)
+abbrev pub HasWaiter : Wiring → ℕ → Bool → ℕ → Result Bool CallError → Type 0
+HasWaiter w q whole b (Ok unfinished) = IsDeclaredOn w q whole b
+HasWaiter w q whole b (Err TooManyWaits) = IsDeclaredOn w q whole b
+HasWaiter w q whole b (Err Undeclared) = IsUndeclaredOn w q whole b
+HasWaiter w q whole b (Err HistoryFull) = Unit {0}
+HasWaiter w q whole b (Err Closed) = Unit {0}
+HasWaiter w q whole b (Err WrongLane) = Unit {0}
+HasWaiter w q whole b (Err NotAsked) = Unit {0}
+HasWaiter w q whole b (Err NoItem) = Unit {0}
+
+-- counts after a wait of this kind that is over, with this answer
+abbrev pub waited_for : List ℕ → Bool → ℕ → Bool → List ℕ
+waited_for old whole b unfinished = raised (raised old b (wait_kind whole) unfinished) b (over_kind whole) true
+
+-- counts after a refused wait of this kind on lane q: if the lane no longer waits (64), its wait stays counted; otherwise
+-- nothing was counted
+abbrev pub RefusedWaitFor : Wiring → List ℕ → List ℕ → ℕ → Bool → ℕ → CallError → Type 0
+RefusedWaitFor w old new q whole b WrongLane = (new ≡ old) ⊎ ((q < w.lanes) × (unfinished : Bool) × (new ≡ raised old b (wait_kind whole) unfinished))
+RefusedWaitFor w old new q whole b HistoryFull = new ≡ old
+RefusedWaitFor w old new q whole b Closed = new ≡ old
+RefusedWaitFor w old new q whole b Undeclared = new ≡ old
+RefusedWaitFor w old new q whole b TooManyWaits = new ≡ old
+RefusedWaitFor w old new q whole b NotAsked = new ≡ old
+RefusedWaitFor w old new q whole b NoItem = new ≡ old

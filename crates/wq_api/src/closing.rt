@@ -1,7 +1,7 @@
 //! Closing a runtime: first nothing is queued any more, and then, where nothing is unfinished, all is handed back.
 //!
-//! `destroy` waits until no entry is unfinished. `close` takes time in the number of all counts, which are 14
-//! for each seat and item, and no memory.
+//! `destroy` waits until no entry is unfinished. `close` takes time in the number of all counts, and no memory. In each seat
+//! there are 22 counts for each item, or for each workqueue where there are more of those.
 
 ghost use Rattle.std.specs.Prelude.{◌≡◌, true, IfOk, IfErr};
 ghost use Rattle.wq_core.specs.State.{HasUnfinished};

@@ -4,21 +4,22 @@
 //! what becomes of the book, and whether those who sleep are woken. The contracts here say what the caller can know: its answer,
 //! and its own counts.
 //!
-//! Apart from what it waits for, a call takes the time of the book's events. `seat` takes time and memory in the number of items,
-//! and `new` also the time of the wait graph of the workqueues and of its ranks, and room for the rows, 12 bytes for each.
+//! Apart from what it waits for, a call takes the time of the book's events. `seat` takes time and memory in the number of items or
+//! of workqueues, whichever is larger, and `new` also the time of the wait graph of the workqueues and of its ranks, and room for the
+//! rows, 12 bytes for each.
 
-ghost use Rattle.std.specs.Prelude.{◌≡◌, ◌<◌, ◌≤◌, ◌*◌, length, replicate, true, IfOk, IfErr, OnOk, IfSome, IfNone};
+ghost use Rattle.std.specs.Prelude.{◌≡◌, ◌<◌, ◌≤◌, ◌*◌, length, replicate, Bool, true, IfOk, IfErr, OnOk, IfSome, IfNone};
 ghost use Rattle.wq_groups.specs.Declaration.{declaration_of};
 ghost use Rattle.wq_core.specs.Wiring.{wiring, items};
 ghost use Rattle.wq_counts.specs.declared.kind.Kind.TheVariants.{Queue, Cancel, Told as ToldKind};
-ghost use Rattle.wq_counts.specs.Counting.{raised};
+ghost use Rattle.wq_counts.specs.Counting.{counts_each, raised, raised_told};
 ghost use Rattle.wq_held.specs.declared.fault.CallError.TheVariants.{NotAsked};
 ghost use Rattle.wq_held.specs.declared.fault.SeatError.TheVariants.{TooManySeats, OutOfMemory as SeatOutOfMemory};
 ghost use Rattle.wq_history.specs.Book.{BookView};
-ghost use Rattle.wq_history.specs.Answers.{AnswersAsk};
-ghost use Rattle.wq_held.specs.Locked.{max_runtime_lanes, IsOnLane, HasRoom, CountsAsk, AsksAndCancels, CountsAskAndCancel};
-ghost use Rattle.wq_under_lock.specs.Refusals.{RefusesRuntime, MakesRuntime, RefusesQueueWork, RefusesCancelWork};
-ghost use Rattle.wq_api.specs.WaitingCalls.{RefusesFlushWork, flushed, flush_refused, CountsCancelSync, RefusedCancelSync};
+ghost use Rattle.wq_history.specs.Answers.{AnswersAsk, AnswersAskLane};
+ghost use Rattle.wq_held.specs.Locked.{max_runtime_lanes, slots, IsOnLane, HasRoom, CountsAsk, CountsAskLane, AsksAndCancels, CountsAskAndCancel};
+ghost use Rattle.wq_under_lock.specs.Refusals.{RefusesRuntime, MakesRuntime, RefusesQueueWork, RefusesCancelWork, RefusesFlushLane};
+ghost use Rattle.wq_api.specs.WaitingCalls.{RefusesFlushWork, flushed, flush_refused, CountsCancelSync, RefusedCancelSync, RefusesFlushWorkqueue, lane_flushed, lane_flush_refused};
 ghost use Rattle.wq_api.specs.Locking.{UnderLock};
 
 use crate::lock::Lock;
@@ -27,7 +28,7 @@ use std::sync::Wait;
 use std::sync::ledger::Blank;
 use wq_groups::{Assignment, Groups, LaneId};
 use wq_held::{CallError, Held, Naming, Seat, SeatError};
-use wq_history::{Ask, Asked};
+use wq_history::{Ask, Asked, LaneAsk, LaneAsked};
 use wq_items::{ItemId, ItemTable};
 use wq_under_lock::{NewError, new_held};
 
@@ -72,8 +73,8 @@ impl<N: Naming, A: Allocator + Copy> WqRuntime<N, A> {
     ///
     /// The error is `TooManySeats` (70) where 65,535 were made, or else out of memory (20). After an error no seat is made.
     pub fn seat<R: Wait>(&self, rt: &R, alloc: A) -> Result<Seat<N, A>, SeatError>
-        ensures seat { IfOk result (λ s. s ≡ replicate (14 * items N.wiring) 0) }
-        ensures memory { result ≡ Err SeatOutOfMemory → 0 < items N.wiring }
+        ensures seat { IfOk result (λ s. s ≡ replicate (counts_each * slots N.wiring) 0) }
+        ensures memory { result ≡ Err SeatOutOfMemory → 0 < slots N.wiring }
         ensures limit { result ≡ Err TooManySeats → UnderLock N.wiring N.rows (λ h. h.seats ≡ 65535) }
     {
         self.lock.call(rt, &mut (), (), |held, _, _| {
@@ -156,6 +157,22 @@ impl<N: Naming, A: Allocator> WqRuntime<N, A> {
         })
     }
 
+    /// Begins a flush of a workqueue: asks whether it has an unfinished entry.
+    fn begin_flush_lane<R: Wait>(
+        &self,
+        rt: &R,
+        seat: &mut Seat<N, A>,
+        q: LaneId,
+    ) -> Result<LaneAsk, CallError>
+        ensures row { IfOk result (λ answer. (old : BookView) × (new : BookView) × AnswersAskLane old new q answer) }
+        ensures counted { IfOk result (λ answer. (q < N.wiring.lanes) × HasRoom seat.old × CountsAskLane seat.old seat.new q answer) }
+        ensures refused { IfErr result (λ e. RefusesFlushLane N.wiring q e × (seat.new ≡ seat.old)) }
+    {
+        self.lock.call(rt, seat, (), |held, seat, _| {
+            wq_under_lock::begin_flush_lane(held, seat, q)
+        })
+    }
+
     /// Begins a cancellation that waits: asks, and removes the pending entry of the item, under one hold of the lock.
     fn begin_cancel_sync<R: Wait>(
         &self,
@@ -182,6 +199,21 @@ impl<N: Naming, A: Allocator> WqRuntime<N, A> {
         })
     }
 
+    /// Waits until an ask about a workqueue is told that its wait is over.
+    fn be_told_lane<R: Wait>(
+        &self,
+        rt: &R,
+        seat: &mut Seat<N, A>,
+        asked: LaneAsked,
+    ) -> Result<(), CallError>
+        ensures told { OnOk result (seat.new ≡ raised_told seat.old asked.lane) }
+        ensures refused { IfErr result (λ e. (e ≡ NotAsked) × (seat.new ≡ seat.old)) }
+    {
+        self.lock.call(rt, seat, asked, |held, seat, asked| {
+            wq_under_lock::be_told_lane(held, seat, asked)
+        })
+    }
+
     /// Waits until none of an item's entries that were queued before the call is unfinished (`flush_work`): true where it had to
     /// wait, false where the item was idle.
     ///
@@ -204,6 +236,28 @@ impl<N: Naming, A: Allocator> WqRuntime<N, A> {
                 self.be_told(rt, seat, asked)?;
                 Ok(true)
             }
+        }
+    }
+
+    /// Waits until none of a workqueue's entries that were queued before the call is unfinished (`flush_workqueue`). It returns at
+    /// once where the workqueue is idle; what is queued after the call doesn't prolong the wait.
+    ///
+    /// The error is `WrongLane` (64), where there is no such workqueue, or else `HistoryFull` (60), where the seat is full or fewer
+    /// rows are free than it needs: 1 where the workqueue is idle, else 2. Then nothing is changed or counted. Once it has asked,
+    /// the only error could be `NotAsked` (65); then its ask stays counted.
+    #[tactic(auto, using(crate::proofs::WaitsRefused::lane_ask_refused, crate::proofs::WaitsRefused::lane_ask_not_counted))]
+    pub fn flush_workqueue<R: Wait>(
+        &self,
+        rt: &R,
+        seat: &mut Seat<N, A>,
+        q: LaneId,
+    ) -> Result<(), CallError>
+        ensures counted { OnOk result ((q < N.wiring.lanes) × HasRoom seat.old × ((waited : Bool) × (seat.new ≡ lane_flushed seat.old q waited))) }
+        ensures refused { IfErr result (λ e. RefusesFlushWorkqueue N.wiring seat.old q e × (seat.new ≡ lane_flush_refused seat.old q e)) }
+    {
+        match self.begin_flush_lane(rt, seat, q)? {
+            LaneAsk::Idle => Ok(()),
+            LaneAsk::Waiting(asked) => self.be_told_lane(rt, seat, asked),
         }
     }
 

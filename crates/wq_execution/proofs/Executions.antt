@@ -6,7 +6,7 @@ use Rattle.std.proofs.lemmas.Bool.{cases_lt, cases_eq}
 use Rattle.std.proofs.lemmas.List.Sums.{sum_by-cons, sum_by-drop_more, sum_by-take-drop, get_or-le-sum_by}
 use lib.Seq.{drop-drop}
 use Rattle.wq_counts.specs.declared.kind.Kind.TheVariants.{Finish}
-use Rattle.wq_counts.specs.Counting.{place, HasCountsOf, raised}
+use Rattle.wq_counts.specs.Counting.{counts_each, place, HasCountsOf, raised}
 use Rattle.wq_counts.proofs.Places.{place-same, made-raised_same, made-raised_other}
 use Rattle.wq_core.specs.Wiring.{Wiring}
 use Rattle.wq_held.specs.Locked.{IsOnLane, seat_rows}
@@ -43,25 +43,27 @@ one_more f g a (suc n) i le lt more same = elim (cases_lt a i) [
 pub finished_in_all-same : (n : ℕ) (old new : List ℕ) → SameFinished old new → finished_in_all n new ≡ finished_in_all n old
 finished_in_all-same n old new same = same_sum (finished_of old) (finished_of new) 0 n (λ j le. same j)
 
-pub finished_in_all-raised : (n : ℕ) (counts : List ℕ) (i : ℕ) → HasCountsOf n counts → i < n
+pub finished_in_all-raised : (n slots : ℕ) (counts : List ℕ) (i : ℕ) → HasCountsOf slots counts → n ≤ slots → i < n
     → finished_in_all n (raised counts i Finish true) ≡ finished_in_all n counts + 1
-finished_in_all-raised n counts i has lt =
-    one_more (finished_of counts) (finished_of (raised counts i Finish true)) 0 n i (omega arith) (omega arith) (finished_of-raised n counts i has lt) (finished_of-other_item counts i)
+finished_in_all-raised n slots counts i has within lt =
+    one_more (finished_of counts) (finished_of (raised counts i Finish true)) 0 n i (omega arith) (omega arith) (finished_of-raised slots counts i has (omega arith)) (finished_of-other_item counts i)
 
 -- those of the items from a on are among the counts from a's place on
 from_item : (n : ℕ) (counts : List ℕ) (a k : ℕ) → HasCountsOf n counts → a + k ≤ n
-    → sum_by (finished_of counts) (range_with_len a k) ≤ sum (drop (14 * a) counts)
+    → sum_by (finished_of counts) (range_with_len a k) ≤ sum (drop (counts_each * a) counts)
 from_item n counts a zero has within = omega arith
 from_item n counts a (suc k) has within =
-    let p : ℕ = 14 * a + 13 in
+    let p : ℕ = place a Finish true in
     let here = sum_by-drop_more (λ (x : ℕ). x) counts p 0 (omega (arith, has)) in
-    let skip = sum_by-take-drop (λ (x : ℕ). x) (drop (14 * a) counts) 13 in
-    let same : drop 13 (drop (14 * a) counts) ≡ drop p counts = drop-drop 13 (14 * a) counts in
-    let next : drop (p + 1) counts ≡ drop (14 * (a + 1)) counts = ap (λ (m : ℕ). drop m counts) (omega arith) in
-    omega (arith, sum_by-cons (finished_of counts) a (range_with_len (a + 1) k), here, skip, ap sum same, ap sum next, from_item n counts (a + 1) k has (omega arith))
+    let skip = sum_by-take-drop (λ (x : ℕ). x) (drop (counts_each * a) counts) 13 in
+    let same : drop 13 (drop (counts_each * a) counts) ≡ drop p counts = drop-drop 13 (counts_each * a) counts in
+    let others = sum_by-take-drop (λ (x : ℕ). x) (drop (p + 1) counts) 8 in
+    let rest : drop 8 (drop (p + 1) counts) ≡ drop (p + 1 + 8) counts = drop-drop 8 (p + 1) counts in
+    let next : drop (p + 1 + 8) counts ≡ drop (counts_each * (a + 1)) counts = ap (λ (m : ℕ). drop m counts) (omega arith) in
+    omega (arith, sum_by-cons (finished_of counts) a (range_with_len (a + 1) k), here, skip, others, ap sum same, ap sum rest, ap sum next, from_item n counts (a + 1) k has (omega arith))
 
-pub finished_in_all-le : (n : ℕ) (counts : List ℕ) → HasCountsOf n counts → finished_in_all n counts ≤ sum counts
-finished_in_all-le n counts has = from_item n counts 0 n has (omega arith)
+pub finished_in_all-le : (n slots : ℕ) (counts : List ℕ) → HasCountsOf slots counts → n ≤ slots → finished_in_all n counts ≤ sum counts
+finished_in_all-le n slots counts has within = from_item slots counts 0 n has (omega arith)
 
 pub finished_of-le : (n : ℕ) (counts : List ℕ) (i : ℕ) → HasCountsOf n counts → i < n → finished_of counts i ≤ sum counts
 finished_of-le n counts i has lt = get_or-le-sum_by (λ (x : ℕ). x) counts (place i Finish true) 0 (omega (arith, has))
@@ -81,12 +83,12 @@ one_fault_at_most (Ok answer) = omega arith
 one_fault_at_most (Err fault) = omega arith
 
 -- what was counted before its body ran is so after it; and then one more execution is finished
-pub serving_more : (items : ℕ) (before counts after : List ℕ) (width wider : ℕ) (runs now : ℕ → ℕ) (finished faults more_finished more_faults i : ℕ)
-    → IsServing items before counts width runs finished faults → wider ≡ width → HasCountsOf items after → i < items
+pub serving_more : (items slots : ℕ) (before counts after : List ℕ) (width wider : ℕ) (runs now : ℕ → ℕ) (finished faults more_finished more_faults i : ℕ)
+    → IsServing items before counts width runs finished faults → wider ≡ width → HasCountsOf slots after → items ≤ slots → i < items
     → SameFinished counts after → RanOnce runs now i → more_finished ≡ finished + 1 → more_faults ≤ faults + 1
     → (counted : List ℕ) → counted ≡ raised after i Finish true
     → IsServing items before counted wider now more_finished more_faults
-serving_more items before counts after width wider runs now finished faults more_finished more_faults i serving same_width has lt same once one few counted counted_is = subst (λ cs. IsServing items before cs wider now more_finished more_faults) (sym counted_is) (record {
+serving_more items slots before counts after width wider runs now finished faults more_finished more_faults i serving same_width has within lt same once one few counted counted_is = subst (λ cs. IsServing items before cs wider now more_finished more_faults) (sym counted_is) (record {
   wide = omega (arith, serving.wide, same_width);
   ran = λ j. elim (cases_eq j i) [
     | inl e ↦ (omega (
@@ -97,14 +99,14 @@ serving_more items before counts after width wider runs now finished faults more
       ap (finished_of counts) e,
       ap now e,
       ap runs e,
-      finished_of-raised items after i has lt,
+      finished_of-raised slots after i has (omega arith),
       same i,
       serving.ran i,
       once.0,
     ))
     | inr ne ↦ (omega (arith, finished_of-other_item after i j ne, same j, serving.ran j, once.1 j ne))
   ];
-  in_all = omega (arith, one, finished_in_all-raised items after i has lt, finished_in_all-same items counts after same, serving.in_all);
+  in_all = omega (arith, one, finished_in_all-raised items slots after i has within lt, finished_in_all-same items counts after same, serving.in_all);
   faults_within = omega (arith, one, serving.faults_within, few);
 })
 
@@ -125,11 +127,11 @@ ran_only_more w q runs now i only once on = λ j ran. elim (cases_eq j i) [
 ]
 
 -- one more execution can be counted: a seat that isn't full has counted fewer
-pub few_finished : (items : ℕ) (before counts : List ℕ) (width : ℕ) (runs : ℕ → ℕ) (finished faults : ℕ)
-    → IsServing items before counts width runs finished faults → HasCountsOf items counts → sum counts < seat_rows
+pub few_finished : (items slots : ℕ) (before counts : List ℕ) (width : ℕ) (runs : ℕ → ℕ) (finished faults : ℕ)
+    → IsServing items before counts width runs finished faults → HasCountsOf slots counts → items ≤ slots → sum counts < seat_rows
     → (finished < 4294967295) × (faults < 4294967295)
-few_finished items before counts width runs finished faults serving has room =
-    let few : finished < 4294967295 = omega (arith, serving.in_all, finished_in_all-le items counts has) in
+few_finished items slots before counts width runs finished faults serving has within room =
+    let few : finished < 4294967295 = omega (arith, serving.in_all, finished_in_all-le items slots counts has within) in
     (few, omega (arith, serving.faults_within, few))
 
 -- a number that isn't at its limit is below it

@@ -1,16 +1,17 @@
 //! What the body of a work item may do while it runs: queue, cancel and flush.
 //!
 //! A body runs outside the lock, on the rescuer of its workqueue. What it does counts in the seat of that rescuer. It may flush
-//! only what its item declares, and no more often (`flush_work` in a work function, Documentation/core-api/workqueue.rst,
-//! "Guidelines"). Apart from what it waits for, a call takes the time of the runtime's own call.
+//! only what its item declares, items and whole workqueues, and no more often (`flush_work` and `flush_workqueue` in a work
+//! function, Documentation/core-api/workqueue.rst, "Guidelines"). Apart from what it waits for, a call takes the time of the
+//! runtime's own call.
 
-ghost use Rattle.std.specs.Prelude.{◌≡◌, ◌<◌, IfOk, IfErr};
+ghost use Rattle.std.specs.Prelude.{◌≡◌, ◌<◌, true, false, IfOk, IfErr};
 ghost use Rattle.wq_core.specs.Wiring.{items};
 ghost use Rattle.wq_counts.specs.declared.kind.Kind.TheVariants.{Queue, Cancel};
 ghost use Rattle.wq_counts.specs.Counting.{HasCountsOf, raised};
-ghost use Rattle.wq_held.specs.Locked.{HasRoom};
+ghost use Rattle.wq_held.specs.Locked.{slots, HasRoom};
 ghost use Rattle.wq_under_lock.specs.Refusals.{RefusesCancelWork, RefusesWaitFor};
-ghost use Rattle.wq_api.specs.WaitingCalls.{waited_for, RefusedWaitFor};
+ghost use Rattle.wq_api.specs.WaitingCalls.{waited_for, RefusedWaitFor, HasWaiter};
 ghost use Rattle.wq_execution.specs.Executing.{SameFinished, RefusesQueueByBody};
 
 use std::alloc::Allocator;
@@ -26,7 +27,7 @@ pub struct Work<'a, N: Naming, A: Allocator> {
     seat: &'a mut Seat<N, A>,
     lane: LaneId,
     item: ItemId,
-    /// What the latest flush answered. Contracts alone look at it.
+    /// What the latest flush, of an item or of a workqueue, answered. Contracts alone look at it.
     flushed: Result<bool, CallError>,
 }
 
@@ -52,9 +53,9 @@ impl<'a, N: Naming, A: Allocator> Work<'a, N, A> {
         }
     }
 
-    /// States what holds of the counts of its seat: there are 14 for each item.
+    /// States what holds of the counts of its seat: there are 22 for each item, or for each workqueue where there are more of those.
     pub fn holds(&self)
-        ensures { HasCountsOf (items N.wiring) self.now.seat.now }
+        ensures { HasCountsOf (slots N.wiring) self.now.seat.now }
     {
         self.seat.holds();
     }
@@ -103,12 +104,13 @@ impl<'a, N: Naming, A: Allocator> Work<'a, N, A> {
     /// Waits until none of an item's entries that were queued before the call is unfinished: true where one was when the wait began.
     ///
     /// The error is the first of these that holds: `HistoryFull` (60), where the seat is full; `Undeclared` (62), where the
-    /// running item declares no flush of this one; `TooManyWaits` (63), where it has made as many as it declares. Then nothing is
-    /// changed or counted. `WrongLane` (64) comes only where another caller drives the same workqueue. If that happens during the
-    /// wait, the wait stays counted.
+    /// running item declares no flush of this one alone; `TooManyWaits` (63), where it has made as many as it declares, of both
+    /// kinds. Then nothing is changed or counted. `WrongLane` (64) comes only where another caller drives the same workqueue. If
+    /// that happens during the wait, the wait stays counted.
     pub fn flush<R: Wait>(&mut self, rt: &R, target: ItemId) -> Result<bool, CallError>
-        ensures counted { IfOk result (λ unfinished. (self.old.lane < N.wiring.lanes) × (target < items N.wiring) × HasRoom self.old.seat.now × (self.new.seat.now ≡ waited_for self.old.seat.now target unfinished)) }
-        ensures refused { IfErr result (λ e. RefusesWaitFor N.wiring self.old.seat.now self.old.lane e × RefusedWaitFor N.wiring self.old.seat.now self.new.seat.now self.old.lane target e) }
+        ensures counted { IfOk result (λ unfinished. (self.old.lane < N.wiring.lanes) × (target < items N.wiring) × HasRoom self.old.seat.now × (self.new.seat.now ≡ waited_for self.old.seat.now false target unfinished)) }
+        ensures refused { IfErr result (λ e. RefusesWaitFor N.wiring self.old.seat.now self.old.lane e × RefusedWaitFor N.wiring self.old.seat.now self.new.seat.now self.old.lane false target e) }
+        ensures waiter { self.old.lane < N.wiring.lanes → HasRoom self.old.seat.now → HasWaiter N.wiring self.old.lane false target result }
         ensures finished { SameFinished self.old.seat.now self.new.seat.now }
         ensures same_seat { self.new.seat.ghost_name ≡ self.old.seat.ghost_name }
         ensures lane { self.new.lane ≡ self.old.lane }
@@ -116,6 +118,27 @@ impl<'a, N: Naming, A: Allocator> Work<'a, N, A> {
         ensures flushed { self.new.flushed ≡ result }
     {
         self.flushed = self.runtime.wait_for(rt, self.seat, self.lane, target);
+        self.flushed
+    }
+
+    /// Waits until none of the entries that were queued before the call on an item's workqueue is unfinished: true where one was
+    /// when the wait began.
+    ///
+    /// The error is the first of these that holds: `HistoryFull` (60), where the seat is full; `Undeclared` (62), where the
+    /// running item declares no flush of the whole workqueue of this very item; `TooManyWaits` (63), where it has made as many
+    /// flushes as it declares, of both kinds. Then nothing is changed or counted. `WrongLane` (64) comes only where another caller
+    /// drives the same workqueue as this body. If that happens during the wait, the wait stays counted.
+    pub fn flush_wq<R: Wait>(&mut self, rt: &R, target: ItemId) -> Result<bool, CallError>
+        ensures counted { IfOk result (λ unfinished. (self.old.lane < N.wiring.lanes) × (target < items N.wiring) × HasRoom self.old.seat.now × (self.new.seat.now ≡ waited_for self.old.seat.now true target unfinished)) }
+        ensures refused { IfErr result (λ e. RefusesWaitFor N.wiring self.old.seat.now self.old.lane e × RefusedWaitFor N.wiring self.old.seat.now self.new.seat.now self.old.lane true target e) }
+        ensures waiter { self.old.lane < N.wiring.lanes → HasRoom self.old.seat.now → HasWaiter N.wiring self.old.lane true target result }
+        ensures finished { SameFinished self.old.seat.now self.new.seat.now }
+        ensures same_seat { self.new.seat.ghost_name ≡ self.old.seat.ghost_name }
+        ensures lane { self.new.lane ≡ self.old.lane }
+        ensures item { self.new.item ≡ self.old.item }
+        ensures flushed { self.new.flushed ≡ result }
+    {
+        self.flushed = self.runtime.wait_all_for(rt, self.seat, self.lane, target);
         self.flushed
     }
 }

@@ -3,6 +3,7 @@ use Rattle.std.specs.Prelude.{◌≡◌, ◌≢◌, ℕ, ◌+◌, ◌*◌, ◌<�
 use Rattle.std.specs.Result.{ForOk, ForErr}
 use Rattle.std.specs.List.{All, sum_by}
 use Rattle.wq_core.specs.Wiring.{Wiring, items}
+use Rattle.wq_counts.specs.Counting.{counts_each}
 use Rattle.wq_held.specs.declared.fault.CallError.{CallError}
 use Rattle.wq_execution.specs.declared.rescuing.Rescued.{Rescued}
 use Rattle.wq_rescuer.specs.declared.running.RunWhy.{RunWhy}
@@ -63,7 +64,7 @@ HasRoomFor count length capacity = (length ≡ 0) × (count ≤ capacity)
 
 -- the seats that were made before a thread starts: fewer than this many, and none of them has counted anything
 abbrev pub AreFirstSeats : ℕ → ℕ → List (List ℕ) → Type 0
-AreFirstSeats items wanted seats = (length seats < wanted) × All (λ seat. seat ≡ replicate (14 * items) 0) seats
+AreFirstSeats slots wanted seats = (length seats < wanted) × All (λ seat. seat ≡ replicate (counts_each * slots) 0) seats
 
 -- seats or memory were lacking, before any thread was started
 abbrev pub IsNoSeat : RunWhy → Type 0

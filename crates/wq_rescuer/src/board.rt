@@ -5,6 +5,8 @@
 ghost use Rattle.std.specs.Prelude.{◌≡◌, ℕ, ◌+◌, ◌*◌, ◌<◌, ◌≤◌, replicate, vec_len, vec_capacity, IfOk, OnErr};
 ghost use Rattle.std.specs.List.{All};
 ghost use Rattle.wq_core.specs.Wiring.{items};
+ghost use Rattle.wq_counts.specs.Counting.{counts_each};
+ghost use Rattle.wq_held.specs.Locked.{slots};
 ghost use Rattle.wq_execution.specs.Executing.{NeverRan};
 ghost use Rattle.wq_rescuer.specs.Serving.{HasRoomFor};
 
@@ -72,7 +74,7 @@ pub(crate) fn add_lanes<N: Naming, A: Allocator, B: Body + Drop>(
     requires few { vec_len bodies.old ≤ 256 }
     requires room { vec_len jobs.old + vec_len bodies.old ≤ vec_capacity jobs.old }
     requires seats { vec_len bodies.old ≤ vec_len seats.old }
-    requires no_counts { All (λ seat. seat ≡ replicate (14 * items N.wiring) 0) seats.old.items }
+    requires no_counts { All (λ seat. seat ≡ replicate (counts_each * slots N.wiring) 0) seats.old.items }
     requires width { All (λ body. items N.wiring ≤ B.width body) bodies.old.items }
     requires never_ran { All (λ body. NeverRan (B.runs body)) bodies.old.items }
     ensures jobs { vec_len jobs.new ≡ vec_len jobs.old + vec_len bodies.old }
@@ -98,11 +100,11 @@ pub(crate) fn add_callers<N: Naming, A: Allocator, C: Caller + Drop>(
 )
     requires room { vec_len jobs.old + vec_len callers.old ≤ vec_capacity jobs.old }
     requires seats { vec_len callers.old ≤ vec_len seats.old }
-    requires no_counts { All (λ seat. seat ≡ replicate (14 * items N.wiring) 0) seats.old.items }
+    requires no_counts { All (λ seat. seat ≡ replicate (counts_each * slots N.wiring) 0) seats.old.items }
     ensures jobs { vec_len jobs.new ≡ vec_len jobs.old + vec_len callers.old }
     ensures seats { vec_len seats.new + vec_len callers.old ≡ vec_len seats.old }
     ensures seat_room { vec_capacity seats.new ≡ vec_capacity seats.old }
-    ensures no_counts { All (λ seat. seat ≡ replicate (14 * items N.wiring) 0) seats.new.items }
+    ensures no_counts { All (λ seat. seat ≡ replicate (counts_each * slots N.wiring) 0) seats.new.items }
     ensures no_callers { vec_len callers.new ≡ 0 }
     ensures caller_room { vec_capacity callers.new ≡ vec_capacity callers.old }
 {

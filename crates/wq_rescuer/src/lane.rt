@@ -5,6 +5,8 @@
 
 ghost use Rattle.std.specs.Prelude.{◌≡◌, ℕ, ◌≤◌, ◌*◌, replicate};
 ghost use Rattle.wq_core.specs.Wiring.{items};
+ghost use Rattle.wq_counts.specs.Counting.{counts_each};
+ghost use Rattle.wq_held.specs.Locked.{slots};
 ghost use Rattle.wq_execution.specs.Executing.{NeverRan};
 ghost use Rattle.wq_rescuer.specs.Serving.{IsServed};
 
@@ -20,7 +22,7 @@ pub(crate) struct LaneJob<N: Naming, A: Allocator, B: Body + Drop> {
     lane: LaneId,
     pub(crate) seat: Seat<N, A>,
     pub(crate) body: B,
-    ghost no_counts: { seat ≡ replicate (14 * items N.wiring) 0 },
+    ghost no_counts: { seat ≡ replicate (counts_each * slots N.wiring) 0 },
     ghost width: { items N.wiring ≤ B.width body },
     ghost never_ran: { NeverRan (B.runs body) },
 }
@@ -38,7 +40,7 @@ pub(crate) struct LaneEnd<N: Naming, A: Allocator, B: Body + Drop> {
 impl<N: Naming, A: Allocator, B: Body + Drop> LaneJob<N, A, B> {
     /// A lane, its seat and its body.
     pub(crate) fn new(lane: LaneId, seat: Seat<N, A>, body: B) -> Self
-        requires no_counts { seat ≡ replicate (14 * items N.wiring) 0 }
+        requires no_counts { seat ≡ replicate (counts_each * slots N.wiring) 0 }
         requires width { items N.wiring ≤ B.width body }
         requires never_ran { NeverRan (B.runs body) }
     {

@@ -6,6 +6,7 @@
 ghost use Rattle.std.specs.Prelude.{◌≡◌, ◌≢◌, ℕ, ◌+◌, ◌<◌, ◌≤◌, [], map, vec_len, IfOk, IfErr};
 ghost use Rattle.std.specs.List.{All};
 ghost use Rattle.wq_core.specs.Wiring.{items};
+ghost use Rattle.wq_held.specs.Locked.{slots};
 ghost use Rattle.wq_execution.specs.Executing.{NeverRan};
 ghost use Rattle.wq_rescuer.specs.Serving.{AreFirstSeats, IsNoSeat, IsRan, RefusesRun, run_code};
 ghost use Rattle.wq_rescuer.specs.declared.running.RunWhy.TheVariants.{BodiesDiffer, OutOfMemory, NoThread};
@@ -116,7 +117,7 @@ pub fn run_all<
     ensures ran { IfOk result (λ r. (vec_len bodies ≡ N.wiring.lanes) × IsRan N.wiring N.wiring.lanes (vec_len callers) r.seats.items (map B.runs r.bodies.items) (vec_len r.callers) (vec_len r.results) r.rescued.items r.finished r.faults) }
     ensures refused { IfErr result (λ f. RefusesRun N.wiring.lanes (vec_len bodies) f.why) }
     ensures no_seats { IfErr result (λ f. f.why ≡ BodiesDiffer → f.seats.items ≡ []) }
-    ensures made { IfErr result (λ f. IsNoSeat f.why → AreFirstSeats (items N.wiring) (vec_len bodies + vec_len callers) f.seats.items) }
+    ensures made { IfErr result (λ f. IsNoSeat f.why → AreFirstSeats (slots N.wiring) (vec_len bodies + vec_len callers) f.seats.items) }
     ensures memory { IfErr result (λ f. f.why ≡ OutOfMemory → 0 < vec_len bodies + vec_len callers) }
     ensures kept { IfErr result (λ f. f.why ≢ NoThread → (f.bodies.items ≡ bodies.items) × (f.callers.items ≡ callers.items)) }
 {

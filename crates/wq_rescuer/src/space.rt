@@ -1,11 +1,13 @@
 //! What a run takes before any thread starts: a seat for each lane and each caller, and memory for their jobs, for what comes
 //! back of them and for their answers.
 //!
-//! It takes time and memory in the number of seats times that of items: for each item a seat has 112 bytes of counts.
+//! It takes time and memory in the number of seats times that of items or of workqueues, whichever is larger: for each of these a
+//! seat has 176 bytes of counts.
 
 ghost use Rattle.std.specs.Prelude.{◌≡◌, ℕ, ◌+◌, ◌*◌, ◌<◌, ◌≤◌, ◌^◌, [], replicate, vec_len, vec_capacity, IfOk, OnOk, IfErr, OnErr};
 ghost use Rattle.std.specs.List.{All};
-ghost use Rattle.wq_core.specs.Wiring.{items};
+ghost use Rattle.wq_counts.specs.Counting.{counts_each};
+ghost use Rattle.wq_held.specs.Locked.{slots};
 ghost use Rattle.wq_rescuer.specs.Serving.{AreFirstSeats, HasRoomFor, IsNoSeat, RefusesRun};
 ghost use Rattle.wq_rescuer.specs.declared.running.RunWhy.TheVariants.{BodiesDiffer, OutOfMemory};
 
@@ -71,7 +73,7 @@ fn make_seats<N: Naming, A: Allocator + Copy, R: Wait>(
     requires none { seats.old.items ≡ [] }
     requires room { wanted ≤ vec_capacity seats.old }
     ensures room { vec_capacity seats.new ≡ vec_capacity seats.old }
-    ensures no_counts { All (λ seat. seat ≡ replicate (14 * items N.wiring) 0) seats.new.items }
+    ensures no_counts { All (λ seat. seat ≡ replicate (counts_each * slots N.wiring) 0) seats.new.items }
     ensures all { OnOk result (vec_len seats.new ≡ wanted) }
     ensures few { OnErr result (vec_len seats.new < wanted) }
     ensures refused { IfErr result (λ why. IsNoSeat why) }
@@ -103,10 +105,10 @@ pub(crate) fn reserve<N: Naming, A: Allocator + Copy, R: Wait, B: Body + Drop, C
         × HasRoomFor callers (vec_len r.board.callers.ends) (vec_capacity r.board.callers.ends)
         × HasRoomFor callers (vec_len r.results) (vec_capacity r.results)) }
     ensures seats { IfOk result (λ r. (vec_len r.seats ≡ lanes + callers) × (lanes + callers ≤ vec_capacity r.seats)
-        × All (λ seat. seat ≡ replicate (14 * items N.wiring) 0) r.seats.items) }
+        × All (λ seat. seat ≡ replicate (counts_each * slots N.wiring) 0) r.seats.items) }
     ensures refused { IfErr result (λ e. RefusesRun N.wiring.lanes lanes e.why) }
     ensures no_seats { IfErr result (λ e. e.why ≡ BodiesDiffer → e.seats.items ≡ []) }
-    ensures made { IfErr result (λ e. IsNoSeat e.why → AreFirstSeats (items N.wiring) (lanes + callers) e.seats.items) }
+    ensures made { IfErr result (λ e. IsNoSeat e.why → AreFirstSeats (slots N.wiring) (lanes + callers) e.seats.items) }
     ensures memory { IfErr result (λ e. e.why ≡ OutOfMemory → 0 < lanes + callers) }
 {
     if lanes != usize::from(runtime.lanes(rt)) {

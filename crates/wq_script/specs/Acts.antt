@@ -5,15 +5,16 @@ use Rattle.wq_counts.specs.declared.kind.Kind.TheVariants.{Queue as QueueKind, C
 use Rattle.wq_counts.specs.Counting.{raised}
 use Rattle.wq_held.specs.declared.fault.CallError.{CallError}
 use Rattle.wq_under_lock.specs.Refusals.{RefusesCancelWork}
-use Rattle.wq_api.specs.WaitingCalls.{RefusesFlushWork, flushed, flush_refused, CountsCancelSync, RefusedCancelSync}
+use Rattle.wq_api.specs.WaitingCalls.{RefusesFlushWork, flushed, flush_refused, CountsCancelSync, RefusedCancelSync, RefusesFlushWorkqueue, lane_flushed, lane_flush_refused}
 use Rattle.wq_rescuer.specs.Executing.{RefusesQueueByBody}
 use Rattle.wq_script.specs.declared.acting.Act.{Act}
-use Rattle.wq_script.specs.declared.acting.Act.TheVariants.{Queue, Flush, Cancel, CancelSync}
+use Rattle.wq_script.specs.declared.acting.Act.TheVariants.{Queue, Flush, FlushLane, Cancel, CancelSync}
 
--- counts after an act that was answered, on an item that exists
+-- counts after an act that was answered, on an item or a lane that exists
 abbrev pub CountsAct : Wiring → List ℕ → List ℕ → Act → Type 0
 CountsAct w old new (Queue i) = (i < items w) × (accepted : Bool) × (new ≡ raised old i QueueKind accepted)
 CountsAct w old new (Flush i) = (i < items w) × (waited : Bool) × (new ≡ flushed old i waited)
+CountsAct w old new (FlushLane q) = (q < w.lanes) × (waited : Bool) × (new ≡ lane_flushed old q waited)
 CountsAct w old new (Cancel i) = (i < items w) × (taken : Bool) × (new ≡ raised old i CancelKind taken)
 CountsAct w old new (CancelSync i) = (i < items w) × (taken : Bool) × CountsCancelSync old new i taken
 
@@ -22,6 +23,7 @@ CountsAct w old new (CancelSync i) = (i < items w) × (taken : Bool) × CountsCa
 abbrev pub RefusedAct : Wiring → List ℕ → List ℕ → Act → CallError → Type 0
 RefusedAct w old new (Queue i) e = RefusesQueueByBody w old i e × (new ≡ old)
 RefusedAct w old new (Flush i) e = RefusesFlushWork w old i e × (new ≡ flush_refused old i e)
+RefusedAct w old new (FlushLane q) e = RefusesFlushWorkqueue w old q e × (new ≡ lane_flush_refused old q e)
 RefusedAct w old new (Cancel i) e = RefusesCancelWork w i e × (new ≡ old)
 RefusedAct w old new (CancelSync i) e = RefusesFlushWork w old i e × RefusedCancelSync old new i e
 

@@ -1,9 +1,8 @@
 -- Scripts: what a scripted body keeps, and what the seat of its rescuer counts of its flushes.
-use Rattle.std.specs.Prelude.{◌≡◌, ℕ, ◌+◌, ◌≤◌, ◌==◌, ◌⊎◌, List, Bool, Result, Err, length, take, slice_index, true, false}
+use Rattle.std.specs.Prelude.{◌≡◌, ◌≢◌, ℕ, ◌+◌, ◌≤◌, ◌==◌, ◌&&◌, not, if◌then◌else◌, ◌⊎◌, List, Bool, Result, Err, length, take, slice_index, true, false}
 use Rattle.std.specs.List.{count_by}
 use Rattle.wq_items.specs.declared.target.Target.{Target}
-use Rattle.wq_counts.specs.declared.kind.Kind.TheVariants.{Wait}
-use Rattle.wq_counts.specs.Counting.{made}
+use Rattle.wq_counts.specs.Counting.{place, made, wait_kind, over_kind}
 use Rattle.wq_held.specs.declared.fault.CallError.{CallError}
 use Rattle.wq_held.specs.Errors.{call_code}
 
@@ -16,21 +15,31 @@ pub record Script : Type 0 where
 abbrev pub runs_of : Script → ℕ → ℕ
 runs_of script i = slice_index script.runs i
 
--- how many waits for item b a seat counts, whatever their answers
-abbrev pub waits_of : List ℕ → ℕ → ℕ
-waits_of counts b = made counts b Wait true + made counts b Wait false
+-- how many waits for item b a seat counts, or how many for its whole workqueue, whatever their answers
+abbrev pub waits_of : List ℕ → Bool → ℕ → ℕ
+waits_of counts whole b = made counts b (wait_kind whole) true + made counts b (wait_kind whole) false
 
--- how often item b is among these targets
-abbrev pub times_among : List Target → ℕ → ℕ
-times_among targets b = count_by (λ (t : Target). t.item == b) targets
+-- the target is item b, or its whole workqueue
+abbrev pub is_target : Bool → ℕ → Target → Bool
+is_target whole b t = (if whole then t.whole else not t.whole) && (t.item == b)
 
--- for each item, a seat counts one more wait for each time that the item is among these targets
+-- how often item b, or its whole workqueue, is among these targets
+abbrev pub times_among : List Target → Bool → ℕ → ℕ
+times_among targets whole b = count_by (λ (t : Target). is_target whole b t) targets
+
+-- for each item and each kind of wait, a seat counts one more wait for each time that the item is among these targets with this
+-- kind
 abbrev pub CountsWaits : List ℕ → List ℕ → List Target → Type 0
-CountsWaits old new targets = (b : ℕ) → waits_of new b ≡ waits_of old b + times_among targets b
+CountsWaits old new targets = (b : ℕ) (whole : Bool) → waits_of new whole b ≡ waits_of old whole b + times_among targets whole b
 
--- for each item, a seat counts one more wait for each time that the item is among the first n of these targets, for some n
+-- the same of the first n of these targets, for some n
 abbrev pub CountsFirstWaits : List ℕ → List ℕ → List Target → Type 0
 CountsFirstWaits old new targets = (n : ℕ) × (n ≤ length targets) × CountsWaits old new (take n targets)
+
+-- whatever else a seat counts is as before: no count is changed but those of waits and of their ends
+abbrev pub CountsOnlyWaits : List ℕ → List ℕ → Type 0
+CountsOnlyWaits old new = (p : ℕ) → ((b : ℕ) (whole said : Bool) → p ≢ place b (wait_kind whole) said) → ((b : ℕ) (whole : Bool) → p ≢ place b (over_kind whole) true)
+    → slice_index new p ≡ slice_index old p
 
 -- the number of a refusal of a flush by a body: the seat is full; no such flush is declared; as many were made as are
 -- declared; the lane can't wait

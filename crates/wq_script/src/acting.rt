@@ -1,4 +1,4 @@
-//! Acts: the calls that a scripted caller makes, each with its item.
+//! Acts: the calls that a scripted caller makes, each with its item or its workqueue.
 //!
 //! They are the calls of kernel/workqueue.c that a driver makes outside its work functions. Each takes the time of the runtime's
 //! call, including what that waits for.
@@ -13,6 +13,7 @@ ghost use Rattle.wq_script.specs.Acts.{CountsAct, RefusedAct};
 use std::alloc::Allocator;
 use std::sync::Wait;
 use wq_api::{CallError, Naming, Seat, WqRuntime};
+use wq_groups::LaneId;
 use wq_items::ItemId;
 
 /// One call of a scripted caller.
@@ -22,6 +23,8 @@ pub enum Act {
     Queue(ItemId),
     /// Waits for the item (`flush_work`).
     Flush(ItemId),
+    /// Waits for the whole workqueue (`flush_workqueue`).
+    FlushLane(LaneId),
     /// Removes the pending entry of the item (`cancel_work`).
     Cancel(ItemId),
     /// Removes the pending entry of the item, and waits for the item (`cancel_work_sync`).
@@ -68,6 +71,7 @@ impl Act {
                 runtime.flush_work(rt, seat, *item)?;
                 Ok(())
             }
+            Act::FlushLane(q) => runtime.flush_workqueue(rt, seat, *q),
             Act::Cancel(item) => {
                 runtime.cancel_work(rt, seat, *item)?;
                 Ok(())

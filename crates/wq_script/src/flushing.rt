@@ -1,20 +1,23 @@
 //! Scripted bodies: the body of an item flushes what the item declares, in order, and nothing else.
 //!
-//! This is all that a declaration lets a work function wait for: `flush_work` of each target, once for each declared flush
-//! ("Guidelines" in Documentation/core-api/workqueue.rst; `flush_work` in kernel/workqueue.c). Apart from what it waits for, a
-//! run takes time in the number of its item's flushes. `new` takes time and memory in the number of items, 4 bytes for each. How
-//! often an item ran is answered in constant time.
+//! This is all that a declaration lets a work function wait for: `flush_work` of each target, or `flush_workqueue` of its whole
+//! workqueue, once for each declared flush ("Guidelines" in Documentation/core-api/workqueue.rst; `flush_work` and
+//! `flush_workqueue` in kernel/workqueue.c). Apart from what it waits for, a run takes time in the number of its item's flushes.
+//! `new` takes time and memory in the number of items, 4 bytes for each. How often an item ran is answered in constant time.
 
 ghost use Rattle.std.specs.Prelude.{◌≡◌, ◌<◌, ◌≤◌, length, sum, IfOk, IfErr, OnOk, OnErr};
 ghost use Rattle.wq_items.specs.Table.{targets_of};
+ghost use Rattle.wq_core.specs.Wiring.{items};
 ghost use Rattle.wq_held.specs.Locked.{seat_rows};
+ghost use Rattle.wq_under_lock.specs.Refusals.{RefusesWaitFor};
+ghost use Rattle.wq_api.specs.WaitingCalls.{waited_for, RefusedWaitFor};
 ghost use Rattle.wq_rescuer.specs.Executing.{NeverRan, RanOnce, SameFinished};
-ghost use Rattle.wq_script.specs.Scripts.{runs_of, CountsWaits, CountsFirstWaits, IsFlushCode, IsCodeOf};
+ghost use Rattle.wq_script.specs.Scripts.{runs_of, CountsWaits, CountsFirstWaits, CountsOnlyWaits, IsFlushCode, IsCodeOf};
 
 use std::alloc::{AllocError, Allocator};
 use std::marker::Model;
 use std::sync::Wait;
-use wq_api::Naming;
+use wq_api::{CallError, Naming};
 use wq_items::{ItemId, ItemTable, Target};
 use wq_rescuer::{Body, BodyFault, Work};
 
@@ -53,7 +56,27 @@ impl<'t, 'a, A: Allocator + Copy> ScriptBody<'t, 'a, A> {
     }
 }
 
-/// Flushes the items of the targets, in order, until one is refused. The number of the refusal is the code of the fault.
+/// Flushes the item of a target, or its whole workqueue, as the target says: true where that had an unfinished entry when the wait
+/// began. The error is that of the flush.
+fn flush_target<N: Naming, S: Allocator, R: Wait>(
+    rt: &R,
+    target: &Target,
+    work: &mut Work<'_, N, S>,
+) -> Result<bool, CallError>
+    ensures counted { IfOk result (λ unfinished. (target.now.item < items N.wiring) × (work.new.seat.now ≡ waited_for work.old.seat.now target.now.whole target.now.item unfinished)) }
+    ensures refused { IfErr result (λ e. RefusesWaitFor N.wiring work.old.seat.now work.old.lane e × RefusedWaitFor N.wiring work.old.seat.now work.new.seat.now work.old.lane target.now.whole target.now.item e) }
+    ensures finished { SameFinished work.old.seat.now work.new.seat.now }
+    ensures same_seat { work.new.seat.ghost_name ≡ work.old.seat.ghost_name }
+    ensures flushed { work.new.flushed ≡ result }
+{
+    if target.whole {
+        work.flush_wq(rt, target.item)
+    } else {
+        work.flush(rt, target.item)
+    }
+}
+
+/// Makes the flushes of the targets, in order, until one is refused. The number of the refusal is the code of the fault.
 fn flush_each<N: Naming, S: Allocator, R: Wait>(
     rt: &R,
     targets: &[Target],
@@ -61,6 +84,7 @@ fn flush_each<N: Naming, S: Allocator, R: Wait>(
 ) -> Result<(), BodyFault>
     ensures flushed { OnOk result (CountsWaits work.old.seat.now work.new.seat.now targets.now) }
     ensures cut_off { OnErr result (CountsFirstWaits work.old.seat.now work.new.seat.now targets.now) }
+    ensures only_waits { CountsOnlyWaits work.old.seat.now work.new.seat.now }
     ensures code { IfErr result (λ f. IsFlushCode f.code) }
     ensures full { IfErr result (λ f. f.code ≡ 60 → seat_rows ≤ sum work.new.seat.now) }
     ensures finished { SameFinished work.old.seat.now work.new.seat.now }
@@ -69,7 +93,7 @@ fn flush_each<N: Naming, S: Allocator, R: Wait>(
 {
     for target in targets {
         work.holds();
-        if let Err(e) = work.flush(rt, target.item) {
+        if let Err(e) = flush_target(rt, target, work) {
             return Err(BodyFault { code: e.code() });
         }
     }
@@ -81,7 +105,8 @@ impl<'t, 'a, A: Allocator + Copy> Body for ScriptBody<'t, 'a, A> {
 
     ghost runs = { runs_of };
 
-    /// Counts a run of the item, and flushes what it declares, in order and each as often as it is declared.
+    /// Counts a run of the item, and flushes what it declares, items and whole workqueues, in order and each as often as it is
+    /// declared.
     ///
     /// The error is the first refusal of a flush, and its number is the code of the fault: `HistoryFull` (60), where the seat is
     /// full; `Undeclared` (62) or `TooManyWaits` (63), where the runtime isn't of this table; `WrongLane` (64), where another
@@ -101,6 +126,7 @@ impl<'t, 'a, A: Allocator + Copy> Body for ScriptBody<'t, 'a, A> {
         ensures waits { self.new.waits ≡ self.old.waits }
         ensures flushed { OnOk result (CountsWaits work.old.seat.now work.new.seat.now (targets_of self.old.waits item)) }
         ensures cut_off { OnErr result (CountsFirstWaits work.old.seat.now work.new.seat.now (targets_of self.old.waits item)) }
+        ensures only_waits { CountsOnlyWaits work.old.seat.now work.new.seat.now }
         ensures code { IfErr result (λ f. IsFlushCode f.code) }
         ensures full { IfErr result (λ f. f.code ≡ 60 → seat_rows ≤ sum work.new.seat.now) }
         ensures cause { IfErr result (λ f. IsCodeOf work.new.flushed f.code) }

@@ -1,6 +1,8 @@
 use Rattle.std.proofs.Common.{◌≡◌, ◌+◌, ◌*◌, ◌≤◌, replicate, vec_len, vec_capacity}
 use Rattle.std.specs.List.{All}
 use Rattle.wq_core.specs.Wiring.{items}
+use Rattle.wq_counts.specs.Counting.{counts_each}
+use Rattle.wq_held.specs.Locked.{slots}
 use Rattle.wq_execution.specs.Executing.{NeverRan}
 use Rattle.wq_rescuer.proofs.board.add_lanes.Given as goal
 
@@ -11,7 +13,7 @@ invariant-loop-body g l =
     × (vec_capacity l.jobs ≡ vec_capacity l.fn.jobs)
     × (vec_len l.seats + vec_len l.fn.bodies ≡ vec_len l.fn.seats + vec_len l.bodies)
     × (vec_capacity l.seats ≡ vec_capacity l.fn.seats)
-    × All (λ seat. seat ≡ replicate (14 * items g.N.Naming.wiring) 0) l.seats.items
+    × All (λ seat. seat ≡ replicate (counts_each * slots g.N.Naming.wiring) 0) l.seats.items
     × All (λ body. items g.N.Naming.wiring ≤ g.B.Body.width body) l.bodies.items
     × All (λ body. NeverRan (g.B.Body.runs body)) l.bodies.items
     × (vec_len l.bodies ≤ vec_len l.fn.bodies)
