@@ -1,5 +1,5 @@
 -- Answers: a text has one. It ends as the verdict on the assignment does, and as `plan` does if no assignment is named.
-use Rattle.std.proofs.Common.{◌≡◌, ℕ, inl, inr, List, [], Result, Ok, Err, refl, sym, ap, subst, ◌∙◌}
+use Rattle.std.proofs.Common.{◌≡◌, Bool, false, true, ℕ, inl, inr, List, [], Result, Ok, Err, refl, sym, ap, subst, ◌∙◌}
 use Rattle.std.specs.Prelude.{MatchResult}
 use Rattle.wq_text.specs.Refusal.{Refusal}
 use Rattle.wq_items.specs.Chain.{Circle}
@@ -18,6 +18,7 @@ use Rattle.wq_deadlock.proofs.Renumbered.{not_safe-deadlocks}
 use Rattle.wq_cert.specs.Ranges.{IsAssignmentOf}
 use Rattle.wq_cert.specs.Texts.{assignment_of_text, cert_refusal}
 use Rattle.wq_cert.proofs.ReadRanges.{IsAssignmentOf-assignment_of_text}
+use Rattle.wq_meter.specs.Shell.{HasOneAnswer}
 use Rattle.wq_commands.specs.declared.end.End.{End}
 use Rattle.wq_commands.specs.declared.end.End.TheVariants.{Good, Bad, Refused}
 use Rattle.wq_commands.specs.Answer.{Answers, declared_waits, IsRefused}
@@ -26,10 +27,11 @@ use Rattle.wq_commands.specs.Declaration.{Declared, declaration}
 use Rattle.wq_commands.specs.Promise.{KeepsDeclared}
 use Rattle.wq_commands.proofs.AnswerLemmas.{IsSound, IsSound-declaration, IsDeclaration-sound}
 use Rattle.wq_commands.proofs.CircleRuns.{IsAssignmentOf-own_lanes}
+use Rattle.wq_commands.proofs.OneOutcome.{SaysAssigned-unique, SaysDeclared-unique, same_outcome}
 use Rattle.wq_commands.proofs.PromiseLemmas.{KeepsPromise-answers}
 use Rattle.wq_circles.specs.Components.{AreComponents}
 use Rattle.wq_circles.specs.ComponentsText.{components_text}
-use Rattle.wq_circles.specs.Circling.{CirclesAssigned, CirclesDeclared, Circles, OwnCircles}
+use Rattle.wq_circles.specs.Circling.{CirclesAssigned, CirclesDeclared, Circles, CirclesTexts, OwnCircles}
 use Rattle.wq_circles.proofs.Safe.{AreComponents-unique, IsSafe-none, none-IsSafe, none_or_circle}
 
 -- what follows from two answers to the same thing, which was read or not
@@ -67,6 +69,14 @@ pub OwnCircles-unique : (declared : List ℕ) (end other : End) (out printed : L
 OwnCircles-unique declared end other out printed =
     matched (declaration declared) (λ s. CirclesAssigned s (own_lanes s.partition.groups) end out) (λ s. CirclesAssigned s (own_lanes s.partition.groups) other printed) (λ r. IsRefused r end out) (λ r. IsRefused r other printed)
     ((end ≡ other) × (out ≡ printed)) (λ s is. CirclesAssigned-unique s (own_lanes s.partition.groups) end other out printed) (refused_once end other out printed)
+
+pub CirclesTexts-unique : (assigned : Bool) → HasOneAnswer (CirclesTexts assigned)
+CirclesTexts-unique true texts one other out printed first second =
+    let same = Circles-unique texts.first texts.second one.end other.end out printed first.0 second.0 in
+    (same_outcome one other same.0 (SaysAssigned-unique one.why other.why texts.first texts.second first.1 second.1), same.1)
+CirclesTexts-unique false texts one other out printed first second =
+    let same = OwnCircles-unique texts.first one.end other.end out printed first.0 second.0 in
+    (same_outcome one other same.0 (SaysDeclared-unique one.why other.why texts.first first.1 second.1), same.1)
 
 -- ---- the end of a verdict
 

@@ -4,7 +4,7 @@
 //! lead to one another. `LaneWaits` says which workqueue waits for which, and `Leads` of it which leads to which. The last two
 //! are about the lowest-numbered vertices of a wait graph.
 
-ghost use Rattle.std.specs.Prelude.{◌≡◌, ◌≤◌, ◌↔◌, ℕ, ◌<◌, List, length, slice_index, ◌≢◌, [], map, AllPairs};
+ghost use Rattle.std.specs.Prelude.{◌≡◌, ◌≤◌, ◌↔◌, Bool, ℕ, ◌<◌, List, length, slice_index, ◌≢◌, [], map, AllPairs};
 ghost use Rattle.std.specs.List.{All};
 ghost use Rattle.std.specs.List.Sorted.{IsStrictlyIncreasing};
 ghost use Rattle.wq_groups.specs.Declaration.{Declaration, IsDeclaration};
@@ -13,11 +13,12 @@ ghost use Rattle.wq_graph.specs.declared.arc.WaitArc.{WaitArc};
 ghost use Rattle.wq_graph.specs.Graph.{HasArc};
 ghost use Rattle.wq_core.specs.Wiring.{LaneWaits, wiring};
 ghost use Rattle.wq_core.specs.Deadlock.{IsSafe};
+ghost use Rattle.wq_meter.specs.Shell.{HasOneAnswer};
 ghost use Rattle.wq_commands.specs.declared.end.End.{End};
 ghost use Rattle.wq_commands.specs.Answer.{Answers};
 ghost use Rattle.wq_commands.specs.Deadlocking.{Judges};
 ghost use Rattle.wq_circles.specs.Leading.{AreLowest, AreTogether, Leads};
-ghost use Rattle.wq_circles.specs.Circling.{Circles, OwnCircles};
+ghost use Rattle.wq_circles.specs.Circling.{Circles, CirclesTexts, OwnCircles};
 ghost use Rattle.wq_circles.specs.CirclesPromise.{KeepsCircles, KeepsOwnCircles};
 ghost use Rattle.wq_circles.specs.Components.{AreComponents};
 ghost use Rattle.wq_circles.specs.Flushes.{IsInComponents, AreInOneComponent, IsDeclaredFlush, IsBefore};
@@ -66,7 +67,8 @@ pub fn components_are_the_only_ones()
         AreComponents d a one → AreComponents d a other → one ≡ other }
 {}
 
-/// A declaration and an assignment, or a declaration alone, have at most one answer: one end, and one text that is printed.
+/// A declaration and an assignment, or a declaration alone, have at most one answer: one end, and one text that is printed. There
+/// is one reason for what is said besides, so `what_is_said_changes_no_answer` holds of the command.
 pub fn circles_have_one_answer()
     ensures end { (declared text : List ℕ) (end other : End) (out printed : List ℕ) →
         Circles declared text end out → Circles declared text other printed → end ≡ other }
@@ -76,6 +78,7 @@ pub fn circles_have_one_answer()
         OwnCircles declared end out → OwnCircles declared other printed → end ≡ other }
     ensures own_out { (declared : List ℕ) (end other : End) (out printed : List ℕ) →
         OwnCircles declared end out → OwnCircles declared other printed → out ≡ printed }
+    ensures command { (assigned : Bool) → HasOneAnswer (CirclesTexts assigned) }
 {}
 
 /// An answer keeps its promise. Where `safe` is printed, no run ends stuck. Where components are printed, some run deadlocks, and

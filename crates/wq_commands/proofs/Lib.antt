@@ -14,4 +14,5 @@ pub mod Refusals
 pub mod CheckAnswers
 pub mod ReplayAnswers
 pub mod LineLemmas
+pub mod OneOutcome
 mod StopLemmas

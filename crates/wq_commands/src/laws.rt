@@ -26,6 +26,8 @@ ghost use Rattle.wq_commands.specs.Checking.{Checks};
 ghost use Rattle.wq_commands.specs.YesIsTrue.{YesIsTrue};
 ghost use Rattle.wq_commands.specs.Replaying.{replay_words, Replays};
 ghost use Rattle.wq_commands.specs.Deadlocking.{Judges};
+ghost use Rattle.wq_commands.specs.Commands.{Plans, ChecksTexts, JudgesTexts, ReplaysTexts};
+ghost use Rattle.wq_meter.specs.Shell.{HasOneAnswer};
 ghost use Rattle.wq_commands.specs.Declaration.{Declared, declaration, max_declaration};
 ghost use Rattle.wq_commands.specs.declared.end.End.{End};
 ghost use Rattle.wq_commands.specs.declared.end.End.TheVariants.{Good, Bad, Refused};
@@ -184,6 +186,15 @@ pub fn a_replay_has_one_answer()
 /// A declaration, an assignment and a run have an answer of `replay`.
 pub fn a_replay_has_an_answer()
     ensures { (text lanes steps : List ℕ) → (end : End) × (out : List ℕ) × Replays text lanes steps end out }
+{}
+
+/// Each of `plan`, `check`, `deadlock` and `replay` has at most one answer to its texts: one end, one text that is printed, and one
+/// reason for what is said besides. So `what_is_said_changes_no_answer` holds of it.
+pub fn each_command_has_one_answer()
+    ensures plan { HasOneAnswer Plans }
+    ensures check { HasOneAnswer ChecksTexts }
+    ensures deadlock { HasOneAnswer JudgesTexts }
+    ensures replay { HasOneAnswer ReplaysTexts }
 {}
 
 /// What a text declares is a declaration: it has one list of flushes and one group for each item, and at most 16,384 flushes,

@@ -8,7 +8,7 @@ use Rattle.wq_diagnosis.specs.Unlawful.{IsUnlawfulText}
 use Rattle.wq_diagnosis.specs.Refused.{Diagnoses, NotesNoItem, SaysIfDeclared, SaysNo}
 
 -- what is said of texts from files with these names: the diagnosis of the text that is refused, or of what the certificate lacks;
--- or why a step isn't lawful; or else a note on a declaration without an item, or nothing
+-- or why this step isn't lawful; or else a note on a declaration without an item, or nothing
 abbrev pub SaysWhy : List ℕ → List ℕ → List ℕ → Given → Option Why → Option (List ℕ) → Type 0
 SaysWhy first second third texts None said = NotesNoItem first texts.first said
 SaysWhy first second third texts (Some (Refused Declaration code line)) said = Diagnoses first (Some (record { code = code; line = line })) said
@@ -17,4 +17,4 @@ SaysWhy first second third texts (Some (Refused Certificate code line)) said =
 SaysWhy first second third texts (Some (Refused Run code line)) said =
     SaysIfDeclared texts.first (Diagnoses third (Some (record { code = code; line = line }))) said
 SaysWhy first second third texts (Some (No reason)) said = SaysIfDeclared texts.first (SaysNo second (Some reason)) said
-SaysWhy first second third texts (Some (NotLawful step)) said = IfSome said (λ text. (n : ℕ) × IsUnlawfulText third n text)
+SaysWhy first second third texts (Some (NotLawful step)) said = IfSome said (IsUnlawfulText third step)

@@ -3,7 +3,7 @@
 //! The form is that of "Diagnoses" in docs/FORMAT.md. It takes the time and the memory of reading the three texts and of making the
 //! steps.
 
-ghost use Rattle.std.specs.Prelude.{◌≡◌, ◌∷◌, ◌<◌, ℕ, None, Some, IfOk, IfSome, length, map, slice_get, take};
+ghost use Rattle.std.specs.Prelude.{◌≡◌, ◌∷◌, ◌<◌, None, Some, IfOk, IfSome, length, map, slice_get, take};
 ghost use Rattle.wq_core.specs.Held.{AreDone, IsRefusal};
 ghost use Rattle.wq_core.specs.declared.step.StepError.{StepError};
 ghost use Rattle.wq_diagnosis.specs.Diagnosis.{shown_lines};
@@ -291,78 +291,76 @@ fn details<A: Allocator + Copy>(
     Ok(details)
 }
 
-/// The line of the step with this many before it, its number, and the mark of its last word.
-fn place_of<'a>(text: &'a [u8], at: u32) -> (&'a [u8], u32, Mark) {
-    match step_line(&lines_of(text), at.saturating_add(1)) {
+/// The line of the step of this number, the number of the line, and the mark of its last word.
+fn place_of<'a>(text: &'a [u8], number: u32) -> (&'a [u8], u32, Mark) {
+    match step_line(&lines_of(text), number) {
         Some(line) => (line.bytes(), line.no(), last_mark(&line)),
         None => (b"", 0, Mark { at: 0, len: 1 }),
     }
 }
 
-/// What is said of the step with this many before it, which isn't lawful for this reason.
+/// What is said of the step of this number, which isn't lawful for this reason.
 fn said_of<A: Allocator + Copy>(
     alloc: A,
     run: Source<'_>,
     what: &str,
-    at: u32,
+    number: u32,
 ) -> Result<Vec<u8, A>, AllocError>
-    ensures { IfOk result (λ said. (n : ℕ) × IsUnlawfulText run.entry.file.now n said.items) }
+    ensures { IfOk result (λ said. IsUnlawfulText run.entry.file.now number said.items) }
 {
-    let (bytes, no, mark) = place_of(run.text, at);
+    let (bytes, no, mark) = place_of(run.text, number);
     let column = u32::try_from(mark.at).unwrap_or(u32::MAX).saturating_add(1);
     let details = details(alloc, bytes, mark)?;
-    said_at(
-        alloc,
-        run.file,
-        &[no, column],
-        what,
-        at.saturating_add(1),
-        &details,
-    )
+    said_at(alloc, run.file, &[no, column], what, number, &details)
 }
 
-/// What is said of these steps under this assignment: nothing where each is lawful.
+/// What is said of these steps under this assignment: nothing where the step of this number isn't the first that isn't lawful.
 fn of_steps<A: Allocator + Copy>(
     alloc: A,
     declared: &Declaration<'_, A>,
     assignment: &Assignment<A>,
     steps: &[Step],
     run: Source<'_>,
+    number: u32,
 ) -> Result<Option<Vec<u8, A>>, AllocError>
     requires grouped { length declared.now.groups.group_of ≡ length declared.now.table.names }
     requires assigned { length assignment.now.lane_of_group ≡ declared.now.groups.groups }
     requires few { length steps.now < 4294967295 }
-    ensures { IfOk result (λ said. IfSome said (λ text. (n : ℕ) × IsUnlawfulText run.entry.file.now n text.items)) }
+    ensures { IfOk result (λ said. IfSome said (λ text. IsUnlawfulText run.entry.file.now number text.items)) }
 {
     let Declaration { table, groups } = declared;
     let mut core = Core::new(alloc, table, groups, assignment)?;
     let Some(found) = find(&mut core, steps) else {
         return Ok(None);
     };
+    if found.at.saturating_add(1) != number {
+        return Ok(None);
+    }
     let sentence = said_why(table, core.lanes(), &found);
     let what = sentence.to_string(alloc)?;
-    let at = found.at;
-    let said = said_of(alloc, run, &what, at)?;
+    let said = said_of(alloc, run, &what, number)?;
     Ok(Some(said))
 }
 
-/// What is said of a run under this assignment: nothing where it is refused, or each of its steps is lawful.
+/// What is said of a run under this assignment: nothing where it is refused, or the step of this number isn't the first that isn't
+/// lawful.
 fn of_run<A: Allocator + Copy>(
     alloc: A,
     declared: &Declaration<'_, A>,
     assignment: &Assignment<A>,
     run: Source<'_>,
+    number: u32,
 ) -> Result<Option<Vec<u8, A>>, AllocError>
     requires grouped { length declared.now.groups.group_of ≡ length declared.now.table.names }
     requires assigned { length assignment.now.lane_of_group ≡ declared.now.groups.groups }
-    ensures { IfOk result (λ said. IfSome said (λ text. (n : ℕ) × IsUnlawfulText run.entry.file.now n text.items)) }
+    ensures { IfOk result (λ said. IfSome said (λ text. IsUnlawfulText run.entry.file.now number text.items)) }
 {
     // What holds of every table and of all groups.
     let _items = declared.table.len();
     let _groups = declared.groups.len();
     match read_run(alloc, run.text, &declared.table) {
         Ok(steps) => {
-            let said = of_steps(alloc, declared, assignment, steps.as_slice(), run);
+            let said = of_steps(alloc, declared, assignment, steps.as_slice(), run, number);
             drop(steps);
             said
         }
@@ -371,22 +369,24 @@ fn of_run<A: Allocator + Copy>(
     }
 }
 
-/// What is said of a run of this declaration: nothing where the assignment or the run is refused, or each step is lawful.
+/// What is said of a run of this declaration: nothing where the assignment or the run is refused, or the step of this number isn't
+/// the first that isn't lawful.
 fn of_declared<A: Allocator + Copy>(
     alloc: A,
     declared: &Declaration<'_, A>,
     assignment: &[u8],
     run: Source<'_>,
+    number: u32,
 ) -> Result<Option<Vec<u8, A>>, AllocError>
     requires { length declared.now.groups.group_of ≡ length declared.now.table.names }
-    ensures { IfOk result (λ said. IfSome said (λ text. (n : ℕ) × IsUnlawfulText run.entry.file.now n text.items)) }
+    ensures { IfOk result (λ said. IfSome said (λ text. IsUnlawfulText run.entry.file.now number text.items)) }
 {
     // What holds of every table and of all groups.
     let _items = declared.table.len();
     let _groups = declared.groups.len();
     match read_assignment(alloc, assignment, &declared.table, &declared.groups) {
         Ok(assignment) => {
-            let said = of_run(alloc, declared, &assignment, run);
+            let said = of_run(alloc, declared, &assignment, run, number);
             drop(assignment);
             said
         }
@@ -395,7 +395,8 @@ fn of_declared<A: Allocator + Copy>(
     }
 }
 
-/// Says of a run why its first step that isn't lawful isn't. Of a run without such a step it says nothing, nor where a text is refused.
+/// Says of a run why the step of this number isn't lawful. The first step is 1. Where another step is the first that isn't lawful, or
+/// there is none, or where a text is refused, it says nothing.
 ///
 /// The only error is out of memory (20). The names are hashed with `seed`. No answer depends on it.
 pub fn of_unlawful<A: Allocator + Copy>(
@@ -404,12 +405,13 @@ pub fn of_unlawful<A: Allocator + Copy>(
     declaration: &[u8],
     assignment: &[u8],
     run: Source<'_>,
+    number: u32,
 ) -> Result<Option<Vec<u8, A>>, AllocError>
-    ensures { IfOk result (λ said. IfSome said (λ text. (n : ℕ) × IsUnlawfulText run.entry.file.now n text.items)) }
+    ensures { IfOk result (λ said. IfSome said (λ text. IsUnlawfulText run.entry.file.now number text.items)) }
 {
     match read_declaration(alloc, seed, declaration) {
         Ok(declared) => {
-            let said = of_declared(alloc, &declared, assignment, run);
+            let said = of_declared(alloc, &declared, assignment, run, number);
             drop(declared);
             said
         }

@@ -144,7 +144,7 @@ fn of_why<A: Allocator + Copy>(
                 text: texts.first(),
             },
         ),
-        Some(Why::NotLawful(_)) => of_unlawful(
+        Some(Why::NotLawful(step)) => of_unlawful(
             alloc,
             voice.seed,
             texts.first(),
@@ -153,6 +153,7 @@ fn of_why<A: Allocator + Copy>(
                 file: voice.run,
                 text: texts.third(),
             },
+            step,
         ),
         Some(Why::Refused { which, code, line }) => of_text(alloc, voice, texts, which, code, line),
         Some(Why::No(no)) => {

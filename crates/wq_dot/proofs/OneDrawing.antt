@@ -1,5 +1,5 @@
 -- A declaration has one drawing, and so has an assignment.
-use Rattle.std.proofs.Common.{◌≡◌, ◌⊎◌, inl, inr, ℕ, List, length, sym, ap, ◌∙◌}
+use Rattle.std.proofs.Common.{◌≡◌, ◌⊎◌, Bool, false, true, inl, inr, ℕ, List, length, sym, ap, ◌∙◌}
 use Rattle.wq_items.specs.Chain.{HasCircle}
 use Rattle.wq_groups.specs.Declaration.{GroupWaits}
 use Rattle.wq_groups.specs.Assignment.{Assignment}
@@ -9,13 +9,15 @@ use Rattle.wq_core.specs.Wiring.{own_lanes}
 use Rattle.wq_plan.specs.Plan.{chain_of}
 use Rattle.wq_plan.proofs.Plans.{IsPlan-no_circle, IsPlan-unique}
 use Rattle.wq_cert.specs.Texts.{assignment_of_text, cert_refusal}
+use Rattle.wq_meter.specs.Shell.{HasOneAnswer}
 use Rattle.wq_commands.specs.declared.end.End.{End}
 use Rattle.wq_commands.specs.Answer.{declared_waits, IsRefused}
 use Rattle.wq_commands.specs.Declaration.{Declared, declaration}
+use Rattle.wq_commands.proofs.OneOutcome.{SaysAssigned-unique, SaysDeclared-unique, same_outcome}
 use Rattle.wq_commands.proofs.Refusals.{MatchResult-unique, IsRefused-unique}
 use Rattle.wq_circles.proofs.Safe.{AreComponents-unique}
 use Rattle.wq_dot.specs.declared.look.FlushLook.TheVariants.{Red, Bold}
-use Rattle.wq_dot.specs.Dotting.{components_title, drawing_of, plan_title, Draws, DrawsAssigned, DrawsCircles, DrawsDeclared, DrawsGroups, DrawsOwn, DrawsPlan, OwnDraws}
+use Rattle.wq_dot.specs.Dotting.{components_title, drawing_of, plan_title, Draws, DrawsAssigned, DrawsCircles, DrawsDeclared, DrawsGroups, DrawsOwn, DrawsPlan, DrawsTexts, OwnDraws}
 use Rattle.wq_dot.specs.Flushes.{all_arcs}
 
 module _ (s : Declared) where
@@ -53,3 +55,11 @@ pub OwnDraws-unique : (declared : List ℕ) (end other : End) (out printed : Lis
 OwnDraws-unique declared end other out printed =
     MatchResult-unique (declaration declared) DrawsOwn IsRefused end other out printed
     (λ s is one two. (one.0 ∙ sym two.0, DrawsGroups-unique s out printed one.1 two.1)) (λ r. IsRefused-unique r end other out printed)
+
+pub DrawsTexts-unique : (assigned : Bool) → HasOneAnswer (DrawsTexts assigned)
+DrawsTexts-unique true texts one other out printed first second =
+    let same = Draws-unique texts.first texts.second one.end other.end out printed first.0 second.0 in
+    (same_outcome one other same.0 (SaysAssigned-unique one.why other.why texts.first texts.second first.1 second.1), same.1)
+DrawsTexts-unique false texts one other out printed first second =
+    let same = OwnDraws-unique texts.first one.end other.end out printed first.0 second.0 in
+    (same_outcome one other same.0 (SaysDeclared-unique one.why other.why texts.first first.1 second.1), same.1)

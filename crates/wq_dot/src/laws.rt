@@ -3,7 +3,7 @@
 //! `Drawing` puts the lines one after the other. The laws say what that means for an item and for a flush, as in "The command
 //! `dot`" in docs/FORMAT.md.
 
-ghost use Rattle.std.specs.Prelude.{◌≡◌, ◌<◌, ℕ, List, length, map, Contains};
+ghost use Rattle.std.specs.Prelude.{◌≡◌, ◌<◌, Bool, ℕ, List, length, map, Contains};
 ghost use Rattle.std.specs.List.{All, count_by, range_with_len};
 ghost use Rattle.wq_items.specs.declared.target.Target.{Target};
 ghost use Rattle.wq_items.specs.Table.{Table, IsTable, flush_count, targets_of};
@@ -11,13 +11,15 @@ ghost use Rattle.wq_groups.specs.Partition.{Partition, IsPartition};
 ghost use Rattle.wq_groups.specs.Assignment.{Assignment, IsAssignment};
 ghost use Rattle.wq_graph.specs.declared.arc.WaitArc.{WaitArc};
 ghost use Rattle.wq_graph.specs.Graph.{IsArc, arc_of, arcs_by_place};
+ghost use Rattle.wq_meter.specs.Shell.{HasOneAnswer};
 ghost use Rattle.wq_commands.specs.declared.end.End.{End};
 ghost use Rattle.wq_dot.specs.declared.look.FlushLook.{FlushLook};
 ghost use Rattle.wq_dot.specs.Drawing.{drawing_lines, is_whole_at};
 ghost use Rattle.wq_dot.specs.Laws.{is_arrow, is_line_of};
-ghost use Rattle.wq_dot.specs.Dotting.{Draws, OwnDraws};
+ghost use Rattle.wq_dot.specs.Dotting.{Draws, DrawsTexts, OwnDraws};
 
-/// A declaration and an assignment, or a declaration alone, have at most one answer: one end, and one text that is printed.
+/// A declaration and an assignment, or a declaration alone, have at most one answer: one end, and one text that is printed. There
+/// is one reason for what is said besides, so `what_is_said_changes_no_answer` holds of the command.
 pub fn drawings_have_one_answer()
     ensures end { (declared text : List ℕ) (end other : End) (out printed : List ℕ) →
         Draws declared text end out → Draws declared text other printed → end ≡ other }
@@ -27,6 +29,7 @@ pub fn drawings_have_one_answer()
         OwnDraws declared end out → OwnDraws declared other printed → end ≡ other }
     ensures own_out { (declared : List ℕ) (end other : End) (out printed : List ℕ) →
         OwnDraws declared end out → OwnDraws declared other printed → out ≡ printed }
+    ensures command { (assigned : Bool) → HasOneAnswer (DrawsTexts assigned) }
 {}
 
 /// Each item has exactly one line, whatever the title and the looks.

@@ -1,4 +1,4 @@
-use Rattle.wq_dot.proofs.OneDrawing.{Draws-unique, OwnDraws-unique}
+use Rattle.wq_dot.proofs.OneDrawing.{Draws-unique, DrawsTexts-unique, OwnDraws-unique}
 use Rattle.wq_dot.proofs.laws.drawings_have_one_answer.Goals as goal
 
 pub returns-clause-end : goal.returns-clause-end
@@ -12,3 +12,6 @@ returns-clause-own_end c = λ declared end other out printed one two. (OwnDraws-
 
 pub returns-clause-own_out : goal.returns-clause-own_out
 returns-clause-own_out c = λ declared end other out printed one two. (OwnDraws-unique declared end other out printed one two).1
+
+pub returns-clause-command : goal.returns-clause-command
+returns-clause-command c = DrawsTexts-unique
