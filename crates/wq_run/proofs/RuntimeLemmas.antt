@@ -57,7 +57,7 @@ pub PrintsRun-closed : (s : Declared) (w : Wiring) (a : Assignment) (rows : ℕ)
     → IsRan w w.lanes 2 seats runs 2 2 rescued finished faults
     → IsClosed w rows seats book counts true → out ≡ report_text s a (λ i kind. made counts i kind true) faults → PrintsRun s out
 PrintsRun-closed s w a rows seats runs rescued finished faults book counts out of_items plan few is room ran closed text =
-    let agrees : Agrees (items w) book counts = closed.agrees.0 refl in
+    let agrees : Agrees w book counts = closed.agrees.0 refl in
     record {
       assignment = a;
       plan = plan;
@@ -71,5 +71,5 @@ PrintsRun-closed s w a rows seats runs rescued finished faults book counts out o
       book = book;
       counts = counts;
       closed = subst (λ (n : ℕ). IsClosed (wiring (declared_waits s) a) n seats book counts true) room (subst (λ (x : Wiring). IsClosed x rows seats book counts true) is closed);
-      text = text ∙ report_text-same s a (λ i kind. made counts i kind true) (yes_tally book) faults (λ i kind below. agrees i kind true (subst (λ (n : ℕ). i < n) (sym of_items) below));
+      text = text ∙ report_text-same s a (λ i kind. made counts i kind true) (yes_tally book) faults (λ i kind below. agrees.0 i kind true (subst (λ (n : ℕ). i < n) (sym of_items) below));
     }

@@ -1,5 +1,5 @@
 -- A text has one end of `run`, and one answer if no plan was run.
-use Rattle.std.proofs.Common.{◌≡◌, ◌≢◌, ℕ, ◌<◌, ◌≤◌, true, false, List, Result, Ok, Err, refl, sym, ap, ◌∙◌, arith}
+use Rattle.std.proofs.Common.{◌≡◌, ◌≢◌, ℕ, ◌<◌, ◌≤◌, List, Result, Ok, Err, refl, sym, ap, ◌∙◌, arith}
 use Rattle.std.specs.Prelude.{MatchResult}
 use Rattle.wq_text.specs.Refusal.{Refusal}
 use Rattle.wq_groups.specs.Assignment.{Assignment}
@@ -12,7 +12,7 @@ use Rattle.wq_commands.specs.Answer.{Answers, AnswersDeclared, IsRefused, declar
 use Rattle.wq_commands.specs.Declaration.{Declared, declaration}
 use Rattle.wq_commands.proofs.AnswerLemmas.{IsSound, IsSound-declaration}
 use Rattle.wq_commands.proofs.Uniqueness.{not_both, PrintsCircle-unique}
-use Rattle.wq_run.specs.Running.{HasRuntime, HasRuntimeBy, IsRunnable, IsRunnableBy, Runs, RunsDeclared}
+use Rattle.wq_run.specs.Running.{HasRuntime, IsRunnable, Runs, RunsDeclared}
 
 -- a plan doesn't have both too many workqueues and few enough
 one_width : (s : Declared) (a b : Assignment) → IsPlan (declared_waits s) a → IsPlan (declared_waits s) b → a.lanes ≤ max_runtime_lanes → max_runtime_lanes < b.lanes → ⊥
@@ -22,12 +22,12 @@ one_width s a b one two few many =
 
 one_end : (s : Declared) (end other : End) (out printed : List ℕ) → IsSound s → RunsDeclared s end out → RunsDeclared s other printed → end ≡ other
 one_end s Good Good out printed sound one two = refl
-one_end s Good Bad out printed sound one two = absurd (not_both s one.0.assignment two.circle sound one.0.plan two.walked)
-one_end s Good Refused out printed sound one two = absurd (one_width s one.0.assignment two.assignment one.0.plan two.plan one.0.few two.many)
-one_end s Bad Good out printed sound one two = absurd (not_both s two.0.assignment one.circle sound two.0.plan one.walked)
+one_end s Good Bad out printed sound one two = absurd (not_both s one.assignment two.circle sound one.plan two.walked)
+one_end s Good Refused out printed sound one two = absurd (one_width s one.assignment two.assignment one.plan two.plan one.few two.many)
+one_end s Bad Good out printed sound one two = absurd (not_both s two.assignment one.circle sound two.plan one.walked)
 one_end s Bad Bad out printed sound one two = refl
 one_end s Bad Refused out printed sound one two = absurd (not_both s two.assignment one.circle sound two.plan one.walked)
-one_end s Refused Good out printed sound one two = absurd (one_width s two.0.assignment one.assignment two.0.plan one.plan two.0.few one.many)
+one_end s Refused Good out printed sound one two = absurd (one_width s two.assignment one.assignment two.plan one.plan two.few one.many)
 one_end s Refused Bad out printed sound one two = absurd (not_both s one.assignment two.circle sound one.plan two.walked)
 one_end s Refused Refused out printed sound one two = refl
 
@@ -64,7 +64,7 @@ Runs-refused text out = refused (declaration text) out
 
 runnable : (declared : Result Declared Refusal) (out : List ℕ) → MatchResult declared (λ s. RunsDeclared s Good out) (λ r. IsRefused r Good out)
     → MatchResult declared HasRuntime (λ r. ⊥)
-runnable (Ok s) out is = record { assignment = is.0.assignment; plan = is.0.plan; few = is.0.few }
+runnable (Ok s) out is = record { assignment = is.assignment; plan = is.plan; few = is.few }
 runnable (Err r) out is = absurd (let same : Good ≡ Refused = is.0 in cc)
 
 pub IsRunnable-run : (text out : List ℕ) → Runs text Good out → IsRunnable text
@@ -82,26 +82,3 @@ good_ends (Err r) end out sound has is = absurd has
 
 pub Runs-runnable : (text : List ℕ) (end : End) (out : List ℕ) → IsRunnable text → Runs text end out → end ≡ Good
 Runs-runnable text end out = good_ends (declaration text) end out (IsSound-declaration text)
-
--- ---- waits for a whole workqueue
-
-not_run : (s : Declared) (end : End) (out : List ℕ) → IsSound s → HasRuntimeBy s true → RunsDeclared s end out → ⊥
-not_run s Good out sound has is = is.1 has.1
-not_run s Bad out sound has is = absurd (let same : Bad ≡ Good = good_end s Bad out sound has.0 is in cc)
-not_run s Refused out sound has is = absurd (let same : Refused ≡ Good = good_end s Refused out sound has.0 is in cc)
-
-not_runs : (declared : Result Declared Refusal) (end : End) (out : List ℕ) → ((s : Declared) → declared ≡ Ok s → IsSound s) → MatchResult declared (λ s. HasRuntimeBy s true) (λ r. ⊥)
-    → MatchResult declared (λ s. RunsDeclared s end out) (λ r. IsRefused r end out) → ⊥
-not_runs (Ok s) end out sound has is = not_run s end out (sound s refl) has is
-not_runs (Err r) end out sound has is = absurd has
-
-pub Runs-whole : (text : List ℕ) (end : End) (out : List ℕ) → IsRunnableBy text true → ¬ Runs text end out
-Runs-whole text end out = not_runs (declaration text) end out (IsSound-declaration text)
-
-runnable_by_item : (declared : Result Declared Refusal) (out : List ℕ) → MatchResult declared (λ s. RunsDeclared s Good out) (λ r. IsRefused r Good out)
-    → MatchResult declared (λ s. HasRuntimeBy s false) (λ r. ⊥)
-runnable_by_item (Ok s) out is = (record { assignment = is.0.assignment; plan = is.0.plan; few = is.0.few }, is.1)
-runnable_by_item (Err r) out is = absurd (let same : Good ≡ Refused = is.0 in cc)
-
-pub IsRunnableBy-run : (text out : List ℕ) → Runs text Good out → IsRunnableBy text false
-IsRunnableBy-run text out = runnable_by_item (declaration text) out

@@ -1,6 +1,6 @@
 -- What stops a command, and `run` in particular.
-use Rattle.std.specs.Prelude.{ℕ, Bool, true, false, List, codes, Result, Ok, Err}
-use Rattle.wq_meter.specs.declared.fault.Fault.TheVariants.{Memory, Read, Write}
+use Rattle.std.specs.Prelude.{ℕ, List, codes, Result, Ok, Err}
+use Rattle.wq_meter.specs.declared.fault.Fault.TheVariants.{Memory}
 use Rattle.wq_meter.specs.declared.shell.Stopped.{Stopped}
 use Rattle.wq_meter.specs.declared.shell.Stopped.TheVariants.{Faulted, Unanswered}
 use Rattle.wq_meter.specs.Fault.{fault_text}
@@ -9,7 +9,7 @@ use Rattle.wq_commands.specs.declared.why.Outcome.{Outcome}
 use Rattle.wq_rescuer.specs.declared.running.RunWhy.{RunWhy}
 use Rattle.wq_rescuer.specs.declared.running.RunWhy.TheVariants.{BodiesDiffer, TooManySeats, OutOfMemory as NoMemory, NoThread}
 use Rattle.wq_run.specs.declared.fault.CommandFault.{CommandFault}
-use Rattle.wq_run.specs.declared.fault.CommandFault.TheVariants.{Common, Thread, Tally, FlushWq}
+use Rattle.wq_run.specs.declared.fault.CommandFault.TheVariants.{Common, Thread, Tally}
 use Rattle.wq_run.specs.declared.fault.RunStop.{RunStop}
 use Rattle.wq_run.specs.declared.fault.RunStop.TheVariants as stop
 use Rattle.wq_run.specs.declared.fault.RunStop.TheVariants.{OutOfMemory}
@@ -19,7 +19,6 @@ abbrev pub command_fault_text : CommandFault → List ℕ
 command_fault_text (Common fault) = fault_text fault
 command_fault_text Thread = codes "fault thread"
 command_fault_text Tally = codes "fault tally"
-command_fault_text FlushWq = codes "fault flushwq"
 
 -- why there is no answer if not everything was run
 abbrev pub stop_of_run : RunWhy → RunStop
@@ -33,23 +32,13 @@ abbrev pub fault_of_stop : RunStop → CommandFault
 fault_of_stop OutOfMemory = Common Memory
 fault_of_stop stop.Thread = Thread
 fault_of_stop stop.Tally = Tally
-fault_of_stop stop.FlushWq = FlushWq
 
--- making the answer may stop for lack of memory, or, if there is a plan that a runtime can have, because of a thread, the
--- tallies or a wait for a whole workqueue
+-- making the answer may stop for lack of memory, or, if there is a plan that a runtime can have, because of a thread or the
+-- tallies
 abbrev pub Stops : Type 0 → RunStop → Type 0
 Stops runnable OutOfMemory = Unit {0}
 Stops runnable stop.Thread = runnable
 Stops runnable stop.Tally = runnable
-Stops runnable stop.FlushWq = runnable
-
--- the same by whether there is a wait for a whole workqueue, where `runnable` says what holds if there is one and if there is none:
--- it stops because of such a wait only if there is one, and because of a thread or the tallies only if there is none
-abbrev pub StopsBy : (Bool → Type 0) → RunStop → Type 0
-StopsBy runnable OutOfMemory = Unit {0}
-StopsBy runnable stop.Thread = runnable false
-StopsBy runnable stop.Tally = runnable false
-StopsBy runnable stop.FlushWq = runnable true
 
 -- the end of `run`, or the fault that is reported for what stopped it
 abbrev pub end_or_stop : Result Outcome (Stopped RunStop) → Result End CommandFault

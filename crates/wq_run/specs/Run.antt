@@ -1,12 +1,12 @@
 -- A run of `run`: a text is taken from a reader, and answered.
-use Rattle.std.specs.Prelude.{ℕ, ◌+◌, Bool, List, [], Option, take}
+use Rattle.std.specs.Prelude.{ℕ, ◌+◌, List, [], Option, take}
 use Rattle.wq_meter.specs.Meter.{Meter}
 use Rattle.wq_meter.specs.Input.{Gives}
 use Rattle.wq_meter.specs.Shell.{Given}
 use Rattle.wq_commands.specs.declared.end.End.{End}
 use Rattle.wq_commands.specs.declared.why.Outcome.{Outcome}
 use Rattle.wq_commands.specs.Declaration.{max_declaration}
-use Rattle.wq_run.specs.Running.{Runs, RunsTexts, IsRunnable, IsRunnableBy}
+use Rattle.wq_run.specs.Running.{Runs, RunsTexts, IsRunnable}
 
 -- this is the answer to the text that a reader had; the reader gave it up to the first byte past the limit
 pub record RunsInput {R : Type 0} (remaining : R → Option (List ℕ)) (old new : Meter R) (end : End) (out : List ℕ) : Type 0 where
@@ -19,12 +19,6 @@ pub record IsRunnableInput {R : Type 0} (remaining : R → Option (List ℕ)) (o
   pub text : List ℕ
   pub given : Gives remaining old new max_declaration text
   pub runnable : IsRunnable text
-
--- the same of a text that also has an item that waits for a whole workqueue, or has none
-pub record IsRunnableInputBy {R : Type 0} (remaining : R → Option (List ℕ)) (old new : Meter R) (whole : Bool) : Type 0 where
-  pub text : List ℕ
-  pub given : Gives remaining old new max_declaration text
-  pub runnable : IsRunnableBy text whole
 
 -- the texts of a command that has only this one
 abbrev pub only : List ℕ → Given

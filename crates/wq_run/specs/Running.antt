@@ -1,8 +1,6 @@
 -- The answer of `run` to a declaration text: what is printed, and how it ends.
-use Rattle.std.specs.Prelude.{◌≡◌, ℕ, ◌+◌, ◌*◌, ◌<◌, ◌≤◌, Bool, List, length, true, false, Option, None, Result, MatchBool, MatchResult}
-use Rattle.std.specs.List.{Any}
-use Rattle.wq_items.specs.declared.target.Target.{Target}
-use Rattle.wq_items.specs.Table.{flush_count, targets_of}
+use Rattle.std.specs.Prelude.{◌≡◌, ℕ, ◌+◌, ◌*◌, ◌<◌, ◌≤◌, List, length, true, Option, None, Result, MatchResult}
+use Rattle.wq_items.specs.Table.{flush_count}
 use Rattle.wq_groups.specs.Assignment.{Assignment}
 use Rattle.wq_core.specs.Wiring.{wiring}
 use Rattle.wq_plan.specs.Plan.{IsPlan}
@@ -35,9 +33,9 @@ abbrev pub yes_tally : BookView → ℕ → Kind → ℕ
 yes_tally book i kind = tally book.rows i kind true
 
 -- the plan was run, as far as a text can show it: there is a book, which was closed with all seats. It is idle and a legal
--- history under the plan, and the seats' counts agree with it item by item. What is printed is the text of the book's tallies,
--- and of the faults that the rescuers counted. It isn't said that the book is that of the threads, nor that none of them was
--- refused
+-- history under the plan, and the seats' counts agree with it, item by item and workqueue by workqueue. What is printed is the
+-- text of the book's tallies, and of the faults that the rescuers counted. It isn't said that the book is that of the threads,
+-- nor that none of them was refused
 pub record PrintsRun (s : Declared) (out : List ℕ) : Type 0 where
   pub assignment : Assignment
   pub plan : IsPlan (declared_waits s) assignment
@@ -60,18 +58,10 @@ pub record IsTooWide (s : Declared) (out : List ℕ) : Type 0 where
   pub many : max_runtime_lanes < assignment.lanes
   pub text : out ≡ refusal_text (record { code = 69; line = 0 })
 
--- one of these targets is a whole workqueue
-abbrev pub HasWhole : List Target → Type 0
-HasWhole targets = Any (λ (t : Target). t.whole ≡ true) targets
-
--- an item waits for a whole workqueue
-abbrev pub WaitsForWhole : List (List Target) → Type 0
-WaitsForWhole waits = (item : ℕ) × HasWhole (targets_of waits item)
-
--- the answer to a declaration: its plan is run, unless an item waits for a whole workqueue, which isn't run yet; or is too wide for
--- a runtime; or its groups wait in a circle, which is printed as `plan` prints it
+-- the answer to a declaration: its plan is run, or is too wide for a runtime; or its groups wait in a circle, which is printed
+-- as `plan` prints it
 abbrev pub RunsDeclared : Declared → End → List ℕ → Type 0
-RunsDeclared s Good out = PrintsRun s out × (¬ WaitsForWhole s.table.waits)
+RunsDeclared s Good out = PrintsRun s out
 RunsDeclared s Bad out = PrintsCircle s out
 RunsDeclared s Refused out = IsTooWide s out
 
@@ -88,14 +78,6 @@ pub record HasRuntime (s : Declared) : Type 0 where
 -- what the text declares has such a plan
 abbrev pub IsRunnable : List ℕ → Type 0
 IsRunnable text = MatchResult (declaration text) HasRuntime (λ r. ⊥)
-
--- the declaration has such a plan, and an item waits for a whole workqueue, or none does
-abbrev pub HasRuntimeBy : Declared → Bool → Type 0
-HasRuntimeBy s whole = HasRuntime s × MatchBool whole (WaitsForWhole s.table.waits) (¬ WaitsForWhole s.table.waits)
-
--- what the text declares has such a plan, and such a wait or none
-abbrev pub IsRunnableBy : List ℕ → Bool → Type 0
-IsRunnableBy text whole = MatchResult (declaration text) (λ s. HasRuntimeBy s whole) (λ r. ⊥)
 
 -- ---- the answer, and why
 

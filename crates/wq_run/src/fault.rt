@@ -21,12 +21,10 @@ pub enum CommandFault {
     Thread,
     /// The runtime couldn't be closed with counts that agree. No input is known that leads to it.
     Tally,
-    /// An item waits for a whole workqueue, which isn't run yet.
-    FlushWq,
 }
 
 impl CommandFault {
-    /// The fault in words: `fault memory`, `fault read`, `fault write`, `fault thread`, `fault tally` or `fault flushwq`.
+    /// The fault in words: `fault memory`, `fault read`, `fault write`, `fault thread` or `fault tally`.
     pub fn text(self) -> &'static str
         ensures { result.now ≡ command_fault_text self }
     {
@@ -34,7 +32,6 @@ impl CommandFault {
             CommandFault::Common(fault) => fault.text(),
             CommandFault::Thread => "fault thread",
             CommandFault::Tally => "fault tally",
-            CommandFault::FlushWq => "fault flushwq",
         }
     }
 }
@@ -66,8 +63,6 @@ pub enum RunStop {
     Thread,
     /// The runtime couldn't be closed with counts that agree, or had too few seats or bodies. No input is known that leads to it.
     Tally,
-    /// An item waits for a whole workqueue, which isn't run yet.
-    FlushWq,
 }
 
 impl From<AllocError> for RunStop {
@@ -100,7 +95,6 @@ impl From<RunStop> for CommandFault {
             RunStop::OutOfMemory => CommandFault::Common(Fault::Memory),
             RunStop::Thread => CommandFault::Thread,
             RunStop::Tally => CommandFault::Tally,
-            RunStop::FlushWq => CommandFault::FlushWq,
         }
     }
 }

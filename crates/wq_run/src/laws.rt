@@ -1,10 +1,10 @@
 //! Laws about the answers of `run`, as contracts of functions with empty bodies.
 
-ghost use Rattle.std.specs.Prelude.{◌≡◌, ◌≢◌, ◌↔◌, ℕ, List, true, false};
+ghost use Rattle.std.specs.Prelude.{◌≡◌, ◌≢◌, ◌↔◌, ℕ, List};
 ghost use Rattle.wq_commands.specs.declared.end.End.{End};
 ghost use Rattle.wq_commands.specs.declared.end.End.TheVariants.{Good, Bad, Refused};
 ghost use Rattle.wq_commands.specs.Answer.{Answers};
-ghost use Rattle.wq_run.specs.Running.{IsRunnable, IsRunnableBy, Runs};
+ghost use Rattle.wq_run.specs.Running.{IsRunnable, Runs};
 
 /// A text has one end of `run`. Unless that is a plan that was run, one text is printed for it.
 pub fn a_text_has_one_end()
@@ -22,15 +22,8 @@ pub fn a_refusal_is_printed_as_by_plan()
     ensures { (text out : List ℕ) → Answers text Refused out → Runs text Refused out }
 {}
 
-/// If there is an answer, a plan was run exactly where a text declares items whose plan a runtime can have: at most 256 workqueues.
+/// A plan is run exactly where a text declares items whose plan a runtime can have: at most 256 workqueues.
 pub fn what_is_runnable_is_run()
     ensures run { (text : List ℕ) (end : End) (out : List ℕ) → IsRunnable text → Runs text end out → end ≡ Good }
     ensures runnable { (text out : List ℕ) → Runs text Good out → IsRunnable text }
-{}
-
-/// Where a text declares such items, and one of them waits for a whole workqueue, there is no answer: such a wait isn't run yet.
-/// Where a plan was run, no item does.
-pub fn a_wait_for_a_whole_workqueue_is_not_run()
-    ensures none { (text : List ℕ) (end : End) (out : List ℕ) → IsRunnableBy text true → ¬ Runs text end out }
-    ensures run { (text out : List ℕ) → Runs text Good out → IsRunnableBy text false }
 {}

@@ -16,7 +16,6 @@ mod report;
 mod run;
 mod running;
 mod serving;
-mod whole;
 
 pub use fault::{CommandFault, RunStop};
 pub use outcome::end_of_run;

@@ -4,7 +4,7 @@ ghost use Rattle.std.specs.Prelude.{◌≡◌, ◌≢◌, Err, IfOk, IsOkAnd};
 ghost use Rattle.std.specs.Result.{IsErrAnd};
 ghost use Rattle.wq_meter.specs.declared.fault.Fault.TheVariants.{Memory, Read, Write};
 ghost use Rattle.wq_meter.specs.declared.shell.Stopped.TheVariants.{Faulted, Unanswered};
-ghost use Rattle.wq_run.specs.declared.fault.CommandFault.TheVariants.{Common, Thread, Tally, FlushWq};
+ghost use Rattle.wq_run.specs.declared.fault.CommandFault.TheVariants.{Common, Thread, Tally};
 ghost use Rattle.wq_run.specs.declared.fault.RunStop.TheVariants as stop;
 ghost use Rattle.wq_run.specs.Fault.{end_or_stop};
 
@@ -19,7 +19,6 @@ pub fn end_of_run(ended: Result<Outcome, Stopped<RunStop>>) -> Result<End, Comma
     ensures read { result ≡ Err (Common Read) → IsErrAnd ended (λ stopped. stopped ≢ Faulted Write) }
     ensures no_thread { result ≡ Err Thread → ended ≡ Err (Unanswered stop.Thread) }
     ensures no_tally { result ≡ Err Tally → ended ≡ Err (Unanswered stop.Tally) }
-    ensures whole { result ≡ Err FlushWq → ended ≡ Err (Unanswered stop.FlushWq) }
     ensures read_failed { result ≡ Err (Common Read) → ended ≡ Err (Faulted Read) }
     ensures no_read_failed { result ≢ Err (Common Read) → ended ≢ Err (Faulted Read) }
     ensures write_failed { result ≡ Err (Common Write) → ended ≡ Err (Faulted Write) }

@@ -3,7 +3,7 @@
 //! The answer is built in full before the first byte is written. It takes the time of reading the text, of planning it, of all
 //! executions and of writing the answer.
 
-ghost use Rattle.std.specs.Prelude.{◌≡◌, ◌≢◌, ◌≤◌, ◌+◌, ◌⊎◌, ℕ, List, Err, IfOk, IfErr, OnErr, true, false};
+ghost use Rattle.std.specs.Prelude.{◌≡◌, ◌≢◌, ◌≤◌, ◌+◌, ℕ, List, Err, IfOk, IfErr, OnErr};
 ghost use Rattle.wq_meter.specs.Input.{HasFailed};
 ghost use Rattle.wq_meter.specs.Meter.{count_after, LosesPrefix, WritesPrefix, WritesWhole};
 ghost use Rattle.wq_meter.specs.Shell.{Tells};
@@ -13,10 +13,10 @@ ghost use Rattle.wq_commands.specs.Declaration.{max_declaration};
 ghost use Rattle.wq_commands.specs.declared.end.End.{End};
 ghost use Rattle.wq_commands.specs.declared.why.Outcome.{Outcome};
 ghost use Rattle.wq_meter.specs.declared.fault.Fault.TheVariants.{Memory, Read as ReadFault, Write as WriteFault};
-ghost use Rattle.wq_run.specs.declared.fault.CommandFault.TheVariants.{Common, Thread, Tally, FlushWq};
-ghost use Rattle.wq_run.specs.Fault.{Stops, StopsBy};
-ghost use Rattle.wq_run.specs.Run.{IsRun, RunsInput, IsRunnableInput, IsRunnableInputBy, only};
-ghost use Rattle.wq_run.specs.Running.{IsRunnableBy, RunsTexts};
+ghost use Rattle.wq_run.specs.declared.fault.CommandFault.TheVariants.{Common, Thread, Tally};
+ghost use Rattle.wq_run.specs.Fault.{Stops};
+ghost use Rattle.wq_run.specs.Run.{IsRun, RunsInput, IsRunnableInput, only};
+ghost use Rattle.wq_run.specs.Running.{IsRunnable, RunsTexts};
 
 use crate::fault::{CommandFault, RunStop};
 use crate::outcome::end_of_run;
@@ -45,7 +45,7 @@ fn answer_texts<R: Threads + Wait + Sync, A: Allocator + Copy + Send + Sync>(
     texts: &Texts<A>,
 ) -> Result<(Outcome, Vec<u8, A>), RunStop>
     ensures answered { IfOk result (λ answer. RunsTexts texts.now answer.0 answer.1.items) }
-    ensures stopped { IfErr result (StopsBy (IsRunnableBy texts.now.first)) }
+    ensures stopped { IfErr result (Stops (IsRunnable texts.now.first)) }
 {
     let Answered { end, text, why } = answer(rt, alloc, seed, texts.first())?;
     Ok((Outcome { end, why }, text))
@@ -63,7 +63,7 @@ fn write_answer<R: Threads + Wait + Sync, W: Write, A: Allocator + Copy + Send +
         × WritesWhole W.contents writer.old writer.new out) }
     ensures prefix { result ≡ Err (Faulted WriteFault) → (outcome : Outcome) × (out : List ℕ) × RunsTexts texts.now outcome out
         × WritesPrefix W.contents writer.old writer.new out }
-    ensures unanswered { IfErr result (IfUnanswered (StopsBy (IsRunnableBy texts.now.first))) }
+    ensures unanswered { IfErr result (IfUnanswered (Stops (IsRunnable texts.now.first))) }
     ensures untouched { IfErr result (λ stopped. stopped ≢ Faulted WriteFault → writer.new ≡ writer.old) }
     ensures only_writes { IfErr result (IfFaulted (λ fault. fault ≡ WriteFault)) }
     ensures write_failed { result ≡ Err (Faulted WriteFault) → writer.new.failures ≡ count_after writer.old.failures 1 }
@@ -113,7 +113,7 @@ fn respond<
         × WritesWhole W.contents writer.old writer.new out × Tells E.contents teller.old teller.new (V.says voice.now texts.now outcome)) }
     ensures prefix { result ≡ Err (Faulted WriteFault) → (outcome : Outcome) × (out : List ℕ) × RunsTexts texts.now outcome out
         × WritesPrefix W.contents writer.old writer.new out }
-    ensures unanswered { IfErr result (IfUnanswered (StopsBy (IsRunnableBy texts.now.first))) }
+    ensures unanswered { IfErr result (IfUnanswered (Stops (IsRunnable texts.now.first))) }
     ensures untouched { IfErr result (λ stopped. stopped ≢ Faulted WriteFault → writer.new ≡ writer.old) }
     ensures only_writes { IfErr result (IfFaulted (λ fault. fault ≡ WriteFault)) }
     ensures unsaid { OnErr result (teller.new ≡ teller.old) }
@@ -162,7 +162,6 @@ pub fn carry_out_run<
         (λ _. teller.new ≡ teller.old) }
     ensures untouched { IfErr result (λ stopped. stopped ≢ Faulted WriteFault → writer.new ≡ writer.old) }
     ensures unanswered { IfErr result (IfUnanswered (Stops (IsRunnableInput D.remaining declaration.old declaration.new))) }
-    ensures by_kind { IfErr result (IfUnanswered (StopsBy (IsRunnableInputBy D.remaining declaration.old declaration.new))) }
     ensures unsaid { OnErr result (teller.new ≡ teller.old) }
 
     // What is asked of the reader, whatever the result.
@@ -192,10 +191,9 @@ pub fn carry_out_run<
 /// even numbers and one for the others. Each queues its items once and then flushes them. A plan of more than 256 workqueues is refused (69).
 ///
 /// At most 1,048,577 bytes are read, in at most as many calls. The errors are those of `plan_cmd`: a read failed, out of memory,
-/// or a write failed or took no byte; and `Thread`, where a thread couldn't be made, `Tally`, where the runtime couldn't be closed
-/// with counts that agree, and `FlushWq`, where there is a plan and an item waits for a whole workqueue, which isn't run yet. After a
-/// write that failed, a prefix of the answer is written, and after the other errors nothing. It isn't promised that the calls of the
-/// threads ever return.
+/// or a write failed or took no byte; and `Thread`, where a thread couldn't be made, and `Tally`, where the runtime couldn't
+/// be closed with counts that agree. After a write that failed, a prefix of the answer is written, and after the other errors
+/// nothing. It isn't promised that the calls of the threads ever return.
 ///
 /// The names are hashed with `seed`. No answer depends on it.
 pub fn run_cmd<R: Threads + Wait + Sync, D: Read, W: Write, A: Allocator + Copy + Send + Sync>(
@@ -216,10 +214,6 @@ pub fn run_cmd<R: Threads + Wait + Sync, D: Read, W: Write, A: Allocator + Copy 
     ensures unwritten { result ≡ Err (Common ReadFault) → writer.new ≡ writer.old }
     ensures no_thread { result ≡ Err Thread → (writer.new ≡ writer.old) × IsRunnableInput D.remaining declaration.old declaration.new }
     ensures no_tally { result ≡ Err Tally → (writer.new ≡ writer.old) × IsRunnableInput D.remaining declaration.old declaration.new }
-
-    // A wait for a whole workqueue isn't run: where there is one, nothing else that stops only `run` occurs.
-    ensures whole { result ≡ Err FlushWq → (writer.new ≡ writer.old) × IsRunnableInputBy D.remaining declaration.old declaration.new true }
-    ensures by_item { (result ≡ Err Thread) ⊎ (result ≡ Err Tally) → IsRunnableInputBy D.remaining declaration.old declaration.new false }
 
     // What is asked of the reader, whatever the result.
     ensures lost { LosesPrefix D.remaining declaration.old declaration.new (max_declaration + 1) }

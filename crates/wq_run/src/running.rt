@@ -2,25 +2,23 @@
 //!
 //! The runtime is named here, in the call of the function that makes it and works with it. It takes the time of planning and of
 //! all executions, and memory in the number of workqueues times that of items, besides the rows of the history: for each item a
-//! seat has 112 bytes and a body 4.
+//! seat has 176 bytes and a body 4.
 
-ghost use Rattle.std.specs.Prelude.{◌≡◌, ◌≢◌, ◌≤◌, ◌+◌, ◌*◌, IfOk, IfErr, length};
+ghost use Rattle.std.specs.Prelude.{◌≡◌, ◌≢◌, ◌+◌, ◌*◌, IfOk, IfErr, length};
 ghost use Rattle.wq_groups.specs.Declaration.{declaration_of};
-ghost use Rattle.wq_core.specs.Wiring.{items, wiring};
+ghost use Rattle.wq_core.specs.Wiring.{wiring};
 ghost use Rattle.wq_plan.specs.Plan.{IsPlan};
 ghost use Rattle.wq_items.specs.Table.{flush_count};
 ghost use Rattle.wq_plan.specs.Solve.{IsCircled};
-ghost use Rattle.wq_held.specs.Locked.{max_runtime_lanes};
 ghost use Rattle.wq_under_lock.specs.declared.fault.NewError.TheVariants.{OutOfMemory as NoMemory};
 ghost use Rattle.wq_under_lock.specs.Refusals.{new_code};
 ghost use Rattle.wq_commands.specs.Answer.{IsRefused};
 ghost use Rattle.wq_run.specs.declared.fault.RunStop.TheVariants.{OutOfMemory};
-ghost use Rattle.wq_run.specs.Fault.{StopsBy};
-ghost use Rattle.wq_run.specs.Running.{Runs, RunsDeclared, HasRuntimeBy, IsRunnableBy, SaysUnrun, rows_for, run_why};
+ghost use Rattle.wq_run.specs.Fault.{Stops};
+ghost use Rattle.wq_run.specs.Running.{Runs, RunsDeclared, HasRuntime, IsRunnable, SaysUnrun, rows_for, run_why};
 
 use crate::fault::RunStop;
 use crate::serving::serve;
-use crate::whole::waits_for_whole;
 use std::alloc::Allocator;
 use std::marker::Brand;
 use std::sync::Wait;
@@ -58,37 +56,6 @@ fn refuse_runtime<A: Allocator + Copy>(
     Ok(printed)
 }
 
-/// Runs a plan on a runtime of it. Where an item waits for a whole workqueue, nothing is run, and the error is `FlushWq`.
-fn run_by_item<
-    N: Naming + Send + Sync,
-    A: Allocator + Copy + Send + Sync,
-    R: Threads + Wait + Sync,
->(
-    rt: &R,
-    alloc: A,
-    runtime: WqRuntime<N, A>,
-    table: &ItemTable<'_, A>,
-    groups: &Groups<A>,
-    assignment: &Assignment<A>,
-) -> Result<(End, Vec<u8, A>), RunStop>
-    requires grouped { length groups.now.group_of ≡ length table.now.names }
-    requires assigned { length assignment.now.lane_of_group ≡ groups.now.groups }
-    requires plan { IsPlan (declaration_of table.now groups.now) assignment.now }
-    requires few { assignment.now.lanes ≤ max_runtime_lanes }
-    requires items { items N.wiring ≡ length table.now.names }
-    requires of_wiring { N.wiring ≡ wiring (declaration_of table.now groups.now) assignment.now }
-    requires of_rows { N.rows ≡ rows_for (record { table = table.now; partition = groups.now }) }
-    ensures ran { IfOk result (λ printed. RunsDeclared (record { table = table.now; partition = groups.now }) printed.0 printed.1.items) }
-    ensures stopped { IfErr result (StopsBy (HasRuntimeBy (record { table = table.now; partition = groups.now }))) }
-{
-    if waits_for_whole(table) {
-        drop(runtime);
-        return Err(RunStop::FlushWq);
-    }
-    let text = serve(rt, alloc, runtime, table, groups, assignment)?;
-    Ok((End::Good, text))
-}
-
 /// Runs a plan in the runtime of this name, or refuses it where a runtime can't have this many workqueues.
 fn run_named<N: Naming + Send + Sync, A: Allocator + Copy + Send + Sync, R: Threads + Wait + Sync>(
     rt: &R,
@@ -108,13 +75,16 @@ fn run_named<N: Naming + Send + Sync, A: Allocator + Copy + Send + Sync, R: Thre
     requires few_rows { rows ≡ rows_for (record { table = table.now; partition = groups.now }) }
     requires of_rows { N.rows ≡ rows }
     ensures ran { IfOk result (λ printed. RunsDeclared (record { table = table.now; partition = groups.now }) printed.0 printed.1.items) }
-    ensures stopped { IfErr result (StopsBy (HasRuntimeBy (record { table = table.now; partition = groups.now }))) }
+    ensures stopped { IfErr result (Stops (HasRuntime (record { table = table.now; partition = groups.now }))) }
 {
     // What holds of every table and of all groups.
     let _items = table.len();
     let _groups = groups.len();
     match WqRuntime::<N, A>::new(alloc, blank, table, groups, assignment, rows) {
-        Ok(runtime) => run_by_item(rt, alloc, runtime, table, groups, assignment),
+        Ok(runtime) => {
+            let text = serve(rt, alloc, runtime, table, groups, assignment)?;
+            Ok((End::Good, text))
+        }
         Err(error) => refuse_runtime(alloc, error),
     }
 }
@@ -130,7 +100,7 @@ fn run_plan<A: Allocator + Copy + Send + Sync, R: Threads + Wait + Sync>(
     requires grouped { length groups.now.group_of ≡ length table.now.names }
     requires plan { IsPlan (declaration_of table.now groups.now) assignment.now }
     ensures ran { IfOk result (λ printed. RunsDeclared (record { table = table.now; partition = groups.now }) printed.0 printed.1.items) }
-    ensures stopped { IfErr result (StopsBy (HasRuntimeBy (record { table = table.now; partition = groups.now }))) }
+    ensures stopped { IfErr result (Stops (HasRuntime (record { table = table.now; partition = groups.now }))) }
 {
     let blank = Blank::new(65_536);
     let rows = rows_for(table);
@@ -147,7 +117,7 @@ fn print_circle<A: Allocator + Copy>(
     requires grouped { length groups.now.group_of ≡ length table.now.names }
     requires circled { IsCircled (declaration_of table.now groups.now) arcs.now }
     ensures printed { IfOk result (λ printed. RunsDeclared (record { table = table.now; partition = groups.now }) printed.0 printed.1.items) }
-    ensures stopped { IfErr result (StopsBy (HasRuntimeBy (record { table = table.now; partition = groups.now }))) }
+    ensures stopped { IfErr result (Stops (HasRuntime (record { table = table.now; partition = groups.now }))) }
 {
     let text = text_of_circle(alloc, table, groups, arcs)?;
     Ok((End::Bad, text))
@@ -162,7 +132,7 @@ fn run_declared<A: Allocator + Copy + Send + Sync, R: Threads + Wait + Sync>(
 ) -> Result<(End, Vec<u8, A>), RunStop>
     requires { length groups.now.group_of ≡ length table.now.names }
     ensures ran { IfOk result (λ printed. RunsDeclared (record { table = table.now; partition = groups.now }) printed.0 printed.1.items) }
-    ensures stopped { IfErr result (StopsBy (HasRuntimeBy (record { table = table.now; partition = groups.now }))) }
+    ensures stopped { IfErr result (Stops (HasRuntime (record { table = table.now; partition = groups.now }))) }
 {
     let answer = solve(alloc, table, groups)?;
     let printed = match &answer {
@@ -203,7 +173,7 @@ fn run_explained<A: Allocator + Copy + Send + Sync, R: Threads + Wait + Sync>(
     requires { length groups.now.group_of ≡ length table.now.names }
     ensures ran { IfOk result (λ a. RunsDeclared (record { table = table.now; partition = groups.now }) a.end a.text.items) }
     ensures why { IfOk result (λ a. a.why ≡ run_why a.end) }
-    ensures stopped { IfErr result (StopsBy (HasRuntimeBy (record { table = table.now; partition = groups.now }))) }
+    ensures stopped { IfErr result (Stops (HasRuntime (record { table = table.now; partition = groups.now }))) }
 {
     let (end, text) = run_declared(rt, alloc, table, groups)?;
     Ok(explained(end, text))
@@ -218,7 +188,7 @@ pub(crate) fn answer<A: Allocator + Copy + Send + Sync, R: Threads + Wait + Sync
 ) -> Result<Answered<A>, RunStop>
     ensures ran { IfOk result (λ a. Runs text.now a.end a.text.items) }
     ensures why { IfOk result (λ a. SaysUnrun text.now a.end a.why) }
-    ensures stopped { IfErr result (StopsBy (IsRunnableBy text.now)) }
+    ensures stopped { IfErr result (Stops (IsRunnable text.now)) }
 {
     match read_declaration(alloc, seed, text) {
         Ok(declared) => {

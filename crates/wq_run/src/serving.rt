@@ -3,7 +3,7 @@
 //! The crew is that of `wq_script`: a body for each workqueue, which makes the declared flushes, and two callers. It takes the
 //! time of all executions and of writing the text, and time and memory in the number of workqueues times that of items.
 
-ghost use Rattle.std.specs.Prelude.{◌≡◌, ◌≢◌, ◌≤◌, ℕ, List, length, map, IfOk, IfErr, true};
+ghost use Rattle.std.specs.Prelude.{◌≡◌, ◌≤◌, ℕ, List, length, map, IfOk, IfErr, true};
 ghost use Rattle.std.specs.List.{All};
 ghost use Rattle.wq_groups.specs.Declaration.{declaration_of};
 ghost use Rattle.wq_core.specs.Wiring.{items, wiring};
@@ -16,7 +16,6 @@ ghost use Rattle.wq_execution.specs.Executing.{NeverRan};
 ghost use Rattle.wq_rescuer.specs.Serving.{IsRan};
 ghost use Rattle.wq_script.specs.Scripts.{runs_of};
 ghost use Rattle.wq_script.specs.Crews.{shared_by_two};
-ghost use Rattle.wq_run.specs.declared.fault.RunStop.TheVariants.{FlushWq};
 ghost use Rattle.wq_run.specs.Fault.{Stops};
 ghost use Rattle.wq_run.specs.Report.{report_text};
 ghost use Rattle.wq_run.specs.Running.{PrintsRun, HasRuntime, rows_for};
@@ -81,7 +80,6 @@ fn run_crew<
 ) -> Result<CrewRan<'t, 'a, N, A>, RunStop>
     requires items { items N.wiring ≡ length table.now.names }
     ensures ran { IfOk result (λ r. IsRan N.wiring N.wiring.lanes 2 r.seats.items (map runs_of r.bodies.items) 2 2 r.rescued.items r.finished r.faults) }
-    ensures by_item { IfErr result (λ stop. stop ≢ FlushWq) }
 {
     let Crew { bodies, callers } = make_crew(alloc, table, runtime.lanes(rt))?;
     match run_all(rt, alloc, runtime, bodies, callers) {
@@ -97,7 +95,6 @@ fn close<N: Naming, A: Allocator>(
     seats: Vec<Seat<N, A>, A>,
 ) -> Result<Closed<N, A>, RunStop>
     ensures closed { IfOk result (λ c. IsClosed N.wiring N.rows seats.items c.book c.counts true) }
-    ensures by_item { IfErr result (λ stop. stop ≢ FlushWq) }
 {
     match runtime.close(seats) {
         Ok(closed) => {
@@ -127,7 +124,6 @@ fn conclude<N: Naming, A: Allocator + Copy, B: Body + Drop, C: Caller + Drop>(
     requires assigned { length assignment.now.lane_of_group ≡ groups.now.groups }
     ensures reported { IfOk result (λ text. (book : BookView) × (counts : List ℕ) × IsClosed N.wiring N.rows ran.seats.items book counts true
         × (text.items ≡ report_text (record { table = table.now; partition = groups.now }) assignment.now (λ i kind. made counts i kind true) ran.faults)) }
-    ensures by_item { IfErr result (λ stop. stop ≢ FlushWq) }
 {
     let seats = mem::replace(&mut ran.seats, Vec::new(alloc));
     match close(runtime, seats) {
@@ -166,7 +162,6 @@ pub(crate) fn serve<
     requires of_rows { N.rows ≡ rows_for (record { table = table.now; partition = groups.now }) }
     ensures ran { IfOk result (λ text. PrintsRun (record { table = table.now; partition = groups.now }) text.items) }
     ensures stopped { IfErr result (Stops (HasRuntime (record { table = table.now; partition = groups.now }))) }
-    ensures by_item { IfErr result (λ stop. stop ≢ FlushWq) }
 {
     match run_crew(rt, alloc, &runtime, table) {
         Ok(ran) => conclude(alloc, runtime, table, groups, assignment, ran),

@@ -13,7 +13,7 @@ use Rattle.wq_commands.specs.declared.end.End.{End}
 use Rattle.wq_commands.specs.declared.why.Outcome.{Outcome}
 use Rattle.wq_explain.specs.declared.explain.Explained.{Explained}
 use Rattle.wq_run.specs.declared.fault.CommandFault.{CommandFault}
-use Rattle.wq_run.specs.declared.fault.CommandFault.TheVariants.{Common, FlushWq, Tally, Thread}
+use Rattle.wq_run.specs.declared.fault.CommandFault.TheVariants.{Common, Tally, Thread}
 use Rattle.wq_run.specs.declared.fault.RunStop.{RunStop}
 use Rattle.wq_run.specs.declared.fault.RunStop.TheVariants as stop
 use Rattle.wq_run.specs.Fault.{end_or_stop}
@@ -70,7 +70,6 @@ module _ {F : Type 0} (Seeds : Option ℕ → Type 0) (Opens : Text → Option F
     run_caused (Err (Unanswered stop.OutOfMemory)) = ready
     run_caused (Err (Unanswered stop.Thread)) = (ready, tt)
     run_caused (Err (Unanswered stop.Tally)) = (ready, tt)
-    run_caused (Err (Unanswered stop.FlushWq)) = (ready, tt)
 
     pub run_caused_by : (ended : Result Outcome (Stopped RunStop)) (result : Result End CommandFault) → result ≡ end_or_stop ended → EndsReady Seeds Opens files (Unit {0}) (Unit {0}) result
     run_caused_by ended result is = subst (EndsReady Seeds Opens files (Unit {0}) (Unit {0})) (sym is) (run_caused ended)
@@ -84,7 +83,6 @@ module _ {F : Type 0} (Seeds : Option ℕ → Type 0) (Opens : Text → Option F
   never_opened files MayFail MayStart (Err (Common Memory)) ready path contains never = let opened = All-contains Opened files path ready.1 contains in absurd (never opened.0 opened.1)
   never_opened files MayFail MayStart (Err Thread) ready path contains never = let opened = All-contains Opened files path ready.0.1 contains in absurd (never opened.0 opened.1)
   never_opened files MayFail MayStart (Err Tally) ready path contains never = let opened = All-contains Opened files path ready.0.1 contains in absurd (never opened.0 opened.1)
-  never_opened files MayFail MayStart (Err FlushWq) ready path contains never = let opened = All-contains Opened files path ready.0.1 contains in absurd (never opened.0 opened.1)
 
   -- so does a seed that is never drawn
   pub never_drawn : (files : List Text) (MayFail MayStart : Type 0) (result : Result End CommandFault) → EndsReady Seeds Opens files MayFail MayStart result
@@ -95,7 +93,6 @@ module _ {F : Type 0} (Seeds : Option ℕ → Type 0) (Opens : Text → Option F
   never_drawn files MayFail MayStart (Err (Common Memory)) ready never = absurd (never ready.0.0 ready.0.1)
   never_drawn files MayFail MayStart (Err Thread) ready never = absurd (never ready.0.0.0 ready.0.0.1)
   never_drawn files MayFail MayStart (Err Tally) ready never = absurd (never ready.0.0.0 ready.0.0.1)
-  never_drawn files MayFail MayStart (Err FlushWq) ready never = absurd (never ready.0.0.0 ready.0.0.1)
 
   -- ---- what is asked for
 
@@ -131,7 +128,6 @@ module _ {F : Type 0} (Seeds : Option ℕ → Type 0) (Opens : Text → Option F
   not_started files MayFail (Err (Common fault)) caused (inr is) = cc
   not_started files MayFail (Err Thread) caused is = caused.1
   not_started files MayFail (Err Tally) caused is = caused.1
-  not_started files MayFail (Err FlushWq) caused is = caused.1
 
   not_alone : (result : Result End CommandFault) → EndsAlone result → (result ≡ Err Thread) ⊎ (result ≡ Err Tally) → ⊥
   not_alone (Ok end) caused (inl is) = cc
@@ -140,7 +136,6 @@ module _ {F : Type 0} (Seeds : Option ℕ → Type 0) (Opens : Text → Option F
   not_alone (Err (Common fault)) caused (inr is) = cc
   not_alone (Err Thread) caused is = caused
   not_alone (Err Tally) caused is = caused
-  not_alone (Err FlushWq) caused is = caused
 
   pub only_run : (InputFailed : Type 0) (result : Result End CommandFault) (asked : Asked) → IsCaused Seeds Opens InputFailed asked result
       → (result ≡ Err Thread) ⊎ (result ≡ Err Tally) → (path : Text) × (asked ≡ runs path)

@@ -65,7 +65,6 @@ module _ {W : Type 0} (contents : W → Option (List ℕ)) (old new : Meter W) (
   of_stop (Err (Unanswered stop.OutOfMemory)) whole part untouched failed not_failed = untouched (λ same. subst IsWrite (sym same) tt)
   of_stop (Err (Unanswered stop.Thread)) whole part untouched failed not_failed = untouched (λ same. subst IsWrite (sym same) tt)
   of_stop (Err (Unanswered stop.Tally)) whole part untouched failed not_failed = untouched (λ same. subst IsWrite (sym same) tt)
-  of_stop (Err (Unanswered stop.FlushWq)) whole part untouched failed not_failed = untouched (λ same. subst IsWrite (sym same) tt)
 
   pub run_ended_by : (ended : Result Outcome (Stopped RunStop)) (result : Result End CommandFault) → result ≡ end_or_stop ended → IfOk ended Whole
       → (ended ≡ Err (Faulted Write) → Part) → IfErr ended (λ stopped. stopped ≢ Faulted Write → new ≡ old)

@@ -6,7 +6,7 @@ use Rattle.wq_meter.specs.Meter.{LosesPrefix, Meter}
 use Rattle.wq_commands.specs.Declaration.{max_declaration}
 use Rattle.wq_commands.specs.declared.end.End.{End}
 use Rattle.wq_run.specs.declared.fault.CommandFault.{CommandFault}
-use Rattle.wq_run.specs.declared.fault.CommandFault.TheVariants.{Common, FlushWq, Tally, Thread}
+use Rattle.wq_run.specs.declared.fault.CommandFault.TheVariants.{Common, Tally, Thread}
 use Rattle.clap.specs.Words.{Text}
 use Rattle.wqplan.specs.CommandLine.{Asked, plans, checks, judges, replays, finds, draws, runs, explains}
 
@@ -38,7 +38,6 @@ EndsReady Seeds Opens files MayFail MayStart (Err (Common Write)) = IsReady Seed
 EndsReady Seeds Opens files MayFail MayStart (Err (Common Memory)) = IsReady Seeds Opens files
 EndsReady Seeds Opens files MayFail MayStart (Err Thread) = IsReady Seeds Opens files × MayStart
 EndsReady Seeds Opens files MayFail MayStart (Err Tally) = IsReady Seeds Opens files × MayStart
-EndsReady Seeds Opens files MayFail MayStart (Err FlushWq) = IsReady Seeds Opens files × MayStart
 
 -- a command ended like this that reads nothing and starts no threads
 abbrev pub EndsAlone : Result End CommandFault → Type 0
@@ -48,7 +47,6 @@ EndsAlone (Err (Common Write)) = Unit {0}
 EndsAlone (Err (Common Memory)) = Unit {0}
 EndsAlone (Err Thread) = ⊥
 EndsAlone (Err Tally) = ⊥
-EndsAlone (Err FlushWq) = ⊥
 
 -- the command that is asked for ended like this. A read of a file may always have failed, since no clause sees the reads of a file;
 -- a read of standard input failed if `InputFailed` holds

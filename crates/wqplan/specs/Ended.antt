@@ -12,7 +12,7 @@ use Rattle.wq_commands.specs.Replaying.{Replays}
 use Rattle.wq_circles.specs.Circling.{Circles, OwnCircles}
 use Rattle.wq_dot.specs.Dotting.{Draws, OwnDraws}
 use Rattle.wq_run.specs.declared.fault.CommandFault.{CommandFault}
-use Rattle.wq_run.specs.declared.fault.CommandFault.TheVariants.{Common, FlushWq, Tally, Thread}
+use Rattle.wq_run.specs.declared.fault.CommandFault.TheVariants.{Common, Tally, Thread}
 use Rattle.wq_run.specs.Running.{Runs}
 use Rattle.wq_explain.specs.Explaining.{explained_end, explained_text}
 use Rattle.wqplan.specs.CommandLine.{Asked, plans, checks, judges, replays, finds, draws, runs, explains}
@@ -92,4 +92,3 @@ EndedBy contents old new Ends (Ok end) = Ended contents old new Ends (Ok end)
 EndedBy contents old new Ends (Err (Common fault)) = Ended contents old new Ends (Err fault)
 EndedBy contents old new Ends (Err Thread) = new ≡ old
 EndedBy contents old new Ends (Err Tally) = new ≡ old
-EndedBy contents old new Ends (Err FlushWq) = new ≡ old

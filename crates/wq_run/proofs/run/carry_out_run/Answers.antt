@@ -2,7 +2,7 @@ use Rattle.std.proofs.Common.{◌≡◌, OnErr, subst}
 use Rattle.std.proofs.lemmas.Result.{IfOk-weaker, IfErr-weaker}
 use Rattle.wq_meter.specs.Meter.{WritesPrefix, WritesWhole}
 use Rattle.wq_meter.specs.Shell.{Tells}
-use Rattle.wq_run.proofs.InputLemmas.{IsRun-read, IfUnanswered-by, IfUnanswered-read}
+use Rattle.wq_run.proofs.InputLemmas.{IsRun-read, IfUnanswered-read}
 use Rattle.wq_run.proofs.run.carry_out_run.Goals as goal
 
 pub returns-clause-answered : goal.returns-clause-answered
@@ -26,9 +26,4 @@ returns-clause-prefix g c = λ is.
 
 pub returns-clause-unanswered : goal.returns-clause-unanswered
 returns-clause-unanswered g c =
-    IfErr-weaker c.respond-ended.result _ _ (λ stopped h. IfUnanswered-by _ _ _ stopped (IfUnanswered-read c.in_ok-text.ensures.given c.only-texts.result c.only-texts.ensures stopped h))
-    c.respond-ended.ensures.unanswered
-
-pub returns-clause-by_kind : goal.returns-clause-by_kind
-returns-clause-by_kind g c =
     IfErr-weaker c.respond-ended.result _ _ (IfUnanswered-read c.in_ok-text.ensures.given c.only-texts.result c.only-texts.ensures) c.respond-ended.ensures.unanswered

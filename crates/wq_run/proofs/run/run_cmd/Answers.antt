@@ -1,10 +1,10 @@
 use Rattle.std.proofs.lemmas.Result.{IfOk-weaker}
-use Rattle.std.proofs.Common.{inl, inr, List, ℕ}
+use Rattle.std.proofs.Common.{List, ℕ}
 use Rattle.wq_meter.specs.Meter.{WritesWhole}
 use Rattle.wq_commands.proofs.CommandLemmas.{ended_with, stopped_by}
 use Rattle.wq_run.specs.declared.fault.RunStop.TheVariants as stop
-use Rattle.wq_run.specs.Fault.{Stops, StopsBy}
-use Rattle.wq_run.specs.Run.{RunsInput, IsRunnableInput, IsRunnableInputBy}
+use Rattle.wq_run.specs.Fault.{Stops}
+use Rattle.wq_run.specs.Run.{RunsInput, IsRunnableInput}
 use Rattle.wq_run.proofs.InputLemmas.{unanswered_for, unwritten_for}
 use Rattle.wq_run.proofs.run.run_cmd.Goals as goal
 
@@ -40,21 +40,6 @@ returns-clause-no_tally g c = λ is.
       unwritten_for c.carry_out_run-ended.result stop.Tally _ why c.carry_out_run-ended.ensures.untouched,
       unanswered_for c.carry_out_run-ended.result stop.Tally (Stops (IsRunnableInput g.D.Read.remaining c.args.declaration.now c.carry_out_run-ended.new.declaration)) why c.carry_out_run-ended.ensures.unanswered,
     )
-
-pub returns-clause-whole : goal.returns-clause-whole
-returns-clause-whole g c = λ is.
-    let why = c.end_of_run.ensures.whole is in (
-      unwritten_for c.carry_out_run-ended.result stop.FlushWq _ why c.carry_out_run-ended.ensures.untouched,
-      unanswered_for c.carry_out_run-ended.result stop.FlushWq (StopsBy (IsRunnableInputBy g.D.Read.remaining c.args.declaration.now c.carry_out_run-ended.new.declaration)) why c.carry_out_run-ended.ensures.by_kind,
-    )
-
-pub returns-clause-by_item : goal.returns-clause-by_item
-returns-clause-by_item g c = λ is.
-    let Stopped = StopsBy (IsRunnableInputBy g.D.Read.remaining c.args.declaration.now c.carry_out_run-ended.new.declaration) in
-    elim is [
-      | inl thread ↦ unanswered_for c.carry_out_run-ended.result stop.Thread Stopped (c.end_of_run.ensures.no_thread thread) c.carry_out_run-ended.ensures.by_kind
-      | inr tally ↦ unanswered_for c.carry_out_run-ended.result stop.Tally Stopped (c.end_of_run.ensures.no_tally tally) c.carry_out_run-ended.ensures.by_kind
-    ]
 
 pub returns-clause-read_failed : goal.returns-clause-read_failed
 returns-clause-read_failed g c = λ is. c.carry_out_run-ended.ensures.read_failed (c.end_of_run.ensures.read_failed is)

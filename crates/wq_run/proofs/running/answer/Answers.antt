@@ -5,7 +5,7 @@ use Rattle.wq_commands.specs.declared.why.Which.TheVariants.{Declaration}
 use Rattle.wq_commands.specs.Why.{refused_for}
 use Rattle.wq_commands.proofs.CheckLemmas.{MatchResult-ok}
 use Rattle.wq_run.specs.Running.{run_why}
-use Rattle.wq_run.proofs.AnswerLemmas.{Runs-declared, StopsBy-declared}
+use Rattle.wq_run.proofs.AnswerLemmas.{Runs-declared, Stops-declared}
 use Rattle.wq_run.proofs.running.answer.Goals as goal
 
 pub returns-in-Ok-clause-ran : goal.returns-in-Ok-clause-ran
@@ -20,4 +20,4 @@ returns-in-Ok-clause-why g c =
 
 pub returns-in-Ok-clause-stopped : goal.returns-in-Ok-clause-stopped
 returns-in-Ok-clause-stopped g c =
-    IfErr-weaker c.run_explained-answer.result _ _ (λ fault stops. StopsBy-declared c.args.text.now _ fault c.in-Ok.ensures.declaration stops) c.run_explained-answer.ensures.stopped
+    IfErr-weaker c.run_explained-answer.result _ _ (λ fault stops. Stops-declared c.args.text.now _ fault c.in-Ok.ensures.declaration stops) c.run_explained-answer.ensures.stopped
