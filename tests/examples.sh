@@ -86,9 +86,7 @@ answers() {
     run check "$name.wq" "$name.answer"
     ends "$name: what plan prints, checked" 0 "$yes"
     run run "$name.wq"
-    if [ "$wanted" -eq 0 ] && grep -q '^flushwq' "$name.wq"; then
-        ends "$name: run" 3 'fault flushwq'
-    elif [ "$wanted" -eq 0 ]; then
+    if [ "$wanted" -eq 0 ]; then
         ends "$name: run" 0 "$(ran "$name")"
     else
         ends "$name: run" 1 "$(cat "$name.answer")"

@@ -7,7 +7,7 @@ ends with 0 where it has, and with 1 where it hasn't. OUT and ERR are files with
 standard error. Where OUT is a refusal, or a `no` of `check`, ERR must be its diagnosis: it names FILE, the line and the number, and
 shows the line and its marks where a line is meant. Where OUT is the answer to a declaration without an item, ERR must be the note
 that says so, with FILE; where it may be one, as `safe`, this note or nothing. Where OUT is `not lawful N` of `replay`, ERR must say so of FILE, too,
-and show the step. Where OUT is empty, ERR must be the fault `flushwq` of `run`. Where OUT is any other answer, ERR must be empty. The words and the hints of a diagnosis may be any: they aren't
+and show the step. Where OUT is any other answer, ERR must be empty. The words and the hints of a diagnosis may be any: they aren't
 compared here. `belongs` and `meant` do this for other scripts.
 """
 
@@ -22,9 +22,6 @@ STDIN = b"<stdin>"
 REFUSED = re.compile(rb"(refused) ([0-9]+) line ([0-9]+)\n")
 UNLAWFUL = re.compile(rb"not lawful ([0-9]+)\n")
 NO = re.compile(rb"(no) ([0-9]+)(?: [^\n]*)?\n")
-
-# What `run` says of a wait for a whole workqueue, and prints nothing.
-UNRUN = b"fault flushwq\n"
 
 NUMBER = rb"[1-9][0-9]*"
 # Answers that only a declaration without an item has, and answers that others have, too.
@@ -95,8 +92,6 @@ def belongs(printed, errors, files):
     if refused_step:
         return is_of(files[-1], unlawful(refused_step[1]), errors)
     found = answer(printed)
-    if printed == b"":
-        return errors == UNRUN
     if NO_ITEM.fullmatch(printed):
         return errors == note(files[0])
     if not found:

@@ -1,10 +1,11 @@
 # Books: the calls that are made of them, what is printed for each, and the rows at the end.
 #
 # The rules are those of "Histories" in docs/FORMAT.md, from which each answer was worked out by
-# hand: the answers and the rows of the first six books stand in "Worked histories" there.
+# hand: many of the answers and the rows stand in "Worked histories" there.
 
 ONE = ("item a", "wq 0 a")
 TWO = ("item a / item b / flush a b", "wq 0 b / wq 1 a")
+WHOLE = ("item a / item b / item c / flushwq a b", "wq 0 b c / wq 1 a")
 
 # A declaration and an assignment, how many rows there are, each call with what is printed for it,
 # and the rows that are written.
@@ -305,6 +306,207 @@ BOOKS = [
         "010101000000000001000000",
         "030101000000000001000000",
     ]),
+    # A wait for a whole workqueue, on which its target is idle, and another item isn't.
+    (*WHOLE, 8, [
+        ("queue c", "true free 5 busy open - - - -"),
+        ("queue a", "true free 0 busy open - - - -"),
+        ("start 1", "a free 0 busy open - - a -"),
+        ("wait 1 b", "refused 62 free 0 busy open - - a -"),
+        ("waitall 1 b", "true free 0 busy open - - a wq:b"),
+        ("over 1", "false free 0 busy open - - a wq:b"),
+        ("start 0", "c free 0 busy open c - a wq:b"),
+        ("finish 0", "ok free 0 busy open - - a wq:b"),
+        ("over 1", "true free 0 busy open - - a -"),
+        ("finish 1", "ok free 0 idle open - - - -"),
+    ], [
+        "010102000000000000000000",
+        "010100000000000001000000",
+        "030100000100000001000000",
+        "090101000100000002000000",
+        "030102000000000000000000",
+        "060102000000000000000000",
+        "0a0101000100000002000000",
+        "060100000100000001000000",
+    ]),
+    # An ask about a workqueue.
+    (*WHOLE, 6, [
+        ("asklane 2", "refused 64 free 6 idle open - - - -"),
+        ("asklane 0", "idle free 5 idle open - - - -"),
+        ("queue c", "true free 2 busy open - - - -"),
+        ("asklane 0", "waiting 1 free 0 busy open - - - -"),
+        ("toldlane 0", "not yet free 0 busy open - - - -"),
+        ("start 0", "c free 0 busy open c - - -"),
+        ("finish 0", "ok free 0 idle open - - - -"),
+        ("toldlane 0", "done free 0 idle open - - - -"),
+    ], [
+        "0b0000000000000000000000",
+        "010102000000000000000000",
+        "0b0100000000000001000000",
+        "030102000000000000000000",
+        "060102000000000000000000",
+        "0c0100000000000001000000",
+    ]),
+    # One row too few for an item that waits for a workqueue.
+    (*WHOLE, 4, [("queue a", "refused 60 free 4 idle open - - - -")], []),
+    # A wait for a workqueue lasts while anything runs or is pending there that was queued before it. What is queued later, even
+    # the target itself, doesn't prolong it.
+    (*WHOLE, 30, [
+        ("queue b", "true free 27 busy open - - - -"),
+        ("queue c", "true free 24 busy open - - - -"),
+        ("queue a", "true free 19 busy open - - - -"),
+        ("start 0", "b free 19 busy open b - - -"),
+        ("start 1", "a free 19 busy open b - a -"),
+        ("waitall 1 b", "true free 19 busy open b - a wq:b"),
+        ("queue b", "true free 16 busy open b - a wq:b"),
+        ("over 1", "false free 16 busy open b - a wq:b"),
+        ("finish 0", "ok free 16 busy open - - a wq:b"),
+        ("over 1", "false free 16 busy open - - a wq:b"),
+        ("cancel c", "true free 17 busy open - - a wq:b"),
+        ("over 1", "true free 17 busy open - - a -"),
+        ("finish 1", "ok free 17 busy open - - - -"),
+    ], [
+        "010101000000000000000000",
+        "010102000000000001000000",
+        "010100000000000002000000",
+        "030101000000000000000000",
+        "030100000100000002000000",
+        "090101000100000003000000",
+        "010101000000000003000000",
+        "060101000000000000000000",
+        "020102000000000001000000",
+        "0a0101000100000003000000",
+        "060100000100000002000000",
+    ]),
+    # Waits of both kinds, which count together, and those that aren't declared: another item of the workqueue is, but by `flush`.
+    ("item a / item b / item c / flush a b / flushwq a b / flush a c", "wq 0 b c / wq 1 a", 30, [
+        ("queue a", "true free 21 busy open - - - -"),
+        ("waitall 1 b", "refused 64 free 21 busy open - - - -"),
+        ("start 1", "a free 21 busy open - - a -"),
+        ("waitall 1 c", "refused 62 free 21 busy open - - a -"),
+        ("waitall 1 a", "refused 62 free 21 busy open - - a -"),
+        ("waitall 1 z", "refused 62 free 21 busy open - - a -"),
+        ("waitall 0 b", "refused 64 free 21 busy open - - a -"),
+        ("waitall 2 b", "refused 64 free 21 busy open - - a -"),
+        ("queue c", "true free 18 busy open - - a -"),
+        ("wait 1 b", "false free 18 busy open - - a b"),
+        ("waitall 1 b", "refused 64 free 18 busy open - - a b"),
+        ("over 1", "true free 18 busy open - - a -"),
+        ("waitall 1 b", "true free 18 busy open - - a wq:b"),
+        ("wait 1 b", "refused 64 free 18 busy open - - a wq:b"),
+        ("finish 1", "refused 64 free 18 busy open - - a wq:b"),
+        ("over 1", "false free 18 busy open - - a wq:b"),
+        ("cancel c", "true free 19 busy open - - a wq:b"),
+        ("over 1", "true free 19 busy open - - a -"),
+        ("waitall 1 b", "false free 19 busy open - - a wq:b"),
+        ("over 1", "true free 19 busy open - - a -"),
+        ("waitall 1 b", "refused 63 free 19 busy open - - a -"),
+        ("wait 1 c", "refused 63 free 19 busy open - - a -"),
+        ("waitall 1 c", "refused 62 free 19 busy open - - a -"),
+        ("waitall 1 z", "refused 62 free 19 busy open - - a -"),
+        ("over 1", "refused 64 free 19 busy open - - a -"),
+        ("finish 1", "ok free 19 idle open - - - -"),
+    ], [
+        "010100000000000000000000",
+        "030100000100000000000000",
+        "010102000000000001000000",
+        "040001000100000002000000",
+        "050101000100000002000000",
+        "090101000100000002000000",
+        "020102000000000001000000",
+        "0a0101000100000002000000",
+        "090001000100000002000000",
+        "0a0101000100000002000000",
+        "060100000100000000000000",
+    ]),
+    # An item that waits for its own workqueue, by the name of another item there.
+    ("item a / item b / flushwq a b", "wq 0 a b", 20, [
+        ("queue a", "true free 15 busy open - -"),
+        ("start 0", "a free 15 busy open a -"),
+        ("waitall 0 b", "true free 15 busy open a wq:b"),
+        ("over 0", "false free 15 busy open a wq:b"),
+        ("asklane 0", "waiting 1 free 13 busy open a wq:b"),
+        ("toldlane 0", "not yet free 13 busy open a wq:b"),
+        ("finish 0", "refused 64 free 13 busy open a wq:b"),
+    ], [
+        "010100000000000000000000",
+        "030100000000000000000000",
+        "090101000000000001000000",
+        "0b0100000000000001000000",
+    ]),
+    # Asks about workqueues and an item. One about a workqueue waits for all that was queued there before it, pending or running, and
+    # for nothing that is queued later.
+    ("item a / item b", "wq 0 a b / wq 1", 30, [
+        ("asklane 1", "idle free 29 idle open - - - -"),
+        ("queue a", "true free 26 busy open - - - -"),
+        ("queue b", "true free 23 busy open - - - -"),
+        ("asklane 0", "waiting 2 free 21 busy open - - - -"),
+        ("ask b", "waiting 2 free 19 busy open - - - -"),
+        ("start 0", "a free 19 busy open a - - -"),
+        ("queue a", "true free 16 busy open a - - -"),
+        ("asklane 0", "waiting 3 free 14 busy open a - - -"),
+        ("asklane 1", "idle free 13 busy open a - - -"),
+        ("finish 0", "ok free 13 busy open - - - -"),
+        ("toldlane 0", "not yet free 13 busy open - - - -"),
+        ("start 0", "b free 13 busy open b - - -"),
+        ("told 0", "not yet free 13 busy open b - - -"),
+        ("toldlane 1", "not yet free 13 busy open b - - -"),
+        ("finish 0", "ok free 13 busy open - - - -"),
+        ("toldlane 0", "done free 13 busy open - - - -"),
+        ("told 0", "done free 13 busy open - - - -"),
+        ("toldlane 1", "not yet free 13 busy open - - - -"),
+        ("cancel a", "true free 14 idle open - - - -"),
+        ("toldlane 1", "done free 14 idle open - - - -"),
+    ], [
+        "0b0000000100000000000000",
+        "010100000000000000000000",
+        "010101000000000001000000",
+        "0b0100000000000002000000",
+        "070101000000000002000000",
+        "030100000000000000000000",
+        "010100000000000002000000",
+        "0b0100000000000003000000",
+        "0b0000000100000003000000",
+        "060100000000000000000000",
+        "030101000000000001000000",
+        "060101000000000001000000",
+        "0c0100000000000002000000",
+        "080101000000000002000000",
+        "020100000000000002000000",
+        "0c0100000000000003000000",
+    ]),
+    # Asks about the workqueue of a full book, which is closed.
+    (*ONE, 5, [
+        ("asklane 1", "refused 64 free 5 idle open - -"),
+        ("queue a", "true free 2 busy open - -"),
+        ("asklane 0", "waiting 1 free 0 busy open - -"),
+        ("asklane 0", "refused 60 free 0 busy open - -"),
+        ("asklane 1", "refused 64 free 0 busy open - -"),
+        ("close", "ok free 0 busy closed - -"),
+        ("asklane 0", "refused 60 free 0 busy closed - -"),
+        ("cancel a", "true free 1 idle closed - -"),
+        ("asklane 0", "idle free 0 idle closed - -"),
+        ("asklane 0", "refused 60 free 0 idle closed - -"),
+        ("toldlane 0", "done free 0 idle closed - -"),
+    ], [
+        "010100000000000000000000",
+        "0b0100000000000001000000",
+        "020100000000000000000000",
+        "0b0000000000000001000000",
+        "0c0100000000000001000000",
+    ]),
+    (*ONE, 4, [
+        ("queue a", "true free 1 busy open - -"),
+        ("asklane 0", "refused 60 free 1 busy open - -"),
+        ("start 0", "a free 1 busy open a -"),
+        ("asklane 0", "refused 60 free 1 busy open a -"),
+        ("finish 0", "ok free 1 idle open - -"),
+        ("asklane 0", "idle free 0 idle open - -"),
+    ], [
+        "010100000000000000000000",
+        "030100000000000000000000",
+        "060100000000000000000000",
+        "0b0000000000000001000000",
+    ]),
     # No row at all, no item, no workqueue.
     (*ONE, 0, [
         ("queue a", "refused 60 free 0 idle open - -"),
@@ -319,7 +521,17 @@ BOOKS = [
         ("wait 65535 a", "refused 64 free 3 idle open"),
         ("over 65535", "refused 64 free 3 idle open"),
         ("finish 65535", "refused 64 free 3 idle open"),
+        ("waitall 0 a", "refused 64 free 3 idle open"),
+        ("asklane 0", "refused 64 free 3 idle open"),
+        ("asklane 65535", "refused 64 free 3 idle open"),
     ], []),
+    ("", "wq 0 / wq 1", 3, [
+        ("waitall 0 a", "refused 64 free 3 idle open - - - -"),
+        ("asklane 1", "idle free 2 idle open - - - -"),
+        ("asklane 2", "refused 64 free 2 idle open - - - -"),
+    ], [
+        "0b0000000100000000000000",
+    ]),
 ]
 
 # A declaration and an assignment, how many rows there are, the text of the calls, and all that is
@@ -347,6 +559,20 @@ TEXTS = [
     (*ONE, 5, "told", "mistake line 1"),
     (*ONE, 5, "told x", "mistake line 1"),
     (*ONE, 5, "told 0", "mistake line 1"),
+    *((*ONE, 5, line, "mistake line 1") for line in [
+        "waitall", "waitall 0", "waitall a 0", "waitall 0 a a", "waitall 65536 a", "waitwq 0 a", "overall 0", "overall 0 a",
+        "asklane", "asklane a", "asklane 0 0", "asklane 65536", "asklane 00", "toldlane", "toldlane x", "toldlane 0 0",
+        "toldlane 0", "flushwq 0", "flush_wq a",
+    ]),
+    # Asks about an item and asks about a workqueue have numbers of their own.
+    (*ONE, 9, "queue a / ask a / toldlane 0",
+     "true free 6 busy open - - / waiting 1 free 4 busy open - - / mistake line 3"),
+    (*ONE, 9, "queue a / asklane 0 / told 0",
+     "true free 6 busy open - - / waiting 1 free 4 busy open - - / mistake line 3"),
+    (*ONE, 5, "asklane 0 / toldlane 0", "idle free 4 idle open - - / mistake line 2"),
+    (*ONE, 9, "queue a / asklane 0 / cancel a / toldlane 0 / toldlane 0",
+     "true free 6 busy open - - / waiting 1 free 4 busy open - - / true free 5 idle open - - / "
+     "done free 5 idle open - - / mistake line 5"),
     (*ONE, 5, "ask a / told 0", "idle free 4 idle open - - / mistake line 2"),
     (*ONE, 9, "queue a / ask a / cancel a / told 1",
      "true free 6 busy open - - / waiting 1 free 4 busy open - - / true free 5 idle open - - / "

@@ -229,6 +229,24 @@ MACHINES = [
         "060101000100000001000000",
     ], "next 3 / lane 0 runs - waits - pending / "
        "lane 1 runs - waits - pending / lane 2 runs - waits - pending / lane 3 runs - waits - pending a"),
+    # Two items wait for each other's whole workqueue.
+    ("item a / item b / flushwq a b / flushwq b a", "wq 0 a / wq 1 b", [
+        ("queue a", "true free 95 busy open - - - -"),
+        ("queue b", "true free 90 busy open - - - -"),
+        ("start 0", "a free 90 busy open a - - -"),
+        ("start 1", "b free 90 busy open a - b -"),
+        ("waitall 0 b", "true free 90 busy open a wq:b b -"),
+        ("waitall 1 a", "true free 90 busy open a wq:b b wq:a"),
+        ("over 0", "false free 90 busy open a wq:b b wq:a"),
+        ("over 1", "false free 90 busy open a wq:b b wq:a"),
+    ], [
+        "010100000000000000000000",
+        "010101000000000001000000",
+        "030100000000000000000000",
+        "030101000100000001000000",
+        "090101000000000002000000",
+        "090100000100000002000000",
+    ], "next 2 / lane 0 runs a waits wq:b pending / lane 1 runs b waits wq:a pending"),
     # Two workqueues wait for each other. Both waits began at the same mark.
     ("item a / item b / item c / item d / flush a b / flush c d", "wq 0 a d / wq 1 b c", [
         ("queue a", "true free 95 busy open - - - -"),

@@ -4,9 +4,8 @@
 
 Each declaration, answer, assignment and run of subjects.py is given with one byte or one line changed, and cut off behind each of its
 bytes, under each command that reads it; what stands beside it is whole. extremes.py has texts at the limits. The program must end
-with status 0, 1 or 2 and print just what the model in tests/model answers, and to standard error what belongs to that; or, of `run`,
-end with `fault flushwq` and status 3 where the model does. Prints of each command how many answers had which status, and at the end
-how many passed.
+with status 0, 1 or 2 and print just what the model in tests/model answers, and to standard error what belongs to that. Prints of
+each command how many answers had which status, and at the end how many passed.
 """
 
 import collections
@@ -93,8 +92,6 @@ def judged(program, command, texts, folder):
     if (run.stdout, run.returncode) != wanted:
         printed, status = wanted
         return run.returncode, f"status {run.returncode}, {short(run.stdout)}; the model has status {status}, {short(printed)}"
-    if run.returncode == 3 and run.stderr == b"fault flushwq\n":
-        return 3, None
     if run.returncode not in (0, 1, 2):
         return run.returncode, f"status {run.returncode}"
     if not belongs(run.stdout, run.stderr, meant(run.stdout, [os.fsencode(place) for place in places])):

@@ -39,10 +39,17 @@ TOO_MANY_ROWS = 68
 BAD_ROW = 75
 NOT_LEGAL = 76
 
-# The events in the order of their numbers, and those of one kind or another.
-EVENTS = ("queue", "cancel", "start", "wait", "over", "finish", "ask", "told")
-WITH_LANE = ("start", "wait", "over", "finish")
-ALWAYS_YES = ("start", "over", "finish", "told")
+# The events in the order of their numbers, and those of one kind or another: those that a workqueue's step makes, those that name an
+# item or a workqueue, and those whose `yes` is always true. Where a step has another word than its event, it is the second one.
+EVENTS = ("queue", "cancel", "start", "wait", "over", "finish", "ask", "told", "waitall", "overall", "asklane", "toldlane")
+OF_LANE = ("start", "wait", "over", "finish", "waitall", "overall")
+WITH_LANE = (*OF_LANE, "asklane", "toldlane")
+WITH_ITEM = EVENTS[:-2]
+ALWAYS_YES = ("start", "over", "finish", "told", "overall", "toldlane")
+STEPS = {"waitall": b"waitwq", "overall": b"overwq"}
+
+# The words of the calls, in EVENTS of the test program.
+CALLS = ("queue", "cancel", "start", "wait", "over", "finish", "ask", "told", "waitall", "asklane", "toldlane", "close")
 
 
 # Packed rows --------------------------------------------------------------------------------------
@@ -54,7 +61,7 @@ class Row:
 
     event: str
     yes: bool
-    item: int  # of `wait` and `over` the target
+    item: int  # of waits and their ends the target; 0 where the event names none
     lane: int  # the workqueue; 0 where the event names none
     number: int
 
@@ -75,7 +82,7 @@ def unpacked(piece):
     event = EVENTS[event - 1]
     if event in ALWAYS_YES and yes == 0:
         return None
-    if event not in WITH_LANE and lane != 0:
+    if event not in WITH_LANE and lane != 0 or event not in WITH_ITEM and item != 0:
         return None
     return Row(event, yes == 1, item, lane, number)
 
@@ -83,14 +90,20 @@ def unpacked(piece):
 # Events and rows ----------------------------------------------------------------------------------
 
 
+def step_of(event, lane, name):
+    """The step of an event."""
+    return STEPS.get(event, event.encode()), lane, name
+
+
 class Replay:
-    """The state that rows leave, and how many asks of each item wait."""
+    """The state that rows leave, and how many asks of each item and of each workqueue wait."""
 
     def __init__(self, declared, assignment):
         self.declared = declared
         self.lanes = range(assignment.count)
         self.state = State(declared, assignment)
         self.asks = collections.Counter()  # by name
+        self.lane_asks = collections.Counter()  # by workqueue
 
     def name(self, item):
         """The name of the item, or None where there is no such item."""
@@ -102,6 +115,27 @@ class Replay:
     def is_unfinished_below(self, name, number):
         return any(entry.number < number for entry in self.state.unfinished(name))
 
+    def is_busy(self, lane):
+        """An entry is unfinished on the workqueue."""
+        return self.state.unfinished_on(lane) != []
+
+    def is_busy_below(self, lane, number):
+        return any(entry.number < number for entry in self.state.unfinished_on(lane))
+
+    def waiting(self, lane):
+        """The target of the wait by `flush` that lasts on the workqueue, or None."""
+        entry = self.state.running.get(lane)
+        return entry.target if entry is not None and entry.over == b"over" else None
+
+    def waiting_all(self, lane):
+        """The same of a wait by `flushwq`."""
+        entry = self.state.running.get(lane)
+        return entry.target if entry is not None and entry.over == b"overwq" else None
+
+    def asks_waiting(self):
+        """How many asks wait, of items and of workqueues."""
+        return self.asks.total() + self.lane_asks.total()
+
     def is_idle(self):
         """No entry is unfinished."""
         return not self.state.running and not self.state.pending_of
@@ -112,6 +146,10 @@ class Replay:
         The number is None where any will do.
         """
         name, state = self.name(item), self.state
+        if event == "asklane":
+            return (self.is_busy(lane), state.next_number) if lane in self.lanes else None
+        if event == "toldlane":
+            return (True, None) if self.lane_asks[lane] > 0 else None
         if name is None:
             return None
         entry = state.pending_of.get(name)
@@ -123,14 +161,16 @@ class Replay:
             return self.is_unfinished(name), state.next_number
         if event == "told":
             return (True, None) if self.asks[name] > 0 else None
-        if lane not in self.lanes or not state.may((event.encode(), lane, name)):
+        if lane not in self.lanes or not state.may(step_of(event, lane, name)):
             return None
         if event == "start":
             return True, entry.number
         if event == "wait":
             return self.is_unfinished(name), state.next_number
+        if event == "waitall":
+            return self.is_busy(state.workqueue_of[name]), state.next_number
         running = state.running[lane]
-        return True, running.mark if event == "over" else running.number
+        return True, running.number if event == "finish" else running.mark
 
     def may_stand(self, row):
         """The row may stand here, with the `yes` and the number of the table."""
@@ -139,20 +179,26 @@ class Replay:
             return False
         if row.event == "told":
             return row.yes and not self.is_unfinished_below(self.name(row.item), row.number)
+        if row.event == "toldlane":
+            return row.yes and not self.is_busy_below(row.lane, row.number)
         return (row.yes, row.number) == stands
 
     def append(self, row):
         """What it does. The row may stand here."""
         name = self.name(row.item)
-        if row.event in WITH_LANE:
-            self.state.make((row.event.encode(), row.lane, name))
+        if row.event in OF_LANE:
+            self.state.make(step_of(row.event, row.lane, name))
         elif row.event in ("queue", "cancel"):
             if row.yes:
-                self.state.make((row.event.encode(), None, name))
+                self.state.make(step_of(row.event, None, name))
         elif row.event == "ask":
             self.asks[name] += row.yes
-        else:
+        elif row.event == "told":
             self.asks[name] -= 1
+        elif row.event == "asklane":
+            self.lane_asks[row.lane] += row.yes
+        else:
+            self.lane_asks[row.lane] -= 1
 
 
 # Judging a history --------------------------------------------------------------------------------
@@ -188,9 +234,17 @@ class Refusal:
 
 @dataclasses.dataclass(frozen=True)
 class Ask:
-    """What is handed out for `waiting`."""
+    """What is handed out for `waiting`: of an item."""
 
     name: bytes
+    mark: int
+
+
+@dataclasses.dataclass(frozen=True)
+class LaneAsk:
+    """The same of a workqueue."""
+
+    lane: int
     mark: int
 
 
@@ -207,7 +261,7 @@ class Book:
         self.rows = []
         self.closed = False
         self.replay = Replay(declared, assignment)
-        self.declares = self.replay.state.targets  # by name, the targets of its flushes
+        self.declares = self.replay.state.targets  # by name, the targets of its flushes of both kinds
 
     # Rows kept free
 
@@ -222,7 +276,7 @@ class Book:
         return pending + sum(self.counts(entry) for entry in state.running.values())
 
     def kept(self):
-        return self.work_left() + self.replay.asks.total()
+        return self.work_left() + self.replay.asks_waiting()
 
     def free(self):
         free = self.row_count - len(self.rows) - self.kept()
@@ -275,6 +329,22 @@ class Book:
         item = self.replay.declared.items.index(ask.name)
         return "done", self.row("told", True, 0, item, ask.mark)
 
+    def asklane(self, lane):
+        if lane not in self.replay.lanes:
+            return Refusal(WRONG_LANE), None
+        waits = self.replay.is_busy(lane)
+        if self.free() < (2 if waits else 1):
+            return Refusal(HISTORY_FULL, "waiting" if waits else "idle"), None
+        answer = LaneAsk(lane, self.replay.state.next_number) if waits else "idle"
+        return answer, self.row("asklane", waits, lane, 0)
+
+    def toldlane(self, ask):
+        if self.replay.lane_asks[ask.lane] == 0:
+            return Refusal(NOT_ASKED), None
+        if self.replay.is_busy_below(ask.lane, ask.mark):
+            return "not yet", None
+        return "done", self.row("toldlane", True, ask.lane, 0, ask.mark)
+
     def wrong_lane(self, lane, waits):
         """What is refused where the lane runs nothing, or its entry waits or doesn't."""
         entry = self.replay.state.running.get(lane)
@@ -297,26 +367,41 @@ class Book:
         item = self.replay.declared.items.index(state.pending[lane][0].item)
         return item, self.row("start", True, lane, item)
 
-    def wait(self, lane, item):
+    def wait_by(self, event, lane, item):
+        """A wait of either kind."""
         refusal = self.wrong_lane(lane, waits=False)
         if refusal is not None:
             return refusal, None
-        entry, name = self.replay.state.running[lane], self.replay.name(item)
-        if name not in self.declares[entry.item]:
-            return Refusal(UNDECLARED, "no item" if name is None else "item"), None
+        state, name = self.replay.state, self.replay.name(item)
+        entry = state.running[lane]
+        word, _, _ = step_of(event, lane, name)
+        if (word, name) not in state.declared[entry.item]:
+            why = "no item" if name is None else "kind" if name in self.declares[entry.item] else "item"
+            return Refusal(UNDECLARED, why), None
         if entry.waits == len(self.declares[entry.item]):
             return Refusal(TOO_MANY_WAITS), None
-        waits = self.replay.is_unfinished(name)
-        return waits, self.row("wait", waits, lane, item)
+        waits = self.replay.is_unfinished(name) if event == "wait" else self.replay.is_busy(state.workqueue_of[name])
+        return waits, self.row(event, waits, lane, item)
+
+    def wait(self, lane, item):
+        return self.wait_by("wait", lane, item)
+
+    def waitall(self, lane, item):
+        return self.wait_by("waitall", lane, item)
 
     def over(self, lane):
         refusal = self.wrong_lane(lane, waits=True)
         if refusal is not None:
             return refusal, None
-        entry = self.replay.state.running[lane]
+        state = self.replay.state
+        entry = state.running[lane]
+        item = self.replay.declared.items.index(entry.target)
+        if entry.over == STEPS["overall"]:
+            if self.replay.is_busy_below(state.workqueue_of[entry.target], entry.mark):
+                return False, None
+            return True, self.row("overall", True, lane, item)
         if self.replay.is_unfinished_below(entry.target, entry.mark):
             return False, None
-        item = self.replay.declared.items.index(entry.target)
         return True, self.row("over", True, lane, item)
 
     def finish(self, lane):
@@ -364,6 +449,13 @@ def number_of(word, most):
     return number
 
 
+def lane_words(replay, lane):
+    """What is shown of a workqueue: what runs, and what this one waits for."""
+    entry = replay.state.running.get(lane)
+    target, whole = replay.waiting(lane), replay.waiting_all(lane)
+    return [b"-" if entry is None else entry.item, target or (b"wq:" + whole if whole else b"-")]
+
+
 class Play:
     """The calls of EVENTS, made one after the other, and what is printed of them."""
 
@@ -371,7 +463,8 @@ class Play:
         self.declared = declared
         self.book = Book(declared, assignment, row_count)
         self.item_number = {name: number for number, name in enumerate(declared.items)}
-        self.asks = []  # those that were handed out; None once they are handed in
+        # The asks that were handed out, by the word that hands them in; None once they are.
+        self.asks = {"told": [], "toldlane": []}
         self.called = None  # the arguments of the last call
         self.was_closed = False  # before the last call
 
@@ -379,24 +472,25 @@ class Play:
         return self.item_number.get(word, len(self.declared.items))
 
     def call_of(self, words):
-        """The call that a line asks for: its word, its arguments, and the K of a `told`."""
+        """The call that a line asks for: its word, its arguments, and the K of a `told` or a `toldlane`."""
         word, *further = words
         try:
             word = word.decode("ascii")
         except UnicodeDecodeError:
             raise Mistake from None
-        wanted = {"close": 0, "wait": 2}.get(word, 1)
-        if word not in EVENTS + ("close",) or len(further) != wanted:
+        wanted = {"close": 0, "wait": 2, "waitall": 2}.get(word, 1)
+        if word not in CALLS or len(further) != wanted:
             raise Mistake
         if word == "close":
             return word, [], None
         if word in ("queue", "cancel", "ask"):
             return word, [self.item(further[0])], None
-        if word == "told":
+        if word in self.asks:
             place = number_of(further[0], NUMBER_LIMIT)
-            if place >= len(self.asks) or self.asks[place] is None:
+            asks = self.asks[word]
+            if place >= len(asks) or asks[place] is None:
                 raise Mistake
-            return word, [self.asks[place]], place
+            return word, [asks[place]], place
         lane = number_of(further[0], LANE_LIMIT)
         return word, [lane] + [self.item(name) for name in further[1:]], None
 
@@ -404,7 +498,7 @@ class Play:
         """The words of an answer."""
         if isinstance(answer, Refusal):
             return b"refused %d" % answer.code
-        if isinstance(answer, Ask):
+        if isinstance(answer, (Ask, LaneAsk)):
             return b"waiting %d" % answer.mark
         if word == "start":
             return b"none" if answer is None else self.declared.items[answer]
@@ -419,9 +513,7 @@ class Play:
         words.append(b"idle" if replay.is_idle() else b"busy")
         words.append(b"closed" if self.book.closed else b"open")
         for lane in replay.lanes:
-            entry = replay.state.running.get(lane)
-            words.append(b"-" if entry is None else entry.item)
-            words.append(b"-" if entry is None or entry.target is None else entry.target)
+            words += lane_words(replay, lane)
         return b" ".join(words)
 
     def make(self, words):
@@ -430,9 +522,11 @@ class Play:
         self.called, self.was_closed = arguments, self.book.closed
         answer = self.book.make(word, *arguments)
         if isinstance(answer, Ask):
-            self.asks.append(answer)
+            self.asks["told"].append(answer)
+        if isinstance(answer, LaneAsk):
+            self.asks["toldlane"].append(answer)
         if place is not None and answer != "not yet":
-            self.asks[place] = None
+            self.asks[word][place] = None
         return word, answer, self.answer_line(word, answer) + b" " + self.state_line()
 
     def end_lines(self):
@@ -522,9 +616,7 @@ def answer_check(declaration_text, assignment_text, digits):
     printed = [b"legal %d" % at if fault is None else b"refused %d at %d" % (fault, at)]
     printed.append(b"next %d" % state.next_number)
     for lane in replay.lanes:
-        entry = state.running.get(lane)
-        runs = b"-" if entry is None else entry.item
-        waits = b"-" if entry is None or entry.target is None else entry.target
+        runs, waits = lane_words(replay, lane)
         pending = {other.item for other in state.pending[lane]}
         names = [name for name in declared.items if name in pending]
         line = b"lane %d runs %s waits %s pending" % (lane, runs, waits)

@@ -15,6 +15,7 @@ from examples import text  # noqa: E402
 # printed for it and the row that is written, or "".
 ONE = ("item a", "wq 0 a")
 TWO = ("item a / item b / flush a b", "wq 0 b / wq 1 a")
+WHOLE = ("item a / item b / item c / flushwq a b", "wq 0 b c / wq 1 a")
 
 TABLES = [
     (*ONE, 9, [
@@ -86,6 +87,28 @@ TABLES = [
         ("finish 1", "ok free 9 busy open - - - -", "060100000100000001000000"),
         ("ask a", "idle free 8 busy open - - - -", "070000000000000003000000"),
     ]),
+    (*WHOLE, 8, [
+        ("queue c", "true free 5 busy open - - - -", "010102000000000000000000"),
+        ("queue a", "true free 0 busy open - - - -", "010100000000000001000000"),
+        ("start 1", "a free 0 busy open - - a -", "030100000100000001000000"),
+        ("wait 1 b", "refused 62 free 0 busy open - - a -", ""),
+        ("waitall 1 b", "true free 0 busy open - - a wq:b", "090101000100000002000000"),
+        ("over 1", "false free 0 busy open - - a wq:b", ""),
+        ("start 0", "c free 0 busy open c - a wq:b", "030102000000000000000000"),
+        ("finish 0", "ok free 0 busy open - - a wq:b", "060102000000000000000000"),
+        ("over 1", "true free 0 busy open - - a -", "0a0101000100000002000000"),
+        ("finish 1", "ok free 0 idle open - - - -", "060100000100000001000000"),
+    ]),
+    (*WHOLE, 6, [
+        ("asklane 2", "refused 64 free 6 idle open - - - -", ""),
+        ("asklane 0", "idle free 5 idle open - - - -", "0b0000000000000000000000"),
+        ("queue c", "true free 2 busy open - - - -", "010102000000000000000000"),
+        ("asklane 0", "waiting 1 free 0 busy open - - - -", "0b0100000000000001000000"),
+        ("toldlane 0", "not yet free 0 busy open - - - -", ""),
+        ("start 0", "c free 0 busy open c - - -", "030102000000000000000000"),
+        ("finish 0", "ok free 0 idle open - - - -", "060102000000000000000000"),
+        ("toldlane 0", "done free 0 idle open - - - -", "0c0100000000000001000000"),
+    ]),
 ]
 
 # Judged histories: the declaration, the assignment, the bytes in hexadecimal, and what is printed.
@@ -97,6 +120,7 @@ NOTHING = "lane 0 runs - waits - pending / lane 1 runs - waits - pending"
 A_RUNS = "lane 0 runs - waits - pending / lane 1 runs a waits - pending"
 A_WAITS = "lane 0 runs - waits - pending / lane 1 runs a waits b pending"
 ASKED = "010100000000000000000000 070100000000000001000000 "
+LANE_ASKED = "010100000000000000000000 0b0100000000000001000000 "
 
 JUDGED = [
     (*TWO, "".join(FIVE), f"legal 5 / next 1 / {NOTHING}"),
@@ -114,6 +138,16 @@ JUDGED = [
      "refused 76 at 3 / next 1 / lane 0 runs - waits - pending a"),
     (*ONE, ASKED + "020100000000000000000000" + "0801000000000000ffffffff",
      "legal 4 / next 1 / lane 0 runs - waits - pending"),
+    # The same of an ask of the workqueue.
+    (*ONE, LANE_ASKED + "0c0100000000000000000000",
+     "legal 3 / next 1 / lane 0 runs - waits - pending a"),
+    (*ONE, LANE_ASKED + "0c0100000000000001000000",
+     "refused 76 at 3 / next 1 / lane 0 runs - waits - pending a"),
+    (*ONE, LANE_ASKED + "080100000000000000000000",
+     "refused 76 at 3 / next 1 / lane 0 runs - waits - pending a"),
+    # A wait for a whole workqueue lasts.
+    (*WHOLE, "010102000000000000000000 010100000000000001000000 030100000100000001000000 090101000100000002000000",
+     "legal 4 / next 2 / lane 0 runs - waits - pending c / lane 1 runs a waits wq:b pending"),
 ]
 
 

@@ -3,14 +3,14 @@
 #     book_properties.py [SEED] [DECLARATIONS] [WALKS]
 #
 # - The reserve suffices. From the states that random calls of small books lead to, every way on is
-#   tried in which the workqueues and those who wait write rows: `start`, `wait`, `over`, `finish`,
-#   `told`, and a `cancel` of what is pending. No way needs more rows than are kept free. Where
-#   nothing can hang, some way needs all of them, so none is kept in vain.
+#   tried in which the workqueues and those who wait write rows: `start`, waits and their ends of both
+#   kinds, `finish`, `told` of both kinds, and a `cancel` of what is pending. No way needs more rows
+#   than are kept free. Where nothing can hang, some way needs all of them, so none is kept in vain.
 # - The same in longer walks over larger declarations, where one random way is tried.
 # - The free rows are counted again, from the rows alone.
 # - The judge says of the rows of a book that they are legal, and finds the state of the book.
-# - Of each event, workqueue and item at most one row may stand, but for Told rows: of those each up
-#   to a number, if any.
+# - Of each event, workqueue and item at most one row may stand, but for Told and ToldLane rows: of
+#   those each up to a number, if any.
 #
 # The steps are those of a second model, which is here and knows nothing of the one in steps.py.
 
@@ -21,7 +21,7 @@ import sys
 sys.dont_write_bytecode = True
 import book  # noqa: E402  (beside this file)
 import make_books  # noqa: E402
-from book import EVENTS, WITH_LANE, Row, packed, unpacked  # noqa: E402
+from book import EVENTS, WITH_ITEM, WITH_LANE, Row, packed, unpacked  # noqa: E402
 from command_line import seed_and_counts  # noqa: E402
 from deadlock import circle_of  # noqa: E402
 
@@ -39,15 +39,18 @@ class Ways:
     """The ways on from a state: a state is (pending, running, asks), all tuples.
 
     `pending` has for each lane the pairs of item and number in order, `running` for each lane None
-    or (item, number, waits, target, mark), and `asks` the pairs of item and mark. Items are numbers
-    here. Nothing is queued on these ways, so the next number stays as it is.
+    or (item, number, waits, target, mark), and `asks` the pairs of whom they are about and mark.
+    A target is a pair of its kind, whether a whole lane is waited for, and the item; and so is whom an
+    ask is about, with the lane in the place of the item. Items are numbers here. Nothing is queued on
+    these ways, so the next number stays as it is.
     """
 
     def __init__(self, declared, assignment, next_number):
         number = {name: place for place, name in enumerate(declared.items)}
         self.targets = [[] for _ in declared.items]
-        for item, target in declared.flushes:
-            self.targets[number[item]].append(number[target])
+        for (item, target), directive in zip(declared.flushes, declared.directive_of):
+            self.targets[number[item]].append((directive == b"flushwq", number[target]))
+        self.lane_of = [assignment.workqueue_of[name] for name in declared.items]
         self.lanes = range(assignment.count)
         self.next_number = next_number
         self.seen = 0
@@ -58,6 +61,17 @@ class Ways:
         pending, running, _ = state
         return any(other == item and number < below for part in pending for other, number in part) \
             or any(entry and entry[0] == item and entry[1] < below for entry in running)
+
+    def finds_on(self, state, lane, below):
+        """An entry of any item on the lane."""
+        pending, running, _ = state
+        return any(number < below for _, number in pending[lane]) \
+            or running[lane] is not None and running[lane][1] < below
+
+    def holds_back(self, state, target, mark):
+        """Something is unfinished that this wait is for."""
+        whole, item = target
+        return self.finds_on(state, self.lane_of[item], mark) if whole else self.finds(state, item, mark)
 
     def lane_ways(self, state, lane):
         pending, running, asks = state
@@ -74,7 +88,7 @@ class Ways:
             return
         item, number, waits, target, mark = entry
         if target is not None:
-            if not self.finds(state, target, mark):
+            if not self.holds_back(state, target, mark):
                 yield pending, runs((item, number, waits, None, None)), asks
             return
         yield pending, runs(None), asks
@@ -90,8 +104,8 @@ class Ways:
             for at in range(len(pending[lane])):
                 rest = pending[lane][:at] + pending[lane][at + 1:]
                 yield pending[:lane] + (rest,) + pending[lane + 1:], running, asks
-        for at, (item, mark) in enumerate(asks):
-            if not self.finds(state, item, mark):
+        for at, ((whole, place), mark) in enumerate(asks):
+            if not (self.finds_on if whole else self.finds)(state, place, mark):
                 yield pending, running, asks[:at] + asks[at + 1:]
 
     def look_for_longest(self, state):
@@ -125,10 +139,11 @@ def state_of(play):
         if entry is None:
             running.append(None)
             continue
-        target = None if entry.target is None else number[entry.target]
+        target = None if entry.target is None else (entry.over == b"overwq", number[entry.target])
         running.append((number[entry.item], entry.number, entry.waits, target, entry.mark))
-    asks = tuple(sorted((number[ask.name], ask.mark) for ask in play.asks if ask is not None))
-    return pending, tuple(running), asks
+    asks = [((False, number[ask.name]), ask.mark) for ask in play.asks["told"] if ask is not None]
+    asks += [((True, ask.lane), ask.mark) for ask in play.asks["toldlane"] if ask is not None]
+    return pending, tuple(running), tuple(sorted(asks))
 
 
 def kept_by_rows(declared, rows):
@@ -143,13 +158,13 @@ def kept_by_rows(declared, rows):
         elif row.event == "start":
             runs[row.lane] = row.number
             left[row.number] -= 1
-        elif row.event in ("wait", "over"):
+        elif row.event in ("wait", "over", "waitall", "overall"):
             left[runs[row.lane]] -= 1
         elif row.event == "finish":
             del left[row.number]
-        elif row.event == "ask":
+        elif row.event in ("ask", "asklane"):
             asks += row.yes
-        elif row.event == "told":
+        elif row.event in ("told", "toldlane"):
             asks -= 1
     return sum(left.values()) + asks
 
@@ -172,30 +187,31 @@ def look_at_rows(play, declared, assignment):
     text = b"".join(map(packed, made.rows))
     at, fault, replay = book.judge(declared, assignment, text)
     demand((at, fault) == (len(made.rows), None), "the rows of a book are legal")
-    demand(replay.asks == made.replay.asks, "the asks that wait")
+    demand((replay.asks, replay.lane_asks) == (made.replay.asks, made.replay.lane_asks), "the asks that wait")
     demand(parts_of(replay.state) == parts_of(made.replay.state), "the state is that of the rows")
     for row in made.rows:
         demand(unpacked(packed(row)) == row, "what is packed is unpacked")
 
 
 def look_at_standing(play, declared, assignment):
-    """At most one row of each event, workqueue and item may stand, but for Told rows."""
+    """At most one row of each event, workqueue and item may stand, but for Told and ToldLane rows."""
     replay = play.book.replay
     most = replay.state.next_number + 2
     for event in EVENTS:
-        for item in range(len(declared.items) + 1):
+        for item in range(len(declared.items) + 1) if event in WITH_ITEM else [0]:
             for lane in range(assignment.count + 1) if event in WITH_LANE else [0]:
                 rows = [Row(event, yes, item, lane, number)
                         for yes in (True, False) for number in range(most)]
                 stand = [row for row in rows if replay.may_stand(row)]
-                if event == "told":
+                if event in ("told", "toldlane"):
                     numbers = [row.number for row in stand]
                     demand(numbers == list(range(len(numbers))), "Told rows up to a number")
                 else:
                     demand(len(stand) <= 1, "one row of each event")
-                    exists = item < len(declared.items)
                     if event in ("queue", "cancel", "ask"):
-                        demand(len(stand) == exists, "such a row may stand for each item")
+                        demand(len(stand) == (item < len(declared.items)), "such a row may stand for each item")
+                    if event == "asklane":
+                        demand(len(stand) == (lane < assignment.count), "such a row may stand for each workqueue")
                 demand(all(row.yes for row in stand) or event not in book.ALWAYS_YES, "yes")
 
 

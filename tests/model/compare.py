@@ -144,8 +144,7 @@ COMMANDS = {
         ["declaration"],
         [("plans that were run", 0,
           r"workqueues N\n(item Z wq N queued 1 cancelled 0 finished 1\n)*faults 0\n"),
-         ("circles", 1, r"circle N\nA+run N\nS+"), ("refusals 69", 2, r"refused 69 line 0\n"),
-         ("waits for a whole workqueue", 3, r"")]
+         ("circles", 1, r"circle N\nA+run N\nS+"), ("refusals 69", 2, r"refused 69 line 0\n")]
         + DECLARATION_REFUSALS,
     ),
 }

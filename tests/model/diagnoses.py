@@ -605,8 +605,6 @@ def answer(command, files, texts):
         return printed, status, printed_of(files[1], texts[1], line, found, b"no", int(printed.split()[1]))
     if printed.startswith(b"not lawful "):
         return printed, status, of_step(files[2], texts, int(printed.split()[2]))
-    if status == 3:
-        return printed, status, b"fault flushwq\n"
     if status != 2:
         return printed, status, b"" if read_declaration(texts[0]).items else note(files[0])
     code, line = (int(word) for word in printed.split()[1::2])

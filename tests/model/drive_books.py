@@ -53,6 +53,10 @@ CAUSES = [f"76 {event}: {why}" for event, whys in (
     ("finish", ["may not stand", "number"]),
     ("ask", ["may not stand", "yes", "number"]),
     ("told", ["may not stand", "number"]),
+    ("waitall", ["may not stand", "yes", "number"]),
+    ("overall", ["may not stand", "number"]),
+    ("asklane", ["may not stand", "yes", "number"]),
+    ("toldlane", ["may not stand", "number"]),
 ) for why in whys]
 
 
@@ -96,19 +100,26 @@ class Kinds:
 def refusal_remarks(kind, free, play):
     """What is counted of a refused call: pairs of a remark and whether it holds."""
     made = play.book
-    name = made.replay.name(play.called[-1]) if play.called else None
+    if kind in ("ask 60 waiting", "asklane 60 waiting"):
+        return [("one row too few", free == 1)]
+    if not kind.startswith(("queue", "wait")):
+        return []
+    name = made.replay.name(play.called[-1])
     if kind == "queue 60 accepted":
         return [("one row too few", free + 1 == 3 + 2 * len(made.declares[name]))]
-    if kind == "ask 60 waiting":
-        return [("one row too few", free == 1)]
     if kind == "queue 61":
         return [("pending", name in made.replay.state.pending_of)]
     if kind == "queue 66":
         return [("closed", made.closed)]
-    if kind == "wait 62 item":
-        entry = made.replay.state.running[play.called[0]]
+    if kind in ("wait 62 item", "waitall 62 item"):
+        state = made.replay.state
+        entry = state.running[play.called[0]]
         left = len(made.declares[entry.item]) - entry.waits
-        return [("no wait is left", left == 0), ("a wait is left", left > 0)]
+        others = {state.workqueue_of[target] for word, target in state.declared[entry.item] if word == b"waitwq"}
+        remarks = [("no wait is left", left == 0), ("a wait is left", left > 0)]
+        return remarks + [("its workqueue is declared", state.workqueue_of[name] in others)] * (kind[:7] == "waitall")
+    if kind in ("wait 63", "waitall 63"):
+        return [("waits of both kinds were made", {"wait", "waitall"} <= set(waits_of(made.rows, play.called[0])))]
     return []
 
 
@@ -121,17 +132,35 @@ def answer_remarks(kind, free, play):
     if kind == "over false":
         entry = state.running[play.called[0]]
         pending = state.pending_of.get(entry.target)
-        return [("its target is pending", pending is not None and pending.number < entry.mark)]
+        whole = entry.over == b"overwq"
+        return [("its target is pending", not whole and pending is not None and pending.number < entry.mark),
+                ("of a workqueue", whole),
+                ("of a workqueue whose target is idle", whole and not replay.is_unfinished(entry.target))]
+    if kind == "toldlane not yet":
+        ask = play.called[0]
+        left = [entry for entry in state.unfinished_on(ask.lane) if entry.number < ask.mark]
+        return [("one entry is left", len(left) == 1)]
     if kind in ("start none", "told not yet"):
         return []
+    full, last = ("no row was free", free == 0), ("it was the last free row", free == 1)
+    filled = ("no row is free then", play.book.free() == 0)
+    if rows[-1].event not in book.WITH_ITEM:
+        lane = rows[-1].lane
+        return {
+            "asklane idle": [last],
+            "asklane waiting": [filled, ("nothing is pending", not state.pending[lane]),
+                                ("nothing runs", lane not in state.running)],
+            "toldlane done": [full, ("its workqueue is busy", replay.is_busy(lane)),
+                              ("another ask of it waits", replay.lane_asks[lane] > 0)],
+        }[kind]
 
     name = replay.name(rows[-1].item)  # of the row that the call appended
     entry = state.running.get(state.workqueue_of[name])
     runs = entry is not None and entry.item == name
-    full, last = ("no row was free", free == 0), ("it was the last free row", free == 1)
-    filled = ("no row is free then", play.book.free() == 0)
+    whole = rows[-1].event in ("waitall", "overall")
+    busy = replay.is_busy(state.workqueue_of[name])
     if kind == "finish ok":
-        waits = waits_of_last(rows)
+        waits = len(waits_of(rows[:-1], rows[-1].lane))
         return [full, ("it is pending", name in state.pending_of),
                 ("waits were left", waits < len(play.book.declares[name]))]
     return {
@@ -145,17 +174,21 @@ def answer_remarks(kind, free, play):
                       ("another ask of it waits", replay.asks[name] > 0)],
         "start item": [full],
         "wait true": [full, ("for itself", runs and entry is state.running.get(rows[-1].lane))],
-        "over true": [full, ("its target is unfinished", replay.is_unfinished(name))],
+        "waitall true": [full, ("for its own workqueue", state.workqueue_of[name] == rows[-1].lane),
+                         ("its target is idle", not replay.is_unfinished(name))],
+        "over true": [full, ("its target is unfinished", not whole and replay.is_unfinished(name)),
+                      ("of a workqueue", whole), ("of a workqueue that is busy", whole and busy)],
     }.get(kind, [])
 
 
-def waits_of_last(rows):
-    """How many waits the entry made that the last row finishes."""
-    lane, waits = rows[-1].lane, 0
+def waits_of(rows, lane):
+    """The waits of the entry that runs on the workqueue behind these rows, last first."""
+    waits = []
     for row in reversed(rows):
         if row.event == "start" and row.lane == lane:
             break
-        waits += row.event == "wait" and row.lane == lane
+        if row.event in ("wait", "waitall") and row.lane == lane:
+            waits.append(row.event)
     return waits
 
 

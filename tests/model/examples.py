@@ -206,7 +206,13 @@ RUNS = [
      " / item d wq 0 queued 1 cancelled 0 finished 1 / faults 0"),
     (text(S), CIRCLE_A),
     (text("item a / flush a b / item b"), "refused 8 line 2"),
-    (text(W), "fault flushwq"),
+    (text("item a / item b / item c / flushwq a b"),
+     "workqueues 2 / item a wq 1 queued 1 cancelled 0 finished 1"
+     " / item b wq 0 queued 1 cancelled 0 finished 1"
+     " / item c wq 0 queued 1 cancelled 0 finished 1 / faults 0"),
+    (text(W), "workqueues 3 / item a wq 1 queued 1 cancelled 0 finished 1"
+     " / item b wq 0 queued 1 cancelled 0 finished 1"
+     " / item c wq 2 queued 1 cancelled 0 finished 1 / faults 0"),
     (join(*MANY_ITEMS[:256], *CHAIN[:255]),
      " / ".join(["workqueues 256"]
                 + ["item i%04d wq %d queued 1 cancelled 0 finished 1" % (number, 255 - number)
@@ -334,8 +340,6 @@ STATUSES = {"plan": 0, "yes": 0, "open": 0, "safe": 0, "circle": 1, "no": 1, "no
 
 
 def wanted(answer):
-    if answer.startswith("fault "):
-        return b"", 3
     return text(answer), STATUSES[answer.split()[0]]
 
 

@@ -6,7 +6,9 @@ import dataclasses
 import random
 
 import book
-from book import EVENTS, LANE_LIMIT, NUMBER_LIMIT, ROW_BYTES, ROW_LIMIT, WITH_LANE, Ask, Row, packed
+from book import (
+    EVENTS, LANE_LIMIT, NUMBER_LIMIT, OF_LANE, ROW_BYTES, ROW_LIMIT, WITH_ITEM, WITH_LANE, Ask, LaneAsk, Row, packed,
+)
 from certificate import LINE_LIMIT, TEXT_LIMIT
 from declaration import read_declaration
 from make_assignments import safe_assignment
@@ -32,17 +34,17 @@ def make_declaration(choose):
     way = choose.random()
     count = 0 if way < 0.01 else choose.randint(1, 8) if way < 0.95 else choose.randint(9, 16)
     lines = make_lines(choose, count)
-    for line in lines:
-        if line.words[0] == b"flushwq":  # which books don't know yet
-            line.words[0] = b"flush"
     names = [line.words[1] for line in lines if line.words[0] == b"item"]
     if names and choose.random() < 0.2:
-        lines = [line for line in lines if line.words[0] != b"flush"]
+        lines = [line for line in lines if line.words[0] not in (b"flush", b"flushwq")]
     if names and choose.random() < 0.6:
-        # Any flushes: of the item itself, and of one target again and again.
+        # Any flushes of both kinds: of the item itself, and of one target again and again.
         for _ in range(choose.randint(1, 4)):
-            targets = choose.choices(names, k=choose.choice([1, 1, 2, 3]))
-            lines.append(Line([b"flush", choose.choice(names)] + targets))
+            name, targets = choose.choice(names), choose.choices(names, k=choose.choice([1, 1, 2, 3]))
+            if choose.random() < 0.5:
+                lines.append(Line([b"flush", name] + targets))
+            else:
+                lines += [Line([b"flushwq", name, target]) for target in targets]
     declared = read_declaration(spell(choose, lines, True))
     return spell_whole(choose, lines, choose.random() < 0.8), declared
 
@@ -71,8 +73,8 @@ def kind_of(word, answer):
     """The kind of an answer: refusals by their number and cause."""
     if isinstance(answer, book.Refusal):
         return f"{word} {answer.code}" + (f" {answer.why}" if answer.why else "")
-    if isinstance(answer, Ask):
-        return "ask waiting"
+    if isinstance(answer, (Ask, LaneAsk)):
+        return f"{word} waiting"
     if word == "start":
         return "start none" if answer is None else "start item"
     if isinstance(answer, bool):
@@ -93,14 +95,27 @@ KINDS = [
     "ask 60 waiting (one row too few)", "ask 66",
     "told done", "told done (no row was free)", "told done (its item is unfinished)",
     "told done (another ask of it waits)", "told not yet",
+    "asklane idle", "asklane idle (it was the last free row)", "asklane waiting",
+    "asklane waiting (no row is free then)", "asklane waiting (nothing is pending)", "asklane waiting (nothing runs)",
+    "asklane 60 idle", "asklane 60 waiting", "asklane 60 waiting (one row too few)", "asklane 64",
+    "toldlane done", "toldlane done (no row was free)", "toldlane done (its workqueue is busy)",
+    "toldlane done (another ask of it waits)", "toldlane not yet", "toldlane not yet (one entry is left)",
     "start item", "start item (no row was free)", "start none", "start 64 no lane", "start 64 runs",
     "wait true", "wait false", "wait true (no row was free)", "wait true (for itself)",
     "wait 62 item", "wait 62 no item", "wait 62 item (no wait is left)",
-    "wait 62 item (a wait is left)", "wait 63",
+    "wait 62 item (a wait is left)", "wait 62 kind", "wait 63", "wait 63 (waits of both kinds were made)",
     "wait 64 no lane", "wait 64 runs nothing", "wait 64 waits",
+    "waitall true", "waitall false", "waitall true (no row was free)", "waitall true (for its own workqueue)",
+    "waitall true (its target is idle)",
+    "waitall 62 item", "waitall 62 no item", "waitall 62 item (no wait is left)",
+    "waitall 62 item (a wait is left)", "waitall 62 item (its workqueue is declared)", "waitall 62 kind",
+    "waitall 63", "waitall 63 (waits of both kinds were made)",
+    "waitall 64 no lane", "waitall 64 runs nothing", "waitall 64 waits",
     "over true", "over true (no row was free)", "over true (its target is unfinished)",
-    "over false", "over false (its target is pending)", "over 64 no lane", "over 64 runs nothing",
-    "over 64 doesn't wait",
+    "over true (of a workqueue)", "over true (of a workqueue that is busy)",
+    "over false", "over false (its target is pending)",
+    "over false (of a workqueue)", "over false (of a workqueue whose target is idle)",
+    "over 64 no lane", "over 64 runs nothing", "over 64 doesn't wait",
     "finish ok", "finish ok (no row was free)", "finish ok (waits were left)",
     "finish ok (it is pending)", "finish 64 no lane", "finish 64 runs nothing", "finish 64 waits",
     "close ok", "close ok (closed)", "refused 68", "mistake",
@@ -110,10 +125,11 @@ KINDS = [
 # Random calls -------------------------------------------------------------------------------------
 
 WEIGHTS = {
-    "queue": 5, "cancel": 2, "ask": 3, "told": 3, "start": 4, "wait": 6, "over": 4, "finish": 3,
+    "queue": 6, "cancel": 2, "ask": 2, "told": 2, "asklane": 2, "toldlane": 2, "start": 5, "wait": 8, "waitall": 9, "over": 7,
+    "finish": 2,
 }
-FILLING = {"queue": 5, "cancel": 1, "ask": 3}
-EMPTYING = {"told": 3, "start": 5, "wait": 5, "over": 5, "finish": 4}
+FILLING = {"queue": 5, "cancel": 1, "ask": 2, "asklane": 2}
+EMPTYING = {"told": 3, "toldlane": 3, "start": 5, "wait": 4, "waitall": 4, "over": 6, "finish": 4}
 NO_NAMES = [b"zz", b"?", b"a!", b"-", b"0", b"\xff\xc3", b"queue", b"x" * 70, b"A", b"."]
 
 
@@ -154,6 +170,8 @@ class Walk:
         else:
             lanes = [lane for lane, entry in state.running.items()
                      if (entry.target is not None) == (word == "over")]
+            over = [lane for lane in lanes if word == "over" and self.play.book.look(word, lane)[0] is True]
+            lanes = over if over and choose.random() < 0.7 else lanes
         if choose.random() < 0.03 + 0.3 * self.wild:
             return self.any_lane()
         return choose.choice(sorted(lanes)) if lanes else None
@@ -164,24 +182,44 @@ class Walk:
         word = choose.choices(list(self.phase), list(self.phase.values()))[0]
         if word in ("queue", "cancel", "ask"):
             return [word.encode(), self.any_item()]
-        if word == "told":
-            places = [place for place, ask in enumerate(self.play.asks) if ask is not None]
-            return self.rather([b"told", b"%d" % choose.choice(places)]) if places else None
+        if word == "asklane":
+            return [word.encode(), b"%d" % self.any_lane()]
+        if word in self.play.asks:
+            places = [place for place, ask in enumerate(self.play.asks[word]) if ask is not None]
+            return self.rather([word.encode(), b"%d" % choose.choice(places)]) if places else None
         lane = self.lane_for(word)
         if lane is None:
             return None
         words = [word.encode(), b"%d" % lane]
-        if word == "wait":
-            words.append(self.target_for(self.play.book.replay.state.running.get(lane)))
+        if word in ("wait", "waitall"):
+            target = self.target_for(word, self.play.book.replay.state.running.get(lane))
+            if target is None:
+                return None
+            words.append(target)
         return self.rather(words)
 
-    def target_for(self, entry):
-        """A target that the entry may wait for, mostly, and rather one that is unfinished."""
-        choose, made = self.choose, self.play.book
-        targets = made.declares[entry.item] if entry is not None else []
-        if not targets or choose.random() < 0.08 + 0.3 * self.wild:
-            return self.any_item()
-        unfinished = [name for name in targets if made.replay.is_unfinished(name)]
+    def target_for(self, word, entry):
+        """A target that the entry may wait for, mostly, and rather one that is unfinished, or whose workqueue is busy.
+
+        None where there is none of this kind, mostly.
+        """
+        choose, replay = self.choose, self.play.book.replay
+        step, _, _ = book.step_of(word, None, None)
+        targets = [target for kind, target in replay.state.waits[entry.item] if kind == step] if entry is not None else []
+        if choose.random() < 0.08 + 0.3 * self.wild:
+            others = self.play.book.declares[entry.item] if entry is not None else []
+            if others and choose.random() < 0.2:
+                return choose.choice(others)
+            workqueues = {replay.state.workqueue_of[target] for target in targets}
+            beside = [name for name in self.declared.items
+                      if replay.state.workqueue_of[name] in workqueues and name not in others]
+            return choose.choice(beside) if beside and choose.random() < 0.9 else self.any_item()
+        if not targets:
+            return None
+        if word == "wait":
+            unfinished = [name for name in targets if replay.is_unfinished(name)]
+        else:
+            unfinished = [name for name in targets if replay.is_busy(replay.state.workqueue_of[name])]
         return choose.choice(unfinished if unfinished and choose.random() < 0.5 else targets)
 
     def rather(self, words):
@@ -261,6 +299,9 @@ MISTAKES = [
     b"over", b"over 0 a", b"over 070", b"finish", b"finish 0 a", b"finish 65536", b"close 0",
     b"closed", b"open", b"item a", b"run 3", b"wait 1#a", b"queue#a", b"queue #a", b"\xff",
     b"close\r a", b"start 99999999999999999999999", b"start \xb2", b"told \xd9\xa3", b"start 0\r 1",
+    b"waitall", b"waitall 0", b"waitall a 0", b"waitall 0 a a", b"waitall 65536 a", b"waitwq 0 a", b"overall 0", b"overall 0 a",
+    b"overwq 0", b"asklane", b"asklane a", b"asklane 0 0", b"asklane 65536", b"asklane 00", b"ask 0 a", b"toldlane",
+    b"toldlane a", b"toldlane 0 0", b"toldlane 00", b"toldlane 4294967295", b"flushwq 0", b"waitingall 0", b"AskLane 0",
 ]
 
 
@@ -268,12 +309,13 @@ def with_mistake(choose, walk):
     """The lines of the walk with a mistake among them, near the end."""
     lines = list(walk.lines)
     at = choose.choice([len(lines), choose.randint(max(0, len(lines) - 20), len(lines))])
-    told = [place for place, ask in enumerate(walk.play.asks) if ask is None]
     if choose.random() < 0.4:
-        places = told or [len(walk.play.asks)]
+        word = choose.choice(list(walk.play.asks))
+        asks = walk.play.asks[word]
+        places = [place for place, ask in enumerate(asks) if ask is None] or [len(asks)]
         if choose.random() < 0.3:
-            places = [len(walk.play.asks)]
-        words = [b"told", b"%d" % choose.choice(places)]
+            places = [len(asks)]
+        words = [word.encode(), b"%d" % choose.choice(places)]
     else:
         words = choose.choice(MISTAKES).split(b" ")
     return lines[:at] + [words] + lines[at:]
@@ -346,7 +388,8 @@ class History:
 
 
 def change_yes(choose, history):
-    history.change(choose, ("queue", "cancel", "wait", "ask"), yes=lambda row: not row.yes)
+    events = ("queue", "cancel", "wait", "ask", "waitall", "asklane")
+    history.change(choose, events, yes=lambda row: not row.yes)
 
 
 def other_number(choose, number):
@@ -361,23 +404,36 @@ def change_number(choose, history):
 
 def change_rare(choose, history):
     """The number of a row of an event that comes less often."""
-    events = choose.choice([("wait",), ("over",), ("over", "finish", "told")])
+    events = choose.choice([("wait",), ("over",), ("over", "finish", "told"), ("waitall",), ("asklane", "toldlane")])
     history.change(choose, events, number=lambda row: other_number(choose, row.number))
 
 
+def change_end(choose, history):
+    """An end of a wait for a whole workqueue, of another number, target or kind."""
+    count = len(history.declared.items)
+    way = choose.random()
+    if way < 0.5:
+        history.change(choose, ("overall",), number=lambda row: other_number(choose, row.number))
+    elif way < 0.8:
+        history.change(choose, ("overall",), item=lambda row: choose.randrange(count + 1))
+    else:
+        history.change(choose, ("overall",), event=lambda row: "over")
+
+
 def change_wait(choose, history):
-    history.change(choose, ("wait",), yes=lambda row: not row.yes)
+    events = choose.choice([("wait",), ("waitall",)])
+    history.change(choose, events, yes=lambda row: not row.yes)
 
 
 def change_told(choose, history):
     """Another number of a Told, which may be legal too."""
-    history.change(choose, ("told",), number=lambda row: other_number(choose, row.number))
+    history.change(choose, ("told", "toldlane"), number=lambda row: other_number(choose, row.number))
 
 
 def change_item(choose, history):
     count = len(history.declared.items)
     items = [count, count + 1, 4_095, 4_096, LANE_LIMIT, 256] + list(range(count)) * 2
-    history.change(choose, EVENTS, item=lambda row: choose.choice(items))
+    history.change(choose, WITH_ITEM, item=lambda row: choose.choice(items))
 
 
 def change_lane(choose, history):
@@ -389,7 +445,7 @@ def change_lane(choose, history):
 def change_event(choose, history):
     """A row of another event, with what else it has."""
     if choose.random() < 0.5:
-        events = ("queue", "cancel", "ask")
+        events = choose.choice([("queue", "cancel", "ask"), ("wait", "waitall"), ("over", "overall")])
         history.change(choose, events, event=lambda row: choose.choice(events))
         return
     events = choose.choice([("start", "finish", "over"), EVENTS])
@@ -399,8 +455,23 @@ def change_event(choose, history):
         return
     event = choose.choice(events)
     lane = row.lane if event in WITH_LANE else 0
+    item = row.item if event in WITH_ITEM else 0
     yes = row.yes or event in book.ALWAYS_YES
-    history.pieces[at] = packed(dataclasses.replace(row, event=event, lane=lane, yes=yes))
+    history.pieces[at] = packed(dataclasses.replace(row, event=event, item=item, lane=lane, yes=yes))
+
+
+def change_kind(choose, history):
+    """A wait of the other kind, with its end, if that comes next on this workqueue."""
+    other = {"wait": "waitall", "waitall": "wait", "over": "overall", "overall": "over"}
+    rows = [(at, book.unpacked(piece)) for at, piece in enumerate(history.pieces)]
+    waits = [(at, row) for at, row in rows if row is not None and row.event in ("wait", "waitall")]
+    if not waits:
+        return
+    at, row = choose.choice(waits)
+    changed = [(at, row)] + [(later, end) for later, end in rows[at + 1:] if end is not None and end.event in OF_LANE
+                             and end.lane == row.lane][:1]
+    for at, row in changed:
+        history.pieces[at] = packed(dataclasses.replace(row, event=other.get(row.event, row.event)))
 
 
 def drop(choose, history):
@@ -430,7 +501,7 @@ def any_row(choose, history):
     lane = choose.choice([lanes, LANE_LIMIT] + list(range(lanes)) * 3)
     number = choose.choice([0, 1, 2, len(history.pieces), choose.randint(0, 20), NUMBER_LIMIT])
     yes = event in book.ALWAYS_YES or choose.random() < 0.5
-    return Row(event, yes, item, lane if event in WITH_LANE else 0, number)
+    return Row(event, yes, item if event in WITH_ITEM else 0, lane if event in WITH_LANE else 0, number)
 
 
 def insert_any(choose, history):
@@ -442,20 +513,21 @@ def standing_rows(choose, history, at):
     _, _, replay = book.judge(history.declared, history.assignment, b"".join(history.pieces[:at]))
     rows = []
     for event in EVENTS:
-        for item in range(len(history.declared.items)):
+        for item in range(len(history.declared.items)) if event in WITH_ITEM else [0]:
             for lane in replay.lanes if event in WITH_LANE else [0]:
                 stands = replay.standing(event, lane, item)
                 if stands is not None:
                     yes, number = stands
                     if number is None:
-                        number = choose.choice([0, least_unfinished(replay, item)])
+                        number = choose.choice([0, least_unfinished(replay, event, lane, item)])
                     rows.append(Row(event, yes, item, lane, number))
     return rows
 
 
-def least_unfinished(replay, item):
-    """The largest number that a Told of the item may have."""
-    entries = replay.state.unfinished(replay.name(item))
+def least_unfinished(replay, event, lane, item):
+    """The largest number that a Told of the item may have, or a ToldLane of the workqueue."""
+    state = replay.state
+    entries = state.unfinished_on(lane) if event == "toldlane" else state.unfinished(replay.name(item))
     return min((entry.number for entry in entries), default=NUMBER_LIMIT)
 
 
@@ -476,18 +548,18 @@ def insert_nearly(choose, history):
     if not rows:
         return
     events = sorted({row.event for row in rows})
-    weights = [1 if event in ("queue", "cancel", "ask") else 3 for event in events]
+    weights = [1 if event in ("queue", "cancel", "ask", "asklane") else 20 if event == "overall" else 3 for event in events]
     event = choose.choices(events, weights)[0]
     row = choose.choice([row for row in rows if row.event == event])
     way = choose.random()
     if way < 0.25:
         missing = choose.choice([len(history.declared.items), LANE_LIMIT])
         changes = {"item": missing}
-        if event in WITH_LANE and choose.random() < 0.5:
+        if event not in WITH_ITEM or event in WITH_LANE and choose.random() < 0.5:
             changes = {"lane": choose.choice([history.assignment.count, LANE_LIMIT])}
     elif way < 0.6 and event not in book.ALWAYS_YES:
         changes = {"yes": not row.yes}
-    elif event == "told":
+    elif event in ("told", "toldlane"):
         changes = {"number": min(row.number + 1, NUMBER_LIMIT)}
     else:
         changes = {"number": other_number(choose, row.number)}
@@ -506,7 +578,7 @@ def put_byte(history, at, place, value):
 
 
 def replace_byte(choose, history):
-    value = choose.choice([0, 1, 2, 8, 9, 255, choose.randrange(256)])
+    value = choose.choice([0, 1, 2, 8, 9, 12, 13, 255, choose.randrange(256)])
     put_byte(history, history.any_place(choose), choose.randrange(ROW_BYTES), value)
 
 
@@ -520,11 +592,13 @@ def unpackable_byte(choose, history):
     """A byte that the packing of this row can't have."""
     at = history.any_place(choose)
     row = book.unpacked(history.pieces[at])
-    changes = [(0, 0), (0, 9), (0, 255), (1, 2), (1, 255), (6, 1), (7, 1), (6, 128), (7, 255)]
+    changes = [(0, 0), (0, 13), (0, 255), (1, 2), (1, 255), (6, 1), (7, 1), (6, 128), (7, 255)]
     if row is not None and row.event in book.ALWAYS_YES:
         changes += [(1, 0)] * 4
     if row is not None and row.event not in WITH_LANE:
         changes += [(4, 1), (5, 1), (4, 255), (5, 128)]
+    if row is not None and row.event not in WITH_ITEM:
+        changes += [(2, 1), (3, 1), (2, 255), (3, 128)] * 2
     put_byte(history, at, *choose.choice(changes))
 
 
@@ -553,14 +627,14 @@ def double_byte(choose, history):
 
 
 def insert_bytes(choose, history):
-    piece = bytes(choose.choices([0, 1, 2, 3, 4, 8, 9, 255], k=ROW_BYTES))
+    piece = bytes(choose.choices([0, 1, 2, 3, 4, 8, 9, 11, 12, 13, 255], k=ROW_BYTES))
     history.pieces.insert(choose.randint(0, len(history.pieces)), piece)
 
 
 PACKABLE = [
     change_yes, change_number, change_told, change_item, change_lane, change_event, drop, double,
-    swap, move, insert_any, cut_rows, change_rare, change_rare, change_wait,
-] + [insert_legal] * 2 + [insert_nearly] * 8
+    swap, move, insert_any, cut_rows, change_rare, change_rare, change_wait, change_kind,
+] + [change_end] * 5 + [insert_legal] * 2 + [insert_nearly] * 8
 ANY_BYTES = [
     replace_byte, replace_byte, flip_bit, unpackable_byte, unpackable_byte, cut_middle, cut_last,
     add_bytes, drop_byte, double_byte, insert_bytes,
@@ -568,12 +642,12 @@ ANY_BYTES = [
 
 
 def tell_others(choose, history):
-    """Other numbers of all Told rows, which are legal too."""
+    """Other numbers of all Told and ToldLane rows, which are legal too."""
     replay = book.Replay(history.declared, history.assignment)
     for at, piece in enumerate(history.pieces):
         row = book.unpacked(piece)
-        if row.event == "told":
-            least = least_unfinished(replay, row.item)
+        if row.event in ("told", "toldlane"):
+            least = least_unfinished(replay, row.event, row.lane, row.item)
             number = choose.choice([0, least, choose.randint(0, least)])
             row = dataclasses.replace(row, number=number)
             history.pieces[at] = packed(row)
@@ -628,10 +702,18 @@ def random_check_case(seed, number):
 
 ONE = [b"item a\n", b"wq 0 a\n"]
 TWO = [b"item a\nitem b\nflush a b\n", b"wq 0 b\nwq 1 a\n"]
+WHOLE = [b"item a\nitem b\nitem c\nflushwq a b\n", b"wq 0 b c\nwq 1 a\n"]
 NONE = [b"", b""]
 FIVE = bytes.fromhex(
     "010100000000000000000000030100000100000000000000040001000100000001000000"
     "050101000100000001000000060100000100000000000000"
+)
+# The same of a wait for a whole workqueue, which is asked about too: eleven rows.
+ELEVEN = bytes.fromhex(
+    "0b0000000000000000000000010102000000000000000000010100000000000001000000"
+    "0b0100000000000002000000030100000100000001000000090101000100000002000000"
+    "0301020000000000000000000601020000000000000000000a0101000100000002000000"
+    "0c0100000000000002000000060100000100000001000000"
 )
 
 
@@ -651,13 +733,13 @@ def limit_book_cases():
     add("blank lines", ONE, 5, b"\n \t\n# x\n\r\n#\r\r\n")
     add("no item, no workqueue", NONE, 5, b"queue a\ncancel a\nask a\nstart 0\nclose\nqueue a\n")
     add("no item, 3 workqueues", [b"", b"wq 0\nwq 1\nwq 2"], 5,
-        b"start 2\nstart 3\nwait 0 a\nover 1")
+        b"start 2\nstart 3\nwait 0 a\nover 1\nwaitall 0 a\nasklane 3\nasklane 2\nasklane 0\nask a")
     add("spellings", ONE, 50, b"\tqueue  a \r\nqueue a#b\n ask\ta # \xff\r\r\nstart 0\r\nfinish 0")
     add("a CR that stays", ONE, 50, b"queue a\nqueue a\r\r\nqueue \r\r\ncancel a\r\nask a\r")
     add("a CR behind a number", ONE, 50, b"queue a\nstart 0\r")
     add("a CR behind a keyword", ONE, 50, b"queue a\nclose\r\r\nqueue a\n")
     add("bytes in the place of an item", TWO, 50,
-        b"queue \xff\ncancel \x00\nask a!\nqueue a\nstart 1\nwait 1 \x80\x81\nwait 1 #b\n")
+        b"queue \xff\ncancel \x00\nask a!\nqueue a\nstart 1\nwaitall 1 \xfe\nwait 1 \x80\x81\nwait 1 #b\n")
     names = [b"item -\nitem queue\nflush - queue", b"wq 0 -\nwq 1 queue"]
     add("items with the names of others", names, 50,
         b"queue -\nqueue queue\nstart 0\nstart 1\nwait 0 queue\nask -\ncancel -\n")
@@ -665,16 +747,26 @@ def limit_book_cases():
         add(f"the mistake {number}", ONE, 50, b"queue a\n\n# x\n" + line + b"\nqueue a\n")
         add(f"the mistake {number} at the end", ONE, 0, line)
     for lane in b"0", b"1", b"4095", b"4096", b"65535", b"65536", b"4294967295":
-        for word in b"start %s", b"wait %s a", b"over %s", b"finish %s":
+        for word in b"start %s", b"wait %s a", b"over %s", b"finish %s", b"waitall %s a", b"asklane %s":
             add(f"the workqueue {lane.decode()}", ONE, 50, b"queue a\n" + word % lane)
     add("told again", ONE, 50,
         b"queue a\nask a\nask a\ntold 1\ntold 0\nstart 0\ntold 1\nfinish 0\n" + b"told 0\n" * 2)
     add("an ask before its number", ONE, 50, b"ask a\ntold 0\n")
     add("an ask of none", ONE, 50, b"queue a\nask b\nask a\nask a\ntold 1\ntold 2\n")
+    add("an ask of a workqueue is told again", ONE, 50,
+        b"queue a\nasklane 0\nasklane 0\ntoldlane 1\ntoldlane 0\nstart 0\ntoldlane 1\nfinish 0\n" + b"toldlane 0\n" * 2)
+    add("an ask of a workqueue before its number", ONE, 50, b"asklane 0\ntoldlane 0\n")
+    add("an ask of an item isn't one of its workqueue", ONE, 50, b"queue a\nask a\ntoldlane 0\n")
+    add("an ask of a workqueue isn't one of its item", ONE, 50, b"queue a\nasklane 0\ntold 0\n")
+    add("asks of both, numbered by themselves", ONE, 50,
+        b"queue a\nask a\nasklane 0\nasklane 0\nask a\ncancel a\ntold 1\ntoldlane 0\ntoldlane 1\ntold 0\ntold 2\n")
+    add("an item with the name of a wait", [b"item wq:\n", b"wq 0"], 50, b"")
 
     for row_count in range(8):
         add(f"{row_count} rows", ONE, row_count,
             b"ask a\ncancel a\nqueue a\nqueue a\nask a\ncancel a\nstart 0\nfinish 0\ntold 0")
+        add(f"{row_count} rows, and asks of a workqueue", ONE, row_count,
+            b"asklane 0\nqueue a\nasklane 0\nasklane 0\nask a\nstart 0\nfinish 0\ntoldlane 0\ntold 0")
     for row_count in ROW_LIMIT + 1, NUMBER_LIMIT:
         add(f"{row_count} rows", ONE, row_count, b"queue a\n")
         add(f"{row_count} rows, and a mistake", ONE, row_count, b"?\n")
@@ -706,6 +798,8 @@ def limit_book_cases():
     own = b"".join(b"wq %d i%04d\n" % (number, number) for number in range(4_096))
     calls = b"queue i4095\nstart 4095\nqueue i0000\nask i4095\nstart 4096\nfinish 4095\ntold 0\n"
     add("4,096 items on 4,096 workqueues", [items, own], 50, calls)
+    add("4,096 workqueues are asked about", [items, own], 50,
+        b"queue i4095\nasklane 4095\nasklane 4096\nasklane 4094\nasklane 0\nstart 4095\nfinish 4095\ntoldlane 0\n")
     names = items.replace(b"item", b"").replace(b"\n", b"")
     add("4,096 items on one workqueue", [items, b"wq 0" + names], 50,
         calls.replace(b" 4095\n", b" 0\n"))
@@ -720,6 +814,11 @@ def limit_book_cases():
         add(f"16,384 flushes and {row_count} rows", most, row_count, calls + b"finish 1\nqueue b\n")
     add("16,384 waits", most, 32_771,
         b"queue a\nstart 1\n" + b"wait 1 b\nover 1\n" * 16_384 + b"wait 1 b\nfinish 1\nqueue b\n")
+    both = [b"flush a b", b"flushwq a b"] * 8_192
+    most = [join(b"item a", b"item b", *both), b"wq 0 b\nwq 1 a\n"]
+    add("16,384 waits of both kinds", most, 32_771,
+        b"queue a\nstart 1\n" + b"waitall 1 b\nover 1\nwait 1 b\nover 1\n" * 8_192
+        + b"wait 1 b\nwaitall 1 b\nwait 1 a\nfinish 1\nqueue b\n")
     most = [join(b"item a", *flush_lines(b"a", [b"a"] * 16_384)), b"wq 0 a"]
     add("16,384 flushes of itself", most, 40_000,
         b"queue a\nstart 0\nwait 0 a\nover 0\nwait 0 a\nqueue a\nfinish 0\n")
@@ -743,27 +842,33 @@ def limit_check_cases():
     add("a mistake, and no declaration", [b"x", b""], b"0")
     add("a mistake, and no assignment", [b"item a", b""], b"0")
     add("no item", NONE, b"")
-    for event in range(1, 9):
+    for event in range(1, len(EVENTS) + 1):
         add("no item, and a row", NONE, b"%02x01" % event + b"00" * 10)
     add("no item, 2 workqueues", [b"", b"wq 0\nwq 1\n"], b"")
+    for lane in 0, 1, 2:
+        row = bytes([11, 0, 0, 0, lane, 0, 0, 0, 0, 0, 0, 0])
+        add("no item, and asks of workqueues", [b"", b"wq 0\nwq 1\n"], (row * 2).hex().encode())
     add("the order of the pending ones",
         [b"item a\nitem b\nitem c\n", b"wq 0 c b a"],
         b"0101020000000000 00000000 0101000000000000 01000000 0101010000000000 02000000")
 
-    # Each byte of the five rows with other values, and all their prefixes.
-    for at in range(len(FIVE)):
-        for value in sorted({0, 1, 2, 7, 8, 9, 0x80, 0xFF, FIVE[at] ^ 1} - {FIVE[at]}):
-            text = FIVE[:at] + bytes([value]) + FIVE[at + 1:]
-            add(f"byte {at} is {value}", TWO, text.hex().encode())
-    for length in range(len(FIVE)):
-        add(f"{length} bytes", TWO, FIVE[:length].hex().encode())
-    # Each row as the first one, with each small number and each event.
-    for event in range(1, 9):
+    # Each byte of some rows with other values, and all their prefixes.
+    for files, rows in (TWO, FIVE), (WHOLE, ELEVEN):
+        for at, byte in enumerate(rows):
+            for value in sorted({0, 1, 2, 8, 9, 12, 13, 0x80, 0xFF, byte ^ 1} - {byte}):
+                text = rows[:at] + bytes([value]) + rows[at + 1:]
+                add(f"byte {at} is {value}", files, text.hex().encode())
+        for length in range(len(rows)):
+            add(f"{length} bytes", files, rows[:length].hex().encode())
+    # Each row as the first one, and behind that of an ask of a workqueue which waits, with each small number and each event.
+    asked = bytes.fromhex("010102000000000000000000" "0b0100000000000001000000")
+    for event in range(1, len(EVENTS) + 1):
         for yes in 0, 1:
             for item in 0, 1, 2, LANE_LIMIT:
                 for lane in 0, 1, 2:
-                    fields = [event, yes, item & 255, item >> 8, lane, 0, 0, 0, 0, 0, 0, 0]
-                    add("a row alone", TWO, bytes(fields).hex().encode())
+                    row = bytes([event, yes, item & 255, item >> 8, lane, 0, 0, 0, 0, 0, 0, 0])
+                    add("a row alone", TWO, row.hex().encode())
+                    add("a row behind an ask", WHOLE, (asked + row).hex().encode())
 
     # Long histories: 349,525 rows are the most that the digits can spell.
     none, one = bytes.fromhex("020000000000000000000000"), bytes.fromhex("070000000000000000000000")

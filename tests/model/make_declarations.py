@@ -591,6 +591,10 @@ def limit_run_cases():
     cases.append(("a chain of 256 with more flushes", chain + join(*spread)))
     ordered = join(b"item x", b"item y", b"ordered x i7 y", b"flush x i8", b"flush y i9 i10")
     cases.append(("a chain of 256 with a group", chain + ordered))
+    cases.append(("a chain of 256 `flushwq` lines", whole(chain)))
+    cases.append(("a chain of 257 `flushwq` lines", whole(chain_of(257))))
+    cases.append(("a chain of 256 with more waits of both kinds", chain + whole(join(*spread[::2])) + join(*spread[1::2])))
+    cases.append(("a chain of 256 `flushwq` lines with a group", whole(chain + ordered)))
     return cases
 
 

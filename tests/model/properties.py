@@ -372,11 +372,9 @@ def look_at_running(text):
         return
     lines = planned.split(b"\n")
     count = int(lines[0].split(b" ")[1])
-    whole = b"flushwq" in read_declaration(text).directive_of
     demand((status == 2) == (count > 256), "more than 256 workqueues can't be run")
-    demand((status == 3) == (count <= 256 and whole), "nor are waits for a whole one")
-    if status != 0:
-        demand(printed == (b"refused 69 line 0\n" if status == 2 else b""), "which is 69, without a line, or a fault")
+    if status == 2:
+        demand(printed == b"refused 69 line 0\n", "which is 69, without a line")
         return
     rows = [line.split(b" ") for line in printed.split(b"\n")[1:-2]]
     wqs = [[row[1] for row in rows if row[3] == b"%d" % q] for q in range(count)]

@@ -29,8 +29,6 @@ def answer(text):
     workqueues = [line.split(b" ")[2:] for line in planned.split(b"\n") if line.startswith(b"wq ")]
     if len(workqueues) > WORKQUEUE_LIMIT:
         return Refused(69, 0).answer()
-    if b"flushwq" in read_declaration(text).directive_of:
-        return b"", 3  # `fault flushwq` goes to standard error
     workqueue_of = {name: q for q, names in enumerate(workqueues) for name in names}
     return run_text(read_declaration(text).items, workqueue_of, len(workqueues)), 0
 

@@ -33,10 +33,7 @@ STATUS = {
 
 def case(table, command, texts, answer):
     answer = text_of(answer)
-    if answer.startswith(b"fault "):
-        answer, status = b"", 3
-    else:
-        status = STATUS[answer.split(maxsplit=1)[0].decode()]
+    status = STATUS[answer.split(maxsplit=1)[0].decode()]
     texts = [text_of(text) for text in texts]
     return Case(table, [command, *range(len(texts))], texts, answer, status, diagnoses=True)
 
@@ -144,7 +141,7 @@ def follow_ups(cases):
     """What must be said of the plans, the circles and the runs that are printed."""
     for given in cases:
         texts, answer = given.texts, given.answer
-        word, *rest = answer.split(maxsplit=2) or [b""]
+        word, *rest = answer.split(maxsplit=2)
         if word == b"plan":
             yield case("plans that are checked", "check", [texts[0], answer], b"yes %s\n" % rest[0])
         elif word == b"circle":

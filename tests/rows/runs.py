@@ -31,7 +31,22 @@ RUNS = [
     ("item a / item b / flush a b b b / flush a b", ran(("a", 1), ("b", 0))),
     ("item a / item b / item c / flush a b c b / flush b c c / flush a c",
      ran(("a", 2), ("b", 1), ("c", 0))),
+    # Waits for a whole workqueue, on which other items are, too.
+    ("item a / item b / item c / flushwq a b", ran(("a", 1), ("b", 0), ("c", 0))),
+    ("item a / item b / item c / flushwq a b / flush c a", ran(("a", 1), ("b", 0), ("c", 2))),
+    ("item a / item b / item c / item d / flushwq a b / flush c d", ran(("a", 1), ("b", 0), ("c", 1), ("d", 0))),
+    ("item a / item b / item c / item d / flushwq a c / flushwq b a / flushwq d b",
+     ran(("a", 1), ("b", 2), ("c", 0), ("d", 3))),
+    # Waits of both kinds, in each order, once and more than once.
+    ("item a / item b / flush a b / flushwq a b", ran(("a", 1), ("b", 0))),
+    ("item a / item b / flushwq a b / flush a b", ran(("a", 1), ("b", 0))),
+    ("item a / item b / flushwq a b / flush a b b / flushwq a b / flushwq a b", ran(("a", 1), ("b", 0))),
+    ("item a / item b / item c / flushwq a c / flush a b / flushwq b c / flush b c / flushwq a b",
+     ran(("a", 2), ("b", 1), ("c", 0))),
     # Groups.
+    ("item a / item b / item c / ordered b c / flushwq a b", ran(("a", 1), ("b", 0), ("c", 0))),
+    ("item a / item b / item c / item d / ordered a c / flushwq c b / flushwq d a",
+     ran(("a", 1), ("b", 0), ("c", 1), ("d", 2))),
     ("item a / item b / item c / item d / ordered b c / flush a b / flush c d",
      ran(("a", 2), ("b", 1), ("c", 1), ("d", 0))),
     ("item a / item b / item c / ordered c a / flush c b", ran(("a", 1), ("b", 0), ("c", 1))),
@@ -50,10 +65,9 @@ OTHERS = [
     ("item a / item b / item c / flush a c b / flush b a",
      "circle 2 / arc a b / arc b a / run 11 / queue a / queue b / queue c / start 0 a / wait 0 c / "
      "start 1 b / wait 1 a / start 2 c / finish 2 c / over 0 c / wait 0 b"),
-    # No wait for a whole workqueue is made there yet. Faults and circles come first.
-    ("item a / item b / item c / flushwq a b", "fault flushwq"),
-    ("item a / item b / flush a b / flushwq a b", "fault flushwq"),
     ("item a / flushwq a a", "circle 1 / arc a a / run 3 / queue a / start 0 a / waitwq 0 a"),
+    ("item a / item b / ordered a b / flushwq a b",
+     "circle 1 / arc a b / run 4 / queue a / queue b / start 0 a / waitwq 0 b"),
     ("item a / flushwq a b", "refused 8 line 2"),
     ("item a / flush a b / item b", "refused 8 line 2"),
     ("item a / flush a zz / items b", "refused 4 line 3"),
@@ -74,11 +88,19 @@ def chain(count):
     return items + [f"flush i{i} i{i + 1}" for i in range(count - 1)]
 
 
+def each_for_each(count):
+    """So many items that each wait for each of as many others, by both kinds of wait in turn."""
+    items = [f"item {x}{i}" for i in range(count) for x in "ab"]
+    waits = [f"{'flushwq' if (i + j) % 2 else 'flush'} a{i} b{j}" for i in range(count) for j in range(count)]
+    return items + waits
+
+
 def beside(answer, item, lane):
     """The same answer with one item more, the last one."""
     return answer.replace("faults", f"item {item} wq {lane} queued 1 cancelled 0 finished 1 / faults")
 
 
+TWO_ITEMS = "item a / item b"
 CHAIN = " / ".join(chain(256))
 RAN = ran(*((f"i{i}", 255 - i) for i in range(256)))
 
@@ -97,9 +119,19 @@ LIMITS = [
     (CHAIN, RAN),
     (" / ".join(chain(257)), "refused 69 line 0"),
     (" / ".join(chain(4_096)), "refused 69 line 0"),
-    # The number of workqueues comes before a wait for a whole one.
-    (CHAIN + " / flushwq i0 i9", "fault flushwq"),
+    # The same by waits for whole workqueues, and by both kinds in turn.
+    (CHAIN.replace("flush", "flushwq"), RAN),
+    (CHAIN.replace("flush i1", "flushwq i1"), RAN),
+    (CHAIN + " / flushwq i0 i9", RAN),
+    (" / ".join(chain(257)).replace("flush", "flushwq"), "refused 69 line 0"),
     (" / ".join(chain(257)) + " / flushwq i0 i9", "refused 69 line 0"),
+    # As many waits as there may be, of one execution and of many, by `flush`, by `flushwq` and by both.
+    (TWO_ITEMS + 16_384 * " / flush a b", ran(("a", 1), ("b", 0))),
+    (TWO_ITEMS + 16_384 * " / flushwq a b", ran(("a", 1), ("b", 0))),
+    (TWO_ITEMS + 8_192 * " / flush a b / flushwq a b", ran(("a", 1), ("b", 0))),
+    (TWO_ITEMS + 8_192 * " / flush a b" + 8_192 * " / flushwq a b", ran(("a", 1), ("b", 0))),
+    (TWO_ITEMS + 8_192 * " / flush a b / flushwq a b" + " / flushwq a b", "refused 10 line 16387"),
+    (" / ".join(each_for_each(128)), ran(*((f"{x}{i}", lane) for i in range(128) for x, lane in [("a", 1), ("b", 0)]))),
     # An item beside the longest chain, and one that makes it longer.
     (CHAIN + " / item x / flush x i1 i255", beside(RAN, "x", 255)),
     (CHAIN + " / item x / flush x i1 i0 i255", "refused 69 line 0"),

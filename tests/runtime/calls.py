@@ -6,6 +6,7 @@
 
 ONE = ("item a", "wq 0 a")
 TWO = ("item a / item b / flush a b", "wq 0 b / wq 1 a")
+WHOLE = ("item a / item b / item c / flushwq a b", "wq 0 b c / wq 1 a")
 
 # A declaration and an assignment, how many rows there are, each call with its answer, and what is
 # counted (item, kind, answer, how often) and the rows that are written, or nothing where the last
@@ -340,6 +341,115 @@ RUNTIMES = [
         ("close 65534", "refused 72"),
         ("close 4294967295", "ok"),
     ], [], []),
+    # A workqueue is flushed on which nothing is, and one that doesn't exist.
+    (*WHOLE, 100, [
+        ("flushwq 0", "ok"),
+        ("countedlane 0", "asked yes 0 no 1 told 0 total 1"),
+        ("flushwq 2", "refused 64"),
+        ("countedlane 1", "asked yes 0 no 0 told 0 total 1"),
+        ("countedlane 2", "asked yes 0 no 0 told 0 total 1"),
+        ("close 1", "ok"),
+    ], [("lane 0", "asklane", "no", 1)], ["0b0000000000000000000000"]),
+    # What runs waits for a whole workqueue, which is idle; what isn't declared; and callers flush workqueues.
+    (*WHOLE, 30, [
+        ("waitall 1 b", "refused 64"),
+        ("queue 1 a", "true"),
+        ("next 1", "a"),
+        ("wait 1 b", "refused 62"),
+        ("waitall 1 c", "refused 62"),
+        ("waitall 1 z", "refused 62"),
+        ("waitall 0 b", "refused 64"),
+        ("waitall 2 b", "refused 64"),
+        ("waitall 65535 z", "refused 64"),
+        ("waitall 1 b", "false"),
+        ("waitall 1 b", "refused 63"),
+        ("waitall 1 c", "refused 62"),
+        ("finish 1 a", "ok"),
+        ("waitall 1 b", "refused 64"),
+        ("flushwq 0", "ok"),
+        ("flushwq 1", "ok"),
+        ("destroy", "ok"),
+        ("flushwq 1", "ok"),
+        ("flushwq 65535", "refused 64"),
+        ("counted b", "queued 0 cancelled 0 finished 0 total 7"),
+        ("countedlane 1", "asked yes 0 no 2 told 0 total 7"),
+        ("close 1", "ok"),
+    ], [
+        ("a", "queue", "yes", 1), ("a", "finish", "yes", 1),
+        ("b", "waitall", "no", 1), ("b", "overall", "yes", 1),
+        ("lane 0", "asklane", "no", 1), ("lane 1", "asklane", "no", 2),
+    ], [
+        "010100000000000000000000",
+        "030100000100000000000000",
+        "090001000100000001000000",
+        "0a0101000100000001000000",
+        "060100000100000000000000",
+        "0b0000000000000001000000",
+        "0b0000000100000001000000",
+        "0b0000000100000001000000",
+    ]),
+    # Waits of both kinds, which count together.
+    ("item a / item b / flush a b / flushwq a b", "wq 0 b / wq 1 a", 20, [
+        ("queue 1 a", "true"),
+        ("next 1", "a"),
+        ("waitall 1 b", "false"),
+        ("wait 1 b", "false"),
+        ("waitall 1 b", "refused 63"),
+        ("wait 1 b", "refused 63"),
+        ("finish 1 a", "ok"),
+        ("close 1", "ok"),
+    ], [
+        ("a", "queue", "yes", 1), ("a", "finish", "yes", 1),
+        ("b", "wait", "no", 1), ("b", "over", "yes", 1), ("b", "waitall", "no", 1), ("b", "overall", "yes", 1),
+    ], [
+        "010100000000000000000000",
+        "030100000100000000000000",
+        "090001000100000001000000",
+        "0a0101000100000001000000",
+        "040001000100000001000000",
+        "050101000100000001000000",
+        "060100000100000000000000",
+    ]),
+    # A workqueue is flushed while few rows are free: one is needed, or two while something is on it.
+    (*ONE, 4, [
+        ("queue 0 a", "true"),
+        ("flushwq 0", "refused 60"),
+        ("flushwq 1", "refused 64"),
+        ("cancel a", "true"),
+        ("flushwq 0", "ok"),
+        ("flushwq 0", "ok"),
+        ("flushwq 0", "refused 60"),
+        ("flushwq 1", "refused 64"),
+        ("close 1", "ok"),
+    ], [
+        ("a", "queue", "yes", 1), ("a", "cancel", "yes", 1), ("lane 0", "asklane", "no", 2),
+    ], [
+        "010100000000000000000000",
+        "020100000000000000000000",
+        "0b0000000000000001000000",
+        "0b0000000000000001000000",
+    ]),
+    # Seats count by workqueue, each for itself; a workqueue that has the number of no item, too.
+    ("item a", "wq 0 / wq 1 / wq 2 a / wq 3", 9, [
+        ("seat", "1"),
+        ("flushwq 3", "ok"),
+        ("use 1", "ok"),
+        ("flushwq 3", "ok"),
+        ("flushwq 1", "ok"),
+        ("flushwq 4", "refused 64"),
+        ("countedlane 3", "asked yes 0 no 1 told 0 total 2"),
+        ("counted a", "queued 0 cancelled 0 finished 0 total 2"),
+        ("use 0", "ok"),
+        ("countedlane 3", "asked yes 0 no 1 told 0 total 1"),
+        ("countedlane 1", "asked yes 0 no 0 told 0 total 1"),
+        ("close 2", "ok"),
+    ], [
+        ("lane 1", "asklane", "no", 1), ("lane 3", "asklane", "no", 2),
+    ], [
+        "0b0000000300000000000000",
+        "0b0000000300000000000000",
+        "0b0000000100000000000000",
+    ]),
     # Lanes and items that there are, and that there aren't.
     (*TWO, 5, [
         ("lanes", "2"),
@@ -371,16 +481,27 @@ RUNTIMES = [
         ("sync a", "refused 66"),
         ("next 0", "refused 64"),
         ("wait 0 a", "refused 64"),
+        ("waitall 0 a", "refused 64"),
+        ("flushwq 0", "refused 64"),
         ("finish 0 a", "refused 64"),
         ("destroy", "ok"),
         ("close 1", "ok"),
     ], [], []),
+    # Workqueues, and no item.
+    ("", "wq 0 / wq 1", 3, [
+        ("flushwq 1", "ok"),
+        ("flushwq 2", "refused 64"),
+        ("countedlane 1", "asked yes 0 no 1 told 0 total 1"),
+        ("close 1", "ok"),
+    ], [("lane 1", "asklane", "no", 1)], ["0b0000000100000000000000"]),
     # No row at all.
     (*ONE, 0, [
         ("queue 0 a", "refused 60"),
         ("cancel a", "refused 60"),
         ("flush a", "refused 60"),
         ("sync a", "refused 60"),
+        ("flushwq 0", "refused 60"),
+        ("flushwq 1", "refused 64"),
         ("destroy", "ok"),
         ("queue 0 a", "refused 61"),
         ("close 1", "ok"),
@@ -422,6 +543,9 @@ TEXTS = [
         "lanes 0", "lane", "lane a a", "seat 1", "seats", "seats x", "seats 4294967296", "use",
         "use x", "use 0 0", "counted", "counted a a", "destroy a", "close", "close x", "close 0 0",
         "ask a", "start 0", "stop", "asleep", "asleep next", "asleep close 1", "asleep asleep lanes",
+        "flushwq", "flushwq a", "flushwq 0 0", "flushwq 65536", "flushwq 00", "waitall", "waitall 0", "waitall a 0",
+        "waitall 0 a a", "waitall 65536 a", "countedlane", "countedlane a", "countedlane 65536", "asklane 0", "waitwq 0 a",
+        "flush_wq a",
     ]),
     (*ONE, 5, b"queue 0 a\n\nstop\nqueue 0 a\n", "queue 0 a true / mistake line 3"),
     (*ONE, 5, b"lanes\n#" + b"x" * 524_288 + b"\n", "mistake line 2"),
@@ -446,6 +570,9 @@ TEXTS = [
     (CROSSED, "wq 0 b d / wq 1 a c", 5, "lanes", "lanes 2"),
     (CROSSED, "wq 0 a / wq 1 b c / wq 2 d", 5, "lanes", "lanes 3"),
     ("item a / item b / flush a b", "wq 0 a b", 5, "stop", "refused 67"),
+    ("item a / item b / item c / flushwq a b / flush c a", "wq 0 a / wq 1 b c", 5, "stop", "refused 67"),
+    ("item a / item b / item c / flushwq a b / flush c a", "wq 0 a / wq 1 b / wq 2 c", 5, "lanes", "lanes 3"),
+    ("item a / flushwq a a", "wq 0 a", 5, "stop", "refused 67"),
     # Refusals of the texts that come before, in their order.
     ("item a / item a", "nope", 16_777_217, "stop", "refused 7 line 2"),
     ("item a / item b", "wq 0 a", 16_777_217, "stop", "refused 41 line 0"),

@@ -37,24 +37,24 @@ CALLS_OF_A_SECOND = 1000
 MOST_SLOW = 2
 
 CALLERS = 4
-KINDS = ["queue", "cancel", "wait", "over", "ask", "told", "finish"]
-ASKED = ["queue", "cancel", "flush", "sync", "wait"]
+KINDS = ["queue", "cancel", "wait", "over", "ask", "told", "finish", "waitall", "overall", "asklane", "toldlane"]
+ASKED = ["queue", "cancel", "flush", "sync", "wait", "flushwq", "waitall"]
 REFUSALS = [60, 61, 62, 63, 64, 65, 66]
 FULL, CLOSED, NO_ITEM = 60, 61, 66
 
 # What each call may be refused with: by a body, by a caller, and by the last caller once it has
 # destroyed the runtime. The other refusals of a call can't be met in a load.
-BODY = {"queue": {60, 61, 66}, "cancel": {60, 66}, "wait": {62, 63}}
-CALLER = {"queue": {60, 64, 66}, "cancel": {60, 66}, "flush": {60, 66}, "sync": {60, 66}}
-LATE = {"queue": {61, 66}, "flush": {60}}
+BODY = {"queue": {60, 61, 66}, "cancel": {60, 66}, "wait": {62, 63}, "waitall": {62, 63}}
+CALLER = {"queue": {60, 64, 66}, "cancel": {60, 66}, "flush": {60, 66}, "sync": {60, 66}, "flushwq": {60, 64}}
+LATE = {"queue": {61, 66}, "flush": {60}, "flushwq": {60}}
 
-# Sixteen items on eight workqueues, with flushes of all lengths and two ordered pairs.
+# Sixteen items on eight workqueues, with flushes of both kinds and all lengths and two ordered pairs.
 SIXTEEN = (
     " / ".join([
         *(f"item {name}" for name in "abcdefghijklmnop"), "ordered e f", "ordered o p",
-        "flush c a", "flush d a b", "flush e c", "flush f d b b", "flush g a", "flush h e c a",
-        "flush i g", "flush j h f", "flush k i j", "flush l b d f h", "flush m k", "flush n l l a",
-        "flush o m n", "flush p a c e g i k m",
+        "flush c a", "flush d a b", "flushwq e c", "flush f d b", "flushwq f b", "flush g a", "flush h e", "flushwq h c", "flush h a",
+        "flush i g", "flush j h f", "flushwq k i", "flushwq k j", "flush l b d", "flushwq l f", "flush l h", "flush m k",
+        "flushwq n l", "flush n l a", "flush o m n", "flush p a c", "flushwq p e", "flush p g i", "flushwq p k", "flush p m",
     ]),
     "wq 0 a b / wq 1 c d / wq 2 e f / wq 3 g h / wq 4 i j / wq 5 k l / wq 6 m n / wq 7 o p",
 )
@@ -77,6 +77,11 @@ SHORT = [
     (*calls.TWO, 5, 200),
     (*calls.TWO, 1_000, 500),
     (*calls.TWO, 20_000, 500),
+    (*calls.WHOLE, 4, 10),
+    (*calls.WHOLE, 5, 200),
+    (*calls.WHOLE, 20_000, 500),
+    # Workqueues, and no item.
+    ("", "wq 0 / wq 1", 200, 100),
     # No item and no workqueue.
     ("", "", 5, 10),
     # Workqueues that serve no item.
@@ -190,11 +195,11 @@ class Printed:
             if seat >= len(lanes):
                 late.append(read_answers(lines, seat, "late"))
         seats = [collections.Counter() for _ in said]
-        for seat, item, kind, yes, no in lines.some(r"seat (\d+) made (\S+) (\S+) (\d+) (\d+)"):
+        for seat, item, kind, yes, no in lines.some(r"seat (\d+) made (lane \d+|\S+) (\S+) (\d+) (\d+)"):
             seats[int(seat)] += collections.Counter({(item, kind, True): int(yes), (item, kind, False): int(no)})
         (agree,) = lines.one(r"agree (.+)")
         sums = collections.Counter()
-        for item, kind, answer, count in lines.some(r"made (\S+) (\S+) (yes|no) (\d+)"):
+        for item, kind, answer, count in lines.some(r"made (lane \d+|\S+) (\S+) (yes|no) (\d+)"):
             sums[item, kind, answer == "yes"] += int(count)
         (total,), (idle,) = lines.one(r"total (\d+)"), lines.one(r"idle (.+)")
         (free,), (count,) = lines.one(r"free (\d+)"), lines.one(r"rows (\d+)")
@@ -226,9 +231,10 @@ class History:
     def note(self, declared, row):
         if row.event == "start":
             return
-        what = declared.items[row.item].decode("latin-1"), row.event, row.yes
+        counted = declared.items[row.item].decode("latin-1") if row.event in book.WITH_ITEM else f"lane {row.lane}"
+        what = counted, row.event, row.yes
         self.made[what] += 1
-        if row.event in book.WITH_LANE:
+        if row.event in book.OF_LANE:
             self.of_lane[row.lane][what] += 1
 
 
@@ -248,14 +254,15 @@ class Load:
         finished, faults = printed.lanes[q]
         if faults or not may_be(said, BODY):
             yield f"the body of workqueue {q} was answered what it can't be"
-        for kind in "queue", "cancel", "wait":
+        for kind in "queue", "cancel", "wait", "waitall":
             if any(made(seat, kind, answer) != said[kind, answer] for answer in (True, False)):
                 yield f"the seat of workqueue {q} counts other answers to {kind}"
-        if made(seat, "over", True) != answered(said, "wait") or made(seat, "finish", True) != finished:
+        ends = [made(seat, kind, True) for kind in ("over", "overall", "finish")]
+        if ends != [answered(said, "wait"), answered(said, "waitall"), finished]:
             yield f"the seat of workqueue {q} counts other ends"
-        if made(seat, "ask", True, False) or made(seat, "told", True, False):
+        if any(made(seat, kind, True, False) for kind in ("ask", "told", "asklane", "toldlane")):
             yield f"the seat of workqueue {q} counts asks"
-        if history.of_lane[q] != {what: count for what, count in seat.items() if what[1] in book.WITH_LANE}:
+        if history.of_lane[q] != {what: count for what, count in seat.items() if what[1] in book.OF_LANE}:
             yield f"the rows of workqueue {q} aren't those that its seat counts"
 
     def faults_of_caller(self, number, printed):
@@ -277,10 +284,14 @@ class Load:
         asks = made(seat, "ask", True, False)
         if asks != answered(both, "flush", "sync") or made(seat, "told", True) != made(seat, "ask", True):
             yield f"the seat of caller {number} counts other waits"
-        if any(made(seat, kind, True, False) for kind in ("wait", "over", "finish")):
+        if made(seat, "asklane", True, False) != answered(both, "flushwq"):
+            yield f"the seat of caller {number} counts other waits for workqueues"
+        if any(seat[what, "toldlane", True] != seat[what, "asklane", True] for what, _, _ in seat):
+            yield f"the seat of caller {number} counts other ends of waits for a workqueue"
+        if any(made(seat, kind, True, False) for kind in ("wait", "over", "finish", "waitall", "overall")):
             yield f"the seat of caller {number} counts what only a rescuer does"
 
-    def faults_of_end(self, printed, items):
+    def faults_of_end(self, printed, items, lanes):
         """What isn't so of the caller that destroyed the runtime, which must be just one."""
         late = [answers for answers in printed.late if answers]
         if len(late) != 1:
@@ -288,7 +299,7 @@ class Load:
             return
         if late[0]["queue", CLOSED if items else NO_ITEM] != 1:
             yield "an item was queued after destroy"
-        if late[0]["flush", True] or late[0].total() != 1 + items:
+        if late[0]["flush", True] or late[0].total() != 1 + items + lanes:
             yield "something was unfinished after destroy"
 
     def faults(self, printed, must_be_full):
@@ -306,12 +317,12 @@ class Load:
             yield from self.faults_of_body(q, printed, history)
         for number in range(CALLERS):
             yield from self.faults_of_caller(number, printed)
-        yield from self.faults_of_end(printed, len(declared.items))
+        yield from self.faults_of_end(printed, len(declared.items), assignment.count)
         if not sum(printed.seats, collections.Counter()) == printed.made == history.made or printed.agree != "true":
             yield "the seats, the runtime and the rows have other counts"
         if printed.total != printed.made.total():
             yield "the sum of all counts is another one"
-        if any(made(printed.made, kind, False) for kind in ("over", "told", "finish")):
+        if any(made(printed.made, kind, False) for kind in ("over", "told", "finish", "overall", "toldlane")):
             yield "what is always true was false"
         if not history.is_idle or printed.idle != "true":
             yield "something is unfinished"

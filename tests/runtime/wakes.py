@@ -27,12 +27,14 @@ ROUNDS = 20
 SECONDS = 10
 WORKERS = 40
 
-# Items on two workqueues. An entry of `b` stays pending behind one of `a` that runs; `c` waits for either.
-DECLARED = "item a / item b / item c / flush c a b"
-ASSIGNED = "wq 0 a b / wq 1 c"
+# Items on three workqueues. An entry of `b` stays pending behind one of `a` that runs; `c` waits for either, and `d` for their whole
+# workqueue.
+DECLARED = "item a / item b / item c / item d / flush c a b / flushwq d a"
+ASSIGNED = "wq 0 a b / wq 1 c / wq 2 d"
 A_RUNS = "queue 0 a: true / next 0: a"
 B_IS_BEHIND = f"{A_RUNS} / queue 0 b: true"
 C_RUNS = "queue 1 c: true / next 1: c"
+D_RUNS = "queue 2 d: true / next 2: d"
 A_ENDS = "finish 0 a: ok / destroy: ok"
 BOTH_END = f"finish 1 c: ok / {A_ENDS}"
 
@@ -40,7 +42,8 @@ BOTH_END = f"finish 1 c: ok / {A_ENDS}"
 @dataclasses.dataclass
 class Wake:
     """A call that wakes, who sleeps until then, and lines with their answers: of the calls before, of those that sleep, of the call that
-    wakes them, and of those after. A call that comes too late to fall asleep may have the answer after the `|`."""
+    wakes them, and of those after. A call that comes too late to fall asleep may have the answer after the `|`, or is told by what is
+    counted: `counted` is what it says of those that slept."""
 
     call: str
     sleepers: str
@@ -48,6 +51,7 @@ class Wake:
     asleep: str
     waking: str
     after: str
+    counted: str = ""
 
     def name(self):
         return f"{self.call} wakes {self.sleepers}"
@@ -63,17 +67,19 @@ class Wake:
         return text_of(" / ".join([*(line for line, _ in [*before, *asleep, *waking, *after]), "close 9"]))
 
     def printed(self):
-        """What is printed, as a regular expression. The answers of those that slept have groups."""
+        """What is printed, as a regular expression. The answers of those that slept have groups, and so has what is counted."""
         before, asleep, waking, after = self.parts()
         lines = [f"{line} {answer}" for line, answer in [*before, *waking]]
         lines += [f"asleep {line} ({answer})" for line, answer in asleep]
         lines += [f"{line} {answer}" for line, answer in after]
-        return "".join(f"{line}\n" for line in [*lines, "close 9 ok", "agree true"]).encode() + b"(?s:.*)"
+        return "".join(f"{line}\n" for line in [*lines, "close 9 ok", "agree true"]).encode() + b"((?s:.*))"
 
     def is_late(self, answers):
         """Whether one of those that were to sleep had nothing left to wait for."""
         _, asleep, _, _ = self.parts()
-        return any(answer.decode() != wanted.split("|")[0] for answer, (_, wanted) in zip(answers, asleep))
+        *answers, counts = (answer.decode() for answer in answers)
+        return any(answer != wanted.split("|")[0] for answer, (_, wanted) in zip(answers, asleep)) \
+            or bool(self.counted) and self.counted not in counts.splitlines()
 
 
 WAKES = [
@@ -91,11 +97,23 @@ WAKES = [
     Wake("finish_work", "two callers that flush the item", A_RUNS,
          "flush a: true|false / flush a: true|false", "finish 0 a: ok", "destroy: ok"),
     Wake("finish_work", "two callers in cancel_work_sync of the item", A_RUNS,
-         "sync a: false / sync a: false", "finish 0 a: ok", "destroy: ok"),
+         "sync a: false / sync a: false", "finish 0 a: ok", "destroy: ok", "made a told yes 2"),
     Wake("finish_work", "a body that waits for the item", f"{A_RUNS} / {C_RUNS}",
          "wait 1 a: true|false", "finish 0 a: ok", "finish 1 c: ok / destroy: ok"),
     Wake("finish_work", "two callers that destroy", A_RUNS, "destroy: ok / destroy: ok", "finish 0 a: ok", ""),
-    Wake("destroy", "the rescuers of both workqueues", "", "next 0: none / next 1: none", "destroy: ok", ""),
+    Wake("destroy", "the rescuers of two workqueues", "", "next 0: none / next 1: none", "destroy: ok", ""),
+    Wake("finish_work", "two callers that flush the workqueue", A_RUNS,
+         "flushwq 0: ok / flushwq 0: ok", "finish 0 a: ok", "destroy: ok", "made lane 0 toldlane yes 2"),
+    Wake("cancel_work", "two callers that flush the workqueue", "queue 0 b: true",
+         "flushwq 0: ok / flushwq 0: ok", "cancel b: true", "destroy: ok", "made lane 0 toldlane yes 2"),
+    Wake("cancel_work_sync", "two callers that flush the workqueue", "queue 0 b: true",
+         "flushwq 0: ok / flushwq 0: ok", "sync b: true", "destroy: ok", "made lane 0 toldlane yes 2"),
+    Wake("finish_work", "a body that waits for the whole workqueue", f"{A_RUNS} / {D_RUNS}",
+         "waitall 2 a: true|false", "finish 0 a: ok", "finish 2 d: ok / destroy: ok"),
+    Wake("cancel_work", "a body that waits for the whole workqueue", f"queue 0 b: true / {D_RUNS}",
+         "waitall 2 a: true|false", "cancel b: true", "finish 2 d: ok / destroy: ok"),
+    Wake("cancel_work_sync", "a body that waits for the whole workqueue", f"queue 0 b: true / {D_RUNS}",
+         "waitall 2 a: true|false", "sync b: true", "finish 2 d: ok / destroy: ok"),
 ]
 
 LOST = f"it didn't end within {SECONDS} s, so a wake-up is lost"

@@ -11,6 +11,7 @@ pub(crate) const CHECKS: &[Case] = &[
         texts: &[TWO, PLAN_OF_TWO],
         end: End::Good,
         answer: "yes 2\n",
+        said: "",
     },
     Case {
         name: "a plan of one workqueue",
@@ -18,6 +19,11 @@ pub(crate) const CHECKS: &[Case] = &[
         texts: &[TWO, "plan 1\nwq 0 a b\nchain 1\n"],
         end: End::Bad,
         answer: "no 50 a b\n",
+        said: "\
+c:2:6: `a` flushes `b`, so it should be on a higher workqueue [no 50, `wqplan explain 50`]
+    wq 0 a b
+         ^ `b` is on workqueue 0
+",
     },
     Case {
         name: "a chain that breaks",
@@ -28,6 +34,11 @@ pub(crate) const CHECKS: &[Case] = &[
         ],
         end: End::Bad,
         answer: "no 51 2\n",
+        said: "\
+c:7:5: `a` doesn't flush `b`, or isn't in the group of the target above [no 51, `wqplan explain 51`]
+    arc a b
+        ^
+",
     },
     Case {
         name: "a plan of an empty workqueue",
@@ -35,6 +46,11 @@ pub(crate) const CHECKS: &[Case] = &[
         texts: &["", "plan 1\nwq 0\nchain 1\n"],
         end: End::Bad,
         answer: "no 51 0\n",
+        said: "\
+c:3:7: no item is declared, so there is no chain [no 51, `wqplan explain 51`]
+    chain 1
+          ^
+",
     },
     Case {
         name: "a circle with its run",
@@ -42,6 +58,7 @@ pub(crate) const CHECKS: &[Case] = &[
         texts: &[ITSELF, CIRCLE],
         end: End::Good,
         answer: "yes circle 1\n",
+        said: "",
     },
     Case {
         name: "a circle with a run that goes on",
@@ -49,6 +66,11 @@ pub(crate) const CHECKS: &[Case] = &[
         texts: &[ITSELF, "circle 1\narc a a\nrun 2\nqueue a\nstart 0 a\n"],
         end: End::Bad,
         answer: "no 54\n",
+        said: "\
+c:3:5: these steps don't deadlock where each group has a workqueue of its own [no 54, `wqplan explain 54`]
+    run 2
+        ^
+",
     },
     // Nothing is taken for steps that are said and don't stand there.
     Case {
@@ -57,6 +79,9 @@ pub(crate) const CHECKS: &[Case] = &[
         texts: &[ITSELF, "circle 1\narc a a\nrun 4294967295\n"],
         end: End::Refused,
         answer: "refused 40 line 0\n",
+        said: "\
+c: expected a step, but the text ends [refused 40, `wqplan explain 40`]
+",
     },
     Case {
         name: "a certificate that is none",
@@ -64,6 +89,11 @@ pub(crate) const CHECKS: &[Case] = &[
         texts: &[TWO, "plan 2\nwq 0 b\nwq 1 a\nchain 2\nnope\n"],
         end: End::Refused,
         answer: "refused 40 line 5\n",
+        said: "\
+c:5:1: expected `arc NAME TARGET`, found `nope` [refused 40, `wqplan explain 40`]
+    nope
+    ^^^^
+",
     },
     // A declaration that is refused isn't answered before the certificate is read.
     Case {
@@ -72,5 +102,10 @@ pub(crate) const CHECKS: &[Case] = &[
         texts: &["nope\n", PLAN_OF_TWO],
         end: End::Refused,
         answer: "refused 4 line 1\n",
+        said: "\
+d:1:1: `nope` isn't a directive [refused 4, `wqplan explain 4`]
+    nope
+    ^^^^ a line begins with `item`, `flush`, `flushwq` or `ordered`
+",
     },
 ];

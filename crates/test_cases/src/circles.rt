@@ -11,6 +11,7 @@ pub(crate) const CIRCLES: &[Case] = &[
         texts: &[CHAIN, LANES],
         end: End::Bad,
         answer: "components 1\ncomponent 2\narc a b\narc b c\n",
+        said: "",
     },
     Case {
         name: "safe lanes without a circle",
@@ -18,6 +19,7 @@ pub(crate) const CIRCLES: &[Case] = &[
         texts: &[TWO, PLAN_OF_TWO],
         end: End::Good,
         answer: "safe\n",
+        said: "",
     },
     Case {
         name: "lanes of no item",
@@ -25,6 +27,9 @@ pub(crate) const CIRCLES: &[Case] = &[
         texts: &[TWO, "wq 0 a\n"],
         end: End::Refused,
         answer: "refused 41 line 0\n",
+        said: "\
+c: `b` is on no workqueue [refused 41, `wqplan explain 41`]
+",
     },
     Case {
         name: "circles of a declaration that is none",
@@ -32,6 +37,11 @@ pub(crate) const CIRCLES: &[Case] = &[
         texts: &["item\n", "nope\n"],
         end: End::Refused,
         answer: "refused 5 line 1\n",
+        said: "\
+d:1:5: a name is missing [refused 5, `wqplan explain 5`]
+    item
+        ^ the line should be `item NAME`
+",
     },
     Case {
         name: "groups that wait in a circle",
@@ -39,6 +49,7 @@ pub(crate) const CIRCLES: &[Case] = &[
         texts: &[GROUPED],
         end: End::Bad,
         answer: "components 1\ncomponent 2\narc a b\narc c d\n",
+        said: "",
     },
     Case {
         name: "two components",
@@ -46,6 +57,7 @@ pub(crate) const CIRCLES: &[Case] = &[
         texts: &["item a\nitem b\nitem c\nflush c c\nflush a b\nflush b a c\n"],
         end: End::Bad,
         answer: "components 2\ncomponent 2\narc a b\narc b a\ncomponent 1\narc c c\n",
+        said: "",
     },
     Case {
         name: "groups without a circle",
@@ -53,6 +65,7 @@ pub(crate) const CIRCLES: &[Case] = &[
         texts: &[CHAIN],
         end: End::Good,
         answer: "safe\n",
+        said: "",
     },
     Case {
         name: "circles of an item twice",
@@ -60,5 +73,10 @@ pub(crate) const CIRCLES: &[Case] = &[
         texts: &["item a\nitem a\n"],
         end: End::Refused,
         answer: "refused 7 line 2\n",
+        said: "\
+d:2:6: the item `a` is declared twice [refused 7, `wqplan explain 7`]
+    item a
+         ^ first on line 1
+",
     },
 ];

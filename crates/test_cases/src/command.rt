@@ -37,6 +37,15 @@ pub enum Command {
 }
 
 impl Command {
+    /// How many texts it has.
+    pub fn texts(self) -> usize {
+        match self {
+            Command::Plan | Command::OwnCircles | Command::OwnDot => 1,
+            Command::Check | Command::Deadlock | Command::Circles | Command::Dot => 2,
+            Command::Replay => 3,
+        }
+    }
+
     /// The words by which it is asked for.
     pub fn words(self) -> &'static str {
         match self {
@@ -52,13 +61,14 @@ impl Command {
     }
 }
 
-/// A command, its texts in turn, how it ends on them, and what it writes.
+/// A command, its texts in turn, how it ends on them, what it writes, and what it says then.
 pub struct Case {
     pub name: &'static str,
     pub command: Command,
     pub texts: &'static [&'static str],
     pub end: End,
     pub answer: &'static str,
+    pub said: &'static str,
 }
 
 impl Case {

@@ -13,6 +13,7 @@ pub(crate) const DEADLOCKS: &[Case] = &[
         texts: &[CHAIN, LANES],
         end: End::Bad,
         answer: HANGS,
+        said: "",
     },
     Case {
         name: "two lanes that hang",
@@ -20,6 +21,7 @@ pub(crate) const DEADLOCKS: &[Case] = &[
         texts: &[TWO_FLUSHES, CROSSED],
         end: End::Bad,
         answer: CROSSED_HANGS,
+        said: "",
     },
     Case {
         name: "safe lanes",
@@ -27,6 +29,7 @@ pub(crate) const DEADLOCKS: &[Case] = &[
         texts: &[CHAIN, "wq 0 b\nwq 1\nwq 2 a\nwq 3 c\n"],
         end: End::Good,
         answer: "safe\n",
+        said: "",
     },
     Case {
         name: "lanes of a plan",
@@ -34,6 +37,7 @@ pub(crate) const DEADLOCKS: &[Case] = &[
         texts: &[TWO, PLAN_OF_TWO],
         end: End::Good,
         answer: "safe\n",
+        said: "",
     },
     Case {
         name: "lanes without an item",
@@ -41,6 +45,9 @@ pub(crate) const DEADLOCKS: &[Case] = &[
         texts: &[TWO, "wq 0 a\n"],
         end: End::Refused,
         answer: "refused 41 line 0\n",
+        said: "\
+c: `b` is on no workqueue [refused 41, `wqplan explain 41`]
+",
     },
     Case {
         name: "a declaration and lanes that are none",
@@ -48,5 +55,10 @@ pub(crate) const DEADLOCKS: &[Case] = &[
         texts: &["item\n", "nope\n"],
         end: End::Refused,
         answer: "refused 5 line 1\n",
+        said: "\
+d:1:5: a name is missing [refused 5, `wqplan explain 5`]
+    item
+        ^ the line should be `item NAME`
+",
     },
 ];

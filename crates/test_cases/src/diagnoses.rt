@@ -31,7 +31,7 @@ pub enum Saying {
     OfTooMany,
     /// The command `check`, and what the program says of its answer.
     OfCheck,
-    /// `of_unlawful` of a run, where both items are on one workqueue.
+    /// `of_unlawful` of step 3 of a run, where both items are on one workqueue.
     OfUnlawful,
     /// `of_unread` of a file, whose name is the certificate.
     OfUnread,
@@ -390,7 +390,7 @@ pub fn say<A: Allocator + Copy>(alloc: A, case: &Said) -> Result<Option<Vec<u8, 
         Saying::OfNoItem => of_no_item(alloc, SEED, declaration),
         Saying::OfTooMany => Ok(Some(of_too_many(alloc, declaration)?)),
         Saying::OfCheck => say_of_check(alloc, declaration, certificate),
-        Saying::OfUnlawful => of_unlawful(alloc, SEED, text, b"wq 0 send log\n", certificate),
+        Saying::OfUnlawful => of_unlawful(alloc, SEED, text, b"wq 0 send log\n", certificate, 3),
         Saying::OfUnread => {
             let file = case.certificate;
             Ok(Some(of_unread(alloc, file, "no such file")?))

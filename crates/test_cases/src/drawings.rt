@@ -97,6 +97,7 @@ pub(crate) const DRAWINGS: &[Case] = &[
         texts: &[TWO],
         end: End::Good,
         answer: DRAWN_PLAN,
+        said: "",
     },
     Case {
         name: "a drawing of a circle of groups",
@@ -104,6 +105,7 @@ pub(crate) const DRAWINGS: &[Case] = &[
         texts: &[GROUPED],
         end: End::Good,
         answer: DRAWN_GROUPS,
+        said: "",
     },
     Case {
         name: "a drawing of a declaration that is none",
@@ -111,6 +113,11 @@ pub(crate) const DRAWINGS: &[Case] = &[
         texts: &["items a\n"],
         end: End::Refused,
         answer: "refused 4 line 1\n",
+        said: "\
+d:1:1: `items` isn't a directive [refused 4, `wqplan explain 4`]
+    items a
+    ^^^^^ did you mean `item`?
+",
     },
     Case {
         name: "a drawing of safe lanes",
@@ -118,6 +125,7 @@ pub(crate) const DRAWINGS: &[Case] = &[
         texts: &[TWO, "wq 0 b\nwq 1\nwq 2 a\n"],
         end: End::Good,
         answer: DRAWN_SAFE,
+        said: "",
     },
     Case {
         name: "a drawing of lanes that hang",
@@ -125,6 +133,7 @@ pub(crate) const DRAWINGS: &[Case] = &[
         texts: &[CHAIN, LANES],
         end: End::Good,
         answer: DRAWN_LANES,
+        said: "",
     },
     Case {
         name: "a drawing of lanes that are none",
@@ -132,5 +141,10 @@ pub(crate) const DRAWINGS: &[Case] = &[
         texts: &[TWO, "wq 1 a b\n"],
         end: End::Refused,
         answer: "refused 43 line 1\n",
+        said: "\
+c:1:4: expected `wq 0` [refused 43, `wqplan explain 43`]
+    wq 1 a b
+       ^ workqueues are numbered from 0, in order
+",
     },
 ];

@@ -17,13 +17,22 @@ impl Read for Endless {
     }
 }
 
+/// How a call fails.
+#[derive(Clone, Copy)]
+pub enum Failure {
+    /// With an error.
+    Error(ErrorKind),
+    /// It moves nothing. A writer has failed so; a reader has come to its end.
+    Nothing,
+}
+
 /// Moves at most this many bytes a call, and has one call fail after this many that succeed.
 #[derive(Drop)]
 pub struct Fake<D> {
     pub device: D,
     pub at_most: usize,
     pub successes: u32,
-    pub kind: ErrorKind,
+    pub failure: Failure,
 }
 
 impl<D> Fake<D> {
@@ -33,17 +42,17 @@ impl<D> Fake<D> {
             device,
             at_most,
             successes: u32::MAX,
-            kind: ErrorKind::Other,
+            failure: Failure::Nothing,
         }
     }
 
     /// Each call except the one that fails moves one byte.
-    pub fn failing_after(device: D, successes: u32, kind: ErrorKind) -> Fake<D> {
+    pub fn failing_after(device: D, successes: u32, failure: Failure) -> Fake<D> {
         Fake {
             device,
             at_most: 1,
             successes,
-            kind,
+            failure,
         }
     }
 
@@ -53,10 +62,12 @@ impl<D> Fake<D> {
     {
         let fails = self.successes == 0;
         self.successes = self.successes.wrapping_sub(1);
-        if fails {
-            Err(io::Error::from(self.kind))
-        } else {
-            Ok(self.at_most.min(bytes))
+        if !fails {
+            return Ok(self.at_most.min(bytes));
+        }
+        match self.failure {
+            Failure::Error(kind) => Err(io::Error::from(kind)),
+            Failure::Nothing => Ok(0),
         }
     }
 }

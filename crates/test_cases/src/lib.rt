@@ -23,7 +23,7 @@ mod runs;
 pub use command::{Case, Command, Readers, SEED, cases, perform};
 pub use declarations::TWO;
 pub use diagnoses::{Said, Saying, say, sayings};
-pub use fakes::{Endless, Fake};
+pub use fakes::{Endless, Failure, Fake};
 pub use largest::{LARGEST, LARGEST_LANES, LARGEST_ON_ONE};
 pub use refusing_heap::{Refusing, RefusingHeap};
 pub use runs::{RunCase, run_cases};

@@ -11,6 +11,7 @@ pub(crate) const PLANS: &[Case] = &[
         texts: &[TWO],
         end: End::Good,
         answer: PLAN_OF_TWO,
+        said: "",
     },
     Case {
         name: "a plan of groups",
@@ -18,6 +19,7 @@ pub(crate) const PLANS: &[Case] = &[
         texts: &["item a\nitem b\nitem c\nitem d\nordered b c\nflush a b\nflush c d\n"],
         end: End::Good,
         answer: "plan 3\nwq 0 d\nwq 1 b c\nwq 2 a\nchain 3\narc a b\narc c d\n",
+        said: "",
     },
     Case {
         name: "a plan of a chain and an item beside it",
@@ -25,6 +27,7 @@ pub(crate) const PLANS: &[Case] = &[
         texts: &[CHAIN_OF_FOUR],
         end: End::Good,
         answer: "plan 3\nwq 0 c d\nwq 1 b\nwq 2 a\nchain 3\narc a b\narc b c\n",
+        said: "",
     },
     Case {
         name: "no item",
@@ -32,6 +35,9 @@ pub(crate) const PLANS: &[Case] = &[
         texts: &[""],
         end: End::Good,
         answer: "plan 0\nchain 0\n",
+        said: "\
+d: note: no item is declared: is this the right file?
+",
     },
     Case {
         name: "a circle",
@@ -39,6 +45,7 @@ pub(crate) const PLANS: &[Case] = &[
         texts: &[ITSELF],
         end: End::Bad,
         answer: CIRCLE,
+        said: "",
     },
     Case {
         name: "a circle of two items",
@@ -46,6 +53,7 @@ pub(crate) const PLANS: &[Case] = &[
         texts: &[EACH_OTHER],
         end: End::Bad,
         answer: "circle 2\narc a b\narc b a\nrun 6\nqueue a\nqueue b\nstart 0 a\nwait 0 b\nstart 1 b\nwait 1 a\n",
+        said: "",
     },
     Case {
         name: "a circle of groups",
@@ -53,6 +61,7 @@ pub(crate) const PLANS: &[Case] = &[
         texts: &[GROUPED],
         end: End::Bad,
         answer: "circle 2\narc a b\narc c d\nrun 8\nqueue a\nqueue c\nqueue b\nqueue d\nstart 0 a\nwait 0 b\nstart 1 c\nwait 1 d\n",
+        said: "",
     },
     Case {
         name: "a circle within a group",
@@ -60,6 +69,7 @@ pub(crate) const PLANS: &[Case] = &[
         texts: &["item a\nitem b\nitem c\nordered c b\nflush a c\nflush c b\n"],
         end: End::Bad,
         answer: "circle 1\narc c b\nrun 7\nqueue c\nqueue a\nqueue b\nstart 0 a\nwait 0 c\nstart 1 c\nwait 1 b\n",
+        said: "",
     },
     Case {
         name: "a line that is none",
@@ -67,6 +77,11 @@ pub(crate) const PLANS: &[Case] = &[
         texts: &["item a\nitems b\n"],
         end: End::Refused,
         answer: "refused 4 line 2\n",
+        said: "\
+d:2:1: `items` isn't a directive [refused 4, `wqplan explain 4`]
+    items b
+    ^^^^^ did you mean `item`?
+",
     },
     Case {
         name: "an item twice",
@@ -74,6 +89,11 @@ pub(crate) const PLANS: &[Case] = &[
         texts: &["item a\nitem a\n"],
         end: End::Refused,
         answer: "refused 7 line 2\n",
+        said: "\
+d:2:6: the item `a` is declared twice [refused 7, `wqplan explain 7`]
+    item a
+         ^ first on line 1
+",
     },
     Case {
         name: "an item that isn't there",
@@ -81,6 +101,11 @@ pub(crate) const PLANS: &[Case] = &[
         texts: &["item a\nitem b\nflush a b\nflush b c\n"],
         end: End::Refused,
         answer: "refused 8 line 4\n",
+        said: "\
+d:4:9: no item `c` is declared above this line [refused 8, `wqplan explain 8`]
+    flush b c
+            ^ write `item c` above
+",
     },
     Case {
         name: "an item in two groups",
@@ -88,5 +113,10 @@ pub(crate) const PLANS: &[Case] = &[
         texts: &["item a\nitem b\nordered a b\nordered b\n"],
         end: End::Refused,
         answer: "refused 11 line 4\n",
+        said: "\
+d:4:9: `b` is on two `ordered` lines [refused 11, `wqplan explain 11`]
+    ordered b
+            ^ first on line 3
+",
     },
 ];

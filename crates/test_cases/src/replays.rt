@@ -11,6 +11,7 @@ pub(crate) const REPLAYS: &[Case] = &[
         texts: &[CHAIN, LANES, HANGS],
         end: End::Bad,
         answer: "deadlock\n",
+        said: "",
     },
     Case {
         name: "a run within a workqueue that hangs",
@@ -22,6 +23,7 @@ pub(crate) const REPLAYS: &[Case] = &[
         ],
         end: End::Bad,
         answer: "deadlock\n",
+        said: "",
     },
     Case {
         name: "a run that goes on",
@@ -29,6 +31,7 @@ pub(crate) const REPLAYS: &[Case] = &[
         texts: &[TWO, "wq 0 a b\n", "run 2\nqueue a\nstart 0 a\n"],
         end: End::Good,
         answer: "open\n",
+        said: "",
     },
     Case {
         name: "a step that isn't lawful",
@@ -36,6 +39,11 @@ pub(crate) const REPLAYS: &[Case] = &[
         texts: &[TWO, "wq 0 a b\n", "run 1\nstart 0 a\n"],
         end: End::Bad,
         answer: "not lawful 1\n",
+        said: "\
+r:2:9: nothing is pending on workqueue 0 [not lawful 1]
+    start 0 a
+            ^
+",
     },
     Case {
         name: "an assignment that is none",
@@ -43,6 +51,9 @@ pub(crate) const REPLAYS: &[Case] = &[
         texts: &[TWO, "wq 0 a\n", "run 0\n"],
         end: End::Refused,
         answer: "refused 41 line 0\n",
+        said: "\
+c: `b` is on no workqueue [refused 41, `wqplan explain 41`]
+",
     },
     Case {
         name: "a run of four thousand million steps",
@@ -50,6 +61,9 @@ pub(crate) const REPLAYS: &[Case] = &[
         texts: &[TWO, "wq 0 a b\n", "run 4294967295\n"],
         end: End::Refused,
         answer: "refused 40 line 0\n",
+        said: "\
+r: expected a step, but the text ends [refused 40, `wqplan explain 40`]
+",
     },
     Case {
         name: "a run that is none",
@@ -57,5 +71,10 @@ pub(crate) const REPLAYS: &[Case] = &[
         texts: &[TWO, "wq 0 a b\n", "run 1\nnope\n"],
         end: End::Refused,
         answer: "refused 40 line 2\n",
+        said: "\
+r:2:1: expected a step, found `nope` [refused 40, `wqplan explain 40`]
+    nope
+    ^^^^
+",
     },
 ];

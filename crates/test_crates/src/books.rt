@@ -9,7 +9,7 @@ use std::alloc::{Allocator, Global};
 use std::process::Abort;
 use std::test::Fail;
 use wq_groups::LaneId;
-use wq_history::{Ask, Asked, Book, BookError, Told, unpack};
+use wq_history::{Ask, Asked, Book, BookError, LaneAsk, LaneAsked, LaneTold, Told, unpack};
 use wq_items::ItemId;
 
 /// An item that flushes another, the first on lane 1 and the second on lane 0.
@@ -53,6 +53,130 @@ pub(crate) fn make_each_call<A: Allocator>(rt: &impl Abort, book: &mut Book<A>) 
     }
     book.close();
     assert!(rt; book.packed() == HISTORY.as_slice());
+}
+
+/// An item that waits for the whole lane of another. The first is on lane 1, the second and a third on lane 0.
+const WHOLE: &str = "item a\nitem b\nitem c\nflushwq a b\n";
+
+const WHOLE_LANES: &[u16] = &[1, 0, 0];
+
+/// The rows that `wait_for_a_lane` writes, packed.
+const WAITED: &[u8; 96] = &[
+    1, 1, 2, 0, 0, 0, 0, 0, 0, 0, 0, 0, // Queue c, yes, 0
+    1, 1, 0, 0, 0, 0, 0, 0, 1, 0, 0, 0, // Queue a, yes, 1
+    3, 1, 0, 0, 1, 0, 0, 0, 1, 0, 0, 0, // Start on lane 1 a, yes, 1
+    9, 1, 1, 0, 1, 0, 0, 0, 2, 0, 0, 0, // WaitAll on lane 1 for the lane of b, yes, 2
+    3, 1, 2, 0, 0, 0, 0, 0, 0, 0, 0, 0, // Start on lane 0 c, yes, 0
+    6, 1, 2, 0, 0, 0, 0, 0, 0, 0, 0, 0, // Finish on lane 0 c, yes, 0
+    10, 1, 1, 0, 1, 0, 0, 0, 2, 0, 0, 0, // OverAll on lane 1 for the lane of b, yes, 2
+    6, 1, 0, 0, 1, 0, 0, 0, 1, 0, 0, 0, // Finish on lane 1 a, yes, 1
+];
+
+/// The rows that `ask_about_a_lane` writes, packed.
+const ASKED: &[u8; 72] = &[
+    11, 0, 0, 0, 0, 0, 0, 0, 0, 0, 0, 0, // AskLane of lane 0, no, 0
+    1, 1, 2, 0, 0, 0, 0, 0, 0, 0, 0, 0, // Queue c, yes, 0
+    11, 1, 0, 0, 0, 0, 0, 0, 1, 0, 0, 0, // AskLane of lane 0, yes, 1
+    3, 1, 2, 0, 0, 0, 0, 0, 0, 0, 0, 0, // Start on lane 0 c, yes, 0
+    6, 1, 2, 0, 0, 0, 0, 0, 0, 0, 0, 0, // Finish on lane 0 c, yes, 0
+    12, 1, 0, 0, 0, 0, 0, 0, 1, 0, 0, 0, // ToldLane of lane 0, yes, 1
+];
+
+/// Makes an execution wait for the whole lane of b, on which only c is pending, in a book with 8 rows.
+fn wait_for_a_lane(rt: &impl Abort, book: &mut Book<Global>) {
+    let (a, b, c) = (ItemId::new(0), ItemId::new(1), ItemId::new(2));
+    let (low, high) = (LaneId::new(0), LaneId::new(1));
+    assert!(rt; book.queue(c) == Ok(true) && book.queue(a) == Ok(true) && book.free_rows() == 0);
+    assert!(rt; book.start(high) == Ok(Some(a)));
+    assert!(rt; book.wait(high, b) == Err(BookError::Undeclared));
+    assert!(rt; book.wait_all(high, b) == Ok(true));
+    assert!(rt; book.waiting(high).is_none() && book.waiting_all(high) == Some(b));
+    assert!(rt; book.over(high) == Ok(false));
+    assert!(rt; book.start(low) == Ok(Some(c)) && book.finish(low).is_ok());
+    assert!(rt; book.over(high) == Ok(true) && book.waiting_all(high).is_none());
+    assert!(rt; book.finish(high).is_ok());
+    assert!(rt; book.packed() == WAITED.as_slice());
+}
+
+/// The ask about a lane that is waiting.
+fn lane_waits(rt: &impl Abort, answer: Result<LaneAsk, BookError>) -> LaneAsked {
+    match answer {
+        Ok(LaneAsk::Waiting(asked)) => asked,
+        Ok(LaneAsk::Idle) | Err(_) => panic!(rt; "no ask waits"),
+    }
+}
+
+/// Whether no entry of a lane is unfinished; or why the ask is refused.
+fn lane_is_idle(answer: Result<LaneAsk, BookError>) -> Result<bool, BookError> {
+    match answer {
+        Ok(LaneAsk::Idle) => Ok(true),
+        Ok(LaneAsk::Waiting(asked)) => {
+            asked.give_up();
+            Ok(false)
+        }
+        Err(why) => Err(why),
+    }
+}
+
+/// The ask that goes on, since its lane isn't done.
+fn not_yet(rt: &impl Abort, told: LaneTold) -> LaneAsked {
+    match told {
+        LaneTold::NotYet(asked) => asked,
+        LaneTold::NotAsked(asked) => {
+            asked.give_up();
+            panic!(rt; "no ask waits")
+        }
+        LaneTold::Done => panic!(rt; "the wait is over"),
+    }
+}
+
+/// Whether the wait is over.
+fn is_done(told: LaneTold) -> bool {
+    match told {
+        LaneTold::Done => true,
+        LaneTold::NotYet(asked) | LaneTold::NotAsked(asked) => {
+            asked.give_up();
+            false
+        }
+    }
+}
+
+/// Makes a caller wait for lane 0, on which only c is pending, in a book with 6 rows.
+fn ask_about_a_lane(rt: &impl Abort, book: &mut Book<Global>) {
+    let (c, q) = (ItemId::new(2), LaneId::new(0));
+    assert!(rt; lane_is_idle(book.ask_lane(LaneId::new(2))) == Err(BookError::WrongLane));
+    assert!(rt; lane_is_idle(book.ask_lane(q)) == Ok(true));
+    assert!(rt; book.queue(c) == Ok(true));
+    let asked = lane_waits(rt, book.ask_lane(q));
+    let mark = asked.mark();
+    let free = book.free_rows();
+    let asked = not_yet(rt, book.told_lane(asked));
+    let started = book.start(q);
+    let finished = book.finish(q);
+    let done = is_done(book.told_lane(asked));
+    assert!(rt; mark == 1 && free == 0);
+    assert!(rt; started == Ok(Some(c)) && finished.is_ok() && done);
+    assert!(rt; book.packed() == ASKED.as_slice());
+}
+
+/// A book of the item that waits for a whole lane, with room for this many rows.
+fn whole_book(alloc: Global, rows: u32) -> Result<Book<Global>, Fail> {
+    let core = core_in(alloc, alloc, WHOLE, 2, WHOLE_LANES)??;
+    Ok(Book::new(alloc, core, rows)?)
+}
+
+#[test]
+fn an_execution_waits_for_a_whole_lane(rt: HostRuntime) -> Result<(), Fail> {
+    let mut book = whole_book(rt.alloc(), 8)?;
+    wait_for_a_lane(&rt, &mut book);
+    Ok(())
+}
+
+#[test]
+fn a_caller_waits_for_a_whole_lane(rt: HostRuntime) -> Result<(), Fail> {
+    let mut book = whole_book(rt.alloc(), 6)?;
+    ask_about_a_lane(&rt, &mut book);
+    Ok(())
 }
 
 /// The book of a declaration and of the lane of each group, with room for 9 rows.

@@ -4,18 +4,22 @@
 
 use linked_list_allocator::LocalHeap;
 use std::alloc::{AllocError, Global};
-use std::io;
 use std::process::Abort;
 use std::test::Fail;
 use test_cases::{Case, Readers, cases, perform};
 use wq_commands::{End, Fault, Metered};
 
-/// How a run with a heap of this many bytes ends, what it writes, and how many bytes of the heap it leaves in use.
-fn run_in(
-    alloc: Global,
-    size: usize,
-    case: &Case,
-) -> Result<(Result<End, Fault>, Vec<u8>, usize), AllocError> {
+/// How a run ended, what it wrote and said, and how many bytes of its heap it left in use.
+#[derive(Drop)]
+struct Ran {
+    end: Result<End, Fault>,
+    written: Vec<u8>,
+    said: Vec<u8>,
+    left: usize,
+}
+
+/// Runs a case with a heap of this many bytes. What is written and said is of another one.
+fn run_in(alloc: Global, size: usize, case: &Case) -> Result<Ran, AllocError> {
     let heap = LocalHeap::new(alloc, size)?;
     let mut readers = Readers {
         first: Metered::new(case.text(0)),
@@ -23,36 +27,58 @@ fn run_in(
         third: Metered::new(case.text(2)),
     };
     let mut writer = Metered::new(Vec::new(alloc));
-    let end = perform(
-        &heap,
-        case.command,
-        &mut readers,
-        &mut writer,
-        &mut Metered::new(io::sink()),
-    );
-    Ok((end, writer.into_inner(), heap.used()))
+    let mut teller = Metered::new(Vec::new(alloc));
+    let end = perform(&heap, case.command, &mut readers, &mut writer, &mut teller);
+    Ok(Ran {
+        end,
+        written: writer.into_inner(),
+        said: teller.into_inner(),
+        left: heap.used(),
+    })
 }
 
-/// Asserts that a run leaves no memory in use, runs out of memory up to some size of the heap, and answers from there on.
+/// What a run with some heap came to.
+#[derive(Clone, Copy, PartialEq, Eq)]
+enum Reached {
+    /// Memory ran out, and nothing was written or said.
+    Nothing,
+    /// The answer was written.
+    Answer,
+    /// The answer was written, and what there was to be said was said.
+    Saying,
+}
+
+/// What a run came to, if it ended as it may.
+fn judged(ran: &Ran, case: &Case) -> Option<Reached> {
+    let said = ran.said.as_slice();
+    let is_answered = ran.end == Ok(case.end) && ran.written.as_slice() == case.answer.as_bytes();
+    if ran.end == Err(Fault::Memory) && ran.written.is_empty() && said.is_empty() {
+        Some(Reached::Nothing)
+    } else if is_answered && said == case.said.as_bytes() {
+        Some(Reached::Saying)
+    } else if is_answered && said.is_empty() {
+        Some(Reached::Answer)
+    } else {
+        None
+    }
+}
+
+/// Asserts that a run leaves no memory in use, runs out of memory up to some size of the heap, answers from there on, and says what
+/// there is to be said where the heap is large enough.
 fn assert_sizes(rt: &impl Abort, alloc: Global, case: &Case) -> Result<(), AllocError> {
     let name = case.name;
     let mut refused = false;
-    let mut answered = false;
+    let mut last = Reached::Nothing;
     for size in (0..16384usize).step_by(16) {
-        let (end, written, left) = run_in(alloc, size, case)?;
-        if end == Err(Fault::Memory) {
-            assert!(rt; !answered && written.is_empty(), "{name}");
-            refused = true;
-        } else {
-            assert!(rt;
-                end == Ok(case.end) && written.as_slice() == case.answer.as_bytes(),
-                "{name}"
-            );
-            answered = true;
-        }
-        assert!(rt; left == 0, "{name}");
+        let ran = run_in(alloc, size, case)?;
+        let reached = judged(&ran, case).expect(rt, "a run ends as it may");
+        let is_refused = reached == Reached::Nothing;
+        assert!(rt; ran.left == 0, "{name}");
+        assert!(rt; last == Reached::Nothing || !is_refused, "{name}");
+        refused |= is_refused;
+        last = reached;
     }
-    assert!(rt; refused && answered, "{name}");
+    assert!(rt; refused && last == Reached::Saying, "{name}");
     Ok(())
 }
 

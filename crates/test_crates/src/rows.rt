@@ -10,6 +10,15 @@ use wq_history::{Event, Row, Rows, pack, unpack};
 use wq_items::ItemId;
 use wq_rows::History;
 
+/// A wait on lane 1 for the whole lane of item 1, and an ask about lane 0.
+const OF_LANES: &[u8; 24] = &[
+    9, 1, 1, 0, 1, 0, 0, 0, 2, 0, 0, 0, // WaitAll on lane 1 for the lane of item 1, yes, 2
+    11, 1, 0, 0, 0, 0, 0, 0, 1, 0, 0, 0, // AskLane of lane 0, yes, 1
+];
+
+/// The row of an ask about a lane, but with an item, which it hasn't.
+const NO_ROW: &[u8; 12] = &[11, 1, 1, 0, 0, 0, 0, 0, 1, 0, 0, 0];
+
 /// A wait on lane 1 for item 1, and a row whose numbers have bytes that differ. The least significant byte comes first.
 const PACKED: &[u8; 24] = &[
     4, 0, 1, 0, 1, 0, 0, 0, 1, 0, 0, 0, // Wait on lane 1 for item 1, no, 1
@@ -39,5 +48,19 @@ fn rows_are_packed_and_read_again(rt: HostRuntime) -> Result<(), Fail> {
     assert!(rt; rows.len() == 2 && Rows::of(&packed[..23]).is_none());
     assert!(rt; rows.next() == Some(waited) && rows.next() == Some(told) && rows.next().is_none());
     assert!(rt; history.rows().next() == Some(waited));
+    Ok(())
+}
+
+#[test]
+fn rows_of_whole_lanes_are_packed_and_read_again(rt: HostRuntime) -> Result<(), Fail> {
+    let waited = row(Event::WaitAll(LaneId::new(1), ItemId::new(1)), true, 2);
+    let asked = row(Event::AskLane(LaneId::new(0)), true, 1);
+    let packed = OF_LANES.as_slice();
+    let mut history = History::new(rt.alloc(), 2)?;
+    history.push(&waited);
+    history.push(&asked);
+    assert!(rt; history.packed() == packed);
+    assert!(rt; unpack(&packed[..12]) == Some(waited) && unpack(&packed[12..]) == Some(asked));
+    assert!(rt; unpack(NO_ROW.as_slice()).is_none());
     Ok(())
 }

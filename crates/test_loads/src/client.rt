@@ -98,8 +98,8 @@ impl<'c> Client<'c> {
         Ok(())
     }
 
-    /// Makes a call at random, of an item at random, which may be pending, run or be idle. An item is mostly queued on its lane, and
-    /// now and then on any, or on one that doesn't exist.
+    /// Makes a call at random, of an item or a lane at random, which may be pending, run or be idle. An item is mostly queued on its
+    /// lane, and now and then on any, or on one that doesn't exist.
     fn call_any<N: Naming, A: Allocator, R: Wait>(
         &mut self,
         rt: &R,
@@ -113,14 +113,19 @@ impl<'c> Client<'c> {
                 (Call::Queue, runtime.queue_work(rt, seat, q, item))
             }
             1..=7 => (Call::Queue, queue(rt, runtime, seat, item)),
-            8..=10 => (Call::Cancel, runtime.cancel_work(rt, seat, item)),
-            11..=13 => (Call::Flush, runtime.flush_work(rt, seat, item)),
+            8..=9 => (Call::Cancel, runtime.cancel_work(rt, seat, item)),
+            10..=11 => (Call::Flush, runtime.flush_work(rt, seat, item)),
+            12..=13 => {
+                let q = self.random.any_lane(self.lanes);
+                let flushed = runtime.flush_workqueue(rt, seat, q);
+                (Call::FlushLane, flushed.and(Ok(true)))
+            }
             _ => (Call::CancelSync, runtime.cancel_work_sync(rt, seat, item)),
         };
         self.tally.note(call, answer);
     }
 
-    /// Destroys the runtime, and then queues an item and flushes all.
+    /// Destroys the runtime, and then queues an item, and flushes all items and all lanes.
     fn destroy<N: Naming, A: Allocator, R: Wait>(
         &mut self,
         rt: &R,
@@ -133,6 +138,10 @@ impl<'c> Client<'c> {
         for item in 0..self.items {
             let flushed = runtime.flush_work(rt, seat, ItemId::new(item));
             self.late.note(Call::Flush, flushed);
+        }
+        for q in 0..self.lanes {
+            let flushed = runtime.flush_workqueue(rt, seat, LaneId::new(q));
+            self.late.note(Call::FlushLane, flushed.and(Ok(true)));
         }
     }
 

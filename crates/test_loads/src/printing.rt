@@ -7,6 +7,7 @@ use std::alloc::{AllocError, Global};
 use std::time::Duration;
 use test_sessions::testbed::{fault, kind_word, put_done, put_item, put_made, put_rows};
 use wq_api::{CallError, Closed, Kind, Naming, Seat, WqRuntime};
+use wq_groups::LaneId;
 use wq_items::{ItemId, ItemTable};
 use wq_rescuer::{Body, Caller, Ran, Rescued, RunFault};
 
@@ -80,15 +81,41 @@ fn put_seat<N: Naming>(
     Ok(())
 }
 
-/// Prints what each seat counted.
+/// Prints what a seat counted of a lane.
+fn put_seat_of_lane<N: Naming>(
+    out: &mut String,
+    number: usize,
+    seat: &Seat<N, Global>,
+    q: LaneId,
+) -> Result<(), AllocError> {
+    let (yes, no) = (seat.asked_lane(q, true), seat.asked_lane(q, false));
+    if yes != 0 || no != 0 {
+        writeln!(
+            out,
+            "seat {number} made lane {} asklane {yes} {no}",
+            q.get()
+        )?;
+    }
+    let told = seat.told_lane(q);
+    if told != 0 {
+        writeln!(out, "seat {number} made lane {} toldlane {told} 0", q.get())?;
+    }
+    Ok(())
+}
+
+/// Prints what each seat counted, of each item and of each of so many lanes.
 fn put_seats<N: Naming>(
     out: &mut String,
     table: &ItemTable<'_, Global>,
+    lanes: usize,
     seats: &[Seat<N, Global>],
 ) -> Result<(), AllocError> {
     for (number, seat) in seats.iter().enumerate() {
         for i in 0..table.len() {
             put_seat(out, table, number, seat, ItemId::new(i))?;
+        }
+        for q in 0..u16::try_from(lanes).unwrap_or(u16::MAX) {
+            put_seat_of_lane(out, number, seat, LaneId::new(q))?;
         }
     }
     Ok(())
@@ -102,7 +129,7 @@ fn put_closed<N: Naming>(
     closed: &Closed<N, Global>,
 ) -> Result<u8, AllocError> {
     writeln!(out, "agree {}", closed.agree)?;
-    put_made(out, table, &closed.counts)?;
+    put_made(out, table, closed.book.lanes(), &closed.counts)?;
     writeln!(out, "idle {}", closed.book.is_idle())?;
     writeln!(out, "free {}", closed.book.free_rows())?;
     if load.task == Task::Stress {
@@ -140,7 +167,7 @@ fn put_left<N: Naming>(
     put_results(out, &ran.results)?;
     if load.task == Task::Stress {
         put_answers(out, &ran.bodies, &ran.callers)?;
-        put_seats(out, table, &ran.seats)?;
+        put_seats(out, table, ran.rescued.len(), &ran.seats)?;
     }
     Ok(())
 }

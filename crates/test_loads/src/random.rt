@@ -4,6 +4,7 @@ ghost use Rattle.std.specs.Prelude.{◌<◌};
 
 use rand_core::{Rng, SeedableRng};
 use rand_xoshiro::SplitMix64;
+use wq_groups::LaneId;
 use wq_items::{ItemId, Target};
 
 /// A generator.
@@ -46,11 +47,22 @@ impl Random {
         self.item(items)
     }
 
-    /// The item of one of these targets, now and then one that doesn't exist.
-    pub(crate) fn any_target(&mut self, targets: &[Target]) -> ItemId {
-        if targets.is_empty() || self.below(16) == 0 {
-            return ItemId::new(u16::MAX);
+    /// A lane, now and then one that doesn't exist. There are this many lanes.
+    pub(crate) fn any_lane(&mut self, lanes: u16) -> LaneId {
+        if lanes == 0 || self.below(64) == 0 {
+            return LaneId::new(lanes);
         }
-        targets[self.below(targets.len())].item
+        LaneId::new(self.below(usize::from(lanes)) as u16)
+    }
+
+    /// The item of one of these targets and whether its whole lane is waited for; now and then an item that doesn't exist, or the
+    /// other kind.
+    pub(crate) fn any_target(&mut self, targets: &[Target]) -> (ItemId, bool) {
+        if targets.is_empty() || self.below(16) == 0 {
+            return (ItemId::new(u16::MAX), self.below(2) == 0);
+        }
+        let target = &targets[self.below(targets.len())];
+        let is_other = self.below(16) == 0;
+        (target.item, target.whole != is_other)
     }
 }

@@ -51,7 +51,8 @@ impl<'t, 'a> Server<'t, 'a> {
     }
 }
 
-/// Makes a call at random, or none: it waits for a target, or for what the item doesn't declare, or queues or cancels an item.
+/// Makes a call at random, or none: it waits for a target or for its whole lane, or for what the item doesn't declare, or queues or
+/// cancels an item.
 fn call_any<N: Naming, A: Allocator, R: Wait>(
     rt: &R,
     items: u16,
@@ -64,7 +65,10 @@ fn call_any<N: Naming, A: Allocator, R: Wait>(
     ensures same_seat { work.new.seat.ghost_name ≡ work.old.seat.ghost_name }
 {
     let (call, answer) = match random.below(16) {
-        0..=9 => (Call::Wait, work.flush(rt, random.any_target(targets))),
+        0..=9 => match random.any_target(targets) {
+            (item, false) => (Call::Wait, work.flush(rt, item)),
+            (item, true) => (Call::WaitAll, work.flush_wq(rt, item)),
+        },
         10 => (Call::Queue, work.queue(rt, random.any_item(items))),
         11 => (Call::Cancel, work.cancel(rt, random.any_item(items))),
         _ => return,

@@ -11,23 +11,27 @@ pub(crate) enum Call {
     Flush,
     CancelSync,
     Wait,
+    FlushLane,
+    WaitAll,
 }
 
 /// The words for the calls, in their order.
-const WORDS: [&'static str; 5] = ["queue", "cancel", "flush", "sync", "wait"];
+const WORDS: [&'static str; 7] = [
+    "queue", "cancel", "flush", "sync", "wait", "flushwq", "waitall",
+];
 
 /// How often a thread was answered what.
 #[derive(Drop)]
 pub(crate) struct Tally {
     /// For each call: how often it was answered yes, how often no, and how often it was refused with each number from 60 to 66.
-    answers: [[u32; 9]; 5],
+    answers: [[u32; 9]; 7],
 }
 
 impl Tally {
     /// No answer.
     pub(crate) fn new() -> Self {
         Tally {
-            answers: [[0; 9]; 5],
+            answers: [[0; 9]; 7],
         }
     }
 

@@ -13,7 +13,9 @@ pub(crate) enum Counted {
     Cancel(ItemId),
     Flush(ItemId),
     CancelSync(ItemId),
+    FlushLane(LaneId),
     Wait(LaneId, ItemId),
+    WaitAll(LaneId, ItemId),
     Finish(LaneId, ItemId),
 }
 
@@ -29,6 +31,8 @@ pub(crate) enum Call {
     Use(u32),
     /// What the seat that is in use has counted of an item.
     Tell(ItemId),
+    /// What the seat that is in use has counted of a lane.
+    TellLane(LaneId),
     Next(LaneId),
     Lanes,
     Lane(ItemId),
@@ -54,7 +58,9 @@ fn call_of(table: &ItemTable<'_, Global>, word: &[u8], what: &[u8]) -> Option<Ca
         b"flush" => Call::Counted(Counted::Flush(item_of(table, what))),
         b"sync" => Call::Counted(Counted::CancelSync(item_of(table, what))),
         b"lane" => Call::Lane(item_of(table, what)),
+        b"flushwq" => Call::Counted(Counted::FlushLane(lane_of(what)?)),
         b"counted" => Call::Tell(item_of(table, what)),
+        b"countedlane" => Call::TellLane(lane_of(what)?),
         b"next" => Call::Next(lane_of(what)?),
         b"seats" => Call::Seats(number(what)?),
         b"use" => Call::Use(number(what)?),
@@ -69,6 +75,7 @@ fn call_on_lane(word: &[u8], q: LaneId, item: ItemId) -> Option<Call> {
     let call = match word {
         b"queue" => Counted::Queue(q, item),
         b"wait" => Counted::Wait(q, item),
+        b"waitall" => Counted::WaitAll(q, item),
         b"finish" => Counted::Finish(q, item),
         _ => return None,
     };

@@ -2,14 +2,15 @@
 //! each lane.
 
 use crate::asks::{ask, give_up_all, tell};
+use crate::lane_asks;
 use crate::lines::{Listener, tell_text};
 use crate::testbed::{
-    Bed, item_of, lane_of, mistake, put_code, put_item, put_item_or_none, put_rows,
+    Bed, item_of, lane_of, mistake, put_code, put_item, put_item_or_none, put_rows, put_waiting,
 };
 use std::alloc::{AllocError, Global};
 use wq_core::Core;
 use wq_groups::LaneId;
-use wq_history::{Asked, Book, BookError};
+use wq_history::{Asked, Book, BookError, LaneAsked};
 use wq_items::{ItemId, ItemTable};
 use wq_text::{Words, number};
 
@@ -19,10 +20,14 @@ enum Call {
     Queue(ItemId),
     Cancel(ItemId),
     Ask(ItemId),
-    /// Hands in the ask with this number.
+    /// Hands in the ask about an item with this number.
     Tell(u32),
+    AskLane(LaneId),
+    /// Hands in the ask about a lane with this number.
+    TellLane(u32),
     Start(LaneId),
     Wait(LaneId, ItemId),
+    WaitAll(LaneId, ItemId),
     Over(LaneId),
     Finish(LaneId),
     Close,
@@ -35,6 +40,8 @@ fn call_of(table: &ItemTable<'_, Global>, word: &[u8], what: &[u8]) -> Option<Ca
         b"cancel" => Call::Cancel(item_of(table, what)),
         b"ask" => Call::Ask(item_of(table, what)),
         b"told" => Call::Tell(number(what)?),
+        b"asklane" => Call::AskLane(lane_of(what)?),
+        b"toldlane" => Call::TellLane(number(what)?),
         b"start" => Call::Start(lane_of(what)?),
         b"over" => Call::Over(lane_of(what)?),
         b"finish" => Call::Finish(lane_of(what)?),
@@ -43,19 +50,28 @@ fn call_of(table: &ItemTable<'_, Global>, word: &[u8], what: &[u8]) -> Option<Ca
     Some(call)
 }
 
+/// The wait that this word asks for, of what runs on a lane, for an item.
+fn wait_on(word: &[u8], q: LaneId, item: ItemId) -> Option<Call> {
+    match word {
+        b"wait" => Some(Call::Wait(q, item)),
+        b"waitall" => Some(Call::WaitAll(q, item)),
+        _ => None,
+    }
+}
+
 /// The call that a line asks for by its first word and the words after it; none where it has the form of no call.
 fn read_call(table: &ItemTable<'_, Global>, word: &[u8], mut words: Words<'_>) -> Option<Call> {
     match (words.next(), words.next(), words.next()) {
         (None, _, _) if word == b"close".as_slice() => Some(Call::Close),
         (Some(what), None, _) => call_of(table, word, what.bytes()),
-        (Some(q), Some(name), None) if word == b"wait".as_slice() => {
-            Some(Call::Wait(lane_of(q.bytes())?, item_of(table, name.bytes())))
+        (Some(q), Some(name), None) => {
+            wait_on(word, lane_of(q.bytes())?, item_of(table, name.bytes()))
         }
         _ => None,
     }
 }
 
-/// Adds the answer of `queue`, `cancel`, `wait` or `over`.
+/// Adds the answer of `queue`, `cancel`, a wait or `over`.
 fn put_said(out: &mut String, said: Result<bool, BookError>) -> Result<(), AllocError> {
     match said {
         Ok(said) => write!(out, "{said}"),
@@ -94,10 +110,11 @@ fn put_state(
     let door = if book.is_closed() { "closed" } else { "open" };
     write!(out, " free {} {entries} {door}", book.free_rows())?;
     for q in 0..u16::try_from(book.lanes()).unwrap_or(u16::MAX) {
+        let q = LaneId::new(q);
         out.push(' ')?;
-        put_item_or_none(out, table, book.running(LaneId::new(q)))?;
+        put_item_or_none(out, table, book.running(q))?;
         out.push(' ')?;
-        put_item_or_none(out, table, book.waiting(LaneId::new(q)))?;
+        put_waiting(out, table, book.waiting(q), book.waiting_all(q))?;
     }
     out.push('\n')
 }
@@ -106,6 +123,7 @@ fn put_state(
 struct Desk {
     book: Book<Global>,
     asks: Vec<Option<Asked>>,
+    lane_asks: Vec<Option<LaneAsked>>,
 }
 
 impl Desk {
@@ -122,8 +140,13 @@ impl Desk {
             Call::Cancel(item) => put_said(out, book.cancel(item)),
             Call::Ask(item) => ask(book, &mut self.asks, item, out),
             Call::Tell(number) => return tell(book, &mut self.asks, number, out),
+            Call::AskLane(q) => lane_asks::ask(book, &mut self.lane_asks, q, out),
+            Call::TellLane(number) => {
+                return lane_asks::tell(book, &mut self.lane_asks, number, out);
+            }
             Call::Start(q) => put_started(out, table, book.start(q)),
             Call::Wait(q, item) => put_said(out, book.wait(q, item)),
+            Call::WaitAll(q, item) => put_said(out, book.wait_all(q, item)),
             Call::Over(q) => put_said(out, book.over(q)),
             Call::Finish(q) => put_finished(out, book.finish(q)),
             Call::Close => {
@@ -136,8 +159,13 @@ impl Desk {
 
     /// Gives up the asks that are left, and hands the book back.
     fn end(self) -> Book<Global> {
-        let Desk { book, asks } = self;
+        let Desk {
+            book,
+            asks,
+            lane_asks,
+        } = self;
         give_up_all(asks);
+        lane_asks::give_up_all(lane_asks);
         book
     }
 }
@@ -187,6 +215,7 @@ fn call_book(
     let mut desk = Desk {
         book,
         asks: Vec::new(alloc),
+        lane_asks: Vec::new(alloc),
     };
     let told = tell_text(&mut desk, table, text, out);
     let book = desk.end();

@@ -1,8 +1,9 @@
 //! What bodies and callers are to do, line by line of a text. A line takes constant time, and that of finding its item.
 
 use crate::lines::Listener;
-use crate::testbed::item_of;
+use crate::testbed::{item_of, lane_of};
 use std::alloc::{AllocError, Global};
+use wq_groups::LaneId;
 use wq_items::{ItemId, ItemTable};
 use wq_script::Act;
 use wq_text::{Words, number};
@@ -15,12 +16,20 @@ pub(crate) enum Deed {
     Cancel(ItemId),
     /// A body skips this.
     CancelSync(ItemId),
+    /// A body waits for the whole lane of this item. A caller skips this.
+    FlushAll(ItemId),
+    /// A caller flushes this lane. A body skips this.
+    FlushLane(LaneId),
     /// A body gives up with this code. A caller skips this.
     GiveUp(u32),
     /// Says that it is here, and looks for all others.
     Meet,
     /// Looks for the end, and goes on for a while.
     Linger,
+    /// Goes on for a while, and counts itself among those that did.
+    Dawdle,
+    /// Sees whether so many have dawdled.
+    Seen(u32),
     /// A caller says that the end has come, destroys the runtime, and looks whether those that lingered have ended. A body skips
     /// this.
     Destroy,
@@ -44,6 +53,7 @@ fn entry_alone(word: &[u8]) -> Option<Entry> {
         b"caller" => Some(Entry::Caller),
         b"meet" => Some(Entry::Deed(Deed::Meet)),
         b"linger" => Some(Entry::Deed(Deed::Linger)),
+        b"dawdle" => Some(Entry::Deed(Deed::Dawdle)),
         b"destroy" => Some(Entry::Deed(Deed::Destroy)),
         _ => None,
     }
@@ -56,7 +66,10 @@ fn deed_of(table: &ItemTable<'_, Global>, word: &[u8], what: &[u8]) -> Option<De
         b"flush" => Deed::Flush(item_of(table, what)),
         b"cancel" => Deed::Cancel(item_of(table, what)),
         b"sync" => Deed::CancelSync(item_of(table, what)),
+        b"flush_wq" => Deed::FlushAll(item_of(table, what)),
+        b"flushwq" => Deed::FlushLane(lane_of(what)?),
         b"fail" => Deed::GiveUp(number(what)?),
+        b"seen" => Deed::Seen(number(what)?),
         _ => return None,
     };
     Some(deed)
@@ -156,7 +169,9 @@ fn act_of(deed: Deed) -> Option<Act> {
         Deed::Flush(item) => Some(Act::Flush(item)),
         Deed::Cancel(item) => Some(Act::Cancel(item)),
         Deed::CancelSync(item) => Some(Act::CancelSync(item)),
-        Deed::GiveUp(_) | Deed::Meet | Deed::Linger | Deed::Destroy => None,
+        Deed::FlushLane(q) => Some(Act::FlushLane(q)),
+        Deed::FlushAll(_) | Deed::GiveUp(_) => None,
+        Deed::Meet | Deed::Linger | Deed::Dawdle | Deed::Seen(_) | Deed::Destroy => None,
     }
 }
 

@@ -65,12 +65,15 @@ fn do_in_body<N: Naming, A: Allocator, R: Wait>(
 {
     let answer = match deed {
         Deed::Flush(item) => work.flush(rt, item),
+        Deed::FlushAll(item) => work.flush_wq(rt, item),
         Deed::Queue(item) => work.queue(rt, item),
         Deed::Cancel(item) => work.cancel(rt, item),
-        Deed::CancelSync(_) | Deed::Destroy => return Ok(true),
+        Deed::CancelSync(_) | Deed::FlushLane(_) | Deed::Destroy => return Ok(true),
         Deed::GiveUp(code) => return Err(BodyFault { code }),
         Deed::Meet => return Ok(flags.meet(number)),
         Deed::Linger => return Ok(flags.linger()),
+        Deed::Dawdle => return Ok(flags.dawdle()),
+        Deed::Seen(count) => return Ok(flags.have_dawdled(count)),
     };
     match answer {
         Ok(_) => Ok(true),
@@ -161,9 +164,12 @@ fn do_in_caller<N: Naming, A: Allocator, R: Wait>(
         Deed::Queue(item) => queue(rt, runtime, seat, item),
         Deed::Cancel(item) => runtime.cancel_work(rt, seat, item),
         Deed::CancelSync(item) => runtime.cancel_work_sync(rt, seat, item),
-        Deed::GiveUp(_) => return Ok(true),
+        Deed::FlushLane(q) => runtime.flush_workqueue(rt, seat, q).and(Ok(true)),
+        Deed::FlushAll(_) | Deed::GiveUp(_) => return Ok(true),
         Deed::Meet => return Ok(flags.meet(number)),
         Deed::Linger => return Ok(flags.linger()),
+        Deed::Dawdle => return Ok(flags.dawdle()),
+        Deed::Seen(count) => return Ok(flags.have_dawdled(count)),
         Deed::Destroy => {
             flags.end();
             runtime.destroy(rt);

@@ -3,7 +3,7 @@
 ghost use Rattle.std.specs.Prelude.{◌≡◌, ◌≤◌, ◌*◌, length};
 ghost use Rattle.wq_core.specs.State.{empty_state};
 
-use crate::testbed::{Bed, put_item_or_none};
+use crate::testbed::{Bed, put_item_or_none, put_waiting};
 use hex::FromHexError;
 use std::alloc::{AllocError, Global};
 use wq_core::Core;
@@ -43,8 +43,12 @@ fn put_lane(
     let running = core.running_on(q);
     put_item_or_none(out, table, running.map(|r| r.entry.item))?;
     out.push_str(" waits ")?;
-    let waiting = core.running_on(q).and_then(|r| r.waiting);
-    put_item_or_none(out, table, waiting.map(|w| w.target))?;
+    let (target, whole) = match core.running_on(q).and_then(|r| r.waiting) {
+        None => (None, None),
+        Some(waiting) if waiting.whole => (None, Some(waiting.target)),
+        Some(waiting) => (Some(waiting.target), None),
+    };
+    put_waiting(out, table, target, whole)?;
     out.push_str(" pending")?;
     for i in 0..table.len() {
         let item = ItemId::new(i);

@@ -12,6 +12,7 @@ mod crew;
 mod deed;
 mod doer;
 mod judging;
+mod lane_asks;
 mod lines;
 mod meeting;
 mod ran;

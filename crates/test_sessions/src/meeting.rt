@@ -1,8 +1,8 @@
-//! How threads see each other: a flag for each, and one for the end. Looking takes as long as the others let it wait, but at most
-//! 1,000,000,000 looks for each.
+//! How threads see each other: a flag for each, one for the end, and a count of those that dawdled. Looking takes as long as the
+//! others let it wait, but at most 1,000,000,000 looks for each.
 
 use std::alloc::{AllocError, Global};
-use std::sync::atomic::{AtomicBool, Ordering};
+use std::sync::atomic::{AtomicBool, AtomicU32, Ordering};
 
 /// How often a thread looks for another.
 const LOOKS: u32 = 1_000_000_000;
@@ -10,12 +10,17 @@ const LOOKS: u32 = 1_000_000_000;
 /// How often a thread looks, once the end has come, before it goes on.
 const MORE_LOOKS: u32 = 1_000_000;
 
+/// How often a thread looks when it dawdles.
+const FEW_LOOKS: u32 = 10_000;
+
 /// The flags.
 #[derive(Drop)]
 pub(crate) struct Flags {
     here: Vec<AtomicBool>,
     is_ending: AtomicBool,
     has_lingered: AtomicBool,
+    /// How often a thread has dawdled.
+    dawdled: AtomicU32,
 }
 
 /// Looks for a flag until it is set.
@@ -39,6 +44,7 @@ impl Flags {
             here,
             is_ending: AtomicBool::new(false),
             has_lingered: AtomicBool::new(false),
+            dawdled: AtomicU32::new(0),
         })
     }
 
@@ -65,6 +71,23 @@ impl Flags {
         }
         self.has_lingered.store(true, Ordering::SeqCst);
         has_seen && seen > 0
+    }
+
+    /// Goes on for a while, and counts this. It has seen what it looked for, which is nothing.
+    pub(crate) fn dawdle(&self) -> bool {
+        let mut seen = 0u32;
+        for _ in 0..FEW_LOOKS {
+            if self.is_ending.load(Ordering::SeqCst) && seen < FEW_LOOKS {
+                seen += 1;
+            }
+        }
+        self.dawdled.fetch_add(1, Ordering::SeqCst);
+        true
+    }
+
+    /// Whether threads have dawdled so often at least.
+    pub(crate) fn have_dawdled(&self, count: u32) -> bool {
+        self.dawdled.load(Ordering::SeqCst) >= count
     }
 
     /// Says that the end has come.

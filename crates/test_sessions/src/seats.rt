@@ -68,7 +68,9 @@ fn make_counted<N: Naming, R: Wait>(
         Counted::Cancel(item) => put_said(out, runtime.cancel_work(rt, seat, item)),
         Counted::Flush(item) => put_said(out, runtime.flush_work(rt, seat, item)),
         Counted::CancelSync(item) => put_said(out, runtime.cancel_work_sync(rt, seat, item)),
+        Counted::FlushLane(q) => put_done(out, runtime.flush_workqueue(rt, seat, q)),
         Counted::Wait(q, item) => put_said(out, runtime.wait_for(rt, seat, q, item)),
+        Counted::WaitAll(q, item) => put_said(out, runtime.wait_all_for(rt, seat, q, item)),
         Counted::Finish(q, item) => put_done(out, runtime.finish_work(rt, seat, q, item)),
     }
 }
@@ -143,6 +145,21 @@ impl<N: Naming> Seats<N> {
         }
     }
 
+    /// Adds what the seat that is in use has counted of a lane.
+    fn tell_lane(&self, q: LaneId, out: &mut String) -> Result<(), AllocError> {
+        match self.made.get(self.used) {
+            Some(seat) => write!(
+                out,
+                "asked yes {} no {} told {} total {}",
+                seat.asked_lane(q, true),
+                seat.asked_lane(q, false),
+                seat.told_lane(q),
+                seat.total()
+            ),
+            None => out.push_str("none"),
+        }
+    }
+
     /// Makes a call that doesn't close the runtime, and adds the answer.
     pub(crate) fn ask<R: Wait>(
         &mut self,
@@ -166,6 +183,7 @@ impl<N: Naming> Seats<N> {
             }
             Call::Use(seat) => self.choose(seat, out),
             Call::Tell(item) => self.tell(item, out),
+            Call::TellLane(q) => self.tell_lane(q, out),
             Call::Next(q) => put_next(out, table, runtime.next(rt, q)),
             Call::Lanes => write!(out, "{}", runtime.lanes(rt)),
             Call::Lane(item) => put_lane(out, runtime.lane_of(rt, item)),

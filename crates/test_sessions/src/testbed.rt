@@ -15,4 +15,6 @@ pub use counts::{kind_word, put_closed, put_made, put_rows};
 pub use ending::{ended, misused, print_answer, unread};
 pub use files::{MAX_LINE, MAX_TEXT, SEED, Texts, read_file, read_texts};
 pub use naming::{item_of, lane_of};
-pub use printing::{fault, mistake, put_code, put_done, put_item, put_item_or_none, refuse_text};
+pub use printing::{
+    fault, mistake, put_code, put_done, put_item, put_item_or_none, put_waiting, refuse_text,
+};

@@ -1,143 +1,144 @@
-//! The command `run` over readers and writers that give and take little, or fail. It takes the time of all runs.
+//! Readers, a writer and a teller that count their calls, and give or take little, or fail; and what came of a command over them.
+//!
+//! A call takes the time of the command.
 
-use std::alloc::Global;
-use std::io::{self, ErrorKind};
+use crate::asked::{Asked, Order, carry};
+use std::alloc::{Allocator, Global};
 use std::sync::Wait;
 use std::thread::Threads;
-use test_cases::{Fake, RunCase, SEED, run_cases};
-use wq_commands::{Fault, Metered};
-use wq_run::{CommandFault, run_cmd};
+use test_cases::{Failure, Fake, Readers};
+use wq_commands::{End, Metered};
+use wq_run::CommandFault;
 
-/// Whether a case is answered over a reader and a writer of so many bytes a call.
-fn is_answered<R: Threads + Wait + Sync>(
-    rt: &R,
-    alloc: Global,
-    case: &RunCase,
-    reads: usize,
-    writes: usize,
-) -> bool {
-    let mut reader = Metered::new(Fake::in_pieces(case.text.as_bytes(), reads));
-    let mut writer = Metered::new(Fake::in_pieces(Vec::new(alloc), writes));
-    let end = run_cmd(rt, alloc, SEED, &mut reader, &mut writer);
-    let written = writer.into_inner().device;
-    end == Ok(case.end) && written.as_slice() == case.answer.as_bytes()
+/// As many bytes as a command asks for at once.
+pub(crate) const CHUNK: usize = 4096;
+
+/// What was counted of a device: the calls, the bytes and the failures.
+pub(crate) type Counts = (u64, u64, u64);
+
+/// Of a device that wasn't asked.
+pub(crate) const UNASKED: Counts = (0, 0, 0);
+
+/// What a command reads from, writes its answer to, and says on what there is to be said.
+#[derive(Drop)]
+pub(crate) struct Devices<'t> {
+    pub(crate) readers: Readers<Fake<&'t [u8]>>,
+    pub(crate) writer: Metered<Fake<Vec<u8>>>,
+    pub(crate) teller: Metered<Fake<Vec<u8>>>,
 }
 
-/// Whether a case ends with `fault read`, and nothing is written, where a read fails after so many that give a byte each.
-fn is_unread<R: Threads + Wait + Sync>(
-    rt: &R,
-    alloc: Global,
-    case: &RunCase,
-    successes: u32,
-    kind: ErrorKind,
-) -> bool {
-    let mut reader = Metered::new(Fake::failing_after(case.text.as_bytes(), successes, kind));
-    let mut writer = Metered::new(Vec::new(alloc));
-    let end = run_cmd(rt, alloc, SEED, &mut reader, &mut writer);
-    end == Err(CommandFault::Common(Fault::Read)) && writer.calls() == 0 && reader.failures() == 1
-}
-
-/// Whether a case ends with `fault write`, and just so many bytes are written, where a write fails after so many that take a byte
-/// each.
-fn is_unwritten<R: Threads + Wait + Sync>(
-    rt: &R,
-    alloc: Global,
-    case: &RunCase,
-    successes: u32,
-) -> bool {
-    let mut reader = Metered::new(case.text.as_bytes());
-    let mut writer = Metered::new(Fake::failing_after(
-        Vec::new(alloc),
-        successes,
-        ErrorKind::Interrupted,
-    ));
-    let end = run_cmd(rt, alloc, SEED, &mut reader, &mut writer);
-    let failures = writer.failures();
-    let written = writer.into_inner().device;
-    let front = case.answer.as_bytes().get(..successes as usize);
-    end == Err(CommandFault::Common(Fault::Write))
-        && failures == 1
-        && front == Some(written.as_slice())
-}
-
-/// How many runs of a case with a failing device ended as they should, and how many did not.
+/// How many bytes a call moves, at most: of a reader, of the writer and of the teller.
 #[derive(Clone, Copy)]
-struct Tally {
-    right: u32,
-    wrong: u32,
+pub(crate) struct Pieces {
+    pub(crate) reads: usize,
+    pub(crate) writes: usize,
+    pub(crate) tells: usize,
 }
 
-/// No run.
-const NONE: Tally = Tally { right: 0, wrong: 0 };
+/// Whatever is asked for is moved.
+pub(crate) const WHOLE: Pieces = Pieces {
+    reads: CHUNK,
+    writes: usize::MAX,
+    tells: usize::MAX,
+};
 
-impl Tally {
-    /// Counts a run.
-    fn note(&mut self, is_right: bool) {
-        let count = if is_right {
-            &mut self.right
-        } else {
-            &mut self.wrong
-        };
-        *count = count.saturating_add(1);
-    }
-}
-
-/// Has each read of a case fail in turn, one for each byte and one that finds the end.
-fn fail_reads<R: Threads + Wait + Sync>(rt: &R, alloc: Global, case: &RunCase) -> Tally {
-    let mut reads = NONE;
-    let bytes = u32::try_from(case.text.len()).unwrap_or(u32::MAX);
-    for kind in [ErrorKind::Interrupted, ErrorKind::Other] {
-        for successes in 0..=bytes {
-            reads.note(is_unread(rt, alloc, case, successes, kind));
+impl<'t> Devices<'t> {
+    /// Devices that don't fail.
+    pub(crate) fn new(alloc: Global, texts: [&'t [u8]; 3], pieces: Pieces) -> Devices<'t> {
+        let [first, second, third] = texts;
+        Devices {
+            readers: Readers {
+                first: Metered::new(Fake::in_pieces(first, pieces.reads)),
+                second: Metered::new(Fake::in_pieces(second, pieces.reads)),
+                third: Metered::new(Fake::in_pieces(third, pieces.reads)),
+            },
+            writer: Metered::new(Fake::in_pieces(Vec::new(alloc), pieces.writes)),
+            teller: Metered::new(Fake::in_pieces(Vec::new(alloc), pieces.tells)),
         }
     }
-    reads
 }
 
-/// Has each write of the answer of a case fail in turn, one for each byte.
-fn fail_writes<R: Threads + Wait + Sync>(rt: &R, alloc: Global, case: &RunCase) -> Tally {
-    let mut writes = NONE;
-    let bytes = u32::try_from(case.answer.len()).unwrap_or(u32::MAX);
-    for successes in 0..bytes {
-        writes.note(is_unwritten(rt, alloc, case, successes));
+/// A writer that fails after it took so many bytes, one a call.
+pub(crate) fn failing_writer(
+    alloc: Global,
+    successes: u32,
+    failure: Failure,
+) -> Metered<Fake<Vec<u8>>> {
+    Metered::new(Fake::failing_after(Vec::new(alloc), successes, failure))
+}
+
+/// How a command ended, what was counted of its devices, and what it wrote and said.
+#[derive(Drop)]
+pub(crate) struct Ran {
+    pub(crate) end: Result<End, CommandFault>,
+    pub(crate) reads: [Counts; 3],
+    pub(crate) writes: Counts,
+    pub(crate) written: Vec<u8>,
+    pub(crate) tells: Counts,
+    pub(crate) said: Vec<u8>,
+}
+
+impl Ran {
+    /// Whether it is answered as it should be.
+    pub(crate) fn is_answered(&self, asked: &Asked<'_, '_>) -> bool {
+        self.end == Ok(asked.end) && self.written.as_slice() == asked.answer
     }
-    writes
+
+    /// Whether it is answered, and all is said that there is to be said.
+    pub(crate) fn is_whole(&self, asked: &Asked<'_, '_>) -> bool {
+        self.is_answered(asked) && self.said.as_slice() == asked.said
+    }
+
+    /// Whether nothing was said, or tried to be said.
+    pub(crate) fn is_silent(&self) -> bool {
+        self.tells == UNASKED && self.said.is_empty()
+    }
+
+    /// Whether nothing was written or said.
+    pub(crate) fn is_untouched(&self) -> bool {
+        self.writes == UNASKED && self.written.is_empty() && self.is_silent()
+    }
 }
 
-/// Runs a case over devices in pieces, and with each read and each write failing in turn, and prints a line. Gives whether all runs
-/// ended as they should.
-fn put_case<R: Print + AllocGlobal + Threads + Wait + Sync>(
+/// What was counted of a device.
+fn counts<D>(metered: &Metered<D>) -> Counts {
+    (metered.calls(), metered.bytes(), metered.failures())
+}
+
+/// Does what is asked for over these devices.
+pub(crate) fn run_over<R: Threads + Wait + Sync, A: Allocator + Copy + Send + Sync>(
     rt: &R,
-    case: &RunCase,
-) -> io::Result<bool> {
-    let mut pieces = NONE;
-    for (reads, writes) in [(1, 1), (1, 5), (5, 1), (7, 9), (24, 38)] {
-        pieces.note(is_answered(rt, rt.alloc(), case, reads, writes));
+    alloc: A,
+    order: Order,
+    mut devices: Devices<'_>,
+) -> Ran {
+    let end = carry(rt, alloc, order, &mut devices);
+    let Devices {
+        readers,
+        writer,
+        teller,
+    } = devices;
+    Ran {
+        end,
+        reads: [
+            counts(&readers.first),
+            counts(&readers.second),
+            counts(&readers.third),
+        ],
+        writes: counts(&writer),
+        written: writer.into_inner().device,
+        tells: counts(&teller),
+        said: teller.into_inner().device,
     }
-    let reads = fail_reads(rt, rt.alloc(), case);
-    let writes = fail_writes(rt, rt.alloc(), case);
-    println!(rt;
-        "run DECL, {}: in pieces {} failed reads {} failed writes {}",
-        case.name, pieces.right, reads.right, writes.right
-    )?;
-    let wrong = (pieces.wrong, reads.wrong, writes.wrong);
-    if wrong == (0, 0, 0) {
-        return Ok(true);
-    }
-    println!(rt;
-        "WRONG: in pieces {} failed reads {} failed writes {}",
-        wrong.0, wrong.1, wrong.2
-    )?;
-    Ok(false)
 }
 
-/// Runs each case over devices. Gives whether all runs ended as they should.
-pub(crate) fn put_devices<R: Print + AllocGlobal + Threads + Wait + Sync>(
+/// How a command ends over devices that don't fail, and what it writes.
+pub(crate) fn answered<R: Threads + Wait + Sync>(
     rt: &R,
-) -> io::Result<bool> {
-    let mut is_right = true;
-    for case in run_cases() {
-        is_right &= put_case(rt, case)?;
-    }
-    Ok(is_right)
+    alloc: Global,
+    order: Order,
+    texts: [&[u8]; 3],
+) -> Result<(End, Vec<u8>), CommandFault> {
+    let Ran { end, written, .. } = run_over(rt, alloc, order, Devices::new(alloc, texts, WHOLE));
+    Ok((end?, written))
 }

@@ -1,82 +1,121 @@
-//! Each command on the largest declaration of examples/. What it answers with enough memory is what it should answer, and is the
-//! certificate of the commands after it. It takes the time of all runs.
+//! Each command on the largest declaration of examples/. What it answers with enough memory is what it should answer, and
+//! is the certificate of the commands after it. No text is refused, so nothing is said. It takes the time of all runs.
 
-use crate::commands::{Asked, put_asked, readers};
-use std::alloc::Global;
+use crate::asked::{Asked, Order};
+use crate::devices::answered;
+use crate::memory::put_memory;
 use std::io;
-use test_cases::{Command, LARGEST, LARGEST_LANES, LARGEST_ON_ONE, perform};
-use wq_commands::{End, Fault, Metered};
+use std::sync::Wait;
+use std::thread::Threads;
+use test_cases::{Command, LARGEST, LARGEST_LANES, LARGEST_ON_ONE};
 
-/// What a command answers with enough memory, and how it ends.
-fn answered(alloc: Global, command: Command, texts: [&[u8]; 3]) -> Result<(End, Vec<u8>), Fault> {
-    let mut writer = Metered::new(Vec::new(alloc));
-    let end = perform(
-        alloc,
-        command,
-        &mut readers(texts),
-        &mut writer,
-        &mut Metered::new(io::sink()),
-    )?;
-    Ok((end, writer.into_inner()))
-}
-
-/// Tries a command on the largest declaration and two more texts. Gives its answer, if all runs ended as they should.
-fn put_largest<'t, R: Print + AllocGlobal>(
+/// Tries a command on these texts: the largest declaration, and two more. Gives its answer, if all runs ended as they should.
+fn put_largest<'t, R: Print + AllocGlobal + Threads + Wait + Sync>(
     rt: &R,
-    command: Command,
+    order: Order,
     name: &str,
+    first: &'t [u8],
     second: &'t [u8],
     third: &'t [u8],
 ) -> io::Result<Option<Vec<u8>>> {
-    let texts = [LARGEST.as_bytes(), second, third];
-    let Ok((end, answer)) = answered(rt.alloc(), command, texts) else {
+    let texts = [first, second, third];
+    let Ok((end, answer)) = answered(rt, rt.alloc(), order, texts) else {
         return Ok(None);
     };
     let asked = Asked {
-        command,
+        order,
         texts,
         end,
         answer: &answer,
+        said: b"",
     };
-    let is_right = put_asked(rt, name, asked)?;
+    let is_right = put_memory(rt, name, asked)?;
     Ok(if is_right { Some(answer) } else { None })
 }
 
 /// Tries a command on the largest declaration and another text. Gives whether all runs ended as they should.
-fn put_with<R: Print + AllocGlobal>(
+fn put_with<R: Print + AllocGlobal + Threads + Wait + Sync>(
     rt: &R,
     command: Command,
     name: &str,
     second: &[u8],
 ) -> io::Result<bool> {
-    let answer = put_largest(rt, command, name, second, second)?;
+    let answer = put_largest(
+        rt,
+        Order::Of(command),
+        name,
+        LARGEST.as_bytes(),
+        second,
+        b"",
+    )?;
     Ok(answer.is_some())
 }
 
 /// Tries the commands that read an assignment. Gives whether all runs ended as they should.
-fn put_assigned<R: Print + AllocGlobal>(rt: &R, name: &str, lanes: &[u8]) -> io::Result<bool> {
+fn put_assigned<R: Print + AllocGlobal + Threads + Wait + Sync>(
+    rt: &R,
+    name: &str,
+    lanes: &[u8],
+) -> io::Result<bool> {
     let deadlock = put_with(rt, Command::Deadlock, name, lanes)?;
     let circles = put_with(rt, Command::Circles, name, lanes)?;
     let dot = put_with(rt, Command::Dot, name, lanes)?;
     Ok(deadlock && circles && dot)
 }
 
+/// Checks the plan. Gives whether all runs ended as they should.
+fn put_plan<R: Print + AllocGlobal + Threads + Wait + Sync>(rt: &R) -> io::Result<bool> {
+    let plan = Order::Of(Command::Plan);
+    let Some(plan) = put_largest(rt, plan, "xfs", LARGEST.as_bytes(), b"", b"")? else {
+        return Ok(false);
+    };
+    put_with(rt, Command::Check, "xfs and its plan", &plan)
+}
+
+/// Makes the run by which all items on one workqueue hang. Gives whether all runs ended as they should.
+fn put_hanging<R: Print + AllocGlobal + Threads + Wait + Sync>(rt: &R) -> io::Result<bool> {
+    let (one, deadlock) = (LARGEST_ON_ONE.as_bytes(), Order::Of(Command::Deadlock));
+    let Some(hangs) = put_largest(
+        rt,
+        deadlock,
+        "xfs on one workqueue",
+        LARGEST.as_bytes(),
+        one,
+        b"",
+    )?
+    else {
+        return Ok(false);
+    };
+    let replay = Order::Of(Command::Replay);
+    let answer = put_largest(
+        rt,
+        replay,
+        "xfs and its run on one workqueue",
+        LARGEST.as_bytes(),
+        one,
+        &hangs,
+    )?;
+    Ok(answer.is_some())
+}
+
+/// Runs the plan. Gives whether all runs ended as they should.
+fn put_run<R: Print + AllocGlobal + Threads + Wait + Sync>(rt: &R) -> io::Result<bool> {
+    let answer = put_largest(rt, Order::Run, "xfs", LARGEST.as_bytes(), b"", b"")?;
+    Ok(answer.is_some())
+}
+
 /// Tries each command. Gives whether all runs ended as they should.
-pub(crate) fn put_all_largest<R: Print + AllocGlobal>(rt: &R) -> io::Result<bool> {
+pub(crate) fn put_all_largest<R: Print + AllocGlobal + Threads + Wait + Sync>(
+    rt: &R,
+) -> io::Result<bool> {
     let one = LARGEST_ON_ONE.as_bytes();
-    let Some(plan) = put_largest(rt, Command::Plan, "xfs", &[], &[])? else {
-        return Ok(false);
-    };
-    let Some(hangs) = put_largest(rt, Command::Deadlock, "xfs on one workqueue", one, &[])? else {
-        return Ok(false);
-    };
-    let check = put_with(rt, Command::Check, "xfs and its plan", &plan)?;
-    let name = "xfs and its run on one workqueue";
-    let replay = put_largest(rt, Command::Replay, name, one, &hangs)?.is_some();
+    let plan = put_plan(rt)?;
+    let hanging = put_hanging(rt)?;
     let assigned = put_assigned(rt, "xfs and its workqueues", LARGEST_LANES.as_bytes())?;
     let circles = put_with(rt, Command::Circles, "xfs on one workqueue", one)?;
     let dot = put_with(rt, Command::Dot, "xfs on one workqueue", one)?;
-    let own_circles = put_with(rt, Command::OwnCircles, "xfs", &[])?;
-    let own_dot = put_with(rt, Command::OwnDot, "xfs", &[])?;
-    Ok(check && replay && assigned && circles && dot && own_circles && own_dot)
+    let own_circles = put_with(rt, Command::OwnCircles, "xfs", b"")?;
+    let own_dot = put_with(rt, Command::OwnDot, "xfs", b"")?;
+    let run = put_run(rt)?;
+    Ok(plan && hanging && assigned && circles && dot && own_circles && own_dot && run)
 }

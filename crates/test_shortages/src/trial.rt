@@ -11,6 +11,8 @@ use test_cases::{Refusing, RefusingHeap};
 pub(crate) enum Outcome {
     /// As it does with enough memory. Where requests were refused, it got along without them.
     Answered,
+    /// As it does with enough memory, but nothing is said of the answer.
+    Unsaid,
     /// With out of memory, and all is as it was before.
     Refused,
     /// In another way.
@@ -21,7 +23,16 @@ pub(crate) enum Outcome {
 #[derive(Clone, Copy)]
 struct Tally {
     refused: u64,
+    unsaid: u64,
     answered: u64,
+}
+
+impl Tally {
+    /// How many requests there are.
+    fn requests(&self) -> u64 {
+        let refused = self.refused.saturating_add(self.unsaid);
+        refused.saturating_add(self.answered)
+    }
 }
 
 /// More requests than any run has.
@@ -38,6 +49,7 @@ fn refuse_each<F: Fn(&RefusingHeap<Global>) -> Outcome>(
 {
     let mut tally = Tally {
         refused: 0,
+        unsaid: 0,
         answered: 0,
     };
     for nth in 1..=MOST {
@@ -45,6 +57,7 @@ fn refuse_each<F: Fn(&RefusingHeap<Global>) -> Outcome>(
         let outcome = run(&heap);
         match (heap.has_refused(), outcome) {
             (true, Outcome::Refused) => tally.refused = tally.refused.saturating_add(1),
+            (true, Outcome::Unsaid) => tally.unsaid = tally.unsaid.saturating_add(1),
             (true, Outcome::Answered) => tally.answered = tally.answered.saturating_add(1),
             (false, Outcome::Answered) => return Ok(tally),
             _ => return Err(nth),
@@ -54,8 +67,9 @@ fn refuse_each<F: Fn(&RefusingHeap<Global>) -> Outcome>(
 }
 
 /// Prints a line: how many requests for memory there are; how many of the runs in which one of them was refused ended with out of
-/// memory, and how many answered; and the same of the runs in which all after it were refused, too. Or it prints the request with
-/// which a run ended as it should not. Gives whether all runs ended as they should.
+/// memory, how many were answered and said nothing of it, though there was something to be said, and how many were answered in full;
+/// and the same of the runs in which all after it were refused, too. Or it prints the request with which a run ended as it should
+/// not. Gives whether all runs ended as they should.
 fn put_tallies<R: Print>(
     rt: &R,
     what: &str,
@@ -64,14 +78,15 @@ fn put_tallies<R: Print>(
     all: Result<Tally, u64>,
 ) -> io::Result<bool> {
     match (one, all) {
-        (Ok(Tally { refused, answered }), Ok(all)) => {
-            let requests = refused.saturating_add(answered);
+        (Ok(one), Ok(all)) => {
+            print!(rt; "{what}, {name}: requests {}", one.requests())?;
             print!(rt;
-                "{what}, {name}: requests {requests} refused {refused} answered {answered}"
+                " refused {} unsaid {} answered {}",
+                one.refused, one.unsaid, one.answered
             )?;
             println!(rt;
-                "; from there on refused {} answered {}",
-                all.refused, all.answered
+                "; from there on refused {} unsaid {} answered {}",
+                all.refused, all.unsaid, all.answered
             )?;
             Ok(true)
         }

@@ -1,8 +1,9 @@
-//! What is printed of a closed runtime: its counts and its rows. It takes time in the number of items and rows.
+//! What is printed of a closed runtime: its counts and its rows. It takes time in the number of items, lanes and rows.
 
 use crate::testbed::printing::put_item;
 use std::alloc::{AllocError, Global};
 use wq_api::{Closed, Counts, Kind, Naming};
+use wq_groups::LaneId;
 use wq_items::{ItemId, ItemTable};
 
 /// The word for a kind.
@@ -15,6 +16,8 @@ pub fn kind_word(kind: Kind) -> &'static str {
         Kind::Ask => "ask",
         Kind::Told => "told",
         Kind::Finish => "finish",
+        Kind::WaitAll => "waitall",
+        Kind::OverAll => "overall",
     }
 }
 
@@ -49,14 +52,43 @@ fn put_made_of(
     Ok(())
 }
 
-/// Adds all that was counted, item by item.
+/// Adds what was counted of a lane and a kind with an answer, if anything was.
+fn put_lane_count(
+    out: &mut String,
+    q: LaneId,
+    kind: &str,
+    answer: &str,
+    count: u64,
+) -> Result<(), AllocError> {
+    if count == 0 {
+        return Ok(());
+    }
+    writeln!(out, "made lane {} {kind} {answer} {count}", q.get())
+}
+
+/// Adds all that was counted of a lane.
+fn put_made_of_lane(
+    out: &mut String,
+    counts: &Counts<Global>,
+    q: LaneId,
+) -> Result<(), AllocError> {
+    put_lane_count(out, q, "asklane", "yes", counts.asked_lane(q, true))?;
+    put_lane_count(out, q, "asklane", "no", counts.asked_lane(q, false))?;
+    put_lane_count(out, q, "toldlane", "yes", counts.told_lane(q))
+}
+
+/// Adds all that was counted, item by item and then lane by lane.
 pub fn put_made(
     out: &mut String,
     table: &ItemTable<'_, Global>,
+    lanes: usize,
     counts: &Counts<Global>,
 ) -> Result<(), AllocError> {
     for i in 0..table.len() {
         put_made_of(out, table, counts, ItemId::new(i))?;
+    }
+    for q in 0..u16::try_from(lanes).unwrap_or(u16::MAX) {
+        put_made_of_lane(out, counts, LaneId::new(q))?;
     }
     writeln!(out, "total {}", counts.total())
 }
@@ -80,6 +112,6 @@ pub fn put_closed<N: Naming>(
     closed: &Closed<N, Global>,
 ) -> Result<(), AllocError> {
     writeln!(out, "agree {}", closed.agree)?;
-    put_made(out, table, &closed.counts)?;
+    put_made(out, table, closed.book.lanes(), &closed.counts)?;
     put_rows(out, closed.book.packed())
 }

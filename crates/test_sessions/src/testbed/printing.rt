@@ -60,3 +60,20 @@ pub fn put_item_or_none(
         None => out.push('-'),
     }
 }
+
+/// Adds what an entry waits for: an item, the whole lane of an item, or nothing.
+pub fn put_waiting(
+    out: &mut String,
+    table: &ItemTable<'_, Global>,
+    target: Option<ItemId>,
+    whole: Option<ItemId>,
+) -> Result<(), AllocError> {
+    match (target, whole) {
+        (target, None) => put_item_or_none(out, table, target),
+        (None, Some(item)) => {
+            out.push_str("wq:")?;
+            put_item(out, table, item)
+        }
+        (Some(_), Some(_)) => out.push_str("wq:?"),
+    }
+}

@@ -1,0 +1,52 @@
+//! Commands with a heap that refuses one request for memory, or that one and all after it. It takes the time of all runs.
+
+use crate::asked::Asked;
+use crate::devices::{Devices, Ran, WHOLE, run_over};
+use crate::trial::{Outcome, put_trial};
+use std::alloc::Global;
+use std::io;
+use std::sync::Wait;
+use std::thread::Threads;
+use test_cases::RefusingHeap;
+use wq_commands::Fault;
+use wq_run::CommandFault;
+
+/// What came of a command. A thread may lack the memory, too.
+fn judged(ran: &Ran, asked: &Asked<'_, '_>) -> Outcome {
+    match ran.end {
+        _ if ran.is_whole(asked) => Outcome::Answered,
+        Ok(_) if ran.is_answered(asked) && ran.is_silent() => Outcome::Unsaid,
+        Err(CommandFault::Common(Fault::Memory) | CommandFault::Thread) if ran.is_untouched() => {
+            Outcome::Refused
+        }
+        _ => Outcome::Wrong,
+    }
+}
+
+/// How a command ends with this heap. What is written and said is of another one.
+fn outcome<R: Threads + Wait + Sync>(
+    rt: &R,
+    alloc: Global,
+    heap: &RefusingHeap<Global>,
+    asked: Asked<'_, '_>,
+) -> Outcome {
+    let devices = Devices::new(alloc, asked.texts, WHOLE);
+    let ran = run_over(rt, heap, asked.order, devices);
+    judged(&ran, &asked)
+}
+
+/// Tries a command with each request refused in turn, alone and with all after it, and prints a line. Gives whether all runs ended
+/// as they should.
+pub(crate) fn put_memory<R: Print + AllocGlobal + Threads + Wait + Sync>(
+    rt: &R,
+    name: &str,
+    asked: Asked<'_, '_>,
+) -> io::Result<bool> {
+    let alloc = rt.alloc();
+    put_trial(
+        rt,
+        asked.order.words(),
+        name,
+        &|heap: &RefusingHeap<Global>| { outcome(rt, alloc, heap, asked) },
+    )
+}
