@@ -8,14 +8,16 @@ use Rattle.wq_core.specs.declared.entry.Entry.{Entry}
 use Rattle.wq_core.specs.declared.entry.Waiting.{Waiting}
 use Rattle.wq_core.specs.declared.entry.Running.{Running}
 use Rattle.wq_core.specs.declared.step.Step.{Step}
-use Rattle.wq_core.specs.declared.step.Step.TheVariants.{Queue, Cancel, Start, Wait, Over, WaitAll, OverAll, Finish}
-use Rattle.wq_core.specs.Wiring.{Wiring, declared_by}
-use Rattle.wq_core.specs.State.{Lane, State, lane_at, Runs}
-use Rattle.wq_core.specs.Rules.{IsHeldBack, MayStart, Lawful, wait_of, over_of}
+use Rattle.wq_core.specs.declared.step.Step.TheVariants.{Queue, Cancel, Start, Wait, Over, WaitAll, OverAll, Finish, Help}
+use Rattle.wq_core.specs.declared.step.HelpStep.TheVariants.{Start as DoStart, Wait as DoWait, WaitAll as DoWaitAll, Over as DoOver, OverAll as DoOverAll, Finish as DoFinish}
+use Rattle.wq_core.specs.Wiring.{Wiring, HasHelper, declared_by}
+use Rattle.wq_core.specs.State.{Lane, State, lane_at, run_by, RunsIn, Runs, next_of}
+use Rattle.wq_core.specs.Rules.{IsHeldBack, MayStartFirst, MayBeOver, Lawful, wait_of, over_of}
 use Rattle.wq_core.specs.Runs.{KeepsOrder}
 use Rattle.wq_core.specs.Held.{IsSoundRunning, IsSoundState}
-use Rattle.wq_core.specs.Played.{IsStepOfLane, CanMove, IsDeclaredStep}
+use Rattle.wq_core.specs.Played.{IsStepOfLane, RescuerCanMove, HelperGoesOn, CanMove, IsDeclaredStep, HasNoDeclaredStep}
 use Rattle.wq_core.proofs.WaitSteps.{waits-lawful, lawful-waits, goes_on-lawful, lawful-goes_on, next-in_order, in_order-next, in_order-goes_on, of_lane-wait_of, of_lane-over_of}
+use Rattle.wq_core.proofs.Contexts.{MayStart-first}
 use Rattle.wq_core.proofs.LaneLemmas.{same_running, nothing_runs, runs_within, starts_within}
 
 -- ---- steps of a lane
@@ -31,12 +33,13 @@ by_kind q P starts waits goes_on finishes (WaitAll p b) is = subst (λ (n : ℕ)
 by_kind q P starts waits goes_on finishes (Over p b) is = subst (λ (n : ℕ). P (Over n b)) (sym is) (goes_on false b)
 by_kind q P starts waits goes_on finishes (OverAll p b) is = subst (λ (n : ℕ). P (OverAll n b)) (sym is) (goes_on true b)
 by_kind q P starts waits goes_on finishes (Finish p i) is = subst (λ (n : ℕ). P (Finish n i)) (sym is) (finishes i)
+by_kind q P starts waits goes_on finishes (Help p h deed) is = absurd is
 
--- ---- what a lane runs
+-- ---- what a rescuer runs
 
 waits-awake : (lane : Lane) (r t : Running) (flush : Waiting) → Runs lane r → r.waiting ≡ Some flush → Runs lane t → ¬ t.waiting ≡ None
 waits-awake lane r t flush runs waits there awake =
-    let same : t.waiting ≡ r.waiting = ap (λ (x : Running). x.waiting) (same_running lane t r there runs) in
+    let same : t.waiting ≡ r.waiting = ap (λ (x : Running). x.waiting) (same_running lane 0 t r there runs) in
     let e : Some flush ≡ None = sym waits ∙ sym same ∙ awake in
     cc
 
@@ -44,35 +47,41 @@ awake-waits : (lane : Lane) (r t : Running) (flush : Waiting) → Runs lane r �
 awake-waits lane r t flush runs awake there waits = waits-awake lane t r flush there waits runs awake
 
 module _ (w : Wiring) (s : State) (q : ℕ) where
-  -- ---- an idle lane
+  -- ---- an idle rescuer
 
   module _ (idle : (lane_at s q).running ≡ None) where
-    -- it can only start its first pending entry
+    -- it can only start the first pending entry whose item isn't running
     starts_only : (step : Step) → IsStepOfLane q step → Lawful w s step
-        → (e : Entry) × (slice_get (lane_at s q).pending 0 ≡ Some e) × (step ≡ Start q e.item)
+        → (e : Entry) × (next_of (lane_at s q) ≡ Some e) × (step ≡ Start q e.item)
     starts_only =
-        by_kind q (λ (step : Step). Lawful w s step → (e : Entry) × (slice_get (lane_at s q).pending 0 ≡ Some e) × (step ≡ Start q e.item))
+        by_kind q (λ (step : Step). Lawful w s step → (e : Entry) × (next_of (lane_at s q) ≡ Some e) × (step ≡ Start q e.item))
         (λ i may. (may.entry, may.first, ap (λ (n : ℕ). Start q n) (sym may.of_item)))
-        (λ whole b may. let runs = waits-lawful w s q whole b may in absurd (nothing_runs (lane_at s q) idle runs.0 runs.1))
-        (λ whole b may. let runs = goes_on-lawful w s q whole b may in absurd (nothing_runs (lane_at s q) idle runs.0 runs.1))
-        (λ i may. absurd (nothing_runs (lane_at s q) idle may.0 may.1))
+        (λ whole b may. let runs = waits-lawful w s q whole b may in absurd (nothing_runs (lane_at s q) 0 idle runs.0 runs.1))
+        (λ whole b may. let runs = goes_on-lawful w s q whole b may in absurd (nothing_runs (lane_at s q) 0 idle runs.0 runs.1))
+        (λ i may. absurd (nothing_runs (lane_at s q) 0 idle may.0 may.1))
 
-    MayStart-first : (e : Entry) → slice_get (lane_at s q).pending 0 ≡ Some e → MayStart (lane_at s q) e.item
-    MayStart-first e first = record { idle = idle; entry = e; first = first; of_item = refl }
+    MayStartFirst-next : (e : Entry) → next_of (lane_at s q) ≡ Some e → MayStartFirst (lane_at s q) e.item
+    MayStartFirst-next e first = record { idle = idle; entry = e; first = first; of_item = refl }
 
-    pub CanMove-idle : (first : Option Entry) → first ≡ slice_get (lane_at s q).pending 0 → (b : Bool) → b ≡ is_some first → IsTrue b ↔ CanMove w s q
-    CanMove-idle None is b test = (
+    pub RescuerCanMove-idle : (next : Option Entry) → next ≡ next_of (lane_at s q) → (b : Bool) → b ≡ is_some next → IsTrue b ↔ RescuerCanMove w s q
+    RescuerCanMove-idle None is b test = (
       (λ t. absurd (let e : false ≡ true = sym test ∙ t in cc)),
       (λ can.
           let starts = starts_only can.0 can.1 can.2 in
           absurd (let e : None ≡ Some starts.0 = is ∙ starts.1 in cc)),
     )
-    CanMove-idle (Some e) is b test = ((λ t. (Start q e.item, refl, MayStart-first e (sym is))), (λ can. test))
+    RescuerCanMove-idle (Some e) is b test = ((λ t. (Start q e.item, refl, MayStartFirst-next e (sym is))), (λ can. test))
 
-    pub IsDeclaredStep-start : (e : Entry) → slice_get (lane_at s q).pending 0 ≡ Some e → IsDeclaredStep w s q (Start q e.item)
-    IsDeclaredStep-start e first = record { of_lane = refl; lawful = MayStart-first e first; in_order = tt }
+    pub IsDeclaredStep-start : (e : Entry) → next_of (lane_at s q) ≡ Some e → IsDeclaredStep w s q (Start q e.item)
+    IsDeclaredStep-start e first = record { of_lane = refl; lawful = MayStartFirst-next e first; in_order = tt }
 
-  -- ---- a lane that runs something
+    pub HasNoDeclaredStep-idle : next_of (lane_at s q) ≡ None → HasNoDeclaredStep w s q
+    HasNoDeclaredStep-idle none step is =
+        let starts = starts_only step is.of_lane is.lawful in
+        let never : None ≡ Some starts.0 = sym none ∙ starts.1 in
+        cc
+
+  -- ---- a rescuer that runs something
 
   module _ (r : Running) (runs : Runs (lane_at s q) r) where
     -- what waits can only go on
@@ -80,13 +89,13 @@ module _ (w : Wiring) (s : State) (q : ℕ) where
         → (¬ IsHeldBack w s flush.whole flush.target flush.mark) × (step ≡ over_of flush.whole q flush.target)
     over_only flush waits =
         by_kind q (λ (step : Step). Lawful w s step → (¬ IsHeldBack w s flush.whole flush.target flush.mark) × (step ≡ over_of flush.whole q flush.target))
-        (λ i may. absurd (nothing_runs (lane_at s q) may.idle r runs))
+        (λ i may. absurd (nothing_runs (lane_at s q) 0 may.idle r runs))
         (λ whole b may. let begins = waits-lawful w s q whole b may in absurd (waits-awake (lane_at s q) r begins.0 flush runs waits begins.1 begins.2.awake)) over
         (λ i may. absurd (waits-awake (lane_at s q) r may.0 flush runs waits may.1 may.2.awake))
       where
         same_flush : (t : Running) → Runs (lane_at s q) t → (f : Waiting) → t.waiting ≡ Some f → f ≡ flush
         same_flush t there f begun =
-            let same : t.waiting ≡ r.waiting = ap (λ (x : Running). x.waiting) (same_running (lane_at s q) t r there runs) in
+            let same : t.waiting ≡ r.waiting = ap (λ (x : Running). x.waiting) (same_running (lane_at s q) 0 t r there runs) in
             let e : Some f ≡ Some flush = sym begun ∙ same ∙ waits in
             cc
 
@@ -103,16 +112,19 @@ module _ (w : Wiring) (s : State) (q : ℕ) where
     Lawful-over : (flush : Waiting) → r.waiting ≡ Some flush → (¬ IsHeldBack w s flush.whole flush.target flush.mark) → Lawful w s (over_of flush.whole q flush.target)
     Lawful-over flush waits done = lawful-goes_on w s q flush.whole flush.target (r, runs, record { flush = flush; waits = waits; kind = refl; target = refl; done = done })
 
-    pub CanMove-waiting : (flush : Waiting) → r.waiting ≡ Some flush → (b : Bool) → IsTrue b ↔ IsHeldBack w s flush.whole flush.target flush.mark → IsTrue (not b) ↔ CanMove w s q
-    CanMove-waiting flush waits true left =
+    pub RescuerCanMove-waiting : (flush : Waiting) → r.waiting ≡ Some flush → (b : Bool) → IsTrue b ↔ IsHeldBack w s flush.whole flush.target flush.mark → IsTrue (not b) ↔ RescuerCanMove w s q
+    RescuerCanMove-waiting flush waits true left =
         ((λ t. absurd cc), (λ can. absurd ((over_only flush waits can.0 can.1 can.2).0 (left.0 refl))))
-    CanMove-waiting flush waits false left =
+    RescuerCanMove-waiting flush waits false left =
         let done : ¬ IsHeldBack w s flush.whole flush.target flush.mark = λ some. absurd (let e : false ≡ true = left.1 some in cc) in
         ((λ t. (over_of flush.whole q flush.target, of_lane-over_of q flush.whole flush.target, Lawful-over flush waits done)), (λ can. refl))
 
     pub IsDeclaredStep-over : (flush : Waiting) → r.waiting ≡ Some flush → (¬ IsHeldBack w s flush.whole flush.target flush.mark) → IsDeclaredStep w s q (over_of flush.whole q flush.target)
     IsDeclaredStep-over flush waits done =
         record { of_lane = of_lane-over_of q flush.whole flush.target; lawful = Lawful-over flush waits done; in_order = in_order-goes_on w s q flush.whole flush.target }
+
+    pub HasNoDeclaredStep-waiting : (flush : Waiting) → r.waiting ≡ Some flush → IsHeldBack w s flush.whole flush.target flush.mark → HasNoDeclaredStep w s q
+    HasNoDeclaredStep-waiting flush waits left step is = (over_only flush waits step is.of_lane is.lawful).0 left
 
     module _ (awake : r.waiting ≡ None) where
       -- the targets that its item declares
@@ -128,20 +140,20 @@ module _ (w : Wiring) (s : State) (q : ℕ) where
       next_only : (step : Step) → IsDeclaredStep w s q step → step ≡ next_step (slice_get targets r.made)
       next_only step is =
           by_kind q (λ (x : Step). Lawful w s x → KeepsOrder w s x → x ≡ next_step (slice_get targets r.made))
-          (λ i may order. absurd (nothing_runs (lane_at s q) may.idle r runs)) wait
+          (λ i may order. absurd (nothing_runs (lane_at s q) 0 may.idle r runs)) wait
           (λ whole b may order. let goes = goes_on-lawful w s q whole b may in absurd (awake-waits (lane_at s q) r goes.0 goes.2.flush runs awake goes.1 goes.2.waits)) finish step is.of_lane is.lawful is.in_order
         where
           wait : (whole : Bool) (b : ℕ) → Lawful w s (wait_of whole q b) → KeepsOrder w s (wait_of whole q b) → wait_of whole q b ≡ next_step (slice_get targets r.made)
           wait whole b may order =
               let (t, there, (x, next, item, kind)) = next-in_order w s q whole b order in
-              let same : t ≡ r = same_running (lane_at s q) t r there runs in
+              let same : t ≡ r = same_running (lane_at s q) 0 t r there runs in
               let here : slice_get targets r.made ≡ Some x = subst (λ (y : Running). slice_get (declared_by w y.entry.item) y.made ≡ Some x) same next in
               ap (λ (n : ℕ). wait_of whole q n) (sym item) ∙ ap (λ (k : Bool). wait_of k q x.item) (sym kind) ∙ sym (ap (λ (o : Option Target). next_step o) here)
 
           finish : (i : ℕ) → Lawful w s (Finish q i) → KeepsOrder w s (Finish q i) → Finish q i ≡ next_step (slice_get targets r.made)
           finish i (t, there, may) (u, runs_too, last) =
-              let same : t ≡ r = same_running (lane_at s q) t r there runs in
-              let made : r.made ≡ length targets = subst (λ (y : Running). y.made ≡ length (declared_by w y.entry.item)) (same_running (lane_at s q) u r runs_too runs) last in
+              let same : t ≡ r = same_running (lane_at s q) 0 t r there runs in
+              let made : r.made ≡ length targets = subst (λ (y : Running). y.made ≡ length (declared_by w y.entry.item)) (same_running (lane_at s q) 0 u r runs_too runs) last in
               let past : slice_get targets r.made ≡ None = slice_get_past targets r.made (omega (arith, made)) in
               let of_item : i ≡ r.entry.item = sym may.entry ∙ ap (λ (y : Running). y.entry.item) same in
               ap (λ (n : ℕ). Finish q n) of_item ∙ sym (ap (λ (o : Option Target). next_step o) past)
@@ -149,8 +161,8 @@ module _ (w : Wiring) (s : State) (q : ℕ) where
       Lawful-finish : Lawful w s (Finish q r.entry.item)
       Lawful-finish = (r, runs, record { entry = refl; awake = awake })
 
-      pub CanMove-awake : CanMove w s q
-      CanMove-awake = (Finish q r.entry.item, refl, Lawful-finish)
+      pub RescuerCanMove-awake : RescuerCanMove w s q
+      RescuerCanMove-awake = (Finish q r.entry.item, refl, Lawful-finish)
 
       pub IsDeclaredStep-wait : (t : Target) → slice_get targets r.made ≡ Some t → IsDeclaredStep w s q (wait_of t.whole q t.item)
       IsDeclaredStep-wait t next =
@@ -172,9 +184,70 @@ module _ (w : Wiring) (s : State) (q : ℕ) where
             | inr out ↦ out.0
           ]
 
+  -- ---- a helper
+
+  module _ (h : ℕ) where
+    -- one that runs nothing doesn't go on
+    pub HelperGoesOn-idle : run_by (lane_at s q) h ≡ None → ¬ HelperGoesOn w s q h
+    HelperGoesOn-idle idle (DoStart i, goes, lawful) = goes
+    HelperGoesOn-idle idle (DoWait b, goes, lawful) = nothing_runs (lane_at s q) h idle lawful.1.0 lawful.1.1
+    HelperGoesOn-idle idle (DoWaitAll b, goes, lawful) = nothing_runs (lane_at s q) h idle lawful.1.0 lawful.1.1
+    HelperGoesOn-idle idle (DoOver b, goes, lawful) = nothing_runs (lane_at s q) h idle lawful.1.0 lawful.1.1
+    HelperGoesOn-idle idle (DoOverAll b, goes, lawful) = nothing_runs (lane_at s q) h idle lawful.1.0 lawful.1.1
+    HelperGoesOn-idle idle (DoFinish i, goes, lawful) = nothing_runs (lane_at s q) h idle lawful.1.0 lawful.1.1
+
+    module _ (sound : IsSoundState w s) (some : 0 < h) (r : Running) (runs : RunsIn (lane_at s q) h r) where
+      -- one that runs something exists
+      exists : HasHelper w q h
+      exists = (some, sound.helpers q h r runs)
+
+      pub HelperGoesOn-awake : r.waiting ≡ None → HelperGoesOn w s q h
+      HelperGoesOn-awake awake = (DoFinish r.entry.item, tt, (exists, (r, runs, record { entry = refl; awake = awake })))
+
+      module _ (flush : Waiting) (waits : r.waiting ≡ Some flush) where
+        -- what waits can only go on
+        asleep : (t : Running) → RunsIn (lane_at s q) h t → ¬ t.waiting ≡ None
+        asleep t there awake =
+            let e : Some flush ≡ None = sym waits ∙ ap (λ (x : Running). x.waiting) (same_running (lane_at s q) h r t runs there) ∙ awake in
+            cc
+
+        not_over : (whole : Bool) (b : ℕ) (t : Running) → RunsIn (lane_at s q) h t → MayBeOver w s whole b t → ¬ IsHeldBack w s flush.whole flush.target flush.mark
+        not_over whole b t there may =
+            let both : Some may.flush ≡ Some flush = sym may.waits ∙ ap (λ (x : Running). x.waiting) (same_running (lane_at s q) h t r there runs) ∙ waits in
+            let same : may.flush ≡ flush = cc in
+            let kind : ¬ IsHeldBack w s may.flush.whole b may.flush.mark = subst (λ (k : Bool). ¬ IsHeldBack w s k b may.flush.mark) (sym may.kind) may.done in
+            let target : ¬ IsHeldBack w s may.flush.whole may.flush.target may.flush.mark = subst (λ (n : ℕ). ¬ IsHeldBack w s may.flush.whole n may.flush.mark) (sym may.target) kind in
+            subst (λ (f : Waiting). ¬ IsHeldBack w s f.whole f.target f.mark) same target
+
+        goes_on-over : HelperGoesOn w s q h → ¬ IsHeldBack w s flush.whole flush.target flush.mark
+        goes_on-over (DoStart i, goes, lawful) = absurd goes
+        goes_on-over (DoWait b, goes, lawful) = absurd (asleep lawful.1.0 lawful.1.1 lawful.1.2.awake)
+        goes_on-over (DoWaitAll b, goes, lawful) = absurd (asleep lawful.1.0 lawful.1.1 lawful.1.2.awake)
+        goes_on-over (DoOver b, goes, lawful) = not_over false b lawful.1.0 lawful.1.1 lawful.1.2
+        goes_on-over (DoOverAll b, goes, lawful) = not_over true b lawful.1.0 lawful.1.1 lawful.1.2
+        goes_on-over (DoFinish i, goes, lawful) = absurd (asleep lawful.1.0 lawful.1.1 lawful.1.2.awake)
+
+        over-goes_on : (whole : Bool) → flush.whole ≡ whole → (¬ IsHeldBack w s flush.whole flush.target flush.mark) → HelperGoesOn w s q h
+        over-goes_on false kind done =
+            let over = subst (λ (k : Bool). ¬ IsHeldBack w s k flush.target flush.mark) kind done in
+            (DoOver flush.target, tt, (exists, (r, runs, record { flush = flush; waits = waits; kind = kind; target = refl; done = over })))
+        over-goes_on true kind done =
+            let over = subst (λ (k : Bool). ¬ IsHeldBack w s k flush.target flush.mark) kind done in
+            (DoOverAll flush.target, tt, (exists, (r, runs, record { flush = flush; waits = waits; kind = kind; target = refl; done = over })))
+
+        pub HelperGoesOn-waiting : (b : Bool) → IsTrue b ↔ IsHeldBack w s flush.whole flush.target flush.mark → IsTrue (not b) ↔ HelperGoesOn w s q h
+        HelperGoesOn-waiting true left = ((λ t. absurd cc), (λ can. absurd (goes_on-over can (left.0 refl))))
+        HelperGoesOn-waiting false left =
+            let done : ¬ IsHeldBack w s flush.whole flush.target flush.mark = λ held. absurd (let e : false ≡ true = left.1 held in cc) in
+            ((λ t. over-goes_on flush.whole refl done), (λ can. refl))
+
+  -- a helper that goes on exists
+  pub HelperGoesOn-exists : (h : ℕ) → HelperGoesOn w s q h → HasHelper w q h
+  HelperGoesOn-exists h can = can.2.0
+
   -- ---- any lane
 
-  -- a lane has at most one declared step
+  -- a rescuer has at most one declared step
   pub declared_steps_equal : (a b : Step) → IsDeclaredStep w s q a → IsDeclaredStep w s q b → a ≡ b
   declared_steps_equal a b first second = by_running (lane_at s q).running refl
     where
@@ -192,12 +265,12 @@ module _ (w : Wiring) (s : State) (q : ℕ) where
           start ∙ ap (λ (x : Entry). Start q x.item) entry ∙ sym start_too
       by_running (Some r) runs = by_waiting r runs r.waiting refl
 
-  -- a lane that can move has a declared step
-  pub IsDeclaredStep-can_move : IsSoundState w s → CanMove w s q → (step : Step) × IsDeclaredStep w s q step
-  IsDeclaredStep-can_move sound (step, of_lane, lawful) = by_running (lane_at s q).running refl
+  -- a rescuer that can make a step has a declared step
+  pub IsDeclaredStep-rescuer : IsSoundState w s → RescuerCanMove w s q → (step : Step) × IsDeclaredStep w s q step
+  IsDeclaredStep-rescuer sound (step, of_lane, lawful) = by_running (lane_at s q).running refl
     where
       by_next : (r : Running) → Runs (lane_at s q) r → r.waiting ≡ None → (o : Option Target) → slice_get (declared_by w r.entry.item) r.made ≡ o → (x : Step) × IsDeclaredStep w s q x
-      by_next r runs awake None next = (Finish q r.entry.item, IsDeclaredStep-finish r runs awake (sound.running q r runs) next)
+      by_next r runs awake None next = (Finish q r.entry.item, IsDeclaredStep-finish r runs awake (sound.running q 0 r runs) next)
       by_next r runs awake (Some t) next = (wait_of t.whole q t.item, IsDeclaredStep-wait r runs awake t next)
 
       by_waiting : (r : Running) → Runs (lane_at s q) r → (o : Option Waiting) → r.waiting ≡ o → (x : Step) × IsDeclaredStep w s q x
@@ -209,9 +282,33 @@ module _ (w : Wiring) (s : State) (q : ℕ) where
       by_running None idle = let (e, first, start) = starts_only idle step of_lane lawful in (Start q e.item, IsDeclaredStep-start idle e first)
       by_running (Some r) runs = by_waiting r runs r.waiting refl
 
+  -- so does a lane that can move, where no helper runs anything
+  pub IsDeclaredStep-can_move : IsSoundState w s → ((c : ℕ) (r : Running) → RunsIn (lane_at s q) c r → c ≡ 0) → CanMove w s q → (step : Step) × IsDeclaredStep w s q step
+  IsDeclaredStep-can_move sound only (inl rescuer) = IsDeclaredStep-rescuer sound rescuer
+  IsDeclaredStep-can_move sound only (inr (h, can)) = absurd (HelperGoesOn-idle h (by (run_by (lane_at s q) h) refl) can)
+    where
+      some : 0 < h
+      some = (HelperGoesOn-exists h can).0
+
+      by : (o : Option Running) → run_by (lane_at s q) h ≡ o → run_by (lane_at s q) h ≡ None
+      by None is = is
+      by (Some r) is = absurd (omega (arith, some, only h r is))
+
   -- a lane that can move exists
+  pub RescuerCanMove-within : RescuerCanMove w s q → q < length s.lanes
+  RescuerCanMove-within (step, of_lane, lawful) =
+      by_kind q (λ (x : Step). Lawful w s x → q < length s.lanes) (λ i may. starts_within s q 0 i (MayStart-first (lane_at s q) i may))
+      (λ whole b may. let waits = waits-lawful w s q whole b may in runs_within s q 0 waits.0 waits.1)
+      (λ whole b may. let goes = goes_on-lawful w s q whole b may in runs_within s q 0 goes.0 goes.1) (λ i may. runs_within s q 0 may.0 may.1) step of_lane lawful
+
+  pub HelperGoesOn-within : (h : ℕ) → HelperGoesOn w s q h → q < length s.lanes
+  HelperGoesOn-within h (DoStart i, goes, lawful) = absurd goes
+  HelperGoesOn-within h (DoWait b, goes, lawful) = runs_within s q h lawful.1.0 lawful.1.1
+  HelperGoesOn-within h (DoWaitAll b, goes, lawful) = runs_within s q h lawful.1.0 lawful.1.1
+  HelperGoesOn-within h (DoOver b, goes, lawful) = runs_within s q h lawful.1.0 lawful.1.1
+  HelperGoesOn-within h (DoOverAll b, goes, lawful) = runs_within s q h lawful.1.0 lawful.1.1
+  HelperGoesOn-within h (DoFinish i, goes, lawful) = runs_within s q h lawful.1.0 lawful.1.1
+
   pub CanMove-within : CanMove w s q → q < length s.lanes
-  CanMove-within (step, of_lane, lawful) =
-      by_kind q (λ (x : Step). Lawful w s x → q < length s.lanes) (λ i may. starts_within s q i may)
-      (λ whole b may. let waits = waits-lawful w s q whole b may in runs_within s q waits.0 waits.1)
-      (λ whole b may. let goes = goes_on-lawful w s q whole b may in runs_within s q goes.0 goes.1) (λ i may. runs_within s q may.0 may.1) step of_lane lawful
+  CanMove-within (inl rescuer) = RescuerCanMove-within rescuer
+  CanMove-within (inr (h, can)) = HelperGoesOn-within h can

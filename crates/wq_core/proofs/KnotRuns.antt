@@ -1,8 +1,8 @@
 -- A played run that queues the items of a knot first ends stuck.
-use Rattle.std.proofs.Common.{◌≡◌, ◌≢◌, ℕ, zero, suc, ◌<◌, inl, inr, eqb, List, [], ◌∷◌, ◌++◌, length, map, get_or, Some, None, refl, sym, ap, subst, ◌∙◌, arith}
-use Rattle.std.specs.Prelude.{AllPairs, Contains, slice_get}
+use Rattle.std.proofs.Common.{◌≡◌, ◌≢◌, ℕ, zero, suc, ◌<◌, inl, inr, Bool, true, false, not, eqb, List, [], ◌∷◌, ◌++◌, length, map, get_or, Some, None, refl, sym, ap, subst, ◌∙◌, arith}
+use Rattle.std.specs.Prelude.{AllPairs, Contains, slice_get, find}
 use Rattle.std.specs.List.{All}
-use Rattle.std.proofs.lemmas.Bool.{cases_lt, eq-eqb}
+use Rattle.std.proofs.lemmas.Bool.{cases_lt, cond-true, eq-eqb, false_from_ne_true}
 use Rattle.std.proofs.lemmas.List.{get_or_past, length-replicate}
 use Rattle.std.proofs.lemmas.List.Elements.{All-append, All-contains, All-weaker, Contains-get_or}
 use Rattle.std.proofs.lemmas.List.Sums.{sum_by-append}
@@ -13,20 +13,22 @@ use Rattle.wq_items.proofs.Lists.{Contains-filtered}
 use Rattle.wq_core.specs.declared.entry.Entry.{Entry}
 use Rattle.wq_core.specs.declared.step.Step.{Step}
 use Rattle.wq_core.specs.Wiring.{Wiring, IsWiring, items, lane_of, declared_by}
-use Rattle.wq_core.specs.State.{Lane, State, idle_lane, lane_at, empty_state, HasPending, IsUnfinishedOn}
-use Rattle.wq_core.specs.Rules.{MayStart, effect}
-use Rattle.wq_core.specs.Runs.{after, end_of, IsRun, IsCancel, IsOnce, queues}
+use Rattle.wq_core.specs.State.{Lane, State, idle_lane, lane_at, empty_state, run_by, is_running, HasPending, IsUnfinishedOn}
+use Rattle.wq_core.specs.Rules.{MayStartFirst, effect}
+use Rattle.wq_core.specs.Runs.{after, end_of, IsRun, IsCancel, IsHelp, HasNoHelp, IsOnce, queues}
 use Rattle.wq_core.specs.Held.{IsSoundState}
 use Rattle.wq_core.specs.Deadlock.{IsStuck, DeadlocksBy, Deadlocks}
 use Rattle.wq_core.specs.Played.{IsPlayedFrom, queue_order}
 use Rattle.wq_core.specs.Knot.{HasLane, WaitsAmong, IsKnot}
+use Rattle.wq_core.proofs.Contexts.{is_running-some}
+use Rattle.wq_core.proofs.Helpers.{OnlyRescuersRun, only_rescuers-end_of, deadlocks-alike}
 use Rattle.wq_core.proofs.Knots.{AreMembers, AreHeldUp, AreHeldUp-effect}
 use Rattle.wq_core.proofs.LaneLemmas.{lane_at-empty_state, idle_lane-unfinished}
-use Rattle.wq_core.proofs.Plays.{after-append, IsRunFrom-append, AsDeclaredFrom-append, AsDeclaredFrom-queued, no_cancel-queued, IsRunFrom-played, AsDeclaredFrom-played, no_cancel-played, count_by-queues_played, no_step-played}
+use Rattle.wq_core.proofs.Plays.{after-append, IsRunFrom-append, AsDeclaredFrom-append, AsDeclaredFrom-queued, no_cancel-queued, no_help-queued, IsRunFrom-played, AsDeclaredFrom-played, no_cancel-played, no_help-played, count_by-queues_played, no_step-played}
 use Rattle.wq_core.proofs.Playing.{IsPlayedFrom-exists}
 use Rattle.wq_core.proofs.Queued.{one_if, pending_items, on_lane, pending_items-all_queued, running-all_queued, IsRunFrom-queued, count_by-queues_one}
 use Rattle.wq_core.proofs.QueueOrder.{others_in_order, in_order, All-in_order, AllPairs-in_order, Contains-in_order, first_on_lane}
-use Rattle.wq_core.proofs.Sound.{IsSoundState-end_of, IsSoundState-after}
+use Rattle.wq_core.proofs.Sound.{IsSoundState-effect, IsSoundState-end_of, IsSoundState-after}
 
 -- ---- entries by their items
 
@@ -38,6 +40,14 @@ entry_of (e ∷ es) i (suc k, lt, at) = let later = entry_of es i (k, omega arit
 first_entry : (es : List Entry) (i : ℕ) → slice_get (map (λ (e : Entry). e.item) es) 0 ≡ Some i → (e : Entry) × (slice_get es 0 ≡ Some e) × (e.item ≡ i)
 first_entry [] i is = absurd cc
 first_entry (e ∷ es) i is = (e, refl, cc)
+
+-- the first entry is the first whose item isn't running, if it isn't
+first_next : (es : List Entry) (p : ℕ → Bool) (e : Entry) → slice_get es 0 ≡ Some e → p e.item ≡ false → find (λ (f : Entry). not (p f.item)) es ≡ Some e
+first_next [] p e is idle = absurd cc
+first_next (x ∷ es) p e is idle =
+    let same : x ≡ e = cc in
+    let passes : not (p x.item) ≡ true = ap not (ap (λ (f : Entry). p f.item) same ∙ idle) in
+    cond-true (not (p x.item)) (Some x) (find (λ (f : Entry). not (p f.item)) es) passes ∙ ap Some same
 
 no_pending : (w : Wiring) (i : ℕ) → ¬ HasPending (empty_state w) i
 no_pending w i h = idle_lane-unfinished h.entry (subst (λ (l : Lane). IsUnfinishedOn l h.entry) (lane_at-empty_state w h.lane) (inl h.pending))
@@ -124,11 +134,24 @@ module _ (w : Wiring) (knot : List ℕ) (wiring : IsWiring w) (is : IsKnot w kno
       let found = entry_of (lane_at start q).pending j (subst (λ (js : List ℕ). Contains js j) (sym (pending_at_start q)) there) in
       (found.0, inl found.1, found.2, start_is_sound.given q found.0 (inl found.1))
 
-  starts_next : (m : ℕ) → Contains knot m → MayStart (lane_at start (lane_of w m)) m
+  -- no context runs anything, so the first pending entry is the one that is started next
+  only_rescuers : OnlyRescuersRun start
+  only_rescuers = only_rescuers-end_of w (queue_order w knot) (no_help-queued (in_order knot (items w)))
+
+  nothing_is_running : (q i : ℕ) → is_running (lane_at start q) i ≡ false
+  nothing_is_running q i = false_from_ne_true (is_running (lane_at start q) i) (λ runs.
+      let some = is_running-some (lane_at start q) i runs in
+      let rescuer : (lane_at start q).running ≡ Some some.1 = subst (λ c. run_by (lane_at start q) c ≡ Some some.1) (only_rescuers q some.0 some.1 some.2) some.2 in
+      let never : None ≡ Some some.1 = sym (none_runs q) ∙ rescuer in
+      cc
+      )
+
+  starts_next : (m : ℕ) → Contains knot m → MayStartFirst (lane_at start (lane_of w m)) m
   starts_next m there =
       let first = first_on_lane w knot (others_in_order knot (items w)) m is.apart there in
       let found = first_entry (lane_at start (lane_of w m)).pending m (ap (λ (js : List ℕ). slice_get js 0) (pending_at_start (lane_of w m)) ∙ first) in
-      record { idle = none_runs (lane_of w m); entry = found.0; first = found.1; of_item = found.2 }
+      let next = first_next (lane_at start (lane_of w m)).pending (is_running (lane_at start (lane_of w m))) found.0 found.1 (nothing_is_running (lane_of w m) found.0.item) in
+      record { idle = none_runs (lane_of w m); entry = found.0; first = next; of_item = found.2 }
 
   held_at_start : AreHeldUp w Member start
   held_at_start m place t member = record {
@@ -138,10 +161,11 @@ module _ (w : Wiring) (knot : List ℕ) (wiring : IsWiring w) (is : IsKnot w kno
 
   -- ---- while it is played
 
-  held_on : (s : State) (more : List Step) → AreHeldUp w Member s → IsPlayedFrom w s more → AreHeldUp w Member (after w s more)
-  held_on s [] held played = held
-  held_on s (step ∷ more) held played =
-      held_on (effect w s step) more (AreHeldUp-effect w Member members s played.0.0 step held played.0.1) played.1
+  held_on : (s : State) (more : List Step) → IsSoundState w s → AreHeldUp w Member s → IsPlayedFrom w s more → AreHeldUp w Member (after w s more)
+  held_on s [] sound held played = held
+  held_on s (step ∷ more) sound held played =
+      let next : IsSoundState w (effect w s step) = IsSoundState-effect w s step sound played.0.1.lawful in
+      held_on (effect w s step) more next (AreHeldUp-effect w Member members s played.0.0 step sound held played.0.1) played.1
 
   -- ---- the run
 
@@ -161,15 +185,21 @@ module _ (w : Wiring) (knot : List ℕ) (wiring : IsWiring w) (is : IsKnot w kno
     sound_at_end : IsSoundState w (after w start more)
     sound_at_end = IsSoundState-after w start more start_is_sound (IsRunFrom-played w start more played)
 
+    none_help : HasNoHelp (queue_order w knot ++ more)
+    none_help = All-append (λ (step : Step). ¬ IsHelp step) (queue_order w knot) more (no_help-queued (in_order knot (items w))) (no_help-played w start more played)
+
+    only_at_end : OnlyRescuersRun (after w start more)
+    only_at_end = subst (λ (s : State). OnlyRescuersRun s) (after-append w (empty_state w) (queue_order w knot) more) (only_rescuers-end_of w (queue_order w knot ++ more) none_help)
+
     stuck : IsStuck w (after w start more)
     stuck =
         let m : ℕ = get_or knot 0 0 in
         let member = Member-from m (Contains-get_or knot 0 0 is.some) in
-        let held = held_on start more held_at_start played m member.0 member.1 member.2 in
+        let held = held_on start more start_is_sound held_at_start played m member.0 member.1 member.2 in
         let left = held.unfinished m (All-contains (λ i. i < items w) knot m items_of_knot member.2.0) refl in
         record {
           left = record { lane = lane_of w m; entry = left.0; unfinished = left.1 };
-          no_step = no_step-played w start more played sound_at_end;
+          no_step = no_step-played w start more played sound_at_end only_at_end;
         }
 
     DeadlocksBy-here : DeadlocksBy w (queue_order w knot ++ more)
@@ -177,6 +207,7 @@ module _ (w : Wiring) (knot : List ℕ) (wiring : IsWiring w) (is : IsKnot w kno
       run = IsRunFrom-append w (empty_state w) (queue_order w knot) more IsRun-queue_order (IsRunFrom-played w start more played);
       once = once;
       as_declared = AsDeclaredFrom-append w (empty_state w) (queue_order w knot) more (AsDeclaredFrom-queued w (in_order knot (items w)) (empty_state w)) (AsDeclaredFrom-played w start more played);
+      no_help = none_help;
       stuck = subst (λ (s : State). IsStuck w s) (sym (after-append w (empty_state w) (queue_order w knot) more)) stuck;
     }
 
@@ -187,4 +218,5 @@ DeadlocksBy-knot w knot more wiring is played = DeadlocksBy-here w knot wiring i
 pub Deadlocks-knot : (w : Wiring) (knot : List ℕ) → IsWiring w → IsKnot w knot → Deadlocks w
 Deadlocks-knot w knot wiring is =
     let play = IsPlayedFrom-exists w (end_of w (queue_order w knot)) (start_is_sound w knot wiring is) in
-    (queue_order w knot ++ play.0, DeadlocksBy-knot w knot play.0 wiring is play.1)
+    let steps : List Step = queue_order w knot ++ play.0 in
+    (steps, (λ n few. deadlocks-alike w w.helpers n steps (DeadlocksBy-knot w knot play.0 wiring is play.1)))

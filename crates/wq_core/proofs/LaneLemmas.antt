@@ -7,12 +7,12 @@ use Rattle.std.proofs.lemmas.List.{get_or-set_same, get_or-set_other, get_or_pas
 use Rattle.std.proofs.lemmas.List.Elements.{All-contains, All-contains_itself, All-filter}
 use Rattle.wq_items.specs.declared.target.Target.{Target}
 use Rattle.wq_items.specs.Table.{ItemWaits, ItemWaitsBy}
-use Rattle.wq_items.proofs.Lists.{Contains-first}
 use Rattle.wq_core.specs.declared.entry.Entry.{Entry}
 use Rattle.wq_core.specs.declared.entry.Running.{Running}
 use Rattle.wq_core.specs.Wiring.{Wiring}
-use Rattle.wq_core.specs.State.{Lane, State, idle_lane, lane_at, with_lane, empty_state, IsUnfinishedOn, Runs}
+use Rattle.wq_core.specs.State.{Lane, State, idle_lane, lane_at, with_lane, empty_state, run_by, IsUnfinishedOn, RunsIn}
 use Rattle.wq_core.specs.Rules.{MayStart}
+use Rattle.wq_core.proofs.Contexts.{idle_runs}
 
 -- ---- lanes of a state
 
@@ -59,7 +59,7 @@ Contains-nil x (k, lt, at) = omega arith
 
 pub idle_lane-unfinished : (e : Entry) → ¬ IsUnfinishedOn idle_lane e
 idle_lane-unfinished e (inl pending) = Contains-nil e pending
-idle_lane-unfinished e (inr (r, runs, same)) = cc
+idle_lane-unfinished e (inr (c, r, runs, same)) = idle_runs c r runs
 
 -- a lane on which an entry is unfinished exists
 pub lane_within : (s : State) (q : ℕ) (e : Entry) → IsUnfinishedOn (lane_at s q) e → q < length s.lanes
@@ -68,18 +68,18 @@ lane_within s q e h = elim (cases_lt q (length s.lanes)) [
   | inr past ↦ absurd (idle_lane-unfinished e (subst (λ (lane : Lane). IsUnfinishedOn lane e) (lane_at_past s q past) h))
 ]
 
--- a lane runs at most one execution, and none if it is idle
-pub same_running : (lane : Lane) (r x : Running) → Runs lane r → Runs lane x → r ≡ x
-same_running lane r x one other = let both : Some r ≡ Some x = sym one ∙ other in cc
+-- a context runs at most one execution, and none if it is idle
+pub same_running : (lane : Lane) (c : ℕ) (r x : Running) → RunsIn lane c r → RunsIn lane c x → r ≡ x
+same_running lane c r x one other = let both : Some r ≡ Some x = sym one ∙ other in cc
 
-pub nothing_runs : (lane : Lane) → lane.running ≡ None → (r : Running) → ¬ Runs lane r
-nothing_runs lane idle r runs = let never : None ≡ Some r = sym idle ∙ runs in cc
+pub nothing_runs : (lane : Lane) (c : ℕ) → run_by lane c ≡ None → (r : Running) → ¬ RunsIn lane c r
+nothing_runs lane c idle r runs = let never : None ≡ Some r = sym idle ∙ runs in cc
 
-pub runs_within : (s : State) (q : ℕ) (r : Running) → Runs (lane_at s q) r → q < length s.lanes
-runs_within s q r runs = lane_within s q r.entry (inr (r, runs, refl))
+pub runs_within : (s : State) (q c : ℕ) (r : Running) → RunsIn (lane_at s q) c r → q < length s.lanes
+runs_within s q c r runs = lane_within s q r.entry (inr (c, r, runs, refl))
 
-pub starts_within : (s : State) (q i : ℕ) → MayStart (lane_at s q) i → q < length s.lanes
-starts_within s q i may = lane_within s q may.entry (inl (Contains-first (lane_at s q).pending may.entry may.first))
+pub starts_within : (s : State) (q c i : ℕ) → MayStart (lane_at s q) c i → q < length s.lanes
+starts_within s q c i may = lane_within s q may.entry (inl may.pending)
 
 -- ---- pending entries
 

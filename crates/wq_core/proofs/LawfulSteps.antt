@@ -6,18 +6,17 @@ use Rattle.wq_core.specs.declared.entry.Waiting.{Waiting}
 use Rattle.wq_core.specs.declared.entry.Running.{Running}
 use Rattle.wq_core.specs.declared.step.Step.TheVariants.{Over, Finish}
 use Rattle.wq_core.specs.Wiring.{Wiring, IsWiring, items}
-use Rattle.wq_core.specs.State.{Lane, State, lane_at, Runs, HasPending, HasUnfinishedOf}
-use Rattle.wq_core.specs.Rules.{MayStart, MayBeOver, Lawful}
+use Rattle.wq_core.specs.State.{Lane, State, lane_at, RunsIn, HasPending, HasUnfinishedOf}
+use Rattle.wq_core.specs.Rules.{MayStart, MayStartFirst, MayBeOver, Lawful}
 use Rattle.wq_core.specs.Held.{IsSoundState}
-use Rattle.wq_items.proofs.Lists.{Contains-first}
 use Rattle.wq_items.proofs.Tables.{ItemWaits-below}
 use Rattle.wq_core.proofs.LaneLemmas.{same_running, ItemWaits-by}
 use Rattle.wq_core.proofs.Machines.{pending-own_lane}
 
--- ---- a lane has at most one item to start, one whose wait may be over, and one to finish
+-- ---- a rescuer has at most one item to start, one whose wait may be over, and one to finish
 
-pub MayStart-one : (lane : Lane) (i j : ℕ) → MayStart lane i → MayStart lane j → i ≡ j
-MayStart-one lane i j one other =
+pub MayStartFirst-one : (lane : Lane) (i j : ℕ) → MayStartFirst lane i → MayStartFirst lane j → i ≡ j
+MayStartFirst-one lane i j one other =
     let both : Some one.entry ≡ Some other.entry = sym one.first ∙ other.first in
     let same : one.entry ≡ other.entry = cc in
     sym one.of_item ∙ ap (λ (e : Entry). e.item) same ∙ other.of_item
@@ -30,11 +29,11 @@ MayBeOver-one w s r whole other_kind b c one other =
 
 pub over-one : (w : Wiring) (s : State) (q b c : ℕ) → Lawful w s (Over q b) → Lawful w s (Over q c) → b ≡ c
 over-one w s q b c (r, runs, may) (x, other, may_too) =
-    MayBeOver-one w s r false false b c may (subst (MayBeOver w s false c) (sym (same_running (lane_at s q) r x runs other)) may_too)
+    MayBeOver-one w s r false false b c may (subst (MayBeOver w s false c) (sym (same_running (lane_at s q) 0 r x runs other)) may_too)
 
 pub finish-one : (w : Wiring) (s : State) (q i j : ℕ) → Lawful w s (Finish q i) → Lawful w s (Finish q j) → i ≡ j
 finish-one w s q i j (r, runs, may) (x, other, may_too) =
-    sym may.entry ∙ ap (λ (y : Running). y.entry.item) (same_running (lane_at s q) r x runs other) ∙ may_too.entry
+    sym may.entry ∙ ap (λ (y : Running). y.entry.item) (same_running (lane_at s q) 0 r x runs other) ∙ may_too.entry
 
 -- ---- items exist
 
@@ -44,16 +43,16 @@ pending-item w s i sound h = (pending-own_lane w s i sound h).0
 pub unfinished-item : (w : Wiring) (s : State) (i : ℕ) → IsSoundState w s → HasUnfinishedOf s i → i < items w
 unfinished-item w s i sound h = subst (λ j. j < items w) h.of_item (sound.own_lane h.lane h.entry h.unfinished).0
 
-pub start-item : (w : Wiring) (s : State) (q i : ℕ) → IsSoundState w s → MayStart (lane_at s q) i → i < items w
-start-item w s q i sound may =
-    pending-item w s i sound (record { lane = q; entry = may.entry; pending = Contains-first (lane_at s q).pending may.entry may.first; of_item = may.of_item })
+pub start-item : (w : Wiring) (s : State) (q c i : ℕ) → IsSoundState w s → MayStart (lane_at s q) c i → i < items w
+start-item w s q c i sound may =
+    pending-item w s i sound (record { lane = q; entry = may.entry; pending = may.pending; of_item = may.of_item })
 
 -- ---- what runs waits for a declared target
 
-pub waiting-declared : (w : Wiring) (s : State) (q : ℕ) (r : Running) (f : Waiting) → IsSoundState w s → Runs (lane_at s q) r → r.waiting ≡ Some f
+pub waiting-declared : (w : Wiring) (s : State) (q c : ℕ) (r : Running) (f : Waiting) → IsSoundState w s → RunsIn (lane_at s q) c r → r.waiting ≡ Some f
     → ItemWaitsBy w.waits f.whole r.entry.item f.target
-waiting-declared w s q r f sound runs waits = ((sound.running q r runs).waits f waits).1
+waiting-declared w s q c r f sound runs waits = ((sound.running q c r runs).waits f waits).1
 
-pub waiting-target : (w : Wiring) (s : State) (q : ℕ) (r : Running) (f : Waiting) → IsWiring w → IsSoundState w s → Runs (lane_at s q) r → r.waiting ≡ Some f
+pub waiting-target : (w : Wiring) (s : State) (q c : ℕ) (r : Running) (f : Waiting) → IsWiring w → IsSoundState w s → RunsIn (lane_at s q) c r → r.waiting ≡ Some f
     → f.target < items w
-waiting-target w s q r f wiring sound runs waits = ItemWaits-below (items w) w.waits wiring.targets_are_items r.entry.item f.target (ItemWaits-by w.waits f.whole r.entry.item f.target (waiting-declared w s q r f sound runs waits))
+waiting-target w s q c r f wiring sound runs waits = ItemWaits-below (items w) w.waits wiring.targets_are_items r.entry.item f.target (ItemWaits-by w.waits f.whole r.entry.item f.target (waiting-declared w s q c r f sound runs waits))

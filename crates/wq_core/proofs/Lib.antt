@@ -1,7 +1,9 @@
 pub mod Changes
 pub mod CircleKnots
+pub mod Contexts
 pub mod DeclaredSteps
 pub mod FirstMachines
+pub mod Helpers
 pub mod WaitSteps
 pub mod Knots
 pub mod KnotRuns
@@ -29,3 +31,7 @@ pub mod WorkChanges
 pub mod WorkLemmas
 pub mod Safety
 pub mod Wirings
+pub mod Padding
+pub mod Starts
+pub mod Places
+pub mod HelpSteps

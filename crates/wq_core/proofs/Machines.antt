@@ -1,12 +1,12 @@
 -- What a machine answers about a lane or an item.
 use Rattle.std.proofs.Common.{◌≡◌, ℕ, ◌<◌, ◌↔◌, ◌⊎◌, Bool, refl, sym, subst, ◌∙◌, ap, inl, inr}
-use Rattle.std.specs.Prelude.{Option, Some, None, IsTrue}
+use Rattle.std.specs.Prelude.{IsTrue}
 use Rattle.wq_core.specs.declared.entry.Entry.{Entry}
 use Rattle.wq_core.specs.declared.entry.Running.{Running}
 use Rattle.wq_core.specs.Wiring.{Wiring, items, lane_of}
-use Rattle.wq_core.specs.State.{Lane, State, lane_at, Runs, HasPending, HasUnfinishedBelow, HasUnfinishedOf}
-use Rattle.wq_core.specs.Held.{IsSoundState, HasPendingBelow, RunsBelow, runs_below}
-use Rattle.wq_core.proofs.Unfinished.{is_below-true, true-is_below}
+use Rattle.wq_core.specs.State.{Lane, State, lane_at, RunsIn, HasPending, HasUnfinishedBelow, HasUnfinishedOf}
+use Rattle.wq_core.specs.Held.{IsSoundState, HasPendingBelow, RunsBelow, lane_runs_below}
+use Rattle.wq_core.proofs.Unfinished.{lane_runs_below-some, some-lane_runs_below}
 
 -- ---- an item's entries are on its own lane
 
@@ -21,31 +21,31 @@ unfinished-own_lane w s i mark sound h =
     (subst (λ j. j < items w) h.of_item own.0, sym (subst (λ j. lane_of w j ≡ h.lane) h.of_item own.1))
 
 -- all that runs of an item runs on its own lane
-pub runs_below-exactly : (w : Wiring) (s : State) (q i mark : ℕ) (lane : Lane) → IsSoundState w s → q ≡ lane_of w i → lane ≡ lane_at s q → IsTrue (runs_below i mark lane.running) ↔ RunsBelow s i mark
-runs_below-exactly w s q i mark lane sound own is = (to lane.running refl, from) where
-  to : (o : Option Running) → lane.running ≡ o → IsTrue (runs_below i mark o) → RunsBelow s i mark
-  to None at h = absurd cc
-  to (Some r) at h =
-      let passes = is_below-true i mark r.entry h in
-      record { lane = q; running = r; runs = ap (λ (l : Lane). l.running) (sym is) ∙ at; of_item = passes.0; below = passes.1 }
+pub runs_below-exactly : (w : Wiring) (s : State) (q i mark : ℕ) (lane : Lane) → IsSoundState w s → q ≡ lane_of w i → lane ≡ lane_at s q → IsTrue (lane_runs_below i mark lane) ↔ RunsBelow s i mark
+runs_below-exactly w s q i mark lane sound own is = (to, from) where
+  to : IsTrue (lane_runs_below i mark lane) → RunsBelow s i mark
+  to h =
+      let found = lane_runs_below-some i mark lane h in
+      record { lane = q; context = found.0; running = found.1; runs = subst (λ (l : Lane). RunsIn l found.0 found.1) is found.2; of_item = found.3; below = found.4 }
 
-  from : RunsBelow s i mark → IsTrue (runs_below i mark lane.running)
+  from : RunsBelow s i mark → IsTrue (lane_runs_below i mark lane)
   from h =
-      let there : lane_of w h.running.entry.item ≡ h.lane = (sound.own_lane h.lane h.running.entry (inr (h.running, h.runs, refl))).1 in
+      let there : lane_of w h.running.entry.item ≡ h.lane = (sound.own_lane h.lane h.running.entry (inr (h.context, h.running, h.runs, refl))).1 in
       let same : q ≡ h.lane = own ∙ ap (λ j. lane_of w j) (sym h.of_item) ∙ there in
-      let runs : lane.running ≡ Some h.running = ap (λ (l : Lane). l.running) is ∙ ap (λ p. (lane_at s p).running) same ∙ h.runs in
-      ap (λ (o : Option Running). runs_below i mark o) runs ∙ true-is_below i mark h.running.entry h.of_item h.below
+      let here : RunsIn (lane_at s q) h.context h.running = subst (λ (p : ℕ). RunsIn (lane_at s p) h.context h.running) (sym same) h.runs in
+      some-lane_runs_below i mark lane h.context h.running (subst (λ (l : Lane). RunsIn l h.context h.running) (sym is) here) h.of_item h.below
 
 -- what is unfinished is pending or runs
 pub unfinished_below-either : (s : State) (i mark : ℕ) → HasPendingBelow s i mark ⊎ RunsBelow s i mark → HasUnfinishedBelow s i mark
 unfinished_below-either s i mark (inl h) = record { lane = h.lane; entry = h.entry; unfinished = inl h.pending; of_item = h.of_item; below = h.below }
-unfinished_below-either s i mark (inr h) = record { lane = h.lane; entry = h.running.entry; unfinished = inr (h.running, h.runs, refl); of_item = h.of_item; below = h.below }
+unfinished_below-either s i mark (inr h) = record { lane = h.lane; entry = h.running.entry; unfinished = inr (h.context, h.running, h.runs, refl); of_item = h.of_item; below = h.below }
 
 pub cases_unfinished_below : (s : State) (i mark : ℕ) → HasUnfinishedBelow s i mark → HasPendingBelow s i mark ⊎ RunsBelow s i mark
 cases_unfinished_below s i mark h = elim h.unfinished [
   | inl pending ↦ inl (record { lane = h.lane; entry = h.entry; pending = pending; of_item = h.of_item; below = h.below })
-  | inr (r, runs, same) ↦ inr (record {
+  | inr (c, r, runs, same) ↦ inr (record {
     lane = h.lane;
+    context = c;
     running = r;
     runs = runs;
     of_item = ap (λ (e : Entry). e.item) same ∙ h.of_item;
@@ -71,5 +71,5 @@ HasUnfinishedOf-answer w s i next answer sound same below =
 
 -- ---- what runs is of an item
 
-pub running-item : (w : Wiring) (s : State) (q : ℕ) (r : Running) → IsSoundState w s → Runs (lane_at s q) r → r.entry.item < items w
-running-item w s q r sound runs = (sound.own_lane q r.entry (inr (r, runs, refl))).0
+pub running-item : (w : Wiring) (s : State) (q c : ℕ) (r : Running) → IsSoundState w s → RunsIn (lane_at s q) c r → r.entry.item < items w
+running-item w s q c r sound runs = (sound.own_lane q r.entry (inr (c, r, runs, refl))).0

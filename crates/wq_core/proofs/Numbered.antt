@@ -1,22 +1,33 @@
 -- The number of each item's pending entry: what it answers, and how it changes with a step.
-use Rattle.std.proofs.Common.{◌≡◌, ◌≢◌, ℕ, zero, suc, ◌<◌, ◌↔◌, ◌⊎◌, inl, inr, Bool, true, false, not, eqb, ltb, List, [], ◌∷◌, length, get_or, set, drop, replicate, Some, None, refl, sym, ap, subst, ◌∙◌, arith}
-use Rattle.std.specs.Prelude.{AllPairs, Contains, IsTrue, Option, slice_get}
+use Rattle.std.proofs.Common.{◌≡◌, ◌≢◌, ℕ, zero, suc, ◌<◌, ◌↔◌, ◌⊎◌, inl, inr, Bool, true, false, not, eqb, ltb, List, [], ◌∷◌, length, get_or, set, replicate, Some, None, refl, sym, ap, subst, ◌∙◌, arith}
+use Rattle.std.specs.Prelude.{Contains, IsTrue, Option, option_map}
 use Rattle.std.specs.List.{filter}
 use Rattle.std.proofs.lemmas.Bool.{cases_lt, cases_eq, ne_eqb, eq-eqb}
 use Rattle.std.proofs.lemmas.List.{get_or-set_same, get_or-set_other, length-set, length-replicate, get_or_past}
 use Rattle.std.proofs.lemmas.List.Elements.{All-contains, Contains-append_left, Contains-push, Contains-push_cases, filter_passes}
 use borrow.Author.Tests.{ltb-true}
-use Rattle.wq_items.proofs.Lists.{Contains-first, Contains-later, Contains-filtered, AllPairs-head}
+use Rattle.wq_items.proofs.Lists.{Contains-filtered}
 use Rattle.wq_core.specs.declared.entry.Entry.{Entry}
 use Rattle.wq_core.specs.declared.step.Step.{Step}
-use Rattle.wq_core.specs.declared.step.Step.TheVariants.{Queue, Cancel, Start, Wait, Over, WaitAll, OverAll, Finish}
+use Rattle.wq_core.specs.declared.step.Step.TheVariants.{Queue, Cancel, Start, Wait, Over, WaitAll, OverAll, Finish, Help}
+use Rattle.wq_core.specs.declared.step.HelpStep.{HelpStep}
+use Rattle.wq_core.specs.declared.step.HelpStep.TheVariants.{Start as DoStart, Wait as DoWait, WaitAll as DoWaitAll, Over as DoOver, OverAll as DoOverAll, Finish as DoFinish}
 use Rattle.wq_core.specs.Wiring.{Wiring, items, lane_of}
-use Rattle.wq_core.specs.State.{Lane, State, lane_at, with_lane, empty_state, IsPendingOn, HasPending}
-use Rattle.wq_core.specs.Rules.{Lawful, effect, with_queued, with_cancelled, with_started, with_wait, with_over, with_finished}
+use Rattle.wq_core.specs.State.{Lane, State, lane_at, with_lane, empty_state, run_by, pending_of, IsPendingOn, HasPending}
+use Rattle.wq_core.specs.Rules.{MayDo, Lawful, done_by, effect, begun, waiting_for, going_on, with_queued, with_cancelled, with_started, with_wait, with_over, with_finished}
 use Rattle.wq_core.specs.Held.{IsSoundState, IsNumbering, HasPendingBelow}
+use Rattle.wq_core.proofs.Contexts.{pending_kept as same_pending, MayStart-first}
 use Rattle.wq_core.proofs.LaneLemmas.{cases_with_lane, lane_at-with_lane_same, lane_at-with_lane_other, lane_at-empty_state, lane_within, Contains-filter, Contains-nil}
 use Rattle.wq_core.proofs.Machines.{pending-own_lane}
-use Rattle.wq_core.proofs.Sound.{Differ}
+
+-- the numbers after what a context does
+abbrev pub numbers_after_deed : HelpStep → List (Option ℕ) → List (Option ℕ)
+numbers_after_deed (DoStart i) numbers = set numbers i None
+numbers_after_deed (DoWait b) numbers = numbers
+numbers_after_deed (DoWaitAll b) numbers = numbers
+numbers_after_deed (DoOver b) numbers = numbers
+numbers_after_deed (DoOverAll b) numbers = numbers
+numbers_after_deed (DoFinish i) numbers = numbers
 
 -- the numbers after a step
 abbrev pub numbers_after : State → Step → List (Option ℕ) → List (Option ℕ)
@@ -28,6 +39,7 @@ numbers_after s (Over q b) numbers = numbers
 numbers_after s (WaitAll q b) numbers = numbers
 numbers_after s (OverAll q b) numbers = numbers
 numbers_after s (Finish q i) numbers = numbers
+numbers_after s (Help q h deed) numbers = numbers_after_deed deed numbers
 
 -- ---- before anything is queued
 
@@ -78,23 +90,6 @@ IsWithout-cancelled i ps =
       );
       rest = λ e there other. Contains-filtered others ps e (ap not (ne_eqb e.item i other)) there;
     }
-
-IsWithout-started : (i : ℕ) (ps : List Entry) (first : Entry) → slice_get ps 0 ≡ Some first → first.item ≡ i → AllPairs Differ ps → IsWithout i ps (drop 1 ps)
-IsWithout-started i [] first at is once = absurd cc
-IsWithout-started i (p ∷ ps) first at is once =
-    let same : p ≡ first = cc in
-    let item : p.item ≡ i = ap (λ (e : Entry). e.item) same ∙ is in
-    record {
-      less = λ e there. (
-        Contains-later p ps e there,
-        (λ own. AllPairs-head Differ p ps once there.0 e there.1 (item ∙ sym own ∙ sym (ap (λ (f : Entry). f.item) there.2))),
-      );
-      rest = λ e there other. later e there other item;
-    }
-  where
-    later : (e : Entry) → Contains (p ∷ ps) e → e.item ≢ i → p.item ≡ i → Contains ps e
-    later e (zero, within, here) other item = absurd (other (sym (ap (λ (f : Entry). f.item) here) ∙ item))
-    later e (suc k, within, here) other item = (k, omega arith, here)
 
 forgotten : (numbers : List (Option ℕ)) (i : ℕ) → get_or (set numbers i None) i None ≡ None
 forgotten [] i = refl
@@ -197,6 +192,29 @@ module _ (w : Wiring) (s : State) (i : ℕ) (within : lane_of w i < length s.lan
 
 -- ---- after a step
 
+IsNumbering-deed : (w : Wiring) (s : State) (q c : ℕ) (deed : HelpStep) (numbers : List (Option ℕ)) → IsSoundState w s → MayDo w s q c deed → IsNumbering w s numbers
+    → IsNumbering w (done_by s q c deed) (numbers_after_deed deed numbers)
+IsNumbering-deed w s q c (DoStart i) numbers sound may before =
+    let own : Lane = lane_at s q in
+    let item : lane_of w i ≡ q = subst (λ j. lane_of w j ≡ q) may.of_item (sound.own_lane q may.entry (inl may.pending)).1 in
+    let without = subst (IsWithout i own.pending) (sym (same_pending (with_cancelled i own) c (option_map begun (pending_of own i)))) (IsWithout-cancelled i own.pending) in
+    IsNumbering-taken w s q i (with_started c i own) sound item (lane_within s q may.entry (inl may.pending)) without numbers before
+IsNumbering-deed w s q c (DoWait b) numbers sound may before =
+    let own : Lane = lane_at s q in
+    IsNumbering-kept w s q (with_wait c false b s.next own) numbers (same_pending own c (option_map (waiting_for false b s.next) (run_by own c))) before
+IsNumbering-deed w s q c (DoWaitAll b) numbers sound may before =
+    let own : Lane = lane_at s q in
+    IsNumbering-kept w s q (with_wait c true b s.next own) numbers (same_pending own c (option_map (waiting_for true b s.next) (run_by own c))) before
+IsNumbering-deed w s q c (DoOver b) numbers sound may before =
+    let own : Lane = lane_at s q in
+    IsNumbering-kept w s q (with_over c own) numbers (same_pending own c (option_map going_on (run_by own c))) before
+IsNumbering-deed w s q c (DoOverAll b) numbers sound may before =
+    let own : Lane = lane_at s q in
+    IsNumbering-kept w s q (with_over c own) numbers (same_pending own c (option_map going_on (run_by own c))) before
+IsNumbering-deed w s q c (DoFinish i) numbers sound may before =
+    let own : Lane = lane_at s q in
+    IsNumbering-kept w s q (with_finished c own) numbers (same_pending own c None) before
+
 pub IsNumbering-effect : (w : Wiring) (s : State) (step : Step) (numbers : List (Option ℕ)) → IsSoundState w s → ((i : ℕ) → i < items w → lane_of w i < w.lanes) → Lawful w s step → IsNumbering w s numbers
     → IsNumbering w (effect w s step) (numbers_after s step numbers)
 IsNumbering-effect w s (Queue i) numbers sound within (below, none) before =
@@ -206,15 +224,13 @@ IsNumbering-effect w s (Cancel i) numbers sound within has before =
     let own : has.lane ≡ lane_of w i = (pending-own_lane w s i sound has).1 in
     let there : lane_of w i < length s.lanes = subst (λ q. q < length s.lanes) own (lane_within s has.lane has.entry (inl has.pending)) in
     IsNumbering-taken w s (lane_of w i) i (with_cancelled i (lane_at s (lane_of w i))) sound refl there (IsWithout-cancelled i (lane_at s (lane_of w i)).pending) numbers before
-IsNumbering-effect w s (Start q i) numbers sound within may before =
-    let first : IsPendingOn (lane_at s q) may.entry = Contains-first (lane_at s q).pending may.entry may.first in
-    let own : lane_of w i ≡ q = subst (λ j. lane_of w j ≡ q) may.of_item (sound.own_lane q may.entry (inl first)).1 in
-    IsNumbering-taken w s q i (with_started (lane_at s q)) sound own (lane_within s q may.entry (inl first)) (IsWithout-started i (lane_at s q).pending may.entry may.first may.of_item (sound.once q)) numbers before
-IsNumbering-effect w s (Wait q b) numbers sound within lawful before = IsNumbering-kept w s q (with_wait false b s.next (lane_at s q)) numbers refl before
-IsNumbering-effect w s (WaitAll q b) numbers sound within lawful before = IsNumbering-kept w s q (with_wait true b s.next (lane_at s q)) numbers refl before
-IsNumbering-effect w s (Over q b) numbers sound within lawful before = IsNumbering-kept w s q (with_over (lane_at s q)) numbers refl before
-IsNumbering-effect w s (OverAll q b) numbers sound within lawful before = IsNumbering-kept w s q (with_over (lane_at s q)) numbers refl before
-IsNumbering-effect w s (Finish q i) numbers sound within lawful before = IsNumbering-kept w s q (with_finished (lane_at s q)) numbers refl before
+IsNumbering-effect w s (Start q i) numbers sound within may before = IsNumbering-deed w s q 0 (DoStart i) numbers sound (MayStart-first (lane_at s q) i may) before
+IsNumbering-effect w s (Wait q b) numbers sound within may before = IsNumbering-deed w s q 0 (DoWait b) numbers sound may before
+IsNumbering-effect w s (WaitAll q b) numbers sound within may before = IsNumbering-deed w s q 0 (DoWaitAll b) numbers sound may before
+IsNumbering-effect w s (Over q b) numbers sound within may before = IsNumbering-deed w s q 0 (DoOver b) numbers sound may before
+IsNumbering-effect w s (OverAll q b) numbers sound within may before = IsNumbering-deed w s q 0 (DoOverAll b) numbers sound may before
+IsNumbering-effect w s (Finish q i) numbers sound within may before = IsNumbering-deed w s q 0 (DoFinish i) numbers sound may before
+IsNumbering-effect w s (Help q h deed) numbers sound within may before = IsNumbering-deed w s q h deed numbers sound may.1 before
 
 -- ---- what it answers
 

@@ -1,159 +1,154 @@
 -- From every state after a run, a run can be played to its end.
-use Rattle.std.proofs.Common.{◌≡◌, ℕ, zero, suc, ◌<◌, ◌⊎◌, inl, inr, ◌↔◌, Bool, true, false, List, [], ◌∷◌, length, Option, Some, None, refl, sym, ap, subst, ◌∙◌, arith, ltb}
-use Rattle.std.specs.Prelude.{IsTrue, ◌||◌, slice_get}
-use Rattle.std.specs.List.{list_any}
-use Rattle.std.proofs.lemmas.Bool.{cases_lt, false≢true}
-use Rattle.std.proofs.lemmas.List.Folds.{Any-from_list_any, list_any-from_Any}
-use borrow.Author.Tests.{ltb-true}
-use Rattle.wq_core.proofs.WaitSteps.{lawful-goes_on, in_order-goes_on, of_lane-over_of}
+use Rattle.std.proofs.Common.{◌≡◌, ℕ, zero, suc, ◌<◌, ◌⊎◌, inl, inr, Bool, true, false, List, [], ◌∷◌, length, get_or, Option, Some, None, refl, sym, ap, subst, arith}
+use Rattle.std.specs.Prelude.{Contains}
+use Rattle.std.proofs.lemmas.Bool.{cases_lt, cases_eq}
+use Rattle.wq_items.proofs.Lists.{Contains-later}
 use Rattle.wq_core.specs.declared.entry.Entry.{Entry}
 use Rattle.wq_core.specs.declared.entry.Waiting.{Waiting}
 use Rattle.wq_core.specs.declared.entry.Running.{Running}
 use Rattle.wq_core.specs.declared.step.Step.{Step}
-use Rattle.wq_core.specs.declared.step.Step.TheVariants.{Queue, Cancel, Start, Wait, Over, WaitAll, OverAll, Finish}
+use Rattle.wq_core.specs.declared.step.Step.TheVariants.{Start}
 use Rattle.wq_core.specs.Wiring.{Wiring, lane_of}
-use Rattle.wq_core.specs.State.{Lane, State, lane_at, Runs, HasUnfinishedBelow, IsBusyBelow}
-use Rattle.wq_core.specs.Rules.{IsHeldBack, MayStart, MayBeOver, effect, over_of}
-use Rattle.wq_core.specs.Held.{LaneHasUnfinishedBelow, IsSoundState, is_below, runs_below}
+use Rattle.wq_core.specs.State.{Lane, State, lane_at, RunsIn, Runs, next_of, IsUnfinishedOn, HasUnfinishedBelow, IsBusyBelow}
+use Rattle.wq_core.specs.Rules.{IsHeldBack, effect, over_of}
+use Rattle.wq_core.specs.Held.{IsSoundState}
 use Rattle.wq_core.specs.Played.{IsDeclaredStep, HasNoDeclaredStep, IsPlayedFrom}
 use Rattle.wq_core.specs.Work.{work_left}
-use Rattle.wq_core.proofs.LaneLemmas.{lane_within, lane_at_past, same_running, nothing_runs}
+use Rattle.wq_core.proofs.DeclaredSteps.{HasNoDeclaredStep-idle, HasNoDeclaredStep-waiting, IsDeclaredStep-start, IsDeclaredStep-over}
+use Rattle.wq_core.proofs.LaneLemmas.{lane_within, lane_at_past, Contains-nil}
 use Rattle.wq_core.proofs.Plays.{IsRescuerStep-of_lane, awake_moves}
 use Rattle.wq_core.proofs.Sound.{IsSoundState-effect}
-use Rattle.wq_core.proofs.Unfinished.{unfinished_below}
 use Rattle.wq_core.proofs.WorkLemmas.{work_left-rescuer}
 
 -- ---- whether a wait is over
 
-cases_test : {P : Type 0} (b : Bool) → (IsTrue b ↔ P) → P ⊎ (¬ P)
-cases_test true both = inl (both.0 refl)
-cases_test false both = inr (λ p. false≢true (both.1 p))
+-- an entry of the list is such an entry, or none is
+cases_pending : (P : Entry → Type 0) → ((e : Entry) → P e ⊎ (¬ P e)) → (es : List Entry) → ((e : Entry) × Contains es e × P e) ⊎ ((e : Entry) → Contains es e → ¬ P e)
+cases_pending P decide [] = inr (λ e there. absurd (Contains-nil e there))
+cases_pending P decide (x ∷ es) = elim (decide x) [
+  | inl here ↦ inl (x, (0, omega arith, refl), here)
+  | inr not_here ↦ elim (cases_pending P decide es) [
+    | inl some ↦ inl (some.0, Contains-later x es some.0 some.1, some.2)
+    | inr none ↦ inr (λ e there. later es none e there not_here)
+  ]
+]
+  where
+    later : (xs : List Entry) → ((e : Entry) → Contains xs e → ¬ P e) → (e : Entry) → Contains (x ∷ xs) e → (¬ P x) → ¬ P e
+    later xs none e (zero, lt, at) not_here so = not_here (subst P (sym at) so)
+    later xs none e (suc k, lt, at) not_here so = none e (k, omega arith, at) so
 
-cases_lane_below : (lane : Lane) (item mark : ℕ) → LaneHasUnfinishedBelow lane item mark ⊎ (¬ LaneHasUnfinishedBelow lane item mark)
-cases_lane_below lane item mark = cases_test (list_any (is_below item mark) lane.pending || runs_below item mark lane.running) (unfinished_below lane item mark)
+-- a context of the lane runs such an entry, or none does
+cases_helper : (P : Entry → Type 0) → ((e : Entry) → P e ⊎ (¬ P e)) → (os : List (Option Running))
+    → ((h : ℕ) × (r : Running) × (get_or os h None ≡ Some r) × P r.entry) ⊎ ((h : ℕ) (r : Running) → get_or os h None ≡ Some r → ¬ P r.entry)
+cases_helper P decide [] = inr (λ h r runs. absurd (let never : None ≡ Some r = runs in cc))
+cases_helper P decide (None ∷ os) = elim (cases_helper P decide os) [
+  | inl some ↦ inl (suc some.0, some.1, some.2, some.3)
+  | inr none ↦ inr (λ h r runs. later h r none runs)
+]
+  where
+    later : (h : ℕ) (r : Running) → ((k : ℕ) (x : Running) → get_or os k None ≡ Some x → ¬ P x.entry) → get_or (None ∷ os) h None ≡ Some r → ¬ P r.entry
+    later zero r none runs so = let never : None ≡ Some r = runs in cc
+    later (suc k) r none runs so = none k r runs so
+cases_helper P decide (Some x ∷ os) = elim (decide x.entry) [
+  | inl here ↦ inl (0, x, refl, here)
+  | inr not_here ↦ elim (cases_helper P decide os) [
+    | inl some ↦ inl (suc some.0, some.1, some.2, some.3)
+    | inr none ↦ inr (λ h r runs. later h r not_here none runs)
+  ]
+]
+  where
+    later : (h : ℕ) (r : Running) → (¬ P x.entry) → ((k : ℕ) (y : Running) → get_or os k None ≡ Some y → ¬ P y.entry) → get_or (Some x ∷ os) h None ≡ Some r → ¬ P r.entry
+    later zero r not_here none runs so = let same : x ≡ r = cc in not_here (subst (λ (y : Running). P y.entry) (sym same) so)
+    later (suc k) r not_here none runs so = none k r runs so
+
+-- an unfinished entry of the lane is such an entry, or none is
+cases_unfinished : (P : Entry → Type 0) → ((e : Entry) → P e ⊎ (¬ P e)) → (lane : Lane) → ((e : Entry) × IsUnfinishedOn lane e × P e) ⊎ ((e : Entry) → IsUnfinishedOn lane e → ¬ P e)
+cases_unfinished P decide lane = elim (cases_pending P decide lane.pending) [
+  | inl some ↦ inl (some.0, inl some.1, some.2)
+  | inr none_pending ↦ elim (cases_helper P decide (lane.running ∷ lane.helping)) [
+    | inl some ↦ inl (some.1.entry, inr (some.0, some.1, found some.0 some.1 some.2, refl), some.3)
+    | inr none_runs ↦ inr (λ e unfinished. elim unfinished [
+      | inl pending ↦ none_pending e pending
+      | inr (c, r, runs, same) ↦ (λ so. none_runs c r (sought c r runs) (subst P (sym same) so))
+    ])
+  ]
+]
+  where
+    found : (c : ℕ) (r : Running) → get_or (lane.running ∷ lane.helping) c None ≡ Some r → RunsIn lane c r
+    found zero r is = is
+    found (suc h) r is = is
+
+    sought : (c : ℕ) (r : Running) → RunsIn lane c r → get_or (lane.running ∷ lane.helping) c None ≡ Some r
+    sought zero r is = is
+    sought (suc h) r is = is
+
+-- of this item and below the mark
+abbrev IsSought : ℕ → ℕ → Entry → Type 0
+IsSought item mark e = (e.item ≡ item) × (e.number < mark)
+
+decide_sought : (item mark : ℕ) (e : Entry) → IsSought item mark e ⊎ (¬ IsSought item mark e)
+decide_sought item mark e = elim (cases_eq e.item item) [
+  | inl of_item ↦ elim (cases_lt e.number mark) [
+    | inl below ↦ inl (of_item, below)
+    | inr past ↦ inr (λ so. omega (arith, past, so.1))
+  ]
+  | inr other ↦ inr (λ so. other so.0)
+]
+
+decide_below : (mark : ℕ) (e : Entry) → (e.number < mark) ⊎ (¬ (e.number < mark))
+decide_below mark e = elim (cases_lt e.number mark) [ inl below ↦ inl below | inr past ↦ inr (λ below. omega (arith, past, below)) ]
 
 cases_lanes_below : (s : State) (item mark n : ℕ)
-    → ((q : ℕ) × LaneHasUnfinishedBelow (lane_at s q) item mark) ⊎ ((q : ℕ) → q < n → ¬ LaneHasUnfinishedBelow (lane_at s q) item mark)
+    → ((q : ℕ) × (e : Entry) × IsUnfinishedOn (lane_at s q) e × IsSought item mark e) ⊎ ((q : ℕ) → q < n → (e : Entry) → IsUnfinishedOn (lane_at s q) e → ¬ IsSought item mark e)
 cases_lanes_below s item mark zero = inr (λ q lt. absurd (omega arith))
 cases_lanes_below s item mark (suc n) = elim (cases_lanes_below s item mark n) [
   | inl some ↦ inl some
-  | inr none ↦ elim (cases_lane_below (lane_at s n) item mark) [
-    | inl here ↦ inl (n, here)
+  | inr none ↦ elim (cases_unfinished (IsSought item mark) (decide_sought item mark) (lane_at s n)) [
+    | inl here ↦ inl (n, here.0, here.1, here.2)
     | inr not_here ↦ inr (λ q lt. elim (cases_lt q n) [
       | inl before ↦ none q before
-      | inr past ↦ (let same : n ≡ q = omega arith in subst (λ (p : ℕ). ¬ LaneHasUnfinishedBelow (lane_at s p) item mark) same not_here)
+      | inr past ↦ (let same : n ≡ q = omega arith in subst (λ (p : ℕ). (e : Entry) → IsUnfinishedOn (lane_at s p) e → ¬ IsSought item mark e) same not_here)
     ])
   ]
 ]
 
 cases_below : (s : State) (item mark : ℕ) → HasUnfinishedBelow s item mark ⊎ (¬ HasUnfinishedBelow s item mark)
 cases_below s item mark = elim (cases_lanes_below s item mark (length s.lanes)) [
-  | inl some ↦ inl (record { lane = some.0; entry = some.1.entry; unfinished = some.1.unfinished; of_item = some.1.of_item; below = some.1.below })
-  | inr none ↦ inr (λ h. none h.lane (lane_within s h.lane h.entry h.unfinished) (record { entry = h.entry; unfinished = h.unfinished; of_item = h.of_item; below = h.below }))
+  | inl some ↦ inl (record { lane = some.0; entry = some.1; unfinished = some.2; of_item = some.3.0; below = some.3.1 })
+  | inr none ↦ inr (λ h. none h.lane (lane_within s h.lane h.entry h.unfinished) h.entry h.unfinished (h.of_item, h.below))
 ]
 
 -- some entry of the lane is unfinished with a number below the mark, or none is
 cases_busy_below : (lane : Lane) (mark : ℕ) → IsBusyBelow lane mark ⊎ (¬ IsBusyBelow lane mark)
-cases_busy_below lane mark = by_running lane.running refl
-  where
-    by_pending : ((r : Running) → Runs lane r → ¬ (r.entry.number < mark)) → (b : Bool) → list_any (λ (e : Entry). ltb e.number mark) lane.pending ≡ b → IsBusyBelow lane mark ⊎ (¬ IsBusyBelow lane mark)
-    by_pending none true some =
-        let found = Any-from_list_any (λ (e : Entry). ltb e.number mark) lane.pending some in
-        inl (record { entry = found.1; unfinished = inl (found.0, found.2, found.3); below = ltb-true found.1.number mark found.4 })
-    by_pending none false none_pending = inr (λ h. elim h.unfinished [
-      | inl (k, lt, at) ↦ false≢true (sym none_pending ∙ list_any-from_Any (λ (e : Entry). ltb e.number mark) lane.pending (k, h.entry, lt, at, (let below = h.below in grind (arith, below))))
-      | inr (r, runs, same) ↦ none r runs (subst (λ (e : Entry). e.number < mark) (sym same) h.below)
-    ])
-
-    by_running : (o : Option Running) → lane.running ≡ o → IsBusyBelow lane mark ⊎ (¬ IsBusyBelow lane mark)
-    by_running None idle = by_pending (λ r runs below. nothing_runs lane idle r runs) (list_any (λ (e : Entry). ltb e.number mark) lane.pending) refl
-    by_running (Some r) runs = elim (cases_lt r.entry.number mark) [
-      | inl below ↦ inl (record { entry = r.entry; unfinished = inr (r, runs, refl); below = below })
-      | inr past ↦ by_pending (λ x other below. let same = same_running lane x r other runs in absurd (omega (arith, past, subst (λ (y : Running). y.entry.number < mark) same below)))
-          (list_any (λ (e : Entry). ltb e.number mark) lane.pending) refl
-    ]
+cases_busy_below lane mark = elim (cases_unfinished (λ (e : Entry). e.number < mark) (decide_below mark) lane) [
+  | inl some ↦ inl (record { entry = some.0; unfinished = some.1; below = some.2 })
+  | inr none ↦ inr (λ h. none h.entry h.unfinished h.below)
+]
 
 -- a wait of either kind is held back, or it isn't
 pub cases_held_back : (w : Wiring) (s : State) (whole : Bool) (b mark : ℕ) → IsHeldBack w s whole b mark ⊎ (¬ IsHeldBack w s whole b mark)
 cases_held_back w s false b mark = cases_below s b mark
 cases_held_back w s true b mark = cases_busy_below (lane_at s (lane_of w b)) mark
 
--- ---- the step of a lane
+-- ---- the step of a rescuer
 
--- an idle lane on which nothing is pending makes no step
-HasNoDeclaredStep-idle : (w : Wiring) (s : State) (q : ℕ) → (lane_at s q).running ≡ None → (lane_at s q).pending ≡ [] → HasNoDeclaredStep w s q
-HasNoDeclaredStep-idle w s q idle empty (Queue i) is = is.of_lane
-HasNoDeclaredStep-idle w s q idle empty (Cancel i) is = is.of_lane
-HasNoDeclaredStep-idle w s q idle empty (Start p i) is =
-    let may : MayStart (lane_at s q) i = subst (λ (k : ℕ). MayStart (lane_at s k) i) is.of_lane is.lawful in
-    let never : None ≡ Some may.entry = ap (λ (es : List Entry). slice_get es 0) (sym empty) ∙ may.first in
-    cc
-HasNoDeclaredStep-idle w s q idle empty (Wait p b) is = nothing_runs (lane_at s q) idle is.lawful.0 (subst (λ (k : ℕ). Runs (lane_at s k) is.lawful.0) is.of_lane is.lawful.1)
-HasNoDeclaredStep-idle w s q idle empty (Over p b) is = nothing_runs (lane_at s q) idle is.lawful.0 (subst (λ (k : ℕ). Runs (lane_at s k) is.lawful.0) is.of_lane is.lawful.1)
-HasNoDeclaredStep-idle w s q idle empty (WaitAll p b) is = nothing_runs (lane_at s q) idle is.lawful.0 (subst (λ (k : ℕ). Runs (lane_at s k) is.lawful.0) is.of_lane is.lawful.1)
-HasNoDeclaredStep-idle w s q idle empty (OverAll p b) is = nothing_runs (lane_at s q) idle is.lawful.0 (subst (λ (k : ℕ). Runs (lane_at s k) is.lawful.0) is.of_lane is.lawful.1)
-HasNoDeclaredStep-idle w s q idle empty (Finish p i) is = nothing_runs (lane_at s q) idle is.lawful.0 (subst (λ (k : ℕ). Runs (lane_at s k) is.lawful.0) is.of_lane is.lawful.1)
-
--- nor does one whose entry waits for something unfinished
-module _ (w : Wiring) (s : State) (q : ℕ) (r : Running) (f : Waiting) (runs : Runs (lane_at s q) r) (waits : r.waiting ≡ Some f) (left : IsHeldBack w s f.whole f.target f.mark) where
-  asleep : (x : Running) → Runs (lane_at s q) x → ¬ (x.waiting ≡ None)
-  asleep x other awake =
-      let same : r ≡ x = same_running (lane_at s q) r x runs other in
-      let never : Some f ≡ None = sym waits ∙ ap (λ (y : Running). y.waiting) same ∙ awake in
-      cc
-
-  not_over : (whole : Bool) (b : ℕ) (x : Running) → Runs (lane_at s q) x → ¬ MayBeOver w s whole b x
-  not_over whole b x other may =
-      let same : r ≡ x = same_running (lane_at s q) r x runs other in
-      let both : Some f ≡ Some may.flush = sym waits ∙ ap (λ (y : Running). y.waiting) same ∙ may.waits in
-      let flush : f ≡ may.flush = cc in
-      let there : IsHeldBack w s may.flush.whole may.flush.target may.flush.mark = subst (λ (g : Waiting). IsHeldBack w s g.whole g.target g.mark) flush left in
-      may.done (subst (λ (k : Bool). IsHeldBack w s k b may.flush.mark) may.kind (subst (λ (i : ℕ). IsHeldBack w s may.flush.whole i may.flush.mark) may.target there))
-
-  HasNoDeclaredStep-waiting : HasNoDeclaredStep w s q
-  HasNoDeclaredStep-waiting (Queue i) is = is.of_lane
-  HasNoDeclaredStep-waiting (Cancel i) is = is.of_lane
-  HasNoDeclaredStep-waiting (Start p i) is =
-      let may : MayStart (lane_at s q) i = subst (λ (k : ℕ). MayStart (lane_at s k) i) is.of_lane is.lawful in
-      nothing_runs (lane_at s q) may.idle r runs
-  HasNoDeclaredStep-waiting (Wait p b) is = asleep is.lawful.0 (subst (λ (k : ℕ). Runs (lane_at s k) is.lawful.0) is.of_lane is.lawful.1) is.lawful.2.awake
-  HasNoDeclaredStep-waiting (WaitAll p b) is = asleep is.lawful.0 (subst (λ (k : ℕ). Runs (lane_at s k) is.lawful.0) is.of_lane is.lawful.1) is.lawful.2.awake
-  HasNoDeclaredStep-waiting (OverAll p b) is = not_over true b is.lawful.0 (subst (λ (k : ℕ). Runs (lane_at s k) is.lawful.0) is.of_lane is.lawful.1) is.lawful.2
-  HasNoDeclaredStep-waiting (Over p b) is = not_over false b is.lawful.0 (subst (λ (k : ℕ). Runs (lane_at s k) is.lawful.0) is.of_lane is.lawful.1) is.lawful.2
-  HasNoDeclaredStep-waiting (Finish p i) is = asleep is.lawful.0 (subst (λ (k : ℕ). Runs (lane_at s k) is.lawful.0) is.of_lane is.lawful.1) is.lawful.2.awake
-
--- a lane makes a step as declared, or it can't
+-- a rescuer makes a step as declared, or it can't
 cases_move : (w : Wiring) (s : State) (q : ℕ) → IsSoundState w s → ((step : Step) × IsDeclaredStep w s q step) ⊎ HasNoDeclaredStep w s q
 cases_move w s q sound = by_running (lane_at s q).running refl
   where
-    by_pending : (lane_at s q).running ≡ None → (es : List Entry) → (lane_at s q).pending ≡ es → ((step : Step) × IsDeclaredStep w s q step) ⊎ HasNoDeclaredStep w s q
-    by_pending idle [] is = inr (HasNoDeclaredStep-idle w s q idle is)
-    by_pending idle (e ∷ es) is =
-        inl (
-          Start q e.item,
-          record {
-            of_lane = refl;
-            lawful = record { idle = idle; entry = e; first = ap (λ (xs : List Entry). slice_get xs 0) is; of_item = refl };
-            in_order = tt;
-          },
-        )
+    by_next : (lane_at s q).running ≡ None → (o : Option Entry) → next_of (lane_at s q) ≡ o → ((step : Step) × IsDeclaredStep w s q step) ⊎ HasNoDeclaredStep w s q
+    by_next idle None none = inr (HasNoDeclaredStep-idle w s q idle none)
+    by_next idle (Some e) first = inl (Start q e.item, IsDeclaredStep-start w s q idle e first)
 
     by_waiting : (r : Running) → Runs (lane_at s q) r → (o : Option Waiting) → r.waiting ≡ o → ((step : Step) × IsDeclaredStep w s q step) ⊎ HasNoDeclaredStep w s q
     by_waiting r runs None waits = inl (awake_moves w s q r sound runs waits)
     by_waiting r runs (Some f) waits = elim (cases_held_back w s f.whole f.target f.mark) [
-      | inl left ↦ inr (HasNoDeclaredStep-waiting w s q r f runs waits left)
-      | inr done ↦ inl (
-        over_of f.whole q f.target,
-        record {
-          of_lane = of_lane-over_of q f.whole f.target;
-          lawful = lawful-goes_on w s q f.whole f.target (r, runs, record { flush = f; waits = waits; kind = refl; target = refl; done = done });
-          in_order = in_order-goes_on w s q f.whole f.target;
-        },
-      )
+      | inl left ↦ inr (HasNoDeclaredStep-waiting w s q r runs f waits left)
+      | inr done ↦ inl (over_of f.whole q f.target, IsDeclaredStep-over w s q r runs f waits done)
     ]
 
     by_running : (o : Option Running) → (lane_at s q).running ≡ o → ((step : Step) × IsDeclaredStep w s q step) ⊎ HasNoDeclaredStep w s q
-    by_running None idle = by_pending idle (lane_at s q).pending refl
+    by_running None idle = by_next idle (next_of (lane_at s q)) refl
     by_running (Some r) runs = by_waiting r runs r.waiting refl
 
 -- ---- the lowest lane that can move
@@ -180,7 +175,7 @@ none_moves w s none q = elim (cases_lt q (length s.lanes)) [
   | inl within ↦ none q within
   | inr past ↦ (
       let idle = lane_at_past s q past in
-      HasNoDeclaredStep-idle w s q (ap (λ (l : Lane). l.running) idle) (ap (λ (l : Lane). l.pending) idle)
+      HasNoDeclaredStep-idle w s q (ap (λ (l : Lane). l.running) idle) (ap (λ (l : Lane). next_of l) idle)
       )
 ]
 

@@ -1,4 +1,4 @@
--- Played runs: they are runs, they flush as declared, and at their end no rescuer can move.
+-- Played runs: they are runs, they flush as declared, no helper makes a step of them, and at their end no context goes on.
 use Rattle.std.proofs.Common.{◌≡◌, ℕ, zero, suc, ◌<◌, ◌≤◌, inl, inr, List, [], ◌∷◌, ◌++◌, length, map, Some, None, refl, arith}
 use Rattle.std.specs.Prelude.{slice_get}
 use Rattle.std.specs.List.{All, Any, count_by}
@@ -8,13 +8,14 @@ use Rattle.std.proofs.lemmas.List.Sums.{sum_by-cons}
 use Rattle.wq_items.specs.declared.target.Target.{Target}
 use Rattle.wq_core.specs.declared.entry.Running.{Running}
 use Rattle.wq_core.specs.declared.step.Step.{Step}
-use Rattle.wq_core.specs.declared.step.Step.TheVariants.{Queue, Cancel, Start, Wait, Over, WaitAll, OverAll, Finish}
+use Rattle.wq_core.specs.declared.step.Step.TheVariants.{Queue, Cancel, Start, Wait, Over, WaitAll, OverAll, Finish, Help}
 use Rattle.wq_core.specs.Wiring.{Wiring, declared_by}
 use Rattle.wq_core.specs.State.{State, lane_at, Runs}
 use Rattle.wq_core.specs.Rules.{Lawful, effect, wait_of}
-use Rattle.wq_core.specs.Runs.{after, IsRunFrom, IsRescuerStep, AsDeclaredFrom, IsCancel, queues}
+use Rattle.wq_core.specs.Runs.{after, IsRunFrom, IsRescuerStep, IsForcedStep, IsHelp, HasNoHelp, AsDeclaredFrom, IsCancel, queues}
 use Rattle.wq_core.specs.Held.{IsSoundState}
 use Rattle.wq_core.specs.Played.{IsStepOfLane, IsDeclaredStep, HasNoDeclaredStep, IsPlayedFrom}
+use Rattle.wq_core.proofs.Helpers.{OnlyRescuersRun, no_helper-goes_on}
 use Rattle.wq_core.proofs.WaitSteps.{lawful-waits, in_order-next, of_lane-wait_of}
 use Rattle.wq_core.proofs.Queued.{one_if}
 
@@ -42,6 +43,10 @@ pub no_cancel-queued : (is : List ℕ) → All (λ (step : Step). ¬ IsCancel st
 no_cancel-queued [] = All-nil (λ (step : Step). ¬ IsCancel step)
 no_cancel-queued (i ∷ is) = All-cons (λ (step : Step). ¬ IsCancel step) (Queue i) (map Queue is) (λ cancel. cancel) (no_cancel-queued is)
 
+pub no_help-queued : (is : List ℕ) → HasNoHelp (map Queue is)
+no_help-queued [] = All-nil (λ (step : Step). ¬ IsHelp step)
+no_help-queued (i ∷ is) = All-cons (λ (step : Step). ¬ IsHelp step) (Queue i) (map Queue is) (λ help. help) (no_help-queued is)
+
 -- ---- steps of a lane
 
 pub IsRescuerStep-of_lane : (q : ℕ) (step : Step) → IsStepOfLane q step → IsRescuerStep step
@@ -53,6 +58,7 @@ IsRescuerStep-of_lane q (Over p b) is = tt
 IsRescuerStep-of_lane q (WaitAll p b) is = tt
 IsRescuerStep-of_lane q (OverAll p b) is = tt
 IsRescuerStep-of_lane q (Finish p i) is = tt
+IsRescuerStep-of_lane q (Help p h deed) is = absurd is
 
 no_cancel-of_lane : (q : ℕ) (step : Step) → IsStepOfLane q step → ¬ IsCancel step
 no_cancel-of_lane q (Queue i) is cancel = cancel
@@ -63,6 +69,18 @@ no_cancel-of_lane q (Over p b) is cancel = cancel
 no_cancel-of_lane q (WaitAll p b) is cancel = cancel
 no_cancel-of_lane q (OverAll p b) is cancel = cancel
 no_cancel-of_lane q (Finish p i) is cancel = cancel
+no_cancel-of_lane q (Help p h deed) is cancel = is
+
+no_help-of_lane : (q : ℕ) (step : Step) → IsStepOfLane q step → ¬ IsHelp step
+no_help-of_lane q (Queue i) is help = help
+no_help-of_lane q (Cancel i) is help = help
+no_help-of_lane q (Start p i) is help = help
+no_help-of_lane q (Wait p b) is help = help
+no_help-of_lane q (Over p b) is help = help
+no_help-of_lane q (WaitAll p b) is help = help
+no_help-of_lane q (OverAll p b) is help = help
+no_help-of_lane q (Finish p i) is help = help
+no_help-of_lane q (Help p h deed) is help = is
 
 queues-of_lane : (i q : ℕ) (step : Step) → IsStepOfLane q step → one_if (queues i step) ≡ 0
 queues-of_lane i q (Queue j) is = absurd is
@@ -73,6 +91,7 @@ queues-of_lane i q (Over p b) is = refl
 queues-of_lane i q (WaitAll p b) is = refl
 queues-of_lane i q (OverAll p b) is = refl
 queues-of_lane i q (Finish p j) is = refl
+queues-of_lane i q (Help p h deed) is = absurd is
 
 -- ---- played runs
 
@@ -88,6 +107,11 @@ pub no_cancel-played : (w : Wiring) (s : State) (steps : List Step) → IsPlayed
 no_cancel-played w s [] played = All-nil (λ (step : Step). ¬ IsCancel step)
 no_cancel-played w s (step ∷ steps) played =
     All-cons (λ (x : Step). ¬ IsCancel x) step steps (no_cancel-of_lane played.0.0 step played.0.1.of_lane) (no_cancel-played w (effect w s step) steps played.1)
+
+pub no_help-played : (w : Wiring) (s : State) (steps : List Step) → IsPlayedFrom w s steps → HasNoHelp steps
+no_help-played w s [] played = All-nil (λ (step : Step). ¬ IsHelp step)
+no_help-played w s (step ∷ steps) played =
+    All-cons (λ (x : Step). ¬ IsHelp x) step steps (no_help-of_lane played.0.0 step played.0.1.of_lane) (no_help-played w (effect w s step) steps played.1)
 
 pub count_by-queues_played : (w : Wiring) (s : State) (steps : List Step) (i : ℕ) → IsPlayedFrom w s steps → count_by (λ (step : Step). queues i step) steps ≡ 0
 count_by-queues_played w s [] i played = refl
@@ -108,7 +132,7 @@ next_target [] k lt = absurd (omega arith)
 next_target (t ∷ ts) zero lt = (t, refl, (0, t, omega arith, refl, (refl, refl)))
 next_target (t ∷ ts) (suc k) lt = let next = next_target ts k (omega arith) in (next.0, next.1, (suc next.2.0, next.2.1, omega (arith, next.2.2), next.2.3, next.2.4))
 
--- an entry that runs and isn't waiting makes its next declared wait, or finishes after the last
+-- an entry that a rescuer runs and that isn't waiting makes its next declared wait, or finishes after the last
 pub awake_moves : (w : Wiring) (s : State) (q : ℕ) (r : Running) → IsSoundState w s → Runs (lane_at s q) r → r.waiting ≡ None → (step : Step) × IsDeclaredStep w s q step
 awake_moves w s q r sound runs awake = elim (cases_lt r.made (length (declared_by w r.entry.item))) [
   | inl before ↦ (
@@ -122,23 +146,25 @@ awake_moves w s q r sound runs awake = elim (cases_lt r.made (length (declared_b
       )
       )
   | inr past ↦ (
-      let most : r.made ≤ length (declared_by w r.entry.item) = (sound.running q r runs).made in
+      let most : r.made ≤ length (declared_by w r.entry.item) = (sound.running q 0 r runs).made in
       (Finish q r.entry.item, record { of_lane = refl; lawful = (r, runs, record { entry = refl; awake = awake }); in_order = (r, runs, omega arith) })
       )
 ]
 
-moves_as_declared : (w : Wiring) (s : State) (step : Step) → IsSoundState w s → IsRescuerStep step → Lawful w s step → (q : ℕ) × (other : Step) × IsDeclaredStep w s q other
-moves_as_declared w s (Queue i) sound is lawful = absurd is
-moves_as_declared w s (Cancel i) sound is lawful = absurd is
-moves_as_declared w s (Start q i) sound is lawful = (q, Start q i, record { of_lane = refl; lawful = lawful; in_order = tt })
-moves_as_declared w s (Wait q b) sound is (r, runs, may) = let move = awake_moves w s q r sound runs may.awake in (q, move.0, move.1)
-moves_as_declared w s (Over q b) sound is lawful = (q, Over q b, record { of_lane = refl; lawful = lawful; in_order = tt })
-moves_as_declared w s (WaitAll q b) sound is (r, runs, may) = let move = awake_moves w s q r sound runs may.awake in (q, move.0, move.1)
-moves_as_declared w s (OverAll q b) sound is lawful = (q, OverAll q b, record { of_lane = refl; lawful = lawful; in_order = tt })
-moves_as_declared w s (Finish q i) sound is (r, runs, may) = let move = awake_moves w s q r sound runs may.awake in (q, move.0, move.1)
+-- where only rescuers run something
+moves_as_declared : (w : Wiring) (s : State) (step : Step) → IsSoundState w s → OnlyRescuersRun s → IsForcedStep step → Lawful w s step → (q : ℕ) × (other : Step) × IsDeclaredStep w s q other
+moves_as_declared w s (Queue i) sound only is lawful = absurd is
+moves_as_declared w s (Cancel i) sound only is lawful = absurd is
+moves_as_declared w s (Start q i) sound only is lawful = (q, Start q i, record { of_lane = refl; lawful = lawful; in_order = tt })
+moves_as_declared w s (Wait q b) sound only is (r, runs, may) = let move = awake_moves w s q r sound runs may.awake in (q, move.0, move.1)
+moves_as_declared w s (Over q b) sound only is lawful = (q, Over q b, record { of_lane = refl; lawful = lawful; in_order = tt })
+moves_as_declared w s (WaitAll q b) sound only is (r, runs, may) = let move = awake_moves w s q r sound runs may.awake in (q, move.0, move.1)
+moves_as_declared w s (OverAll q b) sound only is lawful = (q, OverAll q b, record { of_lane = refl; lawful = lawful; in_order = tt })
+moves_as_declared w s (Finish q i) sound only is (r, runs, may) = let move = awake_moves w s q r sound runs may.awake in (q, move.0, move.1)
+moves_as_declared w s (Help q h deed) sound only is lawful = absurd (no_helper-goes_on w s q h deed only is lawful)
 
-pub no_step-played : (w : Wiring) (s : State) (steps : List Step) → IsPlayedFrom w s steps → IsSoundState w (after w s steps)
-    → (step : Step) → IsRescuerStep step → ¬ Lawful w (after w s steps) step
-no_step-played w s steps played sound step is lawful =
-    let move = moves_as_declared w (after w s steps) step sound is lawful in
+pub no_step-played : (w : Wiring) (s : State) (steps : List Step) → IsPlayedFrom w s steps → IsSoundState w (after w s steps) → OnlyRescuersRun (after w s steps)
+    → (step : Step) → IsForcedStep step → ¬ Lawful w (after w s steps) step
+no_step-played w s steps played sound only step is lawful =
+    let move = moves_as_declared w (after w s steps) step sound only is lawful in
     HasNoDeclaredStep-played w s steps played move.0 move.1 move.2

@@ -1,6 +1,6 @@
 -- Entries of a lane, whose numbers rise: after a step, and when one of them is removed.
-use Rattle.std.proofs.Common.{◌≡◌, ◌≢◌, ℕ, zero, suc, ◌<◌, ◌≤◌, ◌-◌, ◌⊎◌, inl, inr, true, false, not, eqb, ltb, List, [], ◌∷◌, length, get_or, drop, refl, sym, ap, subst, ◌∙◌, arith}
-use Rattle.std.specs.Prelude.{AllPairs, Contains, remove, slice_get, Some}
+use Rattle.std.proofs.Common.{◌≡◌, ◌≢◌, ℕ, zero, suc, ◌<◌, ◌≤◌, ◌-◌, ◌⊎◌, inl, inr, true, false, not, eqb, ltb, List, [], ◌∷◌, length, get_or, Option, Some, None, refl, sym, ap, subst, ◌∙◌, arith}
+use Rattle.std.specs.Prelude.{AllPairs, Contains, remove, slice_get, option_map, find}
 use Rattle.std.specs.List.{All, filter}
 use Rattle.std.specs.List.Sorted.{IsPartitionPoint, IsNonDecreasingBy}
 use Rattle.std.proofs.Math.ListN.{get_or-eq_default}
@@ -11,12 +11,16 @@ use Rattle.std.proofs.lemmas.List.Kept.{AllPairs-filter}
 use borrow.Author.Tests.{ltb-true}
 use Rattle.wq_items.proofs.Lists.{AllPairs-head, AllPairs-tail}
 use Rattle.wq_core.specs.declared.entry.Entry.{Entry}
+use Rattle.wq_core.specs.declared.entry.Running.{Running}
 use Rattle.wq_core.specs.declared.step.Step.{Step}
-use Rattle.wq_core.specs.declared.step.Step.TheVariants.{Queue, Cancel, Start, Wait, Over, WaitAll, OverAll, Finish}
+use Rattle.wq_core.specs.declared.step.Step.TheVariants.{Queue, Cancel, Start, Wait, Over, WaitAll, OverAll, Finish, Help}
+use Rattle.wq_core.specs.declared.step.HelpStep.{HelpStep}
+use Rattle.wq_core.specs.declared.step.HelpStep.TheVariants.{Start as DoStart, Wait as DoWait, WaitAll as DoWaitAll, Over as DoOver, OverAll as DoOverAll, Finish as DoFinish}
 use Rattle.wq_core.specs.Wiring.{Wiring, lane_of}
-use Rattle.wq_core.specs.State.{Lane, State, lane_at, with_lane}
-use Rattle.wq_core.specs.Rules.{effect, with_queued, with_cancelled, with_started, with_wait, with_over, with_finished}
+use Rattle.wq_core.specs.State.{Lane, State, lane_at, with_lane, run_by, with_run_by, pending_of}
+use Rattle.wq_core.specs.Rules.{effect, done_by, begun, waiting_for, going_on, with_queued, with_cancelled, with_started, with_wait, with_over, with_finished}
 use Rattle.wq_core.specs.Held.{IsSoundState, IsRising}
+use Rattle.wq_core.proofs.Contexts.{pending_kept}
 use Rattle.wq_core.proofs.LaneLemmas.{cases_with_lane, AllPairs-nil}
 use Rattle.wq_core.proofs.Sound.{Differ}
 
@@ -103,6 +107,17 @@ remove-others i (p ∷ ps) (suc k) d within is once =
     let here : not (eqb p.item i) ≡ true = ap not (ne_eqb p.item i (λ same. AllPairs-head Differ p ps once k d there (same ∙ sym is))) in
     ap (λ (es : List Entry). p ∷ es) (remove-others i ps k d there is (AllPairs-tail Differ p ps once)) ∙ sym (cond-true (not (eqb p.item i)) (p ∷ others ps) (others ps) here)
 
+-- the pending entry of its item is this one
+pub found-one : (ps : List Entry) (e : Entry) → AllPairs Differ ps → Contains ps e → find (λ (f : Entry). eqb f.item e.item) ps ≡ Some e
+found-one [] e once (k, lt, at) = absurd (omega arith)
+found-one (p ∷ ps) e once (zero, lt, at) =
+    let same : eqb p.item e.item ≡ true = eq-eqb p.item e.item (ap (λ (f : Entry). f.item) at) in
+    cond-true (eqb p.item e.item) (Some p) (find (λ (f : Entry). eqb f.item e.item) ps) same ∙ ap Some at
+found-one (p ∷ ps) e once (suc k, lt, at) =
+    let there : k < length ps = omega arith in
+    let other : p.item ≢ e.item = λ same. AllPairs-head Differ p ps once k e there (same ∙ sym (ap (λ (f : Entry). f.item) at)) in
+    cond-false (eqb p.item e.item) (Some p) (find (λ (f : Entry). eqb f.item e.item) ps) (ne_eqb p.item e.item other) ∙ found-one ps e (AllPairs-tail Differ p ps once) (k, there, at)
+
 -- ---- after a step
 
 IsRising-with_lane : (s : State) (q : ℕ) (lane : Lane) → IsRising lane.pending → ((p : ℕ) → IsRising (lane_at s p).pending) → (p : ℕ) → IsRising (lane_at (with_lane s q lane) p).pending
@@ -114,9 +129,25 @@ IsRising-with_lane s q lane new each p = elim (cases_with_lane s q lane p) [
 pub IsRising-nil : IsRising []
 IsRising-nil = AllPairs-nil Rise
 
-drop_rising : (ps : List Entry) → IsRising ps → IsRising (drop 1 ps)
-drop_rising [] rising = IsRising-nil
-drop_rising (p ∷ ps) rising = AllPairs-tail Rise p ps rising
+-- without an item's entries
+rising_others : (ps : List Entry) (i : ℕ) → IsRising ps → IsRising (filter (λ (e : Entry). not (eqb e.item i)) ps)
+rising_others ps i rising = AllPairs-filter Rise (λ (e : Entry). not (eqb e.item i)) ps rising
+
+-- where another context runs something, the same entries are pending
+rising_run_by : (lane : Lane) (c : ℕ) (o : Option Running) → IsRising lane.pending → IsRising (with_run_by lane c o).pending
+rising_run_by lane c o rising = subst IsRising (sym (pending_kept lane c o)) rising
+
+module _ (s : State) (each : (p : ℕ) → IsRising (lane_at s p).pending) (q c : ℕ) where
+  abbrev own : Lane
+  own = lane_at s q
+
+  rising_deed : (deed : HelpStep) (p : ℕ) → IsRising (lane_at (done_by s q c deed) p).pending
+  rising_deed (DoStart i) = IsRising-with_lane s q (with_started c i own) (rising_run_by (with_cancelled i own) c (option_map begun (pending_of own i)) (rising_others own.pending i (each q))) each
+  rising_deed (DoWait b) = IsRising-with_lane s q (with_wait c false b s.next own) (rising_run_by own c (option_map (waiting_for false b s.next) (run_by own c)) (each q)) each
+  rising_deed (DoWaitAll b) = IsRising-with_lane s q (with_wait c true b s.next own) (rising_run_by own c (option_map (waiting_for true b s.next) (run_by own c)) (each q)) each
+  rising_deed (DoOver b) = IsRising-with_lane s q (with_over c own) (rising_run_by own c (option_map going_on (run_by own c)) (each q)) each
+  rising_deed (DoOverAll b) = IsRising-with_lane s q (with_over c own) (rising_run_by own c (option_map going_on (run_by own c)) (each q)) each
+  rising_deed (DoFinish i) = IsRising-with_lane s q (with_finished c own) (rising_run_by own c None (each q)) each
 
 pub IsRising-effect : (w : Wiring) (s : State) (step : Step) → IsSoundState w s → ((p : ℕ) → IsRising (lane_at s p).pending) → (p : ℕ) → IsRising (lane_at (effect w s step) p).pending
 IsRising-effect w s (Queue i) sound each =
@@ -127,10 +158,11 @@ IsRising-effect w s (Queue i) sound each =
     IsRising-with_lane s q (with_queued e (lane_at s q)) (all_pairs_push Rise ps e (each q) last) each
 IsRising-effect w s (Cancel i) sound each =
     let q : ℕ = lane_of w i in
-    IsRising-with_lane s q (with_cancelled i (lane_at s q)) (AllPairs-filter Rise (λ (e : Entry). not (eqb e.item i)) (lane_at s q).pending (each q)) each
-IsRising-effect w s (Start q i) sound each = IsRising-with_lane s q (with_started (lane_at s q)) (drop_rising (lane_at s q).pending (each q)) each
-IsRising-effect w s (Wait q b) sound each = IsRising-with_lane s q (with_wait false b s.next (lane_at s q)) (each q) each
-IsRising-effect w s (WaitAll q b) sound each = IsRising-with_lane s q (with_wait true b s.next (lane_at s q)) (each q) each
-IsRising-effect w s (Over q b) sound each = IsRising-with_lane s q (with_over (lane_at s q)) (each q) each
-IsRising-effect w s (OverAll q b) sound each = IsRising-with_lane s q (with_over (lane_at s q)) (each q) each
-IsRising-effect w s (Finish q i) sound each = IsRising-with_lane s q (with_finished (lane_at s q)) (each q) each
+    IsRising-with_lane s q (with_cancelled i (lane_at s q)) (rising_others (lane_at s q).pending i (each q)) each
+IsRising-effect w s (Start q i) sound each = rising_deed s each q 0 (DoStart i)
+IsRising-effect w s (Wait q b) sound each = rising_deed s each q 0 (DoWait b)
+IsRising-effect w s (WaitAll q b) sound each = rising_deed s each q 0 (DoWaitAll b)
+IsRising-effect w s (Over q b) sound each = rising_deed s each q 0 (DoOver b)
+IsRising-effect w s (OverAll q b) sound each = rising_deed s each q 0 (DoOverAll b)
+IsRising-effect w s (Finish q i) sound each = rising_deed s each q 0 (DoFinish i)
+IsRising-effect w s (Help q h deed) sound each = rising_deed s each q h deed

@@ -11,11 +11,14 @@ use Rattle.wq_items.specs.declared.target.Target.{Target}
 use Rattle.wq_items.proofs.Pigeonhole.{repeats_from_length}
 use Rattle.wq_core.specs.declared.entry.Entry.{Entry}
 use Rattle.wq_core.specs.declared.entry.Running.{Running}
-use Rattle.wq_core.specs.declared.step.Step.TheVariants.{Queue, Cancel, Start}
-use Rattle.wq_core.specs.Wiring.{Wiring, IsWiring, items, lane_of}
-use Rattle.wq_core.specs.State.{Lane, State, lane_at, IsPendingOn, Runs}
-use Rattle.wq_core.specs.Rules.{Lawful, effect, with_queued, MayWait, wait_of}
+use Rattle.wq_core.specs.declared.step.Step.TheVariants.{Queue, Cancel}
+use Rattle.wq_core.specs.declared.step.HelpStep.{HelpStep}
+use Rattle.wq_core.specs.declared.step.HelpStep.TheVariants.{Start as DoStart}
+use Rattle.wq_core.specs.Wiring.{Wiring, IsWiring, helpers_of, items, lane_of}
+use Rattle.wq_core.specs.State.{Lane, State, lane_at, run_by, RunsIn, IsPendingOn}
+use Rattle.wq_core.specs.Rules.{MayDo, Lawful, effect, with_queued, MayWait, wait_deed, step_in}
 use Rattle.wq_core.specs.Held.{IsSoundState, IsRising, HeldLane, Machine, machine_of, IsHeld, IsMachine, IsNumberOf}
+use Rattle.wq_core.proofs.Contexts.{found-is, step_in-may, step_in-gives}
 use Rattle.wq_core.proofs.LaneLemmas.{lane_at-with_lane_same}
 use Rattle.wq_core.proofs.Sound.{Differ, IsSoundState-effect}
 use Rattle.wq_core.proofs.LawfulSteps.{start-item}
@@ -85,7 +88,7 @@ module _ (p : ℕ → Bool) (l : List ℕ) where
 
 -- ---- pending entries
 
-same_passes : (a b : ℕ) → a ≡ b → eqb a b ≡ true
+pub same_passes : (a b : ℕ) → a ≡ b → eqb a b ≡ true
 same_passes a b same = grind (arith, same)
 
 -- a lane has no more pending entries than items
@@ -118,10 +121,17 @@ pending_count w s q wiring sound = subst (λ n. n ≤ count_by (λ l. l == q) w.
         let i_in : i < length ps = omega (arith, less, j_in) in
         sound.once q i j none less j_in (sym (item_at i d i_in) ∙ same ∙ item_at j d j_in)
 
-module _ (waits : List (List Target)) (lane_of_item : List ℕ) (numbers : List (Option ℕ)) (lanes : List HeldLane) (next : ℕ) (m : Machine) (n q : ℕ) (old : HeldLane)
-    (held : IsHeld waits lane_of_item numbers lanes next) (view : machine_of waits lane_of_item lanes next ≡ m) (was : slice_get lanes q ≡ Some old) where
+module _ (waits : List (List Target)) (lane_of_item : List ℕ) (helpers : ℕ) (numbers : List (Option ℕ)) (lanes : List HeldLane) (next : ℕ) (m : Machine) (n q : ℕ) (old : HeldLane)
+    (held : IsHeld waits lane_of_item helpers numbers lanes next) (view : machine_of waits lane_of_item helpers lanes next ≡ m) (was : slice_get lanes q ≡ Some old) where
   abbrev before : Machine
-  before = machine_of waits lane_of_item lanes next
+  before = machine_of waits lane_of_item helpers lanes next
+
+  -- the lane of the machine is the one that is held
+  own_lane : lane_at m.state q ≡ old.lane
+  own_lane = ap (λ (k : Machine). lane_at k.state q) (sym view) ∙ held_lane waits lane_of_item helpers numbers lanes next q old was
+
+  sound_now : IsMachine m
+  sound_now = subst IsMachine view held.machine
 
   pub room_left : (i : ℕ) → q ≡ lane_of m.wiring i → q < m.wiring.lanes → IsNumberOf m (Queue i) (Some n) → length old.lane.pending < old.room
   room_left i own within number =
@@ -134,40 +144,54 @@ module _ (waits : List (List Target)) (lane_of_item : List ℕ) (numbers : List 
       let there : q < length before.state.lanes = omega (arith, within, held.machine.state.one_each, ap (λ (k : Machine). k.wiring.lanes) view) in
       let lane : lane_at after q ≡ with_queued e old.lane =
       subst (λ r. lane_at (effect before.wiring before.state (Queue i)) r ≡ with_queued e (lane_at before.state r)) at (lane_at-with_lane_same before.state (lane_of before.wiring i) (with_queued e (lane_at before.state (lane_of before.wiring i))) (rw at there))
-      ∙ ap (λ (l : Lane). with_queued e l) (held_lane waits lane_of_item numbers lanes next q old was) in
+      ∙ ap (λ (l : Lane). with_queued e l) (held_lane waits lane_of_item helpers numbers lanes next q old was) in
       let longer : length (lane_at after q).pending ≡ length old.lane.pending + 1 = ap (λ (l : Lane). length l.pending) lane ∙ length-append old.lane.pending (e ∷ []) in
       omega (arith, count, longer, held.room q old was)
 
-  waiting_fits : (whole : Bool) (b : ℕ) → (r : Running) × Runs (lane_at m.state q) r × MayWait m.wiring whole b r → IfSome old.lane.running (λ (r : Running). r.made + 1 < 4294967296)
-  waiting_fits whole b (r, runs, may) =
-      let sound : IsMachine m = subst IsMachine view held.machine in
-      let there : r.entry.item < items m.wiring = running-item m.wiring m.state q r sound.state runs in
+  -- one more wait of what a context runs is counted
+  pub wait_fits : (c : ℕ) (whole : Bool) (b : ℕ) → IsNumberOf m (step_in q c (wait_deed whole b)) (Some n) → IfSome (run_by old.lane c) (λ (r : Running). r.made + 1 < 4294967296)
+  wait_fits c whole b number =
+      let (r, runs, may) = waiting whole (step_in-may m.wiring m.state q c (wait_deed whole b) number.0) in
+      let there : r.entry.item < items m.wiring = running-item m.wiring m.state q c r sound_now.state runs in
       let few = get_or-le-sum_by length m.wiring.waits r.entry.item [] there in
-      let is : old.lane.running ≡ Some r = ap (λ (l : Lane). l.running) (sym (held_lane waits lane_of_item numbers lanes next q old was) ∙ ap (λ (k : Machine). lane_at k.state q) view) ∙ runs in
-      subst (λ (o : Option Running). IfSome o (λ (x : Running). x.made + 1 < 4294967296)) (sym is) (omega (arith, may.fewer, few, sound.few_flushes))
+      let is : run_by old.lane c ≡ Some r = ap (λ (l : Lane). run_by l c) (sym own_lane) ∙ runs in
+      subst (λ (o : Option Running). IfSome o (λ (x : Running). x.made + 1 < 4294967296)) (sym is) (omega (arith, may.fewer, few, sound_now.few_flushes))
+    where
+      waiting : (kind : Bool) → MayDo m.wiring m.state q c (wait_deed kind b) → (r : Running) × RunsIn (lane_at m.state q) c r × MayWait m.wiring kind b r
+      waiting false may = may
+      waiting true may = may
 
-  pub wait_fits : (whole : Bool) (b : ℕ) → IsNumberOf m (wait_of whole q b) (Some n) → IfSome old.lane.running (λ (r : Running). r.made + 1 < 4294967296)
-  wait_fits false b number = waiting_fits false b number.0
-  wait_fits true b number = waiting_fits true b number.0
-
-  -- the entry that is cancelled is one of the lane's, whose numbers rise and of which each item has one
+  -- the entry that is cancelled or started is one of the lane's, whose numbers rise and of which each item has one
   pub cancel_pending : (i : ℕ) → q ≡ lane_of m.wiring i → IsNumberOf m (Cancel i) (Some n) → IsPendingOn old.lane (record { number = n; item = i })
   cancel_pending i own number =
-      let sound : IsMachine m = subst IsMachine view held.machine in
       let (h, given) = number.1 in
-      let same : h.lane ≡ q = (pending-own_lane m.wiring m.state i sound.state h).1 ∙ sym own in
-      let lane : lane_at m.state h.lane ≡ old.lane = ap (λ p. lane_at m.state p) same ∙ ap (λ (k : Machine). lane_at k.state q) (sym view) ∙ held_lane waits lane_of_item numbers lanes next q old was in
+      let same : h.lane ≡ q = (pending-own_lane m.wiring m.state i sound_now.state h).1 ∙ sym own in
+      let lane : lane_at m.state h.lane ≡ old.lane = ap (λ p. lane_at m.state p) same ∙ own_lane in
       let there : IsPendingOn old.lane h.entry = subst (λ (l : Lane). IsPendingOn l h.entry) lane h.pending in
       subst (λ k. IsPendingOn old.lane (record { number = k; item = i })) given (subst (λ k. IsPendingOn old.lane (record { number = h.entry.number; item = k })) h.of_item there)
 
-  pub cancel_once : AllPairs Differ old.lane.pending
-  cancel_once = subst (λ (l : Lane). AllPairs Differ l.pending) (held_lane waits lane_of_item numbers lanes next q old was) (held.machine.state.once q)
+  pub start_pending : (c i : ℕ) → IsNumberOf m (step_in q c (DoStart i)) (Some n) → IsPendingOn old.lane (record { number = n; item = i })
+  start_pending c i number =
+      let (e, first, given) = step_in-gives m.state q c (DoStart i) n number.1 in
+      let is = found-is (lane_at m.state q).pending i e first in
+      let there : IsPendingOn old.lane e = subst (λ (l : Lane). IsPendingOn l e) own_lane is.0 in
+      subst (λ k. IsPendingOn old.lane (record { number = k; item = i })) given (subst (λ k. IsPendingOn old.lane (record { number = e.number; item = k })) is.1 there)
 
-  pub cancel_rising : IsRising old.lane.pending
-  cancel_rising = subst (λ (l : Lane). IsRising l.pending) (held_lane waits lane_of_item numbers lanes next q old was) (held.rising q)
+  pub pending_once : AllPairs Differ old.lane.pending
+  pending_once = subst (λ (l : Lane). AllPairs Differ l.pending) own_lane (sound_now.state.once q)
 
-  pub start_numbered : (i : ℕ) → IsNumberOf m (Start q i) (Some n) → i < length numbers
-  start_numbered i number =
-      let sound : IsMachine m = subst IsMachine view held.machine in
-      let below : i < items m.wiring = start-item m.wiring m.state q i sound.state number.0 in
+  pub pending_rising : IsRising old.lane.pending
+  pending_rising = subst (λ (l : Lane). IsRising l.pending) (held_lane waits lane_of_item helpers numbers lanes next q old was) (held.rising q)
+
+  pub start_numbered : (c i : ℕ) → IsNumberOf m (step_in q c (DoStart i)) (Some n) → i < length numbers
+  start_numbered c i number =
+      let below : i < items m.wiring = start-item m.wiring m.state q c i sound_now.state (step_in-may m.wiring m.state q c (DoStart i) number.0) in
       omega (arith, below, held.numbers.one_each, ap (λ (k : Machine). items k.wiring) view)
+
+  -- a helper that makes a lawful step is one of the lane's
+  pub context_held : (c : ℕ) (deed : HelpStep) → Lawful m.wiring m.state (step_in q c deed) → c ≤ old.helpers
+  context_held c deed lawful = omega (arith, exists c lawful, held.helped q old was, ap (λ (k : Machine). helpers_of k.wiring q) view)
+    where
+      exists : (d : ℕ) → Lawful m.wiring m.state (step_in q d deed) → d ≤ helpers_of m.wiring q
+      exists zero may = omega arith
+      exists (suc h) may = may.0.1

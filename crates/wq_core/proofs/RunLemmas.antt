@@ -1,19 +1,19 @@
 -- Steps in a row, and machines on which nothing is unfinished.
-use Rattle.std.proofs.Common.{◌≡◌, ℕ, zero, suc, ◌+◌, ◌<◌, ◌≤◌, ◌↔◌, List, [], ◌∷◌, ◌++◌, length, get_or, take, refl, sym, subst, ◌∙◌, ap, arith, inl, inr}
-use Rattle.std.specs.Prelude.{Option, Some, None, slice_get}
+use Rattle.std.proofs.Common.{◌≡◌, ℕ, zero, suc, ◌+◌, ◌<◌, ◌≤◌, ◌↔◌, List, [], ◌∷◌, ◌++◌, length, get_or, take, true, refl, sym, subst, ◌∙◌, ap, arith}
+use Rattle.std.specs.Prelude.{Some, slice_get}
 use Rattle.std.specs.List.{All}
 use Rattle.std.proofs.lemmas.List.{get_or-map, length-map}
 use Rattle.wq_items.specs.declared.target.Target.{Target}
-use Rattle.wq_core.specs.declared.entry.Entry.{Entry}
-use Rattle.wq_core.specs.declared.entry.Running.{Running}
 use Rattle.wq_core.specs.declared.step.Step.{Step}
-use Rattle.wq_core.specs.declared.step.Step.TheVariants.{Queue, Cancel, Start, Wait, Over, WaitAll, OverAll, Finish}
+use Rattle.wq_core.specs.declared.step.Step.TheVariants.{Queue, Cancel, Start, Wait, Over, WaitAll, OverAll, Finish, Help}
+use Rattle.wq_core.specs.declared.step.HelpStep.{HelpStep}
+use Rattle.wq_core.specs.declared.step.HelpStep.TheVariants.{Start as DoStart, Wait as DoWait, WaitAll as DoWaitAll, Over as DoOver, OverAll as DoOverAll, Finish as DoFinish}
 use Rattle.wq_core.specs.Wiring.{Wiring}
-use Rattle.wq_core.specs.State.{Lane, State, idle_lane, lane_at, IsUnfinishedOn, HasUnfinished}
-use Rattle.wq_core.specs.Rules.{Lawful, effect}
+use Rattle.wq_core.specs.State.{Lane, State, idle_lane, lane_at, IsUnfinishedOn, IsBusy, HasUnfinished}
+use Rattle.wq_core.specs.Rules.{Lawful, done_by, effect}
 use Rattle.wq_core.specs.Runs.{after, IsRunFrom}
 use Rattle.wq_core.specs.Held.{HeldLane, Machine, machine_of, IsDone, AreDone}
-use Rattle.wq_core.proofs.LaneLemmas.{lane_within, idle_lane-unfinished}
+use Rattle.wq_core.proofs.LaneLemmas.{lane_within}
 
 -- ---- one more step
 
@@ -28,6 +28,14 @@ IsRunFrom-at w s (first ∷ steps) zero step run stands = let same : first ≡ s
 IsRunFrom-at w s (first ∷ steps) (suc k) step run stands = IsRunFrom-at w (effect w s first) steps k step run.1 stands
 
 -- a step gives at most one number
+next-deed : (s : State) (q c : ℕ) (deed : HelpStep) → (done_by s q c deed).next ≡ s.next
+next-deed s q c (DoStart i) = refl
+next-deed s q c (DoWait b) = refl
+next-deed s q c (DoWaitAll b) = refl
+next-deed s q c (DoOver b) = refl
+next-deed s q c (DoOverAll b) = refl
+next-deed s q c (DoFinish i) = refl
+
 pub next-effect : (w : Wiring) (s : State) (step : Step) → (effect w s step).next ≤ s.next + 1
 next-effect w s (Queue i) = omega arith
 next-effect w s (Cancel i) = omega arith
@@ -37,6 +45,7 @@ next-effect w s (Over q b) = omega arith
 next-effect w s (WaitAll q b) = omega arith
 next-effect w s (OverAll q b) = omega arith
 next-effect w s (Finish q i) = omega arith
+next-effect w s (Help q h deed) = omega (arith, next-deed s q h deed)
 
 pub IsRunFrom-more : (w : Wiring) (s : State) (steps : List Step) (step : Step) → IsRunFrom w s steps → Lawful w (after w s steps) step → IsRunFrom w s (steps ++ (step ∷ []))
 IsRunFrom-more w s [] step run lawful = (lawful, tt)
@@ -55,30 +64,22 @@ AreDone-more old middle new steps step n done next =
 
 -- ---- nothing unfinished
 
-idle_fields : (ps : List Entry) (o : Option Running) → ((e : Entry) → ¬ IsUnfinishedOn (record { pending = ps; running = o }) e) → record { pending = ps; running = o } ≡ idle_lane
-idle_fields [] None none = refl
-idle_fields [] (Some r) none = absurd (none r.entry (inr (r, refl, refl)))
-idle_fields (p ∷ ps) o none = absurd (none p (inl (0, omega arith, refl)))
+module _ (waits : List (List Target)) (lane_of_item : List ℕ) (helpers : ℕ) (lanes : List HeldLane) (next : ℕ) where
+  abbrev held_state : State
+  held_state = (machine_of waits lane_of_item helpers lanes next).state
 
-idle_where_none : (lane : Lane) → ((e : Entry) → ¬ IsUnfinishedOn lane e) → lane ≡ idle_lane
-idle_where_none lane none = idle_fields lane.pending lane.running none
+  held_at : (q : ℕ) (d : HeldLane) → q < length lanes → lane_at held_state q ≡ (get_or lanes q d).lane
+  held_at q d lt = get_or-map (λ (h : HeldLane). h.lane) lanes q d idle_lane lt
 
-pub idle_exactly : (waits : List (List Target)) (lane_of_item : List ℕ) (lanes : List HeldLane) (next : ℕ)
-    → All (λ (h : HeldLane). h.lane ≡ idle_lane) lanes ↔ (¬ HasUnfinished (machine_of waits lane_of_item lanes next).state)
-idle_exactly waits lane_of_item lanes next = (to, from) where
-  s : State
-  s = (machine_of waits lane_of_item lanes next).state
+  pub idle_exactly : All (λ (h : HeldLane). ¬ IsBusy h.lane) lanes ↔ (¬ HasUnfinished held_state)
+  idle_exactly = (to, from) where
+    none : HeldLane
+    none = record { lane = idle_lane; room = 0; ordered = true; helpers = 0 }
 
-  none : HeldLane
-  none = record { lane = idle_lane; room = 0 }
+    to : All (λ (h : HeldLane). ¬ IsBusy h.lane) lanes → ¬ HasUnfinished held_state
+    to all h =
+        let within : h.lane < length lanes = omega (arith, lane_within held_state h.lane h.entry h.unfinished, length-map lanes (λ (g : HeldLane). g.lane)) in
+        all h.lane none within (h.entry, subst (λ (l : Lane). IsUnfinishedOn l h.entry) (held_at h.lane none within) h.unfinished)
 
-  at : (q : ℕ) (d : HeldLane) → q < length lanes → lane_at s q ≡ (get_or lanes q d).lane
-  at q d lt = get_or-map (λ (h : HeldLane). h.lane) lanes q d idle_lane lt
-
-  to : All (λ (h : HeldLane). h.lane ≡ idle_lane) lanes → ¬ HasUnfinished s
-  to all h =
-      let within : h.lane < length lanes = omega (arith, lane_within s h.lane h.entry h.unfinished, length-map lanes (λ (g : HeldLane). g.lane)) in
-      idle_lane-unfinished h.entry (subst (λ (l : Lane). IsUnfinishedOn l h.entry) (at h.lane none within ∙ all h.lane none within) h.unfinished)
-
-  from : (¬ HasUnfinished s) → All (λ (h : HeldLane). h.lane ≡ idle_lane) lanes
-  from nothing q d lt = idle_where_none (get_or lanes q d).lane (λ e h. nothing (record { lane = q; entry = e; unfinished = subst (λ (l : Lane). IsUnfinishedOn l e) (sym (at q d lt)) h }))
+    from : (¬ HasUnfinished held_state) → All (λ (h : HeldLane). ¬ IsBusy h.lane) lanes
+    from nothing q d lt (e, unfinished) = nothing (record { lane = q; entry = e; unfinished = subst (λ (l : Lane). IsUnfinishedOn l e) (sym (held_at q d lt)) unfinished })

@@ -1,43 +1,74 @@
--- Steps of a wait, whatever its kind.
-use Rattle.std.proofs.Common.{ℕ, Bool, true, false, refl, subst, ◌∙◌}
+-- Steps of a context, whichever it is, and steps of a wait, whatever its kind.
+use Rattle.std.proofs.Common.{◌≡◌, ℕ, zero, suc, ◌<◌, Bool, true, false, refl, subst, ◌∙◌, arith}
 use Rattle.wq_core.specs.declared.entry.Running.{Running}
+use Rattle.wq_core.specs.declared.step.Step.TheVariants.{Help}
+use Rattle.wq_core.specs.declared.step.HelpStep.{HelpStep}
+use Rattle.wq_core.specs.declared.step.HelpStep.TheVariants.{Start as DoStart, Wait as DoWait, WaitAll as DoWaitAll, Over as DoOver, OverAll as DoOverAll, Finish as DoFinish}
 use Rattle.wq_core.specs.Wiring.{Wiring, lane_of}
-use Rattle.wq_core.specs.State.{State, lane_at, Runs, IsUnfinishedOn, HasUnfinishedBelow}
-use Rattle.wq_core.specs.Rules.{MayWait, MayBeOver, Lawful, IsHeldBack, IsHolder, wait_of, over_of}
+use Rattle.wq_core.specs.State.{State, lane_at, RunsIn, IsUnfinishedOn, HasUnfinishedBelow}
+use Rattle.wq_core.specs.Rules.{MayWait, MayBeOver, Lawful, done_by, effect, IsHeldBack, IsHolder, wait_of, over_of, step_in}
 use Rattle.wq_core.specs.Runs.{KeepsOrder, IsNextWait}
-use Rattle.wq_core.specs.Held.{IsSoundState}
+use Rattle.wq_core.specs.Held.{IsSoundState, UsesUp}
 use Rattle.wq_core.specs.Played.{IsStepOfLane}
 use Rattle.wq_core.proofs.Machines.{unfinished-own_lane}
 
+-- ---- steps of a context
+
+-- a helper's step
+pub step_in-help : (q c : ℕ) (deed : HelpStep) → 0 < c → step_in q c deed ≡ Help q c deed
+step_in-help q zero deed some = absurd (omega arith)
+step_in-help q (suc h) deed some = refl
+
+pub step_in-effect : (w : Wiring) (s : State) (q c : ℕ) (deed : HelpStep) → effect w s (step_in q c deed) ≡ done_by s q c deed
+step_in-effect w s q zero (DoStart i) = refl
+step_in-effect w s q zero (DoWait b) = refl
+step_in-effect w s q zero (DoWaitAll b) = refl
+step_in-effect w s q zero (DoOver b) = refl
+step_in-effect w s q zero (DoOverAll b) = refl
+step_in-effect w s q zero (DoFinish i) = refl
+step_in-effect w s q (suc h) deed = refl
+
+-- no step of a context takes a number
+pub step_in-number_left : (s : State) (q c : ℕ) (deed : HelpStep) → ¬ UsesUp s (step_in q c deed)
+step_in-number_left s q zero (DoStart i) uses = uses
+step_in-number_left s q zero (DoWait b) uses = uses
+step_in-number_left s q zero (DoWaitAll b) uses = uses
+step_in-number_left s q zero (DoOver b) uses = uses
+step_in-number_left s q zero (DoOverAll b) uses = uses
+step_in-number_left s q zero (DoFinish i) uses = uses
+step_in-number_left s q (suc h) deed uses = uses
+
+-- what a context runs may make such a wait, or its wait may be over
+abbrev pub RunsAndWaits : Wiring → State → ℕ → ℕ → Bool → ℕ → Type 0
+RunsAndWaits w s q c whole b = (r : Running) × RunsIn (lane_at s q) c r × MayWait w whole b r
+
+abbrev pub RunsAndGoesOn : Wiring → State → ℕ → ℕ → Bool → ℕ → Type 0
+RunsAndGoesOn w s q c whole b = (r : Running) × RunsIn (lane_at s q) c r × MayBeOver w s whole b r
+
+-- ---- steps of a rescuer
+
 module _ (w : Wiring) (s : State) (q : ℕ) where
-  -- what runs on lane q may make such a wait, or its wait may be over
-  abbrev pub RunsAndWaits : Bool → ℕ → Type 0
-  RunsAndWaits whole b = (r : Running) × Runs (lane_at s q) r × MayWait w whole b r
-
-  abbrev pub RunsAndGoesOn : Bool → ℕ → Type 0
-  RunsAndGoesOn whole b = (r : Running) × Runs (lane_at s q) r × MayBeOver w s whole b r
-
-  pub waits-lawful : (whole : Bool) (b : ℕ) → Lawful w s (wait_of whole q b) → RunsAndWaits whole b
+  pub waits-lawful : (whole : Bool) (b : ℕ) → Lawful w s (wait_of whole q b) → RunsAndWaits w s q 0 whole b
   waits-lawful false b may = may
   waits-lawful true b may = may
 
-  pub lawful-waits : (whole : Bool) (b : ℕ) → RunsAndWaits whole b → Lawful w s (wait_of whole q b)
+  pub lawful-waits : (whole : Bool) (b : ℕ) → RunsAndWaits w s q 0 whole b → Lawful w s (wait_of whole q b)
   lawful-waits false b may = may
   lawful-waits true b may = may
 
-  pub goes_on-lawful : (whole : Bool) (b : ℕ) → Lawful w s (over_of whole q b) → RunsAndGoesOn whole b
+  pub goes_on-lawful : (whole : Bool) (b : ℕ) → Lawful w s (over_of whole q b) → RunsAndGoesOn w s q 0 whole b
   goes_on-lawful false b may = may
   goes_on-lawful true b may = may
 
-  pub lawful-goes_on : (whole : Bool) (b : ℕ) → RunsAndGoesOn whole b → Lawful w s (over_of whole q b)
+  pub lawful-goes_on : (whole : Bool) (b : ℕ) → RunsAndGoesOn w s q 0 whole b → Lawful w s (over_of whole q b)
   lawful-goes_on false b may = may
   lawful-goes_on true b may = may
 
-  pub next-in_order : (whole : Bool) (b : ℕ) → KeepsOrder w s (wait_of whole q b) → IsNextWait w s q whole b
+  pub next-in_order : (whole : Bool) (b : ℕ) → KeepsOrder w s (wait_of whole q b) → IsNextWait w s q 0 whole b
   next-in_order false b next = next
   next-in_order true b next = next
 
-  pub in_order-next : (whole : Bool) (b : ℕ) → IsNextWait w s q whole b → KeepsOrder w s (wait_of whole q b)
+  pub in_order-next : (whole : Bool) (b : ℕ) → IsNextWait w s q 0 whole b → KeepsOrder w s (wait_of whole q b)
   in_order-next false b next = next
   in_order-next true b next = next
 
@@ -52,6 +83,8 @@ of_lane-wait_of q true b = refl
 pub of_lane-over_of : (q : ℕ) (whole : Bool) (b : ℕ) → IsStepOfLane q (over_of whole q b)
 of_lane-over_of q false b = refl
 of_lane-over_of q true b = refl
+
+-- ---- what holds a wait back
 
 -- what an item holds back is held back
 pub held_back-holder : (w : Wiring) (s : State) (whole : Bool) (b mark i : ℕ) → IsHolder w s whole b mark i → IsHeldBack w s whole b mark

@@ -1,12 +1,13 @@
 -- The wiring of a declaration and an assignment.
 use Rattle.std.proofs.Common.{◌≡◌, ℕ, ◌<◌, List, length, get_or, sym, subst, ◌∙◌, arith}
-use Rattle.std.specs.List.{All}
+use Rattle.std.specs.List.{All, range_with_len}
 use Rattle.std.proofs.lemmas.List.{length-map}
+use Rattle.std.proofs.lemmas.List.FromFn.{length-range_with_len}
 use Rattle.wq_items.specs.Table.{TargetsBelow}
 use Rattle.wq_groups.specs.Declaration.{Declaration, IsDeclaration}
 use Rattle.wq_groups.specs.Assignment.{Assignment, IsAssignment, group_lane}
 use Rattle.wq_groups.proofs.Lanes.{item_lanes-within}
-use Rattle.wq_core.specs.Wiring.{Wiring, IsWiring, wiring, items, lane_of}
+use Rattle.wq_core.specs.Wiring.{Wiring, IsWiring, wiring, with_helpers, is_ordered_lane, items, lane_of}
 
 -- the same for equal numbers and lists
 pub All-below : (m n : ℕ) (xs ys zs : List ℕ) → n ≡ m → zs ≡ ys → ys ≡ xs → All (λ x. x < m) xs → All (λ x. x < n) zs
@@ -17,7 +18,13 @@ IsWiring-wiring d a declaration assignment = record {
   one_lane_each = length-map d.group_of (group_lane a) ∙ sym declaration.one_list_each;
   within = item_lanes-within d.group_of d.groups a declaration.partition.within assignment;
   targets_are_items = subst (λ n. All (TargetsBelow n) d.waits) (sym declaration.one_list_each) declaration.targets_are_items;
+  one_order_each = length-map (range_with_len 0 a.lanes) (is_ordered_lane a d.group_of d.groups) ∙ length-range_with_len 0 a.lanes;
 }
+
+-- whatever the number of helpers
+pub IsWiring-with_helpers : (w : Wiring) (n : ℕ) → IsWiring w → IsWiring (with_helpers w n)
+IsWiring-with_helpers w n wiring =
+    record { one_lane_each = wiring.one_lane_each; within = wiring.within; targets_are_items = wiring.targets_are_items; one_order_each = wiring.one_order_each }
 
 -- if there is an item, there is a lane
 pub lanes-some : (group_of : List ℕ) (groups : ℕ) (a : Assignment) → All (λ g. g < groups) group_of → IsAssignment groups a → 0 < length group_of → 0 < a.lanes

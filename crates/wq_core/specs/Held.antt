@@ -1,5 +1,6 @@
 -- Lanes and machines as the code holds them.
-use Rattle.std.specs.Prelude.{◌≡◌, ◌≢◌, ℕ, ◌<◌, ◌≤◌, ◌+◌, ◌*◌, ◌^◌, if◌then◌else◌, List, [], length, AllPairs, Some, None, Option, map, Bool, false, ◌==◌, ◌&&◌, nat_lt, slice_get, slice_index_or, MatchOption, IsPermutation}
+use Rattle.std.specs.Prelude.{◌≡◌, ◌≢◌, ℕ, ◌<◌, ◌≤◌, ◌+◌, ◌-◌, ◌*◌, ◌^◌, if◌then◌else◌, List, [], ◌++◌, length, replicate, AllPairs, Some, None, Option, map, Bool, false, ◌==◌, ◌&&◌, ◌||◌, nat_lt, slice_get, slice_index_or, MatchOption, IsPermutation}
+use Rattle.std.specs.List.{list_any}
 use Rattle.std.specs.List.Sorted.{IsNonDecreasing}
 use Rattle.wq_items.specs.declared.target.Target.{Target}
 use Rattle.wq_items.specs.Table.{ItemWaitsBy, targets_of, flush_count, max_items, max_flushes}
@@ -8,18 +9,24 @@ use Rattle.wq_core.specs.declared.entry.Entry.{Entry}
 use Rattle.wq_core.specs.declared.entry.Waiting.{Waiting}
 use Rattle.wq_core.specs.declared.entry.Running.{Running}
 use Rattle.wq_core.specs.declared.step.Step.{Step}
-use Rattle.wq_core.specs.declared.step.Step.TheVariants.{Queue, Cancel, Start, Wait, Over, WaitAll, OverAll, Finish}
+use Rattle.wq_core.specs.declared.step.Step.TheVariants.{Queue, Cancel, Start, Wait, Over, WaitAll, OverAll, Finish, Help}
 use Rattle.wq_core.specs.declared.step.StepError.{StepError}
 use Rattle.wq_core.specs.declared.step.StepError.TheVariants.{NotLawful, NumbersUsedUp}
-use Rattle.wq_core.specs.Wiring.{Wiring, IsWiring, items, lane_of, declared_by, count_on}
-use Rattle.wq_core.specs.State.{Lane, State, max_number, lane_at, Runs, IsPendingOn, IsUnfinishedOn}
+use Rattle.wq_core.specs.Wiring.{Wiring, IsWiring, max_helpers, helpers_of, items, lane_of, declared_by, count_on}
+use Rattle.wq_core.specs.State.{Lane, State, max_number, lane_at, RunsIn, IsPendingOn, IsUnfinishedOn}
 use Rattle.wq_core.specs.Rules.{Lawful, Gives, effect}
 use Rattle.wq_core.specs.Runs.{after, IsRunFrom}
 
--- a lane, and how many pending entries it has room for
+-- a lane; how many pending entries it has room for; whether it is ordered; and how many helpers it has
 pub record HeldLane : Type 0 where
   pub lane : Lane
   pub room : ℕ
+  pub ordered : Bool
+  pub helpers : ℕ
+
+-- what these helpers run, with a place for each helper that a lane may have
+abbrev pub padded : List (Option Running) → List (Option Running)
+padded helping = helping ++ replicate (max_helpers - length helping) None
 
 -- the entry is of the item, with a number below the mark
 abbrev pub is_below : ℕ → ℕ → Entry → Bool
@@ -29,6 +36,14 @@ is_below item mark e = (e.item == item) && nat_lt e.number mark
 abbrev pub runs_below : ℕ → ℕ → Option Running → Bool
 runs_below item mark None = false
 runs_below item mark (Some r) = is_below item mark r.entry
+
+-- a context of the lane runs such an entry
+abbrev pub lane_runs_below : ℕ → ℕ → Lane → Bool
+lane_runs_below item mark lane = runs_below item mark lane.running || list_any (runs_below item mark) lane.helping
+
+-- one of these helpers runs the entry
+abbrev pub IsRunAmong : List (Option Running) → Entry → Type 0
+IsRunAmong helping e = (h : ℕ) × (r : Running) × (slice_index_or helping h None ≡ Some r) × (r.entry ≡ e)
 
 -- an unfinished entry of the item on the lane has a number below the mark
 pub record LaneHasUnfinishedBelow (lane : Lane) (item mark : ℕ) : Type 0 where
@@ -48,8 +63,9 @@ pub record HasPendingBelow (s : State) (item mark : ℕ) : Type 0 where
 -- an entry of the item runs, and has a number below the mark
 pub record RunsBelow (s : State) (item mark : ℕ) : Type 0 where
   pub lane : ℕ
+  pub context : ℕ
   pub running : Running
-  pub runs : Runs (lane_at s lane) running
+  pub runs : RunsIn (lane_at s lane) context running
   pub of_item : running.entry.item ≡ item
   pub below : running.entry.number < mark
 
@@ -76,35 +92,50 @@ pub record Machine : Type 0 where
   pub wiring : Wiring
   pub state : State
 
--- what holds for the entry that a lane runs: it has made at most as many waits as its item declares; while it waits, it has
+-- what holds for the entry that a context runs: it has made at most as many waits as its item declares; while it waits, it has
 -- made at least one, and its item declares a flush of what it waits for
 pub record IsSoundRunning (w : Wiring) (r : Running) : Type 0 where
   pub made : r.made ≤ length (declared_by w r.entry.item)
   pub waits : (f : Waiting) → r.waiting ≡ Some f → (0 < r.made) × ItemWaitsBy w.waits f.whole r.entry.item f.target
 
--- what holds for every state after a run: it has the wiring's lanes; each entry is of an item that exists, is on that item's
--- lane, and has a number that was given; a lane has at most one pending entry of an item; and what runs is sound
+-- only helpers that exist run something
+abbrev pub AreHelpers : Wiring → State → Type 0
+AreHelpers w s = (q c : ℕ) (r : Running) → RunsIn (lane_at s q) c r → c ≤ helpers_of w q
+
+-- what holds for every state after a run: it has the wiring's lanes, and each has a place for each helper that it may have; each
+-- entry is of an item that exists, is on that item's lane, and has a number that was given; a lane has at most one pending entry
+-- of an item, and an item runs in at most one context, which exists; and what runs is sound
 pub record IsSoundState (w : Wiring) (s : State) : Type 0 where
   pub one_each : length s.lanes ≡ w.lanes
+  pub places : (q : ℕ) → length (lane_at s q).helping ≡ max_helpers
   pub own_lane : (q : ℕ) (e : Entry) → IsUnfinishedOn (lane_at s q) e → (e.item < items w) × (lane_of w e.item ≡ q)
   pub given : (q : ℕ) (e : Entry) → IsUnfinishedOn (lane_at s q) e → e.number < s.next
   pub once : (q : ℕ) → AllPairs (λ (e f : Entry). e.item ≢ f.item) (lane_at s q).pending
-  pub running : (q : ℕ) (r : Running) → Runs (lane_at s q) r → IsSoundRunning w r
+  pub one_context : (q c d : ℕ) (r x : Running) → RunsIn (lane_at s q) c r → RunsIn (lane_at s q) d x → r.entry.item ≡ x.entry.item → c ≡ d
+  pub helpers : AreHelpers w s
+  pub running : (q c : ℕ) (r : Running) → RunsIn (lane_at s q) c r → IsSoundRunning w r
 
--- what holds for every machine: its wiring and its state are sound, and within the limits of declarations, of assignments and
--- of the numbers that are given
+-- what holds for every machine: its wiring and its state are sound, and within the limits of declarations, of assignments, of
+-- helpers and of the numbers that are given
 pub record IsMachine (m : Machine) : Type 0 where
   pub wiring : IsWiring m.wiring
   pub state : IsSoundState m.wiring m.state
   pub few_items : items m.wiring ≤ max_items
   pub few_flushes : flush_count m.wiring.waits ≤ max_flushes
   pub few_lanes : m.wiring.lanes ≤ max_lanes
+  pub few_helpers : m.wiring.helpers ≤ max_helpers
   pub numbers : m.state.next < 2 ^ 32
 
 -- the machine that these fields hold
-abbrev pub machine_of : List (List Target) → List ℕ → List HeldLane → ℕ → Machine
-machine_of waits lane_of_item lanes next = record {
-  wiring = record { waits = waits; lane_of_item = lane_of_item; lanes = length lanes };
+abbrev pub machine_of : List (List Target) → List ℕ → ℕ → List HeldLane → ℕ → Machine
+machine_of waits lane_of_item helpers lanes next = record {
+  wiring = record {
+    waits = waits;
+    lane_of_item = lane_of_item;
+    lanes = length lanes;
+    ordered = map (λ (h : HeldLane). h.ordered) lanes;
+    helpers = helpers;
+  };
   state = record { next = next; lanes = map (λ (h : HeldLane). h.lane) lanes };
 }
 
@@ -118,13 +149,14 @@ pub record IsNumbering (w : Wiring) (s : State) (numbers : List (Option ℕ)) : 
   pub pending : (i n : ℕ) → slice_index_or numbers i None ≡ Some n → IsPendingOn (lane_at s (lane_of w i)) (record { number = n; item = i })
   pub noted : (q : ℕ) (e : Entry) → IsPendingOn (lane_at s q) e → slice_index_or numbers e.item None ≡ Some e.number
 
--- what holds for these fields: the machine is sound; each lane has room for all its items; the numbers are those of the pending
--- entries, and they rise on each lane
-pub record IsHeld (waits : List (List Target)) (lane_of_item : List ℕ) (pending : List (Option ℕ)) (lanes : List HeldLane) (next : ℕ) : Type 0 where
-  pub machine : IsMachine (machine_of waits lane_of_item lanes next)
+-- what holds for these fields: the machine is sound; each lane has room for all its items, and has its helpers; the numbers are
+-- those of the pending entries, and they rise on each lane
+pub record IsHeld (waits : List (List Target)) (lane_of_item : List ℕ) (helpers : ℕ) (pending : List (Option ℕ)) (lanes : List HeldLane) (next : ℕ) : Type 0 where
+  pub machine : IsMachine (machine_of waits lane_of_item helpers lanes next)
   pub room : (q : ℕ) (h : HeldLane) → slice_get lanes q ≡ Some h → HasRoom lane_of_item q h
-  pub numbers : IsNumbering (machine_of waits lane_of_item lanes next).wiring (machine_of waits lane_of_item lanes next).state pending
-  pub rising : (q : ℕ) → IsRising (lane_at (machine_of waits lane_of_item lanes next).state q).pending
+  pub helped : (q : ℕ) (h : HeldLane) → slice_get lanes q ≡ Some h → h.helpers ≡ helpers_of (machine_of waits lane_of_item helpers lanes next).wiring q
+  pub numbers : IsNumbering (machine_of waits lane_of_item helpers lanes next).wiring (machine_of waits lane_of_item helpers lanes next).state pending
+  pub rising : (q : ℕ) → IsRising (lane_at (machine_of waits lane_of_item helpers lanes next).state q).pending
 
 -- ---- steps of a machine
 
@@ -142,6 +174,7 @@ UsesUp s (Over q b) = ⊥
 UsesUp s (WaitAll q b) = ⊥
 UsesUp s (OverAll q b) = ⊥
 UsesUp s (Finish q i) = ⊥
+UsesUp s (Help q h deed) = ⊥
 
 -- the machine after a step
 abbrev pub machine_after : Machine → Step → Machine

@@ -1,12 +1,13 @@
--- The run that is played: each step is that of the lowest lane that can move, and executions flush as declared.
-use Rattle.std.specs.Prelude.{◌≡◌, ℕ, ◌<◌, not, ◌==◌, List, [], ◌∷◌, ◌++◌, filter, map}
+-- The run that is played: each step is that of the lowest lane whose rescuer can move, and executions flush as declared.
+use Rattle.std.specs.Prelude.{◌≡◌, ℕ, ◌<◌, ◌⊎◌, not, ◌==◌, List, [], ◌∷◌, ◌++◌, filter, map}
 use Rattle.std.specs.List.{list_any, range_with_len}
 use Rattle.wq_core.specs.declared.step.Step.{Step}
-use Rattle.wq_core.specs.declared.step.Step.TheVariants.{Queue, Cancel, Start, Wait, Over, WaitAll, OverAll, Finish}
+use Rattle.wq_core.specs.declared.step.Step.TheVariants.{Queue, Cancel, Start, Wait, Over, WaitAll, OverAll, Finish, Help}
+use Rattle.wq_core.specs.declared.step.HelpStep.{HelpStep}
 use Rattle.wq_core.specs.Wiring.{Wiring, items}
 use Rattle.wq_core.specs.State.{State}
 use Rattle.wq_core.specs.Rules.{Lawful, effect}
-use Rattle.wq_core.specs.Runs.{KeepsOrder}
+use Rattle.wq_core.specs.Runs.{KeepsOrder, GoesOn}
 
 -- the rescuer of lane q makes the step
 abbrev pub IsStepOfLane : ℕ → Step → Type 0
@@ -18,22 +19,31 @@ IsStepOfLane q (Over p b) = p ≡ q
 IsStepOfLane q (WaitAll p b) = p ≡ q
 IsStepOfLane q (OverAll p b) = p ≡ q
 IsStepOfLane q (Finish p i) = p ≡ q
+IsStepOfLane q (Help p h deed) = ⊥
 
--- lane q can make a step
+-- the rescuer of lane q can make a step
+abbrev pub RescuerCanMove : Wiring → State → ℕ → Type 0
+RescuerCanMove w s q = (step : Step) × IsStepOfLane q step × Lawful w s step
+
+-- helper h of lane q can make a step other than a start
+abbrev pub HelperGoesOn : Wiring → State → ℕ → ℕ → Type 0
+HelperGoesOn w s q h = (deed : HelpStep) × GoesOn deed × Lawful w s (Help q h deed)
+
+-- lane q can make a step other than a helper's start
 abbrev pub CanMove : Wiring → State → ℕ → Type 0
-CanMove w s q = (step : Step) × IsStepOfLane q step × Lawful w s step
+CanMove w s q = RescuerCanMove w s q ⊎ ((h : ℕ) × HelperGoesOn w s q h)
 
--- the step that lane q can make if its executions flush as declared
+-- the step that the rescuer of lane q can make if its executions flush as declared
 pub record IsDeclaredStep (w : Wiring) (s : State) (q : ℕ) (step : Step) : Type 0 where
   pub of_lane : IsStepOfLane q step
   pub lawful : Lawful w s step
   pub in_order : KeepsOrder w s step
 
--- lane q can make no such step
+-- it can make no such step
 abbrev pub HasNoDeclaredStep : Wiring → State → ℕ → Type 0
 HasNoDeclaredStep w s q = (step : Step) → ¬ IsDeclaredStep w s q step
 
--- each step is that of the lowest lane that can make one, and at the end no lane can
+-- each step is that of the lowest lane whose rescuer can make one, and at the end none can
 abbrev pub IsPlayedFrom : Wiring → State → List Step → Type 0
 IsPlayedFrom w s [] = (q : ℕ) → HasNoDeclaredStep w s q
 IsPlayedFrom w s (step ∷ steps) =

@@ -1,13 +1,15 @@
 -- Rules: which steps are lawful in a state, what they do to it, and which number they give.
-use Rattle.std.specs.Prelude.{◌≡◌, ℕ, Bool, true, false, ◌+◌, ◌<◌, ◌==◌, not, [], ◌∷◌, ◌++◌, length, filter, drop, slice_get, Some, None, option_map}
+use Rattle.std.specs.Prelude.{◌≡◌, ℕ, zero, suc, Bool, true, false, ◌+◌, ◌<◌, ◌==◌, not, [], ◌∷◌, ◌++◌, length, filter, Some, None, option_map}
 use Rattle.wq_items.specs.Table.{ItemWaitsBy}
 use Rattle.wq_core.specs.declared.entry.Entry.{Entry}
 use Rattle.wq_core.specs.declared.entry.Waiting.{Waiting}
 use Rattle.wq_core.specs.declared.entry.Running.{Running}
 use Rattle.wq_core.specs.declared.step.Step.{Step}
-use Rattle.wq_core.specs.declared.step.Step.TheVariants.{Queue, Cancel, Start, Wait, Over, WaitAll, OverAll, Finish}
-use Rattle.wq_core.specs.Wiring.{Wiring, items, lane_of, declared_by}
-use Rattle.wq_core.specs.State.{Lane, State, lane_at, with_lane, Runs, HasPending, HasUnfinishedBelow, IsUnfinishedOn, IsBusyBelow}
+use Rattle.wq_core.specs.declared.step.Step.TheVariants.{Queue, Cancel, Start, Wait, Over, WaitAll, OverAll, Finish, Help}
+use Rattle.wq_core.specs.declared.step.HelpStep.{HelpStep}
+use Rattle.wq_core.specs.declared.step.HelpStep.TheVariants.{Start as DoStart, Wait as DoWait, WaitAll as DoWaitAll, Over as DoOver, OverAll as DoOverAll, Finish as DoFinish}
+use Rattle.wq_core.specs.Wiring.{Wiring, HasHelper, items, lane_of, declared_by}
+use Rattle.wq_core.specs.State.{Lane, State, lane_at, with_lane, run_by, with_run_by, RunsIn, is_running, next_of, pending_of, IsPendingOn, HasPending, HasUnfinishedBelow, IsUnfinishedOn, IsBusyBelow}
 
 -- ---- what one context may do with what it runs
 
@@ -46,9 +48,38 @@ pub record MayFinish (i : ℕ) (r : Running) : Type 0 where
   pub entry : r.entry.item ≡ i
   pub awake : r.waiting ≡ None
 
--- ---- the steps of a wait, by its kind
+-- ---- the steps of a context
 
--- what lane q runs begins to wait for item b, or for the whole lane of b
+-- the step of context c of lane q: its rescuer is 0, and its helpers are numbered from 1
+abbrev pub step_in : ℕ → ℕ → HelpStep → Step
+step_in q zero (DoStart i) = Start q i
+step_in q zero (DoWait b) = Wait q b
+step_in q zero (DoWaitAll b) = WaitAll q b
+step_in q zero (DoOver b) = Over q b
+step_in q zero (DoOverAll b) = OverAll q b
+step_in q zero (DoFinish i) = Finish q i
+step_in q (suc h) deed = Help q (suc h) deed
+
+-- the item that the deed names
+abbrev pub deed_item : HelpStep → ℕ
+deed_item (DoStart i) = i
+deed_item (DoWait b) = b
+deed_item (DoWaitAll b) = b
+deed_item (DoOver b) = b
+deed_item (DoOverAll b) = b
+deed_item (DoFinish i) = i
+
+-- what a context runs begins to wait for item b, or for the whole lane of b
+abbrev pub wait_deed : Bool → ℕ → HelpStep
+wait_deed false b = DoWait b
+wait_deed true b = DoWaitAll b
+
+-- such a wait is over
+abbrev pub over_deed : Bool → ℕ → HelpStep
+over_deed false b = DoOver b
+over_deed true b = DoOverAll b
+
+-- what lane q's rescuer runs begins to wait for item b, or for the whole lane of b
 abbrev pub wait_of : Bool → ℕ → ℕ → Step
 wait_of false q b = Wait q b
 wait_of true q b = WaitAll q b
@@ -60,25 +91,44 @@ over_of true q b = OverAll q b
 
 -- ---- lawful steps
 
--- the first pending entry is of item i, and nothing runs
-pub record MayStart (lane : Lane) (i : ℕ) : Type 0 where
+-- a context that runs nothing may start item i: an entry of it is pending, and no context runs one
+pub record MayStart (lane : Lane) (c i : ℕ) : Type 0 where
+  pub idle : run_by lane c ≡ None
+  pub entry : Entry
+  pub pending : IsPendingOn lane entry
+  pub of_item : entry.item ≡ i
+  pub not_running : is_running lane i ≡ false
+
+-- a rescuer that runs nothing may start item i: the first pending entry whose item isn't running is of i
+pub record MayStartFirst (lane : Lane) (i : ℕ) : Type 0 where
   pub idle : lane.running ≡ None
   pub entry : Entry
-  pub first : slice_get lane.pending 0 ≡ Some entry
+  pub first : next_of lane ≡ Some entry
   pub of_item : entry.item ≡ i
 
--- a step is lawful: an item is queued only while no entry of it is pending, and cancelled only while one is; an idle lane
--- starts its first pending entry; and what runs waits, goes on and finishes as above. Nothing is lawful on a lane that doesn't
--- exist, and after a run there is no entry of an item that doesn't exist
+-- context c of lane q may do this: start an item that doesn't run, or go on with what it runs, as above
+abbrev pub MayDo : Wiring → State → ℕ → ℕ → HelpStep → Type 0
+MayDo w s q c (DoStart i) = MayStart (lane_at s q) c i
+MayDo w s q c (DoWait b) = (r : Running) × RunsIn (lane_at s q) c r × MayWait w false b r
+MayDo w s q c (DoWaitAll b) = (r : Running) × RunsIn (lane_at s q) c r × MayWait w true b r
+MayDo w s q c (DoOver b) = (r : Running) × RunsIn (lane_at s q) c r × MayBeOver w s false b r
+MayDo w s q c (DoOverAll b) = (r : Running) × RunsIn (lane_at s q) c r × MayBeOver w s true b r
+MayDo w s q c (DoFinish i) = (r : Running) × RunsIn (lane_at s q) c r × MayFinish i r
+
+-- a step is lawful: an item is queued only while no entry of it is pending, and cancelled only while one is; an idle rescuer
+-- starts the first pending entry whose item isn't running, and an idle helper any such entry; and what runs waits, goes on and
+-- finishes as above. Nothing is lawful on a lane that doesn't exist, nor for a helper that a lane doesn't have, and after a run
+-- there is no entry of an item that doesn't exist
 abbrev pub Lawful : Wiring → State → Step → Type 0
 Lawful w s (Queue i) = (i < items w) × (¬ HasPending s i)
 Lawful w s (Cancel i) = HasPending s i
-Lawful w s (Start q i) = MayStart (lane_at s q) i
-Lawful w s (Wait q b) = (r : Running) × Runs (lane_at s q) r × MayWait w false b r
-Lawful w s (Over q b) = (r : Running) × Runs (lane_at s q) r × MayBeOver w s false b r
-Lawful w s (WaitAll q b) = (r : Running) × Runs (lane_at s q) r × MayWait w true b r
-Lawful w s (OverAll q b) = (r : Running) × Runs (lane_at s q) r × MayBeOver w s true b r
-Lawful w s (Finish q i) = (r : Running) × Runs (lane_at s q) r × MayFinish i r
+Lawful w s (Start q i) = MayStartFirst (lane_at s q) i
+Lawful w s (Wait q b) = MayDo w s q 0 (DoWait b)
+Lawful w s (Over q b) = MayDo w s q 0 (DoOver b)
+Lawful w s (WaitAll q b) = MayDo w s q 0 (DoWaitAll b)
+Lawful w s (OverAll q b) = MayDo w s q 0 (DoOverAll b)
+Lawful w s (Finish q i) = MayDo w s q 0 (DoFinish i)
+Lawful w s (Help q h deed) = HasHelper w q h × MayDo w s q h deed
 
 -- ---- what a step does
 
@@ -90,26 +140,42 @@ with_queued e lane = record lane { pending = lane.pending ++ (e ∷ []) }
 abbrev pub with_cancelled : ℕ → Lane → Lane
 with_cancelled i lane = record lane { pending = filter (λ (e : Entry). not (e.item == i)) lane.pending }
 
--- the first pending entry runs, and has made no wait
-abbrev pub with_started : Lane → Lane
-with_started lane = record {
-  pending = drop 1 lane.pending;
-  running = option_map (λ (e : Entry). record { entry = e; made = 0; waiting = None }) (slice_get lane.pending 0);
-}
+-- the entry runs, and has made no wait
+abbrev pub begun : Entry → Running
+begun e = record { entry = e; made = 0; waiting = None }
 
--- what runs waits so for item b with this mark, and has made one more wait
-abbrev pub with_wait : Bool → ℕ → ℕ → Lane → Lane
-with_wait whole b mark lane = record lane {
-  running = option_map (λ (r : Running). record r { made = r.made + 1; waiting = Some (record { target = b; whole = whole; mark = mark }) }) lane.running;
-}
+-- the pending entry of item i is removed, and runs in context c
+abbrev pub with_started : ℕ → ℕ → Lane → Lane
+with_started c i lane = with_run_by (with_cancelled i lane) c (option_map begun (pending_of lane i))
 
--- what runs no longer waits
-abbrev pub with_over : Lane → Lane
-with_over lane = record lane { running = option_map (λ (r : Running). record r { waiting = None }) lane.running }
+-- it waits so for item b with this mark, and has made one more wait
+abbrev pub waiting_for : Bool → ℕ → ℕ → Running → Running
+waiting_for whole b mark r = record r { made = r.made + 1; waiting = Some (record { target = b; whole = whole; mark = mark }) }
 
--- nothing runs
-abbrev pub with_finished : Lane → Lane
-with_finished lane = record lane { running = None }
+-- it no longer waits
+abbrev pub going_on : Running → Running
+going_on r = record r { waiting = None }
+
+-- what context c runs waits so for item b with this mark
+abbrev pub with_wait : ℕ → Bool → ℕ → ℕ → Lane → Lane
+with_wait c whole b mark lane = with_run_by lane c (option_map (waiting_for whole b mark) (run_by lane c))
+
+-- what context c runs no longer waits
+abbrev pub with_over : ℕ → Lane → Lane
+with_over c lane = with_run_by lane c (option_map going_on (run_by lane c))
+
+-- context c runs nothing
+abbrev pub with_finished : ℕ → Lane → Lane
+with_finished c lane = with_run_by lane c None
+
+-- the state after what context c of lane q does
+abbrev pub done_by : State → ℕ → ℕ → HelpStep → State
+done_by s q c (DoStart i) = with_lane s q (with_started c i (lane_at s q))
+done_by s q c (DoWait b) = with_lane s q (with_wait c false b s.next (lane_at s q))
+done_by s q c (DoWaitAll b) = with_lane s q (with_wait c true b s.next (lane_at s q))
+done_by s q c (DoOver b) = with_lane s q (with_over c (lane_at s q))
+done_by s q c (DoOverAll b) = with_lane s q (with_over c (lane_at s q))
+done_by s q c (DoFinish i) = with_lane s q (with_finished c (lane_at s q))
 
 -- the state after a step: a queueing takes the next number, and each step changes one lane
 abbrev pub effect : Wiring → State → Step → State
@@ -117,22 +183,33 @@ effect w s (Queue i) =
     let q = lane_of w i in
     record (with_lane s q (with_queued (record { number = s.next; item = i }) (lane_at s q))) { next = s.next + 1 }
 effect w s (Cancel i) = let q = lane_of w i in with_lane s q (with_cancelled i (lane_at s q))
-effect w s (Start q i) = with_lane s q (with_started (lane_at s q))
-effect w s (Wait q b) = with_lane s q (with_wait false b s.next (lane_at s q))
-effect w s (Over q b) = with_lane s q (with_over (lane_at s q))
-effect w s (WaitAll q b) = with_lane s q (with_wait true b s.next (lane_at s q))
-effect w s (OverAll q b) = with_lane s q (with_over (lane_at s q))
-effect w s (Finish q i) = with_lane s q (with_finished (lane_at s q))
+effect w s (Start q i) = done_by s q 0 (DoStart i)
+effect w s (Wait q b) = done_by s q 0 (DoWait b)
+effect w s (Over q b) = done_by s q 0 (DoOver b)
+effect w s (WaitAll q b) = done_by s q 0 (DoWaitAll b)
+effect w s (OverAll q b) = done_by s q 0 (DoOverAll b)
+effect w s (Finish q i) = done_by s q 0 (DoFinish i)
+effect w s (Help q h deed) = done_by s q h deed
 
 -- ---- which number a step gives
 
--- the number of the entry that is queued, cancelled, started or finished; the mark of the wait that begins or is over
+-- the number of the entry that a context starts or finishes; the mark of its wait that begins or is over
+abbrev pub GivesIn : State → ℕ → ℕ → HelpStep → ℕ → Type 0
+GivesIn s q c (DoStart i) n = (e : Entry) × (pending_of (lane_at s q) i ≡ Some e) × (e.number ≡ n)
+GivesIn s q c (DoWait b) n = n ≡ s.next
+GivesIn s q c (DoWaitAll b) n = n ≡ s.next
+GivesIn s q c (DoOver b) n = (r : Running) × RunsIn (lane_at s q) c r × ((f : Waiting) × (r.waiting ≡ Some f) × (f.mark ≡ n))
+GivesIn s q c (DoOverAll b) n = (r : Running) × RunsIn (lane_at s q) c r × ((f : Waiting) × (r.waiting ≡ Some f) × (f.mark ≡ n))
+GivesIn s q c (DoFinish i) n = (r : Running) × RunsIn (lane_at s q) c r × (r.entry.number ≡ n)
+
+-- the number of the entry that is queued or cancelled; of a step of a context, as above
 abbrev pub Gives : State → Step → ℕ → Type 0
 Gives s (Queue i) n = n ≡ s.next
 Gives s (Cancel i) n = (h : HasPending s i) × (h.entry.number ≡ n)
-Gives s (Start q i) n = (e : Entry) × (slice_get (lane_at s q).pending 0 ≡ Some e) × (e.number ≡ n)
-Gives s (Wait q b) n = n ≡ s.next
-Gives s (Over q b) n = (r : Running) × Runs (lane_at s q) r × ((f : Waiting) × (r.waiting ≡ Some f) × (f.mark ≡ n))
-Gives s (WaitAll q b) n = n ≡ s.next
-Gives s (OverAll q b) n = (r : Running) × Runs (lane_at s q) r × ((f : Waiting) × (r.waiting ≡ Some f) × (f.mark ≡ n))
-Gives s (Finish q i) n = (r : Running) × Runs (lane_at s q) r × (r.entry.number ≡ n)
+Gives s (Start q i) n = GivesIn s q 0 (DoStart i) n
+Gives s (Wait q b) n = GivesIn s q 0 (DoWait b) n
+Gives s (Over q b) n = GivesIn s q 0 (DoOver b) n
+Gives s (WaitAll q b) n = GivesIn s q 0 (DoWaitAll b) n
+Gives s (OverAll q b) n = GivesIn s q 0 (DoOverAll b) n
+Gives s (Finish q i) n = GivesIn s q 0 (DoFinish i) n
+Gives s (Help q h deed) n = GivesIn s q h deed n

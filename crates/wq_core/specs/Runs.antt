@@ -4,9 +4,11 @@ use Rattle.std.specs.List.{All, count_by}
 use Rattle.wq_items.specs.declared.target.Target.{Target}
 use Rattle.wq_core.specs.declared.entry.Running.{Running}
 use Rattle.wq_core.specs.declared.step.Step.{Step}
-use Rattle.wq_core.specs.declared.step.Step.TheVariants.{Queue, Cancel, Start, Wait, Over, WaitAll, OverAll, Finish}
+use Rattle.wq_core.specs.declared.step.Step.TheVariants.{Queue, Cancel, Start, Wait, Over, WaitAll, OverAll, Finish, Help}
+use Rattle.wq_core.specs.declared.step.HelpStep.{HelpStep}
+use Rattle.wq_core.specs.declared.step.HelpStep.TheVariants.{Start as DoStart, Wait as DoWait, WaitAll as DoWaitAll, Over as DoOver, OverAll as DoOverAll, Finish as DoFinish}
 use Rattle.wq_core.specs.Wiring.{Wiring, items, declared_by}
-use Rattle.wq_core.specs.State.{State, lane_at, empty_state, Runs}
+use Rattle.wq_core.specs.State.{State, lane_at, empty_state, RunsIn}
 use Rattle.wq_core.specs.Rules.{Lawful, effect}
 
 -- the state after these steps
@@ -27,7 +29,7 @@ IsRun w steps = IsRunFrom w (empty_state w) steps
 abbrev pub end_of : Wiring → List Step → State
 end_of w steps = after w (empty_state w) steps
 
--- a step of a rescuer: a start, a wait, the end of a wait, or a finish
+-- a step of a rescuer or of a helper: a start, a wait, the end of a wait, or a finish
 abbrev pub is_rescuer_step : Step → Bool
 is_rescuer_step (Queue i) = false
 is_rescuer_step (Cancel i) = false
@@ -37,29 +39,78 @@ is_rescuer_step (Over q b) = true
 is_rescuer_step (WaitAll q b) = true
 is_rescuer_step (OverAll q b) = true
 is_rescuer_step (Finish q i) = true
+is_rescuer_step (Help q h deed) = true
 
--- a rescuer makes the step
+-- a rescuer or a helper makes the step
 abbrev pub IsRescuerStep : Step → Type 0
 IsRescuerStep step = MatchBool (is_rescuer_step step) ⊤ ⊥
 
+-- a helper makes the step
+abbrev pub IsHelp : Step → Type 0
+IsHelp (Queue i) = ⊥
+IsHelp (Cancel i) = ⊥
+IsHelp (Start q i) = ⊥
+IsHelp (Wait q b) = ⊥
+IsHelp (Over q b) = ⊥
+IsHelp (WaitAll q b) = ⊥
+IsHelp (OverAll q b) = ⊥
+IsHelp (Finish q i) = ⊥
+IsHelp (Help q h deed) = ⊤
+
+-- no helper makes one of the steps
+abbrev pub HasNoHelp : List Step → Type 0
+HasNoHelp steps = All (λ (step : Step). ¬ IsHelp step) steps
+
+-- the context goes on with what it runs: it does anything but a start
+abbrev pub GoesOn : HelpStep → Type 0
+GoesOn (DoStart i) = ⊥
+GoesOn (DoWait b) = ⊤
+GoesOn (DoWaitAll b) = ⊤
+GoesOn (DoOver b) = ⊤
+GoesOn (DoOverAll b) = ⊤
+GoesOn (DoFinish i) = ⊤
+
+-- a step that doesn't hang on what is queued or cancelled, or on what helpers take: any but a queueing, a cancellation and a
+-- helper's start
+abbrev pub IsForcedStep : Step → Type 0
+IsForcedStep (Queue i) = ⊥
+IsForcedStep (Cancel i) = ⊥
+IsForcedStep (Start q i) = ⊤
+IsForcedStep (Wait q b) = ⊤
+IsForcedStep (Over q b) = ⊤
+IsForcedStep (WaitAll q b) = ⊤
+IsForcedStep (OverAll q b) = ⊤
+IsForcedStep (Finish q i) = ⊤
+IsForcedStep (Help q h deed) = GoesOn deed
+
 -- ---- executions that flush as declared
 
--- the next target that what lane q runs declares is item b, and it is of this kind
-abbrev pub IsNextWait : Wiring → State → ℕ → Bool → ℕ → Type 0
-IsNextWait w s q whole b = (r : Running) × Runs (lane_at s q) r
+-- the next target that what context c of lane q runs declares is item b, and it is of this kind
+abbrev pub IsNextWait : Wiring → State → ℕ → ℕ → Bool → ℕ → Type 0
+IsNextWait w s q c whole b = (r : Running) × RunsIn (lane_at s q) c r
     × ((t : Target) × (slice_get (declared_by w r.entry.item) r.made ≡ Some t) × (t.item ≡ b) × (t.whole ≡ whole))
 
--- what runs keeps to the order of its declaration: its next wait is for the next declared target, of the kind that is declared
--- there, and it finishes after the last
+-- what context c of lane q does keeps to the order of the declaration: its next wait is for the next declared target, of the kind
+-- that is declared there, and it finishes after the last
+abbrev pub KeepsOrderIn : Wiring → State → ℕ → ℕ → HelpStep → Type 0
+KeepsOrderIn w s q c (DoStart i) = ⊤
+KeepsOrderIn w s q c (DoWait b) = IsNextWait w s q c false b
+KeepsOrderIn w s q c (DoWaitAll b) = IsNextWait w s q c true b
+KeepsOrderIn w s q c (DoOver b) = ⊤
+KeepsOrderIn w s q c (DoOverAll b) = ⊤
+KeepsOrderIn w s q c (DoFinish i) = (r : Running) × RunsIn (lane_at s q) c r × (r.made ≡ length (declared_by w r.entry.item))
+
+-- what runs keeps to the order of its declaration, in each context
 abbrev pub KeepsOrder : Wiring → State → Step → Type 0
 KeepsOrder w s (Queue i) = ⊤
 KeepsOrder w s (Cancel i) = ⊤
-KeepsOrder w s (Start q i) = ⊤
-KeepsOrder w s (Wait q b) = IsNextWait w s q false b
-KeepsOrder w s (Over q b) = ⊤
-KeepsOrder w s (WaitAll q b) = IsNextWait w s q true b
-KeepsOrder w s (OverAll q b) = ⊤
-KeepsOrder w s (Finish q i) = (r : Running) × Runs (lane_at s q) r × (r.made ≡ length (declared_by w r.entry.item))
+KeepsOrder w s (Start q i) = KeepsOrderIn w s q 0 (DoStart i)
+KeepsOrder w s (Wait q b) = KeepsOrderIn w s q 0 (DoWait b)
+KeepsOrder w s (Over q b) = KeepsOrderIn w s q 0 (DoOver b)
+KeepsOrder w s (WaitAll q b) = KeepsOrderIn w s q 0 (DoWaitAll b)
+KeepsOrder w s (OverAll q b) = KeepsOrderIn w s q 0 (DoOverAll b)
+KeepsOrder w s (Finish q i) = KeepsOrderIn w s q 0 (DoFinish i)
+KeepsOrder w s (Help q h deed) = KeepsOrderIn w s q h deed
 
 -- each execution makes the waits that its item declares, in their order, and finishes only after the last
 abbrev pub AsDeclaredFrom : Wiring → State → List Step → Type 0
@@ -78,6 +129,7 @@ queues i (Over q b) = false
 queues i (WaitAll q b) = false
 queues i (OverAll q b) = false
 queues i (Finish q j) = false
+queues i (Help q h deed) = false
 
 -- the step cancels an item
 abbrev pub IsCancel : Step → Type 0
@@ -89,6 +141,7 @@ IsCancel (Over q b) = ⊥
 IsCancel (WaitAll q b) = ⊥
 IsCancel (OverAll q b) = ⊥
 IsCancel (Finish q i) = ⊥
+IsCancel (Help q h deed) = ⊥
 
 -- each item is queued exactly once, and none is cancelled
 pub record IsOnce (w : Wiring) (steps : List Step) : Type 0 where

@@ -1,13 +1,16 @@
 -- States: what is queued and what runs, lane by lane.
-use Rattle.std.specs.Prelude.{◌≡◌, ℕ, ◌<◌, ◌⊎◌, List, [], replicate, slice_index_or, slice_set, Option, Some, None, Contains}
+use Rattle.std.specs.Prelude.{◌≡◌, ℕ, zero, suc, ◌<◌, ◌==◌, ◌||◌, not, Bool, false, ◌⊎◌, List, [], replicate, find, slice_index_or, slice_set, Option, Some, None, Contains}
+use Rattle.std.specs.List.{list_any}
 use Rattle.wq_core.specs.declared.entry.Entry.{Entry}
 use Rattle.wq_core.specs.declared.entry.Running.{Running}
-use Rattle.wq_core.specs.Wiring.{Wiring}
+use Rattle.wq_core.specs.Wiring.{Wiring, max_helpers}
 
--- the entries that are pending on a lane, the next one first, and what its context runs
+-- the entries that are pending on a lane, the next one first; what its rescuer runs; and what each of its helpers runs, helper 1
+-- first. There is a place for each helper that a lane may have
 pub record Lane : Type 0 where
   pub pending : List Entry
   pub running : Option Running
+  pub helping : List (Option Running)
 
 -- the number that the next accepted queueing gets, and the lanes in turn
 pub record State : Type 0 where
@@ -20,7 +23,7 @@ max_number = 4294967295
 
 -- nothing is pending, and nothing runs
 abbrev pub idle_lane : Lane
-idle_lane = record { pending = []; running = None }
+idle_lane = record { pending = []; running = None; helping = replicate max_helpers None }
 
 -- lane q; a lane that doesn't exist counts as one that stays idle
 abbrev pub lane_at : State → ℕ → Lane
@@ -34,17 +37,52 @@ with_lane s q lane = record s { lanes = slice_set s.lanes q lane }
 abbrev pub empty_state : Wiring → State
 empty_state w = record { next = 0; lanes = replicate w.lanes idle_lane }
 
--- the lane's context runs this
+-- what a context of the lane runs: 0 is the rescuer, and helpers are numbered from 1
+abbrev pub run_by : Lane → ℕ → Option Running
+run_by lane zero = lane.running
+run_by lane (suc h) = slice_index_or lane.helping h None
+
+-- the lane, where this context runs this
+abbrev pub with_run_by : Lane → ℕ → Option Running → Lane
+with_run_by lane zero running = record lane { running = running }
+with_run_by lane (suc h) running = record lane { helping = slice_set lane.helping h running }
+
+-- the context runs this
+abbrev pub RunsIn : Lane → ℕ → Running → Type 0
+RunsIn lane c r = run_by lane c ≡ Some r
+
+-- the lane's rescuer runs this
 abbrev pub Runs : Lane → Running → Type 0
-Runs lane r = lane.running ≡ Some r
+Runs lane r = RunsIn lane 0 r
+
+-- what runs is an entry of the item
+abbrev pub runs_item : ℕ → Option Running → Bool
+runs_item item None = false
+runs_item item (Some r) = r.entry.item == item
+
+-- a context of the lane runs an entry of the item
+abbrev pub is_running : Lane → ℕ → Bool
+is_running lane item = runs_item item lane.running || list_any (runs_item item) lane.helping
+
+-- the first pending entry whose item isn't running
+abbrev pub next_of : Lane → Option Entry
+next_of lane = find (λ (e : Entry). not (is_running lane e.item)) lane.pending
+
+-- the first pending entry of the item (after a run there is at most one)
+abbrev pub pending_of : Lane → ℕ → Option Entry
+pending_of lane item = find (λ (e : Entry). e.item == item) lane.pending
 
 -- the entry is pending on the lane
 abbrev pub IsPendingOn : Lane → Entry → Type 0
 IsPendingOn lane e = Contains lane.pending e
 
--- the entry is unfinished on the lane: it is pending, or it runs
+-- a context of the lane runs the entry
+abbrev pub IsRunOn : Lane → Entry → Type 0
+IsRunOn lane e = (c : ℕ) × (r : Running) × RunsIn lane c r × (r.entry ≡ e)
+
+-- the entry is unfinished on the lane: it is pending, or a context runs it
 abbrev pub IsUnfinishedOn : Lane → Entry → Type 0
-IsUnfinishedOn lane e = IsPendingOn lane e ⊎ ((r : Running) × Runs lane r × (r.entry ≡ e))
+IsUnfinishedOn lane e = IsPendingOn lane e ⊎ IsRunOn lane e
 
 -- an entry of the item is pending, on some lane
 pub record HasPending (s : State) (item : ℕ) : Type 0 where

@@ -1,21 +1,53 @@
 -- Wiring: all that the machine sees of a declaration and an assignment.
-use Rattle.std.specs.Prelude.{◌≡◌, ℕ, ◌<◌, ◌==◌, List, length, slice_index}
-use Rattle.std.specs.List.{All, range_with_len, count_by}
+use Rattle.std.specs.Prelude.{◌≡◌, ℕ, ◌<◌, ◌≤◌, nat_lt, ◌==◌, ◌&&◌, Bool, true, if◌then◌else◌, List, length, map, slice_index, slice_index_or}
+use Rattle.std.specs.List.{All, list_any, range_with_len, count_by}
 use Rattle.wq_items.specs.declared.target.Target.{Target}
-use Rattle.wq_items.specs.Table.{VertexWaits, TargetsBelow, targets_of}
+use Rattle.wq_items.specs.Table.{VertexWaits, TargetsBelow, targets_of, items_at}
 use Rattle.wq_groups.specs.Declaration.{Declaration}
-use Rattle.wq_groups.specs.Assignment.{Assignment, item_lanes}
+use Rattle.wq_groups.specs.Assignment.{Assignment, group_lane, item_lanes}
 
--- for each item in turn, the targets of its flushes and its lane; and how many lanes there are. A lane is a workqueue with one
--- execution context, its rescuer
+-- for each item in turn, the targets of its flushes and its lane; how many lanes there are, and which of them run one item at a
+-- time; and how many helpers each other lane has. A lane is a workqueue, whose contexts are its rescuer and its helpers
 pub record Wiring : Type 0 where
   pub waits : List (List Target)
   pub lane_of_item : List ℕ
   pub lanes : ℕ
+  pub ordered : List Bool
+  pub helpers : ℕ
 
--- each item on the lane of its group
+-- how many helpers a lane may have
+abbrev pub max_helpers : ℕ
+max_helpers = 8
+
+-- a group of two or more items is on lane q, if these are the groups of the items, and there are this many
+abbrev pub is_ordered_lane : Assignment → List ℕ → ℕ → ℕ → Bool
+is_ordered_lane a group_of groups q = list_any (λ g. (group_lane a g == q) && nat_lt 1 (length (items_at group_of g))) (range_with_len 0 groups)
+
+-- each item on the lane of its group. A lane that holds a group of two or more items is ordered, and there are no helpers
 abbrev pub wiring : Declaration → Assignment → Wiring
-wiring d a = record { waits = d.waits; lane_of_item = item_lanes a d.group_of; lanes = a.lanes }
+wiring d a = record {
+  waits = d.waits;
+  lane_of_item = item_lanes a d.group_of;
+  lanes = a.lanes;
+  ordered = map (is_ordered_lane a d.group_of d.groups) (range_with_len 0 a.lanes);
+  helpers = 0;
+}
+
+-- the wiring with this many helpers for each lane that isn't ordered
+abbrev pub with_helpers : Wiring → ℕ → Wiring
+with_helpers w n = record w { helpers = n }
+
+-- how many helpers lane q has; a lane that is ordered or doesn't exist has none
+abbrev pub helpers_of : Wiring → ℕ → ℕ
+helpers_of w q = if slice_index_or w.ordered q true then 0 else w.helpers
+
+-- lane q has helper h; helpers are numbered from 1
+abbrev pub HasHelper : Wiring → ℕ → ℕ → Type 0
+HasHelper w q h = (0 < h) × (h ≤ helpers_of w q)
+
+-- there is a lane q, and it has context c: its rescuer is 0, and its helpers are numbered from 1
+abbrev pub HasContext : Wiring → ℕ → ℕ → Type 0
+HasContext w q c = (q < w.lanes) × (c ≤ helpers_of w q)
 
 -- the assignment in which each of this many groups has its own lane, with the group's number
 abbrev pub own_lanes : ℕ → Assignment
@@ -41,8 +73,10 @@ declared_by w i = targets_of w.waits i
 abbrev pub LaneWaits : Wiring → ℕ → ℕ → Type 0
 LaneWaits w = VertexWaits w.waits w.lane_of_item
 
--- what holds for every wiring: each item has a lane, which is one of the lanes; each target is an item
+-- what holds for every wiring: each item has a lane, which is one of the lanes; each target is an item; and each lane is ordered
+-- or not
 pub record IsWiring (w : Wiring) : Type 0 where
   pub one_lane_each : length w.lane_of_item ≡ items w
   pub within : All (λ l. l < w.lanes) w.lane_of_item
   pub targets_are_items : All (TargetsBelow (items w)) w.waits
+  pub one_order_each : length w.ordered ≡ w.lanes

@@ -3,15 +3,16 @@
 //! The machine holds its lanes only here, so that a change of one lane is seen to leave the others as they are. `new` and
 //! `are_idle` take time in the number of lanes. Each other call takes constant time. Only `new` takes memory.
 
-ghost use Rattle.std.specs.Prelude.{◌≡◌, ◌<◌, ◌↔◌, length, map, slice_get, Some, IfOk, OnErr, IsTrue};
+ghost use Rattle.std.specs.Prelude.{◌≡◌, ◌<◌, ◌≤◌, ◌↔◌, length, map, slice_get, Some, IfOk, OnErr, IsTrue};
 ghost use Rattle.std.specs.List.{All};
 ghost use Rattle.std.specs.Borrow.{sem};
-ghost use Rattle.wq_core.specs.State.{idle_lane};
+ghost use Rattle.wq_core.specs.Wiring.{max_helpers};
+ghost use Rattle.wq_core.specs.State.{IsBusy};
 ghost use Rattle.wq_core.specs.Held.{HeldLane};
-ghost use Rattle.wq_core.specs.Building.{idle_with_room};
+ghost use Rattle.wq_core.specs.Building.{idle_of_shape};
 ghost use Rattle.wq_core.specs.Lending.{LendsLane};
 
-use crate::lane::Lane;
+use crate::lane::{Lane, LaneShape};
 use std::alloc::{AllocError, Allocator};
 use std::marker::Model;
 use wq_groups::LaneId;
@@ -31,16 +32,29 @@ impl<A: Allocator> Model for Lanes<A> {
     ghost view = { λ l. l.lanes.items };
 }
 
+/// Whether each of these is idle.
+fn all_idle<A: Allocator>(lanes: &[Lane<A>]) -> bool
+    ensures { IsTrue result ↔ All (λ (h : HeldLane). ¬ IsBusy h.lane) lanes.now }
+{
+    for lane in lanes {
+        if !lane.is_idle() {
+            return false;
+        }
+    }
+    true
+}
+
 impl<A: Allocator + Copy> Lanes<A> {
-    /// Idle lanes, each with room for this many entries. The only error is out of memory (20), which can't occur where there is
-    /// no lane.
-    pub fn new(alloc: A, rooms: &[usize]) -> Result<Self, AllocError>
-        ensures lanes { IfOk result (λ lanes. lanes ≡ map idle_with_room rooms.now) }
-        ensures memory { OnErr result (0 < length rooms.now) }
+    /// Idle lanes of these shapes, each with this many helpers unless it is ordered. The only error is out of memory (20), which
+    /// can't occur where there is no lane.
+    pub fn new(alloc: A, shapes: &[LaneShape], helpers: u8) -> Result<Self, AllocError>
+        requires { helpers ≤ max_helpers }
+        ensures lanes { IfOk result (λ lanes. lanes ≡ map (idle_of_shape helpers) shapes.now) }
+        ensures memory { OnErr result (0 < length shapes.now) }
     {
-        let mut lanes = Vec::with_capacity(alloc, rooms.len())?;
-        for room in rooms {
-            lanes.push(Lane::new(alloc, *room)?)?;
+        let mut lanes = Vec::with_capacity(alloc, shapes.len())?;
+        for shape in shapes {
+            lanes.push(Lane::new(alloc, *shape, helpers)?)?;
         }
         Ok(Lanes { lanes })
     }
@@ -56,9 +70,9 @@ impl<A: Allocator> Lanes<A> {
 
     /// Whether each lane is idle.
     pub fn are_idle(&self) -> bool
-        ensures { IsTrue result ↔ All (λ (h : HeldLane). h.lane ≡ idle_lane) self.now }
+        ensures { IsTrue result ↔ All (λ (h : HeldLane). ¬ IsBusy h.lane) self.now }
     {
-        self.lanes.iter().all(|lane| lane.is_idle())
+        all_idle(self.lanes.as_slice())
     }
 
     /// The lane with a number below `len()`.

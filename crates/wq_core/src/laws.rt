@@ -2,18 +2,19 @@
 //!
 //! They are about wirings, runs and states alone, whatever code makes the steps.
 
-ghost use Rattle.std.specs.Prelude.{◌≡◌, ℕ, ◌<◌, ◌≤◌, ◌⊎◌, List, ◌++◌, length};
+ghost use Rattle.std.specs.Prelude.{◌≡◌, ℕ, ◌<◌, ◌≤◌, ◌⊎◌, ◌↔◌, List, ◌++◌, length};
 ghost use Rattle.std.specs.List.{All, count_by};
 ghost use Rattle.wq_items.specs.Chain.{IsChain, Circle};
 ghost use Rattle.wq_items.specs.Table.{ItemWaits};
 ghost use Rattle.wq_groups.specs.Declaration.{Declaration, IsDeclaration, GroupWaits};
 ghost use Rattle.wq_groups.specs.Assignment.{Assignment, IsAssignment, group_lane};
+ghost use Rattle.wq_core.specs.declared.entry.Running.{Running};
 ghost use Rattle.wq_core.specs.declared.step.Step.{Step};
-ghost use Rattle.wq_core.specs.Wiring.{Wiring, IsWiring, LaneWaits, wiring, lane_of};
-ghost use Rattle.wq_core.specs.State.{State, HasUnfinished};
+ghost use Rattle.wq_core.specs.Wiring.{Wiring, IsWiring, LaneWaits, wiring, with_helpers, max_helpers, lane_of};
+ghost use Rattle.wq_core.specs.State.{State, lane_at, RunsIn, HasUnfinished};
 ghost use Rattle.wq_core.specs.Rules.{Lawful, Gives};
-ghost use Rattle.wq_core.specs.Runs.{IsRun, IsRunFrom, end_of, IsRescuerStep, IsCancel, is_rescuer_step};
-ghost use Rattle.wq_core.specs.Deadlock.{IsSafe, DeadlocksBy, Deadlocks, IsLeast};
+ghost use Rattle.wq_core.specs.Runs.{IsRun, IsRunFrom, end_of, IsRescuerStep, IsForcedStep, IsCancel, HasNoHelp, is_rescuer_step};
+ghost use Rattle.wq_core.specs.Deadlock.{IsStuck, IsSafe, DeadlocksBy, Deadlocks, IsLeast};
 ghost use Rattle.wq_core.specs.Played.{CanMove, IsDeclaredStep, IsPlayedFrom, queue_order};
 ghost use Rattle.wq_core.specs.Knot.{IsKnot};
 ghost use Rattle.wq_core.specs.Work.{work_left};
@@ -35,8 +36,8 @@ pub fn a_step_gives_a_number()
     ensures { (w : Wiring) (s : State) (step : Step) → Lawful w s step → (n : ℕ) × Gives s step n }
 {}
 
-/// Where nothing more is queued, the rescuers make at most as many steps as there is work left, whatever the order, and whatever
-/// is cancelled in between.
+/// Where nothing more is queued, the rescuers and the helpers make at most as many steps as there is work left, whatever the
+/// order, and whatever is cancelled in between.
 pub fn rescuer_steps_are_bounded()
     ensures { (w : Wiring) (steps more : List Step) → IsRun w steps →
         All (λ (step : Step). IsRescuerStep step ⊎ IsCancel step) more → IsRunFrom w (end_of w steps) more →
@@ -44,27 +45,50 @@ pub fn rescuer_steps_are_bounded()
 {}
 
 /// Where the lanes have numbers that fall along every declared flush, from the lane of the item that waits to that of
-/// its target, no run ends stuck.
+/// its target, no run ends stuck, whatever the number of helpers.
 pub fn falling_numbers_are_safe()
     ensures { (w : Wiring) (number : ℕ → ℕ) →
         ((i j : ℕ) → ItemWaits w.waits i j → number (lane_of w j) < number (lane_of w i)) → IsSafe w }
 {}
 
-/// A lane has at most one step that flushes as declared.
+/// The rescuer of a lane has at most one step that flushes as declared.
 pub fn a_lane_has_one_declared_step()
     ensures { (w : Wiring) (s : State) (q : ℕ) (a b : Step) → IsDeclaredStep w s q a → IsDeclaredStep w s q b → a ≡ b }
 {}
 
-/// After a run, each lane that can move has such a step, whatever was flushed before.
+/// After a run, each lane that can move and whose helpers run nothing has such a step, whatever was flushed before.
 pub fn a_lane_that_can_move_has_a_declared_step()
-    ensures { (w : Wiring) (steps : List Step) (q : ℕ) → IsRun w steps → CanMove w (end_of w steps) q →
-        (step : Step) × IsDeclaredStep w (end_of w steps) q step }
+    ensures { (w : Wiring) (steps : List Step) (q : ℕ) → IsRun w steps →
+        ((c : ℕ) (r : Running) → RunsIn (lane_at (end_of w steps) q) c r → c ≡ 0) →
+        CanMove w (end_of w steps) q → (step : Step) × IsDeclaredStep w (end_of w steps) q step }
 {}
 
-/// Where no run ends stuck: if a run leaves a state in which no rescuer can make a step, nothing is unfinished in that state.
+/// Where no run ends stuck: if a run leaves a state in which no step is lawful but queueings, cancellations and starts of helpers,
+/// nothing is unfinished in that state.
 pub fn at_rest_nothing_is_unfinished()
-    ensures { (w : Wiring) (steps : List Step) → IsSafe w → IsRun w steps →
-        ((step : Step) → IsRescuerStep step → ¬ Lawful w (end_of w steps) step) → ¬ HasUnfinished (end_of w steps) }
+    ensures { (w : Wiring) (steps : List Step) → w.helpers ≤ max_helpers → IsSafe w → IsRun w steps →
+        ((step : Step) → IsForcedStep step → ¬ Lawful w (end_of w steps) step) → ¬ HasUnfinished (end_of w steps) }
+{}
+
+/// After a run, no item is run by two contexts.
+pub fn an_item_runs_in_one_context()
+    ensures { (w : Wiring) (steps : List Step) (q p c d : ℕ) (r x : Running) → IsRun w steps →
+        RunsIn (lane_at (end_of w steps) q) c r → RunsIn (lane_at (end_of w steps) p) d x →
+        r.entry.item ≡ x.entry.item → (q ≡ p) × (c ≡ d) }
+{}
+
+/// Steps without a helper's are a run under any number of helpers exactly where they are one under none; they leave the same
+/// state, are stuck alike, and deadlock alike.
+pub fn helpers_change_no_run_without_them()
+    ensures run { (w : Wiring) (n : ℕ) (steps : List Step) → HasNoHelp steps →
+        IsRun (with_helpers w n) steps ↔ IsRun (with_helpers w 0) steps }
+    ensures state { (w : Wiring) (n : ℕ) (steps : List Step) → HasNoHelp steps →
+        end_of (with_helpers w n) steps ≡ end_of (with_helpers w 0) steps }
+    ensures stuck { (w : Wiring) (n : ℕ) (steps : List Step) → HasNoHelp steps →
+        IsStuck (with_helpers w n) (end_of (with_helpers w n) steps)
+        ↔ IsStuck (with_helpers w 0) (end_of (with_helpers w 0) steps) }
+    ensures deadlocks { (w : Wiring) (n : ℕ) (steps : List Step) →
+        DeadlocksBy (with_helpers w n) steps ↔ DeadlocksBy (with_helpers w 0) steps }
 {}
 
 /// Where groups wait for one another in a chain, the lanes of every assignment to fewer lanes than the chain has groups

@@ -4,26 +4,27 @@
 //! a question about an item takes constant time. So does each step, and the question which number it would give, with two
 //! exceptions. A cancellation takes time in the logarithm of the number of entries that are pending on the lane, and moves those
 //! before or after the one that is removed, whichever are fewer. A wait takes time in the logarithm of the number of the item's
-//! targets. Only `new` takes memory. It takes memory in the number of items, flushes and lanes; its time is that times the
-//! logarithm of the flushes of one item.
+//! targets. Only `new` and `with_helpers` take memory. They take memory in the number of items, flushes, lanes and helpers; their
+//! time is that times the logarithm of the flushes of one item.
 
 ghost use Rattle.std.specs.Prelude.{◌≡◌, ◌<◌, ◌≤◌, length, slice_get, Some, IfSome, IfNone, OnSome, IfOk, OnErr, IfErr, IsTrue, ◌↔◌, take};
 ghost use Rattle.wq_items.specs.Table.{ItemWaitsBy};
 ghost use Rattle.wq_groups.specs.Declaration.{declaration_of};
 ghost use Rattle.wq_core.specs.declared.step.StepError.{StepError};
-ghost use Rattle.wq_core.specs.declared.step.Step.TheVariants.{Queue, Cancel, Start, Wait, Over, WaitAll, OverAll, Finish};
-ghost use Rattle.wq_core.specs.Wiring.{items, lane_of, declared_by};
-ghost use Rattle.wq_core.specs.State.{lane_at, IsPendingOn, HasPending, HasUnfinishedBelow, HasUnfinishedOf, HasUnfinished, IsBusyBelow};
-ghost use Rattle.wq_core.specs.Rules.{IsHeldBack, wait_of, over_of};
+ghost use Rattle.wq_core.specs.declared.step.Step.TheVariants.{Queue, Cancel, Start, Help};
+ghost use Rattle.wq_core.specs.declared.step.HelpStep.TheVariants.{Start as DoStart, Finish as DoFinish};
+ghost use Rattle.wq_core.specs.Wiring.{max_helpers, helpers_of, HasContext, items, lane_of, declared_by};
+ghost use Rattle.wq_core.specs.State.{lane_at, run_by, next_of, IsPendingOn, HasPending, HasUnfinishedBelow, HasUnfinishedOf, HasUnfinished, IsBusyBelow};
+ghost use Rattle.wq_core.specs.Rules.{IsHeldBack, step_in, wait_deed, over_deed};
 ghost use Rattle.wq_core.specs.Held.{IsMachine, IsNumberOf, IsDone, IsRefusal, AreDone, machine_after, HasPendingBelow, RunsBelow, IsRising};
-ghost use Rattle.wq_core.specs.Building.{first_machine};
+ghost use Rattle.wq_core.specs.Building.{first_machine, first_machine_with};
 
-use crate::building::{count_items, item_lanes};
+use crate::building::{item_lanes, lane_shapes};
 use crate::entry::{Entry, Running};
 use crate::lane::Lane;
 use crate::lanes::Lanes;
 use crate::pending::PendingNumbers;
-use crate::step::{RunError, Step, StepError};
+use crate::step::{HelpStep, RunError, Step, StepError};
 use crate::targets::Targets;
 use std::alloc::{AllocError, Allocator};
 use std::marker::Model;
@@ -35,6 +36,7 @@ use wq_items::{ItemId, ItemTable, Target};
 pub struct Core<A: Allocator> {
     targets: Targets<A>,
     lane_of_item: Vec<LaneId, A>,
+    helpers: u8,
     pending: PendingNumbers<A>,
     lanes: Lanes<A>,
     next: u32,
@@ -45,14 +47,14 @@ impl<A: Allocator> Model for Core<A> {
 
     ghost Value = { Machine };
 
-    ghost view = { λ m. machine_of m.targets m.lane_of_item.items m.lanes m.next };
+    ghost view = { λ m. machine_of m.targets m.lane_of_item.items m.helpers m.lanes m.next };
 
-    ghost invariant = { λ m. IsHeld m.targets m.lane_of_item.items m.pending m.lanes m.next };
+    ghost invariant = { λ m. IsHeld m.targets m.lane_of_item.items m.helpers m.pending m.lanes m.next };
 }
 
 impl<A: Allocator + Copy> Core<A> {
-    /// Makes the machine of a declaration and an assignment, before anything is queued: of a table, the groups of its items, and
-    /// the lane of each group.
+    /// Makes the machine of a declaration and an assignment, without helpers, before anything is queued: of a table, the groups of
+    /// its items, and the lane of each group.
     ///
     /// The only error is out of memory (20), which can't occur where there is no lane; any other machine holds lanes in memory.
     pub fn new(
@@ -66,15 +68,35 @@ impl<A: Allocator + Copy> Core<A> {
         ensures machine { IfOk result (λ m. m ≡ first_machine (declaration_of table.now groups.now) assignment.now) }
         ensures memory { OnErr result (0 < assignment.now.lanes) }
     {
-        let count = assignment.lanes();
+        Core::with_helpers(alloc, table, groups, assignment, 0)
+    }
+
+    /// Makes the machine in which each lane has this many helpers, at most 8, unless it holds a group of two or more items.
+    ///
+    /// The only error is out of memory (20), which can't occur where there is no lane.
+    pub fn with_helpers(
+        alloc: A,
+        table: &ItemTable<'_, A>,
+        groups: &Groups<A>,
+        assignment: &Assignment<A>,
+        helpers: u8,
+    ) -> Result<Self, AllocError>
+        requires grouped { length groups.now.group_of ≡ length table.now.names }
+        requires assigned { length assignment.now.lane_of_group ≡ groups.now.groups }
+        requires few { helpers ≤ max_helpers }
+        ensures machine { IfOk result (λ m. m ≡ first_machine_with (declaration_of table.now groups.now) assignment.now helpers) }
+        ensures memory { OnErr result (0 < assignment.now.lanes) }
+    {
+        let _lanes = assignment.lanes();
         let lane_of_item = item_lanes(alloc, table.len(), groups, assignment)?;
         let targets = Targets::new(alloc, table)?;
         let pending = PendingNumbers::new(alloc, table.len())?;
-        let rooms = count_items(alloc, count, lane_of_item.as_slice())?;
-        let lanes = Lanes::new(alloc, rooms.as_slice())?;
+        let shapes = lane_shapes(alloc, lane_of_item.as_slice(), groups, assignment)?;
+        let lanes = Lanes::new(alloc, shapes.as_slice(), helpers)?;
         Ok(Core {
             targets,
             lane_of_item,
+            helpers,
             pending,
             lanes,
             next: 0,
@@ -99,6 +121,34 @@ impl<A: Allocator> Core<A> {
         self.lanes.len()
     }
 
+    /// How many helpers each lane has that isn't ordered, at most 8.
+    pub fn helpers(&self) -> u8
+        ensures helpers { result ≡ self.now.wiring.helpers }
+        ensures few { result ≤ max_helpers }
+    {
+        self.helpers
+    }
+
+    /// How many helpers a lane has; none where it holds a group of two or more items, or there is no such lane.
+    pub fn helpers_of(&self, q: LaneId) -> u8
+        ensures helpers { result ≡ helpers_of self.now.wiring q }
+        ensures few { result ≤ max_helpers }
+        ensures machine { IsMachine self.now }
+    {
+        if usize::from(q.get()) < self.lanes() && !self.lanes.lane(q).is_ordered() {
+            self.helpers
+        } else {
+            0
+        }
+    }
+
+    /// Whether there is such a context: the rescuer of a lane, 0, or its helper of this number, from 1.
+    pub fn has_context(&self, q: LaneId, helper: u8) -> bool
+        ensures { IsTrue result ↔ HasContext self.now.wiring q helper }
+    {
+        usize::from(q.get()) < self.lanes() && helper <= self.helpers_of(q)
+    }
+
     /// A lane, where there is such a lane.
     pub(crate) fn lane(&self, q: LaneId) -> &Lane<A>
         requires { q < self.now.wiring.lanes }
@@ -108,7 +158,7 @@ impl<A: Allocator> Core<A> {
         self.lanes.lane(q)
     }
 
-    /// What a lane runs, with the waits that it has made and what it waits for; nothing where the lane runs nothing, or
+    /// What the rescuer of a lane runs, with the waits that it has made and what it waits for; nothing where it runs nothing, or
     /// where there is no such lane.
     pub fn running_on(&self, q: LaneId) -> Option<Running>
         ensures running { result ≡ (lane_at self.now.state q).running }
@@ -121,8 +171,33 @@ impl<A: Allocator> Core<A> {
         }
     }
 
-    /// The entry that a lane starts next, the first of its pending ones; none where nothing is pending on it, or there is no such
-    /// lane.
+    /// What a context runs, the rescuer of a lane, 0, or its helper of this number, with the waits that it has made and what it
+    /// waits for; nothing where it runs nothing, or where there is no such context.
+    pub fn running_in(&self, q: LaneId, helper: u8) -> Option<Running>
+        ensures running { result ≡ run_by (lane_at self.now.state q) helper }
+        ensures machine { IsMachine self.now }
+    {
+        if usize::from(q.get()) < self.lanes() {
+            self.lane(q).run_by(helper)
+        } else {
+            None
+        }
+    }
+
+    /// The entry that a context of a lane starts next, the first pending one whose item isn't running; none where there is no such
+    /// entry, or no such lane.
+    pub fn next_on(&self, q: LaneId) -> Option<Entry>
+        ensures next { result ≡ next_of (lane_at self.now.state q) }
+        ensures machine { IsMachine self.now }
+    {
+        if usize::from(q.get()) < self.lanes() {
+            self.lane(q).next()
+        } else {
+            None
+        }
+    }
+
+    /// The first pending entry of a lane; none where nothing is pending on it, or there is no such lane.
     pub fn first_on(&self, q: LaneId) -> Option<Entry>
         ensures first { result ≡ slice_get (lane_at self.now.state q).pending 0 }
         ensures machine { IsMachine self.now }
@@ -258,23 +333,54 @@ impl<A: Allocator> Core<A> {
         Some(entry.number)
     }
 
-    /// The number that a start on a lane gives, where it is lawful.
-    fn may_start(&self, q: LaneId, item: ItemId) -> Option<u32>
+    /// The number that a start of a lane's rescuer gives, where it is lawful.
+    fn may_start_first(&self, q: LaneId, item: ItemId) -> Option<u32>
         ensures { IsNumberOf self.now (Start q item) result }
     {
-        let first = self.first_on(q)?;
-        if first.item == item && self.running_on(q).is_none() {
-            Some(first.number)
+        if self.running_on(q).is_some() {
+            return None;
+        }
+        let next = self.next_on(q)?;
+        if next.item == item {
+            Some(next.number)
         } else {
             None
         }
     }
 
-    /// The number that a wait on a lane gives, where it is lawful.
-    fn may_wait(&self, q: LaneId, whole: bool, target: ItemId) -> Option<u32>
-        ensures { IsNumberOf self.now (wait_of whole q target) result }
+    /// The number that a start of a helper gives, where it is lawful.
+    fn may_help(&self, q: LaneId, helper: u8, item: ItemId) -> Option<u32>
+        requires { 0 < helper }
+        ensures { IsNumberOf self.now (Help q helper (DoStart item)) result }
     {
-        let running = self.running_on(q)?;
+        let entry = self.pending_entry(item)?;
+        if self.lane_of(item) == q
+            && self.has_context(q, helper)
+            && self.running_in(q, helper).is_none()
+            && !self.lane(q).is_running(item)
+        {
+            Some(entry.number)
+        } else {
+            None
+        }
+    }
+
+    /// The number that a start of a context gives, where it is lawful.
+    fn may_start(&self, q: LaneId, helper: u8, item: ItemId) -> Option<u32>
+        ensures { IsNumberOf self.now (step_in q helper (DoStart item)) result }
+    {
+        if helper == 0 {
+            self.may_start_first(q, item)
+        } else {
+            self.may_help(q, helper, item)
+        }
+    }
+
+    /// The number that a wait of a context gives, where it is lawful.
+    fn may_wait(&self, q: LaneId, helper: u8, whole: bool, target: ItemId) -> Option<u32>
+        ensures { IsNumberOf self.now (step_in q helper (wait_deed whole target)) result }
+    {
+        let running = self.running_in(q, helper)?;
         let item = running.entry.item;
         if running.waiting.is_none()
             && (running.made as usize) < self.waits(item).len()
@@ -286,11 +392,11 @@ impl<A: Allocator> Core<A> {
         }
     }
 
-    /// The number that the end of a wait on a lane gives, where it is lawful.
-    fn may_be_over(&self, q: LaneId, whole: bool, target: ItemId) -> Option<u32>
-        ensures { IsNumberOf self.now (over_of whole q target) result }
+    /// The number that the end of a wait of a context gives, where it is lawful.
+    fn may_be_over(&self, q: LaneId, helper: u8, whole: bool, target: ItemId) -> Option<u32>
+        ensures { IsNumberOf self.now (step_in q helper (over_deed whole target)) result }
     {
-        let running = self.running_on(q)?;
+        let running = self.running_in(q, helper)?;
         let flush = running.waiting?;
         if flush.whole == whole
             && flush.target == target
@@ -302,15 +408,40 @@ impl<A: Allocator> Core<A> {
         }
     }
 
-    /// The number that a finish on a lane gives, where it is lawful.
-    fn may_finish(&self, q: LaneId, item: ItemId) -> Option<u32>
-        ensures { IsNumberOf self.now (Finish q item) result }
+    /// The number that a finish of a context gives, where it is lawful.
+    fn may_finish(&self, q: LaneId, helper: u8, item: ItemId) -> Option<u32>
+        ensures { IsNumberOf self.now (step_in q helper (DoFinish item)) result }
     {
-        let running = self.running_on(q)?;
+        let running = self.running_in(q, helper)?;
         if running.entry.item == item && running.waiting.is_none() {
             Some(running.entry.number)
         } else {
             None
+        }
+    }
+
+    /// The number that what a context does gives, where it is lawful.
+    fn may_do(&self, q: LaneId, helper: u8, deed: HelpStep) -> Option<u32>
+        ensures { IsNumberOf self.now (step_in q helper deed) result }
+    {
+        match deed {
+            HelpStep::Start(item) => self.may_start(q, helper, item),
+            HelpStep::Wait(target) => self.may_wait(q, helper, false, target),
+            HelpStep::WaitAll(target) => self.may_wait(q, helper, true, target),
+            HelpStep::Over(target) => self.may_be_over(q, helper, false, target),
+            HelpStep::OverAll(target) => self.may_be_over(q, helper, true, target),
+            HelpStep::Finish(item) => self.may_finish(q, helper, item),
+        }
+    }
+
+    /// The number that a step of a helper gives, where it is lawful.
+    fn helper_may(&self, q: LaneId, helper: u8, deed: HelpStep) -> Option<u32>
+        ensures { IsNumberOf self.now (Help q helper deed) result }
+    {
+        if helper == 0 {
+            None
+        } else {
+            self.may_do(q, helper, deed)
         }
     }
 
@@ -341,58 +472,80 @@ impl<A: Allocator> Core<A> {
             return Err(StepError::NotLawful);
         };
         let q = self.lane_of(item);
-        self.lanes.lane_mut(q).cancel(Entry { number, item });
+        let entry = Entry { number, item };
+        self.lanes.lane_mut(q).cancel(&entry);
         self.pending.forget(item);
         Ok(number)
     }
 
-    /// Starts the first pending entry of a lane, and gives its number.
-    fn start(&mut self, q: LaneId, item: ItemId) -> Result<u32, StepError>
-        ensures done { IfOk result (λ n. IsDone self.old (Start q item) n self.new) }
-        ensures refused { IfErr result (λ e. IsRefusal self.old (Start q item) e × (self.new ≡ self.old)) }
+    /// Starts the pending entry of an item in a context, and gives its number.
+    fn start(&mut self, q: LaneId, helper: u8, item: ItemId) -> Result<u32, StepError>
+        ensures done { IfOk result (λ n. IsDone self.old (step_in q helper (DoStart item)) n self.new) }
+        ensures refused { IfErr result (λ e. IsRefusal self.old (step_in q helper (DoStart item)) e × (self.new ≡ self.old)) }
     {
-        let Some(number) = self.may_start(q, item) else {
+        let Some(number) = self.may_start(q, helper, item) else {
             return Err(StepError::NotLawful);
         };
-        self.lanes.lane_mut(q).start();
+        let entry = Entry { number, item };
+        self.lanes.lane_mut(q).start(helper, entry);
         self.pending.forget(item);
         Ok(number)
     }
 
-    /// Makes what a lane runs begin to wait, and gives the mark.
-    fn wait(&mut self, q: LaneId, whole: bool, target: ItemId) -> Result<u32, StepError>
-        ensures done { IfOk result (λ n. IsDone self.old (wait_of whole q target) n self.new) }
-        ensures refused { IfErr result (λ e. IsRefusal self.old (wait_of whole q target) e × (self.new ≡ self.old)) }
+    /// Makes what a context runs begin to wait, and gives the mark.
+    fn wait(&mut self, q: LaneId, helper: u8, whole: bool, target: ItemId) -> Result<u32, StepError>
+        ensures done { IfOk result (λ n. IsDone self.old (step_in q helper (wait_deed whole target)) n self.new) }
+        ensures refused { IfErr result (λ e. IsRefusal self.old (step_in q helper (wait_deed whole target)) e
+            × (self.new ≡ self.old)) }
     {
-        let Some(number) = self.may_wait(q, whole, target) else {
+        let Some(number) = self.may_wait(q, helper, whole, target) else {
             return Err(StepError::NotLawful);
         };
-        self.lanes.lane_mut(q).wait(whole, target, number);
+        self.lanes.lane_mut(q).wait(helper, whole, target, number);
         Ok(number)
     }
 
-    /// Ends the wait of what a lane runs, and gives the mark.
-    fn over(&mut self, q: LaneId, whole: bool, target: ItemId) -> Result<u32, StepError>
-        ensures done { IfOk result (λ n. IsDone self.old (over_of whole q target) n self.new) }
-        ensures refused { IfErr result (λ e. IsRefusal self.old (over_of whole q target) e × (self.new ≡ self.old)) }
+    /// Ends the wait of what a context runs, and gives the mark.
+    fn over(&mut self, q: LaneId, helper: u8, whole: bool, target: ItemId) -> Result<u32, StepError>
+        ensures done { IfOk result (λ n. IsDone self.old (step_in q helper (over_deed whole target)) n self.new) }
+        ensures refused { IfErr result (λ e. IsRefusal self.old (step_in q helper (over_deed whole target)) e
+            × (self.new ≡ self.old)) }
     {
-        let Some(number) = self.may_be_over(q, whole, target) else {
+        let Some(number) = self.may_be_over(q, helper, whole, target) else {
             return Err(StepError::NotLawful);
         };
-        self.lanes.lane_mut(q).over();
+        self.lanes.lane_mut(q).over(helper);
         Ok(number)
     }
 
-    /// Finishes what a lane runs, and gives the number of its entry.
-    fn finish(&mut self, q: LaneId, item: ItemId) -> Result<u32, StepError>
-        ensures done { IfOk result (λ n. IsDone self.old (Finish q item) n self.new) }
-        ensures refused { IfErr result (λ e. IsRefusal self.old (Finish q item) e × (self.new ≡ self.old)) }
+    /// Finishes what a context runs, and gives the number of its entry.
+    fn finish(&mut self, q: LaneId, helper: u8, item: ItemId) -> Result<u32, StepError>
+        ensures done { IfOk result (λ n. IsDone self.old (step_in q helper (DoFinish item)) n self.new) }
+        ensures refused { IfErr result (λ e. IsRefusal self.old (step_in q helper (DoFinish item)) e × (self.new ≡ self.old)) }
     {
-        let Some(number) = self.may_finish(q, item) else {
+        let Some(number) = self.may_finish(q, helper, item) else {
             return Err(StepError::NotLawful);
         };
-        self.lanes.lane_mut(q).finish();
+        self.lanes.lane_mut(q).finish(helper);
         Ok(number)
+    }
+
+    /// Makes a step of a helper, and gives its number.
+    fn help(&mut self, q: LaneId, helper: u8, deed: HelpStep) -> Result<u32, StepError>
+        ensures done { IfOk result (λ n. IsDone self.old (Help q helper deed) n self.new) }
+        ensures refused { IfErr result (λ e. IsRefusal self.old (Help q helper deed) e × (self.new ≡ self.old)) }
+    {
+        if helper == 0 {
+            return Err(StepError::NotLawful);
+        }
+        match deed {
+            HelpStep::Start(item) => self.start(q, helper, item),
+            HelpStep::Wait(target) => self.wait(q, helper, false, target),
+            HelpStep::WaitAll(target) => self.wait(q, helper, true, target),
+            HelpStep::Over(target) => self.over(q, helper, false, target),
+            HelpStep::OverAll(target) => self.over(q, helper, true, target),
+            HelpStep::Finish(item) => self.finish(q, helper, item),
+        }
     }
 
     /// The number that a step would give; none where it wouldn't be made, because it isn't lawful (30) or the numbers are used up
@@ -407,12 +560,13 @@ impl<A: Allocator> Core<A> {
                 number => number,
             },
             Step::Cancel(item) => self.may_cancel(item),
-            Step::Start(q, item) => self.may_start(q, item),
-            Step::Wait(q, target) => self.may_wait(q, false, target),
-            Step::Over(q, target) => self.may_be_over(q, false, target),
-            Step::WaitAll(q, target) => self.may_wait(q, true, target),
-            Step::OverAll(q, target) => self.may_be_over(q, true, target),
-            Step::Finish(q, item) => self.may_finish(q, item),
+            Step::Start(q, item) => self.may_start(q, 0, item),
+            Step::Wait(q, target) => self.may_wait(q, 0, false, target),
+            Step::Over(q, target) => self.may_be_over(q, 0, false, target),
+            Step::WaitAll(q, target) => self.may_wait(q, 0, true, target),
+            Step::OverAll(q, target) => self.may_be_over(q, 0, true, target),
+            Step::Finish(q, item) => self.may_finish(q, 0, item),
+            Step::Help(q, helper, deed) => self.helper_may(q, helper, deed),
         }
     }
 
@@ -421,6 +575,7 @@ impl<A: Allocator> Core<A> {
     ///
     /// The error is `NotLawful` (30) exactly where the step isn't lawful, or `NumbersUsedUp` (31) exactly where a lawful queueing
     /// would get the number 4,294,967,295. After an error nothing is changed.
+    #[inline(always)]
     pub fn step(&mut self, step: Step) -> Result<u32, StepError>
         ensures done { IfOk result (λ n. IsDone self.old step n self.new) }
         ensures refused { IfErr result (λ e. IsRefusal self.old step e × (self.new ≡ self.old)) }
@@ -428,12 +583,13 @@ impl<A: Allocator> Core<A> {
         match step {
             Step::Queue(item) => self.queue(item),
             Step::Cancel(item) => self.cancel(item),
-            Step::Start(q, item) => self.start(q, item),
-            Step::Wait(q, target) => self.wait(q, false, target),
-            Step::Over(q, target) => self.over(q, false, target),
-            Step::WaitAll(q, target) => self.wait(q, true, target),
-            Step::OverAll(q, target) => self.over(q, true, target),
-            Step::Finish(q, item) => self.finish(q, item),
+            Step::Start(q, item) => self.start(q, 0, item),
+            Step::Wait(q, target) => self.wait(q, 0, false, target),
+            Step::Over(q, target) => self.over(q, 0, false, target),
+            Step::WaitAll(q, target) => self.wait(q, 0, true, target),
+            Step::OverAll(q, target) => self.over(q, 0, true, target),
+            Step::Finish(q, item) => self.finish(q, 0, item),
+            Step::Help(q, helper, deed) => self.help(q, helper, deed),
         }
     }
 

@@ -1,9 +1,10 @@
 //! Questions about a lane: whether it can move, its next step where what runs flushes as declared, and what holds a wait back.
 //!
-//! A lane moves by the steps of its rescuer, by the rules of "Rules" in the specs of this crate: an idle lane starts what is
-//! queued, what waits goes on once its wait is over, and anything else that runs can finish. What flushes as declared waits for
-//! the targets of its item in their order, and finishes after the last one. `declared` takes constant time, `enabled` takes time in
-//! the number of lanes, and `holder` in the logarithm of the number of entries that are pending on a lane. Nothing takes memory.
+//! A lane moves by the steps of its contexts, by the rules of "Rules" in the specs of this crate: an idle rescuer starts what is
+//! queued and doesn't run, what waits goes on once its wait is over, and anything else that runs can finish. A helper needn't start
+//! anything, so a start of a helper isn't counted. What flushes as declared waits for the targets of its item in their order, and
+//! finishes after the last one. `declared` takes constant time, `enabled` takes time in the number of lanes and of helpers, and
+//! `holder` in the logarithm of the number of entries that are pending on a lane. Nothing takes memory.
 
 ghost use Rattle.std.specs.Prelude.{◌≡◌, ◌<◌, ◌↔◌, ℕ, IsTrue, IfSome, IfNone, None, slice_get};
 ghost use Rattle.wq_core.specs.declared.step.Step.{Step};
@@ -11,7 +12,7 @@ ghost use Rattle.wq_core.specs.Wiring.{items, declared_by};
 ghost use Rattle.wq_core.specs.State.{lane_at, Runs};
 ghost use Rattle.wq_core.specs.Rules.{IsHeldBack, IsHolder};
 ghost use Rattle.wq_core.specs.Held.{IsMachine};
-ghost use Rattle.wq_core.specs.Played.{CanMove, HasNoDeclaredStep, IsDeclaredStep};
+ghost use Rattle.wq_core.specs.Played.{RescuerCanMove, HelperGoesOn, CanMove, HasNoDeclaredStep, IsDeclaredStep};
 
 use crate::entry::Running;
 use crate::machine::Core;
@@ -21,12 +22,12 @@ use wq_groups::LaneId;
 use wq_items::{ItemId, Target};
 
 impl<A: Allocator> Core<A> {
-    /// Whether a lane can make a step.
-    fn can_move(&self, q: LaneId) -> bool
-        ensures { IsTrue result ↔ CanMove self.now.wiring self.now.state q }
+    /// Whether the rescuer of a lane can make a step.
+    fn rescuer_can_move(&self, q: LaneId) -> bool
+        ensures { IsTrue result ↔ RescuerCanMove self.now.wiring self.now.state q }
     {
         let Some(running) = self.running_on(q) else {
-            return self.first_on(q).is_some();
+            return self.next_on(q).is_some();
         };
         let Some(flush) = running.waiting else {
             return true;
@@ -34,9 +35,43 @@ impl<A: Allocator> Core<A> {
         !self.is_held_back(flush.whole, flush.target, flush.mark)
     }
 
+    /// Whether a helper can go on with what it runs.
+    fn helper_goes_on(&self, q: LaneId, helper: u8) -> bool
+        requires { 0 < helper }
+        ensures { IsTrue result ↔ HelperGoesOn self.now.wiring self.now.state q helper }
+    {
+        let Some(running) = self.running_in(q, helper) else {
+            return false;
+        };
+        let Some(flush) = running.waiting else {
+            return true;
+        };
+        !self.is_held_back(flush.whole, flush.target, flush.mark)
+    }
+
+    /// Whether a helper of a lane can go on with what it runs.
+    fn a_helper_goes_on(&self, q: LaneId) -> bool
+        ensures { IsTrue result ↔ ((h : ℕ) × HelperGoesOn self.now.wiring self.now.state q h) }
+    {
+        let count = self.helpers_of(q);
+        for before in 0..count {
+            if self.helper_goes_on(q, before + 1) {
+                return true;
+            }
+        }
+        false
+    }
+
+    /// Whether a lane can make a step other than a helper's start.
+    fn can_move(&self, q: LaneId) -> bool
+        ensures { IsTrue result ↔ CanMove self.now.wiring self.now.state q }
+    {
+        self.rescuer_can_move(q) || self.a_helper_goes_on(q)
+    }
+
     /// An item that holds back a wait for an item or for its whole lane, with this mark: an unfinished entry of it has a number
-    /// below the mark, and is waited for. It is the item that is waited for, or that of the last such entry of its lane, after
-    /// which the wait is over. None only where nothing holds the wait back.
+    /// below the mark, and is waited for. It is the item that is waited for, or that of the last such entry that is pending on its
+    /// lane, or of one that runs there. None only where nothing holds the wait back.
     pub fn holder(&self, whole: bool, target: ItemId, mark: u32) -> Option<ItemId>
         requires { target < items self.now.wiring }
         ensures some { IfSome result (λ i. IsHolder self.now.wiring self.now.state whole target mark i) }
@@ -54,7 +89,8 @@ impl<A: Allocator> Core<A> {
         }
     }
 
-    /// The lowest lane that can make a step: a start, a wait, the end of a wait or a finish. None only where no lane can.
+    /// The lowest lane that can make a step: a start of its rescuer, or a wait, the end of a wait or a finish of any of its
+    /// contexts. None only where no lane can.
     pub fn enabled(&self) -> Option<LaneId>
         ensures some { IfSome result (λ q. CanMove self.now.wiring self.now.state q
             × ((p : ℕ) → p < q → ¬ CanMove self.now.wiring self.now.state p)) }
@@ -79,17 +115,17 @@ impl<A: Allocator> Core<A> {
         self.waits(item).get(made as usize).copied()
     }
 
-    /// The step of an idle lane: it starts its first pending entry, if it has one.
+    /// The step of an idle rescuer: it starts the first pending entry whose item isn't running, if there is one.
     fn declared_idle(&self, q: LaneId) -> Option<Step>
         requires { (lane_at self.now.state q).running ≡ None }
         ensures some { IfSome result (λ step. IsDeclaredStep self.now.wiring self.now.state q step) }
         ensures none { IfNone result (HasNoDeclaredStep self.now.wiring self.now.state q) }
     {
-        let first = self.first_on(q)?;
-        Some(Step::Start(q, first.item))
+        let next = self.next_on(q)?;
+        Some(Step::Start(q, next.item))
     }
 
-    /// The step of a lane that runs something. Where it waits, that is the end of the wait, if the wait is over. Otherwise it is
+    /// The step of a rescuer that runs something. Where it waits, that is the end of the wait, if the wait is over. Otherwise it is
     /// the next wait, or, after the last one, the finish.
     fn declared_running(&self, q: LaneId, running: Running) -> Option<Step>
         requires machine { IsMachine self.now }
@@ -112,9 +148,9 @@ impl<A: Allocator> Core<A> {
         }
     }
 
-    /// The step that a lane can make where what it runs flushes as declared: each execution waits for the targets of its item in
-    /// their order, and finishes after the last one. None only where it can make no such step, for example where there is no such
-    /// lane.
+    /// The step that the rescuer of a lane can make where what it runs flushes as declared: each execution waits for the targets
+    /// of its item in their order, and finishes after the last one. None only where it can make no such step, for example where
+    /// there is no such lane.
     pub fn declared(&self, q: LaneId) -> Option<Step>
         ensures some { IfSome result (λ step. IsDeclaredStep self.now.wiring self.now.state q step) }
         ensures none { IfNone result (HasNoDeclaredStep self.now.wiring self.now.state q) }

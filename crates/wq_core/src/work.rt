@@ -1,19 +1,19 @@
-//! The work left: how many rescuer steps can still come at most, where nothing more is queued.
+//! The work left: how many steps of rescuers and helpers can still come at most, where nothing more is queued.
 //!
 //! It is that of "Work" in the specs of this crate: for each unfinished entry a start, a finish, and a wait and its end for each
-//! declared flush, less the steps that were made for it. `work_left` takes time in the number of lanes and of pending entries.
+//! declared flush, less the steps that were made for it. `work_left` takes time in the number of contexts and of pending entries.
 //! `work_after`, which goes on from an earlier answer, takes constant time. Nothing takes memory.
 
-ghost use Rattle.std.specs.Prelude.{◌≡◌, ◌<◌, ◌≤◌, ◌*◌, sum_by};
+ghost use Rattle.std.specs.Prelude.{◌≡◌, ◌<◌, ◌≤◌, ◌+◌, ◌*◌, sum_by};
 ghost use Rattle.wq_core.specs.declared.entry.Entry.{Entry};
 ghost use Rattle.wq_core.specs.Wiring.{items};
-ghost use Rattle.wq_core.specs.State.{lane_at};
+ghost use Rattle.wq_core.specs.State.{lane_at, run_by};
 ghost use Rattle.wq_core.specs.Rules.{Lawful, effect};
-ghost use Rattle.wq_core.specs.Work.{whole_work, waits_over, running_work, lane_work, work_left};
+ghost use Rattle.wq_core.specs.Work.{whole_work, waits_over, running_work, lane_work, work_left, deed_work};
 
 use crate::entry::Waiting;
 use crate::machine::Core;
-use crate::step::Step;
+use crate::step::{HelpStep, Step};
 use std::alloc::Allocator;
 use wq_groups::LaneId;
 use wq_items::ItemId;
@@ -53,12 +53,12 @@ impl<A: Allocator> Core<A> {
         work
     }
 
-    /// What is left of what a lane runs.
-    fn running_work(&self, q: LaneId) -> u64
-        ensures work { result ≡ running_work self.now.wiring (lane_at self.now.state q).running }
+    /// What is left of what a context runs.
+    fn running_work(&self, q: LaneId, helper: u8) -> u64
+        ensures work { result ≡ running_work self.now.wiring (run_by (lane_at self.now.state q) helper) }
         ensures few { result ≤ 32770 }
     {
-        let Some(running) = self.running_on(q) else {
+        let Some(running) = self.running_in(q, helper) else {
             return 0;
         };
         let made = u64::from(running.made);
@@ -66,13 +66,26 @@ impl<A: Allocator> Core<A> {
         self.whole_work(running.entry.item) - (1 + made + over)
     }
 
+    /// What is left of what the helpers of a lane run.
+    fn helping_work(&self, q: LaneId) -> u64
+        ensures work { result ≡ sum_by (running_work self.now.wiring) (lane_at self.now.state q).helping }
+        ensures few { result ≤ 8 * 32770 }
+    {
+        let count = self.helpers_of(q);
+        let mut work = 0;
+        for before in 0..count {
+            work += self.running_work(q, before + 1);
+        }
+        work
+    }
+
     /// What is left on a lane.
     fn lane_work(&self, q: LaneId) -> u64
         requires { q < self.now.wiring.lanes }
         ensures work { result ≡ lane_work self.now.wiring (lane_at self.now.state q) }
-        ensures few { result ≤ 4097 * 32770 }
+        ensures few { result ≤ 4105 * 32770 }
     {
-        self.pending_work(q) + self.running_work(q)
+        self.pending_work(q) + (self.running_work(q, 0) + self.helping_work(q))
     }
 
     /// The number of starts, waits, ends of waits and finishes that can still be made at most, where nothing more is queued. It
@@ -88,9 +101,24 @@ impl<A: Allocator> Core<A> {
         work
     }
 
+    /// How much less is left after what a context does: one step, or all that is left of what it finishes.
+    fn deed_work(&self, q: LaneId, helper: u8, deed: HelpStep) -> u64
+        ensures work { result ≡ deed_work self.now.wiring (lane_at self.now.state q) helper deed }
+    {
+        match deed {
+            HelpStep::Start(_)
+            | HelpStep::Wait(_)
+            | HelpStep::WaitAll(_)
+            | HelpStep::Over(_)
+            | HelpStep::OverAll(_) => 1,
+            HelpStep::Finish(_) => self.running_work(q, helper),
+        }
+    }
+
     /// The work that is left after a lawful step, from the work before it. A queueing adds all steps of an execution, and a
     /// cancellation subtracts them. A start, a wait and the end of a wait subtract one. A finish subtracts itself and the waits
     /// that weren't made, with their ends.
+    #[inline(always)]
     pub fn work_after(&self, step: &Step, work: u64) -> u64
         requires lawful { Lawful self.now.wiring self.now.state step.now }
         requires work { work ≡ work_left self.now.wiring self.now.state }
@@ -106,7 +134,8 @@ impl<A: Allocator> Core<A> {
             | Step::Over(_, _)
             | Step::WaitAll(_, _)
             | Step::OverAll(_, _) => work - 1,
-            Step::Finish(q, _) => work - self.running_work(q),
+            Step::Finish(q, _) => work - self.running_work(q, 0),
+            Step::Help(q, helper, deed) => work - self.deed_work(q, helper, deed),
         }
     }
 }

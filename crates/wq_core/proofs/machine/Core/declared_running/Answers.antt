@@ -11,7 +11,7 @@ use Rattle.wq_core.proofs.machine.Core.declared_running.Goals as goal
 
 pub next_target-requires : goal.next_target-requires
 next_target-requires g c =
-    let m = c.args.self.now in running-item m.wiring m.state c.args.q c.args.running c.requires.machine.state c.requires.runs
+    let m = c.args.self.now in running-item m.wiring m.state c.args.q 0 c.args.running c.requires.machine.state c.requires.runs
 
 pub returns-in-Some-next_target-clause-some : goal.returns-in-Some-next_target-clause-some
 returns-in-Some-next_target-clause-some g c =
@@ -21,12 +21,12 @@ returns-in-Some-next_target-clause-some g c =
 pub returns-in-None-clause-some : goal.returns-in-None-clause-some
 returns-in-None-clause-some g c =
     let m = c.args.self.now in
-    IsDeclaredStep-finish m.wiring m.state c.args.q c.args.running c.requires.runs c.in_default.is (c.requires.machine.state.running c.args.q c.args.running c.requires.runs) (sym c.in-None.ensures)
+    IsDeclaredStep-finish m.wiring m.state c.args.q c.args.running c.requires.runs c.in_default.is (c.requires.machine.state.running c.args.q 0 c.args.running c.requires.runs) (sym c.in-None.ensures)
 
 pub is_held_back-requires : goal.is_held_back-requires
 is_held_back-requires g c =
     let m = c.args.self.now in
-    let below = waiting-target m.wiring m.state c.args.q c.args.running c.in-Some.flush c.requires.machine.wiring c.requires.machine.state c.requires.runs c.in-Some.is in
+    let below = waiting-target m.wiring m.state c.args.q 0 c.args.running c.in-Some.flush c.requires.machine.wiring c.requires.machine.state c.requires.runs c.in-Some.is in
     subst (λ (f : Waiting). f.target < items m.wiring) (sym c.in-Some.flush-is) below
 
 pub returns-else-is_held_back-clause-some : goal.returns-else-is_held_back-clause-some

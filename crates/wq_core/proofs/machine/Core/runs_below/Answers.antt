@@ -11,5 +11,5 @@ pub returns-else-from-items : goal.returns-else-from-items
 returns-else-from-items g c =
     let m = c.args.self.now in (
       (λ h. absurd cc),
-      (λ h. absurd (omega (arith, running-item m.wiring m.state h.lane h.running c.items.ensures.machine.state h.runs, h.of_item, c.if-from-items.false, c.items.ensures.items, c.from.ensures, c.get.ensures))),
+      (λ h. absurd (omega (arith, running-item m.wiring m.state h.lane h.context h.running c.items.ensures.machine.state h.runs, h.of_item, c.if-from-items.false, c.items.ensures.items, c.from.ensures, c.get.ensures))),
     )

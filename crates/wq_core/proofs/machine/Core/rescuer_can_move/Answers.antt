@@ -3,31 +3,31 @@ use Rattle.std.specs.Prelude.{IsTrue}
 use Rattle.wq_core.specs.declared.entry.Waiting.{Waiting}
 use Rattle.wq_core.specs.Wiring.{items}
 use Rattle.wq_core.specs.State.{lane_at}
-use Rattle.wq_core.proofs.LawfulSteps.{waiting-target}
 use Rattle.wq_core.specs.Rules.{IsHeldBack}
-use Rattle.wq_core.proofs.DeclaredSteps.{CanMove-idle, CanMove-waiting, CanMove-awake}
-use Rattle.wq_core.proofs.machine.Core.can_move.Goals as goal
+use Rattle.wq_core.proofs.LawfulSteps.{waiting-target}
+use Rattle.wq_core.proofs.DeclaredSteps.{RescuerCanMove-idle, RescuerCanMove-waiting, RescuerCanMove-awake}
+use Rattle.wq_core.proofs.machine.Core.rescuer_can_move.Goals as goal
 
 pub returns-in_default : goal.returns-in_default
 returns-in_default g c =
     let m = c.args.self.now in
     let idle : (lane_at m.state c.args.q).running ≡ None = sym c.running_on.ensures.running ∙ c.in_default.is in
-    CanMove-idle m.wiring m.state c.args.q idle c.first_on.result c.first_on.ensures.first c.is_some.result c.is_some.ensures
+    RescuerCanMove-idle m.wiring m.state c.args.q idle c.next_on.result c.next_on.ensures.next c.is_some.result c.is_some.ensures
 
 pub returns-in_default-waiting : goal.returns-in_default-waiting
 returns-in_default-waiting g c =
     let m = c.args.self.now in
-    ((λ h. CanMove-awake m.wiring m.state c.args.q c.in-Some.running (sym c.in-Some.ensures.running) c.in_default-waiting.is), (λ can. refl))
+    ((λ h. RescuerCanMove-awake m.wiring m.state c.args.q c.in-Some.running (sym c.in-Some.ensures.running) c.in_default-waiting.is), (λ can. refl))
 
 pub is_held_back-requires : goal.is_held_back-requires
 is_held_back-requires g c =
     let m = c.args.self.now in
     let machine = c.in-Some.ensures.machine in
-    let below = waiting-target m.wiring m.state c.args.q c.in-Some.running c.in-Some-waiting.flush machine.wiring machine.state (sym c.in-Some.ensures.running) c.in-Some-waiting.is in
+    let below = waiting-target m.wiring m.state c.args.q 0 c.in-Some.running c.in-Some-waiting.flush machine.wiring machine.state (sym c.in-Some.ensures.running) c.in-Some-waiting.is in
     subst (λ (f : Waiting). f.target < items m.wiring) (sym c.in-Some-waiting.flush-is) below
 
 pub returns : goal.returns
 returns g c =
     let m = c.args.self.now in
     let left = subst (λ (f : Waiting). IsTrue c.is_held_back.result ↔ IsHeldBack m.wiring m.state f.whole f.target f.mark) c.in-Some-waiting.flush-is c.is_held_back.ensures in
-    CanMove-waiting m.wiring m.state c.args.q c.in-Some.running (sym c.in-Some.ensures.running) c.in-Some-waiting.flush c.in-Some-waiting.is c.is_held_back.result left
+    RescuerCanMove-waiting m.wiring m.state c.args.q c.in-Some.running (sym c.in-Some.ensures.running) c.in-Some-waiting.flush c.in-Some-waiting.is c.is_held_back.result left
