@@ -1,21 +1,22 @@
 -- Tallies: counts that are raised row by row are those of the rows.
 use Rattle.std.proofs.Common.{◌≡◌, ◌≢◌, ℕ, suc, ◌+◌, ◌*◌, ◌<◌, ◌≤◌, ◌⊎◌, inl, inr, Bool, true, false, cond, List, [], ◌∷◌, ◌++◌, length, get_or, replicate, append_assoc, refl, sym, ap, subst, ◌∙◌, arith}
-use Rattle.std.specs.Prelude.{◌==◌, sum, Option, Some, None, ◌&&◌}
+use Rattle.std.specs.Prelude.{◌==◌, sum, Option, Some, None, option_map, is_some, ◌&&◌}
 use Rattle.std.specs.List.{count_by}
 use Rattle.std.proofs.Math.Path.{fun_ext}
 use Rattle.std.proofs.lemmas.Bool.{cases_eq, eq-eqb, ne_eqb, eqb-true, and_parts, and_from, false≢true}
 use Rattle.std.proofs.lemmas.List.{get_or-replicate, length-replicate, append-nil}
 use Rattle.std.proofs.lemmas.List.Sums.{sum_by_push, sum_by-append, count_by-le-length}
 use Rattle.std.proofs.lemmas.List.Folds.{sum_by-replicate}
+use Rattle.wq_core.specs.Rules.{deed_item}
 use Rattle.wq_rows.specs.declared.event.Event.{Event}
-use Rattle.wq_rows.specs.declared.event.Event.TheVariants.{Queue, Cancel, Start, Wait, Over, Finish, Ask, Told, WaitAll, OverAll, AskLane, ToldLane}
+use Rattle.wq_rows.specs.declared.event.Event.TheVariants.{Queue, Cancel, Start, Wait, Over, Finish, Ask, Told, WaitAll, OverAll, AskLane, ToldLane, Help}
 use Rattle.wq_rows.specs.declared.event.Row.{Row}
 use Rattle.wq_rows.specs.Packing.{item_in, lane_in}
 use Rattle.wq_counts.specs.declared.kind.Kind.{Kind}
 use Rattle.wq_counts.specs.declared.kind.Kind.TheVariants.{Queue as QueueKind, Cancel as CancelKind, Wait as WaitKind, Over as OverKind, Ask as AskKind, Told as ToldKind, Finish as FinishKind, WaitAll as WaitAllKind, OverAll as OverAllKind}
 use Rattle.wq_counts.specs.declared.kind.LaneKind.{LaneKind}
 use Rattle.wq_counts.specs.declared.kind.LaneKind.TheVariants.{Ask as AskLaneKind, Told as ToldLaneKind}
-use Rattle.wq_counts.specs.Counting.{counts_each, kind_in, lane_kind_in, kind_place, lane_kind_place, answer_place, place, lane_place, counted_place, slot_in, HasCountsOf, made, made_lane, raised_at, raised_where, has_kind, has_lane_kind, is_of, is_of_lane, is_counted, is_at, raises, tally, tally_lane, counted_rows, AreRowsOf, AreTallies, noted_as, noted}
+use Rattle.wq_counts.specs.Counting.{counts_each, help_kind_in, kind_in, lane_kind_in, kind_place, lane_kind_place, answer_place, place, lane_place, counted_place, slot_in, HasCountsOf, made, made_lane, raised_at, raised_where, has_kind, has_lane_kind, is_of, is_of_lane, is_counted, is_at, raises, tally, tally_lane, counted_rows, AreRowsOf, AreTallies, noted_as, noted}
 use Rattle.wq_counts.proofs.Places.{same_counts, cases_place, kind_place-same, lane_kind_place-same, answer_place-same, place-same, lane_place-same, place-ne-lane_place, place-ge, place-below, lane_place-below, place-lt, lane_place-lt, length-raised_at, sum-raised_at, raised_at-same, raised_at-other}
 
 -- ---- rows that are counted
@@ -27,6 +28,22 @@ cases_counted (Some p) = inr (p, refl)
 
 Some-same : {X : Type 0} {x y : X} → Some x ≡ Some y → x ≡ y
 Some-same e = cc
+
+-- the place of an item and a kind, if there is one
+abbrev place_of_kind : ℕ → Bool → Option Kind → Option ℕ
+place_of_kind i said o = option_map (λ kind. place i kind said) o
+
+kind-some : (i : ℕ) (said : Bool) (o : Option Kind) (p : ℕ) → place_of_kind i said o ≡ Some p → is_some o ≡ true
+kind-some i said None p is = absurd cc
+kind-some i said (Some kind) p is = refl
+
+kind-none : (i : ℕ) (said : Bool) (o : Option Kind) → place_of_kind i said o ≡ None → is_some o ≡ false
+kind-none i said None is = refl
+kind-none i said (Some kind) is = absurd cc
+
+kind-is : (o : Option Kind) → is_some o ≡ true → (kind : Kind) × (o ≡ Some kind)
+kind-is None some = absurd (false≢true some)
+kind-is (Some kind) some = (kind, refl)
 
 -- a row is counted exactly if it has a place
 pub is_counted-some : (event : Event) (said : Bool) (p : ℕ) → counted_place event said ≡ Some p → is_counted event ≡ true
@@ -42,6 +59,7 @@ is_counted-some (WaitAll q b) said p is = refl
 is_counted-some (OverAll q b) said p is = refl
 is_counted-some (AskLane q) said p is = refl
 is_counted-some (ToldLane q) said p is = refl
+is_counted-some (Help q h step) said p is = kind-some (deed_item step) said (help_kind_in step) p is
 
 pub is_counted-none : (event : Event) (said : Bool) → counted_place event said ≡ None → is_counted event ≡ false
 is_counted-none (Queue i) said is = absurd cc
@@ -56,6 +74,7 @@ is_counted-none (WaitAll q b) said is = absurd cc
 is_counted-none (OverAll q b) said is = absurd cc
 is_counted-none (AskLane q) said is = absurd cc
 is_counted-none (ToldLane q) said is = absurd cc
+is_counted-none (Help q h step) said is = kind-none (deed_item step) said (help_kind_in step) is
 
 -- that place is in its slot
 at_item : (i : ℕ) (kind : Kind) (said : Bool) (p : ℕ) → place i kind said ≡ p → (counts_each * i ≤ p) × (p < counts_each * i + counts_each)
@@ -63,6 +82,11 @@ at_item i kind said p is = (omega (arith, is, place-ge i kind said), omega (arit
 
 at_lane : (q : ℕ) (kind : LaneKind) (said : Bool) (p : ℕ) → lane_place q kind said ≡ p → (counts_each * q ≤ p) × (p < counts_each * q + counts_each)
 at_lane q kind said p is = (omega (arith, is), omega (arith, is, lane_place-below q kind said))
+
+at_kind : (i : ℕ) (said : Bool) (o : Option Kind) (p : ℕ) → place_of_kind i said o ≡ Some p
+    → (counts_each * i ≤ p) × (p < counts_each * i + counts_each)
+at_kind i said None p is = absurd cc
+at_kind i said (Some kind) p is = at_item i kind said p (Some-same is)
 
 pub in_slot : (event : Event) (said : Bool) (p : ℕ) → counted_place event said ≡ Some p
     → (counts_each * slot_in event ≤ p) × (p < counts_each * slot_in event + counts_each)
@@ -78,6 +102,7 @@ in_slot (WaitAll q b) said p is = at_item b WaitAllKind said p (Some-same is)
 in_slot (OverAll q b) said p is = at_item b OverAllKind said p (Some-same is)
 in_slot (AskLane q) said p is = at_lane q AskLaneKind said p (Some-same is)
 in_slot (ToldLane q) said p is = at_lane q ToldLaneKind said p (Some-same is)
+in_slot (Help q h step) said p is = at_kind (deed_item step) said (help_kind_in step) p is
 
 -- it is within the counts of this many slots
 pub place_within : (n : ℕ) (event : Event) (said : Bool) (p : ℕ) (counts : List ℕ) → HasCountsOf n counts → counted_place event said ≡ Some p
@@ -99,6 +124,7 @@ counted-kind (WaitAll q b) counted = inl (WaitAllKind, refl)
 counted-kind (OverAll q b) counted = inl (OverAllKind, refl)
 counted-kind (AskLane q) counted = inr (AskLaneKind, refl)
 counted-kind (ToldLane q) counted = inr (ToldLaneKind, refl)
+counted-kind (Help q h step) counted = inl (kind-is (help_kind_in step) counted)
 
 pub kind-counted : (event : Event) (kind : Kind) → kind_in event ≡ Some kind → is_counted event ≡ true
 kind-counted (Queue i) kind is = refl
@@ -113,6 +139,7 @@ kind-counted (WaitAll q b) kind is = refl
 kind-counted (OverAll q b) kind is = refl
 kind-counted (AskLane q) kind is = absurd cc
 kind-counted (ToldLane q) kind is = absurd cc
+kind-counted (Help q h step) kind is = ap is_some is
 
 pub lane_kind-counted : (event : Event) (kind : LaneKind) → lane_kind_in event ≡ Some kind → is_counted event ≡ true
 lane_kind-counted (Queue i) kind is = absurd cc
@@ -127,6 +154,7 @@ lane_kind-counted (WaitAll q b) kind is = absurd cc
 lane_kind-counted (OverAll q b) kind is = absurd cc
 lane_kind-counted (AskLane q) kind is = refl
 lane_kind-counted (ToldLane q) kind is = refl
+lane_kind-counted (Help q h step) kind is = absurd cc
 
 -- and it has no kind of both
 pub one_kind : (event : Event) (kind : Kind) → kind_in event ≡ Some kind → lane_kind_in event ≡ None
@@ -142,6 +170,7 @@ one_kind (WaitAll q b) kind is = refl
 one_kind (OverAll q b) kind is = refl
 one_kind (AskLane q) kind is = absurd cc
 one_kind (ToldLane q) kind is = absurd cc
+one_kind (Help q h step) kind is = refl
 
 -- ---- which item or lane and kind a row is of, and with which answer
 
@@ -232,6 +261,17 @@ lane_not_at : (q : ℕ) (kind : LaneKind) (said : Bool) (i : ℕ) (other : Kind)
     → (lane_place q kind said == place i other answer) ≡ false
 lane_not_at q kind said i other answer = ne_eqb (lane_place q kind said) (place i other answer) (λ e. place-ne-lane_place i q other kind answer said (sym e))
 
+-- nor has it another one
+kind_at_item : (o : Option Kind) (j : ℕ) (answered : Bool) (i : ℕ) (kind : Kind) (said : Bool)
+    → is_at (place_of_kind j answered o) (place i kind said) ≡ (has_kind o kind && ((j == i) && (answer_place answered == answer_place said)))
+kind_at_item None j answered i kind said = refl
+kind_at_item (Some own) j answered i kind said = item_at own j answered i kind said
+
+kind_at_lane : (o : Option Kind) (j : ℕ) (answered : Bool) (q : ℕ) (kind : LaneKind) (said : Bool)
+    → is_at (place_of_kind j answered o) (lane_place q kind said) ≡ false
+kind_at_lane None j answered q kind said = refl
+kind_at_lane (Some own) j answered q kind said = item_not_at j own answered q kind said
+
 pub raises-item : (event : Event) (answered : Bool) (i : ℕ) (kind : Kind) (said : Bool)
     → is_at (counted_place event answered) (place i kind said) ≡ (has_kind (kind_in event) kind && ((item_in event == i) && (answer_place answered == answer_place said)))
 raises-item (Queue j) answered i kind said = item_at QueueKind j answered i kind said
@@ -246,6 +286,7 @@ raises-item (WaitAll q b) answered i kind said = item_at WaitAllKind b answered 
 raises-item (OverAll q b) answered i kind said = item_at OverAllKind b answered i kind said
 raises-item (AskLane q) answered i kind said = lane_not_at q AskLaneKind answered i kind said
 raises-item (ToldLane q) answered i kind said = lane_not_at q ToldLaneKind answered i kind said
+raises-item (Help q h step) answered i kind said = kind_at_item (help_kind_in step) (deed_item step) answered i kind said
 
 pub raises-lane : (event : Event) (answered : Bool) (q : ℕ) (kind : LaneKind) (said : Bool)
     → is_at (counted_place event answered) (lane_place q kind said) ≡ (has_lane_kind (lane_kind_in event) kind && ((lane_in event == q) && (answer_place answered == answer_place said)))
@@ -261,6 +302,7 @@ raises-lane (WaitAll p b) answered q kind said = item_not_at b WaitAllKind answe
 raises-lane (OverAll p b) answered q kind said = item_not_at b OverAllKind answered q kind said
 raises-lane (AskLane p) answered q kind said = lane_at AskLaneKind p answered q kind said
 raises-lane (ToldLane p) answered q kind said = lane_at ToldLaneKind p answered q kind said
+raises-lane (Help p h step) answered q kind said = kind_at_lane (help_kind_in step) (deed_item step) answered q kind said
 
 -- as many rows are counted at the place of an item as are of this item, and at that of a lane as are of this lane
 pub tally-item : (rows : List Row) (i : ℕ) (kind : Kind) (said : Bool) → count_by (raises (place i kind said)) rows ≡ tally rows i kind said

@@ -1,12 +1,16 @@
 -- Counting: how many rows there are of an item or a lane, of a kind and with an answer.
 --
--- Every row is counted except those of starts, which no seat counts. A row of a wait, or of its end, counts for the item that
--- is waited for, and where a whole lane is waited for, for the item that names it. A caller's ask about a whole lane, and the
--- end of its wait, count for the lane. Counts stand in slots: slot n holds those of item n and those of lane n.
-use Rattle.std.specs.Prelude.{◌≡◌, ℕ, ◌+◌, ◌*◌, ◌<◌, ◌==◌, ◌&&◌, Option, Some, None, Bool, true, false, List, length, slice_index, slice_set}
+-- Every row is counted except those of starts, which no seat counts. A row of a helper's step counts as that of the same step of
+-- the rescuer. A row of a wait, or of its end, counts for the item that is waited for, and where a whole lane is waited for, for the
+-- item that names it. A caller's ask about a whole lane, and the end of its wait, count for the lane. Counts stand in slots: slot n
+-- holds those of item n and those of lane n.
+use Rattle.std.specs.Prelude.{◌≡◌, ℕ, ◌+◌, ◌*◌, ◌<◌, ◌==◌, ◌&&◌, Option, Some, None, option_map, is_some, Bool, true, false, List, length, slice_index, slice_set}
 use Rattle.std.specs.List.{All, count_by}
+use Rattle.wq_core.specs.declared.step.HelpStep.{HelpStep}
+use Rattle.wq_core.specs.declared.step.HelpStep.TheVariants.{Start as DoStart, Wait as DoWait, WaitAll as DoWaitAll, Over as DoOver, OverAll as DoOverAll, Finish as DoFinish}
+use Rattle.wq_core.specs.Rules.{deed_item}
 use Rattle.wq_rows.specs.declared.event.Event.{Event}
-use Rattle.wq_rows.specs.declared.event.Event.TheVariants.{Queue, Cancel, Start, Wait, Over, Finish, Ask, Told, WaitAll, OverAll, AskLane, ToldLane}
+use Rattle.wq_rows.specs.declared.event.Event.TheVariants.{Queue, Cancel, Start, Wait, Over, Finish, Ask, Told, WaitAll, OverAll, AskLane, ToldLane, Help}
 use Rattle.wq_rows.specs.declared.event.Row.{Row}
 use Rattle.wq_rows.specs.Packing.{item_in, lane_in}
 use Rattle.wq_counts.specs.declared.kind.Kind.{Kind}
@@ -15,6 +19,15 @@ use Rattle.wq_counts.specs.declared.kind.LaneKind.{LaneKind}
 use Rattle.wq_counts.specs.declared.kind.LaneKind.TheVariants.{Ask as AskLaneKind, Told as ToldLaneKind}
 
 -- ---- kinds
+
+-- the kind of a helper's step, if it is counted: that of the same step of the rescuer
+abbrev pub help_kind_in : HelpStep → Option Kind
+help_kind_in (DoStart i) = None
+help_kind_in (DoWait b) = Some WaitKind
+help_kind_in (DoWaitAll b) = Some WaitAllKind
+help_kind_in (DoOver b) = Some OverKind
+help_kind_in (DoOverAll b) = Some OverAllKind
+help_kind_in (DoFinish i) = Some FinishKind
 
 -- the kind of an event, if it is counted for its item
 abbrev pub kind_in : Event → Option Kind
@@ -30,6 +43,7 @@ kind_in (WaitAll q b) = Some WaitAllKind
 kind_in (OverAll q b) = Some OverAllKind
 kind_in (AskLane q) = None
 kind_in (ToldLane q) = None
+kind_in (Help q h step) = help_kind_in step
 
 -- the kind of an event, if it is counted for its lane
 abbrev pub lane_kind_in : Event → Option LaneKind
@@ -45,6 +59,7 @@ lane_kind_in (WaitAll q b) = None
 lane_kind_in (OverAll q b) = None
 lane_kind_in (AskLane q) = Some AskLaneKind
 lane_kind_in (ToldLane q) = Some ToldLaneKind
+lane_kind_in (Help q h step) = None
 
 -- the kind of a wait, for an item or a whole lane
 abbrev pub wait_kind : Bool → Kind
@@ -96,6 +111,10 @@ place i kind said = counts_each * i + (2 * kind_place kind + answer_place said)
 abbrev pub lane_place : ℕ → LaneKind → Bool → ℕ
 lane_place q kind said = counts_each * q + (2 * lane_kind_place kind + answer_place said)
 
+-- where a row of this step of a helper with this answer is counted, if it is
+abbrev pub help_place : HelpStep → Bool → Option ℕ
+help_place step said = option_map (λ kind. place (deed_item step) kind said) (help_kind_in step)
+
 -- where a row of this event with this answer is counted, if it is
 abbrev pub counted_place : Event → Bool → Option ℕ
 counted_place (Queue i) said = Some (place i QueueKind said)
@@ -110,6 +129,7 @@ counted_place (WaitAll q b) said = Some (place b WaitAllKind said)
 counted_place (OverAll q b) said = Some (place b OverAllKind said)
 counted_place (AskLane q) said = Some (lane_place q AskLaneKind said)
 counted_place (ToldLane q) said = Some (lane_place q ToldLaneKind said)
+counted_place (Help q h step) said = help_place step said
 
 -- the slot of an event
 abbrev pub slot_in : Event → ℕ
@@ -125,6 +145,7 @@ slot_in (WaitAll q b) = b
 slot_in (OverAll q b) = b
 slot_in (AskLane q) = q
 slot_in (ToldLane q) = q
+slot_in (Help q h step) = deed_item step
 
 -- a row of this event is counted
 abbrev pub is_counted : Event → Bool
@@ -140,6 +161,7 @@ is_counted (WaitAll q b) = true
 is_counted (OverAll q b) = true
 is_counted (AskLane q) = true
 is_counted (ToldLane q) = true
+is_counted (Help q h step) = is_some (help_kind_in step)
 
 -- the count of an item, a kind and an answer
 abbrev pub made : List ℕ → ℕ → Kind → Bool → ℕ

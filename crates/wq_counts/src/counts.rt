@@ -7,11 +7,12 @@
 
 ghost use Rattle.std.specs.Prelude.{◌≡◌, ℕ, ◌+◌, ◌*◌, ◌<◌, ◌≤◌, ◌↔◌, IsTrue, length, replicate, sum, slice_index, if◌then◌else◌, IfOk, OnErr, true};
 ghost use Rattle.wq_counts.specs.declared.kind.Kind.TheVariants.{Queue, Cancel, Finish};
-ghost use Rattle.wq_counts.specs.Counting.{counts_each, place as place_of, lane_place as lane_place_of, counted_place as counted_place_of, slot_in, made, asked_lane, told_lane, raised_at, noted_as, noted, is_counted};
+ghost use Rattle.wq_counts.specs.Counting.{counts_each, place as place_of, lane_place as lane_place_of, help_place as help_place_of, counted_place as counted_place_of, slot_in, made, asked_lane, told_lane, raised_at, noted_as, noted, is_counted};
 
 use crate::kind::{Kind, LaneKind};
 use std::alloc::{AllocError, Allocator};
 use std::marker::Model;
+use wq_core::HelpStep;
 use wq_groups::LaneId;
 use wq_items::ItemId;
 use wq_rows::{Event, Row};
@@ -50,7 +51,17 @@ fn lane_place(lane: LaneId, kind: LaneKind, yes: bool) -> usize
     COUNTS_EACH * usize::from(lane.get()) + 2 * kind.place() + usize::from(yes)
 }
 
+/// The index of the count of a helper's step and an answer: that of the rescuer's; none for a start.
+#[inline(always)]
+fn help_place(step: &HelpStep, yes: bool) -> Option<usize>
+    ensures { result ≡ help_place_of step.now yes }
+{
+    let kind = Kind::of_help(step)?;
+    Some(place(step.item(), kind, yes))
+}
+
 /// The index of the count of an event and an answer; none for a start.
+#[inline(always)]
 fn counted_place(event: &Event, yes: bool) -> Option<usize>
     ensures { result ≡ counted_place_of event.now yes }
 {
@@ -67,6 +78,7 @@ fn counted_place(event: &Event, yes: bool) -> Option<usize>
         Event::OverAll(_, target) => Some(place(target, Kind::OverAll, yes)),
         Event::AskLane(lane) => Some(lane_place(lane, LaneKind::Ask, yes)),
         Event::ToldLane(lane) => Some(lane_place(lane, LaneKind::Told, yes)),
+        Event::Help(_, _, step) => help_place(&step, yes),
     }
 }
 
@@ -133,6 +145,7 @@ impl<A: Allocator> Counts<A> {
     }
 
     /// Counts another row at a place.
+    #[inline(always)]
     fn raise_at(&mut self, place: usize)
         requires place { place < length self.old }
         requires few { sum self.old < 18446744073709551615 }
@@ -145,6 +158,7 @@ impl<A: Allocator> Counts<A> {
     }
 
     /// Counts another row of an event, with an answer. That of a start raises no count.
+    #[inline(always)]
     pub fn note_as(&mut self, event: &Event, yes: bool)
         requires slot { counts_each * slot_in event.now + counts_each ≤ length self.old }
         requires few { sum self.old < 18446744073709551615 }

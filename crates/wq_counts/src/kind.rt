@@ -1,11 +1,12 @@
 //! Kinds of rows that are counted: those of all events except starts, which no seat counts.
 //!
-//! The events are those of wq_rows. Asks about a whole lane, and the ends of such waits, are counted for the lane; all others for
-//! an item. Each answer takes constant time.
+//! The events are those of wq_rows. A helper's step counts as the same step of the rescuer. Asks about a whole lane, and the ends of
+//! such waits, are counted for the lane; all others for an item. Each answer takes constant time.
 
 ghost use Rattle.std.specs.Prelude.{◌≡◌};
-ghost use Rattle.wq_counts.specs.Counting.{kind_in, kind_place, lane_kind_place};
+ghost use Rattle.wq_counts.specs.Counting.{help_kind_in, kind_in, kind_place, lane_kind_place};
 
+use wq_core::HelpStep;
 use wq_rows::Event;
 
 /// The kind of a row that is counted for an item.
@@ -54,6 +55,20 @@ impl Kind {
         Kind::OverAll,
     ];
 
+    /// The kind of a helper's step: that of the same step of the rescuer; none for a start.
+    pub(crate) fn of_help(step: &HelpStep) -> Option<Self>
+        ensures { result ≡ help_kind_in step.now }
+    {
+        match step {
+            HelpStep::Start(_) => None,
+            HelpStep::Wait(_) => Some(Kind::Wait),
+            HelpStep::WaitAll(_) => Some(Kind::WaitAll),
+            HelpStep::Over(_) => Some(Kind::Over),
+            HelpStep::OverAll(_) => Some(Kind::OverAll),
+            HelpStep::Finish(_) => Some(Kind::Finish),
+        }
+    }
+
     /// The kind of an event that is counted for its item; none for a start, and for the events of a whole lane.
     pub fn of(event: &Event) -> Option<Self>
         ensures { result ≡ kind_in event.now }
@@ -70,6 +85,7 @@ impl Kind {
             Event::WaitAll(..) => Some(Kind::WaitAll),
             Event::OverAll(..) => Some(Kind::OverAll),
             Event::AskLane(_) | Event::ToldLane(_) => None,
+            Event::Help(_, _, step) => Kind::of_help(step),
         }
     }
 

@@ -7,7 +7,7 @@ use Rattle.std.proofs.lemmas.List.{get_or-set_same, get_or-set_other}
 use Rattle.std.proofs.lemmas.List.Sums.{sum_by_push, get_or-le-sum_by}
 use Rattle.wq_core.specs.declared.step.Step.{Step}
 use Rattle.wq_rows.specs.declared.event.Event.{Event}
-use Rattle.wq_rows.specs.declared.event.Event.TheVariants.{Queue, Cancel, Start, Wait, Over, Finish, Ask, Told, WaitAll, OverAll, AskLane, ToldLane}
+use Rattle.wq_rows.specs.declared.event.Event.TheVariants.{Queue, Cancel, Start, Wait, Over, Finish, Ask, Told, WaitAll, OverAll, AskLane, ToldLane, Help}
 use Rattle.wq_rows.specs.declared.event.Row.{Row}
 use Rattle.wq_history.specs.declared.asking.Subject.{Subject}
 use Rattle.wq_history.specs.declared.asking.Subject.TheVariants.{Item as OfItem, Lane as OfLane}
@@ -90,6 +90,7 @@ IsNobodys-step (WaitAll q b) said n step makes = record { begins = λ x. refl; e
 IsNobodys-step (OverAll q b) said n step makes = record { begins = λ x. refl; ends = λ x. refl; asks = refl; tells = refl }
 IsNobodys-step (AskLane q) said n step makes = absurd cc
 IsNobodys-step (ToldLane q) said n step makes = absurd cc
+IsNobodys-step (Help q h deed) said n step makes = record { begins = λ x. refl; ends = λ x. refl; asks = refl; tells = refl }
 
 and-false : (b : Bool) → (b && false) ≡ false
 and-false true = refl
@@ -109,6 +110,7 @@ IsNobodys-nothing (WaitAll q b) n told = record { begins = λ x. refl; ends = λ
 IsNobodys-nothing (OverAll q b) n told = record { begins = λ x. refl; ends = λ x. refl; asks = refl; tells = refl }
 IsNobodys-nothing (AskLane q) n told = record { begins = λ x. and-false (is_subject x (OfLane q)); ends = λ x. refl; asks = refl; tells = refl }
 IsNobodys-nothing (ToldLane q) n told = absurd cc
+IsNobodys-nothing (Help q h deed) n told = record { begins = λ x. refl; ends = λ x. refl; asks = refl; tells = refl }
 
 -- such a row leaves the counts as they are
 pub CountsAsks-same : (rows : List Row) (row : Row) (asks : AskView) → IsNobodys row → CountsAsks rows asks → CountsAsks (rows ++ (row ∷ [])) asks

@@ -11,7 +11,7 @@ use Rattle.wq_core.specs.Rules.{Lawful, effect}
 use Rattle.wq_core.specs.Runs.{end_of}
 use Rattle.wq_core.proofs.RunLemmas.{after-more}
 use Rattle.wq_rows.specs.declared.event.Event.{Event}
-use Rattle.wq_rows.specs.declared.event.Event.TheVariants.{Queue, Cancel, Start, Wait, Over, Finish, Ask, Told, WaitAll, OverAll, AskLane, ToldLane}
+use Rattle.wq_rows.specs.declared.event.Event.TheVariants.{Queue, Cancel, Start, Wait, Over, Finish, Ask, Told, WaitAll, OverAll, AskLane, ToldLane, Help}
 use Rattle.wq_rows.specs.declared.event.Row.{Row}
 use Rattle.wq_history.specs.Events.{step_of, steps_of}
 use Rattle.wq_history.specs.History.{state_after, MayCome, MayFollow, IsLegal}
@@ -82,3 +82,4 @@ MayCome-lawful w rows (WaitAll q b) said n step may makes = subst (Allows w rows
 MayCome-lawful w rows (OverAll q b) said n step may makes = subst (Allows w rows) makes may.1.0
 MayCome-lawful w rows (AskLane q) said n step may makes = absurd cc
 MayCome-lawful w rows (ToldLane q) said n step may makes = absurd cc
+MayCome-lawful w rows (Help q h deed) said n step may makes = subst (Allows w rows) makes may.1.0

@@ -1,6 +1,6 @@
 -- What a book holds, and that it still holds this after one more row.
 use Rattle.std.proofs.Common.{◌≡◌, ℕ, zero, suc, ◌+◌, ◌-◌, ◌*◌, ◌<◌, ◌≤◌, ◌^◌, inl, inr, cond, Bool, true, false, List, [], ◌∷◌, ◌++◌, length, length-append, get_or, replicate, refl, sym, ap, subst, ◌∙◌, arith}
-use Rattle.std.specs.Prelude.{Option, Some, None, IfSome, slice_get, sum_by, max, ◌&&◌}
+use Rattle.std.specs.Prelude.{Option, Some, None, IfSome, IsTrue, ◌↔◌, is_some, slice_get, sum_by, max, ◌&&◌, Contains}
 use Rattle.std.proofs.Math.Nat.{le-max_left, le-max_right}
 use Rattle.std.proofs.lemmas.List.{length-replicate}
 use Rattle.std.proofs.lemmas.List.Folds.{sum_by-replicate}
@@ -8,19 +8,20 @@ use Rattle.wq_items.proofs.Lists.{Contains-first}
 use Rattle.wq_core.specs.declared.entry.Entry.{Entry}
 use Rattle.wq_core.specs.declared.entry.Running.{Running}
 use Rattle.wq_core.specs.declared.step.Step.{Step}
-use Rattle.wq_core.specs.declared.step.Step.TheVariants.{Queue as QueueStep, Cancel as CancelStep, Start as StartStep, Wait as WaitStep, Over as OverStep, WaitAll as WaitAllStep, OverAll as OverAllStep, Finish as FinishStep}
-use Rattle.wq_core.specs.Wiring.{Wiring, items, lane_of}
-use Rattle.wq_core.specs.State.{State, Lane, idle_lane, lane_at, empty_state}
+use Rattle.wq_core.specs.declared.step.Step.TheVariants.{Queue as QueueStep, Cancel as CancelStep, Start as StartStep, Wait as WaitStep, Over as OverStep, WaitAll as WaitAllStep, OverAll as OverAllStep, Finish as FinishStep, Help as HelperStep}
+use Rattle.wq_core.specs.Wiring.{Wiring, items, lane_of, HasContext}
+use Rattle.wq_core.specs.State.{State, idle_lane, lane_at, run_by, next_of, is_running, empty_state}
 use Rattle.wq_core.specs.Rules.{Lawful, effect}
 use Rattle.wq_core.specs.Runs.{IsRescuerStep}
 use Rattle.wq_core.specs.Work.{lane_work, work_left}
 use Rattle.wq_core.specs.Held.{Machine, IsMachine, IsDone, machine_after}
+use Rattle.wq_core.proofs.Contexts.{next-may}
 use Rattle.wq_core.proofs.RunLemmas.{next-effect}
 use Rattle.wq_core.proofs.Sound.{IsSoundState-effect}
 use Rattle.wq_core.proofs.WorkLemmas.{work_left-rescuer}
 use Rattle.wq_core.proofs.WorkChanges.{work_left-queued, work_left-cancelled}
 use Rattle.wq_rows.specs.declared.event.Event.{Event}
-use Rattle.wq_rows.specs.declared.event.Event.TheVariants.{Queue, Cancel, Start, Wait, Over, Finish, Ask, Told, WaitAll, OverAll, AskLane, ToldLane}
+use Rattle.wq_rows.specs.declared.event.Event.TheVariants.{Queue, Cancel, Start, Wait, Over, Finish, Ask, Told, WaitAll, OverAll, AskLane, ToldLane, Help}
 use Rattle.wq_rows.specs.declared.event.Row.{Row}
 use Rattle.wq_rows.specs.Stored.{max_rows}
 use Rattle.wq_history.specs.declared.asking.Subject.{Subject}
@@ -32,6 +33,7 @@ use Rattle.wq_history.specs.Counts.{AskView, CountsAsks, Replays, HoldsBook, ask
 use Rattle.wq_history.specs.Book.{IsBook}
 use Rattle.wq_history.proofs.Histories.{state_after-step, state_after-none, IsLegal-more}
 use Rattle.wq_history.proofs.Counting.{count-more, IsNobodys-step, CountsAsks-same, all_asks_waiting-count}
+use Rattle.wq_history.proofs.Deeds.{runs-context}
 
 -- ---- rows that are kept
 
@@ -78,6 +80,7 @@ IsMachine-after m step machine lawful few = record {
   few_items = machine.few_items;
   few_flushes = machine.few_flushes;
   few_lanes = machine.few_lanes;
+  few_helpers = machine.few_helpers;
   numbers = omega (arith, few, next-effect m.wiring m.state step);
 }
 
@@ -133,6 +136,7 @@ not_told w rows (WaitAll q b) n may = refl
 not_told w rows (OverAll q b) n may = refl
 not_told w rows (AskLane q) n may = refl
 not_told w rows (ToldLane q) n may = let said : false ≡ true = may.0 in absurd cc
+not_told w rows (Help q h deed) n may = refl
 
 pub needs_a_row : (w : Wiring) (rows : List Row) (event : Event) (n : ℕ) → MayCome w rows event false n → step_of event false ≡ None → 1 ≤ rows_needed w event false
 needs_a_row w rows (Queue i) n may none = omega arith
@@ -147,6 +151,7 @@ needs_a_row w rows (WaitAll q b) n may none = absurd cc
 needs_a_row w rows (OverAll q b) n may none = absurd cc
 needs_a_row w rows (AskLane q) n may none = omega arith
 needs_a_row w rows (ToldLane q) n may none = let said : false ≡ true = may.0 in absurd cc
+needs_a_row w rows (Help q h deed) n may none = absurd cc
 
 -- the same, for rows and room under other names
 pub HoldsBook-read : (m : Machine) (new : List Row) (room_new : ℕ) (asks : AskView) (work : ℕ) {rows : List Row} {room : ℕ} → new ≡ rows → room_new ≡ room
@@ -159,7 +164,7 @@ abbrev IsPaidFor : Machine → Event → Bool → Step → Type 0
 IsPaidFor m event said step =
     Lawful m.wiring m.state step → work_left m.wiring (effect m.wiring m.state step) + 1 ≤ work_left m.wiring m.state + rows_needed m.wiring event said
 
--- the step of a rescuer is paid for by the work that it removes
+-- the step of a rescuer or a helper is paid for by the work that it removes
 rescuer_pays : (m : Machine) (event : Event) (said : Bool) (step : Step) → IsMachine m → IsRescuerStep step → IsPaidFor m event said step
 rescuer_pays m event said step machine is lawful = omega (arith, work_left-rescuer m.wiring m.state step machine.state lawful is)
 
@@ -186,6 +191,8 @@ step_is_paid m (OverAll q b) said step machine makes = subst (IsPaidFor m (OverA
     (rescuer_pays m (OverAll q b) said (OverAllStep q b) machine tt)
 step_is_paid m (AskLane q) said step machine makes = absurd cc
 step_is_paid m (ToldLane q) said step machine makes = absurd cc
+step_is_paid m (Help q h deed) said step machine makes = subst (IsPaidFor m (Help q h deed) said) (let same : HelperStep q h deed ≡ step = cc in same)
+    (rescuer_pays m (Help q h deed) said (HelperStep q h deed) machine tt)
 
 -- the row of a step, with the machine and the work that are left after it
 pub HoldsBook-made : (m new : Machine) (rows : List Row) (room : ℕ) (asks : AskView) (work left : ℕ) (event : Event) (said : Bool) (n : ℕ) (step : Step)
@@ -227,7 +234,9 @@ zeros (suc n) zero none = refl
 zeros (suc n) (suc i) none = zeros n i none
 
 no_work : (w : Wiring) (n : ℕ) → sum_by (lane_work w) (replicate n idle_lane) ≡ 0
-no_work w n = omega (arith, sum_by-replicate (lane_work w) n idle_lane)
+no_work w n =
+    let idle : lane_work w idle_lane ≡ 0 = refl in
+    omega (arith, sum_by-replicate (lane_work w) n idle_lane, ap (λ (k : ℕ). n * k) idle)
 
 -- the first counts of the asks that wait: all are 0
 abbrev pub AreFirst : Wiring → AskView → Type 0
@@ -271,21 +280,24 @@ HoldsBook-first m room asks machine empty limit none = record {
 
 -- ---- lanes
 
--- a lane that runs nothing and has no first entry is idle
-pub idle_exactly : (lane : Lane) → lane.running ≡ None → slice_get lane.pending 0 ≡ None → lane ≡ idle_lane
-idle_exactly lane idle none = fields lane.pending lane.running idle none where
-  fields : (ps : List Entry) (o : Option Running) → o ≡ None → slice_get ps 0 ≡ None → record { pending = ps; running = o } ≡ idle_lane
-  fields [] o runs first = ap (λ (r : Option Running). record { pending = []; running = r }) runs
-  fields (p ∷ ps) o runs first = absurd cc
+-- what a context runs is of an item that exists and is on its lane, and the context exists
+pub running-known : (m : Machine) (q c : ℕ) (o : Option Running) → IsMachine m → o ≡ run_by (lane_at m.state q) c
+    → IfSome o (λ (r : Running). (r.entry.item < items m.wiring) × (lane_of m.wiring r.entry.item ≡ q) × HasContext m.wiring q c)
+running-known m q c None machine is = tt
+running-known m q c (Some r) machine is =
+    let own = machine.state.own_lane q r.entry (inr (c, r, sym is, refl)) in
+    (own.0, own.1, runs-context m.wiring m.state q c r machine.wiring machine.state (sym is))
 
--- what runs is of an item that exists
-pub running-known : (m : Machine) (q : ℕ) (o : Option Running) → IsMachine m → o ≡ (lane_at m.state q).running
-    → IfSome o (λ (r : Running). (r.entry.item < items m.wiring) × (lane_of m.wiring r.entry.item ≡ q))
-running-known m q None machine is = tt
-running-known m q (Some r) machine is = machine.state.own_lane q r.entry (inr (r, sym is, refl))
-
--- what comes first on a lane is of an item that exists, and that is on this lane
-pub first-known : (m : Machine) (q : ℕ) (o : Option Entry) → IsMachine m → o ≡ slice_get (lane_at m.state q).pending 0
+-- what a lane starts next is of an item that exists and is on this lane
+pub next-known : (m : Machine) (q : ℕ) (o : Option Entry) → IsMachine m → o ≡ next_of (lane_at m.state q)
     → IfSome o (λ (e : Entry). (e.item < items m.wiring) × (lane_of m.wiring e.item ≡ q))
-first-known m q None machine is = tt
-first-known m q (Some e) machine is = machine.state.own_lane q e (inl (Contains-first (lane_at m.state q).pending e (sym is)))
+next-known m q None machine is = tt
+next-known m q (Some e) machine is =
+    machine.state.own_lane q e (inl (next-may (lane_at m.state q).pending (is_running (lane_at m.state q)) e (sym is)).0)
+
+-- an entry is pending on a lane exactly if one is the first
+pub first-pending : (ps : List Entry) (o : Option Entry) → o ≡ slice_get ps 0 → IsTrue (is_some o) ↔ ((e : Entry) × Contains ps e)
+first-pending [] None is = ((λ some. absurd (let never : false ≡ true = some in cc)), (λ there. absurd (omega (arith, there.1.1))))
+first-pending [] (Some e) is = absurd cc
+first-pending (p ∷ ps) None is = absurd cc
+first-pending (p ∷ ps) (Some e) is = ((λ some. (p, Contains-first (p ∷ ps) p refl)), (λ there. refl))

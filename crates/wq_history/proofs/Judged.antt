@@ -8,7 +8,7 @@ use Rattle.std.proofs.lemmas.List.Elements.{All-nil}
 use Rattle.std.proofs.lemmas.List.Sums.{count_by-le-length}
 use Rattle.std.specs.List.{IsSplitAt}
 use Rattle.wq_core.specs.declared.step.Step.{Step}
-use Rattle.wq_core.specs.declared.step.Step.TheVariants.{Queue as QueueStep, Cancel as CancelStep, Start as StartStep, Wait as WaitStep, Over as OverStep, WaitAll as WaitAllStep, OverAll as OverAllStep, Finish as FinishStep}
+use Rattle.wq_core.specs.declared.step.Step.TheVariants.{Queue as QueueStep, Cancel as CancelStep, Start as StartStep, Wait as WaitStep, Over as OverStep, WaitAll as WaitAllStep, OverAll as OverAllStep, Finish as FinishStep, Help as HelperStep}
 use Rattle.wq_core.specs.declared.step.StepError.{StepError}
 use Rattle.wq_core.specs.declared.step.StepError.TheVariants.{NotLawful, NumbersUsedUp}
 use Rattle.wq_core.specs.Wiring.{Wiring}
@@ -17,7 +17,7 @@ use Rattle.wq_core.specs.Rules.{Lawful, Gives}
 use Rattle.wq_core.specs.Held.{Machine, IsMachine, IsDone, IsRefusal, UsesUp, machine_after}
 use Rattle.wq_core.proofs.Numbers.{Gives-one}
 use Rattle.wq_rows.specs.declared.event.Event.{Event}
-use Rattle.wq_rows.specs.declared.event.Event.TheVariants.{Queue, Cancel, Start, Wait, Over, Finish, Ask, Told, WaitAll, OverAll, AskLane, ToldLane}
+use Rattle.wq_rows.specs.declared.event.Event.TheVariants.{Queue, Cancel, Start, Wait, Over, Finish, Ask, Told, WaitAll, OverAll, AskLane, ToldLane, Help}
 use Rattle.wq_rows.specs.declared.event.Row.{Row}
 use Rattle.wq_rows.specs.Packing.{packed, IsPackable, IsRowInRange, IsPackedRow}
 use Rattle.wq_rows.specs.Stored.{max_rows, IsStored}
@@ -43,6 +43,7 @@ number_left s (OverStep q b) below used = used
 number_left s (WaitAllStep q b) below used = used
 number_left s (OverAllStep q b) below used = used
 number_left s (FinishStep q i) below used = used
+number_left s (HelperStep q h deed) below used = used
 
 refused : (m : Machine) (step : Step) (e : StepError) → m.state.next < 4294967295 → IsRefusal m step e → ¬ Lawful m.wiring m.state step
 refused m step NotLawful below refusal = refusal
@@ -93,6 +94,7 @@ step-lawful w s waiting (WaitAll q b) said n may = may.1.0
 step-lawful w s waiting (OverAll q b) said n may = may.1.0
 step-lawful w s waiting (AskLane q) said n may = tt
 step-lawful w s waiting (ToldLane q) said n may = tt
+step-lawful w s waiting (Help q h deed) said n may = may.1.0
 
 -- no more asks wait than there are rows
 pub few_asks : (m : Machine) (rows : List Row) (asks : AskView) → Replays m rows asks → asks.all ≤ length rows
@@ -173,6 +175,7 @@ Replays-follow m rows asks row replays may few some = by_event row.event row.yes
   by_event (AskLane q) false n come wait = nothing (AskLane q) n refl refl come
   by_event (ToldLane q) true n come wait = told (OfLane q) n come come.1 (wait come.1)
   by_event (ToldLane q) false n come wait = let said : false ≡ true = come.0 in absurd cc
+  by_event (Help q h deed) said n come wait = made (Help q h deed) said n (HelperStep q h deed) refl come.1.0 come
 
 -- ---- judged so far
 

@@ -5,20 +5,19 @@ use Rattle.std.specs.List.{All, count_by}
 use Rattle.std.specs.Cmp.{both_ways}
 use Rattle.std.proofs.lemmas.List.Elements.{All-head, All-tail}
 use Rattle.wq_core.specs.declared.step.Step.{Step}
-use Rattle.wq_core.specs.declared.step.Step.TheVariants.{Queue as QueueStep, Cancel as CancelStep, Start as StartStep, Wait as WaitStep, Over as OverStep, WaitAll as WaitAllStep, OverAll as OverAllStep, Finish as FinishStep}
+use Rattle.wq_core.specs.declared.step.Step.TheVariants.{Queue as QueueStep, Cancel as CancelStep, Start as StartStep, Wait as WaitStep, Over as OverStep, WaitAll as WaitAllStep, OverAll as OverAllStep, Finish as FinishStep, Help as HelperStep}
+use Rattle.wq_core.specs.declared.step.HelpStep.TheVariants.{Start as DoStart, Wait as DoWait, WaitAll as DoWaitAll, Over as DoOver, OverAll as DoOverAll, Finish as DoFinish}
 use Rattle.wq_core.specs.Wiring.{Wiring, IsWiring, items, lane_of}
 use Rattle.wq_core.specs.State.{State, lane_at, HasUnfinishedOf, IsBusy}
 use Rattle.wq_core.specs.Rules.{effect}
 use Rattle.wq_core.specs.Work.{work_left}
 use Rattle.wq_core.specs.Held.{IsSoundState}
-use Rattle.wq_core.proofs.LaneLemmas.{runs_within, starts_within}
-use Rattle.wq_core.proofs.LawfulSteps.{start-item, waiting-target}
-use Rattle.wq_core.proofs.Machines.{running-item}
+use Rattle.wq_core.proofs.Contexts.{MayStart-first}
 use Rattle.wq_core.proofs.Numbers.{Gives-one}
 use Rattle.wq_core.proofs.WorkLemmas.{work_left-rescuer}
 use Rattle.wq_core.proofs.WorkChanges.{work_left-cancelled}
 use Rattle.wq_rows.specs.declared.event.Event.{Event}
-use Rattle.wq_rows.specs.declared.event.Event.TheVariants.{Queue, Cancel, Start, Wait, Over, Finish, Ask, Told, WaitAll, OverAll, AskLane, ToldLane}
+use Rattle.wq_rows.specs.declared.event.Event.TheVariants.{Queue, Cancel, Start, Wait, Over, Finish, Ask, Told, WaitAll, OverAll, AskLane, ToldLane, Help}
 use Rattle.wq_rows.specs.declared.event.Row.{Row}
 use Rattle.wq_rows.specs.Packing.{lane_in}
 use Rattle.wq_history.specs.declared.asking.Subject.TheVariants.{Item as OfItem, Lane as OfLane}
@@ -28,7 +27,7 @@ use Rattle.wq_history.specs.Reserve.{reserved, rows_needed}
 use Rattle.wq_history.proofs.Histories.{state_after-step, state_after-none}
 use Rattle.wq_history.proofs.Counting.{count-more}
 use Rattle.wq_history.proofs.LegalRows.{IsLegal-prefix, IsLegal-last, IsSoundState-legal, asked-there, some-wait}
-use Rattle.wq_history.proofs.WaitEvents.{declared-item}
+use Rattle.wq_history.proofs.Deeds.{says_one, own-lane, deed-there}
 
 -- ---- rows that need none free
 
@@ -92,6 +91,8 @@ kept_row w rows row legal may none = by_event row.event row.yes row.number may n
       let a = count-more (λ (x : Row). is_ask x.event && x.yes) rows r in
       let t = count-more (λ (x : Row). is_told x.event) rows r in
       omega (arith, left, a, t, some-wait w rows (OfLane q) legal come.1)
+  by_event (Help q h deed) said n come none_needed =
+      stepping (Help q h deed) said n (HelperStep q h deed) refl refl refl (omega (arith, work_left-rescuer w s (HelperStep q h deed) sound come.1.0 tt))
 
 pub kept_rows : (w : Wiring) (rows more : List Row) → IsLegal w (rows ++ more) → All (λ (row : Row). rows_needed w row.event row.yes ≡ 0) more
     → length more ≤ reserved w rows
@@ -137,6 +138,7 @@ one_answer w rows event said other n m legal not_told a b = by_event event said 
   by_event (OverAll q t) x y told a b = (a.0 ∙ sym b.0, Gives-one w s (OverAllStep q t) n m sound a.1.1 b.1.1)
   by_event (AskLane q) x y told a b = (same_word (IsBusy (lane_at s q)) x y a.1 b.1, a.2 ∙ sym b.2)
   by_event (ToldLane q) x y told a b = absurd cc
+  by_event (Help q h deed) x y told a b = (says_one w s deed x y a.0 b.0, Gives-one w s (HelperStep q h deed) n m sound a.1.1 b.1.1)
 
 -- ---- items and lanes
 
@@ -151,30 +153,19 @@ exist w rows event said n wiring legal may = by_event event may where
 
   -- if there is an item, there is a lane
   with_lane : (i : ℕ) → i < items w → 0 < w.lanes
-  with_lane i there =
-      let on : lane_of w i < w.lanes = wiring.within i 0 (omega (arith, there, wiring.one_lane_each)) in
-      omega (arith, on)
+  with_lane i there = let on = own-lane w i (lane_of w i) wiring there refl in omega (arith, on)
 
   by_event : (e : Event) → MayCome w rows e said n → IsThere w (subject_in e) × (lane_in e < w.lanes)
   by_event (Queue i) come = (come.0, with_lane i come.0)
   by_event (Cancel i) come = (come.0, with_lane i come.0)
-  by_event (Start q i) come = (start-item w s q i sound come.1.0, omega (arith, starts_within s q i come.1.0, sound.one_each))
-  by_event (Wait q b) come =
-      let (r, runs, wait) = come.1.0 in
-      (declared-item w false r.entry.item b wiring wait.declared, omega (arith, runs_within s q r runs, sound.one_each))
-  by_event (Over q b) come =
-      let (r, runs, over) = come.1.0 in
-      (subst (λ k. k < items w) over.target (waiting-target w s q r over.flush wiring sound runs over.waits), omega (arith, runs_within s q r runs, sound.one_each))
-  by_event (Finish q i) come =
-      let (r, runs, end) = come.1.0 in
-      (subst (λ k. k < items w) end.entry (running-item w s q r sound runs), omega (arith, runs_within s q r runs, sound.one_each))
+  by_event (Start q i) come = deed-there w s q 0 (DoStart i) wiring sound (MayStart-first (lane_at s q) i come.1.0)
+  by_event (Wait q b) come = deed-there w s q 0 (DoWait b) wiring sound come.1.0
+  by_event (Over q b) come = deed-there w s q 0 (DoOver b) wiring sound come.1.0
+  by_event (Finish q i) come = deed-there w s q 0 (DoFinish i) wiring sound come.1.0
   by_event (Ask i) come = (come.0, with_lane i come.0)
   by_event (Told i) come = let there = asked-there w rows (OfItem i) legal come.1 in (there, with_lane i there)
-  by_event (WaitAll q b) come =
-      let (r, runs, wait) = come.1.0 in
-      (declared-item w true r.entry.item b wiring wait.declared, omega (arith, runs_within s q r runs, sound.one_each))
-  by_event (OverAll q b) come =
-      let (r, runs, over) = come.1.0 in
-      (subst (λ k. k < items w) over.target (waiting-target w s q r over.flush wiring sound runs over.waits), omega (arith, runs_within s q r runs, sound.one_each))
+  by_event (WaitAll q b) come = deed-there w s q 0 (DoWaitAll b) wiring sound come.1.0
+  by_event (OverAll q b) come = deed-there w s q 0 (DoOverAll b) wiring sound come.1.0
   by_event (AskLane q) come = (come.0, come.0)
   by_event (ToldLane q) come = let there = asked-there w rows (OfLane q) legal come.1 in (there, there)
+  by_event (Help q h deed) come = deed-there w s q h deed wiring sound come.1.0.1

@@ -8,7 +8,7 @@ use Rattle.std.proofs.lemmas.List.Folds.{sum_by-replicate}
 use Rattle.std.proofs.lemmas.List.Sums.{sum_by-set, get_or-le-sum_by}
 use Rattle.std.proofs.lemmas.Option.{slice_get_within}
 use Rattle.wq_core.specs.declared.step.Step.{Step}
-use Rattle.wq_core.specs.declared.step.Step.TheVariants.{Queue as QueueStep, Cancel as CancelStep, Start as StartStep, Wait as WaitStep, Over as OverStep, WaitAll as WaitAllStep, OverAll as OverAllStep, Finish as FinishStep}
+use Rattle.wq_core.specs.declared.step.Step.TheVariants.{Queue as QueueStep, Cancel as CancelStep, Start as StartStep, Wait as WaitStep, Over as OverStep, WaitAll as WaitAllStep, OverAll as OverAllStep, Finish as FinishStep, Help as HelperStep}
 use Rattle.wq_core.specs.Wiring.{Wiring, items}
 use Rattle.wq_core.specs.State.{empty_state}
 use Rattle.wq_core.specs.Runs.{IsRun}
@@ -16,7 +16,7 @@ use Rattle.wq_core.specs.Held.{IsSoundState}
 use Rattle.wq_core.proofs.RunLemmas.{IsRunFrom-more}
 use Rattle.wq_core.proofs.Sound.{IsSoundState-end_of}
 use Rattle.wq_rows.specs.declared.event.Event.{Event}
-use Rattle.wq_rows.specs.declared.event.Event.TheVariants.{Queue, Cancel, Start, Wait, Over, Finish, Ask, Told, WaitAll, OverAll, AskLane, ToldLane}
+use Rattle.wq_rows.specs.declared.event.Event.TheVariants.{Queue, Cancel, Start, Wait, Over, Finish, Ask, Told, WaitAll, OverAll, AskLane, ToldLane, Help}
 use Rattle.wq_rows.specs.declared.event.Row.{Row}
 use Rattle.wq_history.specs.declared.asking.Subject.{Subject}
 use Rattle.wq_history.specs.declared.asking.Subject.TheVariants.{Item as OfItem, Lane as OfLane}
@@ -108,6 +108,7 @@ begins-there w rows x (OverAll q b) said n may is = absurd cc
 begins-there w rows (OfItem j) (AskLane p) said n may is = absurd cc
 begins-there w rows (OfLane q) (AskLane p) said n may is = subst (λ k. k < w.lanes) (eqb-true p q (and-left (eqb p q) said is)) may.0
 begins-there w rows x (ToldLane q) said n may is = absurd cc
+begins-there w rows x (Help q h deed) said n may is = absurd cc
 
 -- while rows are legal, what was asked about with yes exists
 abbrev AsksThere : Wiring → List Row → Type 0
@@ -212,6 +213,7 @@ one_more_count w rows row before legal = by_event row.event row.yes row.number (
   by_event (AskLane q) true n may = asked (OfLane q) n may.0
   by_event (ToldLane q) false n may = let said : false ≡ true = may.0 in absurd cc
   by_event (ToldLane q) true n may = told (OfLane q) n may.1
+  by_event (Help q h deed) said n may = same (Help q h deed) said n (IsNobodys-step (Help q h deed) said n (HelperStep q h deed) refl)
 
 pub AreCounted-legal : (w : Wiring) (rows : List Row) → IsLegal w rows → AreCounted w rows
 AreCounted-legal w rows legal = from_front (GivesCounts w) (λ xs x before. one_more_count w xs x before) [] rows (λ none. no_asks w) legal

@@ -5,3 +5,4 @@ pub mod Judged
 pub mod LegalRows
 pub mod KeptRows
 pub mod WaitEvents
+pub mod Deeds

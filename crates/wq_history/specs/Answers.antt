@@ -2,7 +2,7 @@
 use Rattle.std.specs.Prelude.{◌≡◌, ℕ, ◌<◌, Option, Some, None, Bool, true, false}
 use Rattle.wq_core.specs.declared.entry.Waiting.{Waiting}
 use Rattle.wq_core.specs.State.{lane_at, HasUnfinishedBelow, IsBusyBelow}
-use Rattle.wq_rows.specs.declared.event.Event.TheVariants.{Start, Ask as AskEvent, Told as ToldEvent, AskLane as AskLaneEvent, ToldLane as ToldLaneEvent}
+use Rattle.wq_rows.specs.declared.event.Event.TheVariants.{Ask as AskEvent, Told as ToldEvent, AskLane as AskLaneEvent, ToldLane as ToldLaneEvent}
 use Rattle.wq_history.specs.declared.asking.Ask.{Ask}
 use Rattle.wq_history.specs.declared.asking.Ask.TheVariants.{Idle, Waiting as WaitingAnswer}
 use Rattle.wq_history.specs.declared.asking.Asked.{Asked}
@@ -14,9 +14,9 @@ use Rattle.wq_history.specs.declared.asking.LaneAsked.{LaneAsked}
 use Rattle.wq_history.specs.declared.asking.LaneTold.{LaneTold}
 use Rattle.wq_history.specs.declared.asking.LaneTold.TheVariants.{Done as LaneDone, NotYet as LaneNotYet, NotAsked as LaneNotAsked}
 use Rattle.wq_history.specs.declared.asking.Subject.TheVariants.{Item as OfItem, Lane as OfLane}
-use Rattle.wq_history.specs.Events.{over_event}
+use Rattle.wq_history.specs.Events.{start_event, over_event}
 use Rattle.wq_history.specs.History.{asks_waiting}
-use Rattle.wq_history.specs.Book.{BookView, state, Appends, AppendsOne, IsWaiting, HasNothingToStart, WaitGoesOn}
+use Rattle.wq_history.specs.Book.{BookView, state, Appends, AppendsOne, IsNext, IsWaiting, HasNothingToStart, WaitGoesOn}
 
 -- `ask` of item i: a row says whether it has an unfinished entry; a caller who waits holds the item, and the number of the row
 -- as its mark
@@ -46,13 +46,14 @@ AnswersToldLane old new asked (LaneNotYet same) = (same ≡ asked) × (new ≡ o
     × IsBusyBelow (lane_at (state old) asked.lane) asked.mark
 AnswersToldLane old new asked (LaneNotAsked same) = (same ≡ asked) × (new ≡ old) × (asks_waiting (OfLane asked.lane) old.rows ≡ 0)
 
--- `start` on lane q: a row says which item is started; or nothing is changed, because the lane has nothing to start
-abbrev pub AnswersStart : BookView → BookView → ℕ → Option ℕ → Type 0
-AnswersStart old new q (Some i) = AppendsOne old new (Start q i) true
-AnswersStart old new q None = HasNothingToStart old q × (new ≡ old)
+-- `start` of context c of lane q: the next item is started, and a row says so; or nothing is changed, because nothing can be
+-- started
+abbrev pub AnswersStart : BookView → BookView → ℕ → ℕ → Option ℕ → Type 0
+AnswersStart old new q c (Some i) = IsNext old q i × AppendsOne old new (start_event q c i) true
+AnswersStart old new q c None = HasNothingToStart old q c × (new ≡ old)
 
--- `over` on lane q: a row says that the wait is over, of the kind and for the target for which the lane waited; or nothing is
--- changed, because the wait goes on
-abbrev pub AnswersOver : BookView → BookView → ℕ → Bool → Type 0
-AnswersOver old new q true = (f : Waiting) × IsWaiting old q f × AppendsOne old new (over_event f.whole q f.target) true
-AnswersOver old new q false = WaitGoesOn old q × (new ≡ old)
+-- `over` of context c of lane q: a row says that the wait is over, of the kind and for the target for which it waited; or nothing
+-- is changed, because the wait goes on
+abbrev pub AnswersOver : BookView → BookView → ℕ → ℕ → Bool → Type 0
+AnswersOver old new q c true = (f : Waiting) × IsWaiting old q c f × AppendsOne old new (over_event f.whole q c f.target) true
+AnswersOver old new q c false = WaitGoesOn old q c × (new ≡ old)

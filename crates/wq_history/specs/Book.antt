@@ -1,10 +1,11 @@
 -- Books: a history with room for a given number of rows, and what each call answers.
-use Rattle.std.specs.Prelude.{◌≡◌, ℕ, ◌+◌, ◌<◌, ◌≤◌, ◌⊎◌, List, ◌∷◌, [], ◌++◌, length, Some, None, Bool, true, false}
+use Rattle.std.specs.Prelude.{◌≡◌, ℕ, zero, suc, ◌+◌, ◌<◌, ◌≤◌, ◌⊎◌, List, ◌∷◌, [], ◌++◌, length, Some, None, Bool, true, false, ⊤}
 use Rattle.wq_items.specs.Table.{ItemWaitsBy}
+use Rattle.wq_core.specs.declared.entry.Entry.{Entry}
 use Rattle.wq_core.specs.declared.entry.Waiting.{Waiting}
 use Rattle.wq_core.specs.declared.entry.Running.{Running}
-use Rattle.wq_core.specs.Wiring.{Wiring, IsWiring, items, declared_by}
-use Rattle.wq_core.specs.State.{State, idle_lane, lane_at, Runs}
+use Rattle.wq_core.specs.Wiring.{Wiring, IsWiring, items, declared_by, HasContext}
+use Rattle.wq_core.specs.State.{State, lane_at, run_by, next_of, RunsIn, IsPendingOn}
 use Rattle.wq_core.specs.Rules.{IsHeldBack}
 use Rattle.wq_rows.specs.declared.event.Event.{Event}
 use Rattle.wq_rows.specs.declared.event.Event.TheVariants.{Queue, AskLane}
@@ -54,23 +55,40 @@ AppendsOne old new event said = (n : ℕ) × Appends old new event said n
 abbrev pub LacksRows : BookView → Event → Type 0
 LacksRows b event = (said : Bool) × (n : ℕ) × MayCome b.wiring b.rows event said n × (free b < rows_needed b.wiring event said)
 
--- ---- lanes of a book
+-- ---- lanes of a book, and their contexts: 0 is the rescuer, and the others are the helpers
 
--- lane q runs this
-abbrev pub LaneRuns : BookView → ℕ → Running → Type 0
-LaneRuns b q r = Runs (lane_at (state b) q) r
+-- context c of lane q runs this
+abbrev pub LaneRuns : BookView → ℕ → ℕ → Running → Type 0
+LaneRuns b q c r = RunsIn (lane_at (state b) q) c r
 
--- lane q runs an entry that doesn't wait. A lane that doesn't exist runs none
-abbrev pub IsAwake : BookView → ℕ → Running → Type 0
-IsAwake b q r = LaneRuns b q r × (r.waiting ≡ None)
+-- context c of lane q runs an entry that doesn't wait. A context that doesn't exist runs none
+abbrev pub IsAwake : BookView → ℕ → ℕ → Running → Type 0
+IsAwake b q c r = LaneRuns b q c r × (r.waiting ≡ None)
 
--- lane q runs an entry that waits for this
-abbrev pub IsWaiting : BookView → ℕ → Waiting → Type 0
-IsWaiting b q f = (r : Running) × LaneRuns b q r × (r.waiting ≡ Some f)
+-- context c of lane q runs an entry that waits for this
+abbrev pub IsWaiting : BookView → ℕ → ℕ → Waiting → Type 0
+IsWaiting b q c f = (r : Running) × LaneRuns b q c r × (r.waiting ≡ Some f)
 
--- lane q runs an entry that waits for this, by a wait of this kind: for the whole lane of the target, or for the target alone
-abbrev pub IsWaitingBy : BookView → ℕ → Bool → Waiting → Type 0
-IsWaitingBy b q whole f = IsWaiting b q f × (f.whole ≡ whole)
+-- context c of lane q runs an entry that waits for this, by a wait of this kind: for the whole lane of the target, or for the
+-- target alone
+abbrev pub IsWaitingBy : BookView → ℕ → ℕ → Bool → Waiting → Type 0
+IsWaitingBy b q c whole f = IsWaiting b q c f × (f.whole ≡ whole)
+
+-- helper h of lane q runs this. The helpers are numbered from 1
+abbrev pub HelperRuns : BookView → ℕ → ℕ → Running → Type 0
+HelperRuns b q h r = (0 < h) × LaneRuns b q h r
+
+-- helper h of lane q runs an entry that waits for this, by a wait of this kind
+abbrev pub HelperWaitsBy : BookView → ℕ → ℕ → Bool → Waiting → Type 0
+HelperWaitsBy b q h whole f = (0 < h) × IsWaitingBy b q h whole f
+
+-- an entry is pending on lane q
+abbrev pub HasPendingOn : BookView → ℕ → Type 0
+HasPendingOn b q = (e : Entry) × IsPendingOn (lane_at (state b) q) e
+
+-- the first pending entry of lane q whose item isn't running is of item i
+abbrev pub IsNext : BookView → ℕ → ℕ → Type 0
+IsNext b q i = (e : Entry) × (next_of (lane_at (state b) q) ≡ Some e) × (e.item ≡ i)
 
 -- ---- why a call is refused: the first cause that holds
 
@@ -129,40 +147,46 @@ RefusesLane wrong TooManyWaits = ⊥
 RefusesLane wrong TooManyRows = ⊥
 RefusesLane wrong OutOfMemory = ⊥
 
--- `start` on lane q is wrong: there is no such lane, or it runs an entry
-abbrev pub IsWrongToStart : BookView → ℕ → Type 0
-IsWrongToStart b q = (b.wiring.lanes ≤ q) ⊎ ((r : Running) × LaneRuns b q r)
+-- `start` of context c of lane q is wrong: there is no such lane or no such context, or it runs an entry
+abbrev pub IsWrongToStart : BookView → ℕ → ℕ → Type 0
+IsWrongToStart b q c = (¬ HasContext b.wiring q c) ⊎ ((r : Running) × LaneRuns b q c r)
 
--- `wait`, `wait_all` and `finish` on lane q are wrong: there is no such lane, it runs nothing, or its entry waits
-abbrev pub IsNotAwake : BookView → ℕ → Type 0
-IsNotAwake b q = (r : Running) → ¬ IsAwake b q r
+-- `wait`, `wait_all` and `finish` of context c of lane q are wrong: there is no such lane or no such context, it runs nothing, or
+-- its entry waits
+abbrev pub IsNotAwake : BookView → ℕ → ℕ → Type 0
+IsNotAwake b q c = (r : Running) → ¬ IsAwake b q c r
 
--- `over` on lane q is wrong: there is no such lane, it runs nothing, or its entry doesn't wait
-abbrev pub IsNotWaiting : BookView → ℕ → Type 0
-IsNotWaiting b q = (f : Waiting) → ¬ IsWaiting b q f
+-- `over` of context c of lane q is wrong: there is no such lane or no such context, it runs nothing, or its entry doesn't wait
+abbrev pub IsNotWaiting : BookView → ℕ → ℕ → Type 0
+IsNotWaiting b q c = (f : Waiting) → ¬ IsWaiting b q c f
 
--- `wait` on lane q for a target, or `wait_all` for its whole lane: the wrong lane; what runs declares no such flush; it has made
--- as many waits as its item declares flushes, of both kinds
-abbrev pub RefusesWait : BookView → ℕ → Bool → ℕ → BookError → Type 0
-RefusesWait b q whole target WrongLane = IsNotAwake b q
-RefusesWait b q whole target Undeclared = (r : Running) × IsAwake b q r × (¬ ItemWaitsBy b.wiring.waits whole r.entry.item target)
-RefusesWait b q whole target TooManyWaits = (r : Running) × IsAwake b q r × ItemWaitsBy b.wiring.waits whole r.entry.item target
+-- `wait` of context c of lane q for a target, or `wait_all` for its whole lane: the wrong lane or context; what runs declares no
+-- such flush; it has made as many waits as its item declares flushes, of both kinds
+abbrev pub RefusesWait : BookView → ℕ → ℕ → Bool → ℕ → BookError → Type 0
+RefusesWait b q c whole target WrongLane = IsNotAwake b q c
+RefusesWait b q c whole target Undeclared = (r : Running) × IsAwake b q c r × (¬ ItemWaitsBy b.wiring.waits whole r.entry.item target)
+RefusesWait b q c whole target TooManyWaits = (r : Running) × IsAwake b q c r × ItemWaitsBy b.wiring.waits whole r.entry.item target
     × (length (declared_by b.wiring r.entry.item) ≤ r.made)
-RefusesWait b q whole target NoItem = ⊥
-RefusesWait b q whole target HistoryFull = ⊥
-RefusesWait b q whole target Closed = ⊥
-RefusesWait b q whole target TooManyRows = ⊥
-RefusesWait b q whole target OutOfMemory = ⊥
+RefusesWait b q c whole target NoItem = ⊥
+RefusesWait b q c whole target HistoryFull = ⊥
+RefusesWait b q c whole target Closed = ⊥
+RefusesWait b q c whole target TooManyRows = ⊥
+RefusesWait b q c whole target OutOfMemory = ⊥
+
+-- a call for helper h is refused: there is no helper 0; for any other by the cause that this states
+abbrev pub RefusesHelp : ℕ → (BookError → Type 0) → BookError → Type 0
+RefusesHelp zero cause e = RefusesLane ⊤ e
+RefusesHelp (suc h) cause e = cause e
 
 -- ---- answers without a row
 
--- lane q has nothing to start: the lane exists, runs nothing, and has nothing pending
-abbrev pub HasNothingToStart : BookView → ℕ → Type 0
-HasNothingToStart b q = (q < b.wiring.lanes) × (lane_at (state b) q ≡ idle_lane)
+-- context c of lane q has nothing to start: it exists and runs nothing, and nothing is pending whose item isn't running
+abbrev pub HasNothingToStart : BookView → ℕ → ℕ → Type 0
+HasNothingToStart b q c = HasContext b.wiring q c × (run_by (lane_at (state b) q) c ≡ None) × (next_of (lane_at (state b) q) ≡ None)
 
--- the wait of lane q isn't over: an unfinished entry of its target, or of the whole lane of that, holds it back
-abbrev pub WaitGoesOn : BookView → ℕ → Type 0
-WaitGoesOn b q = (f : Waiting) × IsWaiting b q f × IsHeldBack b.wiring (state b) f.whole f.target f.mark
+-- the wait of context c of lane q isn't over: an unfinished entry of its target, or of the whole lane of that, holds it back
+abbrev pub WaitGoesOn : BookView → ℕ → ℕ → Type 0
+WaitGoesOn b q c = (f : Waiting) × IsWaiting b q c f × IsHeldBack b.wiring (state b) f.whole f.target f.mark
 
 -- the number of a refusal
 abbrev pub book_code : BookError → ℕ

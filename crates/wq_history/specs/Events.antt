@@ -1,10 +1,13 @@
 -- Events: which step of the machine a row records, and what a caller asks about.
-use Rattle.std.specs.Prelude.{ℕ, List, Option, Some, None, Bool, true, false, ◌==◌, ◌&&◌}
+use Rattle.std.specs.Prelude.{ℕ, zero, suc, List, Option, Some, None, Bool, true, false, ◌==◌, ◌&&◌}
 use Rattle.std.specs.List.{filter_map}
 use Rattle.wq_core.specs.declared.step.Step.{Step}
-use Rattle.wq_core.specs.declared.step.Step.TheVariants.{Queue as QueueStep, Cancel as CancelStep, Start as StartStep, Wait as WaitStep, Over as OverStep, WaitAll as WaitAllStep, OverAll as OverAllStep, Finish as FinishStep}
+use Rattle.wq_core.specs.declared.step.Step.TheVariants.{Queue as QueueStep, Cancel as CancelStep, Start as StartStep, Wait as WaitStep, Over as OverStep, WaitAll as WaitAllStep, OverAll as OverAllStep, Finish as FinishStep, Help as HelperStep}
+use Rattle.wq_core.specs.declared.step.HelpStep.{HelpStep}
+use Rattle.wq_core.specs.declared.step.HelpStep.TheVariants.{Start as DoStart, Wait as DoWait, WaitAll as DoWaitAll, Over as DoOver, OverAll as DoOverAll, Finish as DoFinish}
+use Rattle.wq_core.specs.Rules.{deed_item, wait_deed, over_deed}
 use Rattle.wq_rows.specs.declared.event.Event.{Event}
-use Rattle.wq_rows.specs.declared.event.Event.TheVariants.{Queue, Cancel, Start, Wait, Over, Finish, Ask, Told, WaitAll, OverAll, AskLane, ToldLane}
+use Rattle.wq_rows.specs.declared.event.Event.TheVariants.{Queue, Cancel, Start, Wait, Over, Finish, Ask, Told, WaitAll, OverAll, AskLane, ToldLane, Help}
 use Rattle.wq_rows.specs.declared.event.Row.{Row}
 use Rattle.wq_history.specs.declared.asking.Subject.{Subject}
 use Rattle.wq_history.specs.declared.asking.Subject.TheVariants.{Item as OfItem, Lane as OfLane}
@@ -26,22 +29,39 @@ step_of (WaitAll q b) said = Some (WaitAllStep q b)
 step_of (OverAll q b) said = Some (OverAllStep q b)
 step_of (AskLane q) said = None
 step_of (ToldLane q) said = None
+step_of (Help q h deed) said = Some (HelperStep q h deed)
 
 -- the steps that rows make, in their order
 abbrev pub steps_of : List Row → List Step
 steps_of rows = filter_map (λ (row : Row). step_of row.event row.yes) rows
 
--- ---- waits, by their kind
+-- ---- what a context does: 0 is the rescuer of the lane, and the others are its helpers
 
--- what lane q runs begins to wait for item b, or for the whole lane of b
-abbrev pub wait_event : Bool → ℕ → ℕ → Event
-wait_event false q b = Wait q b
-wait_event true q b = WaitAll q b
+-- context c of lane q does this
+abbrev pub event_in : ℕ → ℕ → HelpStep → Event
+event_in q zero (DoStart i) = Start q i
+event_in q zero (DoWait b) = Wait q b
+event_in q zero (DoWaitAll b) = WaitAll q b
+event_in q zero (DoOver b) = Over q b
+event_in q zero (DoOverAll b) = OverAll q b
+event_in q zero (DoFinish i) = Finish q i
+event_in q (suc h) deed = Help q (suc h) deed
+
+-- context c of lane q starts the pending entry of item i
+abbrev pub start_event : ℕ → ℕ → ℕ → Event
+start_event q c i = event_in q c (DoStart i)
+
+-- what context c of lane q runs begins to wait for item b, or for the whole lane of b
+abbrev pub wait_event : Bool → ℕ → ℕ → ℕ → Event
+wait_event whole q c b = event_in q c (wait_deed whole b)
 
 -- such a wait is over
-abbrev pub over_event : Bool → ℕ → ℕ → Event
-over_event false q b = Over q b
-over_event true q b = OverAll q b
+abbrev pub over_event : Bool → ℕ → ℕ → ℕ → Event
+over_event whole q c b = event_in q c (over_deed whole b)
+
+-- context c of lane q finishes what it runs, an entry of item i
+abbrev pub finish_event : ℕ → ℕ → ℕ → Event
+finish_event q c i = event_in q c (DoFinish i)
 
 -- ---- asks, by what they are about
 
@@ -59,6 +79,7 @@ subject_in (WaitAll q b) = OfItem b
 subject_in (OverAll q b) = OfItem b
 subject_in (AskLane q) = OfLane q
 subject_in (ToldLane q) = OfLane q
+subject_in (Help q h deed) = OfItem (deed_item deed)
 
 -- a caller asks about this
 abbrev pub ask_event : Subject → Event
@@ -91,6 +112,7 @@ asks x (WaitAll q b) = false
 asks x (OverAll q b) = false
 asks x (AskLane q) = is_subject x (OfLane q)
 asks x (ToldLane q) = false
+asks x (Help q h deed) = false
 
 -- a caller who asked about the subject is told
 abbrev pub tells : Subject → Event → Bool
@@ -106,6 +128,7 @@ tells x (WaitAll q b) = false
 tells x (OverAll q b) = false
 tells x (AskLane q) = false
 tells x (ToldLane q) = is_subject x (OfLane q)
+tells x (Help q h deed) = false
 
 -- the row is of a caller who begins to wait for the subject
 abbrev pub begins_to_wait : Subject → Row → Bool
@@ -129,6 +152,7 @@ is_ask (WaitAll q b) = false
 is_ask (OverAll q b) = false
 is_ask (AskLane q) = true
 is_ask (ToldLane q) = false
+is_ask (Help q h deed) = false
 
 -- a caller who asked about some item or some lane is told
 abbrev pub is_told : Event → Bool
@@ -144,3 +168,4 @@ is_told (WaitAll q b) = false
 is_told (OverAll q b) = false
 is_told (AskLane q) = false
 is_told (ToldLane q) = true
+is_told (Help q h deed) = false

@@ -2,13 +2,15 @@
 use Rattle.std.specs.Prelude.{◌≡◌, ℕ, ◌-◌, ◌<◌, List, take, slice_get, Some, Bool, true, MatchBool, ◌&&◌, IsTrue, ◌↔◌}
 use Rattle.std.specs.List.{count_by}
 use Rattle.wq_core.specs.declared.step.Step.{Step}
-use Rattle.wq_core.specs.declared.step.Step.TheVariants.{Queue as QueueStep, Cancel as CancelStep, Start as StartStep, Wait as WaitStep, Over as OverStep, WaitAll as WaitAllStep, OverAll as OverAllStep, Finish as FinishStep}
+use Rattle.wq_core.specs.declared.step.Step.TheVariants.{Queue as QueueStep, Cancel as CancelStep, Start as StartStep, Wait as WaitStep, Over as OverStep, WaitAll as WaitAllStep, OverAll as OverAllStep, Finish as FinishStep, Help as HelperStep}
+use Rattle.wq_core.specs.declared.step.HelpStep.{HelpStep}
+use Rattle.wq_core.specs.declared.step.HelpStep.TheVariants.{Start as DoStart, Wait as DoWait, WaitAll as DoWaitAll, Over as DoOver, OverAll as DoOverAll, Finish as DoFinish}
 use Rattle.wq_core.specs.Wiring.{Wiring, items, lane_of}
 use Rattle.wq_core.specs.State.{State, lane_at, HasPending, HasUnfinishedOf, HasUnfinishedBelow, IsBusy, IsBusyBelow}
 use Rattle.wq_core.specs.Rules.{Lawful, Gives}
 use Rattle.wq_core.specs.Runs.{end_of}
 use Rattle.wq_rows.specs.declared.event.Event.{Event}
-use Rattle.wq_rows.specs.declared.event.Event.TheVariants.{Queue, Cancel, Start, Wait, Over, Finish, Ask, Told, WaitAll, OverAll, AskLane, ToldLane}
+use Rattle.wq_rows.specs.declared.event.Event.TheVariants.{Queue, Cancel, Start, Wait, Over, Finish, Ask, Told, WaitAll, OverAll, AskLane, ToldLane, Help}
 use Rattle.wq_rows.specs.declared.event.Row.{Row}
 use Rattle.wq_history.specs.declared.asking.Subject.{Subject}
 use Rattle.wq_history.specs.declared.asking.Subject.TheVariants.{Item as OfItem, Lane as OfLane}
@@ -38,6 +40,15 @@ SaysUnfinished s i said = IsTrue said ↔ HasUnfinishedOf s i
 abbrev pub SaysBusy : State → ℕ → Bool → Type 0
 SaysBusy s q said = IsTrue said ↔ IsBusy (lane_at s q)
 
+-- `said` is the answer of a deed: for a wait it says whether the item, or its whole lane, has an unfinished entry; any other has yes
+abbrev pub Says : Wiring → State → HelpStep → Bool → Type 0
+Says w s (DoStart i) said = said ≡ true
+Says w s (DoWait b) said = SaysUnfinished s b said
+Says w s (DoWaitAll b) said = SaysBusy s (lane_of w b) said
+Says w s (DoOver b) said = said ≡ true
+Says w s (DoOverAll b) said = said ≡ true
+Says w s (DoFinish i) said = said ≡ true
+
 -- there is such an item, or such a lane
 abbrev pub IsThere : Wiring → Subject → Type 0
 IsThere w (OfItem i) = i < items w
@@ -62,6 +73,7 @@ MayComeIn w s waiting (WaitAll q b) said n = SaysBusy s (lane_of w b) said × Ma
 MayComeIn w s waiting (OverAll q b) said n = (said ≡ true) × Makes w s (OverAllStep q b) n
 MayComeIn w s waiting (AskLane q) said n = (q < w.lanes) × SaysBusy s q said × (n ≡ s.next)
 MayComeIn w s waiting (ToldLane q) said n = (said ≡ true) × (0 < waiting) × (¬ IsBusyBelow (lane_at s q) n)
+MayComeIn w s waiting (Help q h deed) said n = Says w s deed said × Makes w s (HelperStep q h deed) n
 
 -- after these rows an event may come with this `yes` and this number
 abbrev pub MayCome : Wiring → List Row → Event → Bool → ℕ → Type 0

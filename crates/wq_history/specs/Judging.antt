@@ -4,7 +4,7 @@ use Rattle.wq_core.specs.declared.step.Step.{Step}
 use Rattle.wq_core.specs.Wiring.{items}
 use Rattle.wq_core.specs.Held.{Machine, machine_after}
 use Rattle.wq_rows.specs.declared.event.Event.{Event}
-use Rattle.wq_rows.specs.declared.event.Event.TheVariants.{Queue, Cancel, Start, Wait, Over, Finish, Ask, Told, WaitAll, OverAll, AskLane, ToldLane}
+use Rattle.wq_rows.specs.declared.event.Event.TheVariants.{Queue, Cancel, Start, Wait, Over, Finish, Ask, Told, WaitAll, OverAll, AskLane, ToldLane, Help}
 use Rattle.wq_rows.specs.declared.event.Row.{Row}
 use Rattle.wq_rows.specs.Packing.{IsPackedRow}
 use Rattle.wq_rows.specs.Stored.{IsStored}
@@ -69,6 +69,7 @@ counted asks (OverAll q b) said = asks
 counted asks (AskLane q) true = with_ask (OfLane q) asks
 counted asks (AskLane q) false = asks
 counted asks (ToldLane q) said = without_ask (OfLane q) asks
+counted asks (Help q h deed) said = asks
 
 -- ---- numbers
 

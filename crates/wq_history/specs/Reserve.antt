@@ -1,9 +1,9 @@
--- Rows kept free, so that neither a rescuer nor a caller who waits ever lacks a row.
+-- Rows kept free, so that neither a rescuer, nor a helper, nor a caller who waits ever lacks a row.
 use Rattle.std.specs.Prelude.{ℕ, ◌+◌, ◌-◌, List, length, Bool, true, false}
 use Rattle.wq_core.specs.Wiring.{Wiring}
 use Rattle.wq_core.specs.Work.{whole_work, work_left}
 use Rattle.wq_rows.specs.declared.event.Event.{Event}
-use Rattle.wq_rows.specs.declared.event.Event.TheVariants.{Queue, Cancel, Start, Wait, Over, Finish, Ask, Told, WaitAll, OverAll, AskLane, ToldLane}
+use Rattle.wq_rows.specs.declared.event.Event.TheVariants.{Queue, Cancel, Start, Wait, Over, Finish, Ask, Told, WaitAll, OverAll, AskLane, ToldLane, Help}
 use Rattle.wq_rows.specs.declared.event.Row.{Row}
 use Rattle.wq_history.specs.History.{state_after, all_asks_waiting}
 
@@ -17,7 +17,7 @@ free_rows w room rows = room - (length rows + reserved w rows)
 
 -- how many free rows an event with this `yes` needs: an accepted queueing needs its own and those of the execution; an ask that
 -- waits, its own and that of its end; an event that comes to nothing, its own. A cancellation that removes an entry writes one
--- of the rows kept for it, and rescuers and callers who are told write theirs
+-- of the rows kept for it, and rescuers, helpers and callers who are told write theirs
 abbrev pub rows_needed : Wiring → Event → Bool → ℕ
 rows_needed w (Queue i) true = 1 + whole_work w i
 rows_needed w (Queue i) false = 1
@@ -35,3 +35,4 @@ rows_needed w (OverAll q b) said = 0
 rows_needed w (AskLane q) true = 2
 rows_needed w (AskLane q) false = 1
 rows_needed w (ToldLane q) said = 0
+rows_needed w (Help q h deed) said = 0

@@ -36,6 +36,7 @@ impl Subject {
             | Event::Told(item)
             | Event::WaitAll(_, item)
             | Event::OverAll(_, item) => Subject::Item(item),
+            Event::Help(_, _, deed) => Subject::Item(deed.item()),
         }
     }
 

@@ -1,34 +1,34 @@
 //! The book: it answers events, and writes one row or none for each.
 //!
-//! A book holds a machine and the history of all that happened to it. Its rules are those of "Histories" in the specs of this
-//! crate; the rows that it keeps free are those of "Reserve". An event takes the time of the step that it makes, and nothing that
-//! grows with the number of rows, of lanes or of asks. An ask about a lane takes constant time. Only `new` takes memory: 12 bytes
-//! for each row, and two counts for each item or each lane, whichever are more.
+//! A book holds a machine, which may have helpers, and the history of all that happened to it. Its rules are those of "Histories"
+//! in the specs of this crate; the rows that it keeps free are those of "Reserve". An event takes the time of the step that it
+//! makes, and nothing that grows with the number of rows, of lanes or of asks. An ask about a lane takes constant time. Only
+//! `new` takes memory: 12 bytes for each row, and two counts for each item or each lane, whichever are more.
 
-ghost use Rattle.std.specs.Prelude.{◌≡◌, ℕ, ◌+◌, ◌<◌, ◌≤◌, ◌↔◌, [], length, Some, None, true, false, IfOk, IfErr, OnOk, IfSome, IfNone, IsTrue, MatchBool, slice_get};
+ghost use Rattle.std.specs.Prelude.{◌≡◌, ℕ, ◌+◌, ◌<◌, ◌≤◌, ◌↔◌, [], length, Some, None, true, false, IfOk, IfErr, OnOk, IfSome, IfNone, IsTrue, MatchBool};
 ghost use Rattle.std.specs.List.{count_by};
 ghost use Rattle.wq_core.specs.declared.entry.Running.{Running};
 ghost use Rattle.wq_core.specs.declared.entry.Waiting.{Waiting};
-ghost use Rattle.wq_core.specs.Wiring.{IsWiring, items, lane_of, declared_by};
-ghost use Rattle.wq_core.specs.State.{empty_state, lane_at, HasPending, HasUnfinished, HasUnfinishedBelow, IsBusy, IsBusyBelow};
-ghost use Rattle.wq_core.specs.Rules.{Lawful, Gives, IsHeldBack};
-ghost use Rattle.wq_rows.specs.declared.event.Event.TheVariants.{Queue, Cancel, Start, Wait, WaitAll, Finish, Ask as AskEvent};
+ghost use Rattle.wq_core.specs.Wiring.{IsWiring, items, lane_of, declared_by, helpers_of, HasContext};
+ghost use Rattle.wq_core.specs.State.{empty_state, lane_at, run_by, next_of, HasPending, HasUnfinished, HasUnfinishedBelow, IsBusy, IsBusyBelow};
+ghost use Rattle.wq_core.specs.Rules.{Lawful, Gives, IsHeldBack, step_in};
+ghost use Rattle.wq_rows.specs.declared.event.Event.TheVariants.{Queue, Cancel, Wait, WaitAll, Finish, Ask as AskEvent};
 ghost use Rattle.wq_rows.specs.Packing.{packed_rows};
 ghost use Rattle.wq_rows.specs.Stored.{max_rows};
 ghost use Rattle.wq_history.specs.declared.asking.Subject.{Subject as SubjectValue};
-ghost use Rattle.wq_history.specs.Events.{step_of, wait_event, ask_event, told_event, begins_to_wait, ends_a_wait};
-ghost use Rattle.wq_history.specs.History.{asks_waiting, all_asks_waiting, MayCome, SaysUnfinished, SaysBusy};
+ghost use Rattle.wq_history.specs.Events.{step_of, event_in, wait_event, finish_event, ask_event, told_event, begins_to_wait, ends_a_wait};
+ghost use Rattle.wq_history.specs.History.{asks_waiting, all_asks_waiting, MayCome, Says, SaysUnfinished, SaysBusy};
 ghost use Rattle.wq_history.specs.Reserve.{rows_needed};
-ghost use Rattle.wq_history.specs.Book.{BookView, state, free, IsBook, Appends, AppendsOne, LaneRuns, IsAwake, IsWaiting, IsWaitingBy, IsNotWaiting, IsNotAwake, IsWrongToStart, RefusesNew, RefusesQueue, RefusesItem, RefusesAskLane, RefusesLane, RefusesWait, WaitGoesOn};
+ghost use Rattle.wq_history.specs.Book.{BookView, state, free, IsBook, Appends, AppendsOne, LaneRuns, IsAwake, IsWaiting, IsWaitingBy, HelperRuns, HelperWaitsBy, HasPendingOn, IsNotWaiting, IsNotAwake, IsWrongToStart, RefusesNew, RefusesQueue, RefusesItem, RefusesAskLane, RefusesLane, RefusesWait, RefusesHelp, WaitGoesOn};
 ghost use Rattle.wq_history.specs.Answers.{AnswersAsk, AnswersTold, AnswersAskLane, AnswersToldLane, AnswersStart, AnswersOver};
 
 use crate::ask_counts::AskCounts;
 use crate::asking::{Ask, Asked, LaneAsk, LaneAsked, LaneTold, Subject, Told};
 use crate::fault::BookError;
-use crate::waits::{is_awaited, is_busy, is_held_back, over_event, wait_event};
+use crate::waits::{event_of, is_awaited, is_busy, is_held_back};
 use std::alloc::Allocator;
 use std::marker::Model;
-use wq_core::{Core, Entry, Running, Step, Waiting};
+use wq_core::{Core, Entry, HelpStep, Running, Step, Waiting};
 use wq_groups::LaneId;
 use wq_items::ItemId;
 use wq_rows::{Event, History, MAX_ROWS, Row, Rows};
@@ -56,7 +56,8 @@ impl<A: Allocator> Model for Book<A> {
 }
 
 impl<A: Allocator + Copy> Book<A> {
-    /// Makes the book of a machine on which nothing has happened, with room for this many rows.
+    /// Makes the book of a machine on which nothing has happened, with room for this many rows. Its lanes have the helpers of the
+    /// machine.
     ///
     /// The error is `TooManyRows` (68) exactly where there are more than 16,777,216 rows. Otherwise it is out of memory (20),
     /// which can't occur where there are no rows, no items and no lanes.
@@ -90,6 +91,7 @@ impl<A: Allocator> Book<A> {
     }
 
     /// Makes a step, and appends the row of its event. Returns the number of the row.
+    #[inline(always)]
     fn make(&mut self, step: &Step, event: Event, yes: bool) -> u32
         requires lawful { Lawful self.old.wiring (state self.old) step.now }
         requires event { step_of event yes ≡ Some step.now }
@@ -106,7 +108,20 @@ impl<A: Allocator> Book<A> {
         number
     }
 
+    /// Makes a step of a context, and appends the row of its event.
+    #[inline(always)]
+    fn make_in(&mut self, q: LaneId, helper: u8, deed: &HelpStep, yes: bool)
+        requires lawful { Lawful self.old.wiring (state self.old) (step_in q helper deed.now) }
+        requires says { Says self.old.wiring (state self.old) deed.now yes }
+        ensures { AppendsOne self.old self.new (event_in q helper deed.now) yes }
+    {
+        let step = Step::of(q, helper, *deed);
+        let event = event_of(q, helper, deed);
+        self.make(&step, event, yes);
+    }
+
     /// Appends the row of an event without effect: it makes no step, and no caller waits.
+    #[inline(always)]
     fn note(&mut self, event: Event, number: u32)
         requires event { step_of event false ≡ None }
         requires may { MayCome self.old.wiring self.old.rows event false number }
@@ -122,6 +137,7 @@ impl<A: Allocator> Book<A> {
     }
 
     /// Appends the row of an ask about an item or a lane that has an unfinished entry.
+    #[inline(always)]
     fn begin_to_wait(&mut self, subject: Subject, mark: u32)
         requires may { MayCome self.old.wiring self.old.rows (ask_event subject) true mark }
         requires room { 2 ≤ free self.old }
@@ -138,6 +154,7 @@ impl<A: Allocator> Book<A> {
     }
 
     /// Appends the row of a caller who waited for an item or a lane and is told that its wait is over.
+    #[inline(always)]
     fn end_a_wait(&mut self, subject: Subject, mark: u32)
         requires { MayCome self.old.wiring self.old.rows (told_event subject) true mark }
         ensures { Appends self.old self.new (told_event subject) true mark }
@@ -209,56 +226,63 @@ impl<A: Allocator> Book<A> {
         is_awaited(&self.core, whole, target)
     }
 
-    /// Whether what a lane waits for isn't done.
-    fn is_held_back(&self, q: LaneId, flush: &Waiting) -> bool
-        requires { IsWaiting self.now q flush.now }
+    /// Whether what a context waits for isn't done.
+    fn is_held_back(&self, q: LaneId, helper: u8, flush: &Waiting) -> bool
+        requires { IsWaiting self.now q helper flush.now }
         ensures { IsTrue result ↔ IsHeldBack self.now.wiring (state self.now) flush.now.whole flush.now.target flush.now.mark }
     {
         is_held_back(&self.core, flush.whole, flush.target, flush.mark)
     }
 
-    /// What a lane runs; nothing where there is no such lane.
-    fn running_on(&self, q: LaneId) -> Option<Running>
-        ensures running { result ≡ (lane_at (state self.now) q).running }
-        ensures known { IfSome result (λ r. (r.entry.item < items self.now.wiring) × (lane_of self.now.wiring r.entry.item ≡ q)) }
+    /// What a context runs; nothing where there is no such lane or no such context.
+    fn entry_in(&self, q: LaneId, helper: u8) -> Option<Running>
+        ensures running { result ≡ run_by (lane_at (state self.now) q) helper }
+        ensures known { IfSome result (λ r. (r.entry.item < items self.now.wiring)
+            × (lane_of self.now.wiring r.entry.item ≡ q) × HasContext self.now.wiring q helper) }
     {
-        self.core.running_on(q)
+        self.core.running_in(q, helper)
     }
 
-    /// The entry that a lane starts next; none where there is no such lane. It is of an item of this lane.
-    fn first_on(&self, q: LaneId) -> Option<Entry>
-        ensures first { result ≡ slice_get (lane_at (state self.now) q).pending 0 }
+    /// The first pending entry of a lane whose item isn't running; none where there is no such entry, or no such lane. It is of an
+    /// item of this lane.
+    fn next_on(&self, q: LaneId) -> Option<Entry>
+        ensures next { result ≡ next_of (lane_at (state self.now) q) }
         ensures known { IfSome result (λ e. (e.item < items self.now.wiring) × (lane_of self.now.wiring e.item ≡ q)) }
     {
-        self.core.first_on(q)
+        self.core.next_on(q)
     }
 
-    /// Whether there is such a lane, and it runs nothing.
-    fn is_idle_lane(&self, q: LaneId) -> bool
-        ensures { MatchBool result ((q < self.now.wiring.lanes) × ((lane_at (state self.now) q).running ≡ None)) (IsWrongToStart self.now q) }
+    /// Whether there is such a context, and it runs nothing.
+    fn is_idle_context(&self, q: LaneId, helper: u8) -> bool
+        ensures { MatchBool result
+            (HasContext self.now.wiring q helper
+            × (run_by (lane_at (state self.now) q) helper ≡ None))
+            (IsWrongToStart self.now q helper) }
     {
-        self.is_lane(q) && self.running_on(q).is_none()
+        self.has_context(q, helper) && self.entry_in(q, helper).is_none()
     }
 
-    /// What a lane runs, where it doesn't wait.
-    fn awake_on(&self, q: LaneId) -> Option<Running>
-        ensures some { IfSome result (λ r. IsAwake self.now q r) }
-        ensures known { IfSome result (λ r. r.entry.item < items self.now.wiring) }
-        ensures none { IfNone result (IsNotAwake self.now q) }
+    /// What a context runs, where it doesn't wait.
+    fn awake_in(&self, q: LaneId, helper: u8) -> Option<Running>
+        ensures some { IfSome result (λ r. IsAwake self.now q helper r) }
+        ensures known { IfSome result (λ r. (r.entry.item < items self.now.wiring)
+            × HasContext self.now.wiring q helper) }
+        ensures none { IfNone result (IsNotAwake self.now q helper) }
     {
-        let running = self.running_on(q)?;
+        let running = self.entry_in(q, helper)?;
         if running.waiting.is_some() {
             return None;
         }
         Some(running)
     }
 
-    /// What the entry that a lane runs waits for.
-    fn wait_on(&self, q: LaneId) -> Option<Waiting>
-        ensures some { IfSome result (λ f. IsWaiting self.now q f) }
-        ensures none { IfNone result (IsNotWaiting self.now q) }
+    /// What the entry that a context runs waits for.
+    fn wait_of(&self, q: LaneId, helper: u8) -> Option<Waiting>
+        ensures some { IfSome result (λ f. IsWaiting self.now q helper f) }
+        ensures known { IfSome result (λ _. HasContext self.now.wiring q helper) }
+        ensures none { IfNone result (IsNotWaiting self.now q helper) }
     {
-        let running = self.running_on(q)?;
+        let running = self.entry_in(q, helper)?;
         running.waiting
     }
 
@@ -414,33 +438,44 @@ impl<A: Allocator> Book<A> {
         LaneTold::Done
     }
 
-    /// Starts the first pending entry of a lane, and gives its item, which is one of this lane. Where none is pending it gives
-    /// nothing, and nothing is changed.
+    /// Starts the first pending entry of a lane whose item isn't running, in this context, and gives its item, which is one of this
+    /// lane. Where there is none it gives nothing, and nothing is changed.
     ///
-    /// The error is `WrongLane` (64), exactly where there is no such lane or it runs an entry. After an error nothing is changed.
-    pub fn start(&mut self, q: LaneId) -> Result<Option<ItemId>, BookError>
-        ensures row { IfOk result (λ answer. AnswersStart self.old self.new q answer) }
-        ensures known { IfOk result (λ answer. IfSome answer (λ item. (item < items self.old.wiring) × (lane_of self.old.wiring item ≡ q))) }
-        ensures refused { IfErr result (λ e. RefusesLane (IsWrongToStart self.old q) e × (self.new ≡ self.old)) }
+    /// The error is `WrongLane` (64), exactly where there is no such lane or no such context, or it runs an entry. After an error
+    /// nothing is changed.
+    pub fn start_in(&mut self, q: LaneId, helper: u8) -> Result<Option<ItemId>, BookError>
+        ensures row { IfOk result (λ answer. AnswersStart self.old self.new q helper answer) }
+        ensures known { IfOk result (λ answer. IfSome answer (λ item.
+            (item < items self.old.wiring) × (lane_of self.old.wiring item ≡ q))) }
+        ensures refused { IfErr result (λ e. RefusesLane (IsWrongToStart self.old q helper) e
+            × (self.new ≡ self.old)) }
     {
-        if !self.is_idle_lane(q) {
+        if !self.is_idle_context(q, helper) {
             return Err(BookError::WrongLane);
         }
-        let Some(first) = self.first_on(q) else {
+        let Some(next) = self.next_on(q) else {
             return Ok(None);
         };
-        let item = first.item;
-        self.make(&Step::Start(q, item), Event::Start(q, item), true);
+        let item = next.item;
+        self.make_in(q, helper, &HelpStep::Start(item), true);
         Ok(Some(item))
     }
 
-    /// Makes what a lane runs begin to wait for an item, as `wait`, or for the whole lane of the item, as `wait_all`: true where that
-    /// has an unfinished entry. The errors are theirs.
-    pub fn wait_by(&mut self, q: LaneId, whole: bool, target: ItemId) -> Result<bool, BookError>
-        ensures row { IfOk result (λ unfinished. AppendsOne self.old self.new (wait_event whole q target) unfinished) }
-        ensures refused { IfErr result (λ e. RefusesWait self.old q whole target e × (self.new ≡ self.old)) }
+    /// Makes what a context runs begin to wait for an item, as `wait`, or for the whole lane of the item, as `wait_all`: true where
+    /// that has an unfinished entry. The errors are theirs.
+    pub fn wait_in(
+        &mut self,
+        q: LaneId,
+        helper: u8,
+        whole: bool,
+        target: ItemId,
+    ) -> Result<bool, BookError>
+        ensures row { IfOk result (λ unfinished.
+            AppendsOne self.old self.new (wait_event whole q helper target) unfinished) }
+        ensures refused { IfErr result (λ e. RefusesWait self.old q helper whole target e
+            × (self.new ≡ self.old)) }
     {
-        let Some(running) = self.awake_on(q) else {
+        let Some(running) = self.awake_in(q, helper) else {
             return Err(BookError::WrongLane);
         };
         let item = running.entry.item;
@@ -452,73 +487,184 @@ impl<A: Allocator> Book<A> {
             return Err(BookError::TooManyWaits);
         }
         let unfinished = self.is_awaited(whole, target);
-        let step = Step::wait_of(whole, q, target);
-        let event = wait_event(whole, q, target);
-        self.make(&step, event, unfinished);
+        let deed = HelpStep::wait_of(whole, target);
+        self.make_in(q, helper, &deed, unfinished);
         Ok(unfinished)
     }
 
-    /// Makes what a lane runs begin to wait for an item: true where that item has an unfinished entry.
-    ///
-    /// The error is the first of these that holds: `WrongLane` (64), where there is no such lane, it runs nothing, or its entry
-    /// waits; `Undeclared` (62), where what runs declares no flush of the item alone; `TooManyWaits` (63). After an error nothing is
-    /// changed.
-    pub fn wait(&mut self, q: LaneId, target: ItemId) -> Result<bool, BookError>
-        ensures row { IfOk result (λ unfinished. AppendsOne self.old self.new (Wait q target) unfinished) }
-        ensures refused { IfErr result (λ e. RefusesWait self.old q false target e × (self.new ≡ self.old)) }
-    {
-        self.wait_by(q, false, target)
-    }
-
-    /// Makes what a lane runs begin to wait for the whole lane of an item: true where that lane has an unfinished entry.
-    ///
-    /// The error is the first of these that holds: `WrongLane` (64), where there is no such lane, it runs nothing, or its entry
-    /// waits; `Undeclared` (62), where what runs declares no flush of the whole lane of the item; `TooManyWaits` (63). After an
-    /// error nothing is changed.
-    pub fn wait_all(&mut self, q: LaneId, target: ItemId) -> Result<bool, BookError>
-        ensures row { IfOk result (λ unfinished. AppendsOne self.old self.new (WaitAll q target) unfinished) }
-        ensures refused { IfErr result (λ e. RefusesWait self.old q true target e × (self.new ≡ self.old)) }
-    {
-        self.wait_by(q, true, target)
-    }
-
-    /// Lets what a lane runs go on, where its wait is over, for an item or for a whole lane. It gives false where the wait isn't
+    /// Lets what a context runs go on, where its wait is over, for an item or for a whole lane. It gives false where the wait isn't
     /// over; then nothing is changed.
     ///
-    /// The error is `WrongLane` (64), exactly where there is no such lane, it runs nothing, or its entry doesn't wait. After an
-    /// error nothing is changed.
-    pub fn over(&mut self, q: LaneId) -> Result<bool, BookError>
-        ensures row { IfOk result (λ answer. AnswersOver self.old self.new q answer) }
-        ensures refused { IfErr result (λ e. RefusesLane (IsNotWaiting self.old q) e × (self.new ≡ self.old)) }
+    /// The error is `WrongLane` (64), exactly where there is no such lane or no such context, it runs nothing, or its entry doesn't
+    /// wait. After an error nothing is changed.
+    pub fn over_in(&mut self, q: LaneId, helper: u8) -> Result<bool, BookError>
+        ensures row { IfOk result (λ answer. AnswersOver self.old self.new q helper answer) }
+        ensures refused { IfErr result (λ e. RefusesLane (IsNotWaiting self.old q helper) e
+            × (self.new ≡ self.old)) }
     {
-        let Some(flush) = self.wait_on(q) else {
+        let Some(flush) = self.wait_of(q, helper) else {
             return Err(BookError::WrongLane);
         };
-        if self.is_held_back(q, &flush) {
+        if self.is_held_back(q, helper, &flush) {
             return Ok(false);
         }
-        let whole = flush.whole;
-        let target = flush.target;
-        let step = Step::over_of(whole, q, target);
-        let event = over_event(whole, q, target);
-        self.make(&step, event, true);
+        let deed = HelpStep::over_of(flush.whole, flush.target);
+        self.make_in(q, helper, &deed, true);
         Ok(true)
     }
 
-    /// Finishes what a lane runs.
+    /// Finishes what a context runs.
     ///
-    /// The error is `WrongLane` (64), exactly where there is no such lane, it runs nothing, or its entry waits. After an error
-    /// nothing is changed.
-    pub fn finish(&mut self, q: LaneId) -> Result<(), BookError>
-        ensures row { IfOk result (λ _. (r : Running) × LaneRuns self.old q r × AppendsOne self.old self.new (Finish q r.entry.item) true) }
-        ensures refused { IfErr result (λ e. RefusesLane (IsNotAwake self.old q) e × (self.new ≡ self.old)) }
+    /// The error is `WrongLane` (64), exactly where there is no such lane or no such context, it runs nothing, or its entry waits.
+    /// After an error nothing is changed.
+    pub fn finish_in(&mut self, q: LaneId, helper: u8) -> Result<(), BookError>
+        ensures row { IfOk result (λ _. (r : Running) × LaneRuns self.old q helper r
+            × AppendsOne self.old self.new (finish_event q helper r.entry.item) true) }
+        ensures refused { IfErr result (λ e. RefusesLane (IsNotAwake self.old q helper) e
+            × (self.new ≡ self.old)) }
     {
-        let Some(running) = self.awake_on(q) else {
+        let Some(running) = self.awake_in(q, helper) else {
             return Err(BookError::WrongLane);
         };
         let item = running.entry.item;
-        self.make(&Step::Finish(q, item), Event::Finish(q, item), true);
+        self.make_in(q, helper, &HelpStep::Finish(item), true);
         Ok(())
+    }
+
+    /// Starts the first pending entry of a lane whose item isn't running, in its rescuer, and gives its item, which is one of this
+    /// lane. Where there is none it gives nothing, and nothing is changed.
+    ///
+    /// The error is `WrongLane` (64), exactly where there is no such lane or its rescuer runs an entry. After an error nothing is
+    /// changed.
+    pub fn start(&mut self, q: LaneId) -> Result<Option<ItemId>, BookError>
+        ensures row { IfOk result (λ answer. AnswersStart self.old self.new q 0 answer) }
+        ensures known { IfOk result (λ answer. IfSome answer (λ item. (item < items self.old.wiring) × (lane_of self.old.wiring item ≡ q))) }
+        ensures refused { IfErr result (λ e. RefusesLane (IsWrongToStart self.old q 0) e × (self.new ≡ self.old)) }
+    {
+        self.start_in(q, 0)
+    }
+
+    /// Makes what a lane's rescuer runs begin to wait for an item: true where that item has an unfinished entry.
+    ///
+    /// The error is the first of these that holds: `WrongLane` (64), where there is no such lane, its rescuer runs nothing, or what
+    /// it runs waits; `Undeclared` (62), where what runs declares no flush of the item alone; `TooManyWaits` (63). After an error
+    /// nothing is changed.
+    pub fn wait(&mut self, q: LaneId, target: ItemId) -> Result<bool, BookError>
+        ensures row { IfOk result (λ unfinished. AppendsOne self.old self.new (Wait q target) unfinished) }
+        ensures refused { IfErr result (λ e. RefusesWait self.old q 0 false target e × (self.new ≡ self.old)) }
+    {
+        self.wait_in(q, 0, false, target)
+    }
+
+    /// Makes what a lane's rescuer runs begin to wait for the whole lane of an item: true where that lane has an unfinished entry.
+    ///
+    /// The error is the first of these that holds: `WrongLane` (64), where there is no such lane, its rescuer runs nothing, or what
+    /// it runs waits; `Undeclared` (62), where what runs declares no flush of the whole lane of the item; `TooManyWaits` (63). After
+    /// an error nothing is changed.
+    pub fn wait_all(&mut self, q: LaneId, target: ItemId) -> Result<bool, BookError>
+        ensures row { IfOk result (λ unfinished. AppendsOne self.old self.new (WaitAll q target) unfinished) }
+        ensures refused { IfErr result (λ e. RefusesWait self.old q 0 true target e × (self.new ≡ self.old)) }
+    {
+        self.wait_in(q, 0, true, target)
+    }
+
+    /// Lets what a lane's rescuer runs go on, where its wait is over, for an item or for a whole lane. It gives false where the wait
+    /// isn't over; then nothing is changed.
+    ///
+    /// The error is `WrongLane` (64), exactly where there is no such lane, its rescuer runs nothing, or what it runs doesn't wait.
+    /// After an error nothing is changed.
+    pub fn over(&mut self, q: LaneId) -> Result<bool, BookError>
+        ensures row { IfOk result (λ answer. AnswersOver self.old self.new q 0 answer) }
+        ensures refused { IfErr result (λ e. RefusesLane (IsNotWaiting self.old q 0) e × (self.new ≡ self.old)) }
+    {
+        self.over_in(q, 0)
+    }
+
+    /// Finishes what a lane's rescuer runs.
+    ///
+    /// The error is `WrongLane` (64), exactly where there is no such lane, its rescuer runs nothing, or what it runs waits. After an
+    /// error nothing is changed.
+    pub fn finish(&mut self, q: LaneId) -> Result<(), BookError>
+        ensures row { IfOk result (λ _. (r : Running) × LaneRuns self.old q 0 r × AppendsOne self.old self.new (Finish q r.entry.item) true) }
+        ensures refused { IfErr result (λ e. RefusesLane (IsNotAwake self.old q 0) e × (self.new ≡ self.old)) }
+    {
+        self.finish_in(q, 0)
+    }
+
+    /// Starts the first pending entry of a lane whose item isn't running, in a helper, and gives its item, which is one of this
+    /// lane. Where there is none it gives nothing, and nothing is changed.
+    ///
+    /// The error is `WrongLane` (64), exactly where there is no such lane, it has no such helper, or the helper runs an entry. After
+    /// an error nothing is changed.
+    pub fn help_start(&mut self, q: LaneId, h: u8) -> Result<Option<ItemId>, BookError>
+        ensures row { IfOk result (λ answer. (0 < h) × AnswersStart self.old self.new q h answer) }
+        ensures known { IfOk result (λ answer. IfSome answer (λ item. (item < items self.old.wiring) × (lane_of self.old.wiring item ≡ q))) }
+        ensures refused { IfErr result (λ e. RefusesHelp h (RefusesLane (IsWrongToStart self.old q h)) e × (self.new ≡ self.old)) }
+    {
+        if h == 0 {
+            return Err(BookError::WrongLane);
+        }
+        self.start_in(q, h)
+    }
+
+    /// Makes what a helper runs begin to wait for an item: true where that item has an unfinished entry.
+    ///
+    /// The error is the first of these that holds: `WrongLane` (64), where there is no such lane, it has no such helper, the helper
+    /// runs nothing, or what it runs waits; `Undeclared` (62), where what runs declares no flush of the item alone; `TooManyWaits`
+    /// (63). After an error nothing is changed.
+    pub fn help_wait(&mut self, q: LaneId, h: u8, target: ItemId) -> Result<bool, BookError>
+        ensures row { IfOk result (λ unfinished. (0 < h) × AppendsOne self.old self.new (wait_event false q h target) unfinished) }
+        ensures refused { IfErr result (λ e. RefusesHelp h (RefusesWait self.old q h false target) e × (self.new ≡ self.old)) }
+    {
+        if h == 0 {
+            return Err(BookError::WrongLane);
+        }
+        self.wait_in(q, h, false, target)
+    }
+
+    /// Makes what a helper runs begin to wait for the whole lane of an item: true where that lane has an unfinished entry.
+    ///
+    /// The error is the first of these that holds: `WrongLane` (64), where there is no such lane, it has no such helper, the helper
+    /// runs nothing, or what it runs waits; `Undeclared` (62), where what runs declares no flush of the whole lane of the item;
+    /// `TooManyWaits` (63). After an error nothing is changed.
+    pub fn help_wait_all(&mut self, q: LaneId, h: u8, target: ItemId) -> Result<bool, BookError>
+        ensures row { IfOk result (λ unfinished. (0 < h) × AppendsOne self.old self.new (wait_event true q h target) unfinished) }
+        ensures refused { IfErr result (λ e. RefusesHelp h (RefusesWait self.old q h true target) e × (self.new ≡ self.old)) }
+    {
+        if h == 0 {
+            return Err(BookError::WrongLane);
+        }
+        self.wait_in(q, h, true, target)
+    }
+
+    /// Lets what a helper runs go on, where its wait is over, for an item or for a whole lane. It gives false where the wait isn't
+    /// over; then nothing is changed.
+    ///
+    /// The error is `WrongLane` (64), exactly where there is no such lane, it has no such helper, the helper runs nothing, or what it
+    /// runs doesn't wait. After an error nothing is changed.
+    pub fn help_over(&mut self, q: LaneId, h: u8) -> Result<bool, BookError>
+        ensures row { IfOk result (λ answer. (0 < h) × AnswersOver self.old self.new q h answer) }
+        ensures refused { IfErr result (λ e. RefusesHelp h (RefusesLane (IsNotWaiting self.old q h)) e × (self.new ≡ self.old)) }
+    {
+        if h == 0 {
+            return Err(BookError::WrongLane);
+        }
+        self.over_in(q, h)
+    }
+
+    /// Finishes what a helper runs.
+    ///
+    /// The error is `WrongLane` (64), exactly where there is no such lane, it has no such helper, the helper runs nothing, or what it
+    /// runs waits. After an error nothing is changed.
+    pub fn help_finish(&mut self, q: LaneId, h: u8) -> Result<(), BookError>
+        ensures row { IfOk result (λ _. (r : Running) × HelperRuns self.old q h r
+            × AppendsOne self.old self.new (finish_event q h r.entry.item) true) }
+        ensures refused { IfErr result (λ e. RefusesHelp h (RefusesLane (IsNotAwake self.old q h)) e × (self.new ≡ self.old)) }
+    {
+        if h == 0 {
+            return Err(BookError::WrongLane);
+        }
+        self.finish_in(q, h)
     }
 
     /// Closes the book: nothing is queued from now on. It writes no row, and closing twice is the same as closing once.
@@ -558,23 +704,31 @@ impl<A: Allocator> Book<A> {
         self.core.is_pending(item)
     }
 
-    /// The item that a lane runs; nothing where it runs none, or there is no such lane.
-    pub fn running(&self, q: LaneId) -> Option<ItemId>
-        ensures some { IfSome result (λ item. (r : Running) × LaneRuns self.now q r × (r.entry.item ≡ item)) }
-        ensures known { IfSome result (λ item. (item < items self.now.wiring) × (lane_of self.now.wiring item ≡ q)) }
-        ensures none { IfNone result ((r : Running) → ¬ LaneRuns self.now q r) }
+    /// Whether an entry is pending on a lane; false where there is no such lane.
+    pub fn is_pending_on(&self, q: LaneId) -> bool
+        ensures { IsTrue result ↔ HasPendingOn self.now q }
     {
-        let running = self.running_on(q)?;
+        self.core.first_on(q).is_some()
+    }
+
+    /// The item that a context runs; nothing where it runs none, or there is no such lane or no such context.
+    pub fn running_in(&self, q: LaneId, helper: u8) -> Option<ItemId>
+        ensures some { IfSome result (λ item. (r : Running) × LaneRuns self.now q helper r × (r.entry.item ≡ item)) }
+        ensures known { IfSome result (λ item. (item < items self.now.wiring) × (lane_of self.now.wiring item ≡ q)) }
+        ensures none { IfNone result ((r : Running) → ¬ LaneRuns self.now q helper r) }
+    {
+        let running = self.entry_in(q, helper)?;
         Some(running.entry.item)
     }
 
-    /// The target of the wait of a lane, where it waits for an item alone, as `waiting`, or where it waits for a whole lane, as
+    /// The target of the wait of a context, where it waits for an item alone, as `waiting`, or where it waits for a whole lane, as
     /// `waiting_all`.
-    pub fn waiting_by(&self, q: LaneId, whole: bool) -> Option<ItemId>
-        ensures some { IfSome result (λ target. (f : Waiting) × IsWaitingBy self.now q whole f × (f.target ≡ target)) }
-        ensures none { IfNone result ((f : Waiting) → ¬ IsWaitingBy self.now q whole f) }
+    pub fn waiting_in(&self, q: LaneId, helper: u8, whole: bool) -> Option<ItemId>
+        ensures some { IfSome result (λ target. (f : Waiting) × IsWaitingBy self.now q helper whole f
+            × (f.target ≡ target)) }
+        ensures none { IfNone result ((f : Waiting) → ¬ IsWaitingBy self.now q helper whole f) }
     {
-        let Some(flush) = self.wait_on(q) else {
+        let Some(flush) = self.wait_of(q, helper) else {
             return None;
         };
         if flush.whole == whole {
@@ -584,22 +738,81 @@ impl<A: Allocator> Book<A> {
         }
     }
 
-    /// The item that a lane waits for, where it waits for an item alone; nothing where it waits for a whole lane, doesn't wait, runs
-    /// none, or where there is no such lane.
-    pub fn waiting(&self, q: LaneId) -> Option<ItemId>
-        ensures some { IfSome result (λ target. (f : Waiting) × IsWaitingBy self.now q false f × (f.target ≡ target)) }
-        ensures none { IfNone result ((f : Waiting) → ¬ IsWaitingBy self.now q false f) }
+    /// The item that a lane's rescuer runs; nothing where it runs none, or there is no such lane.
+    pub fn running(&self, q: LaneId) -> Option<ItemId>
+        ensures some { IfSome result (λ item. (r : Running) × LaneRuns self.now q 0 r × (r.entry.item ≡ item)) }
+        ensures known { IfSome result (λ item. (item < items self.now.wiring) × (lane_of self.now.wiring item ≡ q)) }
+        ensures none { IfNone result ((r : Running) → ¬ LaneRuns self.now q 0 r) }
     {
-        self.waiting_by(q, false)
+        self.running_in(q, 0)
     }
 
-    /// The item for whose whole lane a lane waits; nothing where it waits for an item alone, doesn't wait, runs none, or where there
-    /// is no such lane.
-    pub fn waiting_all(&self, q: LaneId) -> Option<ItemId>
-        ensures some { IfSome result (λ target. (f : Waiting) × IsWaitingBy self.now q true f × (f.target ≡ target)) }
-        ensures none { IfNone result ((f : Waiting) → ¬ IsWaitingBy self.now q true f) }
+    /// The item that a lane's rescuer waits for, where it waits for an item alone; nothing where it waits for a whole lane, doesn't
+    /// wait, runs none, or where there is no such lane.
+    pub fn waiting(&self, q: LaneId) -> Option<ItemId>
+        ensures some { IfSome result (λ target. (f : Waiting) × IsWaitingBy self.now q 0 false f × (f.target ≡ target)) }
+        ensures none { IfNone result ((f : Waiting) → ¬ IsWaitingBy self.now q 0 false f) }
     {
-        self.waiting_by(q, true)
+        self.waiting_in(q, 0, false)
+    }
+
+    /// The item for whose whole lane a lane's rescuer waits; nothing where it waits for an item alone, doesn't wait, runs none, or
+    /// where there is no such lane.
+    pub fn waiting_all(&self, q: LaneId) -> Option<ItemId>
+        ensures some { IfSome result (λ target. (f : Waiting) × IsWaitingBy self.now q 0 true f × (f.target ≡ target)) }
+        ensures none { IfNone result ((f : Waiting) → ¬ IsWaitingBy self.now q 0 true f) }
+    {
+        self.waiting_in(q, 0, true)
+    }
+
+    /// The item that a helper runs; nothing where it runs none, or there is no such lane or no such helper.
+    pub fn help_running(&self, q: LaneId, h: u8) -> Option<ItemId>
+        ensures some { IfSome result (λ item. (r : Running) × HelperRuns self.now q h r × (r.entry.item ≡ item)) }
+        ensures known { IfSome result (λ item. (item < items self.now.wiring) × (lane_of self.now.wiring item ≡ q)) }
+        ensures none { IfNone result ((r : Running) → ¬ HelperRuns self.now q h r) }
+    {
+        if h == 0 {
+            return None;
+        }
+        self.running_in(q, h)
+    }
+
+    /// The item that a helper waits for, where it waits for an item alone; nothing where it waits for a whole lane, doesn't wait,
+    /// runs none, or where there is no such lane or no such helper.
+    pub fn help_waiting(&self, q: LaneId, h: u8) -> Option<ItemId>
+        ensures some { IfSome result (λ target. (f : Waiting) × HelperWaitsBy self.now q h false f × (f.target ≡ target)) }
+        ensures none { IfNone result ((f : Waiting) → ¬ HelperWaitsBy self.now q h false f) }
+    {
+        if h == 0 {
+            return None;
+        }
+        self.waiting_in(q, h, false)
+    }
+
+    /// The item for whose whole lane a helper waits; nothing where it waits for an item alone, doesn't wait, runs none, or where
+    /// there is no such lane or no such helper.
+    pub fn help_waiting_all(&self, q: LaneId, h: u8) -> Option<ItemId>
+        ensures some { IfSome result (λ target. (f : Waiting) × HelperWaitsBy self.now q h true f × (f.target ≡ target)) }
+        ensures none { IfNone result ((f : Waiting) → ¬ HelperWaitsBy self.now q h true f) }
+    {
+        if h == 0 {
+            return None;
+        }
+        self.waiting_in(q, h, true)
+    }
+
+    /// How many helpers a lane has, at most 8; 0 where there is no such lane.
+    pub fn helpers_of(&self, q: LaneId) -> u8
+        ensures { result ≡ helpers_of self.now.wiring q }
+    {
+        self.core.helpers_of(q)
+    }
+
+    /// Whether there is such a context: the rescuer of a lane, or one of its helpers.
+    pub fn has_context(&self, q: LaneId, helper: u8) -> bool
+        ensures { IsTrue result ↔ HasContext self.now.wiring q helper }
+    {
+        self.core.has_context(q, helper)
     }
 
     /// The lane of an item, where there is such an item.

@@ -5,14 +5,14 @@
 //! each lane, whichever are more.
 
 ghost use Rattle.std.specs.Prelude.{◌≡◌, ◌<◌, ◌≤◌, ◌*◌, ◌↔◌, List, length, slice_index, IfOk, IfErr, IfSome, IsTrue};
-ghost use Rattle.wq_core.specs.Rules.{Lawful};
+ghost use Rattle.wq_core.specs.Rules.{Lawful, deed_item};
 ghost use Rattle.wq_core.specs.Wiring.{items, lane_of};
-ghost use Rattle.wq_core.specs.declared.step.Step.TheVariants.{WaitAll};
+ghost use Rattle.wq_core.specs.declared.step.Step.TheVariants.{WaitAll, Help};
 ghost use Rattle.wq_core.specs.State.{empty_state};
 ghost use Rattle.wq_rows.specs.declared.event.Row.{Row as RowValue};
 ghost use Rattle.wq_rows.specs.Stored.{max_rows};
 ghost use Rattle.wq_history.specs.declared.asking.Subject.{Subject as SubjectValue};
-ghost use Rattle.wq_history.specs.History.{Makes, SaysBusy, MayComeIn};
+ghost use Rattle.wq_history.specs.History.{Makes, SaysBusy, Says, MayComeIn};
 ghost use Rattle.wq_history.specs.Events.{step_of as step_of_event, ask_event, told_event};
 ghost use Rattle.wq_history.specs.Counts.{ask_place};
 ghost use Rattle.wq_history.specs.Judging.{IsJudged, IsFaultAt, stepped, counted};
@@ -22,7 +22,7 @@ use crate::asking::Subject;
 use crate::row_error::{RowError, RowFault};
 use crate::waits::is_busy;
 use std::alloc::Allocator;
-use wq_core::{Core, Step};
+use wq_core::{Core, HelpStep, Step};
 use wq_groups::LaneId;
 use wq_items::ItemId;
 use wq_rows::{Event, ROW_LEN, Row, unpack};
@@ -50,6 +50,18 @@ fn makes<A: Allocator>(core: &Core<A>, step: &Step, number: u32) -> bool
     core.peek(step) == Some(number)
 }
 
+/// Whether this is the answer of a deed.
+fn says<A: Allocator>(core: &Core<A>, deed: &HelpStep, yes: bool) -> bool
+    requires { deed_item deed.now < items core.now.wiring }
+    ensures { IsTrue result ↔ Says core.now.wiring core.now.state deed.now yes }
+{
+    match *deed {
+        HelpStep::Wait(target) => core.has_unfinished(target) == yes,
+        HelpStep::WaitAll(target) => is_busy(core, core.lane_of(target)) == yes,
+        HelpStep::Start(_) | HelpStep::Over(_) | HelpStep::OverAll(_) | HelpStep::Finish(_) => yes,
+    }
+}
+
 /// Whether a wait for the whole lane of an item may come next, with this answer and this number.
 fn may_wait_all<A: Allocator>(
     core: &Core<A>,
@@ -67,6 +79,25 @@ fn may_wait_all<A: Allocator>(
     }
     let busy = is_busy(core, core.lane_of(target));
     busy == yes && makes(core, &Step::WaitAll(q, target), number)
+}
+
+/// Whether a step of a helper may come next, with this answer and this number.
+fn may_help<A: Allocator>(
+    core: &Core<A>,
+    q: LaneId,
+    helper: u8,
+    deed: &HelpStep,
+    yes: bool,
+    number: u32,
+) -> bool
+    requires { core.now.state.next < 4294967295 }
+    ensures { IsTrue result ↔ (Says core.now.wiring core.now.state deed.now yes
+        × Makes core.now.wiring core.now.state (Help q helper deed.now) number) }
+{
+    if usize::from(deed.item().get()) >= core.items() {
+        return false;
+    }
+    says(core, deed, yes) && makes(core, &Step::Help(q, helper, *deed), number)
 }
 
 /// Whether a row may come next, where this many asks about its item or its lane are waiting.
@@ -107,6 +138,7 @@ fn may_come<A: Allocator>(core: &Core<A>, waiting: u32, row: &Row) -> bool
             is_lane(core, q) && is_busy(core, q) == yes && number == core.next_number()
         }
         Event::ToldLane(q) => yes && waiting > 0 && !core.lane_unfinished_below(q, number),
+        Event::Help(q, helper, deed) => may_help(core, q, helper, &deed, yes, number),
     }
 }
 
@@ -123,6 +155,7 @@ fn step_of(event: &Event, yes: bool) -> Option<Step>
         Event::Finish(q, item) => Some(Step::Finish(q, item)),
         Event::WaitAll(q, target) => Some(Step::WaitAll(q, target)),
         Event::OverAll(q, target) => Some(Step::OverAll(q, target)),
+        Event::Help(q, helper, deed) => Some(Step::Help(q, helper, deed)),
         Event::Queue(_)
         | Event::Cancel(_)
         | Event::Ask(_)

@@ -4,7 +4,7 @@
 
 ghost use Rattle.std.specs.Prelude.{◌≡◌, ℕ, ◌<◌, ◌≤◌, ◌↔◌, ◌⊎◌, List, [], ◌∷◌, ◌++◌, length, Bool, true, false, ◌&&◌};
 ghost use Rattle.std.specs.List.{All, count_by};
-ghost use Rattle.wq_core.specs.Wiring.{Wiring, IsWiring};
+ghost use Rattle.wq_core.specs.Wiring.{Wiring, IsWiring, max_helpers};
 ghost use Rattle.wq_core.specs.State.{lane_at, HasUnfinishedBelow, IsBusyBelow};
 ghost use Rattle.wq_core.specs.declared.step.Step.{Step};
 ghost use Rattle.wq_core.specs.Runs.{IsRun, IsRunFrom, IsRescuerStep, IsCancel, is_rescuer_step};
@@ -32,21 +32,22 @@ pub fn the_steps_of_a_legal_history_are_a_run()
     ensures { (w : Wiring) (rows : List Row) → IsLegal w rows → IsRun w (steps_of rows) }
 {}
 
-/// Where an assignment is safe, the state that a legal history leaves isn't stuck.
+/// Where an assignment is safe, the state that a legal history leaves isn't stuck, with at most 8 helpers for each lane.
 pub fn a_legal_history_under_a_safe_assignment_is_not_stuck()
-    ensures { (w : Wiring) (rows : List Row) → IsSafe w → IsLegal w rows → ¬ IsStuck w (state_after w rows) }
+    ensures { (w : Wiring) (rows : List Row) → IsSafe w → w.helpers ≤ max_helpers → IsLegal w rows →
+        ¬ IsStuck w (state_after w rows) }
 {}
 
-/// Where nothing more is queued after a legal history, the rescuers make at most as many steps as there is work left, whatever the
-/// order, and whatever is cancelled in between.
+/// Where nothing more is queued after a legal history, rescuers and helpers make at most as many steps as there is work left,
+/// whatever the order, and whatever is cancelled in between.
 pub fn rescuer_steps_after_a_legal_history_are_bounded()
     ensures { (w : Wiring) (rows : List Row) (more : List Step) → IsLegal w rows →
         All (λ (step : Step). IsRescuerStep step ⊎ IsCancel step) more → IsRunFrom w (state_after w rows) more →
         count_by is_rescuer_step more ≤ work_left w (state_after w rows) }
 {}
 
-/// Some rows need no free row: those of rescuers, of cancellations that remove an entry, and of callers who are told. Where a
-/// history goes on with such rows, there are no more of them than rows are kept.
+/// Some rows need no free row: those of rescuers and helpers, of cancellations that remove an entry, and of callers who are told.
+/// Where a history goes on with such rows, there are no more of them than rows are kept.
 pub fn rows_are_kept_for_all_that_needs_none()
     ensures { (w : Wiring) (rows more : List Row) → IsLegal w (rows ++ more) →
         All (λ (row : Row). rows_needed w row.event row.yes ≡ 0) more → length more ≤ reserved w rows }

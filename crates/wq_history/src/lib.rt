@@ -2,8 +2,8 @@
 //!
 //! What the layer above relies on: the rows of a book are a legal history, and its replay is the state that the book holds. Each
 //! event that takes place appends exactly one row. A refusal appends none, nor does an answer that nothing has happened yet.
-//! Neither a rescuer nor a waiting caller ever lacks a row for what comes next, since rows are kept free for them. Whoever has the
-//! bytes of a history and its machine can judge the history, row by row, from these alone.
+//! Neither a rescuer, nor a helper, nor a waiting caller ever lacks a row for what comes next, since rows are kept free for them.
+//! Whoever has the bytes of a history and its machine can judge the history, row by row, from these alone.
 #![tactic(auto)]
 
 mod ask_counts;
@@ -20,5 +20,5 @@ pub use book::Book;
 pub use fault::BookError;
 pub use judging::check_rows;
 pub use row_error::{RowError, RowFault};
-pub use waits::{over_event, wait_event};
+pub use waits::{event_of, finish_event, over_event, wait_event};
 pub use wq_rows::{Event, MAX_ROWS, Row, Rows, pack, unpack};

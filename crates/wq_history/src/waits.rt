@@ -1,40 +1,66 @@
-//! Waits by their kind: for an item alone, as `flush_work` waits, or for the whole lane of an item, as `flush_workqueue` does.
+//! What contexts do, as events; and waits by their kind: for an item alone, as `flush_work` waits, or for the whole lane of an
+//! item, as `flush_workqueue` does.
 //!
-//! The events of both kinds, and whether anything is unfinished that such a wait would be for. Each call takes constant time.
+//! A context of a lane is its rescuer or one of its helpers. Each call takes constant time.
 
 ghost use Rattle.std.specs.Prelude.{◌≡◌, ◌<◌, ◌↔◌, IsTrue, true, false};
 ghost use Rattle.wq_core.specs.Wiring.{items, lane_of};
 ghost use Rattle.wq_core.specs.State.{lane_at, IsBusy};
 ghost use Rattle.wq_core.specs.Rules.{IsHeldBack};
-ghost use Rattle.wq_history.specs.Events.{wait_event, over_event};
+ghost use Rattle.wq_history.specs.Events.{event_in, wait_event, over_event, finish_event};
 ghost use Rattle.wq_history.specs.History.{SaysUnfinished, SaysBusy};
 
 use std::alloc::Allocator;
-use wq_core::Core;
+use wq_core::{Core, HelpStep};
 use wq_groups::LaneId;
 use wq_items::ItemId;
 use wq_rows::Event;
 
-/// The event of a wait that begins.
-pub fn wait_event(whole: bool, q: LaneId, target: ItemId) -> Event
-    ensures { result ≡ wait_event whole q target }
+/// The event of what a lane's rescuer does.
+fn rescuer_event(q: LaneId, deed: &HelpStep) -> Event
+    ensures { result ≡ event_in q 0 deed.now }
 {
-    if whole {
-        Event::WaitAll(q, target)
-    } else {
-        Event::Wait(q, target)
+    match *deed {
+        HelpStep::Start(item) => Event::Start(q, item),
+        HelpStep::Wait(target) => Event::Wait(q, target),
+        HelpStep::WaitAll(target) => Event::WaitAll(q, target),
+        HelpStep::Over(target) => Event::Over(q, target),
+        HelpStep::OverAll(target) => Event::OverAll(q, target),
+        HelpStep::Finish(item) => Event::Finish(q, item),
     }
 }
 
-/// The event of a wait that is over.
-pub fn over_event(whole: bool, q: LaneId, target: ItemId) -> Event
-    ensures { result ≡ over_event whole q target }
+/// The event of what a context does: the rescuer of a lane, 0, or its helper of this number.
+#[inline(always)]
+pub fn event_of(q: LaneId, helper: u8, deed: &HelpStep) -> Event
+    ensures { result ≡ event_in q helper deed.now }
 {
-    if whole {
-        Event::OverAll(q, target)
+    if helper == 0 {
+        rescuer_event(q, deed)
     } else {
-        Event::Over(q, target)
+        Event::Help(q, helper, *deed)
     }
+}
+
+/// The event of a context's wait that begins.
+pub fn wait_event(whole: bool, q: LaneId, helper: u8, target: ItemId) -> Event
+    ensures { result ≡ wait_event whole q helper target }
+{
+    event_of(q, helper, &HelpStep::wait_of(whole, target))
+}
+
+/// The event of a context's wait that is over.
+pub fn over_event(whole: bool, q: LaneId, helper: u8, target: ItemId) -> Event
+    ensures { result ≡ over_event whole q helper target }
+{
+    event_of(q, helper, &HelpStep::over_of(whole, target))
+}
+
+/// The event of a context that finishes an entry of an item.
+pub fn finish_event(q: LaneId, helper: u8, item: ItemId) -> Event
+    ensures { result ≡ finish_event q helper item }
+{
+    event_of(q, helper, &HelpStep::Finish(item))
 }
 
 /// Whether a lane has an unfinished entry; false where there is no such lane.

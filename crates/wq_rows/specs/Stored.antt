@@ -1,10 +1,12 @@
 -- Stored: the bytes of a history, and the rows that they hold.
-use Rattle.std.specs.Prelude.{◌≡◌, ℕ, ◌*◌, ◌≤◌, ◌==◌, if◌then◌else◌, List, [], ◌∷◌, ◌++◌, length, Option, Some, None, option_map}
+use Rattle.std.specs.Prelude.{◌≡◌, ℕ, zero, suc, ◌*◌, ◌≤◌, ◌==◌, if◌then◌else◌, List, [], ◌∷◌, ◌++◌, length, Option, Some, None, option_map}
 use Rattle.std.specs.Int.{w16, w32, from_le_bytes}
 use Rattle.std.specs.List.{All}
 use Rattle.std.specs.Option.{option_to_list}
+use Rattle.wq_core.specs.declared.step.HelpStep.{HelpStep}
+use Rattle.wq_core.specs.declared.step.HelpStep.TheVariants.{Start as DoStart, Wait as DoWait, WaitAll as DoWaitAll, Over as DoOver, OverAll as DoOverAll, Finish as DoFinish}
 use Rattle.wq_rows.specs.declared.event.Event.{Event}
-use Rattle.wq_rows.specs.declared.event.Event.TheVariants.{Queue, Cancel, Start, Wait, Over, Finish, Ask, Told, WaitAll, OverAll, AskLane, ToldLane}
+use Rattle.wq_rows.specs.declared.event.Event.TheVariants.{Queue, Cancel, Start, Wait, Over, Finish, Ask, Told, WaitAll, OverAll, AskLane, ToldLane, Help}
 use Rattle.wq_rows.specs.declared.event.Row.{Row}
 use Rattle.wq_rows.specs.Packing.{packed_rows, IsPackable, IsRowInRange}
 
@@ -12,7 +14,7 @@ use Rattle.wq_rows.specs.Packing.{packed_rows, IsPackable, IsRowInRange}
 abbrev pub max_rows : ℕ
 max_rows = 16777216
 
--- the event of this kind, item and lane; none if no event is of this kind
+-- the event of this kind, item and lane, which isn't a helper's; none if no event is of this kind
 abbrev pub event_of : ℕ → ℕ → ℕ → Option Event
 event_of kind item lane =
     if kind == 1 then Some (Queue item)
@@ -29,13 +31,29 @@ event_of kind item lane =
     else if kind == 12 then Some (ToldLane lane)
     else None
 
+-- the step of a helper of this kind and item; none if no such step is of this kind
+abbrev pub help_step_of : ℕ → ℕ → Option HelpStep
+help_step_of kind item =
+    if kind == 3 then Some (DoStart item)
+    else if kind == 4 then Some (DoWait item)
+    else if kind == 5 then Some (DoOver item)
+    else if kind == 6 then Some (DoFinish item)
+    else if kind == 9 then Some (DoWaitAll item)
+    else if kind == 10 then Some (DoOverAll item)
+    else None
+
+-- the event of this kind, item, lane and helper, 0 for none; none if no such event is of this kind
+abbrev pub event_by : ℕ → ℕ → ℕ → ℕ → Option Event
+event_by kind item lane zero = event_of kind item lane
+event_by kind item lane (suc h) = option_map (λ step. Help lane (suc h) step) (help_step_of kind item)
+
 -- the rows that some bytes hold, 12 bytes each. This is meant for bytes that hold rows. From others it reads what it can: 12
 -- bytes that don't begin with a kind aren't a row, nor are fewer than 12 bytes at the end
 abbrev pub rows_of : List ℕ → List Row
-rows_of (kind ∷ answer ∷ item0 ∷ item1 ∷ lane0 ∷ lane1 ∷ spare0 ∷ spare1 ∷ number0 ∷ number1 ∷ number2 ∷ number3 ∷ rest) =
+rows_of (kind ∷ answer ∷ item0 ∷ item1 ∷ lane0 ∷ lane1 ∷ helper ∷ spare ∷ number0 ∷ number1 ∷ number2 ∷ number3 ∷ rest) =
     option_to_list (option_map
     (λ event. record { event = event; yes = answer == 1; number = from_le_bytes w32 (number0 ∷ number1 ∷ number2 ∷ number3 ∷ []) })
-    (event_of kind (from_le_bytes w16 (item0 ∷ item1 ∷ [])) (from_le_bytes w16 (lane0 ∷ lane1 ∷ []))))
+    (event_by kind (from_le_bytes w16 (item0 ∷ item1 ∷ [])) (from_le_bytes w16 (lane0 ∷ lane1 ∷ [])) helper))
     ++ rows_of rest
 rows_of _ = []
 

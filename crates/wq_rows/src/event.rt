@@ -1,24 +1,25 @@
 //! Events, and the rows that record them.
 //!
-//! Queue, Cancel, Start, Wait, Over, WaitAll, OverAll and Finish record steps of the machine, or that no step was due. Ask and
-//! Told record a flush of an item from outside a workqueue: a caller asks whether the item has an unfinished entry, and is told
+//! Queue, Cancel, Start, Wait, Over, WaitAll, OverAll, Finish and Help record steps of the machine, or that no step was due. Ask
+//! and Told record a flush of an item from outside a workqueue: a caller asks whether the item has an unfinished entry, and is told
 //! once each entry that it waits for is finished (`flush_work` in kernel/workqueue.c). AskLane and ToldLane record the same of a
 //! whole workqueue (`flush_workqueue` there). Nothing is computed here.
 
 ghost use Rattle.std.specs.Prelude.{◌≡◌};
-ghost use Rattle.wq_rows.specs.Packing.{kind_of, item_in, lane_in};
+ghost use Rattle.wq_rows.specs.Packing.{help_kind as help_kind_of, kind_of, item_in, lane_in, helper_in};
 
+use wq_core::HelpStep;
 use wq_groups::LaneId;
 use wq_items::ItemId;
 
-/// What happened.
+/// What happened. Start, Wait, Over, WaitAll, OverAll and Finish are the rescuer's; Help is the same of a helper.
 #[derive(Clone, Copy, Debug, PartialEq, Eq)]
 pub enum Event {
     /// The item was to be queued.
     Queue(ItemId),
     /// The pending entry of the item was to be removed.
     Cancel(ItemId),
-    /// The lane started its first pending entry, which is of this item.
+    /// The lane started its first pending entry whose item wasn't running, which is of this item.
     Start(LaneId, ItemId),
     /// What the lane runs began to wait for this item.
     Wait(LaneId, ItemId),
@@ -38,6 +39,8 @@ pub enum Event {
     AskLane(LaneId),
     /// A caller that waited for the whole lane was told that its wait is over.
     ToldLane(LaneId),
+    /// A helper of the lane made this step, with what it runs. The helpers of a lane are numbered from 1, and at most 8.
+    Help(LaneId, u8, HelpStep),
 }
 
 /// A row of a history: what happened, and the outcome.
@@ -46,16 +49,32 @@ pub struct Row {
     /// What happened.
     pub event: Event,
     /// For Queue, whether the item was accepted; for Cancel, whether an entry was removed; for Wait and Ask, whether the item had
-    /// an unfinished entry; for WaitAll, whether the lane of the item had one; for AskLane, whether the lane had one; for all
-    /// others true.
+    /// an unfinished entry; for WaitAll, whether the lane of the item had one; for AskLane, whether the lane had one; for a
+    /// helper's step what it is for the rescuer's; for all others true.
     pub yes: bool,
     /// The number of the entry that was queued, removed, started or finished; the mark of a wait or an ask. 0 where nothing was
     /// queued or removed.
     pub number: u32,
 }
 
+/// The number of the kind of a helper's step: that of the same step of the rescuer.
+#[inline(always)]
+fn help_kind(step: &HelpStep) -> u8
+    ensures { result ≡ help_kind_of step.now }
+{
+    match step {
+        HelpStep::Start(_) => 3,
+        HelpStep::Wait(_) => 4,
+        HelpStep::Over(_) => 5,
+        HelpStep::Finish(_) => 6,
+        HelpStep::WaitAll(_) => 9,
+        HelpStep::OverAll(_) => 10,
+    }
+}
+
 impl Event {
-    /// The number of its kind.
+    /// The number of its kind. A helper's step has the kind of the rescuer's.
+    #[inline(always)]
     pub(crate) fn kind(&self) -> u8
         ensures { result ≡ kind_of self.now }
     {
@@ -72,11 +91,13 @@ impl Event {
             Event::OverAll(..) => 10,
             Event::AskLane(_) => 11,
             Event::ToldLane(_) => 12,
+            Event::Help(_, _, step) => help_kind(step),
         }
     }
 
-    /// Its item. For Wait, Over, WaitAll and OverAll that is the target of the wait. AskLane and ToldLane have none: for them it is
+    /// Its item. For a wait and its end that is the target of the wait. AskLane and ToldLane have none: for them it is
     /// item 0, which says nothing.
+    #[inline(always)]
     pub fn item(&self) -> ItemId
         ensures { result ≡ item_in self.now }
     {
@@ -92,10 +113,12 @@ impl Event {
             Event::WaitAll(_, target) => target,
             Event::OverAll(_, target) => target,
             Event::AskLane(_) | Event::ToldLane(_) => ItemId::new(0),
+            Event::Help(_, _, step) => step.item(),
         }
     }
 
     /// The number of its lane; 0 where it has none.
+    #[inline(always)]
     pub(crate) fn lane(&self) -> u16
         ensures { result ≡ lane_in self.now }
     {
@@ -107,8 +130,20 @@ impl Event {
             | Event::WaitAll(lane, _)
             | Event::OverAll(lane, _)
             | Event::AskLane(lane)
-            | Event::ToldLane(lane) => lane.get(),
+            | Event::ToldLane(lane)
+            | Event::Help(lane, _, _) => lane.get(),
             Event::Queue(_) | Event::Cancel(_) | Event::Ask(_) | Event::Told(_) => 0,
+        }
+    }
+
+    /// The number of the helper that made its step; 0 where none did.
+    #[inline(always)]
+    pub(crate) fn helper(&self) -> u8
+        ensures { result ≡ helper_in self.now }
+    {
+        match *self {
+            Event::Help(_, helper, _) => helper,
+            _ => 0,
         }
     }
 }

@@ -47,6 +47,7 @@ impl<A: Allocator> History<A> {
     }
 
     /// Adds a row after the others. It takes no memory.
+    #[inline(always)]
     pub fn push(&mut self, row: &Row)
         requires packable { IsPackable row.now }
         requires room { length self.old.rows < self.old.room }

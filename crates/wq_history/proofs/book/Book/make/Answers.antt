@@ -5,7 +5,17 @@ use Rattle.wq_history.specs.History.{MayCome}
 use Rattle.wq_history.specs.Reserve.{rows_needed}
 use Rattle.wq_history.specs.Book.{BookView, state, free}
 use Rattle.wq_history.proofs.Holding.{HoldsBook-made, HoldsBook-read, room_for_step}
+use Rattle.wq_history.proofs.Deeds.{may-packable}
 use Rattle.wq_history.proofs.book.Book.make.Goals as goal
+
+pub push-requires-clause-packable : goal.push-requires-clause-packable
+push-requires-clause-packable g c =
+    let b = c.self.inside in
+    let done = c.in-Ok.ensures.done in
+    let replayed = subst (λ (s : State). Gives s c.args.step.now c.in-Ok.number) c.self.invariant.replays.replay done.gives in
+    let gives = subst (λ (x : BookView). Gives (state x) c.args.step.now c.in-Ok.number) c.self.view_is replayed in
+    let may = subst (λ (x : BookView). MayCome x.wiring x.rows c.args.event c.args.yes c.in-Ok.number) (sym c.self.view_is) (c.requires.may c.in-Ok.number gives) in
+    may-packable b.core.wiring b.history.rows c.args.event c.args.yes c.in-Ok.number c.self.invariant.replays.machine_is.few_helpers may
 
 pub push-requires-clause-room : goal.push-requires-clause-room
 push-requires-clause-room g c =

@@ -5,7 +5,14 @@ use Rattle.wq_history.specs.Reserve.{free_rows, rows_needed}
 use Rattle.wq_history.specs.Book.{BookView, free}
 use Rattle.wq_history.proofs.Counting.{IsNobodys-nothing, CountsAsks-same}
 use Rattle.wq_history.proofs.Holding.{free_rows-noted, HoldsBook-noted, HoldsBook-read, not_told, needs_a_row}
+use Rattle.wq_history.proofs.Deeds.{may-packable}
 use Rattle.wq_history.proofs.book.Book.note.Goals as goal
+
+pub push-requires-clause-packable : goal.push-requires-clause-packable
+push-requires-clause-packable g c =
+    let b = c.self.inside in
+    let may = subst (λ (x : BookView). MayCome x.wiring x.rows c.args.event false c.args.number) (sym c.self.view_is) c.requires.may in
+    may-packable b.core.wiring b.history.rows c.args.event false c.args.number c.self.invariant.replays.machine_is.few_helpers may
 
 pub invariant_of-self : goal.invariant_of-self
 invariant_of-self g c =
