@@ -134,7 +134,7 @@ module _ (names : List (List ℕ)) (line : CertLine) where
         broken OutOfMemory h = absurd h
 
     step_said : (step : Step) → SpellsStep names line.words step → step_form names line.words ≡ Some step
-    step_said step said = ap (step_form names) said.words_are ∙ step_form-line names differ step said.known said.fits
+    step_said step said = ap (step_form names) said.words_are ∙ step_form-line names differ step said.known said.no_help said.fits
 
     step_judged : IsJudged line (Breaks StepLine) (KeepsLine names StepLine line) (step_reading names)
     step_judged = record {
@@ -142,7 +142,7 @@ module _ (names : List (List ℕ)) (line : CertLine) where
       kept = λ keeps.
           let step = keeps.0.0 in
           let near : names_far_lane step ≡ false = names_far_lane-near step (λ far. keeps.1 (step, keeps.0.1, far)) in
-          (step, (IsReadBy-step names differ).said line step keeps.0.1.words_are (keeps.0.1.known, near));
+          (step, (IsReadBy-step names differ).said line step keeps.0.1.words_are (keeps.0.1.known, near, keeps.0.1.no_help));
     }
       where
         broken : (fault : CertError) → Breaks StepLine fault → step_reading names line ≡ Err fault

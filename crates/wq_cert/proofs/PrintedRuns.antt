@@ -8,7 +8,7 @@ use Rattle.std.proofs.lemmas.List.{length-map}
 use Rattle.std.proofs.lemmas.List.Elements.{All-head, All-tail}
 use Rattle.wq_items.specs.Table.{Table, IsTable}
 use Rattle.wq_core.specs.declared.step.Step.{Step}
-use Rattle.wq_core.specs.declared.step.Step.TheVariants.{Queue, Cancel, Start, Wait, Over, WaitAll, OverAll, Finish}
+use Rattle.wq_core.specs.declared.step.Step.TheVariants.{Queue, Cancel, Start, Wait, Over, WaitAll, OverAll, Finish, Help}
 use Rattle.wq_cert.specs.PlanText.{name_of}
 use Rattle.wq_cert.specs.Ranges.{IsStepOf}
 use Rattle.wq_cert.specs.RunText.{step_line, run_lines, run_text}
@@ -35,6 +35,7 @@ module _ (t : Table) (table : IsTable t) where
   IsPrintableLine-step (WaitAll q b) h = IsPrintableLine-lane (codes "waitwq") q b (IsPrintable-keyword (codes "waitwq") refl (omega arith) (omega arith)) (ltb-false 4095 q h.1) h.0
   IsPrintableLine-step (OverAll q b) h = IsPrintableLine-lane (codes "overwq") q b (IsPrintable-keyword (codes "overwq") refl (omega arith) (omega arith)) (ltb-false 4095 q h.1) h.0
   IsPrintableLine-step (Finish q i) h = IsPrintableLine-lane (codes "finish") q i (IsPrintable-keyword (codes "finish") refl (omega arith) (omega arith)) (ltb-false 4095 q h.1) h.0
+  IsPrintableLine-step (Help q helper deed) h = absurd (h.2 tt)
 
   IsPrintableLine-steps : (steps : List Step) → All (IsStepOf (length t.names)) steps → AllByRecursion IsPrintableLine (map (step_line t.names) steps)
   IsPrintableLine-steps [] h = tt

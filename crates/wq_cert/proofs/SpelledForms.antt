@@ -7,7 +7,8 @@ use Rattle.std.proofs.lemmas.Bool.{ltb-false, lt-ltb, le-ltb}
 use Rattle.wq_items.specs.Table.{item_named}
 use Rattle.wq_groups.proofs.Among.{same_name, bytes_eq-same}
 use Rattle.wq_core.specs.declared.step.Step.{Step}
-use Rattle.wq_core.specs.declared.step.Step.TheVariants.{Queue, Cancel, Start, Wait, Over, WaitAll, OverAll, Finish}
+use Rattle.wq_core.specs.declared.step.Step.TheVariants.{Queue, Cancel, Start, Wait, Over, WaitAll, OverAll, Finish, Help}
+use Rattle.wq_core.specs.Runs.{IsHelp}
 use Rattle.wq_cert.specs.Forms.{number_of, items_of, count_form, wq_form, arc_form, item_step, lane_step, step_form}
 use Rattle.wq_cert.specs.PlanText.{name_of, workqueue_line}
 use Rattle.wq_cert.specs.RunText.{item_in, step_line}
@@ -90,9 +91,10 @@ arc_form-SpellsArc names words differ arc line =
 abbrev pub IsNumbered : Step → Type 0
 IsNumbered step = IfSome (lane_in step) (λ q. q < 2 ^ 32)
 
-SpellsStep-at : (names words others : List (List ℕ)) (step other : Step) → words ≡ others → other ≡ step → others ≡ step_line names other → item_in other < length names → IsNumbered other → SpellsStep names words step
-SpellsStep-at names words others step other same is line known fits =
-    subst (SpellsStep names words) is (record { words_are = same ∙ line; known = known; fits = fits })
+SpellsStep-at : (names words others : List (List ℕ)) (step other : Step) → words ≡ others → other ≡ step → others ≡ step_line names other → item_in other < length names → (¬ IsHelp other) → IsNumbered other
+    → SpellsStep names words step
+SpellsStep-at names words others step other same is line known own fits =
+    subst (SpellsStep names words) is (record { words_are = same ∙ line; known = known; no_help = own; fits = fits })
 
 module _ (names : List (List ℕ)) (i : ℕ) (known : i < length names) where
   item_line : (word : List ℕ) (step : Step) → item_step word i ≡ Some step → SpellsStep names (word ∷ name_of names i ∷ []) step
@@ -100,9 +102,9 @@ module _ (names : List (List ℕ)) (i : ℕ) (known : i < length names) where
       let words : List ℕ → List (List ℕ) = λ w. w ∷ name_of names i ∷ [] in
       let rest : Option Step = cond (bytes_eq word (codes "cancel")) (Some (Cancel i)) None in
       elim (one_of (bytes_eq word (codes "queue")) (Queue i) step rest e) [
-        | inl (here, is) ↦ SpellsStep-at names (words word) (words (codes "queue")) step (Queue i) (ap words (same_name word (codes "queue") here)) is refl known tt
+        | inl (here, is) ↦ SpellsStep-at names (words word) (words (codes "queue")) step (Queue i) (ap words (same_name word (codes "queue") here)) is refl known (λ h. h) tt
         | inr later ↦ elim (one_of (bytes_eq word (codes "cancel")) (Cancel i) step None later) [
-          | inl (here, is) ↦ SpellsStep-at names (words word) (words (codes "cancel")) step (Cancel i) (ap words (same_name word (codes "cancel") here)) is refl known tt
+          | inl (here, is) ↦ SpellsStep-at names (words word) (words (codes "cancel")) step (Cancel i) (ap words (same_name word (codes "cancel") here)) is refl known (λ h. h) tt
           | inr none ↦ absurd (cc)
         ]
       ]
@@ -116,17 +118,17 @@ module _ (names : List (List ℕ)) (i : ℕ) (known : i < length names) where
       let over : Option Step = cond (bytes_eq word (codes "over")) (Some (Over q i)) waitwq in
       let wait : Option Step = cond (bytes_eq word (codes "wait")) (Some (Wait q i)) over in
       elim (one_of (bytes_eq word (codes "start")) (Start q i) step wait e) [
-        | inl (here, is) ↦ SpellsStep-at names (words word) (words (codes "start")) step (Start q i) (ap words (same_name word (codes "start") here)) is refl known fits
+        | inl (here, is) ↦ SpellsStep-at names (words word) (words (codes "start")) step (Start q i) (ap words (same_name word (codes "start") here)) is refl known (λ h. h) fits
         | inr a ↦ elim (one_of (bytes_eq word (codes "wait")) (Wait q i) step over a) [
-          | inl (here, is) ↦ SpellsStep-at names (words word) (words (codes "wait")) step (Wait q i) (ap words (same_name word (codes "wait") here)) is refl known fits
+          | inl (here, is) ↦ SpellsStep-at names (words word) (words (codes "wait")) step (Wait q i) (ap words (same_name word (codes "wait") here)) is refl known (λ h. h) fits
           | inr b ↦ elim (one_of (bytes_eq word (codes "over")) (Over q i) step waitwq b) [
-            | inl (here, is) ↦ SpellsStep-at names (words word) (words (codes "over")) step (Over q i) (ap words (same_name word (codes "over") here)) is refl known fits
+            | inl (here, is) ↦ SpellsStep-at names (words word) (words (codes "over")) step (Over q i) (ap words (same_name word (codes "over") here)) is refl known (λ h. h) fits
             | inr d ↦ elim (one_of (bytes_eq word (codes "waitwq")) (WaitAll q i) step overwq d) [
-              | inl (here, is) ↦ SpellsStep-at names (words word) (words (codes "waitwq")) step (WaitAll q i) (ap words (same_name word (codes "waitwq") here)) is refl known fits
+              | inl (here, is) ↦ SpellsStep-at names (words word) (words (codes "waitwq")) step (WaitAll q i) (ap words (same_name word (codes "waitwq") here)) is refl known (λ h. h) fits
               | inr f ↦ elim (one_of (bytes_eq word (codes "overwq")) (OverAll q i) step finish f) [
-                | inl (here, is) ↦ SpellsStep-at names (words word) (words (codes "overwq")) step (OverAll q i) (ap words (same_name word (codes "overwq") here)) is refl known fits
+                | inl (here, is) ↦ SpellsStep-at names (words word) (words (codes "overwq")) step (OverAll q i) (ap words (same_name word (codes "overwq") here)) is refl known (λ h. h) fits
                 | inr g ↦ elim (one_of (bytes_eq word (codes "finish")) (Finish q i) step None g) [
-                  | inl (here, is) ↦ SpellsStep-at names (words word) (words (codes "finish")) step (Finish q i) (ap words (same_name word (codes "finish") here)) is refl known fits
+                  | inl (here, is) ↦ SpellsStep-at names (words word) (words (codes "finish")) step (Finish q i) (ap words (same_name word (codes "finish") here)) is refl known (λ h. h) fits
                   | inr none ↦ absurd (cc)
                 ]
               ]
@@ -141,7 +143,7 @@ chained f None y e = absurd cc
 chained f (Some x) y e = (x, refl, e)
 
 SpellsStep-words : (names words others : List (List ℕ)) (step : Step) → words ≡ others → SpellsStep names others step → SpellsStep names words step
-SpellsStep-words names words others step same line = record { words_are = same ∙ line.words_are; known = line.known; fits = line.fits }
+SpellsStep-words names words others step same line = record { words_are = same ∙ line.words_are; known = line.known; no_help = line.no_help; fits = line.fits }
 
 pub SpellsStep-step_form : (names words : List (List ℕ)) (step : Step) → step_form names words ≡ Some step → SpellsStep names words step
 SpellsStep-step_form names [] step e = absurd cc
@@ -172,15 +174,16 @@ module _ (names : List (List ℕ)) (differ : AllPairs (λ (a b : List ℕ). a �
         right = item_named-name_of names differ i known;
       }))
 
-  pub step_form-line : (step : Step) → item_in step < length names → IsNumbered step → step_form names (step_line names step) ≡ Some step
-  step_form-line (Queue i) known fits = item_said (codes "queue") i known
-  step_form-line (Cancel i) known fits = item_said (codes "cancel") i known
-  step_form-line (Start q i) known fits = lane_said (codes "start") q i known fits
-  step_form-line (Wait q b) known fits = lane_said (codes "wait") q b known fits
-  step_form-line (Over q b) known fits = lane_said (codes "over") q b known fits
-  step_form-line (WaitAll q b) known fits = lane_said (codes "waitwq") q b known fits
-  step_form-line (OverAll q b) known fits = lane_said (codes "overwq") q b known fits
-  step_form-line (Finish q i) known fits = lane_said (codes "finish") q i known fits
+  pub step_form-line : (step : Step) → item_in step < length names → (¬ IsHelp step) → IsNumbered step → step_form names (step_line names step) ≡ Some step
+  step_form-line (Queue i) known own fits = item_said (codes "queue") i known
+  step_form-line (Cancel i) known own fits = item_said (codes "cancel") i known
+  step_form-line (Start q i) known own fits = lane_said (codes "start") q i known fits
+  step_form-line (Wait q b) known own fits = lane_said (codes "wait") q b known fits
+  step_form-line (Over q b) known own fits = lane_said (codes "over") q b known fits
+  step_form-line (WaitAll q b) known own fits = lane_said (codes "waitwq") q b known fits
+  step_form-line (OverAll q b) known own fits = lane_said (codes "overwq") q b known fits
+  step_form-line (Finish q i) known own fits = lane_said (codes "finish") q i known fits
+  step_form-line (Help q h deed) known own fits = absurd (own tt)
 
 -- a workqueue that isn't above 4,095 is a number
 pub IsNumbered-near : (step : Step) → names_far_lane step ≡ false → IsNumbered step
@@ -192,6 +195,7 @@ IsNumbered-near (Over q b) near = omega (arith, ltb-false 4095 q near)
 IsNumbered-near (WaitAll q b) near = omega (arith, ltb-false 4095 q near)
 IsNumbered-near (OverAll q b) near = omega (arith, ltb-false 4095 q near)
 IsNumbered-near (Finish q i) near = omega (arith, ltb-false 4095 q near)
+IsNumbered-near (Help q h deed) near = omega (arith, ltb-false 4095 q near)
 
 -- a step that names no workqueue above 4,095
 pub names_far_lane-near : (step : Step) → (IsSomeAnd (lane_in step) (λ q. 4095 < q) → ⊥) → names_far_lane step ≡ false
@@ -203,6 +207,7 @@ names_far_lane-near (Over q b) near = le-ltb 4095 q (omega (arith, near))
 names_far_lane-near (WaitAll q b) near = le-ltb 4095 q (omega (arith, near))
 names_far_lane-near (OverAll q b) near = le-ltb 4095 q (omega (arith, near))
 names_far_lane-near (Finish q i) near = le-ltb 4095 q (omega (arith, near))
+names_far_lane-near (Help q h deed) near = le-ltb 4095 q (omega (arith, near))
 
 pub names_far_lane-far : (step : Step) → IsSomeAnd (lane_in step) (λ q. 4095 < q) → names_far_lane step ≡ true
 names_far_lane-far (Queue i) far = absurd far
@@ -213,3 +218,4 @@ names_far_lane-far (Over q b) far = lt-ltb 4095 q far
 names_far_lane-far (WaitAll q b) far = lt-ltb 4095 q far
 names_far_lane-far (OverAll q b) far = lt-ltb 4095 q far
 names_far_lane-far (Finish q i) far = lt-ltb 4095 q far
+names_far_lane-far (Help q h deed) far = lt-ltb 4095 q far

@@ -254,7 +254,9 @@ module _ (names : List (List ℕ)) where
   pub Shows-step : Shows (step_reading names) (step_line names) (IsStepOf (length names))
   Shows-step = record {
     words_are = λ line step e. (SpellsStep-step_form names line.words step (step_found line step e).0).words_are;
-    holds = λ line step e. ((SpellsStep-step_form names line.words step (step_found line step e).0).known, (step_found line step e).1);
+    holds = λ line step e.
+        let said = SpellsStep-step_form names line.words step (step_found line step e).0 in
+        (said.known, (step_found line step e).1, said.no_help);
   }
 
   module _ (differ : AllPairs (λ (a b : List ℕ). a ≢ b) names) where
@@ -267,6 +269,6 @@ module _ (names : List (List ℕ)) where
     pub IsReadBy-step : IsReadBy (step_reading names) (step_line names) (IsStepOf (length names))
     IsReadBy-step = record {
       said = λ line step words known.
-          ap (λ (o : Option Step). and_then (near_step line.no) (ok_or o (BadCertLine line.no))) (ap (step_form names) words ∙ step_form-line names differ step known.0 (IsNumbered-near step known.1))
+          ap (λ (o : Option Step). and_then (near_step line.no) (ok_or o (BadCertLine line.no))) (ap (step_form names) words ∙ step_form-line names differ step known.0 known.2 (IsNumbered-near step known.1))
           ∙ ap (λ (b : Bool). cond b (Err (NumberOutOfRange line.no)) (Ok step)) known.1;
     }

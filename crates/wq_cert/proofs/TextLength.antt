@@ -14,7 +14,7 @@ use Rattle.std.specs.Option.{option_map_or}
 use Rattle.std.specs.Prelude.{IsTrue, codes, decimal, filter, flat_map}
 use Rattle.wq_items.specs.Names.{is_name}
 use Rattle.wq_core.specs.declared.step.Step.{Step}
-use Rattle.wq_core.specs.declared.step.Step.TheVariants.{Queue, Cancel, Start, Wait, Over, WaitAll, OverAll, Finish}
+use Rattle.wq_core.specs.declared.step.Step.TheVariants.{Queue, Cancel, Start, Wait, Over, WaitAll, OverAll, Finish, Help}
 use Rattle.wq_lines.specs.LineText.{spaced, line_text}
 use Rattle.wq_items.specs.Table.{items_at}
 use Rattle.wq_cert.specs.PlanText.{name_of, plan_line, wq_line, chain_line, arc_line, plan_text}
@@ -162,6 +162,7 @@ module _ (names : List (List ℕ)) (named : All (λ (name : List ℕ). IsTrue (i
   length-step_line (WaitAll q b) near = length-lane_step (codes "waitwq") q b (omega arith) (ltb-false 4095 q near)
   length-step_line (OverAll q b) near = length-lane_step (codes "overwq") q b (omega arith) (ltb-false 4095 q near)
   length-step_line (Finish q i) near = length-lane_step (codes "finish") q i (omega arith) (ltb-false 4095 q near)
+  length-step_line (Help q h deed) near = omega arith
 
   length-step_lines : (steps : List Step) → All (IsStepOf (length names)) steps → length (flat_map line_text (map (step_line names) steps)) ≤ 76 * length steps
   length-step_lines [] each = omega arith

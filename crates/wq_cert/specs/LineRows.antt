@@ -5,7 +5,8 @@ use Rattle.std.specs.List.{All}
 use Rattle.wq_groups.specs.Partition.{Partition}
 use Rattle.wq_groups.specs.Assignment.{max_lanes}
 use Rattle.wq_core.specs.declared.step.Step.{Step}
-use Rattle.wq_core.specs.declared.step.Step.TheVariants.{Queue, Cancel, Start, Wait, Over, WaitAll, OverAll, Finish}
+use Rattle.wq_core.specs.declared.step.Step.TheVariants.{Queue, Cancel, Start, Wait, Over, WaitAll, OverAll, Finish, Help}
+use Rattle.wq_core.specs.Runs.{IsHelp}
 use Rattle.wq_cert.specs.declared.fault.CertError.{CertError}
 use Rattle.wq_cert.specs.declared.fault.CertError.TheVariants.{BadCertLine, NotAllItems, GroupSplit, NumberOutOfRange, OutOfMemory}
 use Rattle.wq_cert.specs.CircleText.{circle_line}
@@ -51,11 +52,13 @@ lane_in (Over q b) = Some q
 lane_in (WaitAll q b) = Some q
 lane_in (OverAll q b) = Some q
 lane_in (Finish q i) = Some q
+lane_in (Help q h deed) = Some q
 
--- the words are those of a step of a declared item, whose workqueue, if it names one, is a number
+-- the words are those of a step of a declared item, whose workqueue, if it names one, is a number; no helper makes the step
 pub record SpellsStep (names words : List (List ℕ)) (step : Step) : Type 0 where
   pub words_are : words ≡ step_line names step
   pub known : item_in step < length names
+  pub no_help : ¬ IsHelp step
   pub fits : IfSome (lane_in step) (λ q. q < 2 ^ 32)
 
 -- the words have the form: the keyword, and numbers and declared items in their places

@@ -7,7 +7,7 @@ use Rattle.wq_items.specs.Building.{and_then}
 use Rattle.wq_groups.specs.Partition.{Partition}
 use Rattle.wq_groups.specs.Assignment.{Assignment, max_lanes}
 use Rattle.wq_core.specs.declared.step.Step.{Step}
-use Rattle.wq_core.specs.declared.step.Step.TheVariants.{Queue, Cancel, Start, Wait, Over, WaitAll, OverAll, Finish}
+use Rattle.wq_core.specs.declared.step.Step.TheVariants.{Queue, Cancel, Start, Wait, Over, WaitAll, OverAll, Finish, Help}
 use Rattle.wq_cert.specs.declared.fault.CertError.{CertError}
 use Rattle.wq_cert.specs.declared.fault.CertError.TheVariants.{BadCertLine, NotAllItems, GroupSplit, NumberOutOfRange}
 use Rattle.wq_cert.specs.Certificate.{PlanCertificate, CircleCertificate, Certificate, OfPlan, OfCircle}
@@ -65,6 +65,7 @@ names_far_lane (Over q b) = nat_lt 4095 q
 names_far_lane (WaitAll q b) = nat_lt 4095 q
 names_far_lane (OverAll q b) = nat_lt 4095 q
 names_far_lane (Finish q i) = nat_lt 4095 q
+names_far_lane (Help q h deed) = nat_lt 4095 q
 
 -- the step that the line with this number says, if it says one and names no workqueue above 4,095
 abbrev pub step_in_range : ℕ → Option Step → Result Step CertError

@@ -1,7 +1,8 @@
 -- Run texts: the steps of a run, one on each line.
 use Rattle.std.specs.Prelude.{ℕ, List, [], ◌∷◌, length, map, flat_map, codes, decimal}
 use Rattle.wq_core.specs.declared.step.Step.{Step}
-use Rattle.wq_core.specs.declared.step.Step.TheVariants.{Queue, Cancel, Start, Wait, Over, WaitAll, OverAll, Finish}
+use Rattle.wq_core.specs.declared.step.Step.TheVariants.{Queue, Cancel, Start, Wait, Over, WaitAll, OverAll, Finish, Help}
+use Rattle.wq_core.specs.Rules.{deed_item}
 use Rattle.wq_lines.specs.LineText.{line_text}
 use Rattle.wq_cert.specs.PlanText.{name_of}
 
@@ -9,7 +10,8 @@ use Rattle.wq_cert.specs.PlanText.{name_of}
 abbrev pub run_line : List Step → List (List ℕ)
 run_line steps = codes "run" ∷ decimal (length steps) ∷ []
 
--- the line of a step: its word, the workqueue of a rescuer's step, and the name of the item
+-- the line of a step: its word, the workqueue of a rescuer's step, and the name of the item; a helper's step has no words, since
+-- it is in no run text
 abbrev pub step_line : List (List ℕ) → Step → List (List ℕ)
 step_line names (Queue i) = codes "queue" ∷ name_of names i ∷ []
 step_line names (Cancel i) = codes "cancel" ∷ name_of names i ∷ []
@@ -19,6 +21,7 @@ step_line names (Over q b) = codes "over" ∷ decimal q ∷ name_of names b ∷ 
 step_line names (WaitAll q b) = codes "waitwq" ∷ decimal q ∷ name_of names b ∷ []
 step_line names (OverAll q b) = codes "overwq" ∷ decimal q ∷ name_of names b ∷ []
 step_line names (Finish q i) = codes "finish" ∷ decimal q ∷ name_of names i ∷ []
+step_line names (Help q h deed) = []
 
 -- the lines of a run text, as words
 abbrev pub run_lines : List (List ℕ) → List Step → List (List (List ℕ))
@@ -38,3 +41,4 @@ item_in (Over q b) = b
 item_in (WaitAll q b) = b
 item_in (OverAll q b) = b
 item_in (Finish q i) = i
+item_in (Help q h deed) = deed_item deed

@@ -5,6 +5,7 @@
 ghost use Rattle.std.specs.Prelude.{◌≡◌, ◌<◌, ◌++◌, ◌^◌, ℕ, length, OnOk, IfOk, IfSome, option_copied};
 ghost use Rattle.std.specs.List.{All};
 ghost use Rattle.wq_core.specs.declared.step.Step.{Step};
+ghost use Rattle.wq_core.specs.Runs.{HasNoHelp};
 ghost use Rattle.wq_lines.specs.LineText.{line_text};
 ghost use Rattle.wq_cert.specs.CircleText.{circle_line, circle_text};
 ghost use Rattle.wq_cert.specs.RunText.{item_in};
@@ -50,7 +51,7 @@ fn put_circle<A: Allocator + Copy>(
 /// there is one.
 ///
 /// There are fewer than 4,294,967,296 arcs, each from an item of the table to one of it, and fewer than 4,294,967,296 steps, each
-/// of an item of the table. The only error is out of memory (20).
+/// of an item of the table and none of a helper. The only error is out of memory (20).
 pub fn circle_text<A: Allocator + Copy>(
     alloc: A,
     table: &ItemTable<'_, A>,
@@ -61,6 +62,7 @@ pub fn circle_text<A: Allocator + Copy>(
     requires items { All (λ (arc : ℕ × ℕ). (arc.0 < length table.now.names) × (arc.1 < length table.now.names)) arcs.now }
     requires few_steps { IfSome steps (λ run. length run.now < 2 ^ 32) }
     requires step_items { IfSome steps (λ run. All (λ (step : Step). item_in step < length table.now.names) run.now) }
+    requires no_help { IfSome steps (λ run. HasNoHelp run.now) }
     ensures { IfOk result (λ text. text.items ≡ circle_text table.now.names arcs.now (option_copied steps.entry)) }
 {
     let mut out = Vec::new(alloc);

@@ -1,10 +1,12 @@
 //! Run texts: the steps of a run, one on each line.
 //!
-//! The format is that of "Run texts" in docs/FORMAT.md. Printing takes time and memory in the length of the text.
+//! The format is that of "Run texts" in docs/FORMAT.md. No step is a helper's. Printing takes time and memory in the length of the
+//! text.
 
 ghost use Rattle.std.specs.Prelude.{◌≡◌, ◌<◌, ◌++◌, ◌∷◌, [], ◌^◌, ℕ, length, flat_map, decimal, OnOk, IfOk};
 ghost use Rattle.std.specs.List.{All};
 ghost use Rattle.wq_core.specs.declared.step.Step.{Step};
+ghost use Rattle.wq_core.specs.Runs.{HasNoHelp, IsHelp};
 ghost use Rattle.wq_lines.specs.LineText.{line_text};
 ghost use Rattle.wq_cert.specs.PlanText.{name_of};
 ghost use Rattle.wq_cert.specs.RunText.{item_in, run_line, step_line, run_lines, run_text};
@@ -58,13 +60,14 @@ fn put_lane_step<A: Allocator + Copy>(
     put_end(out)
 }
 
-/// Adds the line of a step.
+/// Adds the line of a step, which isn't a helper's.
 fn put_step_line<A: Allocator + Copy>(
     out: &mut Vec<u8, A>,
     table: &ItemTable<'_, A>,
     step: Step,
 ) -> Result<(), AllocError>
-    requires { item_in step < length table.now.names }
+    requires item { item_in step < length table.now.names }
+    requires no_help { ¬ IsHelp step }
     ensures { OnOk result (out.new.items ≡ out.old.items ++ line_text (step_line table.now.names step)) }
 {
     match step {
@@ -76,10 +79,11 @@ fn put_step_line<A: Allocator + Copy>(
         Step::WaitAll(lane, target) => put_lane_step(out, table, b"waitwq", lane, target),
         Step::OverAll(lane, target) => put_lane_step(out, table, b"overwq", lane, target),
         Step::Finish(lane, item) => put_lane_step(out, table, b"finish", lane, item),
+        Step::Help(..) => unreachable!(),
     }
 }
 
-/// Adds the lines of a run.
+/// Adds the lines of a run without helpers.
 pub(crate) fn put_run<A: Allocator + Copy>(
     out: &mut Vec<u8, A>,
     table: &ItemTable<'_, A>,
@@ -87,6 +91,7 @@ pub(crate) fn put_run<A: Allocator + Copy>(
 ) -> Result<(), AllocError>
     requires few { length steps.now < 2 ^ 32 }
     requires items { All (λ (step : Step). item_in step < length table.now.names) steps.now }
+    requires no_help { HasNoHelp steps.now }
     ensures { OnOk result (out.new.items ≡ out.old.items ++ run_text table.now.names steps.now) }
 {
     put_run_line(out, steps)?;
@@ -98,7 +103,8 @@ pub(crate) fn put_run<A: Allocator + Copy>(
 
 /// The text of a run: the number of steps, and then the steps.
 ///
-/// There are fewer than 4,294,967,296 steps, each of an item of the table. The only error is out of memory (20).
+/// There are fewer than 4,294,967,296 steps, each of an item of the table and none of a helper. The only error is out of memory
+/// (20).
 pub fn run_text<A: Allocator + Copy>(
     alloc: A,
     table: &ItemTable<'_, A>,
@@ -106,6 +112,7 @@ pub fn run_text<A: Allocator + Copy>(
 ) -> Result<Vec<u8, A>, AllocError>
     requires few { length steps.now < 2 ^ 32 }
     requires items { All (λ (step : Step). item_in step < length table.now.names) steps.now }
+    requires no_help { HasNoHelp steps.now }
     ensures { IfOk result (λ text. text.items ≡ run_text table.now.names steps.now) }
 {
     let mut out = Vec::new(alloc);

@@ -1,5 +1,5 @@
 -- Whether something is in a list or below a number.
-use Rattle.std.proofs.Common.{◌≡◌, ℕ, zero, suc, ◌<◌, ◌⊎◌, inl, inr, List, [], ◌∷◌, refl, subst, arith}
+use Rattle.std.proofs.Common.{◌≡◌, ℕ, zero, suc, ◌<◌, ◌≤◌, ◌⊎◌, inl, inr, List, [], ◌∷◌, refl, subst, arith}
 use Rattle.std.specs.List.{All, Any}
 use Rattle.std.proofs.lemmas.Bool.{cases_lt}
 use Rattle.std.proofs.lemmas.List.Elements.{All-head, All-tail, All-cons, All-nil}
@@ -13,6 +13,11 @@ both (inl p) (inl q) = inl (p, q)
 both (inl p) (inr no_q) = inr (λ h. no_q h.1)
 both (inr no_p) q = inr (λ h. no_p h.0)
 
+pub one_of : {P Q : Type 0} → Decided P → Decided Q → Decided (P ⊎ Q)
+one_of (inl p) q = inl (inl p)
+one_of (inr no_p) (inl q) = inl (inr q)
+one_of (inr no_p) (inr no_q) = inr (λ h. elim h [ inl p ↦ no_p p | inr q ↦ no_q q ])
+
 pub not_so : {P : Type 0} → Decided P → Decided (¬ P)
 not_so (inl p) = inr (λ h. h p)
 not_so (inr no_p) = inl no_p
@@ -24,6 +29,9 @@ alike to from (inr no_p) = inr (λ q. no_p (from q))
 
 pub cases_below : (m n : ℕ) → Decided (m < n)
 cases_below m n = elim (cases_lt m n) [ inl less ↦ inl less | inr not_less ↦ inr (λ h. absurd (omega (arith, h, not_less))) ]
+
+pub cases_most : (m n : ℕ) → Decided (m ≤ n)
+cases_most m n = elim (cases_lt n m) [ inl less ↦ inr (λ h. absurd (omega (arith, h, less))) | inr not_less ↦ inl (omega (arith, not_less)) ]
 
 module _ {X : Type 0} (P : X → Type 0) (decide : (x : X) → Decided (P x)) where
   Any-head : (x : X) (xs : List X) → P x → Any P (x ∷ xs)
@@ -71,3 +79,17 @@ module _ (P : ℕ → Type 0) (decide : (k : ℕ) → Decided (P k)) where
 
   pub cases_each_below : (n : ℕ) → Decided ((k : ℕ) → k < n → P k)
   cases_each_below n = elim (first_below n) [ inl each ↦ inl each | inr first ↦ inr (λ h. first.2 (h first.0 first.1)) ]
+
+  -- some number below n
+  pub cases_some_below : (n : ℕ) → Decided ((k : ℕ) × (k < n) × P k)
+  cases_some_below zero = inr (λ h. absurd (omega (arith, h.1)))
+  cases_some_below (suc n) = elim (cases_some_below n) [
+    | inl lower ↦ inl (lower.0, omega (arith, lower.1), lower.2)
+    | inr none ↦ elim (decide n) [ inl here ↦ inl (n, omega arith, here) | inr fails ↦ inr (λ h. no_other h fails none) ]
+  ]
+    where
+      no_other : (k : ℕ) × (k < suc n) × P k → (¬ P n) → (¬ ((k : ℕ) × (k < n) × P k)) → ⊥
+      no_other h fails none = elim (cases_lt h.0 n) [
+        | inl lower ↦ none (h.0, lower, h.2)
+        | inr past ↦ (let same : h.0 ≡ n = omega (arith, past, h.1) in fails (subst P same h.2))
+      ]

@@ -4,12 +4,13 @@ use Rattle.std.specs.Prelude.{slice_get}
 use Rattle.std.specs.List.{All, count_by}
 use Rattle.std.proofs.lemmas.Bool.{cases_eq}
 use Rattle.wq_core.specs.declared.step.Step.{Step}
-use Rattle.wq_core.specs.declared.step.Step.TheVariants.{Queue, Cancel, Start, Wait, Over, WaitAll, OverAll, Finish}
+use Rattle.wq_core.specs.declared.step.Step.TheVariants.{Queue, Cancel, Start, Wait, Over, WaitAll, OverAll, Finish, Help}
 use Rattle.wq_core.specs.Wiring.{Wiring, items}
 use Rattle.wq_core.specs.State.{State, empty_state}
 use Rattle.wq_core.specs.Rules.{Lawful, effect}
-use Rattle.wq_core.specs.Runs.{after, IsRunFrom, end_of, AsDeclaredFrom, IsCancel, IsOnce, queues}
+use Rattle.wq_core.specs.Runs.{after, IsRunFrom, end_of, AsDeclaredFrom, IsCancel, IsOnce, IsHelp, HasNoHelp, queues}
 use Rattle.wq_core.specs.Deadlock.{DeadlocksBy}
+use Rattle.wq_core.proofs.Sound.{IsSoundState-end_of}
 use Rattle.wq_checker.specs.declared.run.RunEnd.{RunEnd}
 use Rattle.wq_checker.specs.declared.run.RunEnd.TheVariants.{NotLawful, Deadlock, Stuck, Free}
 use Rattle.wq_checker.specs.RunEnds.{IsFirstUnlawful, EndsAs}
@@ -55,6 +56,21 @@ cases_IsCancel (Over q b) = inl (λ h. h)
 cases_IsCancel (WaitAll q b) = inl (λ h. h)
 cases_IsCancel (OverAll q b) = inl (λ h. h)
 cases_IsCancel (Finish q i) = inl (λ h. h)
+cases_IsCancel (Help q helper deed) = inl (λ h. h)
+
+cases_IsHelp : (step : Step) → Decided (¬ IsHelp step)
+cases_IsHelp (Queue i) = inl (λ h. h)
+cases_IsHelp (Cancel i) = inl (λ h. h)
+cases_IsHelp (Start q i) = inl (λ h. h)
+cases_IsHelp (Wait q b) = inl (λ h. h)
+cases_IsHelp (Over q b) = inl (λ h. h)
+cases_IsHelp (WaitAll q b) = inl (λ h. h)
+cases_IsHelp (OverAll q b) = inl (λ h. h)
+cases_IsHelp (Finish q i) = inl (λ h. h)
+cases_IsHelp (Help q helper deed) = inr (λ h. h tt)
+
+cases_HasNoHelp : (steps : List Step) → Decided (HasNoHelp steps)
+cases_HasNoHelp = cases_All (λ (step : Step). ¬ IsHelp step) cases_IsHelp
 
 cases_IsOnce : (w : Wiring) (steps : List Step) → Decided (IsOnce w steps)
 cases_IsOnce w steps =
@@ -79,11 +95,11 @@ module _ (w : Wiring) (steps : List Step) where
   pub an_end : (end : RunEnd) × EndsAs w steps end
   an_end = elim (cases_run w (empty_state w) steps) [
     | inr at ↦ (NotLawful (at.0 + 1), IsFirstUnlawful-at at.0 at.1)
-    | inl run ↦ elim (cases_IsStuck w (end_of w steps)) [
+    | inl run ↦ elim (cases_IsStuck w (end_of w steps) (IsSoundState-end_of w steps run)) [
       | inr moves ↦ (Free, (run, moves))
-      | inl stuck ↦ elim (both (cases_IsOnce w steps) (cases_AsDeclaredFrom w (empty_state w) steps)) [
-        | inl h ↦ (Deadlock, record { run = run; once = h.0; as_declared = h.1; stuck = stuck })
-        | inr no_deadlock ↦ (Stuck, (run, stuck, λ h. no_deadlock (h.once, h.as_declared)))
+      | inl stuck ↦ elim (both (cases_HasNoHelp steps) (both (cases_IsOnce w steps) (cases_AsDeclaredFrom w (empty_state w) steps))) [
+        | inl h ↦ (Deadlock, record { run = run; no_help = h.0; once = h.1.0; as_declared = h.1.1; stuck = stuck })
+        | inr no_deadlock ↦ (Stuck, (run, stuck, λ h. no_deadlock (h.no_help, (h.once, h.as_declared))))
       ]
     ]
   ]

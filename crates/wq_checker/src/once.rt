@@ -23,7 +23,8 @@ fn cancels_none(step: Step) -> bool
         | Step::Over(..)
         | Step::WaitAll(..)
         | Step::OverAll(..)
-        | Step::Finish(..) => true,
+        | Step::Finish(..)
+        | Step::Help(..) => true,
     }
 }
 

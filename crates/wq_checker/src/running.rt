@@ -32,20 +32,23 @@ fn is_declared<A: Allocator>(core: &Core<A>, q: LaneId, step: Step) -> bool
     }
 }
 
-/// Whether a lawful step keeps to the order of the declaration.
+/// Whether a lawful step keeps to the order of the declaration. There are no helpers, so none of their steps is lawful.
 fn keeps_order<A: Allocator>(core: &Core<A>, step: Step) -> bool
+    requires { core.now.wiring.helpers ≡ 0 }
     ensures { Lawful core.now.wiring core.now.state step → IsTrue result ↔ KeepsOrder core.now.wiring core.now.state step }
 {
     match step {
         Step::Queue(_) | Step::Cancel(_) | Step::Start(..) | Step::Over(..) | Step::OverAll(..) =>
             true,
         Step::Wait(q, _) | Step::WaitAll(q, _) | Step::Finish(q, _) => is_declared(core, q, step),
+        Step::Help(..) => false,
     }
 }
 
-/// Makes the steps on a machine on which nothing was queued yet, and tells whether what ran flushed as declared. The error is the
+/// Makes the steps on a machine without helpers on which nothing was queued yet, and tells whether what ran flushed as declared. The error is the
 /// number, counted from 1, of the first step that isn't lawful.
 fn play<A: Allocator>(core: &mut Core<A>, steps: &[Step]) -> Result<bool, u32>
+    requires helpers { core.old.wiring.helpers ≡ 0 }
     requires empty { core.old.state ≡ empty_state core.old.wiring }
     requires few { length steps.now < 4294967295 }
     ensures played { IfOk result (λ in_order. IsPlayed core.old.wiring steps.now in_order core.new) }
@@ -71,13 +74,14 @@ fn is_stuck<A: Allocator>(core: &Core<A>) -> bool
     core.enabled().is_none() && !core.is_idle()
 }
 
-/// How a run that leaves this machine ends.
+/// How a run without helpers that leaves this machine ends.
 fn end_of<A: Allocator + Copy>(
     alloc: A,
     core: &Core<A>,
     steps: &[Step],
     in_order: bool,
 ) -> Result<RunEnd, AllocError>
+    requires helpers { core.now.wiring.helpers ≡ 0 }
     requires few { length steps.now < 4294967295 }
     requires played { IsPlayed core.now.wiring steps.now in_order core.now }
     ensures end { IfOk result (λ end. EndsAs core.now.wiring steps.now end) }

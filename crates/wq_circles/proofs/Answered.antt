@@ -14,7 +14,7 @@ use Rattle.wq_core.proofs.CircleKnots.{Deadlocks-circle}
 use Rattle.wq_core.proofs.LaneCircles.{Circle-map, Circle-lanes}
 use Rattle.wq_core.proofs.Wirings.{IsWiring-wiring}
 use Rattle.wq_deadlock.proofs.OwnLanes.{IsAssignment-own_lanes, lane_graph-own_lanes}
-use Rattle.wq_deadlock.proofs.Renumbered.{not_safe-deadlocks}
+use Rattle.wq_deadlock.proofs.Renumbered.{not_safe-by, not_safe-deadlocks}
 use Rattle.wq_cert.specs.Ranges.{IsAssignmentOf}
 use Rattle.wq_cert.specs.Texts.{assignment_of_text, cert_refusal}
 use Rattle.wq_cert.proofs.ReadRanges.{IsAssignmentOf-assignment_of_text}
@@ -89,7 +89,7 @@ module _ (s : Declared) (sound : IsSound s) (a : Assignment) (assigned : IsAssig
 
   ends_as_judged : (end other : End) (out printed : List ℕ) → CirclesAssigned s a end out → JudgesAssigned s a other printed → end ≡ other
   ends_as_judged Good Good out printed one two = refl
-  ends_as_judged Good Bad out printed one two = absurd (not_safe-deadlocks (wiring (declared_waits s) a) (two.0, two.1.deadlocks) (safe one.0))
+  ends_as_judged Good Bad out printed one two = absurd (not_safe-by (wiring (declared_waits s) a) two.0 two.1.deadlocks (safe one.0))
   ends_as_judged Good Refused out printed one two = absurd two
   ends_as_judged Bad Good out printed one two = absurd (one.some (none-IsSafe (declared_waits s) a is_declaration assigned.assignment one.components one.are two.1))
   ends_as_judged Bad Bad out printed one two = refl

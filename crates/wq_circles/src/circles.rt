@@ -71,9 +71,9 @@ pub fn circles_cmd<D: Read, S: Read, W: Write, A: Allocator + Copy>(
         × CirclesInput D.remaining S.remaining declaration.old declaration.new assignment.old assignment.new end out
         × WritesWhole W.contents writer.old writer.new out) }
 
-    // This answer is true. Under an assignment that is read, either no run of queueings, cancellations and rescuer steps ends
-    // stuck, and `safe` is printed; or some run does, and exactly those flushes are printed whose target's workqueue leads to
-    // that of their item, by components, each once.
+    // This answer is true. Under an assignment that is read, either no run of queueings, cancellations and steps of rescuers and
+    // helpers ends stuck, and `safe` is printed; or some run does, and exactly those flushes are printed whose target's workqueue
+    // leads to that of their item, by components, each once.
     ensures promised { IfOk result (λ end. (out : List ℕ)
         × KeepsCirclesOfInput D.remaining S.remaining declaration.old declaration.new assignment.old assignment.new end out
         × WritesWhole W.contents writer.old writer.new out) }

@@ -1,5 +1,6 @@
 -- The run after a printed circle: there is exactly one, and it deadlocks.
-use Rattle.std.proofs.Common.{List, sym, subst, arith}
+use Rattle.std.proofs.Common.{List, Option, Some, None, option_map, refl, sym, subst, arith}
+use Rattle.std.specs.Option.{IsSome}
 use Rattle.wq_groups.specs.Declaration.{Declaration, IsDeclaration}
 use Rattle.wq_groups.specs.Assignment.{Assignment, IsAssignment}
 use Rattle.wq_graph.specs.declared.arc.WaitArc.{WaitArc}
@@ -9,11 +10,12 @@ use Rattle.wq_levels.specs.Walks.{IsWalkedCircle}
 use Rattle.wq_levels.proofs.OneCircle.{IsWalkedCircle-unique}
 use Rattle.wq_core.specs.declared.step.Step.{Step}
 use Rattle.wq_core.specs.Wiring.{wiring, own_lanes}
-use Rattle.wq_core.specs.Deadlock.{DeadlocksBy}
+use Rattle.wq_core.specs.Deadlock.{DeadlocksBy, Deadlocks}
 use Rattle.wq_cert.specs.Ranges.{IsAssignmentOf}
 use Rattle.wq_deadlock.specs.CircleRun.{IsCircleRun}
-use Rattle.wq_deadlock.specs.Verdict.{IsDeadlock}
+use Rattle.wq_deadlock.specs.Verdict.{IsDeadlock, IsGroupsRun}
 use Rattle.wq_deadlock.proofs.CircleRuns.{IsCircleRun-exists, DeadlocksBy-circle_run}
+use Rattle.wq_deadlock.proofs.Renumbered.{not_safe-deadlocks}
 use Rattle.wq_deadlock.proofs.OwnLanes.{IsAssignment-own_lanes, lane_graph-own_lanes}
 use Rattle.wq_commands.specs.Answer.{declared_waits}
 use Rattle.wq_commands.specs.Declaration.{Declared}
@@ -53,3 +55,8 @@ module _ (s : Declared) (sound : IsSound s) where
   -- there are few workqueues
   pub IsAssignmentOf-own_lanes : IsAssignmentOf s.partition.groups own
   IsAssignmentOf-own_lanes = record { assignment = assigned; few = omega (arith, is.partition.few_groups, is.partition.few_items) }
+
+-- groups whose own lanes deadlock have a run
+pub IsSome-groups_run : {A : Type 0} (d : Declaration) (items : A → List Step) (run : Option A) → Deadlocks (wiring d (own_lanes d.groups)) → IsGroupsRun d (option_map items run) → IsSome run
+IsSome-groups_run d items None deadlocks safe = absurd (not_safe-deadlocks (wiring d (own_lanes d.groups)) deadlocks safe)
+IsSome-groups_run d items (Some steps) deadlocks is = refl

@@ -1,6 +1,6 @@
 -- Answers, computed.
 use Rattle.std.proofs.Common.{◌≡◌, ℕ, zero, suc, ◌<◌, ◌≤◌, List, [], ◌∷◌, codes, refl, sym, subst, ◌∙◌, ap, arith, Some, None, inl, inr, Bool, true, false, not}
-use Rattle.std.specs.Prelude.{slice_get, map, IsTrue}
+use Rattle.std.specs.Prelude.{◌==◌, filter, slice_get, map, IsTrue}
 use Rattle.std.proofs.lemmas.Fmt.{decimal_digit, decimal-digits_of}
 use Rattle.std.proofs.lemmas.List.Elements.{All-from_recursion}
 use Rattle.wq_items.specs.declared.target.Target.{Target}
@@ -19,10 +19,10 @@ use Rattle.wq_core.specs.declared.entry.Running.{Running}
 use Rattle.wq_core.specs.declared.step.Step.{Step}
 use Rattle.wq_core.specs.declared.step.Step.TheVariants.{Queue, Start, Wait}
 use Rattle.wq_core.specs.Wiring.{Wiring, declared_by}
-use Rattle.wq_core.specs.State.{State, lane_at, with_lane}
+use Rattle.wq_core.specs.State.{State, idle_lane, lane_at, with_lane}
 use Rattle.wq_core.specs.Rules.{IsHeldBack, effect, wait_of, with_wait}
-use Rattle.wq_core.specs.Played.{CanMove, HasNoDeclaredStep, IsPlayedFrom}
-use Rattle.wq_core.proofs.DeclaredSteps.{CanMove-waiting, CanMove-within, IsDeclaredStep-start, IsDeclaredStep-wait}
+use Rattle.wq_core.specs.Played.{IsDeclaredStep, HasNoDeclaredStep, IsPlayedFrom}
+use Rattle.wq_core.proofs.DeclaredSteps.{RescuerCanMove-within, HasNoDeclaredStep-waiting, IsDeclaredStep-start, IsDeclaredStep-wait}
 use Rattle.wq_deadlock.specs.CircleRun.{IsCircleRun}
 use Rattle.wq_commands.specs.declared.end.End.TheVariants.{Good, Bad, Refused}
 use Rattle.wq_cert.specs.PlanText.{plan_text}
@@ -87,40 +87,38 @@ module _ (arc : WaitArc) (own : arc.head ≡ 0) where
 
 -- ---- one workqueue, whose first item waits for what is queued on it
 
-module _ (w : Wiring) (next : ℕ) (e : Entry) (behind : List Entry) (t : Target) (declares : slice_get (declared_by w e.item) 0 ≡ Some t) where
+-- the entry of item 0 that was queued first
+abbrev e : Entry
+e = record { number = 0; item = 0 }
+
+module _ (w : Wiring) (next : ℕ) (behind : List Entry) (t : Target) (declares : slice_get (declared_by w 0) 0 ≡ Some t) where
   abbrev queued : State
-  queued = record { next = next; lanes = record { pending = e ∷ behind; running = None } ∷ [] }
+  queued = record { next = next; lanes = record idle_lane { pending = e ∷ behind } ∷ [] }
 
   abbrev started : State
-  started = effect w queued (Start 0 e.item)
+  started = effect w queued (Start 0 0)
 
   abbrev asleep : Running
   asleep = record { entry = e; made = 1; waiting = Some (record { target = t.item; whole = t.whole; mark = next }) }
 
   abbrev waiting : State
-  waiting = record { next = next; lanes = record { pending = behind; running = Some asleep } ∷ [] }
+  waiting = record { next = next; lanes = record idle_lane { pending = filter (λ (x : Entry). not (x.item == 0)) behind; running = Some asleep } ∷ [] }
 
   -- whatever the kind of the wait
-  begun : (whole : Bool) → effect w started (wait_of whole 0 t.item) ≡ with_lane started 0 (with_wait whole t.item next (lane_at started 0))
+  begun : (whole : Bool) → effect w started (wait_of whole 0 t.item) ≡ with_lane started 0 (with_wait 0 whole t.item next (lane_at started 0))
   begun false = refl
   begun true = refl
 
   -- what it waits for is unfinished
   module _ (left : IsHeldBack w waiting t.whole t.item next) where
-    stays : ¬ CanMove w waiting 0
-    stays can =
-        let flush : Waiting = record { target = t.item; whole = t.whole; mark = next } in
-        let test = CanMove-waiting w waiting 0 asleep refl flush refl true ((λ _. left), (λ _. refl)) in
-        let never : IsTrue (not true) = test.1 can in
-        cc
-
     hangs : (q : ℕ) → HasNoDeclaredStep w waiting q
     hangs q step is =
-        let can : CanMove w waiting q = (step, is.of_lane, is.lawful) in
-        let only : q < 1 = CanMove-within w waiting q can in
-        stays (subst (λ (k : ℕ). CanMove w waiting k) (omega (arith, only)) can)
+        let flush : Waiting = record { target = t.item; whole = t.whole; mark = next } in
+        let only : q < 1 = RescuerCanMove-within w waiting q (step, is.of_lane, is.lawful) in
+        let here : IsDeclaredStep w waiting 0 step = subst (λ (k : ℕ). IsDeclaredStep w waiting k step) (omega (arith, only)) is in
+        HasNoDeclaredStep-waiting w waiting 0 asleep refl flush refl left step here
 
-    played : IsPlayedFrom w queued (Start 0 e.item ∷ wait_of t.whole 0 t.item ∷ [])
+    played : IsPlayedFrom w queued (Start 0 0 ∷ wait_of t.whole 0 t.item ∷ [])
     played = (
       (0, IsDeclaredStep-start w queued 0 refl e refl, λ p lower. absurd (omega (arith, lower))),
       (
@@ -135,26 +133,23 @@ abbrev own_target : Bool → Target
 own_target whole = record { item = 0; whole = whole; place = 0 }
 
 abbrev self : Bool → Wiring
-self whole = record { waits = (own_target whole ∷ []) ∷ []; lane_of_item = 0 ∷ []; lanes = 1 }
+self whole = record { waits = (own_target whole ∷ []) ∷ []; lane_of_item = 0 ∷ []; lanes = 1; ordered = false ∷ []; helpers = 0 }
 
 abbrev run_of_a : Bool → List Step
 run_of_a whole = Queue 0 ∷ Start 0 0 ∷ wait_of whole 0 0 ∷ []
-
-abbrev entry_of_a : Entry
-entry_of_a = record { number = 0; item = 0 }
 
 abbrev arc_of_a : WaitArc
 arc_of_a = record { src = 0; dst = 0; head = 0; place = 0 }
 
 -- its own entry is unfinished
-held_by_itself : (whole : Bool) → IsHeldBack (self whole) (waiting (self whole) 1 entry_of_a [] (own_target whole) refl) whole 0 1
-held_by_itself false = record { lane = 0; entry = entry_of_a; unfinished = inr (asleep (self false) 1 entry_of_a [] (own_target false) refl, refl, refl); of_item = refl; below = omega arith }
-held_by_itself true = record { entry = entry_of_a; unfinished = inr (asleep (self true) 1 entry_of_a [] (own_target true) refl, refl, refl); below = omega arith }
+held_by_itself : (whole : Bool) → IsHeldBack (self whole) (waiting (self whole) 1 [] (own_target whole) refl) whole 0 1
+held_by_itself false = record { lane = 0; entry = e; unfinished = inr (0, asleep (self false) 1 [] (own_target false) refl, refl, refl); of_item = refl; below = omega arith }
+held_by_itself true = record { entry = e; unfinished = inr (0, asleep (self true) 1 [] (own_target true) refl, refl, refl); below = omega arith }
 
 hangs_itself : (whole : Bool) → IsCircleRun (self whole) (arc_of_a ∷ []) (run_of_a whole)
 hangs_itself whole = record {
   played = Start 0 0 ∷ wait_of whole 0 0 ∷ [];
-  is_played = played (self whole) 1 entry_of_a [] (own_target whole) refl (held_by_itself whole);
+  is_played = played (self whole) 1 [] (own_target whole) refl (held_by_itself whole);
   all = refl;
 }
 
@@ -173,19 +168,18 @@ own_workqueue_flush = record { circle = arc_of_a ∷ []; walked = round arc_of_a
 -- ---- a flush within a group
 
 abbrev pair : Wiring
-pair = record { waits = (record { item = 1; whole = false; place = 0 } ∷ []) ∷ [] ∷ []; lane_of_item = 0 ∷ 0 ∷ []; lanes = 1 }
+pair = record { waits = (record { item = 1; whole = false; place = 0 } ∷ []) ∷ [] ∷ []; lane_of_item = 0 ∷ 0 ∷ []; lanes = 1; ordered = true ∷ []; helpers = 0 }
 
 abbrev run_of_pair : List Step
 run_of_pair = Queue 0 ∷ Queue 1 ∷ Start 0 0 ∷ Wait 0 1 ∷ []
 
 hangs_next : IsCircleRun pair (record { src = 0; dst = 1; head = 0; place = 0 } ∷ []) run_of_pair
 hangs_next =
-    let e : Entry = record { number = 0; item = 0 } in
     let other : Entry = record { number = 1; item = 1 } in
     let t : Target = record { item = 1; whole = false; place = 0 } in
     record {
       played = Start 0 0 ∷ Wait 0 1 ∷ [];
-      is_played = played pair 2 e (other ∷ []) t refl (record { lane = 0; entry = other; unfinished = inl (0, omega arith, refl); of_item = refl; below = omega arith });
+      is_played = played pair 2 (other ∷ []) t refl (record { lane = 0; entry = other; unfinished = inl (0, omega arith, refl); of_item = refl; below = omega arith });
       all = refl;
     }
 

@@ -18,7 +18,7 @@ use Rattle.wq_deadlock.specs.CircleRun.{IsCircleRun}
 use Rattle.wq_deadlock.specs.Verdict.{IsDeadlock}
 use Rattle.wq_deadlock.proofs.CircleRuns.{IsCircleRun-exists}
 use Rattle.wq_deadlock.proofs.OnlyRun.{same_circle_run}
-use Rattle.wq_deadlock.proofs.Renumbered.{not_safe-deadlocks}
+use Rattle.wq_deadlock.proofs.Renumbered.{not_safe-by}
 use Rattle.wq_deadlock.proofs.Verdicts.{IsSafeByRanks-ranks, IsDeadlock-walked}
 use Rattle.wq_cert.specs.declared.fault.CertError.{CertError}
 use Rattle.wq_lines.specs.LineText.{line_text}
@@ -73,7 +73,7 @@ module _ (s : Declared) (sound : IsSound s) (a : Assignment) (assigned : IsAssig
       same_circle_run w second.circle one other (subst (λ (circle : List WaitArc). IsCircleRun w circle one) same first.is_run) second.is_run
 
   not_both : (steps : List Step) → IsSafe (wiring (declared_waits s) a) → IsDeadlock (declared_waits s) a steps → ⊥
-  not_both steps safe deadlock = not_safe-deadlocks (wiring (declared_waits s) a) (steps, deadlock.deadlocks) safe
+  not_both steps safe deadlock = not_safe-by (wiring (declared_waits s) a) steps deadlock.deadlocks safe
 
   JudgesAssigned-unique : (end other : End) (out printed : List ℕ) → JudgesAssigned s a end out → JudgesAssigned s a other printed → (end ≡ other) × (out ≡ printed)
   JudgesAssigned-unique Good Good out printed one two = (refl, one.2 ∙ sym two.2)

@@ -1,13 +1,14 @@
 -- The steps of a run by which an assignment deadlocks: there are few, and each can be printed.
-use Rattle.std.proofs.Common.{◌≡◌, ℕ, ◌<◌, ◌≤◌, false, List, length, refl, subst, arith}
+use Rattle.std.proofs.Common.{◌≡◌, ℕ, ◌<◌, ◌≤◌, false, List, length, get_or, refl, subst, arith}
 use Rattle.std.specs.Prelude.{nat_lt}
 use Rattle.std.specs.List.{All}
 use Rattle.std.proofs.lemmas.Bool.{le-ltb}
 use Rattle.std.proofs.lemmas.List.Elements.{All-weaker}
 use Rattle.wq_groups.specs.Assignment.{Assignment}
 use Rattle.wq_core.specs.declared.step.Step.{Step}
-use Rattle.wq_core.specs.declared.step.Step.TheVariants.{Queue, Cancel, Start, Wait, Over, WaitAll, OverAll, Finish}
+use Rattle.wq_core.specs.declared.step.Step.TheVariants.{Queue, Cancel, Start, Wait, Over, WaitAll, OverAll, Finish, Help}
 use Rattle.wq_core.specs.Wiring.{Wiring, items, wiring}
+use Rattle.wq_core.specs.Runs.{IsHelp, HasNoHelp}
 use Rattle.wq_core.specs.Deadlock.{DeadlocksBy}
 use Rattle.wq_core.proofs.Wirings.{IsWiring-wiring}
 use Rattle.wq_cert.specs.Ranges.{IsStepOf, IsAssignmentOf}
@@ -22,16 +23,20 @@ use Rattle.wq_commands.proofs.AnswerLemmas.{IsSound, IsDeclaration-sound}
 near : (q lanes : ℕ) → q < lanes → lanes ≤ 4096 → nat_lt 4095 q ≡ false
 near q lanes within few = le-ltb 4095 q (omega (arith, within, few))
 
--- a step that names an item and one of few workqueues can be printed
-IsStepOf-named : (w : Wiring) → w.lanes ≤ 4096 → (step : Step) → IsNamed w step → IsStepOf (items w) step
-IsStepOf-named w few (Queue i) named = (named, refl)
-IsStepOf-named w few (Cancel i) named = (named, refl)
-IsStepOf-named w few (Start q i) named = (named.1, near q w.lanes named.0 few)
-IsStepOf-named w few (Wait q b) named = (named.1, near q w.lanes named.0 few)
-IsStepOf-named w few (Over q b) named = (named.1, near q w.lanes named.0 few)
-IsStepOf-named w few (WaitAll q b) named = (named.1, near q w.lanes named.0 few)
-IsStepOf-named w few (OverAll q b) named = (named.1, near q w.lanes named.0 few)
-IsStepOf-named w few (Finish q i) named = (named.1, near q w.lanes named.0 few)
+-- a step that names an item and one of few workqueues, and isn't a helper's, can be printed
+IsStepOf-named : (w : Wiring) → w.lanes ≤ 4096 → (step : Step) → IsNamed w step → (¬ IsHelp step) → IsStepOf (items w) step
+IsStepOf-named w few (Queue i) named own = (named, refl, own)
+IsStepOf-named w few (Cancel i) named own = (named, refl, own)
+IsStepOf-named w few (Start q i) named own = (named.1, near q w.lanes named.0 few, own)
+IsStepOf-named w few (Wait q b) named own = (named.1, near q w.lanes named.0 few, own)
+IsStepOf-named w few (Over q b) named own = (named.1, near q w.lanes named.0 few, own)
+IsStepOf-named w few (WaitAll q b) named own = (named.1, near q w.lanes named.0 few, own)
+IsStepOf-named w few (OverAll q b) named own = (named.1, near q w.lanes named.0 few, own)
+IsStepOf-named w few (Finish q i) named own = (named.1, near q w.lanes named.0 few, own)
+IsStepOf-named w few (Help q h deed) named own = (named.1, near q w.lanes named.0 few, own)
+
+steps_of-named : (w : Wiring) → w.lanes ≤ 4096 → (steps : List Step) → All (IsNamed w) steps → HasNoHelp steps → All (IsStepOf (items w)) steps
+steps_of-named w few steps named own = λ k d within. IsStepOf-named w few (get_or steps k d) (named k d within) (own k d within)
 
 module _ (s : Declared) (sound : IsSound s) (a : Assignment) (assigned : IsAssignmentOf s.partition.groups a) (steps : List Step) (deadlocks : DeadlocksBy (wiring (declared_waits s) a) steps) where
   pub length-deadlock : length steps ≤ 45056
@@ -40,8 +45,8 @@ module _ (s : Declared) (sound : IsSound s) (a : Assignment) (assigned : IsAssig
   pub IsStepOf-deadlock : All (IsStepOf (length s.table.names)) steps
   IsStepOf-deadlock =
       let w = wiring (declared_waits s) a in
-      subst (λ n. All (IsStepOf n) steps) sound.table.one_list_each (All-weaker (IsNamed w) (IsStepOf (items w)) (IsStepOf-named w assigned.few) steps
-      (IsNamed-run w steps (IsWiring-wiring (declared_waits s) a (IsDeclaration-sound s sound) assigned.assignment) deadlocks.run))
+      let named = IsNamed-run w steps (IsWiring-wiring (declared_waits s) a (IsDeclaration-sound s sound) assigned.assignment) deadlocks.run in
+      subst (λ n. All (IsStepOf n) steps) sound.table.one_list_each (steps_of-named w assigned.few steps named deadlocks.no_help)
 
   -- so the printer finds its item
   pub item_in-deadlock : All (λ (step : Step). item_in step < length s.table.names) steps

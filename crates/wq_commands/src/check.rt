@@ -72,9 +72,9 @@ pub fn check_cmd<D: Read, C: Read, W: Write, A: Allocator + Copy>(
         × WritesWhole W.contents writer.old writer.new out) }
 
     // This answer is true where it is a yes. To a plan it is `yes K`: its assignment has K workqueues and lets no run of
-    // queueings, cancellations and rescuer steps end stuck, and every assignment to fewer workqueues has a run, with each
-    // item queued once and flushing as declared, that ends stuck. To a circle it is `yes circle N`: its N arcs go round
-    // groups, and every assignment has such a run.
+    // queueings, cancellations and steps of rescuers and helpers end stuck, and every assignment to fewer workqueues has a run
+    // without helpers, with each item queued once and flushing as declared, that ends stuck. To a circle it is `yes circle N`:
+    // its N arcs go round groups, and every assignment has such a run.
     ensures promised { IfOk result (λ end. (out : List ℕ)
         × KeepsYesOfInput D.remaining C.remaining declaration.old declaration.new certificate.old certificate.new end out
         × WritesWhole W.contents writer.old writer.new out) }

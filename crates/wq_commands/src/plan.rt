@@ -66,9 +66,9 @@ pub fn plan_cmd<R: Read, W: Write, A: Allocator + Copy>(
         × WritesWhole W.contents writer.old writer.new out) }
 
     // This answer is true. For every declaration text that is answered, either the printed assignment lets no run of queueings,
-    // cancellations and rescuer steps end stuck, and every assignment to fewer workqueues has a run, with each item queued once
-    // and flushing as declared, that ends stuck; or a printed circle of groups is given and every assignment has such a run. The
-    // run after the circle is that of one workqueue for each group.
+    // cancellations and steps of rescuers and helpers end stuck, and every assignment to fewer workqueues has a run without
+    // helpers, with each item queued once and flushing as declared, that ends stuck; or a printed circle of groups is given and
+    // every assignment has such a run. The run after the circle is that of one workqueue for each group.
     ensures promised { IfOk result (λ end. (out : List ℕ) × KeepsPromiseOfInput R.remaining reader.old reader.new end out
         × WritesWhole W.contents writer.old writer.new out) }
 

@@ -1,14 +1,15 @@
 -- Steps: what was unfinished stays so, except for what is finished, and no other lane becomes movable, except for one whose wait
 -- was held back by that.
-use Rattle.std.proofs.Common.{◌≡◌, ◌≢◌, ℕ, ◌+◌, ◌<◌, ◌⊎◌, inl, inr, Bool, true, false, None, Some, refl, sym, ap, subst, ◌∙◌, arith}
+use Rattle.std.proofs.Common.{◌≡◌, ◌≢◌, ℕ, zero, suc, ◌+◌, ◌<◌, ◌⊎◌, inl, inr, Bool, true, false, None, Some, refl, sym, ap, subst, ◌∙◌, arith}
 use Rattle.wq_core.specs.declared.entry.Entry.{Entry}
 use Rattle.wq_core.specs.declared.entry.Waiting.{Waiting}
 use Rattle.wq_core.specs.declared.entry.Running.{Running}
 use Rattle.wq_core.specs.declared.step.Step.{Step}
-use Rattle.wq_core.specs.declared.step.Step.TheVariants.{Queue, Cancel, Start, Wait, Over, WaitAll, OverAll, Finish}
+use Rattle.wq_core.specs.declared.step.Step.TheVariants.{Queue, Cancel, Start, Wait, Over, WaitAll, OverAll, Finish, Help}
 use Rattle.wq_core.specs.Wiring.{Wiring, lane_of}
 use Rattle.wq_core.specs.State.{Lane, State, lane_at, with_lane, Runs, IsUnfinishedOn}
-use Rattle.wq_core.specs.Rules.{IsHeldBack, IsHolder, MayStart, MayBeOver, with_started, with_wait, with_over, with_finished, effect}
+use Rattle.wq_core.specs.Rules.{IsHeldBack, IsHolder, MayStartFirst, MayBeOver, waiting_for, going_on, with_started, with_wait, with_over, with_finished, effect}
+use Rattle.wq_core.specs.Held.{IsSoundState}
 use Rattle.wq_core.specs.Played.{IsStepOfLane, IsDeclaredStep, HasNoDeclaredStep}
 use Rattle.wq_core.proofs.LaneLemmas.{cases_with_lane, lane_at-with_lane_other, same_running}
 use Rattle.wq_core.proofs.Knots.{unfinished-started, unfinished-going_on}
@@ -31,52 +32,53 @@ unfinished-with_lane s q new e keeps k h = elim (cases_with_lane s q new k) [
 ]
 
 unfinished-wait : (s : State) (q : ℕ) (whole : Bool) (b : ℕ) (e : Entry) (k : ℕ) → IsUnfinishedOn (lane_at s k) e
-    → IsUnfinishedOn (lane_at (with_lane s q (with_wait whole b s.next (lane_at s q))) k) e
+    → IsUnfinishedOn (lane_at (with_lane s q (with_wait 0 whole b s.next (lane_at s q))) k) e
 unfinished-wait s q whole b e k h =
-    unfinished-with_lane s q (with_wait whole b s.next (lane_at s q)) e
-    (unfinished-going_on (lane_at s q) (λ (r : Running). record r { made = r.made + 1; waiting = Some (record { target = b; whole = whole; mark = s.next }) }) e (λ r. refl)) k h
+    unfinished-with_lane s q (with_wait 0 whole b s.next (lane_at s q)) e (unfinished-going_on (lane_at s q) 0 (waiting_for whole b s.next) e (λ r. refl)) k h
 
-unfinished-over : (s : State) (q : ℕ) (e : Entry) (k : ℕ) → IsUnfinishedOn (lane_at s k) e → IsUnfinishedOn (lane_at (with_lane s q (with_over (lane_at s q))) k) e
+unfinished-over : (s : State) (q : ℕ) (e : Entry) (k : ℕ) → IsUnfinishedOn (lane_at s k) e → IsUnfinishedOn (lane_at (with_lane s q (with_over 0 (lane_at s q))) k) e
 unfinished-over s q e k h =
-    unfinished-with_lane s q (with_over (lane_at s q)) e (unfinished-going_on (lane_at s q) (λ (r : Running). record r { waiting = None }) e (λ r. refl)) k h
+    unfinished-with_lane s q (with_over 0 (lane_at s q)) e (unfinished-going_on (lane_at s q) 0 going_on e (λ r. refl)) k h
 
 -- an entry stays unfinished after a step, unless it is finished
-unfinished-step : (w : Wiring) (s : State) (q : ℕ) (step : Step) → IsDeclaredStep w s q step → (e : Entry) → LeavesItem q step e.item → (k : ℕ) → IsUnfinishedOn (lane_at s k) e
+unfinished-step : (w : Wiring) (s : State) (q : ℕ) (step : Step) → IsSoundState w s → IsDeclaredStep w s q step → (e : Entry) → LeavesItem q step e.item → (k : ℕ) → IsUnfinishedOn (lane_at s k) e
     → IsUnfinishedOn (lane_at (effect w s step) k) e
-unfinished-step w s q (Queue i) is e leaves k h = absurd is.of_lane
-unfinished-step w s q (Cancel i) is e leaves k h = absurd is.of_lane
-unfinished-step w s q (Start p i) is e leaves k h = unfinished-with_lane s p (with_started (lane_at s p)) e (unfinished-started (lane_at s p) i e is.lawful) k h
-unfinished-step w s q (Wait p b) is e leaves k h = unfinished-wait s p false b e k h
-unfinished-step w s q (Over p b) is e leaves k h = unfinished-over s p e k h
-unfinished-step w s q (WaitAll p b) is e leaves k h = unfinished-wait s p true b e k h
-unfinished-step w s q (OverAll p b) is e leaves k h = unfinished-over s p e k h
-unfinished-step w s q (Finish p i) is e leaves k h = unfinished-with_lane s p (with_finished (lane_at s p)) e keeps k h
+unfinished-step w s q (Queue i) sound is e leaves k h = absurd is.of_lane
+unfinished-step w s q (Cancel i) sound is e leaves k h = absurd is.of_lane
+unfinished-step w s q (Start p i) sound is e leaves k h = unfinished-with_lane s p (with_started 0 i (lane_at s p)) e (unfinished-started (lane_at s p) 0 i e (sound.once p) (omega arith) is.lawful.idle) k h
+unfinished-step w s q (Wait p b) sound is e leaves k h = unfinished-wait s p false b e k h
+unfinished-step w s q (Over p b) sound is e leaves k h = unfinished-over s p e k h
+unfinished-step w s q (WaitAll p b) sound is e leaves k h = unfinished-wait s p true b e k h
+unfinished-step w s q (OverAll p b) sound is e leaves k h = unfinished-over s p e k h
+unfinished-step w s q (Help p c deed) sound is e leaves k h = absurd is.of_lane
+unfinished-step w s q (Finish p i) sound is e leaves k h = unfinished-with_lane s p (with_finished 0 (lane_at s p)) e keeps k h
   where
-    keeps : IsUnfinishedOn (lane_at s p) e → IsUnfinishedOn (with_finished (lane_at s p)) e
+    keeps : IsUnfinishedOn (lane_at s p) e → IsUnfinishedOn (with_finished 0 (lane_at s p)) e
     keeps (inl pending) = inl pending
-    keeps (inr (x, runs, same)) =
+    keeps (inr (suc h, x, runs, same)) = inr (suc h, x, runs, same)
+    keeps (inr (zero, x, runs, same)) =
         let (r, ran, may) = is.lawful in
-        let item : e.item ≡ i = ap (λ (f : Entry). f.item) (sym same) ∙ ap (λ (y : Running). y.entry.item) (same_running (lane_at s p) x r runs ran) ∙ may.entry in
+        let item : e.item ≡ i = ap (λ (f : Entry). f.item) (sym same) ∙ ap (λ (y : Running). y.entry.item) (same_running (lane_at s p) 0 x r runs ran) ∙ may.entry in
         absurd (leaves i (ap (λ n. Finish n i) is.of_lane) item)
 
 -- an item that isn't finished still holds back what it held back
-pub IsHolder-step : (w : Wiring) (s : State) (q : ℕ) (step : Step) → IsDeclaredStep w s q step → (whole : Bool) (b mark i : ℕ) → LeavesItem q step i → IsHolder w s whole b mark i
+pub IsHolder-step : (w : Wiring) (s : State) (q : ℕ) (step : Step) → IsSoundState w s → IsDeclaredStep w s q step → (whole : Bool) (b mark i : ℕ) → LeavesItem q step i → IsHolder w s whole b mark i
     → IsHolder w (effect w s step) whole b mark i
-IsHolder-step w s q step is whole b mark i leaves h = record {
+IsHolder-step w s q step sound is whole b mark i leaves h = record {
   entry = h.entry;
-  unfinished = unfinished-step w s q step is h.entry (λ j made same. leaves j made (sym h.of_item ∙ same)) (lane_of w b) h.unfinished;
+  unfinished = unfinished-step w s q step sound is h.entry (λ j made same. leaves j made (sym h.of_item ∙ same)) (lane_of w b) h.unfinished;
   of_item = h.of_item;
   below = h.below;
   itself = h.itself;
 }
 
 -- where nothing is finished, what was held back still is
-held_back-step : (w : Wiring) (s : State) (q : ℕ) (step : Step) → IsDeclaredStep w s q step → ((j : ℕ) → ¬ (step ≡ Finish q j)) → (whole : Bool) (b mark : ℕ) → IsHeldBack w s whole b mark
+held_back-step : (w : Wiring) (s : State) (q : ℕ) (step : Step) → IsSoundState w s → IsDeclaredStep w s q step → ((j : ℕ) → ¬ (step ≡ Finish q j)) → (whole : Bool) (b mark : ℕ) → IsHeldBack w s whole b mark
     → IsHeldBack w (effect w s step) whole b mark
-held_back-step w s q step is nothing false b mark h =
-    record { lane = h.lane; entry = h.entry; unfinished = unfinished-step w s q step is h.entry (λ j made. absurd (nothing j made)) h.lane h.unfinished; of_item = h.of_item; below = h.below }
-held_back-step w s q step is nothing true b mark h =
-    record { entry = h.entry; unfinished = unfinished-step w s q step is h.entry (λ j made. absurd (nothing j made)) (lane_of w b) h.unfinished; below = h.below }
+held_back-step w s q step sound is nothing false b mark h =
+    record { lane = h.lane; entry = h.entry; unfinished = unfinished-step w s q step sound is h.entry (λ j made. absurd (nothing j made)) h.lane h.unfinished; of_item = h.of_item; below = h.below }
+held_back-step w s q step sound is nothing true b mark h =
+    record { entry = h.entry; unfinished = unfinished-step w s q step sound is h.entry (λ j made. absurd (nothing j made)) (lane_of w b) h.unfinished; below = h.below }
 
 -- ---- lanes that can't move
 
@@ -84,12 +86,13 @@ held_back-step w s q step is nothing true b mark h =
 pub lane_at-other : (w : Wiring) (s : State) (q : ℕ) (step : Step) → IsDeclaredStep w s q step → (p : ℕ) → p ≢ q → lane_at (effect w s step) p ≡ lane_at s p
 lane_at-other w s q (Queue i) is p other = absurd is.of_lane
 lane_at-other w s q (Cancel i) is p other = absurd is.of_lane
-lane_at-other w s q (Start k i) is p other = lane_at-with_lane_other s k (with_started (lane_at s k)) p (λ same. other (same ∙ is.of_lane))
-lane_at-other w s q (Wait k b) is p other = lane_at-with_lane_other s k (with_wait false b s.next (lane_at s k)) p (λ same. other (same ∙ is.of_lane))
-lane_at-other w s q (Over k b) is p other = lane_at-with_lane_other s k (with_over (lane_at s k)) p (λ same. other (same ∙ is.of_lane))
-lane_at-other w s q (WaitAll k b) is p other = lane_at-with_lane_other s k (with_wait true b s.next (lane_at s k)) p (λ same. other (same ∙ is.of_lane))
-lane_at-other w s q (OverAll k b) is p other = lane_at-with_lane_other s k (with_over (lane_at s k)) p (λ same. other (same ∙ is.of_lane))
-lane_at-other w s q (Finish k i) is p other = lane_at-with_lane_other s k (with_finished (lane_at s k)) p (λ same. other (same ∙ is.of_lane))
+lane_at-other w s q (Start k i) is p other = lane_at-with_lane_other s k (with_started 0 i (lane_at s k)) p (λ same. other (same ∙ is.of_lane))
+lane_at-other w s q (Wait k b) is p other = lane_at-with_lane_other s k (with_wait 0 false b s.next (lane_at s k)) p (λ same. other (same ∙ is.of_lane))
+lane_at-other w s q (Over k b) is p other = lane_at-with_lane_other s k (with_over 0 (lane_at s k)) p (λ same. other (same ∙ is.of_lane))
+lane_at-other w s q (WaitAll k b) is p other = lane_at-with_lane_other s k (with_wait 0 true b s.next (lane_at s k)) p (λ same. other (same ∙ is.of_lane))
+lane_at-other w s q (OverAll k b) is p other = lane_at-with_lane_other s k (with_over 0 (lane_at s k)) p (λ same. other (same ∙ is.of_lane))
+lane_at-other w s q (Finish k i) is p other = lane_at-with_lane_other s k (with_finished 0 (lane_at s k)) p (λ same. other (same ∙ is.of_lane))
+lane_at-other w s q (Help k c deed) is p other = absurd is.of_lane
 
 -- a lane that can't move still can't, if it stays as it was and its wait is still held back
 HasNoDeclaredStep-same : (w : Wiring) (s t : State) (p : ℕ) → lane_at t p ≡ lane_at s p
@@ -114,7 +117,7 @@ HasNoDeclaredStep-same w s t p same keeps still = moves
     moves : HasNoDeclaredStep w t p
     moves (Queue i) is = is.of_lane
     moves (Cancel i) is = is.of_lane
-    moves (Start k i) is = still (Start k i) (record { of_lane = is.of_lane; lawful = subst (λ (l : Lane). MayStart l i) (lane k is.of_lane) is.lawful; in_order = tt })
+    moves (Start k i) is = still (Start k i) (record { of_lane = is.of_lane; lawful = subst (λ (l : Lane). MayStartFirst l i) (lane k is.of_lane) is.lawful; in_order = tt })
     moves (Wait k b) is =
         let l = is.lawful in
         let o = is.in_order in
@@ -133,6 +136,7 @@ HasNoDeclaredStep-same w s t p same keeps still = moves
         let l = is.lawful in
         let o = is.in_order in
         still (Finish k i) (record { of_lane = is.of_lane; lawful = (l.0, runs k l.0 is.of_lane l.1, l.2); in_order = (o.0, runs k o.0 is.of_lane o.1, o.2) })
+    moves (Help k c deed) is = is.of_lane
 
 -- a step finishes an item, or nothing
 cases_finish : (q : ℕ) (step : Step) → IsStepOfLane q step → ((j : ℕ) × (step ≡ Finish q j)) ⊎ ((j : ℕ) → ¬ (step ≡ Finish q j))
@@ -144,31 +148,32 @@ cases_finish q (Over k b) is = inr (λ j never. cc)
 cases_finish q (WaitAll k b) is = inr (λ j never. cc)
 cases_finish q (OverAll k b) is = inr (λ j never. cc)
 cases_finish q (Finish k i) is = inl (i, ap (λ (n : ℕ). Finish n i) is)
+cases_finish q (Help k c deed) is = absurd is
 
 -- after a step of lane q another lane that couldn't move still can't, if nothing is finished, or what the other lane waits for is
 -- held back by an item that isn't finished
-pub HasNoDeclaredStep-other : (w : Wiring) (s : State) (q : ℕ) (step : Step) → IsDeclaredStep w s q step → (p : ℕ) → p ≢ q
+pub HasNoDeclaredStep-other : (w : Wiring) (s : State) (q : ℕ) (step : Step) → IsSoundState w s → IsDeclaredStep w s q step → (p : ℕ) → p ≢ q
     → ((j : ℕ) → step ≡ Finish q j → (f : Waiting) → Awaits s p f → (i : ℕ) × IsHolder w s f.whole f.target f.mark i × LeavesItem q step i)
     → HasNoDeclaredStep w s p → HasNoDeclaredStep w (effect w s step) p
-HasNoDeclaredStep-other w s q step is p other held still = HasNoDeclaredStep-same w s (effect w s step) p (lane_at-other w s q step is p other) keeps still
+HasNoDeclaredStep-other w s q step sound is p other held still = HasNoDeclaredStep-same w s (effect w s step) p (lane_at-other w s q step is p other) keeps still
   where
     keeps : (f : Waiting) → Awaits s p f → IsHeldBack w s f.whole f.target f.mark → IsHeldBack w (effect w s step) f.whole f.target f.mark
     keeps f awaits before = elim (cases_finish q step is.of_lane) [
       | inl finish ↦ (
           let by = held finish.0 finish.1 f awaits in
-          held_back-holder w (effect w s step) f.whole f.target f.mark by.0 (IsHolder-step w s q step is f.whole f.target f.mark by.0 by.2 by.1)
+          held_back-holder w (effect w s step) f.whole f.target f.mark by.0 (IsHolder-step w s q step sound is f.whole f.target f.mark by.0 by.2 by.1)
           )
-      | inr nothing ↦ held_back-step w s q step is nothing f.whole f.target f.mark before
+      | inr nothing ↦ held_back-step w s q step sound is nothing f.whole f.target f.mark before
     ]
 
 -- after a step of lane q no lane below the one from which the search continues can move, if none below q could
-pub HasNoDeclaredStep-below : (w : Wiring) (s : State) (q : ℕ) (step : Step) → IsDeclaredStep w s q step → ((p : ℕ) → p < q → HasNoDeclaredStep w s p)
+pub HasNoDeclaredStep-below : (w : Wiring) (s : State) (q : ℕ) (step : Step) → IsSoundState w s → IsDeclaredStep w s q step → ((p : ℕ) → p < q → HasNoDeclaredStep w s p)
     → (p : ℕ) → p < search_from q step → HasNoDeclaredStep w (effect w s step) p
-HasNoDeclaredStep-below w s q step is none = by_step step is
+HasNoDeclaredStep-below w s q step sound is none = by_step step is
   where
     -- nothing is finished
     stays : (x : Step) → IsDeclaredStep w s q x → ((j : ℕ) → ¬ (x ≡ Finish q j)) → (p : ℕ) → p < q → HasNoDeclaredStep w (effect w s x) p
-    stays x here nothing p lt = HasNoDeclaredStep-other w s q x here p (λ same. omega (arith, same)) (λ j made. absurd (nothing j made)) (none p lt)
+    stays x here nothing p lt = HasNoDeclaredStep-other w s q x sound here p (λ same. omega (arith, same)) (λ j made. absurd (nothing j made)) (none p lt)
 
     by_step : (x : Step) → IsDeclaredStep w s q x → (p : ℕ) → p < search_from q x → HasNoDeclaredStep w (effect w s x) p
     by_step (Queue i) here p lt = absurd here.of_lane
@@ -179,3 +184,4 @@ HasNoDeclaredStep-below w s q step is none = by_step step is
     by_step (WaitAll k b) here p lt = stays (WaitAll k b) here (λ j never. cc) p lt
     by_step (OverAll k b) here p lt = stays (OverAll k b) here (λ j never. cc) p lt
     by_step (Finish k i) here p lt = absurd (omega arith)
+    by_step (Help k c deed) here p lt = absurd here.of_lane

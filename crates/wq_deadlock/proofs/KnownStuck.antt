@@ -6,7 +6,7 @@ use Rattle.std.proofs.lemmas.List.{get_or-map, get_or-set_same, get_or-set_other
 use Rattle.std.proofs.lemmas.List.Elements.{Contains-push, Contains-push_cases, Contains-append_left}
 use Rattle.wq_core.specs.declared.entry.Waiting.{Waiting}
 use Rattle.wq_core.specs.declared.step.Step.{Step}
-use Rattle.wq_core.specs.declared.step.Step.TheVariants.{Queue, Cancel, Start, Wait, Over, WaitAll, OverAll, Finish}
+use Rattle.wq_core.specs.declared.step.Step.TheVariants.{Queue, Cancel, Start, Wait, Over, WaitAll, OverAll, Finish, Help}
 use Rattle.wq_core.specs.Wiring.{Wiring, items}
 use Rattle.wq_core.specs.State.{Lane, State, Runs}
 use Rattle.wq_core.specs.Rules.{IsHolder, Lawful, over_of, effect}
@@ -141,7 +141,7 @@ module _ (w : Wiring) (s : State) (stuck : StuckLanes) (q : ℕ) (holder : Optio
 
 -- ---- a lane makes a step
 
-module _ (w : Wiring) (s : State) (q : ℕ) (step : Step) (stuck : StuckLanes) (knows : KnowsStuck w s stuck) (is : IsDeclaredStep w s q step) where
+module _ (w : Wiring) (s : State) (q : ℕ) (step : Step) (stuck : StuckLanes) (knows : KnowsStuck w s stuck) (sound : IsSoundState w s) (is : IsDeclaredStep w s q step) where
   -- the lane isn't known to be stuck
   moved_other : (p : ℕ) → IsKnown stuck p → p ≢ q
   moved_other p known same = knows.still q (subst (IsKnown stuck) same known) step is
@@ -152,11 +152,11 @@ module _ (w : Wiring) (s : State) (q : ℕ) (step : Step) (stuck : StuckLanes) (
   KnowsStuck-moved new lanes lists before lists_it = record {
     each_lane = lanes ∙ knows.each_lane;
     each_item = lists ∙ knows.each_item;
-    still = λ p known. HasNoDeclaredStep-other w s q step is p (moved_other p (before p known)) (λ j made f awaits. let at = held p f known awaits in (at.0, at.1, at.2)) (knows.still p (before p known));
+    still = λ p known. HasNoDeclaredStep-other w s q step sound is p (moved_other p (before p known)) (λ j made f awaits. let at = held p f known awaits in (at.0, at.1, at.2)) (knows.still p (before p known));
     listed = λ p f known awaits.
         let here : Awaits s p f = (awaits.0, subst (λ (l : Lane). Runs l awaits.0) (lane_at-other w s q step is p (moved_other p (before p known))) awaits.1, awaits.2) in
         let at = held p f known here in
-        (at.0, IsHolder-step w s q step is f.whole f.target f.mark at.0 at.2 at.1, at.3);
+        (at.0, IsHolder-step w s q step sound is f.whole f.target f.mark at.0 at.2 at.1, at.3);
   }
     where
       held : (p : ℕ) (f : Waiting) → IsKnown new p → Awaits s p f → (i : ℕ) × IsHolder w s f.whole f.target f.mark i × LeavesItem q step i × Contains (waiting_for new i) p
@@ -178,22 +178,23 @@ module _ (w : Wiring) (s : State) (q : ℕ) (step : Step) (stuck : StuckLanes) (
       let at : get_or new.waiting k [] ≡ waiting_for stuck k = ap (λ (l : List (List ℕ)). get_or l k []) released.waiting ∙ get_or-set_other stuck.waiting i k [] [] other in
       ((λ j made same. other (same ∙ sym (only j made))), subst (λ (l : List ℕ). Contains l p) (sym at) there))
 
-pub KnowsStuck-step : (w : Wiring) (s : State) (q : ℕ) (step : Step) (stuck new : StuckLanes) → KnowsStuck w s stuck → IsDeclaredStep w s q step → IsAfter stuck step new → length new.known ≡ length stuck.known
+pub KnowsStuck-step : (w : Wiring) (s : State) (q : ℕ) (step : Step) (stuck new : StuckLanes) → KnowsStuck w s stuck → IsSoundState w s → IsDeclaredStep w s q step → IsAfter stuck step new → length new.known ≡ length stuck.known
     → KnowsStuck w (effect w s step) new
-KnowsStuck-step w s q (Queue i) stuck new knows is after size = absurd is.of_lane
-KnowsStuck-step w s q (Cancel i) stuck new knows is after size = absurd is.of_lane
-KnowsStuck-step w s q (Start k i) stuck new knows is after size = subst (KnowsStuck w (effect w s (Start k i))) (sym after) (KnowsStuck-kept w s q (Start k i) stuck knows is (λ j never. cc))
-KnowsStuck-step w s q (Wait k b) stuck new knows is after size = subst (KnowsStuck w (effect w s (Wait k b))) (sym after) (KnowsStuck-kept w s q (Wait k b) stuck knows is (λ j never. cc))
-KnowsStuck-step w s q (Over k b) stuck new knows is after size = subst (KnowsStuck w (effect w s (Over k b))) (sym after) (KnowsStuck-kept w s q (Over k b) stuck knows is (λ j never. cc))
-KnowsStuck-step w s q (WaitAll k b) stuck new knows is after size = subst (KnowsStuck w (effect w s (WaitAll k b))) (sym after) (KnowsStuck-kept w s q (WaitAll k b) stuck knows is (λ j never. cc))
-KnowsStuck-step w s q (OverAll k b) stuck new knows is after size = subst (KnowsStuck w (effect w s (OverAll k b))) (sym after) (KnowsStuck-kept w s q (OverAll k b) stuck knows is (λ j never. cc))
-KnowsStuck-step w s q (Finish k i) stuck new knows is after size = KnowsStuck-released w s q (Finish k i) stuck knows is i new (λ j made. let same : i ≡ j = cc in same) after size
+KnowsStuck-step w s q (Queue i) stuck new knows sound is after size = absurd is.of_lane
+KnowsStuck-step w s q (Cancel i) stuck new knows sound is after size = absurd is.of_lane
+KnowsStuck-step w s q (Start k i) stuck new knows sound is after size = subst (KnowsStuck w (effect w s (Start k i))) (sym after) (KnowsStuck-kept w s q (Start k i) stuck knows sound is (λ j never. cc))
+KnowsStuck-step w s q (Wait k b) stuck new knows sound is after size = subst (KnowsStuck w (effect w s (Wait k b))) (sym after) (KnowsStuck-kept w s q (Wait k b) stuck knows sound is (λ j never. cc))
+KnowsStuck-step w s q (Over k b) stuck new knows sound is after size = subst (KnowsStuck w (effect w s (Over k b))) (sym after) (KnowsStuck-kept w s q (Over k b) stuck knows sound is (λ j never. cc))
+KnowsStuck-step w s q (WaitAll k b) stuck new knows sound is after size = subst (KnowsStuck w (effect w s (WaitAll k b))) (sym after) (KnowsStuck-kept w s q (WaitAll k b) stuck knows sound is (λ j never. cc))
+KnowsStuck-step w s q (OverAll k b) stuck new knows sound is after size = subst (KnowsStuck w (effect w s (OverAll k b))) (sym after) (KnowsStuck-kept w s q (OverAll k b) stuck knows sound is (λ j never. cc))
+KnowsStuck-step w s q (Finish k i) stuck new knows sound is after size = KnowsStuck-released w s q (Finish k i) stuck knows sound is i new (λ j made. let same : i ≡ j = cc in same) after size
+KnowsStuck-step w s q (Help k c deed) stuck new knows sound is after size = absurd is.of_lane
 
 -- what is finished is an item
 pub finished-within : (w : Wiring) (s : State) (q : ℕ) (step : Step) (stuck : StuckLanes) → IsSoundState w s → KnowsStuck w s stuck → IsDeclaredStep w s q step → (p i : ℕ) → step ≡ Finish p i → i < length stuck.waiting
 finished-within w s q step stuck sound knows is p i made =
     let (r, runs, may) = subst (λ (x : Step). Lawful w s x) made is.lawful in
-    omega (arith, running-item w s p r sound runs, may.entry, knows.each_item)
+    omega (arith, running-item w s p 0 r sound runs, may.entry, knows.each_item)
 
 -- ---- how it is kept
 

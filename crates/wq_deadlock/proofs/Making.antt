@@ -2,7 +2,7 @@
 use Rattle.std.proofs.Common.{◌≡◌, ℕ, zero, suc, ◌+◌, ◌<◌, ◌≤◌, List, [], ◌∷◌, length, take, Option, Some, None, Result, Ok, Err, refl, ap, subst, sym, arith}
 use Rattle.std.specs.Prelude.{slice_get, IfErr, IfSome, IsOk}
 use Rattle.wq_core.specs.declared.step.Step.{Step}
-use Rattle.wq_core.specs.declared.step.Step.TheVariants.{Queue, Cancel, Start, Wait, Over, WaitAll, OverAll, Finish}
+use Rattle.wq_core.specs.declared.step.Step.TheVariants.{Queue, Cancel, Start, Wait, Over, WaitAll, OverAll, Finish, Help}
 use Rattle.wq_core.specs.declared.step.RunError.{RunError}
 use Rattle.wq_core.specs.declared.step.StepError.{StepError}
 use Rattle.wq_core.specs.declared.step.StepError.TheVariants.{NotLawful, NumbersUsedUp}
@@ -31,6 +31,7 @@ UsesUp-next s (Over q b) up = absurd up
 UsesUp-next s (WaitAll q b) up = absurd up
 UsesUp-next s (OverAll q b) up = absurd up
 UsesUp-next s (Finish q i) up = absurd up
+UsesUp-next s (Help q h deed) up = absurd up
 
 slice_get_none : (steps : List Step) (k : ℕ) → slice_get steps k ≡ None → ¬ (k < length steps)
 slice_get_none [] k none lt = omega arith

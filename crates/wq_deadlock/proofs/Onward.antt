@@ -10,7 +10,7 @@ use Rattle.wq_core.specs.Runs.{after}
 use Rattle.wq_core.specs.Held.{Machine, machine_after, IsSoundState, IsMachine}
 use Rattle.wq_core.specs.Played.{IsDeclaredStep, HasNoDeclaredStep, IsPlayedFrom}
 use Rattle.wq_core.specs.Work.{work_left}
-use Rattle.wq_core.proofs.DeclaredSteps.{CanMove-within}
+use Rattle.wq_core.proofs.DeclaredSteps.{RescuerCanMove-within}
 use Rattle.wq_core.proofs.Plays.{after-append, IsRescuerStep-of_lane}
 use Rattle.wq_core.proofs.Sound.{IsSoundState-effect}
 use Rattle.wq_core.proofs.WorkLemmas.{work_left-rescuer}
@@ -68,7 +68,7 @@ IsPlaying-move start now steps q step playing is =
       state =
           ap (λ (t : State). effect now.wiring t step) playing.state ∙ ap (λ (v : Wiring). effect v s step) playing.wiring ∙ sym (after-append w start.state steps (step ∷ []));
       sound = IsSoundState-effect now.wiring now.state step playing.sound is.lawful;
-      below = HasNoDeclaredStep-below now.wiring now.state q step is playing.below;
+      below = HasNoDeclaredStep-below now.wiring now.state q step playing.sound is playing.below;
     }
 
 -- the end: all lanes were passed over
@@ -80,7 +80,7 @@ IsPlayedFrom-playing start now steps q playing all = IsPlayedFrom-play start.wir
     none_now p = elim (cases_lt p q) [
       | inl below ↦ playing.below p below
       | inr past ↦ (λ step is.
-          let within : p < length now.state.lanes = CanMove-within now.wiring now.state p (step, is.of_lane, is.lawful) in
+          let within : p < length now.state.lanes = RescuerCanMove-within now.wiring now.state p (step, is.of_lane, is.lawful) in
           let same : now.wiring.lanes ≡ start.wiring.lanes = ap (λ (v : Wiring). v.lanes) playing.wiring in
           absurd (omega (arith, within, playing.sound.one_each, same))
           )

@@ -10,7 +10,7 @@ use Rattle.wq_levels.specs.Walks.{IsWalkedCircle}
 use Rattle.wq_core.specs.Wiring.{wiring}
 use Rattle.wq_core.specs.Deadlock.{IsSafe}
 use Rattle.wq_deadlock.proofs.CircleRuns.{IsCircleRun-exists, DeadlocksBy-circle_run}
-use Rattle.wq_deadlock.proofs.Renumbered.{not_safe-deadlocks}
+use Rattle.wq_deadlock.proofs.Renumbered.{not_safe-by}
 use Rattle.wq_deadlock.proofs.Verdicts.{IsSafeByRanks-ranks}
 
 module _ (d : Declaration) (a : Assignment) (declaration : IsDeclaration d) (assignment : IsAssignment d.groups a) where
@@ -22,7 +22,7 @@ module _ (d : Declaration) (a : Assignment) (declaration : IsDeclaration d) (ass
   not_safe : (circle : List WaitArc) → IsWalkedCircle (lane_graph d a) circle → ¬ IsSafe (wiring d a)
   not_safe circle walked =
       let run = IsCircleRun-exists d a declaration assignment circle walked in
-      not_safe-deadlocks (wiring d a) (run.0, DeadlocksBy-circle_run d a declaration assignment circle walked run.0 run.1)
+      not_safe-by (wiring d a) run.0 (DeadlocksBy-circle_run d a declaration assignment circle walked run.0 run.1)
 
   pub IsSafe-walked : (circle : List WaitArc) → IsWalkedCircle (lane_graph d a) circle → IsTrue false ↔ IsSafe (wiring d a)
   IsSafe-walked circle walked = ((λ said. let bad : false ≡ true = said in absurd cc), (λ safe. absurd (not_safe circle walked safe)))

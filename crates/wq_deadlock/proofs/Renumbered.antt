@@ -14,17 +14,21 @@ use Rattle.wq_graph.proofs.Graphs.{IsGraph-lane_graph}
 use Rattle.wq_levels.specs.Ranks.{AreRanks}
 use Rattle.wq_levels.specs.Walks.{IsWalkedCircle}
 use Rattle.wq_levels.proofs.Existence.{AreRanks-or_walk}
-use Rattle.wq_core.specs.Wiring.{Wiring, LaneWaits, wiring, lane_of}
-use Rattle.wq_core.specs.Deadlock.{IsSafe, Deadlocks}
+use Rattle.wq_core.specs.declared.step.Step.{Step}
+use Rattle.wq_core.specs.Wiring.{Wiring, LaneWaits, wiring, with_helpers, lane_of}
+use Rattle.wq_core.specs.Deadlock.{IsSafe, DeadlocksBy, Deadlocks}
 use Rattle.wq_core.proofs.CircleKnots.{Deadlocks-circle}
 use Rattle.wq_core.proofs.LaneCircles.{Circle-map}
 use Rattle.wq_core.proofs.Safety.{IsSafe-falls}
 use Rattle.wq_core.proofs.Wirings.{IsWiring-wiring}
 use Rattle.wq_deadlock.proofs.Verdicts.{fall, lanes_wait}
 
--- what deadlocks isn't safe
+-- what deadlocks isn't safe, not even without helpers
+pub not_safe-by : (w : Wiring) (steps : List Step) → DeadlocksBy (with_helpers w 0) steps → ¬ IsSafe w
+not_safe-by w steps by safe = safe 0 (omega arith) steps by.run by.stuck
+
 pub not_safe-deadlocks : (w : Wiring) → Deadlocks w → ¬ IsSafe w
-not_safe-deadlocks w deadlocks safe = safe deadlocks.0 deadlocks.1.run deadlocks.1.stuck
+not_safe-deadlocks w deadlocks = not_safe-by w deadlocks.0 (deadlocks.1 0 (omega arith))
 
 -- ---- the first group on a lane
 

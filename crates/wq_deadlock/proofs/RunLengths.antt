@@ -14,7 +14,7 @@ use Rattle.wq_groups.specs.Declaration.{Declaration, IsDeclaration}
 use Rattle.wq_groups.specs.Assignment.{Assignment}
 use Rattle.wq_core.specs.declared.entry.Entry.{Entry}
 use Rattle.wq_core.specs.declared.step.Step.{Step}
-use Rattle.wq_core.specs.declared.step.Step.TheVariants.{Queue, Cancel, Start, Wait, Over, WaitAll, OverAll, Finish}
+use Rattle.wq_core.specs.declared.step.Step.TheVariants.{Queue, Cancel, Start, Wait, Over, WaitAll, OverAll, Finish, Help}
 use Rattle.wq_core.specs.Wiring.{Wiring, items, lane_of, wiring}
 use Rattle.wq_core.specs.State.{Lane, State, idle_lane, lane_at, empty_state}
 use Rattle.wq_core.specs.Rules.{Lawful, with_queued, effect}
@@ -87,6 +87,7 @@ queue_cost w (Over q b) = 0
 queue_cost w (WaitAll q b) = 0
 queue_cost w (OverAll q b) = 0
 queue_cost w (Finish q i) = 0
+queue_cost w (Help q h deed) = 0
 
 work_left-queued : (w : Wiring) (s : State) (i : ℕ) → work_left w (effect w s (Queue i)) ≤ work_left w s + whole_work w i
 work_left-queued w s i =
@@ -117,6 +118,7 @@ step_cost w s (Over q b) sound lawful not_cancel = omega (arith, work_left-rescu
 step_cost w s (WaitAll q b) sound lawful not_cancel = omega (arith, work_left-rescuer w s (WaitAll q b) sound lawful tt)
 step_cost w s (OverAll q b) sound lawful not_cancel = omega (arith, work_left-rescuer w s (OverAll q b) sound lawful tt)
 step_cost w s (Finish q i) sound lawful not_cancel = omega (arith, work_left-rescuer w s (Finish q i) sound lawful tt)
+step_cost w s (Help q h deed) sound lawful not_cancel = omega (arith, work_left-rescuer w s (Help q h deed) sound lawful tt)
 
 length-run_from : (w : Wiring) (s : State) (steps : List Step) → IsSoundState w s → IsRunFrom w s steps → All (λ (step : Step). ¬ IsCancel step) steps
     → length steps ≤ work_left w s + sum_by (queue_cost w) steps
@@ -163,6 +165,7 @@ cost_by_item w s (step ∷ steps) run = sum_by-cons (queue_cost w) step steps �
     by_step rest (WaitAll q b) lawful = omega (arith, rest, queued_cost-other w (WaitAll q b) steps (λ j. count-cons j (WaitAll q b) steps ∙ omega arith))
     by_step rest (OverAll q b) lawful = omega (arith, rest, queued_cost-other w (OverAll q b) steps (λ j. count-cons j (OverAll q b) steps ∙ omega arith))
     by_step rest (Finish q i) lawful = omega (arith, rest, queued_cost-other w (Finish q i) steps (λ j. count-cons j (Finish q i) steps ∙ omega arith))
+    by_step rest (Help q h deed) lawful = omega (arith, rest, queued_cost-other w (Help q h deed) steps (λ j. count-cons j (Help q h deed) steps ∙ omega arith))
 
 -- what all items cost
 sum_upto-whole : (w : Wiring) (n : ℕ) → n ≤ length w.waits → sum_upto (λ i. 1 + whole_work w i) n ≡ 3 * n + 2 * flush_count (take n w.waits)

@@ -3,7 +3,7 @@ use Rattle.std.specs.Prelude.{◌≡◌, ℕ, List, [], ◌∷◌, ◌++◌, Boo
 use Rattle.wq_core.specs.declared.entry.Waiting.{Waiting}
 use Rattle.wq_core.specs.declared.entry.Running.{Running}
 use Rattle.wq_core.specs.declared.step.Step.{Step}
-use Rattle.wq_core.specs.declared.step.Step.TheVariants.{Queue, Cancel, Start, Wait, Over, WaitAll, OverAll, Finish}
+use Rattle.wq_core.specs.declared.step.Step.TheVariants.{Queue, Cancel, Start, Wait, Over, WaitAll, OverAll, Finish, Help}
 use Rattle.wq_core.specs.Wiring.{Wiring}
 use Rattle.wq_core.specs.State.{State, lane_at, Runs}
 use Rattle.wq_core.specs.Rules.{IsHeldBack, IsHolder}
@@ -54,3 +54,4 @@ IsAfter old (Over q b) new = new ≡ old
 IsAfter old (WaitAll q b) new = new ≡ old
 IsAfter old (OverAll q b) new = new ≡ old
 IsAfter old (Finish q i) new = IsReleased old i new
+IsAfter old (Help q h deed) new = new ≡ old

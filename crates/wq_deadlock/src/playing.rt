@@ -35,7 +35,8 @@ fn search_from(q: u16, step: Step) -> u16
         | Step::Wait(..)
         | Step::Over(..)
         | Step::WaitAll(..)
-        | Step::OverAll(..) => q,
+        | Step::OverAll(..)
+        | Step::Help(..) => q,
         Step::Finish(..) => 0,
     }
 }
@@ -79,7 +80,8 @@ fn release_after<A: Allocator>(stuck: &mut Stuck<'_, A>, step: &Step)
         | Step::Wait(..)
         | Step::Over(..)
         | Step::WaitAll(..)
-        | Step::OverAll(..) => {}
+        | Step::OverAll(..)
+        | Step::Help(..) => {}
         Step::Finish(_, item) => stuck.release(item),
     }
 }

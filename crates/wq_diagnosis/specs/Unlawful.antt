@@ -5,8 +5,8 @@ use Rattle.wq_core.specs.declared.entry.Entry.{Entry}
 use Rattle.wq_core.specs.declared.entry.Running.{Running}
 use Rattle.wq_core.specs.declared.entry.Waiting.{Waiting}
 use Rattle.wq_core.specs.declared.step.Step.{Step}
-use Rattle.wq_core.specs.declared.step.Step.TheVariants.{Queue, Cancel, Start, Wait, Over, WaitAll, OverAll, Finish}
-use Rattle.wq_core.specs.Rules.{IsHeldBack}
+use Rattle.wq_core.specs.declared.step.Step.TheVariants.{Queue, Cancel, Start, Wait, Over, WaitAll, OverAll, Finish, Help}
+use Rattle.wq_core.specs.Rules.{IsHeldBack, deed_item}
 use Rattle.wq_core.specs.State.{State, lane_at, Runs, HasPending}
 use Rattle.wq_core.specs.Wiring.{Wiring, items, declared_by}
 use Rattle.wq_diagnosis.specs.declared.unlawful.Unlawful.{Unlawful}
@@ -24,6 +24,7 @@ workqueue_of (Over q b) = q
 workqueue_of (WaitAll q b) = q
 workqueue_of (OverAll q b) = q
 workqueue_of (Finish q i) = q
+workqueue_of (Help q h deed) = q
 
 -- the item that a step names
 abbrev pub item_of : Step → ℕ
@@ -35,6 +36,7 @@ item_of (Over q b) = b
 item_of (WaitAll q b) = b
 item_of (OverAll q b) = b
 item_of (Finish q i) = i
+item_of (Help q h deed) = deed_item deed
 
 -- an entry of item j runs on the workqueue
 abbrev pub RunsItem : State → ℕ → ℕ → Running → Type 0

@@ -65,6 +65,7 @@ fn named(step: Step) -> (u16, ItemId) {
         | Step::WaitAll(q, item)
         | Step::OverAll(q, item)
         | Step::Finish(q, item) => (q.get(), item),
+        Step::Help(q, _, deed) => (q.get(), deed.item()),
     }
 }
 

@@ -149,6 +149,7 @@ fn finish_reason<A: Allocator>(core: &Core<A>, q: LaneId, item: ItemId) -> Optio
 }
 
 /// What keeps the step from being lawful; nothing where it is. Of several reasons it is the first one in the order of the rules.
+/// Of a helper's step nothing is said: no text of a run holds one.
 pub fn reason_of<A: Allocator>(core: &Core<A>, step: Step) -> Option<Unlawful>
     ensures { IfSome result (Holds core.now.wiring core.now.state (workqueue_of step) (item_of step)) }
 {
@@ -161,5 +162,6 @@ pub fn reason_of<A: Allocator>(core: &Core<A>, step: Step) -> Option<Unlawful>
         Step::WaitAll(q, target) => wait_reason(core, q, true, target),
         Step::OverAll(q, target) => over_reason(core, q, true, target),
         Step::Finish(q, item) => finish_reason(core, q, item),
+        Step::Help(..) => None,
     }
 }

@@ -114,9 +114,9 @@ const RUN: Explanation = (
     "\
 `run M`: the M steps below it may happen in this order while memory is short,
 and at their end nothing can go on. `queue` puts an item on its workqueue,
-`start` runs it in the workqueue's one context, `wait` and `over` begin and end
-a flush in it, `waitwq` and `overwq` one of a whole workqueue, and `finish` ends
-it.
+`start` runs it in the workqueue's rescuer, the one context that is sure to be
+there, `wait` and `over` begin and end a flush in it, `waitwq` and `overwq` one
+of a whole workqueue, and `finish` ends it.
 
 The rule: docs/FORMAT.md, \"Run texts\"
 
@@ -276,8 +276,9 @@ const SAFE: Explanation = (
     "safe answer\n",
     "\
 `safe`: under this assignment no order of what happens ends in a hang while
-memory is short, as far as the declaration has all waits. Where `circles` was
-given no assignment, that of a workqueue for each group is meant.
+memory is short, as far as the declaration has all waits, and whether workqueues
+have other workers beside their rescuers or not. Where `circles` was given no
+assignment, that of a workqueue for each group is meant.
 
 The rule: docs/FORMAT.md, \"The command `deadlock`\"
 

@@ -525,9 +525,10 @@ To see it:
     wqplan run decl
 
 To mend it:
-A run takes a thread for each workqueue of the plan, and two more. Raise the
-limits of the process on threads and on memory (see `ulimit -u` and `ulimit -v`,
-and the limits of its control group), or run a declaration with a shorter chain.
+A run takes a thread for each workqueue of the plan, one for each helper, and
+two more. Ask for fewer helpers, raise the limits of the process on threads and
+on memory (see `ulimit -u` and `ulimit -v`, and the limits of its control
+group), or run a declaration with a shorter chain.
 ",
 );
 

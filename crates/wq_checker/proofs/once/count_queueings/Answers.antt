@@ -1,7 +1,7 @@
 use Rattle.std.proofs.Common.{◌≡◌, ℕ, ◌+◌, ◌<◌, false, get_or, take, refl, sym, ap, subst, ◌∙◌, arith, Vec}
 use Rattle.std.proofs.lemmas.Bool.{ne_eqb}
 use Rattle.wq_core.specs.declared.step.Step.{Step}
-use Rattle.wq_core.specs.declared.step.Step.TheVariants.{Queue, Cancel, Start, Wait, Over, WaitAll, OverAll, Finish}
+use Rattle.wq_core.specs.declared.step.Step.TheVariants.{Queue, Cancel, Start, Wait, Over, WaitAll, OverAll, Finish, Help}
 use Rattle.wq_core.specs.Runs.{queues}
 use Rattle.wq_checker.proofs.QueueCounts.{Counted, Counted-other, Counted-queue, Counted-few}
 use Rattle.wq_checker.proofs.once.count_queueings.Goals as goal
@@ -17,6 +17,7 @@ queues-other (Over q b) i none = refl
 queues-other (WaitAll q b) i none = refl
 queues-other (OverAll q b) i none = refl
 queues-other (Finish q j) i none = refl
+queues-other (Help q h deed) i none = refl
 
 pub overflow_add-index_mut : goal.overflow_add-index_mut
 overflow_add-index_mut g c =

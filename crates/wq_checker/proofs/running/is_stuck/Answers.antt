@@ -1,7 +1,7 @@
-use Rattle.std.proofs.Common.{◌≡◌, ℕ, Option, None, Some, false}
-use Rattle.std.specs.Prelude.{is_some, IfNone}
+use Rattle.std.proofs.Common.{◌≡◌, ℕ, ◌<◌, Option, None, Some, true, false, sym, ◌∙◌}
+use Rattle.std.specs.Prelude.{is_some, IfNone, IfSome}
 use Rattle.wq_core.specs.Played.{CanMove}
-use Rattle.wq_checker.proofs.StuckStates.{IsStuck-cannot_move}
+use Rattle.wq_checker.proofs.StuckStates.{IsStuck-can_move, IsStuck-cannot_move}
 use Rattle.wq_checker.proofs.running.is_stuck.Goals as goal
 
 -- what holds where there is nothing
@@ -13,3 +13,14 @@ pub returns-then-is_none : goal.returns-then-is_none
 returns-then-is_none g c =
     let m = c.args.core.now in
     IsStuck-cannot_move m.wiring m.state (from_none c.enabled.result ((q : ℕ) → ¬ CanMove m.wiring m.state q) c.if-is_none.ensures c.enabled.ensures.none) c.is_idle.result c.is_idle.ensures
+
+-- what holds where there is something
+from_some : (o : Option ℕ) (P : ℕ → Type 0) → is_some o ≡ true → IfSome o P → (q : ℕ) × P q
+from_some None P some p = absurd cc
+from_some (Some q) P some p = (q, p)
+
+pub returns-else-is_none : goal.returns-else-is_none
+returns-else-is_none g c =
+    let m = c.args.core.now in
+    let moves = from_some c.enabled.result (λ q. CanMove m.wiring m.state q × ((p : ℕ) → p < q → ¬ CanMove m.wiring m.state p)) c.if-is_none.ensures c.enabled.ensures.some in
+    ((λ e. absurd (let never : false ≡ true = sym c.if-is_none.false ∙ e in cc)), (λ stuck. absurd (IsStuck-can_move m.wiring m.state moves.0 moves.1.0 stuck)))

@@ -3,6 +3,7 @@ use Rattle.std.specs.Prelude.{is_err, IfOk}
 use Rattle.std.proofs.lemmas.List.{take_more}
 use Rattle.wq_core.specs.declared.step.Step.{Step}
 use Rattle.wq_core.specs.declared.step.StepError.{StepError}
+use Rattle.wq_core.specs.Wiring.{Wiring}
 use Rattle.wq_core.specs.Held.{IsDone}
 use Rattle.wq_checker.specs.Searching.{IsPlayed}
 use Rattle.wq_checker.proofs.PlayedRuns.{IsPlayed-more, next-done}
@@ -13,6 +14,10 @@ use Rattle.wq_checker.proofs.running.play.Goals.{then-in_order, else-in_order}
 from_ok : (r : Result ℕ StepError) (P : ℕ → Type 0) → false ≡ is_err r → IfOk r P → (n : ℕ) × P n
 from_ok (Ok n) P made p = (n, p)
 from_ok (Err e) P made p = absurd cc
+
+-- the machine has no helpers
+pub keeps_order-keeps-requires : goal.keeps_order-keeps-requires
+keeps_order-keeps-requires g c = ap (λ (w : Wiring). w.helpers) c.loop-step.invariant.played.wiring ∙ c.requires.helpers
 
 pub loop-step-preserved : goal.loop-step-preserved
 loop-step-preserved g c =

@@ -2,6 +2,7 @@ use Rattle.std.proofs.Common.{◌≡◌, ℕ, ◌<◌, List, length, map, Some, 
 use Rattle.std.specs.List.{All}
 use Rattle.std.proofs.lemmas.Result.{IfOk-weaker}
 use Rattle.wq_core.specs.declared.step.Step.{Step}
+use Rattle.wq_core.specs.Runs.{HasNoHelp}
 use Rattle.wq_core.specs.Wiring.{own_lanes}
 use Rattle.wq_cert.specs.CircleText.{circle_text}
 use Rattle.wq_cert.specs.RunText.{item_in}
@@ -41,6 +42,9 @@ circle_text-requires-clause-step_items g c =
     let s : Declared = record { table = c.args.table.now; partition = c.args.groups.now } in
     let sound : IsSound s = record { table = c.len-items.ensures.table; partition = c.len-groups.ensures.partition; one_group_each = c.requires.grouped } in
     subst (All (λ (step : Step). item_in step < length s.table.names)) (sym c.as_slice.ensures.value) (item_in-deadlock s sound (own_lanes s.partition.groups) (IsAssignmentOf-own_lanes s sound) c.in_ok-steps.steps.items c.in_ok-steps.ensures.deadlocks)
+
+pub circle_text-requires-clause-no_help : goal.circle_text-requires-clause-no_help
+circle_text-requires-clause-no_help g c = subst HasNoHelp (sym c.as_slice.ensures.value) c.in_ok-steps.ensures.deadlocks.no_help
 
 pub returns : goal.returns
 returns g c =

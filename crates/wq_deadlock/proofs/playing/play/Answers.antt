@@ -35,7 +35,7 @@ loop-q-preserved-in-Some g c =
     let step = c.in-Some.step in
     let q = c.loop-q.q in
     let is = subst (λ (n : ℕ). IsDeclaredStep core.wiring core.state n step) c.new-lane.ensures c.in-Some.ensures.some in
-    let stuck = KnowsStuck-step core.wiring core.state q step c.loop-q.stuck c.release_after.new.stuck c.loop-q.invariant.stuck is c.release_after.ensures.after c.release_after.ensures.len in
+    let stuck = KnowsStuck-step core.wiring core.state q step c.loop-q.stuck c.release_after.new.stuck c.loop-q.invariant.stuck c.declared.ensures.machine.state is c.release_after.ensures.after c.release_after.ensures.len in
     record {
       playing = rw (c.in_ok-make.ensures.made, c.in_ok-make.ensures.noted, c.search_from-q.ensures) (IsPlaying-move c.args.core.now core c.loop-q.steps.items q step c.loop-q.invariant.playing is);
       stuck = subst (λ (m : Machine). KnowsStuck m.wiring m.state c.release_after.new.stuck) (sym c.in_ok-make.ensures.made) stuck;
