@@ -1,5 +1,5 @@
 -- Locking: what a lock asks of the calls that it hands what it protects, and what is known of them afterwards.
-use Rattle.std.specs.Prelude.{◌≡◌, ℕ, Result, Err, true}
+use Rattle.std.specs.Prelude.{◌≡◌, ℕ, Result, Err}
 use denote.Ref.{MutBor}
 use Rattle.wq_core.specs.Wiring.{Wiring}
 use Rattle.wq_history.specs.Book.{HasNothingToStart}
@@ -7,7 +7,7 @@ use Rattle.wq_held.specs.Locked.{HeldView, Holds}
 use Rattle.wq_under_lock.specs.declared.turn.Turn.{Turn}
 use Rattle.wq_under_lock.specs.declared.turn.Turn.TheVariants.{Answers, Sleeps}
 use Rattle.wq_under_lock.specs.declared.turn.Wake.{Wake}
-use Rattle.wq_under_lock.specs.Turns.{Wakes}
+use Rattle.wq_under_lock.specs.Turns.{Wakes, HasEnded}
 
 -- whatever the call finds: nobody is woken only if nothing has changed that a caller may wait for, which `same` says; and if its
 -- caller is to sleep, nothing has changed
@@ -39,6 +39,11 @@ GivesBack {H} {S} {T} {E} call = (held held' : H) (own own' : S) (why : E) → c
 abbrev pub UnderLock : Wiring → ℕ → (HeldView → Type 0) → Type 0
 UnderLock w rows P = (h : HeldView) × Holds w rows h.book × P h
 
--- of something that the lock may protect: the book is closed and lane q has nothing to start, so whoever serves it is done
+-- of something that the lock may protect: the book is closed, nothing is pending on lane q, and context c of the lane, which
+-- exists, runs nothing and has nothing to start. So whoever serves this context is done
+abbrev pub WasDoneIn : Wiring → ℕ → ℕ → ℕ → Type 0
+WasDoneIn w rows q c = UnderLock w rows (λ h. HasEnded h q × HasNothingToStart h.book q c)
+
+-- the rescuer of lane q is done
 abbrev pub WasDone : Wiring → ℕ → ℕ → Type 0
-WasDone w rows q = UnderLock w rows (λ h. (h.book.closed ≡ true) × HasNothingToStart h.book q)
+WasDone w rows q = WasDoneIn w rows q 0

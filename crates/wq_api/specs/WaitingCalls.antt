@@ -1,12 +1,13 @@
 -- The calls that wait: what they are refused for, and what they count in the caller's seat.
 use Rattle.std.specs.Prelude.{◌≡◌, ℕ, ◌<◌, ◌≤◌, ◌⊎◌, List, Bool, true, false, Result, Ok, Err}
 use Rattle.wq_items.specs.Table.{ItemWaitsBy}
-use Rattle.wq_core.specs.Wiring.{Wiring, items}
+use Rattle.wq_core.specs.Wiring.{Wiring, items, HasContext}
 use Rattle.wq_counts.specs.declared.kind.Kind.TheVariants.{Ask as AskKind, Told as ToldKind}
 use Rattle.wq_counts.specs.Counting.{raised, raised_asked, raised_told, wait_kind, over_kind}
 use Rattle.wq_held.specs.declared.fault.CallError.{CallError}
 use Rattle.wq_held.specs.declared.fault.CallError.TheVariants.{HistoryFull, Closed, Undeclared, TooManyWaits, WrongLane, NotAsked, NoItem}
 use Rattle.wq_held.specs.Locked.{HasRoom, IsOnLane, asked_and_cancelled}
+use Rattle.wq_under_lock.specs.Refusals.{RefusesWaitOf}
 
 -- ---- flushes and cancellations
 
@@ -81,7 +82,7 @@ lane_flush_refused old q TooManyWaits = old
 lane_flush_refused old q WrongLane = old
 lane_flush_refused old q NoItem = old
 
--- ---- waits of lanes, for an item or for its whole lane
+-- ---- waits of contexts, for an item or for its whole lane
 
 -- some item of lane q declares such a flush of item b, alone or of its whole lane
 abbrev pub IsDeclaredOn : Wiring → ℕ → Bool → ℕ → Type 0
@@ -91,8 +92,8 @@ IsDeclaredOn w q whole b = (i : ℕ) × IsOnLane w q i × ItemWaitsBy w.waits wh
 abbrev pub IsUndeclaredOn : Wiring → ℕ → Bool → ℕ → Type 0
 IsUndeclaredOn w q whole b = (i : ℕ) × IsOnLane w q i × (¬ ItemWaitsBy w.waits whole i b)
 
--- which item lane q runs, by the answer to a wait of this kind for item b: one that declares such a flush, if the wait began, or if
--- too many were made (63); one that doesn't, if it is undeclared (62)
+-- which item a context of lane q runs, by the answer to a wait of this kind for item b: one that declares such a flush, if the wait
+-- began, or if too many were made (63); one that doesn't, if it is undeclared (62)
 abbrev pub HasWaiter : Wiring → ℕ → Bool → ℕ → Result Bool CallError → Type 0
 HasWaiter w q whole b (Ok unfinished) = IsDeclaredOn w q whole b
 HasWaiter w q whole b (Err TooManyWaits) = IsDeclaredOn w q whole b
@@ -117,3 +118,32 @@ RefusedWaitFor w old new q whole b Undeclared = new ≡ old
 RefusedWaitFor w old new q whole b TooManyWaits = new ≡ old
 RefusedWaitFor w old new q whole b NotAsked = new ≡ old
 RefusedWaitFor w old new q whole b NoItem = new ≡ old
+
+-- the same of a context that exists if `there` says so
+abbrev pub RefusedWaitOf : Type 0 → List ℕ → List ℕ → Bool → ℕ → CallError → Type 0
+RefusedWaitOf there old new whole b WrongLane = (new ≡ old) ⊎ (there × (unfinished : Bool) × (new ≡ raised old b (wait_kind whole) unfinished))
+RefusedWaitOf there old new whole b HistoryFull = new ≡ old
+RefusedWaitOf there old new whole b Closed = new ≡ old
+RefusedWaitOf there old new whole b Undeclared = new ≡ old
+RefusedWaitOf there old new whole b TooManyWaits = new ≡ old
+RefusedWaitOf there old new whole b NotAsked = new ≡ old
+RefusedWaitOf there old new whole b NoItem = new ≡ old
+
+-- the same of context c of lane q
+abbrev pub RefusedWaitIn : Wiring → List ℕ → List ℕ → ℕ → ℕ → Bool → ℕ → CallError → Type 0
+RefusedWaitIn w old new q c whole b e = RefusedWaitOf (HasContext w q c) old new whole b e
+
+-- ---- waits of helpers
+
+-- lane q has a context h, which is one of its helpers
+abbrev pub IsHelper : Wiring → ℕ → ℕ → Type 0
+IsHelper w q h = (0 < h) × HasContext w q h
+
+-- `help_wait_for` or `help_wait_all_for` of helper h of lane q, through a seat with these counts: no such helper, or it can't make
+-- this step; the seat is full; what it runs declares no such flush, or has made as many waits as it declares
+abbrev pub RefusesHelpWaitFor : Wiring → List ℕ → ℕ → ℕ → CallError → Type 0
+RefusesHelpWaitFor w counts q h e = RefusesWaitOf (IsHelper w q h) counts e
+
+-- counts after such a refusal: if the helper no longer waits (64), its wait stays counted; otherwise nothing was counted
+abbrev pub RefusedHelpWaitFor : Wiring → List ℕ → List ℕ → ℕ → ℕ → Bool → ℕ → CallError → Type 0
+RefusedHelpWaitFor w old new q h whole b e = RefusedWaitOf (IsHelper w q h) old new whole b e

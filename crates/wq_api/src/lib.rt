@@ -13,6 +13,7 @@ mod serving;
 
 pub use closing::CloseRefused;
 pub use runtime::WqRuntime;
+pub use wq_core::{Context, MAX_HELPERS};
 pub use wq_counts::{Counts, Kind};
 pub use wq_held::{
     CallError, CloseWhy, Closed, Held, MAX_SEATS, Naming, SEAT_ROWS, Seat, SeatError,

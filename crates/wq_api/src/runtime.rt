@@ -8,9 +8,9 @@
 //! of workqueues, whichever is larger, and `new` also the time of the wait graph of the workqueues and of its ranks, and room for the
 //! rows, 12 bytes for each.
 
-ghost use Rattle.std.specs.Prelude.{◌≡◌, ◌<◌, ◌≤◌, ◌*◌, length, replicate, Bool, true, IfOk, IfErr, OnOk, IfSome, IfNone};
+ghost use Rattle.std.specs.Prelude.{◌≡◌, ◌<◌, ◌≤◌, ◌↔◌, ◌*◌, length, replicate, Bool, true, IsTrue, IfOk, IfErr, OnOk, IfSome, IfNone};
 ghost use Rattle.wq_groups.specs.Declaration.{declaration_of};
-ghost use Rattle.wq_core.specs.Wiring.{wiring, items};
+ghost use Rattle.wq_core.specs.Wiring.{wiring, with_helpers, helpers_of, HasContext, items};
 ghost use Rattle.wq_counts.specs.declared.kind.Kind.TheVariants.{Queue, Cancel, Told as ToldKind};
 ghost use Rattle.wq_counts.specs.Counting.{counts_each, raised, raised_told};
 ghost use Rattle.wq_held.specs.declared.fault.CallError.TheVariants.{NotAsked};
@@ -40,7 +40,8 @@ pub struct WqRuntime<N: Naming, A: Allocator> {
 
 impl<N: Naming, A: Allocator + Copy> WqRuntime<N, A> {
     /// Makes the runtime of a table, the groups of its items and an assignment, which gives each group a workqueue, with room for
-    /// `rows` rows. The blank ledger has 65,536 parts, and its name says what the runtime is made of.
+    /// `rows` rows. The blank ledger has 65,536 parts, and its name says what the runtime is made of. Each workqueue has its rescuer
+    /// and no helper.
     ///
     /// The error is the first of these that holds: `TooManyLanes` (69), more than 256 workqueues; `TooManyRows` (68), more than
     /// 16,777,216; `NotSafe` (67), some run of the assignment ends stuck. Out of memory (20) may come in place of the last, or
@@ -63,7 +64,35 @@ impl<N: Naming, A: Allocator + Copy> WqRuntime<N, A> {
         ensures made { OnOk result (MakesRuntime N.wiring rows) }
         ensures refused { IfErr result (RefusesRuntime N.wiring rows) }
     {
-        let held = new_held(alloc, blank, table, groups, assignment, rows)?;
+        WqRuntime::with_helpers(alloc, blank, table, groups, assignment, rows, 0)
+    }
+
+    /// Makes the runtime of a table, the groups of its items and an assignment, as `new`. Each workqueue that isn't ordered has
+    /// `helpers` helpers beside its rescuer, numbered from 1. A workqueue is ordered where it holds a group of two or more items.
+    ///
+    /// The error is the first of these that holds: `TooManyLanes` (69), more than 256 workqueues; `TooManyRows` (68), more than
+    /// 16,777,216; `TooManyHelpers` (74), more than 8; `NotSafe` (67), some run of the assignment ends stuck. Out of memory (20) may
+    /// come in place of the last, or where none holds.
+    pub fn with_helpers(
+        alloc: A,
+        blank: Blank,
+        table: &ItemTable<'_, A>,
+        groups: &Groups<A>,
+        assignment: &Assignment<A>,
+        rows: u32,
+        helpers: u8,
+    ) -> Result<Self, NewError>
+        requires name { blank.name ≡ N.name }
+        requires parts { blank.parts ≡ N.parts }
+        requires all_parts { N.parts ≡ 65536 }
+        requires grouped { length groups.now.group_of ≡ length table.now.names }
+        requires assigned { length assignment.now.lane_of_group ≡ groups.now.groups }
+        requires of_wiring { N.wiring ≡ with_helpers (wiring (declaration_of table.now groups.now) assignment.now) helpers }
+        requires of_rows { N.rows ≡ rows }
+        ensures made { OnOk result (MakesRuntime N.wiring rows) }
+        ensures refused { IfErr result (RefusesRuntime N.wiring rows) }
+    {
+        let held = new_held(alloc, blank, table, groups, assignment, rows, helpers)?;
         Ok(WqRuntime {
             lock: Lock::new(held),
         })
@@ -100,6 +129,24 @@ impl<N: Naming, A: Allocator> WqRuntime<N, A> {
     {
         self.lock.call(rt, &mut (), (), |held, _, _| {
             wq_under_lock::lane_of(held, item)
+        })
+    }
+
+    /// How many helpers a workqueue has; 0 for one that is ordered or doesn't exist.
+    pub fn helpers_of<R: Wait>(&self, rt: &R, q: LaneId) -> u8
+        ensures { result ≡ helpers_of N.wiring q }
+    {
+        self.lock.call(rt, &mut (), (), |held, _, _| {
+            wq_under_lock::helpers_of(held, q)
+        })
+    }
+
+    /// Whether there is such a context: the rescuer of a workqueue that exists, or one of the helpers that it has.
+    pub fn has_context<R: Wait>(&self, rt: &R, q: LaneId, helper: u8) -> bool
+        ensures { IsTrue result ↔ HasContext N.wiring q helper }
+    {
+        self.lock.call(rt, &mut (), (), |held, _, _| {
+            wq_under_lock::has_context(held, q, helper)
         })
     }
 

@@ -1,66 +1,111 @@
-//! Serving a workqueue: the calls of a rescuer.
+//! Serving a workqueue: the calls of its rescuer and of its helpers.
 //!
-//! A rescuer starts the next entry of its workqueue, runs the body, which may wait for items and workqueues, and finishes the entry
-//! (`rescuer_thread` and `process_one_work` in kernel/workqueue.c). The body runs between these calls, without the lock. Apart
-//! from what it waits for, a call takes the time of the book's events.
+//! A context of a workqueue is its rescuer or one of its helpers. It starts the next entry that it can, runs the body, which may
+//! wait for items and workqueues, and finishes the entry (`rescuer_thread`, `worker_thread` and `process_one_work` in
+//! kernel/workqueue.c). No two contexts run an item at the same time. The body runs between these calls, without the lock. A
+//! helper's call is the rescuer's with the number of the helper after the workqueue; both are one call by context. Apart from what
+//! it waits for, a call takes the time of the book's events.
 
 ghost use Rattle.std.specs.Prelude.{◌≡◌, ◌<◌, sum, true, false, IfOk, IfErr, OnOk, IfSome, IfNone};
-ghost use Rattle.wq_core.specs.Wiring.{items};
+ghost use Rattle.wq_core.specs.Wiring.{items, HasContext};
 ghost use Rattle.wq_counts.specs.declared.kind.Kind.TheVariants.{Finish as FinishKind};
 ghost use Rattle.wq_counts.specs.Counting.{raised, wait_kind, over_kind};
 ghost use Rattle.wq_held.specs.declared.fault.CallError.TheVariants.{WrongLane};
 ghost use Rattle.wq_held.specs.Locked.{IsOnLane, HasRoom};
-ghost use Rattle.wq_under_lock.specs.Refusals.{RefusesWaitFor};
-ghost use Rattle.wq_api.specs.WaitingCalls.{waited_for, RefusedWaitFor, HasWaiter};
-ghost use Rattle.wq_api.specs.Locking.{WasDone};
+ghost use Rattle.wq_under_lock.specs.Refusals.{RefusesWaitFor, RefusesWaitIn};
+ghost use Rattle.wq_under_lock.specs.Turns.{AnswersWith, IfAnswers, Wakes, IsSameToSleepers};
+ghost use Rattle.wq_api.specs.WaitingCalls.{IsHelper, waited_for, RefusedWaitFor, RefusedWaitIn, RefusesHelpWaitFor, RefusedHelpWaitFor, HasWaiter};
+ghost use Rattle.wq_api.specs.Locking.{WasDone, WasDoneIn};
 
 use crate::runtime::WqRuntime;
 use std::alloc::Allocator;
 use std::sync::Wait;
 use wq_groups::LaneId;
-use wq_held::{CallError, Naming, Seat};
+use wq_held::{CallError, Held, Naming, Seat};
 use wq_items::ItemId;
+use wq_under_lock::Turn;
+
+// ---- turns under the lock, as far as a caller can know what they do
+
+/// The turn of `next_in`.
+fn next_turn<N: Naming, A: Allocator>(
+    held: &mut Held<N, A>,
+    q: LaneId,
+    helper: u8,
+) -> Turn<Result<Option<ItemId>, CallError>, ()>
+    ensures started { IfAnswers result (λ r wake. IfOk r (λ next. HasContext N.wiring q helper × IfSome next (λ item. IsOnLane N.wiring q item))) }
+    ensures refused { IfAnswers result (λ r wake. IfErr r (λ e. e ≡ WrongLane)) }
+    ensures ended { IfAnswers result (λ r wake. IfOk r (λ next. IfNone next (WasDoneIn N.wiring N.rows q helper))) }
+    ensures wakes { Wakes IsSameToSleepers held.old held.new result }
+{
+    wq_under_lock::next(held, q, helper)
+}
+
+/// The turn of `begin_wait`.
+fn wait_turn<N: Naming, A: Allocator>(
+    held: &mut Held<N, A>,
+    seat: &mut Seat<N, A>,
+    q: LaneId,
+    helper: u8,
+    whole: bool,
+    target: ItemId,
+) -> Turn<Result<bool, CallError>, ()>
+    ensures counted { AnswersWith result (λ r wake. IfOk r (λ unfinished. HasContext N.wiring q helper × (target < items N.wiring) × HasRoom seat.old × (seat.new ≡ raised seat.old target (wait_kind whole) unfinished))) }
+    ensures refused { AnswersWith result (λ r wake. IfErr r (λ e. RefusesWaitIn N.wiring seat.old q helper e × (seat.new ≡ seat.old))) }
+    ensures waiter { AnswersWith result (λ r wake. HasContext N.wiring q helper → HasRoom seat.old → HasWaiter N.wiring q whole target r) }
+    ensures wakes { Wakes IsSameToSleepers held.old held.new result }
+{
+    held.holds();
+    wq_under_lock::begin_wait(held, seat, q, helper, whole, target)
+}
 
 impl<N: Naming, A: Allocator> WqRuntime<N, A> {
-    /// Starts the next entry of a workqueue, for whoever serves it, and gives its item. It waits while nothing is pending and the
-    /// runtime isn't closed. It gives nothing where nothing is pending and the runtime is closed.
+    // ---- by context
+
+    /// Starts the next entry that a context can start, for whoever serves it, and gives its item: the first pending one of its
+    /// workqueue whose item no context runs. It waits while there is none, unless nothing is pending on the workqueue and the runtime
+    /// is closed. Then it gives nothing.
     ///
-    /// The only error is `WrongLane` (64), where there is no such workqueue or it runs an entry. After an error nothing is
-    /// changed.
-    pub fn next<R: Wait>(&self, rt: &R, q: LaneId) -> Result<Option<ItemId>, CallError>
-        ensures started { IfOk result (λ next. (q < N.wiring.lanes) × IfSome next (λ item. IsOnLane N.wiring q item)) }
+    /// The only error is `WrongLane` (64), where there is no such context or it runs an entry. After an error nothing is changed.
+    pub fn next_in<R: Wait>(
+        &self,
+        rt: &R,
+        q: LaneId,
+        helper: u8,
+    ) -> Result<Option<ItemId>, CallError>
+        ensures started { IfOk result (λ next. HasContext N.wiring q helper × IfSome next (λ item. IsOnLane N.wiring q item)) }
         ensures refused { IfErr result (λ e. e ≡ WrongLane) }
-        ensures ended { IfOk result (λ next. IfNone next (WasDone N.wiring N.rows q)) }
+        ensures ended { IfOk result (λ next. IfNone next (WasDoneIn N.wiring N.rows q helper)) }
     {
-        self.lock
-            .call(rt, &mut (), (), |held, _, _| wq_under_lock::next(held, q))
+        self.lock.call(rt, &mut (), (), |held, _, _| { next_turn(held, q, helper) })
     }
 
-    /// Makes what a workqueue runs begin to wait for an item, or for its whole workqueue: true where that has an unfinished entry.
+    /// Makes what a context runs begin to wait for an item, or for its whole workqueue: true where that has an unfinished entry.
     fn begin_wait<R: Wait>(
         &self,
         rt: &R,
         seat: &mut Seat<N, A>,
         q: LaneId,
+        helper: u8,
         whole: bool,
         target: ItemId,
     ) -> Result<bool, CallError>
-        ensures counted { IfOk result (λ unfinished. (q < N.wiring.lanes) × (target < items N.wiring) × HasRoom seat.old × (seat.new ≡ raised seat.old target (wait_kind whole) unfinished)) }
-        ensures refused { IfErr result (λ e. RefusesWaitFor N.wiring seat.old q e × (seat.new ≡ seat.old)) }
-        ensures waiter { q < N.wiring.lanes → HasRoom seat.old → HasWaiter N.wiring q whole target result }
+        ensures counted { IfOk result (λ unfinished. HasContext N.wiring q helper × (target < items N.wiring) × HasRoom seat.old × (seat.new ≡ raised seat.old target (wait_kind whole) unfinished)) }
+        ensures refused { IfErr result (λ e. RefusesWaitIn N.wiring seat.old q helper e × (seat.new ≡ seat.old)) }
+        ensures waiter { HasContext N.wiring q helper → HasRoom seat.old → HasWaiter N.wiring q whole target result }
     {
         self.lock.call(rt, seat, (), |held, seat, _| {
-            held.holds();
-            wq_under_lock::begin_wait(held, seat, q, whole, target)
+            wait_turn(held, seat, q, helper, whole, target)
         })
     }
 
-    /// Waits until the wait of a workqueue for an item, or for its whole workqueue, is over.
+    /// Waits until the wait of a context for an item, or for its whole workqueue, is over.
     fn go_on<R: Wait>(
         &self,
         rt: &R,
         seat: &mut Seat<N, A>,
         q: LaneId,
+        helper: u8,
         whole: bool,
         target: ItemId,
     ) -> Result<(), CallError>
@@ -68,36 +113,116 @@ impl<N: Naming, A: Allocator> WqRuntime<N, A> {
         ensures refused { IfErr result (λ e. (e ≡ WrongLane) × (seat.new ≡ seat.old)) }
     {
         self.lock.call(rt, seat, (), |held, seat, _| {
-            wq_under_lock::go_on(held, seat, q, whole, target)
+            wq_under_lock::go_on(held, seat, q, helper, whole, target)
         })
     }
 
-    /// Makes what a workqueue runs wait for an item, as `wait_for`, or for its whole workqueue, as `wait_all_for`.
+    /// Makes what a context runs wait for an item, as `wait_for_in`, or for its whole workqueue, as `wait_all_for_in`.
     #[tactic(auto, using(crate::proofs::WaitsRefused::wait_not_counted, crate::proofs::WaitsRefused::over_refused, crate::proofs::WaitsRefused::over_counted))]
     fn wait_by<R: Wait>(
         &self,
         rt: &R,
         seat: &mut Seat<N, A>,
         q: LaneId,
+        helper: u8,
         whole: bool,
         target: ItemId,
     ) -> Result<bool, CallError>
-        ensures counted { IfOk result (λ unfinished. (q < N.wiring.lanes) × (target < items N.wiring) × HasRoom seat.old × (seat.new ≡ waited_for seat.old whole target unfinished)) }
-        ensures refused { IfErr result (λ e. RefusesWaitFor N.wiring seat.old q e × RefusedWaitFor N.wiring seat.old seat.new q whole target e) }
-        ensures waiter { q < N.wiring.lanes → HasRoom seat.old → HasWaiter N.wiring q whole target result }
+        ensures counted { IfOk result (λ unfinished. HasContext N.wiring q helper × (target < items N.wiring) × HasRoom seat.old × (seat.new ≡ waited_for seat.old whole target unfinished)) }
+        ensures refused { IfErr result (λ e. RefusesWaitIn N.wiring seat.old q helper e × RefusedWaitIn N.wiring seat.old seat.new q helper whole target e) }
+        ensures waiter { HasContext N.wiring q helper → HasRoom seat.old → HasWaiter N.wiring q whole target result }
     {
-        let unfinished = self.begin_wait(rt, seat, q, whole, target)?;
-        self.go_on(rt, seat, q, whole, target)?;
+        let unfinished = self.begin_wait(rt, seat, q, helper, whole, target)?;
+        self.go_on(rt, seat, q, helper, whole, target)?;
         Ok(unfinished)
     }
 
-    /// Makes what a workqueue runs wait for an item (`flush_work` in a work function), until none of its entries that were queued
+    /// Makes what a context runs wait for an item (`flush_work` in a work function), until none of its entries that were queued
     /// before the call is unfinished: true where one was when the wait began.
     ///
-    /// The error is the first of these that holds: `WrongLane` (64), where there is no such workqueue; `HistoryFull` (60), where
-    /// the seat is full; `WrongLane` (64), where the workqueue runs nothing or waits; `Undeclared` (62), where what it runs
+    /// The error is the first of these that holds: `WrongLane` (64), where there is no such context; `HistoryFull` (60), where
+    /// the seat is full; `WrongLane` (64), where the context runs nothing or waits; `Undeclared` (62), where what it runs
     /// declares no flush of this item alone; `TooManyWaits` (63). Then nothing is changed or counted. Once it waits, the only error
-    /// could be `WrongLane`, where another caller drove this workqueue on; then the wait stays counted.
+    /// could be `WrongLane`, where another caller drove this context on; then the wait stays counted.
+    pub fn wait_for_in<R: Wait>(
+        &self,
+        rt: &R,
+        seat: &mut Seat<N, A>,
+        q: LaneId,
+        helper: u8,
+        target: ItemId,
+    ) -> Result<bool, CallError>
+        ensures counted { IfOk result (λ unfinished. HasContext N.wiring q helper × (target < items N.wiring) × HasRoom seat.old × (seat.new ≡ waited_for seat.old false target unfinished)) }
+        ensures refused { IfErr result (λ e. RefusesWaitIn N.wiring seat.old q helper e × RefusedWaitIn N.wiring seat.old seat.new q helper false target e) }
+        ensures waiter { HasContext N.wiring q helper → HasRoom seat.old → HasWaiter N.wiring q false target result }
+    {
+        self.wait_by(rt, seat, q, helper, false, target)
+    }
+
+    /// Makes what a context runs wait for the whole workqueue of an item (`flush_workqueue` in a work function), until none of
+    /// the entries that were queued on it before the call is unfinished: true where one was when the wait began.
+    ///
+    /// The error is the first of these that holds: `WrongLane` (64), where there is no such context; `HistoryFull` (60), where the
+    /// seat is full; `WrongLane` (64), where the context runs nothing or waits; `Undeclared` (62), where what it runs declares no
+    /// flush of the whole workqueue of this very item; `TooManyWaits` (63). Then nothing is changed or counted. Once it waits, the
+    /// only error could be `WrongLane`, where another caller drove this context on; then the wait stays counted.
+    pub fn wait_all_for_in<R: Wait>(
+        &self,
+        rt: &R,
+        seat: &mut Seat<N, A>,
+        q: LaneId,
+        helper: u8,
+        target: ItemId,
+    ) -> Result<bool, CallError>
+        ensures counted { IfOk result (λ unfinished. HasContext N.wiring q helper × (target < items N.wiring) × HasRoom seat.old × (seat.new ≡ waited_for seat.old true target unfinished)) }
+        ensures refused { IfErr result (λ e. RefusesWaitIn N.wiring seat.old q helper e × RefusedWaitIn N.wiring seat.old seat.new q helper true target e) }
+        ensures waiter { HasContext N.wiring q helper → HasRoom seat.old → HasWaiter N.wiring q true target result }
+    {
+        self.wait_by(rt, seat, q, helper, true, target)
+    }
+
+    /// Finishes what a context runs, an entry of this item.
+    ///
+    /// The only error is `WrongLane` (64): there is no such context, it runs nothing or an entry of another item, or it waits.
+    /// After an error nothing is changed or counted.
+    pub fn finish_in<R: Wait>(
+        &self,
+        rt: &R,
+        seat: &mut Seat<N, A>,
+        q: LaneId,
+        helper: u8,
+        item: ItemId,
+    ) -> Result<(), CallError>
+        ensures counted { OnOk result (HasContext N.wiring q helper × IsOnLane N.wiring q item × (seat.new ≡ raised seat.old item FinishKind true)) }
+        ensures refused { IfErr result (λ e. (e ≡ WrongLane) × (seat.new ≡ seat.old)) }
+    {
+        self.lock.call(rt, seat, (), |held, seat, _| {
+            wq_under_lock::finish_work(held, seat, q, helper, item)
+        })
+    }
+
+    // ---- the rescuer
+
+    /// Starts the next entry of a workqueue, for whoever serves it as its rescuer, and gives its item: the first pending one whose
+    /// item no helper runs. It waits while there is none, unless nothing is pending and the runtime is closed. Then it gives nothing.
+    ///
+    /// The only error is `WrongLane` (64), where there is no such workqueue or its rescuer runs an entry. After an error nothing is
+    /// changed.
+    pub fn next<R: Wait>(&self, rt: &R, q: LaneId) -> Result<Option<ItemId>, CallError>
+        ensures started { IfOk result (λ next. (q < N.wiring.lanes) × IfSome next (λ item. IsOnLane N.wiring q item)) }
+        ensures refused { IfErr result (λ e. e ≡ WrongLane) }
+        ensures ended { IfOk result (λ next. IfNone next (WasDone N.wiring N.rows q)) }
+    {
+        self.next_in(rt, q, 0)
+    }
+
+    /// Makes what the rescuer of a workqueue runs wait for an item (`flush_work` in a work function), until none of its entries that
+    /// were queued before the call is unfinished: true where one was when the wait began.
+    ///
+    /// The error is the first of these that holds: `WrongLane` (64), where there is no such workqueue; `HistoryFull` (60), where
+    /// the seat is full; `WrongLane` (64), where the rescuer runs nothing or waits; `Undeclared` (62), where what it runs
+    /// declares no flush of this item alone; `TooManyWaits` (63). Then nothing is changed or counted. Once it waits, the only error
+    /// could be `WrongLane`, where another caller drove this rescuer on; then the wait stays counted.
     pub fn wait_for<R: Wait>(
         &self,
         rt: &R,
@@ -109,16 +234,16 @@ impl<N: Naming, A: Allocator> WqRuntime<N, A> {
         ensures refused { IfErr result (λ e. RefusesWaitFor N.wiring seat.old q e × RefusedWaitFor N.wiring seat.old seat.new q false target e) }
         ensures waiter { q < N.wiring.lanes → HasRoom seat.old → HasWaiter N.wiring q false target result }
     {
-        self.wait_by(rt, seat, q, false, target)
+        self.wait_for_in(rt, seat, q, 0, target)
     }
 
-    /// Makes what a workqueue runs wait for the whole workqueue of an item (`flush_workqueue` in a work function), until none of
-    /// the entries that were queued on it before the call is unfinished: true where one was when the wait began.
+    /// Makes what the rescuer of a workqueue runs wait for the whole workqueue of an item (`flush_workqueue` in a work function),
+    /// until none of the entries that were queued on it before the call is unfinished: true where one was when the wait began.
     ///
     /// The error is the first of these that holds: `WrongLane` (64), where there is no workqueue `q`; `HistoryFull` (60), where the
-    /// seat is full; `WrongLane` (64), where `q` runs nothing or waits; `Undeclared` (62), where what it runs declares no flush of
-    /// the whole workqueue of this very item; `TooManyWaits` (63). Then nothing is changed or counted. Once it waits, the only
-    /// error could be `WrongLane`, where another caller drove `q` on; then the wait stays counted.
+    /// seat is full; `WrongLane` (64), where the rescuer of `q` runs nothing or waits; `Undeclared` (62), where what it runs declares
+    /// no flush of the whole workqueue of this very item; `TooManyWaits` (63). Then nothing is changed or counted. Once it waits, the
+    /// only error could be `WrongLane`, where another caller drove this rescuer on; then the wait stays counted.
     pub fn wait_all_for<R: Wait>(
         &self,
         rt: &R,
@@ -130,13 +255,13 @@ impl<N: Naming, A: Allocator> WqRuntime<N, A> {
         ensures refused { IfErr result (λ e. RefusesWaitFor N.wiring seat.old q e × RefusedWaitFor N.wiring seat.old seat.new q true target e) }
         ensures waiter { q < N.wiring.lanes → HasRoom seat.old → HasWaiter N.wiring q true target result }
     {
-        self.wait_by(rt, seat, q, true, target)
+        self.wait_all_for_in(rt, seat, q, 0, target)
     }
 
-    /// Finishes what a workqueue runs, an entry of this item.
+    /// Finishes what the rescuer of a workqueue runs, an entry of this item.
     ///
-    /// The only error is `WrongLane` (64): there is no such workqueue, it runs nothing or an entry of another item, or it waits.
-    /// After an error nothing is changed or counted.
+    /// The only error is `WrongLane` (64): there is no such workqueue, its rescuer runs nothing or an entry of another item, or it
+    /// waits. After an error nothing is changed or counted.
     pub fn finish_work<R: Wait>(
         &self,
         rt: &R,
@@ -147,8 +272,93 @@ impl<N: Naming, A: Allocator> WqRuntime<N, A> {
         ensures counted { OnOk result (IsOnLane N.wiring q item × (seat.new ≡ raised seat.old item FinishKind true)) }
         ensures refused { IfErr result (λ e. (e ≡ WrongLane) × (seat.new ≡ seat.old)) }
     {
-        self.lock.call(rt, seat, (), |held, seat, _| {
-            wq_under_lock::finish_work(held, seat, q, item)
-        })
+        self.finish_in(rt, seat, q, 0, item)
+    }
+
+    // ---- helpers
+
+    /// Starts the next entry that a helper of a workqueue can start, and gives its item, as `next` does for the rescuer: the first
+    /// pending one whose item neither the rescuer nor another helper runs.
+    ///
+    /// The only error is `WrongLane` (64), where the workqueue has no helper `h`, or that helper runs an entry. After an error nothing
+    /// is changed.
+    pub fn help_next<R: Wait>(&self, rt: &R, q: LaneId, h: u8) -> Result<Option<ItemId>, CallError>
+        ensures started { IfOk result (λ next. IsHelper N.wiring q h × IfSome next (λ item. IsOnLane N.wiring q item)) }
+        ensures refused { IfErr result (λ e. e ≡ WrongLane) }
+        ensures ended { IfOk result (λ next. IfNone next (WasDoneIn N.wiring N.rows q h)) }
+    {
+        if h == 0 {
+            return Err(CallError::WrongLane);
+        }
+        self.next_in(rt, q, h)
+    }
+
+    /// Makes what a helper of a workqueue runs wait for an item, as `wait_for` does for the rescuer.
+    ///
+    /// The error is the first of these that holds: `WrongLane` (64), where the workqueue has no helper `h`; `HistoryFull` (60), where
+    /// the seat is full; `WrongLane` (64), where the helper runs nothing or waits; `Undeclared` (62), where what it runs
+    /// declares no flush of this item alone; `TooManyWaits` (63). Then nothing is changed or counted. Once it waits, the only error
+    /// could be `WrongLane`, where another caller drove this helper on; then the wait stays counted.
+    pub fn help_wait_for<R: Wait>(
+        &self,
+        rt: &R,
+        seat: &mut Seat<N, A>,
+        q: LaneId,
+        h: u8,
+        target: ItemId,
+    ) -> Result<bool, CallError>
+        ensures counted { IfOk result (λ unfinished. IsHelper N.wiring q h × (target < items N.wiring) × HasRoom seat.old × (seat.new ≡ waited_for seat.old false target unfinished)) }
+        ensures refused { IfErr result (λ e. RefusesHelpWaitFor N.wiring seat.old q h e × RefusedHelpWaitFor N.wiring seat.old seat.new q h false target e) }
+        ensures waiter { IsHelper N.wiring q h → HasRoom seat.old → HasWaiter N.wiring q false target result }
+    {
+        if h == 0 {
+            return Err(CallError::WrongLane);
+        }
+        self.wait_for_in(rt, seat, q, h, target)
+    }
+
+    /// Makes what a helper of a workqueue runs wait for the whole workqueue of an item, as `wait_all_for` does for the rescuer.
+    ///
+    /// The error is the first of these that holds: `WrongLane` (64), where the workqueue has no helper `h`; `HistoryFull` (60), where
+    /// the seat is full; `WrongLane` (64), where the helper runs nothing or waits; `Undeclared` (62), where what it runs declares no
+    /// flush of the whole workqueue of this very item; `TooManyWaits` (63). Then nothing is changed or counted. Once it waits, the
+    /// only error could be `WrongLane`, where another caller drove this helper on; then the wait stays counted.
+    pub fn help_wait_all_for<R: Wait>(
+        &self,
+        rt: &R,
+        seat: &mut Seat<N, A>,
+        q: LaneId,
+        h: u8,
+        target: ItemId,
+    ) -> Result<bool, CallError>
+        ensures counted { IfOk result (λ unfinished. IsHelper N.wiring q h × (target < items N.wiring) × HasRoom seat.old × (seat.new ≡ waited_for seat.old true target unfinished)) }
+        ensures refused { IfErr result (λ e. RefusesHelpWaitFor N.wiring seat.old q h e × RefusedHelpWaitFor N.wiring seat.old seat.new q h true target e) }
+        ensures waiter { IsHelper N.wiring q h → HasRoom seat.old → HasWaiter N.wiring q true target result }
+    {
+        if h == 0 {
+            return Err(CallError::WrongLane);
+        }
+        self.wait_all_for_in(rt, seat, q, h, target)
+    }
+
+    /// Finishes what a helper of a workqueue runs, an entry of this item.
+    ///
+    /// The only error is `WrongLane` (64): the workqueue has no helper `h`, that helper runs nothing or an entry of another item, or it
+    /// waits. After an error nothing is changed or counted.
+    pub fn help_finish_work<R: Wait>(
+        &self,
+        rt: &R,
+        seat: &mut Seat<N, A>,
+        q: LaneId,
+        h: u8,
+        item: ItemId,
+    ) -> Result<(), CallError>
+        ensures counted { OnOk result (IsHelper N.wiring q h × IsOnLane N.wiring q item × (seat.new ≡ raised seat.old item FinishKind true)) }
+        ensures refused { IfErr result (λ e. (e ≡ WrongLane) × (seat.new ≡ seat.old)) }
+    {
+        if h == 0 {
+            return Err(CallError::WrongLane);
+        }
+        self.finish_in(rt, seat, q, h, item)
     }
 }

@@ -1,6 +1,6 @@
 -- Finished executions: what a seat counts of them, item by item and in all.
 use Rattle.std.proofs.Common.{◌≡◌, ◌≢◌, ℕ, zero, suc, ◌+◌, ◌*◌, ◌<◌, ◌≤◌, inl, inr, Bool, true, List, drop, refl, sym, ap, subst, arith}
-use Rattle.std.specs.Prelude.{Option, Some, None, IfSome, Result, Ok, Err, sum, false, IsTrue, ◌↔◌}
+use Rattle.std.specs.Prelude.{Option, Some, None, IfSome, Result, Ok, Err, OnOk, IfErr, sum, false, IsTrue, ◌↔◌}
 use Rattle.std.specs.List.{sum_by, range_with_len}
 use Rattle.std.proofs.lemmas.Bool.{cases_lt, cases_eq}
 use Rattle.std.proofs.lemmas.List.Sums.{sum_by-cons, sum_by-drop_more, sum_by-take-drop, get_or-le-sum_by}
@@ -8,10 +8,13 @@ use lib.Seq.{drop-drop}
 use Rattle.wq_counts.specs.declared.kind.Kind.TheVariants.{Finish}
 use Rattle.wq_counts.specs.Counting.{counts_each, place, HasCountsOf, raised}
 use Rattle.wq_counts.proofs.Places.{place-same, made-raised_same, made-raised_other}
-use Rattle.wq_core.specs.Wiring.{Wiring}
+use Rattle.wq_core.specs.Wiring.{Wiring, HasContext}
 use Rattle.wq_held.specs.Locked.{IsOnLane, seat_rows}
-use Rattle.wq_execution.specs.Executing.{NeverRan, RanOnce, RanOnly, finished_of, finished_in_all, faults_of, SameFinished, CountsRuns}
+use Rattle.wq_execution.specs.Executing.{NeverRan, RanOnce, RanOnly, finished_of, finished_in_all, faults_of, SameFinished, CountsRuns, RefusesRescue, RefusesServe, RefusesHelp}
+use Rattle.wq_held.specs.declared.fault.CallError.{CallError}
+use Rattle.wq_api.specs.WaitingCalls.{IsHelper}
 use Rattle.wq_execution.specs.declared.body.BodyFault.{BodyFault}
+use Rattle.wq_execution.specs.declared.rescuing.Rescued.{Rescued}
 
 -- ---- one item
 
@@ -68,9 +71,9 @@ finished_in_all-le n slots counts has within = from_item slots counts 0 n has (o
 pub finished_of-le : (n : ℕ) (counts : List ℕ) (i : ℕ) → HasCountsOf n counts → i < n → finished_of counts i ≤ sum counts
 finished_of-le n counts i has lt = get_or-le-sum_by (λ (x : ℕ). x) counts (place i Finish true) 0 (omega (arith, has))
 
--- ---- a rescuer that serves a lane
+-- ---- a context that serves its lane
 
--- what a rescuer has done so far: for each item its seat counts as finished what the body ran, and in all, as many as it says
+-- what a context has done so far: for each item its seat counts as finished what the body ran, and in all, as many as it says
 pub record IsServing (items : ℕ) (before counts : List ℕ) (width : ℕ) (runs : ℕ → ℕ) (finished faults : ℕ) : Type 0 where
   pub wide : items ≤ width
   pub ran : CountsRuns before counts runs
@@ -140,3 +143,21 @@ below_limit b limit n says is = elim (cases_lt n limit) [
   | inl below ↦ below
   | inr at ↦ (let is_true : IsTrue b = says.1 at in cc)
 ]
+
+-- ---- a rescuer, and a helper
+
+pub lane_served : (w : Wiring) (q : ℕ) (r : Result Rescued CallError) → OnOk r (HasContext w q 0) → OnOk r (q < w.lanes)
+lane_served w q (Ok rescued) there = there.0
+lane_served w q (Err e) there = tt
+
+pub rescuer_refused : (w : Wiring) (q : ℕ) (seat : List ℕ) (r : Result Rescued CallError) → IfErr r (λ e. RefusesServe w q 0 seat e) → IfErr r (λ e. RefusesRescue w q seat e)
+rescuer_refused w q seat (Ok rescued) why = tt
+rescuer_refused w q seat (Err e) why = λ other. let is = why other in (is.0, is.1.0, is.2)
+
+pub helper_served : (w : Wiring) (q h : ℕ) (r : Result Rescued CallError) → 0 < h → OnOk r (HasContext w q h) → OnOk r (IsHelper w q h)
+helper_served w q h (Ok rescued) some there = (some, there)
+helper_served w q h (Err e) some there = tt
+
+pub helper_refused : (w : Wiring) (q h : ℕ) (seat : List ℕ) (r : Result Rescued CallError) → 0 < h → IfErr r (λ e. RefusesServe w q h seat e) → IfErr r (λ e. RefusesHelp w q h seat e)
+helper_refused w q h seat (Ok rescued) some why = tt
+helper_refused w q h seat (Err e) some why = λ other. let is = why other in (is.0, (some, is.1), is.2)

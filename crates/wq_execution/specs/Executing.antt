@@ -1,13 +1,14 @@
--- Executing: what bodies run, what the seats of their rescuers count, and why they are refused.
+-- Executing: what bodies run, what the seats of their contexts count, and why they are refused.
 use Rattle.std.specs.Prelude.{◌≡◌, ◌≢◌, ℕ, ◌+◌, ◌<◌, ◌≤◌, List, Result, Ok, Err, true, sum}
 use Rattle.std.specs.List.{sum_by, range_with_len}
-use Rattle.wq_core.specs.Wiring.{Wiring, items}
+use Rattle.wq_core.specs.Wiring.{Wiring, items, HasContext}
 use Rattle.wq_counts.specs.declared.kind.Kind.TheVariants.{Finish}
 use Rattle.wq_counts.specs.Counting.{made}
 use Rattle.wq_held.specs.declared.fault.CallError.{CallError}
 use Rattle.wq_held.specs.declared.fault.CallError.TheVariants.{HistoryFull, Closed, Undeclared, TooManyWaits, WrongLane, NotAsked, NoItem}
 use Rattle.wq_held.specs.Errors.{call_code}
 use Rattle.wq_held.specs.Locked.{IsOnLane, HasRoom, seat_rows}
+use Rattle.wq_api.specs.WaitingCalls.{IsHelper}
 use Rattle.wq_execution.specs.declared.body.BodyFault.{BodyFault}
 
 -- ---- what a body runs: how often each item ran
@@ -68,3 +69,11 @@ RefusesQueueByBody w counts i NotAsked = ⊥
 -- 60, where there is such a lane and the seat is full
 abbrev pub RefusesRescue : Wiring → ℕ → List ℕ → CallError → Type 0
 RefusesRescue w q seat e = call_code e ≢ 64 → (call_code e ≡ 60) × (q < w.lanes) × (seat_rows ≤ sum seat)
+
+-- context c of lane q, likewise
+abbrev pub RefusesServe : Wiring → ℕ → ℕ → List ℕ → CallError → Type 0
+RefusesServe w q c seat e = call_code e ≢ 64 → (call_code e ≡ 60) × HasContext w q c × (seat_rows ≤ sum seat)
+
+-- helper h of lane q, likewise
+abbrev pub RefusesHelp : Wiring → ℕ → ℕ → List ℕ → CallError → Type 0
+RefusesHelp w q h seat e = call_code e ≢ 64 → (call_code e ≡ 60) × IsHelper w q h × (seat_rows ≤ sum seat)

@@ -1,7 +1,7 @@
 //! What runs when an item is executed.
 //!
-//! A body belongs to one rescuer, which calls it for each execution of an item of its workqueue (`work_func_t` in
-//! include/linux/workqueue.h). The body counts its runs, and the rescuer's seat is compared with these counts.
+//! A body belongs to one context, a rescuer or a helper, which calls it for each item of its workqueue that it executes (`work_func_t`
+//! in include/linux/workqueue.h). The body counts its runs, and the context's seat is compared with these counts.
 
 ghost use Rattle.std.specs.Prelude.{◌≡◌, ◌<◌};
 ghost use Rattle.wq_execution.specs.Executing.{RanOnce, SameFinished};
@@ -21,7 +21,7 @@ pub struct BodyFault {
     pub code: u32,
 }
 
-/// What a rescuer runs.
+/// What a rescuer or a helper runs.
 pub trait Body {
     ghost use Rattle.std.specs.Prelude.{ℕ};
     ghost use Rattle.wq_held.specs.Locked.{IsOnLane};
@@ -44,7 +44,7 @@ pub trait Body {
         requires known { item < width self.old }
         requires few { runs self.old item < 4294967295 }
         requires of_item { work.old.item ≡ item }
-        requires on_lane { IsOnLane N.wiring work.old.lane item }
+        requires on_lane { IsOnLane N.wiring work.old.context.lane item }
         ensures ran { RanOnce (runs self.old) (runs self.new) item }
         ensures width { width self.new ≡ width self.old }
         ensures finished { SameFinished work.old.seat.now work.new.seat.now }

@@ -1,14 +1,15 @@
-//! The loop of a rescuer: it starts the next entry of its workqueue, runs the body, and finishes the entry (`rescuer_thread` and
-//! `process_one_work` in kernel/workqueue.c).
+//! The loop of a context of a workqueue, its rescuer or one of its helpers: it starts the next entry of the workqueue that it can
+//! start, runs the body, and finishes the entry (`rescuer_thread`, `worker_thread` and `process_one_work` in kernel/workqueue.c).
 //!
 //! The loop ends when the runtime is closed and nothing is pending on the workqueue. It takes no memory. Apart from the bodies
 //! and what it waits for, it takes the time of the runtime's calls.
 
 ghost use Rattle.std.specs.Prelude.{◌≡◌, ℕ, ◌+◌, ◌<◌, ◌≤◌, IfOk, OnOk, IfErr, OnErr};
-ghost use Rattle.wq_core.specs.Wiring.{items};
+ghost use Rattle.wq_core.specs.Wiring.{items, HasContext};
 ghost use Rattle.wq_held.specs.Locked.{IsOnLane};
-ghost use Rattle.wq_api.specs.Locking.{WasDone};
-ghost use Rattle.wq_execution.specs.Executing.{NeverRan, RanOnce, RanOnly, SameFinished, CountsRuns, CountsAtMost, finished_in_all, faults_of, RefusesRescue};
+ghost use Rattle.wq_api.specs.WaitingCalls.{IsHelper};
+ghost use Rattle.wq_api.specs.Locking.{WasDone, WasDoneIn};
+ghost use Rattle.wq_execution.specs.Executing.{NeverRan, RanOnce, RanOnly, SameFinished, CountsRuns, CountsAtMost, finished_in_all, faults_of, RefusesRescue, RefusesServe, RefusesHelp};
 
 use crate::body::{Body, BodyFault};
 use crate::work::Work;
@@ -18,7 +19,7 @@ use wq_api::{CallError, Naming, Seat, WqRuntime};
 use wq_groups::LaneId;
 use wq_items::ItemId;
 
-/// What a rescuer did.
+/// What a rescuer or a helper did.
 #[derive(Clone, Copy, Debug, PartialEq, Eq)]
 pub struct Rescued {
     /// How many executions it finished.
@@ -45,11 +46,12 @@ impl Rescued {
     }
 }
 
-/// Runs the body of an item that a lane has started.
+/// Runs the body of an item that a context has started.
 fn execute<N: Naming, A: Allocator, R: Wait, B: Body>(
     rt: &R,
     runtime: &WqRuntime<N, A>,
     q: LaneId,
+    helper: u8,
     seat: &mut Seat<N, A>,
     body: &mut B,
     item: ItemId,
@@ -61,16 +63,64 @@ fn execute<N: Naming, A: Allocator, R: Wait, B: Body>(
     ensures width { B.width body.new ≡ B.width body.old }
     ensures finished { SameFinished seat.old seat.new }
 {
-    let mut work = Work::new(runtime, seat, q, item);
+    let mut work = Work::new(runtime, seat, q, helper, item);
     body.run(rt, item, &mut work)
 }
 
-/// Serves a workqueue until the runtime is closed and nothing is pending on it. For each item, what the seat counts as finished
-/// has risen by what the body ran.
+/// Serves a context of a workqueue until the runtime is closed and nothing is pending on the workqueue. For each item, what the seat
+/// counts as finished has risen by what the body ran.
+///
+/// The body has run nothing before, and can count each item. It runs only items of this workqueue. The error is `WrongLane` (64),
+/// where there is no such context, or `HistoryFull` (60), where the seat is full, or `WrongLane` (64), where another caller drove
+/// the same context. Then what the seat counts as finished has risen by no more than what the body ran.
+pub fn serve<N: Naming, A: Allocator, R: Wait, B: Body>(
+    rt: &R,
+    runtime: &WqRuntime<N, A>,
+    q: LaneId,
+    helper: u8,
+    seat: &mut Seat<N, A>,
+    body: &mut B,
+) -> Result<Rescued, CallError>
+    requires width { items N.wiring ≤ B.width body.old }
+    requires never_ran { NeverRan (B.runs body.old) }
+    ensures ran { OnOk result (CountsRuns seat.old seat.new (B.runs body.new)) }
+    ensures finished { IfOk result (λ r. finished_in_all (items N.wiring) seat.old + r.finished ≡ finished_in_all (items N.wiring) seat.new) }
+    ensures faults { IfOk result (λ r. r.faults ≤ r.finished) }
+    ensures context { OnOk result (HasContext N.wiring q helper) }
+    ensures own { RanOnly N.wiring q (B.runs body.new) }
+    ensures why { IfErr result (λ e. RefusesServe N.wiring q helper seat.new e) }
+    ensures refused { OnErr result (CountsAtMost seat.old seat.new (B.runs body.new)) }
+    ensures ended { OnOk result (WasDoneIn N.wiring N.rows q helper) }
+{
+    if !runtime.has_context(rt, q, helper) {
+        return Err(CallError::WrongLane);
+    }
+    let mut rescued = Rescued {
+        finished: 0,
+        faults: 0,
+    };
+    for _ in rt.forever() {
+        seat.holds();
+        if seat.is_full() {
+            return Err(CallError::HistoryFull);
+        }
+        let Some(item) = runtime.next_in(rt, q, helper)? else {
+            return Ok(rescued);
+        };
+        let answer = execute(rt, runtime, q, helper, seat, body, item);
+        seat.holds();
+        runtime.finish_in(rt, seat, q, helper, item)?;
+        rescued = rescued.and(answer);
+    }
+    unreachable!()
+}
+
+/// Serves a workqueue, as its rescuer, until the runtime is closed and nothing is pending on it. For each item, what the seat counts
+/// as finished has risen by what the body ran.
 ///
 /// The body has run nothing before, and can count each item. It runs only items of this workqueue. The error is `WrongLane` (64),
 /// where there is no such workqueue, or `HistoryFull` (60), where the seat is full, or `WrongLane` (64), where another caller drove
-/// the same workqueue. Then what the seat counts as finished has risen by no more than what the body ran.
+/// the same rescuer. Then what the seat counts as finished has risen by no more than what the body ran.
 pub fn rescue<N: Naming, A: Allocator, R: Wait, B: Body>(
     rt: &R,
     runtime: &WqRuntime<N, A>,
@@ -89,25 +139,36 @@ pub fn rescue<N: Naming, A: Allocator, R: Wait, B: Body>(
     ensures refused { OnErr result (CountsAtMost seat.old seat.new (B.runs body.new)) }
     ensures ended { OnOk result (WasDone N.wiring N.rows q) }
 {
-    if q.get() >= runtime.lanes(rt) {
+    serve(rt, runtime, q, 0, seat, body)
+}
+
+/// Serves a workqueue, as its helper `h`, until the runtime is closed and nothing is pending on the workqueue. It does for a helper
+/// what `rescue` does for the rescuer.
+///
+/// The body has run nothing before, and can count each item. It runs only items of this workqueue. The error is `WrongLane` (64),
+/// where the workqueue has no helper `h`, or `HistoryFull` (60), where the seat is full, or `WrongLane` (64), where another caller
+/// drove the same helper. Then what the seat counts as finished has risen by no more than what the body ran.
+pub fn help<N: Naming, A: Allocator, R: Wait, B: Body>(
+    rt: &R,
+    runtime: &WqRuntime<N, A>,
+    q: LaneId,
+    h: u8,
+    seat: &mut Seat<N, A>,
+    body: &mut B,
+) -> Result<Rescued, CallError>
+    requires width { items N.wiring ≤ B.width body.old }
+    requires never_ran { NeverRan (B.runs body.old) }
+    ensures ran { OnOk result (CountsRuns seat.old seat.new (B.runs body.new)) }
+    ensures finished { IfOk result (λ r. finished_in_all (items N.wiring) seat.old + r.finished ≡ finished_in_all (items N.wiring) seat.new) }
+    ensures faults { IfOk result (λ r. r.faults ≤ r.finished) }
+    ensures helper { OnOk result (IsHelper N.wiring q h) }
+    ensures own { RanOnly N.wiring q (B.runs body.new) }
+    ensures why { IfErr result (λ e. RefusesHelp N.wiring q h seat.new e) }
+    ensures refused { OnErr result (CountsAtMost seat.old seat.new (B.runs body.new)) }
+    ensures ended { OnOk result (WasDoneIn N.wiring N.rows q h) }
+{
+    if h == 0 {
         return Err(CallError::WrongLane);
     }
-    let mut rescued = Rescued {
-        finished: 0,
-        faults: 0,
-    };
-    for _ in rt.forever() {
-        seat.holds();
-        if seat.is_full() {
-            return Err(CallError::HistoryFull);
-        }
-        let Some(item) = runtime.next(rt, q)? else {
-            return Ok(rescued);
-        };
-        let answer = execute(rt, runtime, q, seat, body, item);
-        seat.holds();
-        runtime.finish_work(rt, seat, q, item)?;
-        rescued = rescued.and(answer);
-    }
-    unreachable!()
+    serve(rt, runtime, q, h, seat, body)
 }

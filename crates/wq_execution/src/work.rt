@@ -1,22 +1,22 @@
 //! What the body of a work item may do while it runs: queue, cancel and flush.
 //!
-//! A body runs outside the lock, on the rescuer of its workqueue. What it does counts in the seat of that rescuer. It may flush
-//! only what its item declares, items and whole workqueues, and no more often (`flush_work` and `flush_workqueue` in a work
-//! function, Documentation/core-api/workqueue.rst, "Guidelines"). Apart from what it waits for, a call takes the time of the
-//! runtime's own call.
+//! A body runs outside the lock, in a context of its workqueue, which is its rescuer or a helper. What it does counts in the seat
+//! of that context. It may flush only what its item declares, items and whole workqueues, and no more often (`flush_work` and
+//! `flush_workqueue` in a work function, Documentation/core-api/workqueue.rst, "Guidelines"). Apart from what it waits for, a call
+//! takes the time of the runtime's own call.
 
 ghost use Rattle.std.specs.Prelude.{◌≡◌, ◌<◌, true, false, IfOk, IfErr};
-ghost use Rattle.wq_core.specs.Wiring.{items};
+ghost use Rattle.wq_core.specs.Wiring.{items, HasContext};
 ghost use Rattle.wq_counts.specs.declared.kind.Kind.TheVariants.{Queue, Cancel};
 ghost use Rattle.wq_counts.specs.Counting.{HasCountsOf, raised};
 ghost use Rattle.wq_held.specs.Locked.{slots, HasRoom};
-ghost use Rattle.wq_under_lock.specs.Refusals.{RefusesCancelWork, RefusesWaitFor};
-ghost use Rattle.wq_api.specs.WaitingCalls.{waited_for, RefusedWaitFor, HasWaiter};
+ghost use Rattle.wq_under_lock.specs.Refusals.{RefusesCancelWork, RefusesWaitIn};
+ghost use Rattle.wq_api.specs.WaitingCalls.{waited_for, RefusedWaitIn, HasWaiter};
 ghost use Rattle.wq_execution.specs.Executing.{SameFinished, RefusesQueueByBody};
 
 use std::alloc::Allocator;
 use std::sync::Wait;
-use wq_api::{CallError, Naming, Seat, WqRuntime};
+use wq_api::{CallError, Context, Naming, Seat, WqRuntime};
 use wq_groups::LaneId;
 use wq_items::ItemId;
 
@@ -25,29 +25,31 @@ use wq_items::ItemId;
 pub struct Work<'a, N: Naming, A: Allocator> {
     runtime: &'a WqRuntime<N, A>,
     seat: &'a mut Seat<N, A>,
-    lane: LaneId,
+    context: Context,
     item: ItemId,
     /// What the latest flush, of an item or of a workqueue, answered. Contracts alone look at it.
     flushed: Result<bool, CallError>,
 }
 
 impl<'a, N: Naming, A: Allocator> Work<'a, N, A> {
-    /// An execution of an item that a workqueue has started. It counts in this seat.
+    /// An execution of an item that a context has started. It counts in this seat.
     pub(crate) fn new(
         runtime: &'a WqRuntime<N, A>,
         seat: &'a mut Seat<N, A>,
-        lane: LaneId,
+        q: LaneId,
+        helper: u8,
         item: ItemId,
     ) -> Self
         ensures same_seat { result.seat.ghost_name ≡ seat.entry.ghost_name }
         ensures counts { result.seat.now ≡ seat.old }
-        ensures lane { result.lane ≡ lane }
+        ensures lane { result.context.lane ≡ q }
+        ensures helper { result.context.helper ≡ helper }
         ensures item { result.item ≡ item }
     {
         Work {
             runtime,
             seat,
-            lane,
+            context: Context { lane: q, helper },
             item,
             flushed: Ok(false),
         }
@@ -77,7 +79,7 @@ impl<'a, N: Naming, A: Allocator> Work<'a, N, A> {
         ensures refused { IfErr result (λ e. RefusesQueueByBody N.wiring self.old.seat.now item e × (self.new.seat.now ≡ self.old.seat.now)) }
         ensures finished { SameFinished self.old.seat.now self.new.seat.now }
         ensures same_seat { self.new.seat.ghost_name ≡ self.old.seat.ghost_name }
-        ensures lane { self.new.lane ≡ self.old.lane }
+        ensures context { self.new.context ≡ self.old.context }
         ensures item { self.new.item ≡ self.old.item }
     {
         let Some(lane) = self.runtime.lane_of(rt, item) else {
@@ -95,7 +97,7 @@ impl<'a, N: Naming, A: Allocator> Work<'a, N, A> {
         ensures refused { IfErr result (λ e. RefusesCancelWork N.wiring item e × (self.new.seat.now ≡ self.old.seat.now)) }
         ensures finished { SameFinished self.old.seat.now self.new.seat.now }
         ensures same_seat { self.new.seat.ghost_name ≡ self.old.seat.ghost_name }
-        ensures lane { self.new.lane ≡ self.old.lane }
+        ensures context { self.new.context ≡ self.old.context }
         ensures item { self.new.item ≡ self.old.item }
     {
         self.runtime.cancel_work(rt, self.seat, item)
@@ -105,19 +107,21 @@ impl<'a, N: Naming, A: Allocator> Work<'a, N, A> {
     ///
     /// The error is the first of these that holds: `HistoryFull` (60), where the seat is full; `Undeclared` (62), where the
     /// running item declares no flush of this one alone; `TooManyWaits` (63), where it has made as many as it declares, of both
-    /// kinds. Then nothing is changed or counted. `WrongLane` (64) comes only where another caller drives the same workqueue. If
+    /// kinds. Then nothing is changed or counted. `WrongLane` (64) comes only where another caller drives the same context. If
     /// that happens during the wait, the wait stays counted.
     pub fn flush<R: Wait>(&mut self, rt: &R, target: ItemId) -> Result<bool, CallError>
-        ensures counted { IfOk result (λ unfinished. (self.old.lane < N.wiring.lanes) × (target < items N.wiring) × HasRoom self.old.seat.now × (self.new.seat.now ≡ waited_for self.old.seat.now false target unfinished)) }
-        ensures refused { IfErr result (λ e. RefusesWaitFor N.wiring self.old.seat.now self.old.lane e × RefusedWaitFor N.wiring self.old.seat.now self.new.seat.now self.old.lane false target e) }
-        ensures waiter { self.old.lane < N.wiring.lanes → HasRoom self.old.seat.now → HasWaiter N.wiring self.old.lane false target result }
+        ensures counted { IfOk result (λ unfinished. HasContext N.wiring self.old.context.lane self.old.context.helper × (target < items N.wiring) × HasRoom self.old.seat.now × (self.new.seat.now ≡ waited_for self.old.seat.now false target unfinished)) }
+        ensures refused { IfErr result (λ e. RefusesWaitIn N.wiring self.old.seat.now self.old.context.lane self.old.context.helper e × RefusedWaitIn N.wiring self.old.seat.now self.new.seat.now self.old.context.lane self.old.context.helper false target e) }
+        ensures waiter { HasContext N.wiring self.old.context.lane self.old.context.helper → HasRoom self.old.seat.now → HasWaiter N.wiring self.old.context.lane false target result }
         ensures finished { SameFinished self.old.seat.now self.new.seat.now }
         ensures same_seat { self.new.seat.ghost_name ≡ self.old.seat.ghost_name }
-        ensures lane { self.new.lane ≡ self.old.lane }
+        ensures context { self.new.context ≡ self.old.context }
         ensures item { self.new.item ≡ self.old.item }
         ensures flushed { self.new.flushed ≡ result }
     {
-        self.flushed = self.runtime.wait_for(rt, self.seat, self.lane, target);
+        let q = self.context.lane;
+        let helper = self.context.helper;
+        self.flushed = self.runtime.wait_for_in(rt, self.seat, q, helper, target);
         self.flushed
     }
 
@@ -127,18 +131,22 @@ impl<'a, N: Naming, A: Allocator> Work<'a, N, A> {
     /// The error is the first of these that holds: `HistoryFull` (60), where the seat is full; `Undeclared` (62), where the
     /// running item declares no flush of the whole workqueue of this very item; `TooManyWaits` (63), where it has made as many
     /// flushes as it declares, of both kinds. Then nothing is changed or counted. `WrongLane` (64) comes only where another caller
-    /// drives the same workqueue as this body. If that happens during the wait, the wait stays counted.
+    /// drives the same context as this body. If that happens during the wait, the wait stays counted.
     pub fn flush_wq<R: Wait>(&mut self, rt: &R, target: ItemId) -> Result<bool, CallError>
-        ensures counted { IfOk result (λ unfinished. (self.old.lane < N.wiring.lanes) × (target < items N.wiring) × HasRoom self.old.seat.now × (self.new.seat.now ≡ waited_for self.old.seat.now true target unfinished)) }
-        ensures refused { IfErr result (λ e. RefusesWaitFor N.wiring self.old.seat.now self.old.lane e × RefusedWaitFor N.wiring self.old.seat.now self.new.seat.now self.old.lane true target e) }
-        ensures waiter { self.old.lane < N.wiring.lanes → HasRoom self.old.seat.now → HasWaiter N.wiring self.old.lane true target result }
+        ensures counted { IfOk result (λ unfinished. HasContext N.wiring self.old.context.lane self.old.context.helper × (target < items N.wiring) × HasRoom self.old.seat.now × (self.new.seat.now ≡ waited_for self.old.seat.now true target unfinished)) }
+        ensures refused { IfErr result (λ e. RefusesWaitIn N.wiring self.old.seat.now self.old.context.lane self.old.context.helper e × RefusedWaitIn N.wiring self.old.seat.now self.new.seat.now self.old.context.lane self.old.context.helper true target e) }
+        ensures waiter { HasContext N.wiring self.old.context.lane self.old.context.helper → HasRoom self.old.seat.now → HasWaiter N.wiring self.old.context.lane true target result }
         ensures finished { SameFinished self.old.seat.now self.new.seat.now }
         ensures same_seat { self.new.seat.ghost_name ≡ self.old.seat.ghost_name }
-        ensures lane { self.new.lane ≡ self.old.lane }
+        ensures context { self.new.context ≡ self.old.context }
         ensures item { self.new.item ≡ self.old.item }
         ensures flushed { self.new.flushed ≡ result }
     {
-        self.flushed = self.runtime.wait_all_for(rt, self.seat, self.lane, target);
+        let q = self.context.lane;
+        let helper = self.context.helper;
+        self.flushed = self
+            .runtime
+            .wait_all_for_in(rt, self.seat, q, helper, target);
         self.flushed
     }
 }

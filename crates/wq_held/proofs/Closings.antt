@@ -1,6 +1,6 @@
 -- What a runtime that is closed has to show: an entry is unfinished or none is, the seats that were taken in are summed up,
 -- and the sums are compared with the tallies.
-use Rattle.std.proofs.Common.{◌≡◌, ℕ, zero, suc, ◌+◌, ◌*◌, ◌<◌, ◌≤◌, ◌↔◌, ◌⊎◌, inl, inr, Bool, false, cond, List, [], ◌∷◌, ◌++◌, length, get_or, take, drop, ◌-◌, replicate, refl, sym, ap, subst, ◌∙◌, arith}
+use Rattle.std.proofs.Common.{◌≡◌, ◌≢◌, ℕ, zero, suc, ◌+◌, ◌*◌, ◌<◌, ◌≤◌, ◌↔◌, ◌⊎◌, inl, inr, Bool, false, cond, List, [], ◌∷◌, ◌++◌, length, get_or, take, drop, ◌-◌, replicate, refl, sym, ap, subst, ◌∙◌, arith}
 use Rattle.std.specs.Prelude.{Option, Some, None, sum, slice_get, slice_index, IsTrue}
 use Rattle.std.specs.List.{sum_by, count_by}
 use Rattle.std.proofs.lemmas.Bool.{cases_lt, false_from_ne_true}
@@ -10,10 +10,10 @@ use Rattle.wq_items.proofs.Lists.{Contains-first}
 use Rattle.wq_core.specs.declared.entry.Entry.{Entry}
 use Rattle.wq_core.specs.declared.entry.Running.{Running}
 use Rattle.wq_core.specs.Wiring.{Wiring, IsWiring, items}
-use Rattle.wq_core.specs.State.{Lane, State, idle_lane, IsUnfinishedOn, HasUnfinished}
+use Rattle.wq_core.specs.State.{Lane, State, idle_lane, run_by, RunsIn, IsUnfinishedOn, HasUnfinished}
 use Rattle.wq_core.proofs.LaneLemmas.{idle_lane-unfinished}
 use Rattle.wq_rows.specs.declared.event.Event.{Event}
-use Rattle.wq_rows.specs.declared.event.Event.TheVariants.{Queue, Cancel, Start, Wait, Over, Finish, Ask, Told, WaitAll, OverAll, AskLane, ToldLane}
+use Rattle.wq_rows.specs.declared.event.Event.TheVariants.{Queue, Cancel, Start, Wait, Over, Finish, Ask, Told, WaitAll, OverAll, AskLane, ToldLane, Help}
 use Rattle.wq_rows.specs.declared.event.Row.{Row}
 use Rattle.wq_rows.specs.Packing.{item_in, lane_in}
 use Rattle.wq_counts.specs.declared.kind.Kind.{Kind}
@@ -35,13 +35,36 @@ use Rattle.wq_held.specs.Closing.{SumsSeats, Agrees, IsClosed}
 
 -- ---- an entry is unfinished, or none is
 
--- for a lane with these entries pending, and on which this runs
-cases_lane : (pending : List Entry) (running : Option Running)
-    → ((e : Entry) × IsUnfinishedOn (record { pending = pending; running = running }) e)
-    ⊎ ((e : Entry) → ¬ IsUnfinishedOn (record { pending = pending; running = running }) e)
-cases_lane (e ∷ es) running = inl (e, inl (Contains-first (e ∷ es) e refl))
-cases_lane [] (Some r) = inl (r.entry, inr (r, refl, refl))
-cases_lane [] None = inr idle_lane-unfinished
+-- some of these helpers runs something, or none does
+none_runs : (helping : List (Option Running)) → ((h : ℕ) (r : Running) → get_or helping h None ≢ Some r) → (h : ℕ) (r : Running) → get_or (None ∷ helping) h None ≢ Some r
+none_runs helping none zero r is = cc
+none_runs helping none (suc h) r is = none h r is
+
+cases_helping : (helping : List (Option Running)) → ((h : ℕ) × (r : Running) × (get_or helping h None ≡ Some r)) ⊎ ((h : ℕ) (r : Running) → get_or helping h None ≢ Some r)
+cases_helping [] = inr (λ h r is. cc)
+cases_helping (Some r ∷ helping) = inl (zero, r, refl)
+cases_helping (None ∷ helping) = elim (cases_helping helping) [
+  | inl some ↦ inl (suc some.0, some.1, some.2)
+  | inr none ↦ inr (none_runs helping none)
+]
+
+-- on a lane on which nothing is pending, and whose contexts run nothing
+none_on : (helping : List (Option Running)) → ((h : ℕ) (r : Running) → get_or helping h None ≢ Some r)
+    → (e : Entry) → ¬ IsUnfinishedOn (record { pending = []; running = None; helping = helping }) e
+none_on helping none e (inl (k, lt, at)) = omega arith
+none_on helping none e (inr (zero, r, runs, is)) = cc
+none_on helping none e (inr (suc h, r, runs, is)) = none h r runs
+
+-- for a lane with these entries pending, and whose rescuer and helpers run these
+cases_lane : (pending : List Entry) (running : Option Running) (helping : List (Option Running))
+    → ((e : Entry) × IsUnfinishedOn (record { pending = pending; running = running; helping = helping }) e)
+    ⊎ ((e : Entry) → ¬ IsUnfinishedOn (record { pending = pending; running = running; helping = helping }) e)
+cases_lane (e ∷ es) running helping = inl (e, inl (Contains-first (e ∷ es) e refl))
+cases_lane [] (Some r) helping = inl (r.entry, inr (zero, r, refl, refl))
+cases_lane [] None helping = elim (cases_helping helping) [
+  | inl some ↦ inl (some.1.entry, inr (suc some.0, some.1, some.2, refl))
+  | inr none ↦ inr (none_on helping none)
+]
 
 none_more : (lane : Lane) (lanes : List Lane) → ((e : Entry) → ¬ IsUnfinishedOn lane e)
     → ((q : ℕ) (e : Entry) → ¬ IsUnfinishedOn (get_or lanes q idle_lane) e)
@@ -52,7 +75,7 @@ none_more lane lanes here there (suc q) e = there q e
 cases_lanes : (lanes : List Lane) → ((q : ℕ) × (e : Entry) × IsUnfinishedOn (get_or lanes q idle_lane) e)
     ⊎ ((q : ℕ) (e : Entry) → ¬ IsUnfinishedOn (get_or lanes q idle_lane) e)
 cases_lanes [] = inr (λ q e. idle_lane-unfinished e)
-cases_lanes (lane ∷ lanes) = elim (cases_lane lane.pending lane.running) [
+cases_lanes (lane ∷ lanes) = elim (cases_lane lane.pending lane.running lane.helping) [
   | inl some ↦ inl (zero, some.0, some.1)
   | inr here ↦ elim (cases_lanes lanes) [
     | inl some ↦ inl (suc some.0, some.1, some.2)
@@ -176,6 +199,7 @@ item_there w (WaitAll q b) kind is there = there
 item_there w (OverAll q b) kind is there = there
 item_there w (AskLane q) kind is there = absurd cc
 item_there w (ToldLane q) kind is there = absurd cc
+item_there w (Help q h deed) kind is there = there
 
 lane_there : (w : Wiring) (event : Event) (kind : LaneKind) → lane_kind_in event ≡ Some kind → IsThere w (subject_in event) → lane_in event < w.lanes
 lane_there w (Queue i) kind is there = absurd cc
@@ -190,6 +214,7 @@ lane_there w (WaitAll q b) kind is there = absurd cc
 lane_there w (OverAll q b) kind is there = absurd cc
 lane_there w (AskLane q) kind is there = there
 lane_there w (ToldLane q) kind is there = there
+lane_there w (Help q h deed) kind is there = absurd cc
 
 -- so no row is of an item or a lane that doesn't
 count_none : (p : Row → Bool) (rows : List Row) → ((n : ℕ) (row : Row) → slice_get rows n ≡ Some row → p row ≡ false) → count_by p rows ≡ 0

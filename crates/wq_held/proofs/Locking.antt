@@ -1,28 +1,34 @@
 -- What the lock guards stays as it has to be: one more row, counted or not, and a book that is closed.
-use Rattle.std.proofs.Common.{◌≡◌, ℕ, ◌+◌, ◌*◌, ◌<◌, ◌≤◌, replicate, refl, Bool, true, false, cond, List, [], ◌∷◌, ◌++◌, length, sym, ap, subst, ◌∙◌, arith}
-use Rattle.std.specs.Prelude.{Some, sum}
+use Rattle.std.proofs.Common.{◌≡◌, ℕ, zero, suc, ◌+◌, ◌*◌, ◌<◌, ◌≤◌, replicate, refl, Bool, true, false, cond, List, [], ◌∷◌, ◌++◌, length, sym, ap, subst, ◌∙◌, arith}
+use Rattle.std.specs.Prelude.{Some, Contains, sum, not, IsTrue, ◌↔◌}
 use Rattle.std.proofs.lemmas.List.{length-replicate}
 use Rattle.std.proofs.lemmas.List.Folds.{sum_by-replicate}
-use Rattle.wq_core.specs.Wiring.{Wiring, items}
+use Rattle.wq_core.specs.Wiring.{Wiring, items, max_helpers, helpers_of, HasContext}
+use Rattle.wq_items.proofs.Lists.{Contains-first}
+use Rattle.wq_core.specs.declared.entry.Entry.{Entry}
+use Rattle.wq_core.specs.State.{lane_at}
 use Rattle.wq_core.specs.Deadlock.{IsSafe, IsStuck}
-use Rattle.wq_core.specs.Rules.{IsHeldBack}
+use Rattle.wq_core.specs.Rules.{IsHeldBack, deed_item}
 use Rattle.wq_core.specs.declared.entry.Running.{Running}
 use Rattle.wq_core.specs.declared.entry.Waiting.{Waiting}
+use Rattle.wq_core.specs.declared.step.HelpStep.{HelpStep}
+use Rattle.wq_core.specs.declared.step.HelpStep.TheVariants.{Start as DoStart, Wait as DoWait, WaitAll as DoWaitAll, Over as DoOver, OverAll as DoOverAll, Finish as DoFinish}
 use Rattle.wq_rows.specs.declared.event.Event.{Event}
-use Rattle.wq_rows.specs.declared.event.Event.TheVariants.{Queue, Cancel, Start, Wait, Over, Finish, Ask, Told, WaitAll, OverAll, AskLane, ToldLane}
+use Rattle.wq_rows.specs.declared.event.Event.TheVariants.{Queue, Cancel, Start, Wait, Over, Finish, Ask, Told, WaitAll, OverAll, AskLane, ToldLane, Help}
 use Rattle.wq_rows.specs.declared.event.Row.{Row}
 use Rattle.wq_rows.specs.Packing.{lane_in}
+use Rattle.wq_counts.specs.declared.kind.Kind.TheVariants.{Finish as FinishKind}
 use Rattle.wq_counts.specs.Counting.{counts_each, wait_kind, over_kind, slot_in, is_counted, AreTallies, raised, noted_as, counted_rows}
 use Rattle.wq_counts.proofs.Tallies.{AreTallies-more, HasCountsOf-noted_as, sum-noted_as, counted_rows-more, counted_rows-le-length, AreTallies-none, item_within}
 use Rattle.wq_history.specs.declared.fault.BookError.{BookError}
 use Rattle.wq_history.specs.declared.fault.BookError.TheVariants.{HistoryFull, Closed, Undeclared, TooManyWaits, WrongLane, NoItem, TooManyRows, OutOfMemory}
-use Rattle.wq_history.specs.Events.{steps_of, subject_in, wait_event, over_event}
-use Rattle.wq_history.specs.History.{state_after, IsThere, IsLegal}
+use Rattle.wq_history.specs.Events.{steps_of, subject_in, event_in, wait_event, over_event, finish_event}
+use Rattle.wq_history.specs.History.{state_after, IsThere, MayCome, IsLegal}
 use Rattle.wq_history.proofs.LegalRows.{IsRun-legal}
-use Rattle.wq_history.specs.Book.{BookView, state, IsBook, LaneRuns, Appends, AppendsOne, IsWaiting, IsNotWaiting, RefusesLane}
+use Rattle.wq_history.specs.Book.{BookView, state, IsBook, LaneRuns, HasPendingOn, Appends, AppendsOne, IsWaiting, IsNotWaiting, RefusesLane}
 use Rattle.wq_history.specs.Answers.{AnswersOver}
 use Rattle.wq_history.proofs.KeptRows.{exist}
-use Rattle.wq_held.specs.Locked.{max_runtime_lanes, slots, IsHeld, Holds, RunsItem, WaitsFor, AnswersOverOf}
+use Rattle.wq_held.specs.Locked.{max_runtime_lanes, slots, IsHeld, Holds, HasNothingPending, RunsItem, WaitsFor, AnswersOverOf}
 
 -- ---- slots of counts
 
@@ -53,6 +59,7 @@ in_slots w (WaitAll q b) there = item_slot w b there
 in_slots w (OverAll q b) there = item_slot w b there
 in_slots w (AskLane q) there = lane_slot w q there
 in_slots w (ToldLane q) there = lane_slot w q there
+in_slots w (Help q h deed) there = item_slot w (deed_item deed) there
 
 -- ---- one more row
 
@@ -97,6 +104,7 @@ IsHeld-noted w rows parts b new tallies sums seats left amount event said n held
       of_wiring = ap (λ (x : BookView). x.wiring) appends.is_new ∙ held.of_wiring;
       of_rows = ap (λ (x : BookView). x.room) appends.is_new ∙ held.of_rows;
       few_lanes = held.few_lanes;
+      few_helpers = held.few_helpers;
       safe = held.safe;
       a_count_each = HasCountsOf-noted_as (slots w) tallies event said held.a_count_each;
       tallied = subst (λ rs. AreTallies (slots w) rs (noted_as tallies event said)) (sym rows_are)
@@ -117,44 +125,84 @@ pub IsHeld-counted : (w : Wiring) (rows parts : ℕ) (b new : BookView) (tallies
 IsHeld-counted w rows parts b new tallies sums seats left amount event said n counts counts_are held book appends =
     subst (λ ts. IsHeld w rows parts new ts sums seats left amount) (sym counts_are) (IsHeld-noted w rows parts b new tallies sums seats left amount event said n held book appends)
 
+-- ---- contexts
+
+lane-event : (q c : ℕ) (deed : HelpStep) → lane_in (event_in q c deed) ≡ q
+lane-event q zero (DoStart i) = refl
+lane-event q zero (DoWait b) = refl
+lane-event q zero (DoWaitAll b) = refl
+lane-event q zero (DoOver b) = refl
+lane-event q zero (DoOverAll b) = refl
+lane-event q zero (DoFinish i) = refl
+lane-event q (suc h) deed = refl
+
+-- a helper that does something exists
+helper-come : (w : Wiring) (rows : List Row) (q c : ℕ) (deed : HelpStep) (said : Bool) (n : ℕ) → MayCome w rows (event_in q c deed) said n → c ≤ helpers_of w q
+helper-come w rows q zero deed said n come = omega arith
+helper-come w rows q (suc h) deed said n come = come.1.0.0.1
+
+-- the context of a row that is appended exists
+pub context-appended : (w : Wiring) (b new : BookView) (q c : ℕ) (deed : HelpStep) (said : Bool) (n : ℕ) → b.wiring ≡ w → IsBook b → Appends b new (event_in q c deed) said n
+    → HasContext w q c
+context-appended w b new q c deed said n of_wiring book appends = (
+  subst (λ (p : ℕ). p < w.lanes) (lane-event q c deed) (lane-appended w b new (event_in q c deed) said n of_wiring book appends),
+  subst (λ (x : Wiring). c ≤ helpers_of x q) of_wiring (helper-come b.wiring b.rows q c deed said n appends.may),
+)
+
 -- ---- waits, by their kind
 
 -- the beginning of a wait is counted, for its target, which exists
-pub counted-wait : (whole : Bool) (q b : ℕ) → is_counted (wait_event whole q b) ≡ true
-counted-wait false q b = refl
-counted-wait true q b = refl
+pub counted-wait : (whole : Bool) (q c b : ℕ) → is_counted (wait_event whole q c b) ≡ true
+counted-wait false q zero b = refl
+counted-wait false q (suc h) b = refl
+counted-wait true q zero b = refl
+counted-wait true q (suc h) b = refl
 
-pub noted-wait : (counts : List ℕ) (whole : Bool) (q b : ℕ) (said : Bool) → noted_as counts (wait_event whole q b) said ≡ raised counts b (wait_kind whole) said
-noted-wait counts false q b said = refl
-noted-wait counts true q b said = refl
+pub noted-wait : (counts : List ℕ) (whole : Bool) (q c b : ℕ) (said : Bool) → noted_as counts (wait_event whole q c b) said ≡ raised counts b (wait_kind whole) said
+noted-wait counts false q zero b said = refl
+noted-wait counts false q (suc h) b said = refl
+noted-wait counts true q zero b said = refl
+noted-wait counts true q (suc h) b said = refl
 
-pub target-there : (w : Wiring) (whole : Bool) (q b : ℕ) → IsThere w (subject_in (wait_event whole q b)) → b < items w
-target-there w false q b there = there
-target-there w true q b there = there
-
-pub lane-wait : (whole : Bool) (q b : ℕ) → lane_in (wait_event whole q b) ≡ q
-lane-wait false q b = refl
-lane-wait true q b = refl
+pub target-there : (w : Wiring) (whole : Bool) (q c b : ℕ) → IsThere w (subject_in (wait_event whole q c b)) → b < items w
+target-there w false q zero b there = there
+target-there w false q (suc h) b there = there
+target-there w true q zero b there = there
+target-there w true q (suc h) b there = there
 
 -- and so is its end
-pub counted-over : (whole : Bool) (q b : ℕ) → is_counted (over_event whole q b) ≡ true
-counted-over false q b = refl
-counted-over true q b = refl
+pub counted-over : (whole : Bool) (q c b : ℕ) → is_counted (over_event whole q c b) ≡ true
+counted-over false q zero b = refl
+counted-over false q (suc h) b = refl
+counted-over true q zero b = refl
+counted-over true q (suc h) b = refl
 
-pub noted-over : (counts : List ℕ) (whole : Bool) (q b : ℕ) (said : Bool) → noted_as counts (over_event whole q b) said ≡ raised counts b (over_kind whole) said
-noted-over counts false q b said = refl
-noted-over counts true q b said = refl
+pub noted-over : (counts : List ℕ) (whole : Bool) (q c b : ℕ) (said : Bool) → noted_as counts (over_event whole q c b) said ≡ raised counts b (over_kind whole) said
+noted-over counts false q zero b said = refl
+noted-over counts false q (suc h) b said = refl
+noted-over counts true q zero b said = refl
+noted-over counts true q (suc h) b said = refl
+
+-- and the finish of an entry, for its item
+pub counted-finish : (q c i : ℕ) → is_counted (finish_event q c i) ≡ true
+counted-finish q zero i = refl
+counted-finish q (suc h) i = refl
+
+pub noted-finish : (counts : List ℕ) (q c i : ℕ) (said : Bool) → noted_as counts (finish_event q c i) said ≡ raised counts i FinishKind said
+noted-finish counts q zero i said = refl
+noted-finish counts q (suc h) i said = refl
 
 -- ---- the first and the last
 
 -- a runtime on which nothing has happened
 pub IsHeld-first : (w : Wiring) (rows parts : ℕ) (b : BookView) (tallies sums : List ℕ) (left amount : ℕ) → b.wiring ≡ w → b.room ≡ rows → b.rows ≡ []
-    → w.lanes ≤ max_runtime_lanes → IsSafe w → parts ≡ 65536 → tallies ≡ replicate (counts_each * slots w) 0 → sums ≡ replicate (counts_each * slots w) 0 → left ≡ parts → amount ≡ 0
+    → w.lanes ≤ max_runtime_lanes → w.helpers ≤ max_helpers → IsSafe w → parts ≡ 65536 → tallies ≡ replicate (counts_each * slots w) 0 → sums ≡ replicate (counts_each * slots w) 0 → left ≡ parts → amount ≡ 0
     → IsHeld w rows parts b tallies sums 0 left amount
-IsHeld-first w rows parts b tallies sums left amount of_wiring of_rows empty few_lanes safe all_parts no_tallies no_sums all_left none_counted = record {
+IsHeld-first w rows parts b tallies sums left amount of_wiring of_rows empty few_lanes few_helpers safe all_parts no_tallies no_sums all_left none_counted = record {
   of_wiring = of_wiring;
   of_rows = of_rows;
   few_lanes = few_lanes;
+  few_helpers = few_helpers;
   safe = safe;
   a_count_each = ap length no_tallies ∙ length-replicate (counts_each * slots w) 0;
   tallied = subst (λ ts. AreTallies (slots w) b.rows ts) (sym no_tallies) (subst (λ rs. AreTallies (slots w) rs (replicate (counts_each * slots w) 0)) (sym empty) (AreTallies-none (slots w)));
@@ -176,51 +224,67 @@ Holds-held w rows parts b tallies sums seats left amount held book =
       of_rows = held.of_rows;
       legal = book;
       safe = held.safe;
-      not_stuck = subst (λ (x : Wiring). ¬ IsStuck w (state_after x b.rows)) (sym held.of_wiring) (held.safe (steps_of b.rows) (IsRun-legal w b.rows legal));
+      not_stuck = subst (λ (x : Wiring). ¬ IsStuck w (state_after x b.rows)) (sym held.of_wiring) (held.safe w.helpers held.few_helpers (steps_of b.rows) (IsRun-legal w b.rows legal));
     }
 
--- a lane waits for one thing
-waits_once : (b : BookView) (q : ℕ) (f g : Waiting) → IsWaiting b q f → IsWaiting b q g → f ≡ g
-waits_once b q f g (r, runs, waits) (other, others, wait) =
+-- a context waits for one thing
+waits_once : (b : BookView) (q c : ℕ) (f g : Waiting) → IsWaiting b q c f → IsWaiting b q c g → f ≡ g
+waits_once b q c f g (r, runs, waits) (other, others, wait) =
     let same : r ≡ other = Some-same (sym runs ∙ others) in
     Some-same (sym waits ∙ (ap (λ (x : Running). x.waiting) same ∙ wait))
   where
     Some-same : {X : Type 0} {x y : X} → Some x ≡ Some y → x ≡ y
     Some-same e = cc
 
--- if a lane waits so, what it is answered is about this wait
-pub AnswersOverOf-over : (b new : BookView) (q : ℕ) (whole : Bool) (target : ℕ) (answer : Bool) → WaitsFor b q whole target → AnswersOver b new q answer
-    → AnswersOverOf b new q whole target answer
-AnswersOverOf-over b new q whole target true (f, (waits, kind), of_target) (g, wait, appends) =
-    let same : g ≡ f = waits_once b q g f wait waits in
-    let P : Bool → ℕ → Type 0 = λ k x. AppendsOne b new (over_event k q x) true in
+-- if a context waits so, what it is answered is about this wait
+pub AnswersOverOf-over : (b new : BookView) (q c : ℕ) (whole : Bool) (target : ℕ) (answer : Bool) → WaitsFor b q c whole target → AnswersOver b new q c answer
+    → AnswersOverOf b new q c whole target answer
+AnswersOverOf-over b new q c whole target true (f, (waits, kind), of_target) (g, wait, appends) =
+    let same : g ≡ f = waits_once b q c g f wait waits in
+    let P : Bool → ℕ → Type 0 = λ k x. AppendsOne b new (over_event k q c x) true in
     subst (λ (x : ℕ). P whole x) (ap (λ (x : Waiting). x.target) same ∙ of_target)
     (subst (λ (k : Bool). P k g.target) (ap (λ (x : Waiting). x.whole) same ∙ kind) appends)
-AnswersOverOf-over b new q whole target false (f, (waits, kind), of_target) ((g, wait, back), same_book) =
-    let same : g ≡ f = waits_once b q g f wait waits in
+AnswersOverOf-over b new q c whole target false (f, (waits, kind), of_target) ((g, wait, back), same_book) =
+    let same : g ≡ f = waits_once b q c g f wait waits in
     let of : g.target ≡ target = ap (λ (x : Waiting). x.target) same ∙ of_target in
     let by : g.whole ≡ whole = ap (λ (x : Waiting). x.whole) same ∙ kind in
     let P : Bool → ℕ → Type 0 = λ k x. IsHeldBack b.wiring (state b) k x g.mark in
     (g, (wait, by), of, subst (λ (x : ℕ). P whole x) of (subst (λ (k : Bool). P k g.target) by back), same_book)
 
--- the end of the wait of a lane that waits isn't refused
-pub over-not_refused : (b : BookView) (q : ℕ) (whole : Bool) (target : ℕ) (e : BookError) → WaitsFor b q whole target → RefusesLane (IsNotWaiting b q) e → ⊥
-over-not_refused b q whole target WrongLane (f, waits, of_target) wrong = wrong f waits.0
-over-not_refused b q whole target HistoryFull waits wrong = wrong
-over-not_refused b q whole target Closed waits wrong = wrong
-over-not_refused b q whole target Undeclared waits wrong = wrong
-over-not_refused b q whole target TooManyWaits waits wrong = wrong
-over-not_refused b q whole target NoItem waits wrong = wrong
-over-not_refused b q whole target TooManyRows waits wrong = wrong
-over-not_refused b q whole target OutOfMemory waits wrong = wrong
+-- the end of the wait of a context that waits isn't refused
+pub over-not_refused : (b : BookView) (q c : ℕ) (whole : Bool) (target : ℕ) (e : BookError) → WaitsFor b q c whole target → RefusesLane (IsNotWaiting b q c) e → ⊥
+over-not_refused b q c whole target WrongLane (f, waits, of_target) wrong = wrong f waits.0
+over-not_refused b q c whole target HistoryFull waits wrong = wrong
+over-not_refused b q c whole target Closed waits wrong = wrong
+over-not_refused b q c whole target Undeclared waits wrong = wrong
+over-not_refused b q c whole target TooManyWaits waits wrong = wrong
+over-not_refused b q c whole target NoItem waits wrong = wrong
+over-not_refused b q c whole target TooManyRows waits wrong = wrong
+over-not_refused b q c whole target OutOfMemory waits wrong = wrong
 
--- a lane that runs an entry of one item doesn't run one of another
-runs_one : (b : BookView) (q i : ℕ) (r : Running) → RunsItem b q i → LaneRuns b q r → r.entry.item ≡ i
-runs_one b q i r (other, runs, of_item) is = ap (λ (x : Running). x.entry.item) (Some-same (sym is ∙ runs)) ∙ of_item where
+-- a context that runs an entry of one item doesn't run one of another
+pub runs_one : (b : BookView) (q c i : ℕ) (r : Running) → RunsItem b q c i → LaneRuns b q c r → r.entry.item ≡ i
+runs_one b q c i r (other, runs, of_item) is = ap (λ (x : Running). x.entry.item) (Some-same (sym is ∙ runs)) ∙ of_item where
   Some-same : {X : Type 0} {x y : X} → Some x ≡ Some y → x ≡ y
   Some-same e = cc
 
--- if a lane runs an entry of an item, what it finishes is of this item
-pub finish_of : (b new : BookView) (q i : ℕ) (r : Running) → RunsItem b q i → LaneRuns b q r → AppendsOne b new (Finish q r.entry.item) true
-    → AppendsOne b new (Finish q i) true
-finish_of b new q i r runs is appends = subst (λ (x : ℕ). AppendsOne b new (Finish q x) true) (runs_one b q i r runs is) appends
+-- if a context runs an entry of an item, what it finishes is of this item
+pub finish_of : (b new : BookView) (q c i : ℕ) (r : Running) → RunsItem b q c i → LaneRuns b q c r → AppendsOne b new (finish_event q c r.entry.item) true
+    → AppendsOne b new (finish_event q c i) true
+finish_of b new q c i r runs is appends = subst (λ (x : ℕ). AppendsOne b new (finish_event q c x) true) (runs_one b q c i r runs is) appends
+
+-- ---- what is pending
+
+-- nothing is pending on a lane, exactly if it isn't so that an entry is
+nothing_pending : (b : BookView) (q : ℕ) → (¬ HasPendingOn b q) → HasNothingPending b q
+nothing_pending b q none = by_cases (lane_at (state b) q).pending (λ e pending. none (e, pending)) where
+  by_cases : (pending : List Entry) → ((e : Entry) → ¬ Contains pending e) → pending ≡ []
+  by_cases [] none = refl
+  by_cases (e ∷ es) none = absurd (none e (Contains-first (e ∷ es) e refl))
+
+some_pending : (b : BookView) (q : ℕ) → HasPendingOn b q → ¬ HasNothingPending b q
+some_pending b q (e, pending) none = let nowhere : Contains [] e = subst (λ (es : List Entry). Contains es e) none pending in omega (arith, nowhere.1)
+
+pub says_nothing : (b : BookView) (q : ℕ) (pending : Bool) → (IsTrue pending ↔ HasPendingOn b q) → IsTrue (not pending) ↔ HasNothingPending b q
+says_nothing b q true says = ((λ is. let bad : false ≡ true = is in absurd cc), (λ none. absurd (some_pending b q (says.0 refl) none)))
+says_nothing b q false says = ((λ is. nothing_pending b q (λ some. let bad : false ≡ true = says.1 some in absurd cc)), (λ none. refl))

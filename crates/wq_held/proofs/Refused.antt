@@ -47,12 +47,12 @@ of_call_ask_lane b q NoItem why = (CallNoItem, refl)
 of_call_ask_lane b q TooManyRows why = absurd why
 of_call_ask_lane b q OutOfMemory why = absurd why
 
-pub of_call_wait : (b : BookView) (q : ℕ) (whole : Bool) (target : ℕ) (e : BookError) → RefusesWait b q whole target e → IsOfCall e
-of_call_wait b q whole target HistoryFull why = (CallFull, refl)
-of_call_wait b q whole target Closed why = (CallClosed, refl)
-of_call_wait b q whole target Undeclared why = (CallUndeclared, refl)
-of_call_wait b q whole target TooManyWaits why = (CallTooManyWaits, refl)
-of_call_wait b q whole target WrongLane why = (CallWrongLane, refl)
-of_call_wait b q whole target NoItem why = (CallNoItem, refl)
-of_call_wait b q whole target TooManyRows why = absurd why
-of_call_wait b q whole target OutOfMemory why = absurd why
+pub of_call_wait : (b : BookView) (q c : ℕ) (whole : Bool) (target : ℕ) (e : BookError) → RefusesWait b q c whole target e → IsOfCall e
+of_call_wait b q c whole target HistoryFull why = (CallFull, refl)
+of_call_wait b q c whole target Closed why = (CallClosed, refl)
+of_call_wait b q c whole target Undeclared why = (CallUndeclared, refl)
+of_call_wait b q c whole target TooManyWaits why = (CallTooManyWaits, refl)
+of_call_wait b q c whole target WrongLane why = (CallWrongLane, refl)
+of_call_wait b q c whole target NoItem why = (CallNoItem, refl)
+of_call_wait b q c whole target TooManyRows why = absurd why
+of_call_wait b q c whole target OutOfMemory why = absurd why

@@ -1,9 +1,9 @@
 -- What the lock of a runtime guards, and what the calls under the lock do to it and to the caller's seat.
-use Rattle.std.specs.Prelude.{◌≡◌, ◌≢◌, ℕ, max, ◌+◌, ◌*◌, ◌<◌, ◌≤◌, ◌⊎◌, List, sum, replicate, Bool, true, false}
+use Rattle.std.specs.Prelude.{◌≡◌, ◌≢◌, ℕ, max, ◌+◌, ◌*◌, ◌<◌, ◌≤◌, ◌⊎◌, List, [], sum, replicate, Bool, true, false}
 use Rattle.wq_core.specs.declared.entry.Running.{Running}
 use Rattle.wq_core.specs.declared.entry.Waiting.{Waiting as WaitingOf}
-use Rattle.wq_core.specs.Wiring.{Wiring, items, lane_of}
-use Rattle.wq_core.specs.State.{HasUnfinished}
+use Rattle.wq_core.specs.Wiring.{Wiring, items, lane_of, max_helpers}
+use Rattle.wq_core.specs.State.{lane_at, HasUnfinished}
 use Rattle.wq_core.specs.Rules.{IsHeldBack}
 use Rattle.wq_core.specs.Deadlock.{IsStuck, IsSafe}
 use Rattle.wq_rows.specs.declared.event.Event.TheVariants.{Cancel}
@@ -43,13 +43,14 @@ abbrev pub slots : Wiring → ℕ
 slots w = max (items w) w.lanes
 
 -- for a runtime with this wiring, this many rows and this many parts of its ledger: the book is of this wiring and has room for
--- this many rows; there are at most 256 lanes, and no run of the assignment ends stuck; the tallies are those of the book's
--- rows, and add up to the number of its counted rows; the room for the sums is kept empty. Each part of the ledger was given to
--- a seat or is left; at least one is left, and those that are left have no amount
+-- this many rows; there are at most 256 lanes with at most 8 helpers each, and no run of the assignment ends stuck; the tallies are
+-- those of the book's rows, and add up to the number of its counted rows; the room for the sums is kept empty. Each part of the
+-- ledger was given to a seat or is left; at least one is left, and those that are left have no amount
 pub record IsHeld (w : Wiring) (rows parts : ℕ) (book : BookView) (tallies sums : List ℕ) (seats parts_left amount_left : ℕ) : Type 0 where
   pub of_wiring : book.wiring ≡ w
   pub of_rows : book.room ≡ rows
   pub few_lanes : w.lanes ≤ max_runtime_lanes
+  pub few_helpers : w.helpers ≤ max_helpers
   pub safe : IsSafe w
   pub a_count_each : HasCountsOf (slots w) tallies
   pub tallied : AreTallies (slots w) book.rows tallies
@@ -72,7 +73,8 @@ pub record IsLedgered (w : Wiring) (tallies : List ℕ) (total : ℕ) : Type 0 w
   pub total_is : total ≡ sum tallies
 
 -- whenever the lock is taken, the book is of this wiring and has room for this many rows; its rows are a legal history whose
--- replay is its state, and rows are kept for what is to come; no run of the assignment ends stuck, and so its state isn't stuck
+-- replay is its state, and rows are kept for what is to come; no run of the assignment ends stuck, whatever helpers there are, and
+-- so its state isn't stuck
 pub record Holds (w : Wiring) (rows : ℕ) (b : BookView) : Type 0 where
   pub of_wiring : b.wiring ≡ w
   pub of_rows : b.room ≡ rows
@@ -150,29 +152,35 @@ RefusesAskAndCancel b i NotAsked = ⊥
 abbrev pub IsOnLane : Wiring → ℕ → ℕ → Type 0
 IsOnLane w q i = (i < items w) × (lane_of w i ≡ q)
 
--- lane q waits for item `target`, or for the whole lane of `target`
-abbrev pub WaitsFor : BookView → ℕ → Bool → ℕ → Type 0
-WaitsFor b q whole target = (f : WaitingOf) × IsWaitingBy b q whole f × (f.target ≡ target)
+-- nothing is pending on lane q
+abbrev pub HasNothingPending : BookView → ℕ → Type 0
+HasNothingPending b q = (lane_at (state b) q).pending ≡ []
 
--- lane q doesn't wait so
-abbrev pub IsWrongToGoOn : BookView → ℕ → Bool → ℕ → Type 0
-IsWrongToGoOn b q whole target = ¬ WaitsFor b q whole target
+-- ---- contexts of a lane: 0 is its rescuer, and from 1 on its helpers
 
--- whether the wait of lane q for item `target`, or for the whole lane of `target`, is over: a row says that it is; or nothing is
--- changed, because the wait goes on
-abbrev pub AnswersOverOf : BookView → BookView → ℕ → Bool → ℕ → Bool → Type 0
-AnswersOverOf old new q whole target true = AppendsOne old new (over_event whole q target) true
-AnswersOverOf old new q whole target false = (f : WaitingOf) × IsWaitingBy old q whole f × (f.target ≡ target)
+-- context c of lane q waits for item `target`, or for the whole lane of `target`
+abbrev pub WaitsFor : BookView → ℕ → ℕ → Bool → ℕ → Type 0
+WaitsFor b q c whole target = (f : WaitingOf) × IsWaitingBy b q c whole f × (f.target ≡ target)
+
+-- it doesn't wait so
+abbrev pub IsWrongToGoOn : BookView → ℕ → ℕ → Bool → ℕ → Type 0
+IsWrongToGoOn b q c whole target = ¬ WaitsFor b q c whole target
+
+-- whether the wait of context c of lane q for item `target`, or for the whole lane of `target`, is over: a row says that it is; or
+-- nothing is changed, because the wait goes on
+abbrev pub AnswersOverOf : BookView → BookView → ℕ → ℕ → Bool → ℕ → Bool → Type 0
+AnswersOverOf old new q c whole target true = AppendsOne old new (over_event whole q c target) true
+AnswersOverOf old new q c whole target false = (f : WaitingOf) × IsWaitingBy old q c whole f × (f.target ≡ target)
     × IsHeldBack old.wiring (state old) whole target f.mark × (new ≡ old)
 
--- lane q runs an entry of item i
-abbrev pub RunsItem : BookView → ℕ → ℕ → Type 0
-RunsItem b q i = (r : Running) × LaneRuns b q r × (r.entry.item ≡ i)
+-- context c of lane q runs an entry of item i
+abbrev pub RunsItem : BookView → ℕ → ℕ → ℕ → Type 0
+RunsItem b q c i = (r : Running) × LaneRuns b q c r × (r.entry.item ≡ i)
 
--- lane q doesn't run an entry of item i that could finish: there is no such lane, it runs nothing or an entry of another item,
--- or it waits
-abbrev pub IsWrongToFinish : BookView → ℕ → ℕ → Type 0
-IsWrongToFinish b q i = (¬ RunsItem b q i) ⊎ IsNotAwake b q
+-- context c of lane q doesn't run an entry of item i that could finish: there is no such context, it runs nothing or an entry of
+-- another item, or it waits
+abbrev pub IsWrongToFinish : BookView → ℕ → ℕ → ℕ → Type 0
+IsWrongToFinish b q c i = (¬ RunsItem b q c i) ⊎ IsNotAwake b q c
 
 -- ---- closing
 

@@ -1,23 +1,24 @@
 //! What the lock protects: the book, its tallies, and the parts of the ledger that no seat holds.
 //!
-//! Each event of a book is one call here, with the same name. (`wait` and `over` take the kind of the wait: `wait` makes what the
-//! book's `wait` or `wait_all` makes, and `over` goes on only where the wait is of this kind.) The call makes the event. Where the event writes a row that is
-//! counted, the call counts it in the tallies and in the caller's seat. Whoever calls holds the lock. A call takes the time of
-//! the book's own call, and no memory. Only `new` and `seat` take more: time and memory in the number of items or lanes, whichever
-//! are more, 352 and 176 bytes for each.
+//! Each event of a book is one call here. `start`, `wait`, `over` and `finish` take the context that they are of, a rescuer or a
+//! helper: `start` makes what the book's `start` or `help_start` makes, and so do the others. `wait` and `over` take the kind of the
+//! wait, too: `wait` begins to wait for an item or for its whole lane, and `over` goes on only where the wait is of this kind. The
+//! call makes the event. Where the event writes a row that is counted, the call counts it in the tallies and in the caller's seat.
+//! Whoever calls holds the lock. A call takes the time of the book's own call, and no memory. Only `new` and `seat` take more: time
+//! and memory in the number of items or lanes, whichever are more, 352 and 176 bytes for each.
 
 ghost use Rattle.std.specs.Prelude.{◌≡◌, ℕ, ◌+◌, ◌<◌, ◌≤◌, ◌↔◌, [], sum, replicate, ◌*◌, true, false, IsTrue, IfOk, IfErr, OnOk, OnErr, IfSome, IfNone};
-ghost use Rattle.wq_core.specs.Wiring.{items, lane_of};
+ghost use Rattle.wq_core.specs.Wiring.{items, lane_of, max_helpers, helpers_of, HasContext};
 ghost use Rattle.wq_core.specs.State.{HasUnfinished};
 ghost use Rattle.wq_core.specs.Deadlock.{IsSafe};
-ghost use Rattle.wq_rows.specs.declared.event.Event.TheVariants.{Queue, Cancel, Start, Finish, Ask as AskEvent, Told as ToldEvent};
+ghost use Rattle.wq_rows.specs.declared.event.Event.TheVariants.{Queue, Cancel, Ask as AskEvent, Told as ToldEvent};
 ghost use Rattle.wq_counts.specs.declared.kind.Kind.TheVariants.{Queue as QueueKind, Cancel as CancelKind, Finish as FinishKind};
 ghost use Rattle.wq_counts.specs.Counting.{counts_each, wait_kind, raised, counted_rows};
-ghost use Rattle.wq_history.specs.Events.{wait_event};
+ghost use Rattle.wq_history.specs.Events.{wait_event, finish_event};
 ghost use Rattle.wq_history.specs.Book.{BookView, state, free, AppendsOne, IsWrongToStart, IsNotAwake, RefusesQueue, RefusesItem, RefusesAskLane, RefusesLane, RefusesWait};
 ghost use Rattle.wq_history.specs.Answers.{AnswersAsk, AnswersTold, AnswersAskLane, AnswersToldLane, AnswersStart};
 ghost use Rattle.wq_held.specs.Errors.{RefusedAs};
-ghost use Rattle.wq_held.specs.Locked.{max_runtime_lanes, slots, RefusesAskAndCancel, IsOnLane, HeldView, Holds, CountsAsk, CountsTold, CountsAskLane, CountsToldLane, CountsOver, AsksAndCancels, CountsAskAndCancel, RunsItem, WaitsFor, AnswersOverOf, IsWrongToGoOn, IsWrongToFinish, RefusesClose, Closes};
+ghost use Rattle.wq_held.specs.Locked.{max_runtime_lanes, slots, RefusesAskAndCancel, IsOnLane, HeldView, Holds, CountsAsk, CountsTold, CountsAskLane, CountsToldLane, CountsOver, AsksAndCancels, CountsAskAndCancel, HasNothingPending, RunsItem, WaitsFor, AnswersOverOf, IsWrongToGoOn, IsWrongToFinish, RefusesClose, Closes};
 ghost use Rattle.wq_held.specs.declared.fault.CallError.TheVariants.{WrongLane, HistoryFull, NoItem};
 ghost use Rattle.wq_held.specs.declared.fault.SeatError.TheVariants.{TooManySeats, OutOfMemory as SeatOutOfMemory};
 
@@ -30,7 +31,9 @@ use std::marker::Model;
 use std::sync::ledger::{Blank, Share};
 use wq_counts::Counts;
 use wq_groups::LaneId;
-use wq_history::{Ask, Asked, Book, LaneAsk, LaneAsked, LaneTold, Told, over_event, wait_event};
+use wq_history::{
+    Ask, Asked, Book, LaneAsk, LaneAsked, LaneTold, Told, finish_event, over_event, wait_event,
+};
 use wq_items::ItemId;
 use wq_rows::Event;
 
@@ -90,6 +93,7 @@ impl<N: Naming, A: Allocator + Copy> Held<N, A> {
         requires of_rows { book.room ≡ N.rows }
         requires empty { book.rows ≡ [] }
         requires few_lanes { N.wiring.lanes ≤ max_runtime_lanes }
+        requires few_helpers { N.wiring.helpers ≤ max_helpers }
         requires safe { IsSafe N.wiring }
         ensures held { IfOk result (λ h. h ≡ record { book = book; seats = 0 }) }
         ensures memory { OnErr result (0 < slots N.wiring) }
@@ -156,6 +160,27 @@ impl<N: Naming, A: Allocator> Held<N, A> {
         ensures none { IfNone result (items N.wiring ≤ item) }
     {
         self.book.lane_of(item)
+    }
+
+    /// How many helpers a workqueue has; 0 for one that is ordered or doesn't exist.
+    pub fn helpers_of(&self, q: LaneId) -> u8
+        ensures { result ≡ helpers_of N.wiring q }
+    {
+        self.book.helpers_of(q)
+    }
+
+    /// Whether there is such a context: the rescuer of a workqueue that exists, or one of the helpers that it has.
+    pub fn has_context(&self, q: LaneId, helper: u8) -> bool
+        ensures { IsTrue result ↔ HasContext N.wiring q helper }
+    {
+        self.book.has_context(q, helper)
+    }
+
+    /// Whether nothing is pending on a workqueue; true for one that doesn't exist.
+    pub fn nothing_pending_on(&self, q: LaneId) -> bool
+        ensures { IsTrue result ↔ HasNothingPending self.now.book q }
+    {
+        !self.book.is_pending_on(q)
     }
 
     /// The number of free rows.
@@ -341,27 +366,27 @@ impl<N: Naming, A: Allocator> Held<N, A> {
         Ok((answer, taken))
     }
 
-    /// Starts the first pending entry of a workqueue, and gives its item. Where none is pending it gives nothing, and nothing is
-    /// changed.
+    /// Starts, in a context of a workqueue, the first pending entry whose item no context of the workqueue runs, and gives the item.
+    /// Where there is none it gives nothing, and nothing is changed.
     ///
-    /// The only error is `WrongLane` (64), exactly where there is no such workqueue or it runs an entry. After an error nothing
-    /// is changed. A start isn't counted.
+    /// The only error is `WrongLane` (64), exactly where there is no such context or it runs an entry. After an error nothing is
+    /// changed. A start isn't counted.
     #[tactic(auto, using(crate::proofs::Refused::of_call_lane))]
-    pub fn start(&mut self, q: LaneId) -> Result<Option<ItemId>, CallError>
-        ensures row { IfOk result (λ answer. AnswersStart self.old.book self.new.book q answer) }
+    pub fn start(&mut self, q: LaneId, helper: u8) -> Result<Option<ItemId>, CallError>
+        ensures row { IfOk result (λ answer. AnswersStart self.old.book self.new.book q helper answer) }
         ensures known { IfOk result (λ answer. IfSome answer (λ item. IsOnLane N.wiring q item)) }
         ensures seats { self.new.seats ≡ self.old.seats }
-        ensures refused { IfErr result (λ e. RefusedAs (RefusesLane (IsWrongToStart self.old.book q)) e × (self.new ≡ self.old)) }
+        ensures refused { IfErr result (λ e. RefusedAs (RefusesLane (IsWrongToStart self.old.book q helper)) e × (self.new ≡ self.old)) }
     {
-        let started = match self.book.start(q) {
+        let started = match self.book.start_in(q, helper) {
             Ok(started) => started,
             Err(e) => return Err(CallError::of(e)),
         };
         Ok(started)
     }
 
-    /// Makes what a workqueue runs begin to wait for an item, or for the whole workqueue of the item: true where that has an
-    /// unfinished entry.
+    /// Makes what a context runs begin to wait for an item, or for the whole workqueue of the item: true where that has an unfinished
+    /// entry.
     ///
     /// The errors are those of the book: `WrongLane` (64), `Undeclared` (62), `TooManyWaits` (63). After an error nothing is
     /// changed.
@@ -370,102 +395,106 @@ impl<N: Naming, A: Allocator> Held<N, A> {
         &mut self,
         seat: &mut Seat<N, A>,
         q: LaneId,
+        helper: u8,
         whole: bool,
         target: ItemId,
     ) -> Result<bool, CallError>
-        ensures row { IfOk result (λ unfinished. AppendsOne self.old.book self.new.book (wait_event whole q target) unfinished) }
-        ensures known { OnOk result ((q < N.wiring.lanes) × (target < items N.wiring)) }
+        ensures row { IfOk result (λ unfinished. AppendsOne self.old.book self.new.book (wait_event whole q helper target) unfinished) }
+        ensures known { OnOk result (HasContext N.wiring q helper × (target < items N.wiring)) }
         ensures counted { IfOk result (λ unfinished. seat.new ≡ raised seat.old target (wait_kind whole) unfinished) }
         ensures seats { self.new.seats ≡ self.old.seats }
-        ensures refused { IfErr result (λ e. RefusedAs (RefusesWait self.old.book q whole target) e × (self.new ≡ self.old) × (seat.new ≡ seat.old)) }
+        ensures refused { IfErr result (λ e. RefusedAs (RefusesWait self.old.book q helper whole target) e × (self.new ≡ self.old) × (seat.new ≡ seat.old)) }
     {
         self.book.legal();
-        match self.book.wait_by(q, whole, target) {
+        match self.book.wait_in(q, helper, whole, target) {
             Ok(unfinished) => {
                 self.tallies
-                    .count(seat, &wait_event(whole, q, target), unfinished);
+                    .count(seat, &wait_event(whole, q, helper, target), unfinished);
                 Ok(unfinished)
             }
             Err(e) => Err(CallError::of(e)),
         }
     }
 
-    /// Whether a lane waits for an item, or for the whole lane of the item.
-    fn waits_for(&self, q: LaneId, whole: bool, target: ItemId) -> bool
-        ensures { IsTrue result ↔ WaitsFor self.now.book q whole target }
+    /// Whether what a context runs waits for an item, or for the whole lane of the item.
+    fn waits_for(&self, q: LaneId, helper: u8, whole: bool, target: ItemId) -> bool
+        ensures { IsTrue result ↔ WaitsFor self.now.book q helper whole target }
     {
-        match self.book.waiting_by(q, whole) {
+        match self.book.waiting_in(q, helper, whole) {
             Some(waits) => waits == target,
             None => false,
         }
     }
 
-    /// Lets what a workqueue runs go on, where it waits for this item, or for the whole workqueue of this item, and that wait is
+    /// Lets what a context runs go on, where it waits for this item, or for the whole workqueue of this item, and that wait is
     /// over. It gives false where the wait isn't over; then nothing is changed.
     ///
-    /// The only error is `WrongLane` (64), exactly where the workqueue doesn't wait so: it waits for another item, or for this item
+    /// The only error is `WrongLane` (64), exactly where the context doesn't wait so: it waits for another item, or for this item
     /// by the other kind of wait, or not at all. After an error nothing is changed.
     pub fn over(
         &mut self,
         seat: &mut Seat<N, A>,
         q: LaneId,
+        helper: u8,
         whole: bool,
         target: ItemId,
     ) -> Result<bool, CallError>
-        ensures row { IfOk result (λ answer. AnswersOverOf self.old.book self.new.book q whole target answer) }
+        ensures row { IfOk result (λ answer. AnswersOverOf self.old.book self.new.book q helper whole target answer) }
         ensures counted { IfOk result (λ answer. CountsOver seat.old seat.new whole target answer) }
         ensures seats { self.new.seats ≡ self.old.seats }
-        ensures refused { IfErr result (λ e. (e ≡ WrongLane) × IsWrongToGoOn self.old.book q whole target × (self.new ≡ self.old) × (seat.new ≡ seat.old)) }
+        ensures refused { IfErr result (λ e. (e ≡ WrongLane) × IsWrongToGoOn self.old.book q helper whole target × (self.new ≡ self.old) × (seat.new ≡ seat.old)) }
     {
-        if !self.waits_for(q, whole, target) {
+        if !self.waits_for(q, helper, whole, target) {
             return Err(CallError::WrongLane);
         }
         self.book.legal();
-        let Ok(is_over) = self.book.over(q) else {
+        let Ok(is_over) = self.book.over_in(q, helper) else {
             unreachable!()
         };
         if is_over {
             self.tallies
-                .count(seat, &over_event(whole, q, target), true);
+                .count(seat, &over_event(whole, q, helper, target), true);
         }
         Ok(is_over)
     }
 
-    /// Whether a lane runs an entry of an item.
-    fn runs(&self, q: LaneId, item: ItemId) -> bool
-        ensures runs { IsTrue result ↔ RunsItem self.now.book q item }
+    /// Whether a context runs an entry of an item.
+    fn runs(&self, q: LaneId, helper: u8, item: ItemId) -> bool
+        ensures runs { IsTrue result ↔ RunsItem self.now.book q helper item }
         ensures known { IsTrue result → IsOnLane N.wiring q item }
     {
-        match self.book.running(q) {
+        match self.book.running_in(q, helper) {
             Some(runs) => runs == item,
             None => false,
         }
     }
 
-    /// Finishes what a workqueue runs, an entry of this item.
+    /// Finishes what a context runs, an entry of this item.
     ///
-    /// The only error is `WrongLane` (64), exactly where the workqueue doesn't run an entry of this item, or that entry waits.
+    /// The only error is `WrongLane` (64), exactly where the context doesn't run an entry of this item, or that entry waits.
     /// After an error nothing is changed.
     #[tactic(auto, using(crate::proofs::Refused::of_call_lane))]
     pub fn finish(
         &mut self,
         seat: &mut Seat<N, A>,
         q: LaneId,
+        helper: u8,
         item: ItemId,
     ) -> Result<(), CallError>
-        ensures row { OnOk result (AppendsOne self.old.book self.new.book (Finish q item) true) }
-        ensures known { OnOk result (IsOnLane N.wiring q item) }
+        ensures row { OnOk result (AppendsOne self.old.book self.new.book (finish_event q helper item) true) }
+        ensures known { OnOk result (HasContext N.wiring q helper × IsOnLane N.wiring q item) }
         ensures counted { OnOk result (seat.new ≡ raised seat.old item FinishKind true) }
         ensures seats { self.new.seats ≡ self.old.seats }
-        ensures refused { IfErr result (λ e. (e ≡ WrongLane) × IsWrongToFinish self.old.book q item × (self.new ≡ self.old) × (seat.new ≡ seat.old)) }
+        ensures refused { IfErr result (λ e. (e ≡ WrongLane) × IsWrongToFinish self.old.book q helper item × (self.new ≡ self.old) × (seat.new ≡ seat.old)) }
     {
-        if !self.runs(q, item) {
+        if !self.runs(q, helper, item) {
             return Err(CallError::WrongLane);
         }
         self.book.legal();
-        match self.book.finish(q) {
+        match self.book.finish_in(q, helper) {
             Ok(()) => {
-                self.tallies.count(seat, &Event::Finish(q, item), true);
+                self.tallies
+                    .count(seat, &finish_event(q, helper, item), true);
                 Ok(())
             }
             Err(e) => Err(CallError::of(e)),

@@ -43,6 +43,7 @@ impl<N: Naming, A: Allocator> Tallies<N, A> {
     }
 
     /// Counts a row of an event that is counted, with this answer: here, and in the seat of the caller who made the row.
+    #[inline(always)]
     pub fn count(&mut self, seat: &mut Seat<N, A>, event: &Event, yes: bool)
         requires counted { is_counted event.now ≡ true }
         requires slot { slot_in event.now < slots N.wiring }

@@ -1,8 +1,9 @@
 -- What a book refuses, as causes that a caller of a runtime can know; and why making a runtime can be refused.
 use Rattle.std.proofs.Common.{◌≡◌, ℕ, ◌<◌, ◌≤◌, ◌⊎◌, inl, inr, Bool, true, false, List, refl, sym, subst, ◌∙◌, arith}
-use Rattle.std.specs.Prelude.{Some, None, IsTrue, ◌↔◌}
+use Rattle.std.specs.Prelude.{Option, Some, None, Result, Ok, Err, IfOk, IfSome, IsTrue, ◌↔◌}
 use Rattle.std.proofs.lemmas.Bool.{cases_lt}
-use Rattle.wq_core.specs.Wiring.{Wiring, IsWiring, items, lane_of}
+use Rattle.wq_core.specs.declared.step.HelpStep.TheVariants.{Start as DoStart}
+use Rattle.wq_core.specs.Wiring.{Wiring, IsWiring, items, lane_of, with_helpers, max_helpers, HasContext}
 use Rattle.wq_core.specs.Deadlock.{IsSafe}
 use Rattle.wq_rows.specs.declared.event.Event.{Event}
 use Rattle.wq_rows.specs.Stored.{max_rows}
@@ -15,7 +16,8 @@ use Rattle.wq_held.specs.declared.fault.CallError.TheVariants.{HistoryFull as Ca
 use Rattle.wq_under_lock.specs.declared.fault.NewError.TheVariants.{NotSafe}
 use Rattle.wq_held.specs.Errors.{call_error, RefusedAs}
 use Rattle.wq_held.specs.Locked.{max_runtime_lanes, slots, IsOnLane, HasRoom, RefusesAskAndCancel}
-use Rattle.wq_under_lock.specs.Refusals.{RefusesRuntime, RefusesQueueWork, RefusesCancelWork, RefusesFlushLane, RefusesWaitFor}
+use Rattle.wq_held.proofs.Locking.{context-appended}
+use Rattle.wq_under_lock.specs.Refusals.{RefusesRuntime, RefusesQueueWork, RefusesCancelWork, RefusesFlushLane, RefusesWaitIn}
 
 -- what holds for a refusal holds for the same refusal
 moved : (P : CallError → Type 0) (x e : CallError) → Some x ≡ Some e → P x → P e
@@ -24,12 +26,6 @@ moved P x e is holds = let same : x ≡ e = cc in subst P same holds
 -- if an item exists, its lane does
 pub lane_exists : (w : Wiring) (i : ℕ) → IsWiring w → i < items w → lane_of w i < w.lanes
 lane_exists w i wiring there = wiring.within i 0 (omega (arith, there, wiring.one_lane_each))
-
-pub lane_known : (w : Wiring) (b : BookView) (q i : ℕ) → b.wiring ≡ w → IsBook b → IsOnLane w q i → q < w.lanes
-lane_known w b q i of_wiring book on =
-    let sound : IsWiring w = subst (λ (x : Wiring). IsWiring x) of_wiring book.wiring in
-    let below : lane_of w i < w.lanes = lane_exists w i sound on.0 in
-    omega (arith, below, on.1)
 
 -- ---- queue
 
@@ -105,8 +101,16 @@ wrong_cases wrong e OutOfMemory why is = absurd why
 pub start_wrong : (wrong : Type 0) (e : CallError) → RefusedAs (RefusesLane wrong) e → wrong
 start_wrong wrong e why = wrong_cases wrong e why.0 why.1 why.2
 
-pub start_none : (w : Wiring) (old new : BookView) (q : ℕ) → old.wiring ≡ w → AnswersStart old new q None → q < w.lanes
-start_none w old new q of_wiring answer = subst (λ (x : Wiring). q < x.lanes) of_wiring answer.0.0
+-- a context that starts something, or has nothing to start, exists
+start_context : (w : Wiring) (old new : BookView) (q c : ℕ) (next : Option ℕ) → old.wiring ≡ w → IsBook old → AnswersStart old new q c next → HasContext w q c
+start_context w old new q c (Some i) of_wiring book answer = context-appended w old new q c (DoStart i) true answer.1.0 of_wiring book answer.1.1
+start_context w old new q c None of_wiring book answer = subst (λ (x : Wiring). HasContext x q c) of_wiring answer.0.0
+
+pub start_known : (w : Wiring) (old new : BookView) (q c : ℕ) (r : Result (Option ℕ) CallError) → old.wiring ≡ w → IsBook old
+    → IfOk r (λ next. AnswersStart old new q c next) → IfOk r (λ next. IfSome next (λ item. IsOnLane w q item))
+    → IfOk r (λ next. HasContext w q c × IfSome next (λ item. IsOnLane w q item))
+start_known w old new q c (Ok next) of_wiring book answer on = (start_context w old new q c next of_wiring book answer, on)
+start_known w old new q c (Err e) of_wiring book answer on = tt
 
 -- ---- an ask about a lane
 
@@ -128,29 +132,35 @@ flush_lane_refused w b q e of_wiring why = flush_lane_cases w b q e of_wiring wh
 
 -- ---- wait
 
-wait_cases : (P : CallError → Type 0) (b : BookView) (q : ℕ) (whole : Bool) (target : ℕ) (e : CallError) → P CallWrongLane → P CallUndeclared → P CallTooManyWaits
-    → (x : BookError) → RefusesWait b q whole target x → call_error x ≡ Some e → P e
-wait_cases P b q whole target e wrong undeclared many HistoryFull why is = absurd why
-wait_cases P b q whole target e wrong undeclared many Closed why is = absurd why
-wait_cases P b q whole target e wrong undeclared many Undeclared why is = moved P CallUndeclared e is undeclared
-wait_cases P b q whole target e wrong undeclared many TooManyWaits why is = moved P CallTooManyWaits e is many
-wait_cases P b q whole target e wrong undeclared many WrongLane why is = moved P CallWrongLane e is wrong
-wait_cases P b q whole target e wrong undeclared many NoItem why is = absurd why
-wait_cases P b q whole target e wrong undeclared many TooManyRows why is = absurd why
-wait_cases P b q whole target e wrong undeclared many OutOfMemory why is = absurd why
+wait_cases : (P : CallError → Type 0) (b : BookView) (q c : ℕ) (whole : Bool) (target : ℕ) (e : CallError) → P CallWrongLane → P CallUndeclared → P CallTooManyWaits
+    → (x : BookError) → RefusesWait b q c whole target x → call_error x ≡ Some e → P e
+wait_cases P b q c whole target e wrong undeclared many HistoryFull why is = absurd why
+wait_cases P b q c whole target e wrong undeclared many Closed why is = absurd why
+wait_cases P b q c whole target e wrong undeclared many Undeclared why is = moved P CallUndeclared e is undeclared
+wait_cases P b q c whole target e wrong undeclared many TooManyWaits why is = moved P CallTooManyWaits e is many
+wait_cases P b q c whole target e wrong undeclared many WrongLane why is = moved P CallWrongLane e is wrong
+wait_cases P b q c whole target e wrong undeclared many NoItem why is = absurd why
+wait_cases P b q c whole target e wrong undeclared many TooManyRows why is = absurd why
+wait_cases P b q c whole target e wrong undeclared many OutOfMemory why is = absurd why
 
-pub wait_refused : (w : Wiring) (b : BookView) (counts : List ℕ) (q : ℕ) (whole : Bool) (target : ℕ) (e : CallError) → q < w.lanes → HasRoom counts → RefusedAs (RefusesWait b q whole target) e
-    → RefusesWaitFor w counts q e
-wait_refused w b counts q whole target e lane room why = wait_cases (λ y. RefusesWaitFor w counts q y) b q whole target e (inr room) (lane, room) (lane, room) why.0 why.1 why.2
+pub wait_refused : (w : Wiring) (b : BookView) (counts : List ℕ) (q c : ℕ) (whole : Bool) (target : ℕ) (e : CallError) → HasContext w q c → HasRoom counts
+    → RefusedAs (RefusesWait b q c whole target) e → RefusesWaitIn w counts q c e
+wait_refused w b counts q c whole target e there room why =
+    wait_cases (λ y. RefusesWaitIn w counts q c y) b q c whole target e (inr room) (there, room) (there, room) why.0 why.1 why.2
 
 -- ---- making a runtime
 
+-- an assignment is safe whatever the number of helpers
+pub safe_with : (w v : Wiring) (helpers : ℕ) → w ≡ with_helpers v helpers → IsSafe v → IsSafe w
+safe_with w v helpers same safe = subst (λ (x : Wiring). IsSafe x) (sym same) safe
+
 -- the assignment isn't safe
-pub not_safe_refused : (w v : Wiring) (rows : ℕ) (safe : Bool) → w ≡ v → v.lanes ≤ max_runtime_lanes → rows ≤ max_rows → IsTrue safe ↔ IsSafe v → safe ≡ false
-    → RefusesRuntime w rows NotSafe
-not_safe_refused w v rows safe same few_lanes few_rows means is = (
+pub not_safe_refused : (w v : Wiring) (helpers rows : ℕ) (safe : Bool) → w ≡ with_helpers v helpers → v.lanes ≤ max_runtime_lanes → rows ≤ max_rows → helpers ≤ max_helpers
+    → IsTrue safe ↔ IsSafe v → safe ≡ false → RefusesRuntime w rows NotSafe
+not_safe_refused w v helpers rows safe same few_lanes few_rows few_helpers means is = (
   subst (λ (x : Wiring). x.lanes ≤ max_runtime_lanes) (sym same) few_lanes,
   few_rows,
+  subst (λ (x : Wiring). x.helpers ≤ max_helpers) (sym same) few_helpers,
   (λ holds. let bad : safe ≡ true = means.1 (subst (λ (x : Wiring). IsSafe x) same holds) in let worse : false ≡ true = sym is ∙ bad in absurd cc),
 )
 

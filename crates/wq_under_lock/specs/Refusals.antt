@@ -1,13 +1,13 @@
 -- Why a runtime isn't made, and why its calls are refused, by what their callers can know.
 use Rattle.std.specs.Prelude.{◌≢◌, ℕ, ◌<◌, ◌≤◌, ◌⊎◌, List, sum}
-use Rattle.wq_core.specs.Wiring.{Wiring, items, lane_of}
+use Rattle.wq_core.specs.Wiring.{Wiring, items, lane_of, max_helpers, HasContext}
 use Rattle.wq_core.specs.Deadlock.{IsSafe}
 use Rattle.wq_rows.specs.Stored.{max_rows}
 use Rattle.wq_held.specs.declared.fault.CallError.{CallError}
 use Rattle.wq_held.specs.declared.fault.CallError.TheVariants.{HistoryFull, Closed, Undeclared, TooManyWaits, WrongLane, NotAsked, NoItem}
 use Rattle.wq_held.specs.Locked.{max_runtime_lanes, IsOnLane, seat_rows, HasRoom}
 use Rattle.wq_under_lock.specs.declared.fault.NewError.{NewError}
-use Rattle.wq_under_lock.specs.declared.fault.NewError.TheVariants.{TooManyLanes, TooManyRows, NotSafe, OutOfMemory}
+use Rattle.wq_under_lock.specs.declared.fault.NewError.TheVariants.{TooManyLanes, TooManyRows, TooManyHelpers, NotSafe, OutOfMemory}
 
 -- ---- making
 
@@ -17,19 +17,22 @@ new_code OutOfMemory = 20
 new_code NotSafe = 67
 new_code TooManyRows = 68
 new_code TooManyLanes = 69
+new_code TooManyHelpers = 74
 
--- making a runtime of a wiring with this many rows: too many lanes; too many rows; some run ends stuck; out of memory, but
--- never if there is nothing to keep
+-- making a runtime of a wiring with this many rows: too many lanes; too many rows; too many helpers, which can't be if the wiring
+-- has none; some run ends stuck; out of memory, but never if there is nothing to keep
 abbrev pub RefusesRuntime : Wiring → ℕ → NewError → Type 0
 RefusesRuntime w rows TooManyLanes = max_runtime_lanes < w.lanes
 RefusesRuntime w rows TooManyRows = (w.lanes ≤ max_runtime_lanes) × (max_rows < rows)
-RefusesRuntime w rows NotSafe = (w.lanes ≤ max_runtime_lanes) × (rows ≤ max_rows) × (¬ IsSafe w)
-RefusesRuntime w rows OutOfMemory = (w.lanes ≤ max_runtime_lanes) × (rows ≤ max_rows) × ((0 < w.lanes) ⊎ (0 < rows))
+RefusesRuntime w rows TooManyHelpers = (w.lanes ≤ max_runtime_lanes) × (rows ≤ max_rows) × (max_helpers < w.helpers)
+RefusesRuntime w rows NotSafe = (w.lanes ≤ max_runtime_lanes) × (rows ≤ max_rows) × (w.helpers ≤ max_helpers) × (¬ IsSafe w)
+RefusesRuntime w rows OutOfMemory = (w.lanes ≤ max_runtime_lanes) × (rows ≤ max_rows) × (w.helpers ≤ max_helpers) × ((0 < w.lanes) ⊎ (0 < rows))
 
 -- a runtime is made: no such cause holds
 pub record MakesRuntime (w : Wiring) (rows : ℕ) : Type 0 where
   pub few_lanes : w.lanes ≤ max_runtime_lanes
   pub few_rows : rows ≤ max_rows
+  pub few_helpers : w.helpers ≤ max_helpers
   pub safe : IsSafe w
 
 -- ---- refusals of calls, as far as the caller can know the causes: by its arguments and its seat
@@ -75,3 +78,17 @@ RefusesWaitFor w counts q TooManyWaits = (q < w.lanes) × HasRoom counts
 RefusesWaitFor w counts q Closed = ⊥
 RefusesWaitFor w counts q NotAsked = ⊥
 RefusesWaitFor w counts q NoItem = ⊥
+
+-- the same of a context that exists if `there` says so
+abbrev pub RefusesWaitOf : Type 0 → List ℕ → CallError → Type 0
+RefusesWaitOf there counts WrongLane = (¬ there) ⊎ HasRoom counts
+RefusesWaitOf there counts HistoryFull = there × (seat_rows ≤ sum counts)
+RefusesWaitOf there counts Undeclared = there × HasRoom counts
+RefusesWaitOf there counts TooManyWaits = there × HasRoom counts
+RefusesWaitOf there counts Closed = ⊥
+RefusesWaitOf there counts NotAsked = ⊥
+RefusesWaitOf there counts NoItem = ⊥
+
+-- the same of context c of lane q
+abbrev pub RefusesWaitIn : Wiring → List ℕ → ℕ → ℕ → CallError → Type 0
+RefusesWaitIn w counts q c e = RefusesWaitOf (HasContext w q c) counts e

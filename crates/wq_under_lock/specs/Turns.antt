@@ -1,8 +1,8 @@
 -- Turns: what a call under the lock comes to, who is woken, and what those who sleep wait for.
-use Rattle.std.specs.Prelude.{◌≡◌, [], Bool, true, false, Result, Ok, Err}
+use Rattle.std.specs.Prelude.{◌≡◌, ℕ, [], Bool, true, false, Result, Ok, Err}
 use Rattle.wq_history.specs.Book.{state}
 use Rattle.wq_held.specs.declared.fault.CallError.{CallError}
-use Rattle.wq_held.specs.Locked.{HeldView}
+use Rattle.wq_held.specs.Locked.{HeldView, HasNothingPending}
 use Rattle.wq_under_lock.specs.declared.turn.Turn.{Turn}
 use Rattle.wq_under_lock.specs.declared.turn.Turn.TheVariants.{Answers, Sleeps}
 use Rattle.wq_under_lock.specs.declared.turn.Wake.{Wake}
@@ -48,6 +48,10 @@ abbrev pub Wakes : {H T W : Type 0} → (H → H → Type 0) → H → H → Tur
 Wakes same old new (Answers answer Nobody) = same old new
 Wakes same old new (Answers answer Everybody) = Unit {0}
 Wakes same old new (Sleeps waits) = new ≡ old
+
+-- whoever serves lane q is done: the book is closed, and nothing is pending on the lane
+abbrev pub HasEnded : HeldView → ℕ → Type 0
+HasEnded h q = (h.book.closed ≡ true) × HasNothingPending h.book q
 
 -- nothing has happened, and the book is open
 abbrev pub IsFresh : HeldView → Type 0

@@ -4,7 +4,7 @@
 //! answers. A call takes the time of the book's events, and no memory.
 
 ghost use Rattle.std.specs.Prelude.{◌≡◌, ◌<◌, ◌≤◌, IfOk, IfErr, OnOk, OnErr, IfSome, true, false};
-ghost use Rattle.wq_core.specs.Wiring.{items};
+ghost use Rattle.wq_core.specs.Wiring.{items, HasContext};
 ghost use Rattle.wq_rows.specs.declared.event.Event.TheVariants.{Queue, Cancel, Ask as AskEvent};
 ghost use Rattle.wq_counts.specs.declared.kind.Kind.TheVariants.{Queue as QueueKind, Cancel as CancelKind};
 ghost use Rattle.wq_counts.specs.Counting.{wait_kind, raised};
@@ -14,7 +14,7 @@ ghost use Rattle.wq_history.specs.Answers.{AnswersAsk, AnswersAskLane, AnswersSt
 ghost use Rattle.wq_held.specs.declared.fault.CallError.TheVariants.{WrongLane};
 ghost use Rattle.wq_held.specs.Errors.{RefusedAs};
 ghost use Rattle.wq_held.specs.Locked.{IsOnLane, HasRoom, CountsAsk, CountsAskLane, AsksAndCancels, CountsAskAndCancel, RefusesAskAndCancel};
-ghost use Rattle.wq_under_lock.specs.Refusals.{RefusesQueueWork, RefusesCancelWork, RefusesFlushLane, RefusesWaitFor};
+ghost use Rattle.wq_under_lock.specs.Refusals.{RefusesQueueWork, RefusesCancelWork, RefusesFlushLane, RefusesWaitIn};
 
 use std::alloc::Allocator;
 use wq_groups::LaneId;
@@ -198,50 +198,52 @@ pub fn ask_and_cancel<N: Naming, A: Allocator>(
     held.ask_and_cancel(seat, item)
 }
 
-/// Starts the first pending entry of a workqueue, and gives its item. Where none is pending it gives nothing, and nothing is
-/// changed.
+/// Starts, in a context of a workqueue, the first pending entry whose item no context of the workqueue runs, and gives the item.
+/// Where there is none it gives nothing, and nothing is changed.
 ///
-/// The only error is `WrongLane` (64), where there is no such workqueue or it runs an entry. After an error nothing is changed.
-#[tactic(auto, using(crate::proofs::CallsRefused::start_refused, crate::proofs::CallsRefused::start_wrong, crate::proofs::CallsRefused::start_none, crate::proofs::CallsRefused::lane_known))]
+/// The only error is `WrongLane` (64), where there is no such context or it runs an entry. After an error nothing is changed.
+#[tactic(auto, using(crate::proofs::CallsRefused::start_refused, crate::proofs::CallsRefused::start_wrong))]
 pub fn start<N: Naming, A: Allocator>(
     held: &mut Held<N, A>,
     q: LaneId,
+    helper: u8,
 ) -> Result<Option<ItemId>, CallError>
-    ensures row { IfOk result (λ next. AnswersStart held.old.book held.new.book q next) }
-    ensures known { IfOk result (λ next. (q < N.wiring.lanes) × IfSome next (λ item. IsOnLane N.wiring q item)) }
+    ensures row { IfOk result (λ next. AnswersStart held.old.book held.new.book q helper next) }
+    ensures known { IfOk result (λ next. HasContext N.wiring q helper × IfSome next (λ item. IsOnLane N.wiring q item)) }
     ensures seats { held.new.seats ≡ held.old.seats }
     ensures refused { IfErr result (λ e. (e ≡ WrongLane) × (held.new ≡ held.old)) }
-    ensures cause { OnErr result (IsWrongToStart held.old.book q) }
+    ensures cause { OnErr result (IsWrongToStart held.old.book q helper) }
 {
     held.holds();
-    held.start(q)
+    held.start(q, helper)
 }
 
-/// Makes what a workqueue runs begin to wait for an item, or for the whole workqueue of the item: true where that has an unfinished
+/// Makes what a context runs begin to wait for an item, or for the whole workqueue of the item: true where that has an unfinished
 /// entry.
 ///
-/// The error is the first of these that holds: `WrongLane` (64), where there is no such workqueue; `HistoryFull` (60), where
-/// the seat is full; `WrongLane` (64), where the workqueue runs nothing or waits; `Undeclared` (62); `TooManyWaits` (63). After an
-/// error nothing is changed or counted.
+/// The error is the first of these that holds: `WrongLane` (64), where there is no such context; `HistoryFull` (60), where the seat
+/// is full; `WrongLane` (64), where the context runs nothing or waits; `Undeclared` (62); `TooManyWaits` (63). After an error nothing
+/// is changed or counted.
 #[tactic(auto, using(crate::proofs::CallsRefused::wait_refused))]
 pub fn wait<N: Naming, A: Allocator>(
     held: &mut Held<N, A>,
     seat: &mut Seat<N, A>,
     q: LaneId,
+    helper: u8,
     whole: bool,
     target: ItemId,
 ) -> Result<bool, CallError>
-    ensures row { IfOk result (λ unfinished. AppendsOne held.old.book held.new.book (wait_event whole q target) unfinished) }
-    ensures counted { IfOk result (λ unfinished. (q < N.wiring.lanes) × (target < items N.wiring) × HasRoom seat.old × (seat.new ≡ raised seat.old target (wait_kind whole) unfinished)) }
+    ensures row { IfOk result (λ unfinished. AppendsOne held.old.book held.new.book (wait_event whole q helper target) unfinished) }
+    ensures counted { IfOk result (λ unfinished. HasContext N.wiring q helper × (target < items N.wiring) × HasRoom seat.old × (seat.new ≡ raised seat.old target (wait_kind whole) unfinished)) }
     ensures seats { held.new.seats ≡ held.old.seats }
-    ensures refused { IfErr result (λ e. RefusesWaitFor N.wiring seat.old q e × (held.new ≡ held.old) × (seat.new ≡ seat.old)) }
-    ensures cause { IfErr result (λ e. q < N.wiring.lanes → HasRoom seat.old → RefusedAs (RefusesWait held.old.book q whole target) e) }
+    ensures refused { IfErr result (λ e. RefusesWaitIn N.wiring seat.old q helper e × (held.new ≡ held.old) × (seat.new ≡ seat.old)) }
+    ensures cause { IfErr result (λ e. HasContext N.wiring q helper → HasRoom seat.old → RefusedAs (RefusesWait held.old.book q helper whole target) e) }
 {
-    if usize::from(q.get()) >= held.lanes() {
+    if !held.has_context(q, helper) {
         return Err(CallError::WrongLane);
     }
     if seat.is_full() {
         return Err(CallError::HistoryFull);
     }
-    held.wait(seat, q, whole, target)
+    held.wait(seat, q, helper, whole, target)
 }

@@ -18,6 +18,9 @@ pub enum NewError {
     /// More than 16,777,216 rows (68).
     #[error("more rows than a history may have")]
     TooManyRows,
+    /// More than 8 helpers for each workqueue (74).
+    #[error("more helpers than a workqueue may have")]
+    TooManyHelpers,
     /// The assignment isn't safe: some run ends stuck (67).
     #[error("the assignment can deadlock")]
     NotSafe,
@@ -27,7 +30,7 @@ pub enum NewError {
 }
 
 impl NewError {
-    /// The number of the refusal: 20, 67, 68 or 69.
+    /// The number of the refusal: 20, 67, 68, 69 or 74.
     pub fn code(self) -> u32
         ensures { result ≡ new_code self }
     {
@@ -36,6 +39,7 @@ impl NewError {
             NewError::NotSafe => 67,
             NewError::TooManyRows => 68,
             NewError::TooManyLanes => 69,
+            NewError::TooManyHelpers => 74,
         }
     }
 }

@@ -19,6 +19,6 @@ pub use making::{MAX_LANES, new_held};
 pub use turn::{Turn, Wake, Watched};
 pub use turns::{
     be_idle, be_told, be_told_lane, begin_cancel_sync, begin_flush, begin_flush_lane, begin_wait,
-    cancel_work, close, finish_work, go_on, lane_of, lanes, next, queue_work, refuse_queueings,
-    seat,
+    cancel_work, close, finish_work, go_on, has_context, helpers_of, lane_of, lanes, next,
+    queue_work, refuse_queueings, seat,
 };

@@ -1,8 +1,10 @@
 //! What a call under the lock comes to: an answer, and who is woken; or nothing yet, and then its caller sleeps.
 //!
-//! A caller sleeps until a workqueue has something to start, until none of the entries of an item or a workqueue below some number
-//! is unfinished, or until no entry is; and whoever serves a workqueue is woken where the book is closed. All this is told by the
-//! state of the machine and by whether the book is closed. So a call that changes neither wakes nobody. Every call here takes constant time.
+//! A caller sleeps until a context has something to start, until none of the entries of an item or a workqueue below some number
+//! is unfinished, or until no entry is; and whoever serves a context is woken where the book is closed. All this is told by the
+//! state of the machine and by whether the book is closed. So a call that changes neither wakes nobody. An entry that is finished
+//! wakes all: another entry of its item may be pending, which the other contexts of the workqueue couldn't start. Every call here
+//! takes constant time.
 
 ghost use Rattle.std.specs.Prelude.{◌≡◌};
 ghost use Rattle.wq_under_lock.specs.Turns.{woken, woken_by};

@@ -4,24 +4,24 @@
 //! has changed, until that answers. A turn without an answer changes nothing. A turn takes the time of the book's events, and no
 //! memory; only `seat` takes more: time and memory in the number of items or workqueues, whichever are more.
 
-ghost use Rattle.std.specs.Prelude.{◌≡◌, ℕ, ◌+◌, ◌*◌, ◌<◌, ◌≤◌, replicate, vec_len, IfOk, IfErr, OnOk, OnErr, IfSome, IfNone, true, false};
-ghost use Rattle.wq_core.specs.Wiring.{items};
+ghost use Rattle.std.specs.Prelude.{◌≡◌, ℕ, ◌+◌, ◌*◌, ◌<◌, ◌≤◌, ◌↔◌, replicate, vec_len, IsTrue, IfOk, IfErr, OnOk, OnErr, IfSome, IfNone, true, false};
+ghost use Rattle.wq_core.specs.Wiring.{items, helpers_of, HasContext};
 ghost use Rattle.wq_core.specs.State.{lane_at, HasUnfinished, HasUnfinishedBelow, IsBusyBelow};
-ghost use Rattle.wq_rows.specs.declared.event.Event.TheVariants.{Queue, Cancel, Ask as AskEvent, Finish as FinishEvent, Told as ToldEvent, ToldLane as ToldLaneEvent};
+ghost use Rattle.wq_rows.specs.declared.event.Event.TheVariants.{Queue, Cancel, Ask as AskEvent, Told as ToldEvent, ToldLane as ToldLaneEvent};
 ghost use Rattle.wq_counts.specs.declared.kind.Kind.TheVariants.{Queue as QueueKind, Cancel as CancelKind, Finish as FinishKind, Told as ToldKind};
 ghost use Rattle.wq_counts.specs.Counting.{counts_each, wait_kind, over_kind, raised, raised_told};
 ghost use Rattle.wq_history.specs.declared.asking.Subject.TheVariants.{Item as OfItem, Lane as OfLane};
-ghost use Rattle.wq_history.specs.Events.{wait_event, over_event};
+ghost use Rattle.wq_history.specs.Events.{wait_event, over_event, finish_event};
 ghost use Rattle.wq_history.specs.History.{asks_waiting};
 ghost use Rattle.wq_history.specs.Book.{state, Appends, AppendsOne, HasNothingToStart, IsWrongToStart, RefusesQueue, RefusesItem, RefusesAskLane, RefusesWait};
 ghost use Rattle.wq_history.specs.Answers.{AnswersAsk, AnswersAskLane, AnswersStart};
 ghost use Rattle.wq_held.specs.declared.fault.CallError.TheVariants.{WrongLane, NotAsked};
 ghost use Rattle.wq_held.specs.declared.fault.SeatError.TheVariants.{TooManySeats, OutOfMemory as SeatOutOfMemory};
-ghost use Rattle.wq_held.specs.Locked.{max_runtime_lanes, slots, IsOnLane, HasRoom, Holds, CountsAsk, CountsAskLane, AsksAndCancels, CountsAskAndCancel, RefusesAskAndCancel, AnswersOverOf, IsWrongToGoOn, IsWrongToFinish, RefusesClose};
+ghost use Rattle.wq_held.specs.Locked.{max_runtime_lanes, slots, IsOnLane, HasRoom, Holds, CountsAsk, CountsAskLane, AsksAndCancels, CountsAskAndCancel, RefusesAskAndCancel, HasNothingPending, AnswersOverOf, IsWrongToGoOn, IsWrongToFinish, RefusesClose};
 ghost use Rattle.wq_held.specs.Errors.{RefusedAs};
 ghost use Rattle.wq_held.specs.Closing.{IsClosed};
-ghost use Rattle.wq_under_lock.specs.Refusals.{RefusesQueueWork, RefusesCancelWork, RefusesFlushLane, RefusesWaitFor};
-ghost use Rattle.wq_under_lock.specs.Turns.{AnswersWith, IfAnswers, IfSleeps, Wakes, IsSameToSleepers, woken, woken_by, woken_unless_refused};
+ghost use Rattle.wq_under_lock.specs.Refusals.{RefusesQueueWork, RefusesCancelWork, RefusesFlushLane, RefusesWaitIn};
+ghost use Rattle.wq_under_lock.specs.Turns.{AnswersWith, IfAnswers, IfSleeps, Wakes, IsSameToSleepers, HasEnded, woken, woken_by, woken_unless_refused};
 ghost use Rattle.wq_under_lock.specs.declared.turn.Wake.TheVariants.{Nobody, Everybody};
 
 use crate::calls;
@@ -49,6 +49,26 @@ pub fn lane_of<N: Naming, A: Allocator>(held: &Held<N, A>, item: ItemId) -> Turn
     ensures wakes { AnswersWith result (λ lane wake. wake ≡ Nobody) }
 {
     Turn::Answers(held.lane_of(item), Wake::Nobody)
+}
+
+/// How many helpers a workqueue has; 0 for one that is ordered or doesn't exist.
+pub fn helpers_of<N: Naming, A: Allocator>(held: &Held<N, A>, q: LaneId) -> Turn<u8, ()>
+    ensures helpers { AnswersWith result (λ helpers wake. helpers ≡ helpers_of N.wiring q) }
+    ensures wakes { AnswersWith result (λ helpers wake. wake ≡ Nobody) }
+{
+    Turn::Answers(held.helpers_of(q), Wake::Nobody)
+}
+
+/// Whether there is such a context: the rescuer of a workqueue that exists, or one of the helpers that it has.
+pub fn has_context<N: Naming, A: Allocator>(
+    held: &Held<N, A>,
+    q: LaneId,
+    helper: u8,
+) -> Turn<bool, ()>
+    ensures has { AnswersWith result (λ has wake. IsTrue has ↔ HasContext N.wiring q helper) }
+    ensures wakes { AnswersWith result (λ has wake. wake ≡ Nobody) }
+{
+    Turn::Answers(held.has_context(q, helper), Wake::Nobody)
 }
 
 // ---- seats
@@ -112,24 +132,25 @@ pub fn cancel_work<N: Naming, A: Allocator>(
     Turn::Answers(answer, wake)
 }
 
-/// Finishes what a workqueue runs, an entry of this item. All who sleep are woken.
+/// Finishes what a context runs, an entry of this item. All who sleep are woken.
 ///
-/// The only error is `WrongLane` (64): there is no such workqueue, it runs nothing or an entry of another item, or it waits.
-/// After an error nothing is changed or counted.
+/// The only error is `WrongLane` (64): there is no such context, it runs nothing or an entry of another item, or it waits. After an
+/// error nothing is changed or counted.
 pub fn finish_work<N: Naming, A: Allocator>(
     held: &mut Held<N, A>,
     seat: &mut Seat<N, A>,
     q: LaneId,
+    helper: u8,
     item: ItemId,
 ) -> Turn<Result<(), CallError>, ()>
-    ensures row { AnswersWith result (λ r wake. OnOk r (AppendsOne held.old.book held.new.book (FinishEvent q item) true)) }
-    ensures counted { AnswersWith result (λ r wake. OnOk r (IsOnLane N.wiring q item × (seat.new ≡ raised seat.old item FinishKind true))) }
+    ensures row { AnswersWith result (λ r wake. OnOk r (AppendsOne held.old.book held.new.book (finish_event q helper item) true)) }
+    ensures counted { AnswersWith result (λ r wake. OnOk r (HasContext N.wiring q helper × IsOnLane N.wiring q item × (seat.new ≡ raised seat.old item FinishKind true))) }
     ensures refused { AnswersWith result (λ r wake. IfErr r (λ e. (e ≡ WrongLane) × (held.new ≡ held.old) × (seat.new ≡ seat.old))) }
-    ensures cause { AnswersWith result (λ r wake. OnErr r (IsWrongToFinish held.old.book q item)) }
+    ensures cause { AnswersWith result (λ r wake. OnErr r (IsWrongToFinish held.old.book q helper item)) }
     ensures woken { AnswersWith result (λ r wake. wake ≡ woken_unless_refused r) }
     ensures wakes { Wakes IsSameToSleepers held.old held.new result }
 {
-    match held.finish(seat, q, item) {
+    match held.finish(seat, q, helper, item) {
         Ok(()) => Turn::Answers(Ok(()), Wake::Everybody),
         Err(e) => Turn::Answers(Err(e), Wake::Nobody),
     }
@@ -242,30 +263,32 @@ pub fn be_told_lane<N: Naming, A: Allocator>(
     }
 }
 
-// ---- serving a workqueue
+// ---- serving a workqueue, as its rescuer or one of its helpers
 
-/// Starts the next entry of a workqueue, once one is pending, and gives its item; all who sleep are woken. It gives nothing where
-/// nothing is pending and the book is closed.
+/// Starts the next entry that a context can start, once there is one, and gives its item; all who sleep are woken. It gives nothing
+/// where nothing is pending on its workqueue and the book is closed. Where an entry is pending whose item runs, its caller sleeps,
+/// even if the book is closed: that entry can be started once its item is finished.
 ///
-/// The only error is `WrongLane` (64), where there is no such workqueue or it runs an entry. After an error nothing is changed.
+/// The only error is `WrongLane` (64), where there is no such context or it runs an entry. After an error nothing is changed.
 pub fn next<N: Naming, A: Allocator>(
     held: &mut Held<N, A>,
     q: LaneId,
+    helper: u8,
 ) -> Turn<Result<Option<ItemId>, CallError>, ()>
-    ensures row { IfAnswers result (λ r wake. IfOk r (λ next. AnswersStart held.old.book held.new.book q next)) }
-    ensures known { IfAnswers result (λ r wake. IfOk r (λ next. (q < N.wiring.lanes) × IfSome next (λ item. IsOnLane N.wiring q item))) }
-    ensures ended { IfAnswers result (λ r wake. IfOk r (λ next. IfNone next (held.old.book.closed ≡ true))) }
+    ensures row { IfAnswers result (λ r wake. IfOk r (λ next. AnswersStart held.old.book held.new.book q helper next)) }
+    ensures known { IfAnswers result (λ r wake. IfOk r (λ next. HasContext N.wiring q helper × IfSome next (λ item. IsOnLane N.wiring q item))) }
+    ensures ended { IfAnswers result (λ r wake. IfOk r (λ next. IfNone next (HasEnded held.old q))) }
     ensures refused { IfAnswers result (λ r wake. IfErr r (λ e. (e ≡ WrongLane) × (held.new ≡ held.old))) }
-    ensures cause { IfAnswers result (λ r wake. OnErr r (IsWrongToStart held.old.book q)) }
-    ensures sleeps { IfSleeps result (λ none. HasNothingToStart held.old.book q × (held.old.book.closed ≡ false)) }
+    ensures cause { IfAnswers result (λ r wake. OnErr r (IsWrongToStart held.old.book q helper)) }
+    ensures sleeps { IfSleeps result (λ none. HasNothingToStart held.old.book q helper × (¬ HasEnded held.old q)) }
     ensures wakes { Wakes IsSameToSleepers held.old held.new result }
     ensures holds { Holds N.wiring N.rows held.old.book }
 {
     held.holds();
-    match calls::start(held, q) {
+    match calls::start(held, q, helper) {
         Ok(Some(item)) => Turn::Answers(Ok(Some(item)), Wake::Everybody),
         Ok(None) => {
-            if held.is_closed() {
+            if held.is_closed() && held.nothing_pending_on(q) {
                 Turn::Answers(Ok(None), Wake::Nobody)
             } else {
                 Turn::Sleeps(())
@@ -275,49 +298,51 @@ pub fn next<N: Naming, A: Allocator>(
     }
 }
 
-/// Begins a wait of a workqueue, as `wait`. All who sleep are woken.
+/// Begins a wait of what a context runs, as `wait`. All who sleep are woken.
 pub fn begin_wait<N: Naming, A: Allocator>(
     held: &mut Held<N, A>,
     seat: &mut Seat<N, A>,
     q: LaneId,
+    helper: u8,
     whole: bool,
     target: ItemId,
 ) -> Turn<Result<bool, CallError>, ()>
-    ensures row { AnswersWith result (λ r wake. IfOk r (λ unfinished. AppendsOne held.old.book held.new.book (wait_event whole q target) unfinished)) }
-    ensures counted { AnswersWith result (λ r wake. IfOk r (λ unfinished. (q < N.wiring.lanes) × (target < items N.wiring) × HasRoom seat.old × (seat.new ≡ raised seat.old target (wait_kind whole) unfinished))) }
-    ensures refused { AnswersWith result (λ r wake. IfErr r (λ e. RefusesWaitFor N.wiring seat.old q e × (held.new ≡ held.old) × (seat.new ≡ seat.old))) }
-    ensures cause { AnswersWith result (λ r wake. IfErr r (λ e. q < N.wiring.lanes → HasRoom seat.old → RefusedAs (RefusesWait held.old.book q whole target) e)) }
+    ensures row { AnswersWith result (λ r wake. IfOk r (λ unfinished. AppendsOne held.old.book held.new.book (wait_event whole q helper target) unfinished)) }
+    ensures counted { AnswersWith result (λ r wake. IfOk r (λ unfinished. HasContext N.wiring q helper × (target < items N.wiring) × HasRoom seat.old × (seat.new ≡ raised seat.old target (wait_kind whole) unfinished))) }
+    ensures refused { AnswersWith result (λ r wake. IfErr r (λ e. RefusesWaitIn N.wiring seat.old q helper e × (held.new ≡ held.old) × (seat.new ≡ seat.old))) }
+    ensures cause { AnswersWith result (λ r wake. IfErr r (λ e. HasContext N.wiring q helper → HasRoom seat.old → RefusedAs (RefusesWait held.old.book q helper whole target) e)) }
     ensures woken { AnswersWith result (λ r wake. wake ≡ woken_unless_refused r) }
     ensures wakes { Wakes IsSameToSleepers held.old held.new result }
 {
-    match calls::wait(held, seat, q, whole, target) {
+    match calls::wait(held, seat, q, helper, whole, target) {
         Ok(unfinished) => Turn::Answers(Ok(unfinished), Wake::Everybody),
         Err(e) => Turn::Answers(Err(e), Wake::Nobody),
     }
 }
 
-/// Lets what a workqueue runs go on, once its wait for this item, or for the whole workqueue of this item, is over. All who sleep
-/// are woken.
+/// Lets what a context runs go on, once its wait for this item, or for the whole workqueue of this item, is over. All who sleep are
+/// woken.
 ///
-/// The only error is `WrongLane` (64), where the workqueue doesn't wait for this item by this kind of wait. After an error nothing
-/// is changed or counted.
+/// The only error is `WrongLane` (64), where the context doesn't wait for this item by this kind of wait. After an error nothing is
+/// changed or counted.
 pub fn go_on<N: Naming, A: Allocator>(
     held: &mut Held<N, A>,
     seat: &mut Seat<N, A>,
     q: LaneId,
+    helper: u8,
     whole: bool,
     target: ItemId,
 ) -> Turn<Result<(), CallError>, ()>
-    ensures row { IfAnswers result (λ r wake. OnOk r (AppendsOne held.old.book held.new.book (over_event whole q target) true)) }
+    ensures row { IfAnswers result (λ r wake. OnOk r (AppendsOne held.old.book held.new.book (over_event whole q helper target) true)) }
     ensures counted { IfAnswers result (λ r wake. OnOk r (seat.new ≡ raised seat.old target (over_kind whole) true)) }
     ensures refused { IfAnswers result (λ r wake. IfErr r (λ e. (e ≡ WrongLane) × (held.new ≡ held.old) × (seat.new ≡ seat.old))) }
-    ensures cause { IfAnswers result (λ r wake. OnErr r (IsWrongToGoOn held.old.book q whole target)) }
+    ensures cause { IfAnswers result (λ r wake. OnErr r (IsWrongToGoOn held.old.book q helper whole target)) }
     ensures woken { IfAnswers result (λ r wake. wake ≡ woken_unless_refused r) }
     ensures sleeps { IfSleeps result (λ none. seat.new ≡ seat.old) }
-    ensures waits { IfSleeps result (λ none. AnswersOverOf held.old.book held.new.book q whole target false) }
+    ensures waits { IfSleeps result (λ none. AnswersOverOf held.old.book held.new.book q helper whole target false) }
     ensures wakes { Wakes IsSameToSleepers held.old held.new result }
 {
-    match held.over(seat, q, whole, target) {
+    match held.over(seat, q, helper, whole, target) {
         Ok(true) => Turn::Answers(Ok(()), Wake::Everybody),
         Ok(false) => Turn::Sleeps(()),
         Err(e) => Turn::Answers(Err(e), Wake::Nobody),

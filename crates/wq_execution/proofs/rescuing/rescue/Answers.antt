@@ -1,36 +1,8 @@
-use Rattle.std.proofs.Common.{arith}
-use Rattle.wq_core.specs.Wiring.{items}
-use Rattle.wq_held.specs.Locked.{seat_rows, slots}
-use Rattle.std.proofs.Math.Nat.{le-max_left}
-use Rattle.std.specs.Prelude.{sum}
-use Rattle.wq_execution.proofs.Executions.{serving_more, one_fault_at_most, ran_only_more, on_lane_of_next, nothing_else, few_finished, below_limit}
+use Rattle.wq_execution.proofs.Executions.{lane_served, rescuer_refused}
 use Rattle.wq_execution.proofs.rescuing.rescue.Goals as goal
 
-pub and-rescued-requires-clause-few : goal.and-rescued-requires-clause-few
-and-rescued-requires-clause-few g c =
-    let room = below_limit c.is_full.result seat_rows (sum c.loop.seat) c.is_full.ensures c.if-is_full.false in
-    (few_finished (items g.N.Naming.wiring) (slots g.N.Naming.wiring) c.args.seat.now c.loop.seat (g.B.Body.width c.loop.body) (g.B.Body.runs c.loop.body) c.loop.rescued.finished c.loop.rescued.faults c.loop.invariant.2 c.holds.ensures (le-max_left (items g.N.Naming.wiring) g.N.Naming.wiring.lanes) room).0
+pub returns-clause-lane : goal.returns-clause-lane
+returns-clause-lane g c = lane_served g.N.Naming.wiring c.args.q c.serve.result c.serve.ensures.context
 
-pub and-rescued-requires-clause-faults : goal.and-rescued-requires-clause-faults
-and-rescued-requires-clause-faults g c = c.loop.invariant.2.faults_within
-
-pub loop-preserved : goal.loop-preserved
-loop-preserved g c =
-    let before = c.loop.rescued in
-    let more = c.and-rescued.result in (
-      tt,
-      tt,
-      serving_more (items g.N.Naming.wiring) (slots g.N.Naming.wiring) c.args.seat.now c.loop.seat c.execute-answer.new.seat (g.B.Body.width c.loop.body) (g.B.Body.width c.execute-answer.new.body) (g.B.Body.runs c.loop.body) (g.B.Body.runs c.execute-answer.new.body)
-          before.finished before.faults more.finished more.faults c.in-Some-2.item c.loop.invariant.2 c.execute-answer.ensures.width c.holds-in-loop.ensures (le-max_left (items g.N.Naming.wiring) g.N.Naming.wiring.lanes) c.in_ok-finish_work.ensures.counted.0.0 c.execute-answer.ensures.finished c.execute-answer.ensures.ran
-          c.and-rescued.ensures.finished (omega (arith, c.and-rescued.ensures.faults, one_fault_at_most c.execute-answer.result))
-          c.finish_work.new.seat c.in_ok-finish_work.ensures.counted.1,
-      ran_only_more g.N.Naming.wiring c.args.q (g.B.Body.runs c.loop.body) (g.B.Body.runs c.execute-answer.new.body) c.in-Some-2.item c.loop.invariant.3 c.execute-answer.ensures.ran (on_lane_of_next g.N.Naming.wiring c.args.q c.in-Some-2.item c.in_ok-item.field-0 c.in_ok-item.ensures.started.1 c.in-Some-2.is),
-      c.loop.invariant.4,
-    )
-
-pub returns-then-get-lanes-clause-own : goal.returns-then-get-lanes-clause-own
-returns-then-get-lanes-clause-own g c = nothing_else g.N.Naming.wiring c.args.q (g.B.Body.runs c.args.body.now) c.requires.never_ran
-
-pub returns-in_err-finish_work-clause-own : goal.returns-in_err-finish_work-clause-own
-returns-in_err-finish_work-clause-own g c =
-    ran_only_more g.N.Naming.wiring c.args.q (g.B.Body.runs c.loop.body) (g.B.Body.runs c.execute-answer.new.body) c.in-Some-2.item c.loop.invariant.3 c.execute-answer.ensures.ran (on_lane_of_next g.N.Naming.wiring c.args.q c.in-Some-2.item c.in_ok-item.field-0 c.in_ok-item.ensures.started.1 c.in-Some-2.is)
+pub returns-clause-why : goal.returns-clause-why
+returns-clause-why g c = rescuer_refused g.N.Naming.wiring c.args.q c.serve.new.seat c.serve.result c.serve.ensures.why

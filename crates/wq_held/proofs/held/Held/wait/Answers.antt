@@ -1,21 +1,23 @@
 use Rattle.std.proofs.Common.{◌≡◌, ◌<◌, true, sym, ap, subst, ◌∙◌}
+use Rattle.wq_core.specs.Rules.{wait_deed}
 use Rattle.wq_rows.specs.declared.event.Event.{Event}
 use Rattle.wq_counts.specs.Counting.{slot_in, is_counted, noted_as}
 use Rattle.wq_history.specs.Events.{wait_event}
 use Rattle.wq_history.specs.Book.{AppendsOne}
 use Rattle.wq_held.specs.Locked.{HeldView, slots}
-use Rattle.wq_held.proofs.Locking.{few_tallies, there-appended, slot-appended, lane-appended, IsHeld-counted, counted-wait, noted-wait, target-there, lane-wait}
+use Rattle.wq_held.proofs.Locking.{few_tallies, there-appended, slot-appended, context-appended, IsHeld-counted, counted-wait, noted-wait, target-there}
 use Rattle.wq_held.proofs.held.Held.wait.Goals as goal
 
 pub count-requires-clause-counted : goal.count-requires-clause-counted
-count-requires-clause-counted g c = subst (λ (e : Event). is_counted e ≡ true) (sym c.wait_event.ensures) (counted-wait c.args.whole c.args.q c.args.target)
+count-requires-clause-counted g c =
+    subst (λ (e : Event). is_counted e ≡ true) (sym c.wait_event.ensures) (counted-wait c.args.whole c.args.q c.args.helper c.args.target)
 
 pub count-requires-clause-slot : goal.count-requires-clause-slot
 count-requires-clause-slot g c =
     let row = c.in-Ok.ensures.row in
-    let event : Event = wait_event c.args.whole c.args.q c.args.target in
+    let event : Event = wait_event c.args.whole c.args.q c.args.helper c.args.target in
     subst (λ (e : Event). slot_in e < slots g.N.Naming.wiring) (sym c.wait_event.ensures)
-    (slot-appended g.N.Naming.wiring c.self.inside.book c.wait_by.new.self event c.in-Ok.unfinished row.0 c.self.invariant.of_wiring c.legal.ensures row.1)
+    (slot-appended g.N.Naming.wiring c.self.inside.book c.wait_in.new.self event c.in-Ok.unfinished row.0 c.self.invariant.of_wiring c.legal.ensures row.1)
 
 pub count-requires-clause-few : goal.count-requires-clause-few
 count-requires-clause-few g c =
@@ -26,27 +28,29 @@ pub invariant_of-self : goal.invariant_of-self
 invariant_of-self g c =
     let h = c.self.inside in
     let row = c.in-Ok.ensures.row in
-    let event : Event = wait_event c.args.whole c.args.q c.args.target in
-    IsHeld-counted _ _ _ h.book c.wait_by.new.self h.tallies h.sums h.seats h.rest.parts h.rest.amount event c.in-Ok.unfinished row.0
+    let event : Event = wait_event c.args.whole c.args.q c.args.helper c.args.target in
+    IsHeld-counted _ _ _ h.book c.wait_in.new.self h.tallies h.sums h.seats h.rest.parts h.rest.amount event c.in-Ok.unfinished row.0
     c.count.new.self (c.count.ensures.tallies ∙ ap (λ (e : Event). noted_as h.tallies e c.in-Ok.unfinished) c.wait_event.ensures) c.self.invariant c.legal.ensures row.1
 
 pub returns-in-Ok-clause-row : goal.returns-in-Ok-clause-row
 returns-in-Ok-clause-row g c =
-    subst (λ (x : HeldView). AppendsOne x.book c.wait_by.new.self (wait_event c.args.whole c.args.q c.args.target) c.in-Ok.unfinished) c.self.view_is c.in-Ok.ensures.row
+    subst (λ (x : HeldView). AppendsOne x.book c.wait_in.new.self (wait_event c.args.whole c.args.q c.args.helper c.args.target) c.in-Ok.unfinished)
+    c.self.view_is c.in-Ok.ensures.row
 
 pub returns-in-Ok-clause-known : goal.returns-in-Ok-clause-known
 returns-in-Ok-clause-known g c =
     let w = g.N.Naming.wiring in
     let b = c.self.inside.book in
+    let q = c.args.q in
+    let h = c.args.helper in
     let row = c.in-Ok.ensures.row in
-    let event : Event = wait_event c.args.whole c.args.q c.args.target in (
-      subst (λ q. q < w.lanes) (lane-wait c.args.whole c.args.q c.args.target)
-          (lane-appended w b c.wait_by.new.self event c.in-Ok.unfinished row.0 c.self.invariant.of_wiring c.legal.ensures row.1),
-      target-there w c.args.whole c.args.q c.args.target
-          (there-appended w b c.wait_by.new.self event c.in-Ok.unfinished row.0 c.self.invariant.of_wiring c.legal.ensures row.1),
+    let event : Event = wait_event c.args.whole q h c.args.target in (
+      context-appended w b c.wait_in.new.self q h (wait_deed c.args.whole c.args.target) c.in-Ok.unfinished row.0 c.self.invariant.of_wiring c.legal.ensures row.1,
+      target-there w c.args.whole q h c.args.target
+          (there-appended w b c.wait_in.new.self event c.in-Ok.unfinished row.0 c.self.invariant.of_wiring c.legal.ensures row.1),
     )
 
 pub returns-in-Ok-clause-counted : goal.returns-in-Ok-clause-counted
 returns-in-Ok-clause-counted g c =
     c.count.ensures.seat ∙ (ap (λ (e : Event). noted_as c.args.seat.now e c.in-Ok.unfinished) c.wait_event.ensures
-    ∙ noted-wait c.args.seat.now c.args.whole c.args.q c.args.target c.in-Ok.unfinished)
+    ∙ noted-wait c.args.seat.now c.args.whole c.args.q c.args.helper c.args.target c.in-Ok.unfinished)

@@ -1,8 +1,7 @@
-use Rattle.std.proofs.Common.{◌<◌}
-use Rattle.wq_core.specs.Wiring.{items}
+use Rattle.wq_core.specs.Wiring.{items, HasContext}
 use Rattle.wq_execution.specs.Executing.{RanOnly}
 use Rattle.wq_execution.proofs.Executions.{IsServing}
-use Rattle.wq_execution.proofs.rescuing.rescue.Given as goal
+use Rattle.wq_execution.proofs.rescuing.serve.Given as goal
 
 -- the seat counts as finished what the body ran, and that is of its lane
 abbrev pub invariant-loop : goal.invariant-loop
@@ -10,4 +9,4 @@ invariant-loop g l =
     (goal.iterator-loop g).can_next l.iterator' × (goal.iterator-loop g).is_finite l.iterator'
     × IsServing (items g.N.Naming.wiring) l.fn.seat l.seat (g.B.Body.width l.body) (g.B.Body.runs l.body) l.rescued.finished l.rescued.faults
     × RanOnly g.N.Naming.wiring l.fn.q (g.B.Body.runs l.body)
-    × (l.fn.q < g.N.Naming.wiring.lanes)
+    × HasContext g.N.Naming.wiring l.fn.q l.fn.helper

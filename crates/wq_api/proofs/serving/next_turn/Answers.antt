@@ -1,0 +1,7 @@
+use Rattle.wq_api.proofs.Waiters.{next_done}
+use Rattle.wq_api.proofs.serving.next_turn.Goals as goal
+
+pub returns-clause-ended : goal.returns-clause-ended
+returns-clause-ended g c =
+    next_done g.N.Naming.wiring g.N.Naming.rows c.args.held.now c.next.new.held c.args.q c.args.helper c.next.result
+    c.next.ensures.holds c.next.ensures.row c.next.ensures.ended

@@ -1,0 +1,16 @@
+use Rattle.std.proofs.Common.{◌<◌, arith}
+use Rattle.wq_execution.proofs.Executions.{helper_served, helper_refused, nothing_else}
+use Rattle.wq_execution.proofs.rescuing.help.Goals as goal
+
+pub returns-then-h-eq0-clause-own : goal.returns-then-h-eq0-clause-own
+returns-then-h-eq0-clause-own g c = nothing_else g.N.Naming.wiring c.args.q (g.B.Body.runs c.args.body.now) c.requires.never_ran
+
+pub returns-clause-helper : goal.returns-clause-helper
+returns-clause-helper g c =
+    let some : 0 < c.args.h = omega (arith, c.if-h-eq0.false) in
+    helper_served g.N.Naming.wiring c.args.q c.args.h c.serve.result some c.serve.ensures.context
+
+pub returns-clause-why : goal.returns-clause-why
+returns-clause-why g c =
+    let some : 0 < c.args.h = omega (arith, c.if-h-eq0.false) in
+    helper_refused g.N.Naming.wiring c.args.q c.args.h c.serve.new.seat c.serve.result some c.serve.ensures.why
