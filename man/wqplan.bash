@@ -1,5 +1,5 @@
-# Completion of wqplan for bash: the commands, the numbers, names and words that `explain` knows, and files. What follows a `<` or a `>`
-# is a file of the shell's, and no argument of wqplan; what is in `<(..)` is another command.
+# Completion of wqplan for bash: the commands, the numbers of helpers, the numbers, names and words that `explain` knows, and files.
+# What follows a `<` or a `>` is a file of the shell's, and no argument of wqplan; what is in `<(..)` is another command.
 _wqplan() {
     local word=${COMP_WORDS[COMP_CWORD]} command='' words=0 redirected='' inside=0 index at next
     # What follows the last word that was looked at.
@@ -86,7 +86,14 @@ _wqplan() {
             COMPREPLY=("${COMPREPLY[@]// /\\ }")
             return
             ;;
-        plan | run) files=1 ;;
+        run)
+            if [ "$words" -eq 1 ]; then
+                mapfile -t COMPREPLY < <(compgen -W '0 1 2 3 4 5 6 7 8' -- "$word")
+                return
+            fi
+            files=1
+            ;;
+        plan) files=1 ;;
         check | deadlock | circles | dot) files=2 ;;
         replay) files=3 ;;
         *) return ;;

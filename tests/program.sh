@@ -302,6 +302,18 @@ run run chain257 </dev/null
 check 'run: 257 workqueues' 2 'refused 69 line 0\n' 'of 1'
 run run whole </dev/null
 check 'run: a wait for a whole workqueue' 0 "$ran_whole\n" ''
+for helpers in {0..8} 00 +3; do
+    run run declaration "$helpers" </dev/null
+    check "run: two workqueues, helpers $helpers" 0 "$ran" ''
+done
+run run -- declaration -0 </dev/null
+check 'run: helpers -0 behind --' 0 "$ran" ''
+run run chain256 8 </dev/null
+check 'run: 256 workqueues, helpers 8' 0 "$ran256\n" ''
+run run chain257 8 </dev/null
+check 'run: 257 workqueues, helpers 8' 2 'refused 69 line 0\n' 'of 1'
+run run circle 8 </dev/null
+check 'run: a circle, helpers 8' 1 'circle 1\narc a a\nrun 3\nqueue a\nstart 0 a\nwait 0 a\n' ''
 run run circle </dev/null
 check 'run: a circle and its run' 1 'circle 1\narc a a\nrun 3\nqueue a\nstart 0 a\nwait 0 a\n' ''
 run run refused </dev/null
@@ -583,7 +595,8 @@ for words in 'check' 'check declaration' 'check declaration plan_of_two lanes' '
     'deadlock chain lanes open' 'replay' 'replay chain' 'replay chain lanes' 'replay chain lanes deadlock open' \
     'check --fast declaration plan_of_two' 'deadlock --fast chain lanes' 'circles' 'circles chain lanes open' \
     'circles --fast chain' 'dot' 'dot chain lanes open' 'dot --fast chain' 'run' 'run declaration circle' \
-    'run --fast declaration'; do
+    'run --fast declaration' 'run declaration 9' 'run declaration -1' 'run declaration x' 'run declaration 2x' 'run declaration 256' \
+    'run declaration 2 3' 'run declaration 1.0' 'run -- declaration -1'; do
     run $words </dev/null
     check "$words" 2 '' some
 done
@@ -641,6 +654,7 @@ shows replay DECL declaration
 shows replay ASSIGN workqueue
 shows replay RUN step
 shows run DECL declaration
+shows run HELPERS workqueue
 shows explain CODE number
 run --version </dev/null
 check '--version' 0 'wqplan 0.2.0-dev\n' ''

@@ -1,8 +1,9 @@
--- What threads hand back: what each lane's answer says about its seat and its body, and all lanes together.
-use Rattle.std.proofs.Common.{◌≡◌, ℕ, zero, suc, ◌+◌, ◌<◌, ◌≤◌, ◌⊎◌, inl, inr, List, [], ◌∷◌, ◌++◌, length, map, reverse, take, drop, replicate, get_or, refl, sym, ap, subst, ◌∙◌, arith}
+-- What threads hand back: what each context's answer says about its seat and its body, and all contexts together.
+use Rattle.std.proofs.Common.{◌≡◌, ℕ, zero, suc, ◌+◌, ◌<◌, ◌≤◌, ◌⊎◌, inl, inr, List, [], ◌∷◌, ◌++◌, length, map, reverse, take, drop, replicate, get_or, Bool, not, ◌&&◌, eqb, refl, sym, ap, ap₂, subst, ◌∙◌, arith}
 use Rattle.std.specs.Prelude.{Some, Result, Ok, Err, OnOk, OnErr, IfOk, IfErr, option_map, is_ok, is_err, slice_get, true, false}
 use Rattle.std.specs.List.{sum_by, range_with_len}
-use Rattle.std.proofs.lemmas.Bool.{cases_lt}
+use Rattle.std.proofs.lemmas.Bool.{cases_lt, eqb-true}
+use Rattle.std.proofs.lemmas.Result.{IfErr-weaker}
 use Rattle.std.proofs.lemmas.List.Sums.{sum_by-cons, sum_by_push}
 use Rattle.std.proofs.lemmas.Option.{slice_get-map, slice_get_read, slice_get_within}
 use Rattle.std.proofs.lemmas.List.{get_or-replicate, get_or_past, length-replicate, length-append, length-map, map-append, reverse-append, append-nil, append_assoc}
@@ -10,10 +11,12 @@ use Rattle.wq_counts.specs.declared.kind.Kind.TheVariants.{Finish}
 use Rattle.wq_counts.specs.Counting.{place}
 use Rattle.wq_held.specs.declared.fault.CallError.{CallError}
 use Rattle.wq_execution.specs.declared.rescuing.Rescued.{Rescued}
+use Rattle.wq_core.specs.declared.step.Context.{Context}
 use Rattle.wq_core.specs.Wiring.{Wiring, items}
-use Rattle.wq_execution.specs.Executing.{RanOnly, RefusesRescue, finished_of, finished_in_all, CountsRuns, CountsAtMost}
+use Rattle.wq_execution.specs.Executing.{RanOnly, RefusesHelp, RefusesRescue, RefusesServe, finished_of, finished_in_all, CountsRuns, CountsAtMost}
 use Rattle.wq_rescuer.specs.declared.running.RunWhy.{RunWhy}
 use Rattle.wq_rescuer.specs.declared.running.RunWhy.TheVariants.{BodiesDiffer, TooManySeats, OutOfMemory, NoThread}
+use Rattle.wq_rescuer.specs.Contexts.{contexts_of}
 use Rattle.wq_rescuer.specs.Serving.{IsServed, AreServed, AreLastFirst, IsNoSeat, RefusesRun}
 
 -- ---- a seat without counts
@@ -28,36 +31,44 @@ none_in_all : (a n items : ℕ) → sum_by (finished_of (replicate n 0)) (range_
 none_in_all a n zero = refl
 none_in_all a n (suc items) = omega (arith, sum_by-cons (finished_of (replicate n 0)) a (range_with_len (a + 1) items), none_finished n a, none_in_all (a + 1) n items)
 
--- a rescuer that began with a seat without counts
-pub is_served : (w : Wiring) (q n : ℕ) (before counts : List ℕ) (runs : ℕ → ℕ) (answer : Result Rescued CallError) → before ≡ replicate n 0
-    → RanOnly w q runs
+-- a context that began with a seat without counts
+pub is_served : (w : Wiring) (context : Context) (n : ℕ) (before counts : List ℕ) (runs : ℕ → ℕ) (answer : Result Rescued CallError) → before ≡ replicate n 0
+    → RanOnly w context.lane runs
     → OnOk answer (CountsRuns before counts runs) → IfOk answer (λ r. finished_in_all (items w) before + r.finished ≡ finished_in_all (items w) counts)
-    → IfOk answer (λ r. r.faults ≤ r.finished) → IfErr answer (λ e. RefusesRescue w q counts e) → OnErr answer (CountsAtMost before counts runs)
-    → IsServed w q counts runs answer
-is_served w q n before counts runs answer none own all in_all few why most =
-    from_none w q n counts runs answer own (subst (λ (b : List ℕ). OnOk answer (CountsRuns b counts runs)) none all)
+    → IfOk answer (λ r. r.faults ≤ r.finished) → IfErr answer (λ e. RefusesServe w context.lane context.helper counts e) → OnErr answer (CountsAtMost before counts runs)
+    → IsServed w context counts runs answer
+is_served w context n before counts runs answer none own all in_all few why most =
+    from_none w context n counts runs answer own (subst (λ (b : List ℕ). OnOk answer (CountsRuns b counts runs)) none all)
     (subst (λ (b : List ℕ). IfOk answer (λ r. finished_in_all (items w) b + r.finished ≡ finished_in_all (items w) counts)) none in_all) few
     why (subst (λ (b : List ℕ). OnErr answer (CountsAtMost b counts runs)) none most)
   where
-    from_none : (w : Wiring) (q n : ℕ) (counts : List ℕ) (runs : ℕ → ℕ) (answer : Result Rescued CallError) → RanOnly w q runs
+    from_none : (w : Wiring) (context : Context) (n : ℕ) (counts : List ℕ) (runs : ℕ → ℕ) (answer : Result Rescued CallError) → RanOnly w context.lane runs
         → OnOk answer (CountsRuns (replicate n 0) counts runs) → IfOk answer (λ r. finished_in_all (items w) (replicate n 0) + r.finished ≡ finished_in_all (items w) counts)
-        → IfOk answer (λ r. r.faults ≤ r.finished) → IfErr answer (λ e. RefusesRescue w q counts e) → OnErr answer (CountsAtMost (replicate n 0) counts runs)
-        → IsServed w q counts runs answer
-    from_none w q n counts runs (Ok r) own all in_all few why most = record {
+        → IfOk answer (λ r. r.faults ≤ r.finished) → IfErr answer (λ e. RefusesServe w context.lane context.helper counts e) → OnErr answer (CountsAtMost (replicate n 0) counts runs)
+        → IsServed w context counts runs answer
+    from_none w context n counts runs (Ok r) own all in_all few why most = record {
       own = own;
       counts = λ x is. let same : r ≡ x = cc in
           subst (λ (y : Rescued). ((i : ℕ) → finished_of counts i ≡ runs i) × (y.finished ≡ finished_in_all (items w) counts) × (y.faults ≤ y.finished)) same
           ((λ i. omega (arith, all i, none_finished n i)), omega (arith, in_all, none_in_all 0 n (items w)), few);
       refused = λ e is. (let wrong : true ≡ false = ap is_ok is in cc);
     }
-    from_none w q n counts runs (Err e) own all in_all few why most = record {
+    from_none w context n counts runs (Err e) own all in_all few why most = record {
       own = own;
       counts = λ x is. (let wrong : true ≡ false = ap is_err is in cc);
       refused = λ f is. let same : e ≡ f = cc in
-          (subst (λ (y : CallError). RefusesRescue w q counts y) same why, λ i. omega (arith, (most i).1, none_finished n i));
+          (subst (λ (y : CallError). RefusesServe w context.lane context.helper counts y) same why, λ i. omega (arith, (most i).1, none_finished n i));
     }
 
--- ---- all lanes
+-- why a context is refused, where it serves as the rescuer
+pub rescue_refused : (w : Wiring) (q c : ℕ) (seat : List ℕ) (r : Result Rescued CallError) → c ≡ 0 → IfErr r (λ e. RefusesRescue w q seat e) → IfErr r (λ e. RefusesServe w q c seat e)
+rescue_refused w q c seat r is = IfErr-weaker r _ _ (λ e why other. let h = why other in (h.0, (h.1, omega (arith, is)), h.2))
+
+-- and where it serves as a helper
+pub help_refused : (w : Wiring) (q c : ℕ) (seat : List ℕ) (r : Result Rescued CallError) → IfErr r (λ e. RefusesHelp w q c seat e) → IfErr r (λ e. RefusesServe w q c seat e)
+help_refused w q c seat r = IfErr-weaker r _ _ (λ e why other. let h = why other in (h.0, h.1.1, h.2))
+
+-- ---- all contexts
 
 -- there is nothing past the end
 past : {X : Type 0} (xs : List X) (q : ℕ) (y : X) → slice_get xs q ≡ Some y → length xs ≤ q → ⊥
@@ -76,36 +87,57 @@ at_place (z ∷ xs) x (suc q) y is = elim (at_place xs x q y is) [
   | inr last ↦ inr (ap suc last.0, last.1)
 ]
 
--- ---- the order in which lanes come back
+-- ---- the order in which contexts come back
 
 some_same : {X : Type 0} (a b : X) → Some a ≡ Some b → a ≡ b
 some_same a b same = cc
 
--- the lane of what is at a place
-lane_here : {X : Type 0} (lane : X → ℕ) (ends : List X) (end : X) (p m : ℕ) → p < length ends → end ≡ get_or ends p end
-    → slice_get (map lane ends) p ≡ Some m → lane end ≡ m
-lane_here lane ends end p m within is at =
-    some_same (lane end) m (sym (slice_get-map lane ends p ∙ ap (option_map lane) (slice_get_read ends (length ends) p end refl within is)) ∙ at)
+-- the context of what is at a place
+context_here : {X : Type 0} (context : X → Context) (ends : List X) (end : X) (p : ℕ) (m : Context) → p < length ends → end ≡ get_or ends p end
+    → slice_get (map context ends) p ≡ Some m → context end ≡ m
+context_here context ends end p m within is at =
+    some_same (context end) m (sym (slice_get-map context ends p ∙ ap (option_map context) (slice_get_read ends (length ends) p end refl within is)) ∙ at)
 
--- one more lane is in its place
-pub last_first_more : {X : Type 0} (lane : X → ℕ) (ends : List X) (end : X) (k n : ℕ)
-    → ((p m : ℕ) → p < k → slice_get (map lane ends) p ≡ Some m → m + p + 1 ≡ n) → k < length ends → end ≡ get_or ends k end → lane end + k + 1 ≡ n
-    → (p m : ℕ) → p < k + 1 → slice_get (map lane ends) p ≡ Some m → m + p + 1 ≡ n
-last_first_more lane ends end k n before within is here = λ p m lt at. elim (cases_lt p k) [
-  | inl below ↦ before p m below at
+both_true : (x y : Bool) → false ≡ not (x && y) → (x ≡ true) × (y ≡ true)
+both_true true true is = (refl, refl)
+both_true true false is = cc
+both_true false y is = cc
+
+-- the context that was found at a place is the one that it was compared with
+pub same_here : (all : List Context) (n : ℕ) (found context : Context) → found ≡ get_or all n found → n < length all
+    → false ≡ not (eqb found.lane context.lane && eqb found.helper context.helper) → slice_get all n ≡ Some context
+same_here all n found context is within compared =
+    let parts = both_true (eqb found.lane context.lane) (eqb found.helper context.helper) compared in
+    let same : found ≡ context = ap₂ (λ (q c : ℕ). record { lane = q; helper = c }) (eqb-true _ _ parts.0) (eqb-true _ _ parts.1) in
+    slice_get_read all (length all) n found refl within is ∙ ap Some same
+
+-- the first k contexts that came back are in their places
+abbrev pub AreInPlace : {X : Type 0} → List Context → (X → Context) → List X → ℕ → Type 0
+AreInPlace all context ends k =
+    (p n : ℕ) (m : Context) → p < k → slice_get (map context ends) p ≡ Some m → n + p + 1 ≡ length ends → slice_get all n ≡ Some m
+
+-- one more context is in its place
+pub last_first_more : {X : Type 0} (all : List Context) (context : X → Context) (ends : List X) (end : X) (k at : ℕ)
+    → AreInPlace all context ends k → k < length ends → end ≡ get_or ends k end → at + k + 1 ≡ length ends → slice_get all at ≡ Some (context end)
+    → AreInPlace all context ends (k + 1)
+last_first_more all context ends end k at before within is place here = λ p n m lt found adds. elim (cases_lt p k) [
+  | inl below ↦ before p n m below found adds
   | inr ge ↦ (let same : p ≡ k = omega arith in
-      omega (arith, same, here, lane_here lane ends end k m within is (ap (slice_get (map lane ends)) (sym same) ∙ at)))
+      let there : n ≡ at = omega (arith, same, adds, place) in
+      ap (slice_get all) there ∙ here ∙ ap Some (context_here context ends end k m within is (ap (slice_get (map context ends)) (sym same) ∙ found)))
 ]
 
--- all lanes are in their places
-pub last_first_all : {X : Type 0} (lane : X → ℕ) (ends : List X) (k n : ℕ)
-    → ((p m : ℕ) → p < k → slice_get (map lane ends) p ≡ Some m → m + p + 1 ≡ n) → length ends ≤ k → AreLastFirst n (map lane ends)
-last_first_all lane ends k n before all = λ p m at. before p m (omega (arith, all, slice_get_within (map lane ends) p m at, length-map ends lane)) at
+-- all contexts are in their places
+pub last_first_all : {X : Type 0} (all : List Context) (context : X → Context) (ends : List X) (k : ℕ)
+    → AreInPlace all context ends k → length ends ≤ k → AreLastFirst all (map context ends)
+last_first_all all context ends k before ended = λ p n m found adds.
+    before p n m (omega (arith, ended, slice_get_within (map context ends) p m found, length-map ends context)) found (omega (arith, adds, length-map ends context))
 
--- the same of a list that is seen elsewhere
-pub last_first_seen : {X : Type 0} (lane : X → ℕ) (seen ends : List X) (n : ℕ) → seen ≡ ends → n ≡ length ends → AreLastFirst (length seen) (map lane seen)
-    → AreLastFirst n (map lane ends)
-last_first_seen lane seen ends n same long ordered = λ p q at. omega (arith, long, ap length same, ordered p q (subst (λ xs. slice_get (map lane xs) p ≡ Some q) (sym same) at))
+-- the same of lists that are seen elsewhere
+pub last_first_seen : {X : Type 0} (context : X → Context) (all others : List Context) (seen ends : List X) → all ≡ others → seen ≡ ends → AreLastFirst all (map context seen)
+    → AreLastFirst others (map context ends)
+last_first_seen context all others seen ends are same ordered =
+    subst (λ cs. AreLastFirst cs (map context ends)) are (subst (λ xs. AreLastFirst all (map context xs)) same ordered)
 
 -- what is at a place stays there where one more value comes
 kept_place : {X : Type 0} (xs : List X) (x : X) (p : ℕ) (y : X) → slice_get xs p ≡ Some y → slice_get (xs ++ (x ∷ [])) p ≡ Some y
@@ -118,54 +150,94 @@ last_place : {X : Type 0} (xs : List X) (x : X) → slice_get (xs ++ (x ∷ []))
 last_place [] x = refl
 last_place (z ∷ xs) x = last_place xs x
 
--- where the first lane, which is last, is taken away, the others stay in their places
-pub last_first_popped : (n : ℕ) (lanes left : List ℕ) (m : ℕ) → AreLastFirst n lanes → lanes ≡ left ++ (m ∷ []) → AreLastFirst n left × (m + length left + 1 ≡ n)
-last_first_popped n lanes left m ordered popped =
-    let all : AreLastFirst n (left ++ (m ∷ [])) = subst (AreLastFirst n) popped ordered in
-    ((λ p y at. all p y (kept_place left m p y at)), all (length left) m (last_place left m))
+-- contexts that come back, of which so many came back before
+abbrev pub AreLeft : List Context → ℕ → List Context → Type 0
+AreLeft all before left = (p n : ℕ) (context : Context) → slice_get left p ≡ Some context → n + p + 1 ≡ before + length left → slice_get all n ≡ Some context
 
--- ---- lane by lane
+-- none came back before
+pub none_left : (all : List Context) (before : ℕ) (back : List Context) → before ≡ 0 → AreLastFirst all back → AreLeft all before back
+none_left all before back none ordered = λ p n c at adds. ordered p n c at (omega (arith, adds, none))
 
--- one more lane
-pub are_served_more : (w : Wiring) (n : ℕ) (seats : List (List ℕ)) (runs : List (ℕ → ℕ)) (rescued : List (Result Rescued CallError))
-    (seat : List ℕ) (ran : ℕ → ℕ) (answer : Result Rescued CallError)
-    → AreServed w n seats runs rescued → IsServed w n seat ran answer
-    → AreServed w (n + 1) (seats ++ (seat ∷ [])) (runs ++ (ran ∷ [])) (rescued ++ (answer ∷ []))
-are_served_more w n seats runs rescued seat ran answer are is = record {
+-- where the first context, which is last, is taken away, the others stay in their places
+pub left_popped : (all : List Context) (before : ℕ) (back left : List Context) (m : Context) → AreLeft all before back → back ≡ left ++ (m ∷ [])
+    → AreLeft all (before + 1) left × (slice_get all before ≡ Some m)
+left_popped all before back left m ordered popped =
+    let whole : AreLeft all before (left ++ (m ∷ [])) = subst (AreLeft all before) popped ordered in
+    let long : length (left ++ (m ∷ [])) ≡ length left + 1 = length-append left (m ∷ []) in (
+      (λ p n c found adds. whole p n c (kept_place left m p c found) (omega (arith, adds, long))),
+      whole (length left) before m (last_place left m) (omega (arith, long)),
+    )
+
+-- ---- context by context
+
+-- what the first n of these contexts hand back
+pub record AreServedTo (w : Wiring) (all : List Context) (n : ℕ) (seats : List (List ℕ)) (runs : List (ℕ → ℕ)) (rescued : List (Result Rescued CallError)) : Type 0 where
+  pub a_seat_each : length seats ≡ n
+  pub a_body_each : length runs ≡ n
+  pub an_answer_each : length rescued ≡ n
+  pub served : (k : ℕ) (context : Context) (seat : List ℕ) (ran : ℕ → ℕ) (answer : Result Rescued CallError) → slice_get all k ≡ Some context → slice_get seats k ≡ Some seat
+      → slice_get runs k ≡ Some ran → slice_get rescued k ≡ Some answer → IsServed w context seat ran answer
+
+pub none_served : (w : Wiring) (all : List Context) (n : ℕ) (seats : List (List ℕ)) (runs : List (ℕ → ℕ)) (rescued : List (Result Rescued CallError))
+    → n ≡ 0 → seats ≡ [] → runs ≡ [] → rescued ≡ [] → AreServedTo w all n seats runs rescued
+none_served w all n seats runs rescued none no_seats no_runs none_rescued = record {
+  a_seat_each = omega (arith, none, ap length no_seats);
+  a_body_each = omega (arith, none, ap length no_runs);
+  an_answer_each = omega (arith, none, ap length none_rescued);
+  served = λ k c s f a c_at s_at f_at a_at. absurd (past seats k s s_at (omega (arith, ap length no_seats)));
+}
+
+-- one more context
+pub are_served_more : (w : Wiring) (all : List Context) (n : ℕ) (seats : List (List ℕ)) (runs : List (ℕ → ℕ)) (rescued : List (Result Rescued CallError))
+    (context : Context) (seat : List ℕ) (ran : ℕ → ℕ) (answer : Result Rescued CallError)
+    → AreServedTo w all n seats runs rescued → slice_get all n ≡ Some context → IsServed w context seat ran answer
+    → AreServedTo w all (n + 1) (seats ++ (seat ∷ [])) (runs ++ (ran ∷ [])) (rescued ++ (answer ∷ []))
+are_served_more w all n seats runs rescued context seat ran answer are here is = record {
   a_seat_each = omega (arith, length-append seats (seat ∷ []), are.a_seat_each);
   a_body_each = omega (arith, length-append runs (ran ∷ []), are.a_body_each);
   an_answer_each = omega (arith, length-append rescued (answer ∷ []), are.an_answer_each);
-  served = λ q s f a s_at f_at a_at. elim (at_place seats seat q s s_at) [
-    | inl among ↦ elim (at_place runs ran q f f_at) [
-      | inl f_among ↦ elim (at_place rescued answer q a a_at) [
-        | inl a_among ↦ are.served q s f a among f_among a_among
-        | inr a_last ↦ absurd (past seats q s among (omega (arith, a_last.0, are.a_seat_each, are.an_answer_each)))
+  served = λ k c s f a c_at s_at f_at a_at. elim (at_place seats seat k s s_at) [
+    | inl among ↦ elim (at_place runs ran k f f_at) [
+      | inl f_among ↦ elim (at_place rescued answer k a a_at) [
+        | inl a_among ↦ are.served k c s f a c_at among f_among a_among
+        | inr a_last ↦ absurd (past seats k s among (omega (arith, a_last.0, are.a_seat_each, are.an_answer_each)))
       ]
-      | inr f_last ↦ absurd (past seats q s among (omega (arith, f_last.0, are.a_seat_each, are.a_body_each)))
+      | inr f_last ↦ absurd (past seats k s among (omega (arith, f_last.0, are.a_seat_each, are.a_body_each)))
     ]
-    | inr last ↦ elim (at_place runs ran q f f_at) [
-      | inl f_among ↦ absurd (past runs q f f_among (omega (arith, last.0, are.a_seat_each, are.a_body_each)))
-      | inr f_last ↦ elim (at_place rescued answer q a a_at) [
-        | inl a_among ↦ absurd (past rescued q a a_among (omega (arith, last.0, are.a_seat_each, are.an_answer_each)))
-        | inr a_last ↦ (let here : n ≡ q = omega (arith, last.0, are.a_seat_each) in
-            subst (λ q'. IsServed w q' s f a) here (subst (λ s'. IsServed w n s' f a) last.1 (subst (λ f'. IsServed w n seat f' a) f_last.1 (subst (λ a'. IsServed w n seat ran a') a_last.1 is))))
+    | inr last ↦ elim (at_place runs ran k f f_at) [
+      | inl f_among ↦ absurd (past runs k f f_among (omega (arith, last.0, are.a_seat_each, are.a_body_each)))
+      | inr f_last ↦ elim (at_place rescued answer k a a_at) [
+        | inl a_among ↦ absurd (past rescued k a a_among (omega (arith, last.0, are.a_seat_each, are.an_answer_each)))
+        | inr a_last ↦ (let place : n ≡ k = omega (arith, last.0, are.a_seat_each) in
+            let same : context ≡ c = some_same context c (sym here ∙ ap (slice_get all) place ∙ c_at) in
+            subst (λ c'. IsServed w c' s f a) same (subst (λ s'. IsServed w context s' f a) last.1 (subst (λ f'. IsServed w context seat f' a) f_last.1 (subst (λ a'. IsServed w context seat ran a') a_last.1 is))))
       ]
     ]
   ];
 }
 
 -- the same for lists that are known to have one more
-pub added : (w : Wiring) (n m q : ℕ) (seats new_seats : List (List ℕ)) (runs new_runs : List (ℕ → ℕ)) (rescued new_rescued : List (Result Rescued CallError))
-    (seat : List ℕ) (ran : ℕ → ℕ) (answer : Result Rescued CallError)
-    → AreServed w n seats runs rescued → IsServed w q seat ran answer → q ≡ n → m ≡ n + 1
+pub added : (w : Wiring) (all : List Context) (n m : ℕ) (seats new_seats : List (List ℕ)) (runs new_runs : List (ℕ → ℕ)) (rescued new_rescued : List (Result Rescued CallError))
+    (context : Context) (seat : List ℕ) (ran : ℕ → ℕ) (answer : Result Rescued CallError)
+    → AreServedTo w all n seats runs rescued → slice_get all n ≡ Some context → IsServed w context seat ran answer → m ≡ n + 1
     → new_seats ≡ seats ++ (seat ∷ []) → new_runs ≡ runs ++ (ran ∷ []) → new_rescued ≡ rescued ++ (answer ∷ [])
-    → AreServed w m new_seats new_runs new_rescued
-added w n m q seats new_seats runs new_runs rescued new_rescued seat ran answer are is here more seats_are runs_are rescued_are =
-    subst (λ k. AreServed w k new_seats new_runs new_rescued) (sym more)
-    (subst (λ ss. AreServed w (n + 1) ss new_runs new_rescued) (sym seats_are)
-    (subst (λ fs. AreServed w (n + 1) (seats ++ (seat ∷ [])) fs new_rescued) (sym runs_are)
-    (subst (λ rs. AreServed w (n + 1) (seats ++ (seat ∷ [])) (runs ++ (ran ∷ [])) rs) (sym rescued_are)
-    (are_served_more w n seats runs rescued seat ran answer are (subst (λ k. IsServed w k seat ran answer) here is)))))
+    → AreServedTo w all m new_seats new_runs new_rescued
+added w all n m seats new_seats runs new_runs rescued new_rescued context seat ran answer are here is more seats_are runs_are rescued_are =
+    subst (λ k. AreServedTo w all k new_seats new_runs new_rescued) (sym more)
+    (subst (λ ss. AreServedTo w all (n + 1) ss new_runs new_rescued) (sym seats_are)
+    (subst (λ fs. AreServedTo w all (n + 1) (seats ++ (seat ∷ [])) fs new_rescued) (sym runs_are)
+    (subst (λ rs. AreServedTo w all (n + 1) (seats ++ (seat ∷ [])) (runs ++ (ran ∷ [])) rs) (sym rescued_are)
+    (are_served_more w all n seats runs rescued context seat ran answer are here is))))
+
+-- all of these contexts
+pub all_served : (w : Wiring) (all : List Context) (n : ℕ) (seats : List (List ℕ)) (runs : List (ℕ → ℕ)) (rescued : List (Result Rescued CallError))
+    → AreServedTo w all n seats runs rescued → n ≡ length all → AreServed w all seats runs rescued
+all_served w all n seats runs rescued are ended = record {
+  a_seat_each = are.a_seat_each ∙ ended;
+  a_body_each = are.a_body_each ∙ ended;
+  an_answer_each = are.an_answer_each ∙ ended;
+  served = are.served;
+}
 
 -- a sum over a list that is known to have one more
 pub sum_by-added : {X : Type 0} (f : X → ℕ) (xs ys : List X) (x : X) → ys ≡ xs ++ (x ∷ []) → sum_by f ys ≡ sum_by f xs + f x
@@ -178,21 +250,25 @@ pub nothing_in : {X : Type 0} (xs : List X) → length xs ≡ 0 → xs ≡ []
 nothing_in [] none = refl
 nothing_in (x ∷ xs) none = absurd (omega (arith, none))
 
--- a seat is lacking, although there is a body for each lane
-pub no_seat_refused : (lanes bodies : ℕ) (why : RunWhy) → IsNoSeat why → bodies ≡ lanes → RefusesRun lanes bodies why
-no_seat_refused lanes bodies BodiesDiffer seatless same = absurd seatless
-no_seat_refused lanes bodies TooManySeats seatless same = same
-no_seat_refused lanes bodies OutOfMemory seatless same = same
-no_seat_refused lanes bodies NoThread seatless same = absurd seatless
+-- a seat is lacking, although there is a body for each context
+pub no_seat_refused : (needed bodies : ℕ) (why : RunWhy) → IsNoSeat why → bodies ≡ needed → RefusesRun needed bodies why
+no_seat_refused needed bodies BodiesDiffer seatless same = absurd seatless
+no_seat_refused needed bodies TooManySeats seatless same = same
+no_seat_refused needed bodies OutOfMemory seatless same = same
+no_seat_refused needed bodies NoThread seatless same = absurd seatless
 
--- the seats of the lanes, before those of the callers
-pub lanes_first : (w : Wiring) (k lanes n : ℕ) (lane_seats seats : List (List ℕ)) (runs : List (ℕ → ℕ)) (rescued : List (Result Rescued CallError))
-    → AreServed w k lane_seats runs rescued → take n seats ≡ lane_seats → n ≡ length lane_seats → k ≡ lanes
-    → AreServed w lanes (take lanes seats) runs rescued
-lanes_first w k lanes n lane_seats seats runs rescued are first long all =
-    let at : lanes ≡ n = omega (arith, long, all, are.a_seat_each) in
-    let same : take lanes seats ≡ lane_seats = ap (λ (m : ℕ). take m seats) at ∙ first in
-    subst (λ m. AreServed w m (take lanes seats) runs rescued) all (subst (λ ss. AreServed w k ss runs rescued) (sym same) are)
+-- the seats of the contexts, before those of the callers
+pub contexts_first : (w : Wiring) (all : List Context) (n : ℕ) (context_seats seats : List (List ℕ)) (runs : List (ℕ → ℕ)) (rescued : List (Result Rescued CallError))
+    → AreServed w all context_seats runs rescued → take n seats ≡ context_seats → n ≡ length context_seats → AreServed w all (take (length all) seats) runs rescued
+contexts_first w all n context_seats seats runs rescued are first long =
+    let at : length all ≡ n = omega (arith, long, are.a_seat_each) in
+    let same : take (length all) seats ≡ context_seats = ap (λ (m : ℕ). take m seats) at ∙ first in
+    subst (λ ss. AreServed w all ss runs rescued) (sym same) are
+
+-- the same of contexts that are known to be all those of a wiring
+pub all_contexts_first : (w : Wiring) (all : List Context) (seats : List (List ℕ)) (runs : List (ℕ → ℕ)) (rescued : List (Result Rescued CallError))
+    → all ≡ contexts_of w → AreServed w all (take (length all) seats) runs rescued → AreServed w (contexts_of w) (take (length (contexts_of w)) seats) runs rescued
+all_contexts_first w all seats runs rescued are served = subst (λ cs. AreServed w cs (take (length cs) seats) runs rescued) are served
 
 -- ---- callers
 

@@ -1,24 +1,25 @@
--- Serving: what a rescuer hands back, and what all threads together do.
+-- Serving: what a context hands back, a rescuer or a helper, and what all threads together do.
 use Rattle.std.specs.Prelude.{◌≡◌, ◌≢◌, ℕ, ◌+◌, ◌*◌, ◌<◌, ◌≤◌, List, length, replicate, take, slice_get, Some, Result, Ok, Err}
 use Rattle.std.specs.Result.{ForOk, ForErr}
 use Rattle.std.specs.List.{All, sum_by}
+use Rattle.wq_core.specs.declared.step.Context.{Context}
 use Rattle.wq_core.specs.Wiring.{Wiring, items}
 use Rattle.wq_counts.specs.Counting.{counts_each}
 use Rattle.wq_held.specs.declared.fault.CallError.{CallError}
 use Rattle.wq_execution.specs.declared.rescuing.Rescued.{Rescued}
 use Rattle.wq_rescuer.specs.declared.running.RunWhy.{RunWhy}
 use Rattle.wq_rescuer.specs.declared.running.RunWhy.TheVariants.{BodiesDiffer, TooManySeats, OutOfMemory, NoThread}
-use Rattle.wq_execution.specs.Executing.{RanOnly, RefusesRescue, finished_of, finished_in_all}
+use Rattle.wq_execution.specs.Executing.{RanOnly, RefusesServe, finished_of, finished_in_all}
+use Rattle.wq_rescuer.specs.Contexts.{contexts_of}
 
--- the rescuer of lane q, whose seat had no counts, and whose body had run nothing: only items of the lane ran; for each item, the
--- seat counts as finished what the body ran, and in all, what the rescuer says; after a refusal, which has its cause, no more than the
--- body ran
-pub record IsServed (w : Wiring) (q : ℕ) (seat : List ℕ) (runs : ℕ → ℕ) (answer : Result Rescued CallError) : Type 0 where
-  pub own : RanOnly w q runs
+-- a context, whose seat had no counts, and whose body had run nothing: only items of its lane ran; for each item, the seat counts as
+-- finished what the body ran, and in all, what the context says; after a refusal, which has its cause, no more than the body ran
+pub record IsServed (w : Wiring) (context : Context) (seat : List ℕ) (runs : ℕ → ℕ) (answer : Result Rescued CallError) : Type 0 where
+  pub own : RanOnly w context.lane runs
   pub counts : ForOk answer (λ (rescued : Rescued). ((i : ℕ) → finished_of seat i ≡ runs i) × (rescued.finished ≡ finished_in_all (items w) seat) × (rescued.faults ≤ rescued.finished))
-  pub refused : ForErr answer (λ (e : CallError). RefusesRescue w q seat e × ((i : ℕ) → finished_of seat i ≤ runs i))
+  pub refused : ForErr answer (λ (e : CallError). RefusesServe w context.lane context.helper seat e × ((i : ℕ) → finished_of seat i ≤ runs i))
 
--- how many executions a rescuer finished, if it wasn't refused
+-- how many executions a context finished, if it wasn't refused
 abbrev pub finished_by : Result Rescued CallError → ℕ
 finished_by (Ok rescued) = rescued.finished
 finished_by (Err e) = 0
@@ -28,35 +29,36 @@ abbrev pub faults_by : Result Rescued CallError → ℕ
 faults_by (Ok rescued) = rescued.faults
 faults_by (Err e) = 0
 
--- what this many lanes hand back, lane by lane: each rescuer's answer is true of its lane, of its seat and of what its body ran
-pub record AreServed (w : Wiring) (lanes : ℕ) (seats : List (List ℕ)) (runs : List (ℕ → ℕ)) (rescued : List (Result Rescued CallError)) : Type 0 where
-  pub a_seat_each : length seats ≡ lanes
-  pub a_body_each : length runs ≡ lanes
-  pub an_answer_each : length rescued ≡ lanes
-  pub served : (q : ℕ) (seat : List ℕ) (ran : ℕ → ℕ) (answer : Result Rescued CallError) → slice_get seats q ≡ Some seat → slice_get runs q ≡ Some ran
-      → slice_get rescued q ≡ Some answer → IsServed w q seat ran answer
+-- what these contexts hand back, one after the other: each one's answer is true of its lane, of its seat and of what its body ran
+pub record AreServed (w : Wiring) (served_by : List Context) (seats : List (List ℕ)) (runs : List (ℕ → ℕ)) (rescued : List (Result Rescued CallError)) : Type 0 where
+  pub a_seat_each : length seats ≡ length served_by
+  pub a_body_each : length runs ≡ length served_by
+  pub an_answer_each : length rescued ≡ length served_by
+  pub served : (n : ℕ) (context : Context) (seat : List ℕ) (ran : ℕ → ℕ) (answer : Result Rescued CallError) → slice_get served_by n ≡ Some context → slice_get seats n ≡ Some seat
+      → slice_get runs n ≡ Some ran → slice_get rescued n ≡ Some answer → IsServed w context seat ran answer
 
--- everything was run, with this wiring, and this many lanes and callers: there is a seat for each lane and then for each caller; what
--- the lanes hand back is true; each caller answered; and the numbers of executions and faults are the sums over the rescuers that
+-- everything was run, with this wiring, and this many callers: there is a seat for each context and then for each caller; what the
+-- contexts hand back is true; each caller answered; and the numbers of executions and faults are the sums over the contexts that
 -- weren't refused
-pub record IsRan (w : Wiring) (lanes callers : ℕ) (seats : List (List ℕ)) (runs : List (ℕ → ℕ)) (handed_back results : ℕ) (rescued : List (Result Rescued CallError)) (finished faults : ℕ) : Type 0 where
-  pub a_seat_each : length seats ≡ lanes + callers
-  pub served : AreServed w lanes (take lanes seats) runs rescued
+pub record IsRan (w : Wiring) (callers : ℕ) (seats : List (List ℕ)) (runs : List (ℕ → ℕ)) (handed_back results : ℕ) (rescued : List (Result Rescued CallError)) (finished faults : ℕ) : Type 0 where
+  pub a_seat_each : length seats ≡ length (contexts_of w) + callers
+  pub served : AreServed w (contexts_of w) (take (length (contexts_of w)) seats) runs rescued
   pub callers_back : handed_back ≡ callers
   pub a_result_each : results ≡ callers
   pub finished_is : finished ≡ sum_by finished_by rescued
   pub faults_is : faults ≡ sum_by faults_by rescued
 
--- lanes that came back with the last one first: at place p of n is lane n - 1 - p
-abbrev pub AreLastFirst : ℕ → List ℕ → Type 0
-AreLastFirst n lanes = (p q : ℕ) → slice_get lanes p ≡ Some q → q + p + 1 ≡ n
+-- contexts that came back with the last one first: at place p of n is context n - 1 - p of all of them
+abbrev pub AreLastFirst : List Context → List Context → Type 0
+AreLastFirst all back = (p n : ℕ) (context : Context) → slice_get back p ≡ Some context → n + p + 1 ≡ length back → slice_get all n ≡ Some context
 
--- why not everything was run: there isn't a body for each lane; or there is, but a seat, memory or a thread is lacking
+-- why not everything was run: there isn't a body for each of this many contexts; or there is, but a seat, memory or a thread is
+-- lacking
 abbrev pub RefusesRun : ℕ → ℕ → RunWhy → Type 0
-RefusesRun lanes bodies BodiesDiffer = bodies ≢ lanes
-RefusesRun lanes bodies TooManySeats = bodies ≡ lanes
-RefusesRun lanes bodies OutOfMemory = bodies ≡ lanes
-RefusesRun lanes bodies NoThread = bodies ≡ lanes
+RefusesRun needed bodies BodiesDiffer = bodies ≢ needed
+RefusesRun needed bodies TooManySeats = bodies ≡ needed
+RefusesRun needed bodies OutOfMemory = bodies ≡ needed
+RefusesRun needed bodies NoThread = bodies ≡ needed
 
 -- a list of this length and this capacity is empty, and has room for so many
 abbrev pub HasRoomFor : ℕ → ℕ → ℕ → Type 0

@@ -1,8 +1,8 @@
 //! The jobs of all threads, and what the threads hand back.
 //!
-//! Making the jobs takes time in the number of lanes and callers. It takes no memory, since room for them was made before.
+//! Making the jobs takes time in the number of contexts and callers. It takes no memory, since room for them was made before.
 
-ghost use Rattle.std.specs.Prelude.{◌≡◌, ℕ, ◌+◌, ◌*◌, ◌<◌, ◌≤◌, replicate, vec_len, vec_capacity, IfOk, OnErr};
+ghost use Rattle.std.specs.Prelude.{◌≡◌, ℕ, ◌+◌, ◌*◌, ◌<◌, ◌≤◌, length, replicate, vec_len, vec_capacity, IfOk, OnErr};
 ghost use Rattle.std.specs.List.{All};
 ghost use Rattle.wq_core.specs.Wiring.{items};
 ghost use Rattle.wq_counts.specs.Counting.{counts_each};
@@ -11,11 +11,11 @@ ghost use Rattle.wq_execution.specs.Executing.{NeverRan};
 ghost use Rattle.wq_rescuer.specs.Serving.{HasRoomFor};
 
 use crate::calling::{Caller, CallerEnd, CallerJob};
-use crate::lane::{LaneEnd, LaneJob};
+use crate::context_job::{ContextEnd, ContextJob};
 use std::alloc::{AllocError, Allocator};
 use wq_api::{Naming, Seat};
+use wq_core::Context;
 use wq_execution::Body;
-use wq_groups::LaneId;
 
 /// Jobs, and what comes back of them.
 #[derive(Drop)]
@@ -44,34 +44,35 @@ impl<J: Drop, E: Drop, A: Allocator + Copy> Jobs<J, E, A> {
 /// All jobs.
 #[derive(Drop)]
 pub(crate) struct Board<N: Naming, A: Allocator, B: Body + Drop, C: Caller + Drop> {
-    pub(crate) lanes: Jobs<LaneJob<N, A, B>, LaneEnd<N, A, B>, A>,
+    pub(crate) contexts: Jobs<ContextJob<N, A, B>, ContextEnd<N, A, B>, A>,
     pub(crate) callers: Jobs<CallerJob<N, A, C>, CallerEnd<N, A, C>, A>,
 }
 
 impl<N: Naming, A: Allocator + Copy, B: Body + Drop, C: Caller + Drop> Board<N, A, B, C> {
-    /// Room for the jobs of this many lanes and callers, of which there is none yet. The only error is out of memory (20), and
+    /// Room for the jobs of this many contexts and callers, of which there is none yet. The only error is out of memory (20), and
     /// never where there is to be no job.
-    pub(crate) fn new(alloc: A, lanes: usize, callers: usize) -> Result<Self, AllocError>
-        ensures lanes { IfOk result (λ r. HasRoomFor lanes (vec_len r.lanes.waiting) (vec_capacity r.lanes.waiting)
-            × HasRoomFor lanes (vec_len r.lanes.ends) (vec_capacity r.lanes.ends)) }
+    pub(crate) fn new(alloc: A, contexts: usize, callers: usize) -> Result<Self, AllocError>
+        ensures contexts { IfOk result (λ r. HasRoomFor contexts (vec_len r.contexts.waiting) (vec_capacity r.contexts.waiting)
+            × HasRoomFor contexts (vec_len r.contexts.ends) (vec_capacity r.contexts.ends)) }
         ensures callers { IfOk result (λ r. HasRoomFor callers (vec_len r.callers.waiting) (vec_capacity r.callers.waiting)
             × HasRoomFor callers (vec_len r.callers.ends) (vec_capacity r.callers.ends)) }
-        ensures memory { OnErr result (0 < lanes + callers) }
+        ensures memory { OnErr result (0 < contexts + callers) }
     {
         Ok(Board {
-            lanes: Jobs::new(alloc, lanes)?,
+            contexts: Jobs::new(alloc, contexts)?,
             callers: Jobs::new(alloc, callers)?,
         })
     }
 }
 
-/// Makes the jobs of the lanes, that of the first lane last. Each job takes the last seat that is left. No body is left.
-pub(crate) fn add_lanes<N: Naming, A: Allocator, B: Body + Drop>(
-    jobs: &mut Vec<LaneJob<N, A, B>, A>,
+/// Makes the jobs of these contexts, that of the first one last. Each job takes the last seat that is left. No body is left.
+pub(crate) fn add_contexts<N: Naming, A: Allocator, B: Body + Drop>(
+    jobs: &mut Vec<ContextJob<N, A, B>, A>,
     seats: &mut Vec<Seat<N, A>, A>,
     bodies: &mut Vec<B, A>,
+    contexts: &[Context],
 )
-    requires few { vec_len bodies.old ≤ 256 }
+    requires a_body_each { vec_len bodies.old ≡ length contexts.now }
     requires room { vec_len jobs.old + vec_len bodies.old ≤ vec_capacity jobs.old }
     requires seats { vec_len bodies.old ≤ vec_len seats.old }
     requires no_counts { All (λ seat. seat ≡ replicate (counts_each * slots N.wiring) 0) seats.old.items }
@@ -84,11 +85,15 @@ pub(crate) fn add_lanes<N: Naming, A: Allocator, B: Body + Drop>(
     ensures body_room { vec_capacity bodies.new ≡ vec_capacity bodies.old }
 {
     while let Some(body) = bodies.pop() {
-        let lane = LaneId::new(bodies.len() as u16);
+        let next = &contexts[bodies.len()];
+        let context = Context {
+            lane: next.lane,
+            helper: next.helper,
+        };
         let Some(seat) = seats.pop() else {
             unreachable!()
         };
-        jobs.push_reserved(LaneJob::new(lane, seat, body));
+        jobs.push_reserved(ContextJob::new(context, seat, body));
     }
 }
 

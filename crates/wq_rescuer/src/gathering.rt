@@ -1,18 +1,20 @@
-//! Puts together what the threads leave: seats, bodies and answers in the order of the lanes and callers, and the sums.
+//! Puts together what the threads leave: seats, bodies and answers in the order of the contexts and callers, and the sums.
 //!
-//! It takes time in the number of lanes and callers. It takes no memory, since room for all was made before any thread started.
+//! It takes time in the number of contexts and callers. It takes no memory, since room for all was made before any thread started.
 
 ghost use Rattle.std.specs.Prelude.{◌≡◌, ℕ, ◌+◌, ◌<◌, ◌≤◌, [], ◌++◌, length, map, reverse, take, drop, vec_len, vec_capacity, IsTrue};
 ghost use Rattle.std.specs.List.{sum_by};
+ghost use Rattle.wq_rescuer.specs.Contexts.{contexts_of};
 ghost use Rattle.wq_rescuer.specs.Serving.{AreLastFirst, AreServed, HasRoomFor, IsRan, finished_by, faults_by};
 ghost use Rattle.wq_rescuer.specs.declared.running.RunWhy.TheVariants.{NoThread};
 
 use crate::board::{Board, Jobs};
 use crate::calling::{Caller, CallerEnd, CallerJob};
-use crate::lane::{LaneEnd, LaneJob};
+use crate::context_job::{ContextEnd, ContextJob};
 use crate::running::{Ran, RunFault, RunWhy};
 use std::alloc::Allocator;
 use wq_api::{CallError, Naming, Seat};
+use wq_core::Context;
 use wq_execution::{Body, Rescued};
 
 /// Lists for what comes back. They are empty while the threads run. Those of the bodies and callers are the ones that were handed in.
@@ -25,7 +27,7 @@ pub(crate) struct Back<N: Naming, A: Allocator, B: Body + Drop, C: Caller + Drop
     pub(crate) results: Vec<Result<(), CallError>, A>,
 }
 
-/// How many executions a rescuer finished, counted as 0 where it was refused.
+/// How many executions a context finished, counted as 0 where it was refused.
 fn count_finished(answer: &Result<Rescued, CallError>) -> u64
     ensures count { result ≡ finished_by answer.now }
     ensures few { result < 4294967296 }
@@ -36,7 +38,7 @@ fn count_finished(answer: &Result<Rescued, CallError>) -> u64
     }
 }
 
-/// How many of these executions ended with a fault, counted as 0 where the rescuer was refused.
+/// How many of these executions ended with a fault, counted as 0 where the context was refused.
 fn count_faults(answer: &Result<Rescued, CallError>) -> u64
     ensures count { result ≡ faults_by answer.now }
     ensures few { result < 4294967296 }
@@ -47,7 +49,7 @@ fn count_faults(answer: &Result<Rescued, CallError>) -> u64
     }
 }
 
-/// What the lanes leave.
+/// What the contexts leave.
 #[derive(Drop)]
 struct Served<N: Naming, A: Allocator, B: Body + Drop> {
     seats: Vec<Seat<N, A>, A>,
@@ -57,37 +59,43 @@ struct Served<N: Naming, A: Allocator, B: Body + Drop> {
     faults: u64,
 }
 
-/// Whether the lanes came back with the last one first. They do, since each is joined after those that were started after it; but what
-/// a thread hands back is known by its type alone.
+/// Whether these contexts came back with the last one first. They do, since each is joined after those that were started after it;
+/// but what a thread hands back is known by its type alone.
 pub(crate) fn are_last_first<N: Naming, A: Allocator, B: Body + Drop>(
-    ends: &[LaneEnd<N, A, B>],
+    ends: &[ContextEnd<N, A, B>],
+    contexts: &[Context],
 ) -> bool
-    ensures { IsTrue result → AreLastFirst (length ends.now) (map (λ end. end.lane) ends.now) }
+    ensures { IsTrue result → AreLastFirst contexts.now (map (λ end. end.context) ends.now) }
 {
     for (place, end) in ends.iter().enumerate() {
-        if usize::from(end.lane.get()) + place + 1 != ends.len() {
+        let Some(context) = contexts.get(ends.len() - 1 - place) else {
+            return false;
+        };
+        if *context != end.context {
             return false;
         }
     }
     true
 }
 
-/// Takes back the lanes that were served, the first one, which is last in the list, first. The lists are empty and have room for them.
-fn gather_lanes<N: Naming, A: Allocator, B: Body + Drop>(
-    mut ends: Vec<LaneEnd<N, A, B>, A>,
+/// Takes back these contexts, the first one, which is last in the list, first. The lists are empty and have room for them.
+fn gather_contexts<N: Naming, A: Allocator, B: Body + Drop>(
+    mut ends: Vec<ContextEnd<N, A, B>, A>,
     mut seats: Vec<Seat<N, A>, A>,
     mut bodies: Vec<B, A>,
     mut rescued: Vec<Result<Rescued, CallError>, A>,
+    contexts: &[Context],
 ) -> Served<N, A, B>
-    requires few { vec_len ends ≤ 256 }
-    requires in_order { AreLastFirst (vec_len ends) (map (λ end. end.lane) ends.items) }
+    requires few { vec_len ends ≤ 65536 }
+    requires all { vec_len ends ≡ length contexts.now }
+    requires in_order { AreLastFirst contexts.now (map (λ end. end.context) ends.items) }
     requires no_seats { seats.items ≡ [] }
     requires seat_room { vec_len ends ≤ vec_capacity seats }
     requires no_bodies { bodies.items ≡ [] }
     requires body_room { vec_len ends ≤ vec_capacity bodies }
     requires none_rescued { rescued.items ≡ [] }
     requires rescued_room { vec_len ends ≤ vec_capacity rescued }
-    ensures served { AreServed N.wiring (vec_len ends) result.seats.items (map B.runs result.bodies.items) result.rescued.items }
+    ensures served { AreServed N.wiring contexts.now result.seats.items (map B.runs result.bodies.items) result.rescued.items }
     ensures finished { result.finished ≡ sum_by finished_by result.rescued.items }
     ensures faults { result.faults ≡ sum_by faults_by result.rescued.items }
     ensures room { vec_capacity result.seats ≡ vec_capacity seats }
@@ -95,7 +103,7 @@ fn gather_lanes<N: Naming, A: Allocator, B: Body + Drop>(
     let mut finished = 0u64;
     let mut faults = 0u64;
     while let Some(end) = ends.pop() {
-        let LaneEnd {
+        let ContextEnd {
             seat,
             body,
             rescued: answer,
@@ -116,7 +124,7 @@ fn gather_lanes<N: Naming, A: Allocator, B: Body + Drop>(
     }
 }
 
-/// Takes back the callers, the first one, which is last in the list, first. Their seats come after those of the lanes.
+/// Takes back the callers, the first one, which is last in the list, first. Their seats come after those of the contexts.
 fn gather_callers<N: Naming, A: Allocator, C: Caller + Drop>(
     mut ends: Vec<CallerEnd<N, A, C>, A>,
     seats: &mut Vec<Seat<N, A>, A>,
@@ -126,7 +134,7 @@ fn gather_callers<N: Naming, A: Allocator, C: Caller + Drop>(
     requires seat_room { vec_len seats.old + vec_len ends ≤ vec_capacity seats.old }
     requires caller_room { vec_len callers.old + vec_len ends ≤ vec_capacity callers.old }
     requires result_room { vec_len results.old + vec_len ends ≤ vec_capacity results.old }
-    ensures lanes { take (vec_len seats.old) seats.new.items ≡ seats.old.items }
+    ensures contexts { take (vec_len seats.old) seats.new.items ≡ seats.old.items }
     ensures seats { vec_len seats.new ≡ vec_len seats.old + vec_len ends }
     ensures callers { vec_len callers.new ≡ vec_len callers.old + vec_len ends }
     ensures results { vec_len results.new ≡ vec_len results.old + vec_len ends }
@@ -146,25 +154,29 @@ fn gather_callers<N: Naming, A: Allocator, C: Caller + Drop>(
     }
 }
 
-/// Puts together what came back of the lanes and the callers, where all of it came back. The last caller came back first.
+/// Puts together what came back of these contexts, which are all, and of the callers, where all of it came back. The last caller
+/// came back first.
 pub(crate) fn gather<N: Naming, A: Allocator, B: Body + Drop, C: Caller + Drop>(
     board: Board<N, A, B, C>,
     back: Back<N, A, B, C>,
+    contexts: &[Context],
 ) -> Ran<N, A, B, C>
-    requires few { vec_len board.lanes.ends ≤ 256 }
-    requires in_order { AreLastFirst (vec_len board.lanes.ends) (map (λ end. end.lane) board.lanes.ends.items) }
-    requires seats { HasRoomFor (vec_len board.lanes.ends + vec_len board.callers.ends) (vec_len back.seats) (vec_capacity back.seats) }
-    requires bodies { HasRoomFor (vec_len board.lanes.ends) (vec_len back.bodies) (vec_capacity back.bodies) }
+    requires few { vec_len board.contexts.ends ≤ 65536 }
+    requires all { contexts.now ≡ contexts_of N.wiring }
+    requires all_back { vec_len board.contexts.ends ≡ length contexts.now }
+    requires in_order { AreLastFirst contexts.now (map (λ end. end.context) board.contexts.ends.items) }
+    requires seats { HasRoomFor (vec_len board.contexts.ends + vec_len board.callers.ends) (vec_len back.seats) (vec_capacity back.seats) }
+    requires bodies { HasRoomFor (vec_len board.contexts.ends) (vec_len back.bodies) (vec_capacity back.bodies) }
     requires callers { HasRoomFor (vec_len board.callers.ends) (vec_len back.callers) (vec_capacity back.callers) }
-    requires rescued { HasRoomFor (vec_len board.lanes.ends) (vec_len back.rescued) (vec_capacity back.rescued) }
+    requires rescued { HasRoomFor (vec_len board.contexts.ends) (vec_len back.rescued) (vec_capacity back.rescued) }
     requires results { HasRoomFor (vec_len board.callers.ends) (vec_len back.results) (vec_capacity back.results) }
-    ensures ran { IsRan N.wiring (vec_len board.lanes.ends) (vec_len board.callers.ends) result.seats.items (map B.runs result.bodies.items) (vec_len result.callers) (vec_len result.results) result.rescued.items result.finished result.faults }
-    ensures seats { drop (vec_len board.lanes.ends) result.seats.items ≡ reverse (map (λ end. end.seat) board.callers.ends.items) }
+    ensures ran { IsRan N.wiring (vec_len board.callers.ends) result.seats.items (map B.runs result.bodies.items) (vec_len result.callers) (vec_len result.results) result.rescued.items result.finished result.faults }
+    ensures seats { drop (vec_len board.contexts.ends) result.seats.items ≡ reverse (map (λ end. end.seat) board.callers.ends.items) }
     ensures callers { result.callers.items ≡ reverse (map (λ end. end.caller) board.callers.ends.items) }
     ensures results { result.results.items ≡ reverse (map (λ end. end.result) board.callers.ends.items) }
 {
     let Board {
-        lanes,
+        contexts: served,
         callers: calls,
     } = board;
     let Back {
@@ -180,7 +192,7 @@ pub(crate) fn gather<N: Naming, A: Allocator, B: Body + Drop, C: Caller + Drop>(
         rescued,
         finished,
         faults,
-    } = gather_lanes(lanes.ends, seats, bodies, rescued);
+    } = gather_contexts(served.ends, seats, bodies, rescued, contexts);
     gather_callers(calls.ends, &mut seats, &mut callers, &mut results);
     Ran {
         seats,
@@ -199,23 +211,23 @@ fn keep<T: Drop, A: Allocator>(list: &mut Vec<T, A>, value: T) {
     let _kept = list.push(value);
 }
 
-/// Hands back the lanes: what came back, and the jobs that no thread took.
-fn hand_back_lanes<N: Naming, A: Allocator, B: Body + Drop>(
-    lanes: Jobs<LaneJob<N, A, B>, LaneEnd<N, A, B>, A>,
+/// Hands back the contexts: what came back, and the jobs that no thread took.
+fn hand_back_contexts<N: Naming, A: Allocator, B: Body + Drop>(
+    contexts: Jobs<ContextJob<N, A, B>, ContextEnd<N, A, B>, A>,
     seats: &mut Vec<Seat<N, A>, A>,
     bodies: &mut Vec<B, A>,
 ) {
     let Jobs {
         mut waiting,
         mut ends,
-    } = lanes;
+    } = contexts;
     while let Some(end) = ends.pop() {
-        let LaneEnd { seat, body, .. } = end;
+        let ContextEnd { seat, body, .. } = end;
         keep(seats, seat);
         keep(bodies, body);
     }
     while let Some(job) = waiting.pop() {
-        let LaneJob { seat, body, .. } = job;
+        let ContextJob { seat, body, .. } = job;
         keep(seats, seat);
         keep(bodies, body);
     }
@@ -251,7 +263,7 @@ pub(crate) fn hand_back<N: Naming, A: Allocator, B: Body + Drop, C: Caller + Dro
     ensures { result.why ≡ NoThread }
 {
     let Board {
-        lanes,
+        contexts: served,
         callers: calls,
     } = board;
     let Back {
@@ -260,7 +272,7 @@ pub(crate) fn hand_back<N: Naming, A: Allocator, B: Body + Drop, C: Caller + Dro
         mut callers,
         ..
     } = back;
-    hand_back_lanes(lanes, &mut seats, &mut bodies);
+    hand_back_contexts(served, &mut seats, &mut bodies);
     hand_back_callers(calls, &mut seats, &mut callers);
     RunFault {
         seats,

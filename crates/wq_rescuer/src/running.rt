@@ -1,17 +1,18 @@
-//! Running everything: a rescuer for each workqueue and a thread for each caller, until the callers have made their calls and all
-//! work is done.
+//! Running everything: a thread for each context, rescuer or helper, and one for each caller, until the callers have made their
+//! calls and all work is done.
 //!
 //! All memory is taken, and all seats are made, before any thread starts.
 
-ghost use Rattle.std.specs.Prelude.{◌≡◌, ◌≢◌, ℕ, ◌+◌, ◌<◌, ◌≤◌, [], map, vec_len, IfOk, IfErr};
+ghost use Rattle.std.specs.Prelude.{◌≡◌, ◌≢◌, ℕ, ◌+◌, ◌<◌, ◌≤◌, [], length, map, vec_len, IfOk, IfErr};
 ghost use Rattle.std.specs.List.{All};
 ghost use Rattle.wq_core.specs.Wiring.{items};
 ghost use Rattle.wq_held.specs.Locked.{slots};
 ghost use Rattle.wq_execution.specs.Executing.{NeverRan};
+ghost use Rattle.wq_rescuer.specs.Contexts.{contexts_of};
 ghost use Rattle.wq_rescuer.specs.Serving.{AreFirstSeats, IsNoSeat, IsRan, RefusesRun, run_code};
 ghost use Rattle.wq_rescuer.specs.declared.running.RunWhy.TheVariants.{BodiesDiffer, OutOfMemory, NoThread};
 
-use crate::board::{add_callers, add_lanes};
+use crate::board::{add_callers, add_contexts};
 use crate::calling::Caller;
 use crate::gathering::{Back, are_last_first, gather, hand_back};
 use crate::space::{NoSpace, Space, reserve};
@@ -26,8 +27,8 @@ use wq_execution::{Body, Rescued};
 /// Why not everything was run.
 #[derive(Clone, Copy, Debug, PartialEq, Eq, Error)]
 pub enum RunWhy {
-    /// There isn't one body for each workqueue (73).
-    #[error("there must be one body for each workqueue")]
+    /// There isn't one body for each context, that is each rescuer and each helper (73).
+    #[error("there must be one body for each rescuer and each helper")]
     BodiesDiffer,
     /// The runtime has made 65,535 seats (70).
     #[error("more seats than a runtime may make")]
@@ -57,17 +58,17 @@ impl RunWhy {
 /// What all threads left.
 #[derive(Drop)]
 pub struct Ran<N: Naming, A: Allocator, B: Body + Drop, C: Caller + Drop> {
-    /// The seats of the lanes, and then those of the callers.
+    /// The seats of the contexts, and then those of the callers.
     pub seats: Vec<Seat<N, A>, A>,
-    /// The bodies, lane by lane.
+    /// The bodies of the contexts: workqueue by workqueue, the rescuer's, then those of its helpers.
     pub bodies: Vec<B, A>,
     /// The callers, in order.
     pub callers: Vec<C, A>,
     /// What the callers answered, in order.
     pub results: Vec<Result<(), CallError>, A>,
-    /// What the rescuers answered, lane by lane.
+    /// What the contexts answered, in the same order.
     pub rescued: Vec<Result<Rescued, CallError>, A>,
-    /// How many executions were finished, by the rescuers that weren't refused.
+    /// How many executions were finished, by the contexts that weren't refused.
     pub finished: u64,
     /// How many of these executions ended with a fault.
     pub faults: u64,
@@ -78,7 +79,7 @@ pub struct Ran<N: Naming, A: Allocator, B: Body + Drop, C: Caller + Drop> {
 pub struct RunFault<N: Naming, A: Allocator, B: Body + Drop, C: Caller + Drop> {
     /// The seats that were made, except for that of a thread that couldn't be made.
     pub seats: Vec<Seat<N, A>, A>,
-    /// The bodies, except for that of a workqueue whose thread couldn't be made.
+    /// The bodies, except for that of a context whose thread couldn't be made.
     pub bodies: Vec<B, A>,
     /// The callers, except for one whose thread couldn't be made.
     pub callers: Vec<C, A>,
@@ -86,19 +87,19 @@ pub struct RunFault<N: Naming, A: Allocator, B: Body + Drop, C: Caller + Drop> {
     pub why: RunWhy,
 }
 
-/// Runs everything: makes a seat for each workqueue and each caller, starts a thread that serves each workqueue and then a thread
-/// that makes the calls of each caller, waits for the callers, closes the runtime by `destroy`, and waits for the threads of the
-/// workqueues.
+/// Runs everything: makes a seat for each context and each caller, starts a thread for each context, which serves its workqueue, and
+/// then a thread that makes the calls of each caller, waits for the callers, closes the runtime by `destroy`, and waits for the
+/// threads of the contexts. The contexts are, workqueue by workqueue, its rescuer and then its helpers, and so are the bodies.
 ///
 /// No body has run anything yet, and each can count all items. The error is the first of these that holds: `BodiesDiffer` (73),
-/// where there isn't one body for each workqueue; `TooManySeats` (70) or `OutOfMemory` (20), before any thread starts; `NoThread`
+/// where there isn't one body for each context; `TooManySeats` (70) or `OutOfMemory` (20), before any thread starts; `NoThread`
 /// (22), where a thread can't be made. Then no further thread is started, and those that run are ended as above. All bodies and
 /// callers are handed back, except that after `NoThread` what that thread was to take is lost: its seat, so that
 /// `WqRuntime::close` refuses from then on (72), and its body or its caller.
 ///
-/// Nobody serves a workqueue whose rescuer was refused or couldn't be started. If something is pending on it, the call waits
+/// Nobody serves a workqueue whose contexts were all refused or couldn't be started. If something is pending on it, the call waits
 /// forever. That can't be in a runtime that nobody else uses and on which nothing was pending before, if besides no caller and no body
-/// calls `next`, `wait_for` or `finish_work`.
+/// calls `next`, `wait_for`, `wait_all_for` or `finish_work`, or what helpers call in place of these.
 pub fn run_all<
     N: Naming + Send + Sync,
     A: Allocator + Copy + Send + Sync,
@@ -114,21 +115,22 @@ pub fn run_all<
 ) -> Result<Ran<N, A, B, C>, RunFault<N, A, B, C>>
     requires width { All (λ body. items N.wiring ≤ B.width body) bodies.items }
     requires never_ran { All (λ body. NeverRan (B.runs body)) bodies.items }
-    ensures ran { IfOk result (λ r. (vec_len bodies ≡ N.wiring.lanes) × IsRan N.wiring N.wiring.lanes (vec_len callers) r.seats.items (map B.runs r.bodies.items) (vec_len r.callers) (vec_len r.results) r.rescued.items r.finished r.faults) }
-    ensures refused { IfErr result (λ f. RefusesRun N.wiring.lanes (vec_len bodies) f.why) }
+    ensures ran { IfOk result (λ r. (vec_len bodies ≡ length (contexts_of N.wiring)) × IsRan N.wiring (vec_len callers) r.seats.items (map B.runs r.bodies.items) (vec_len r.callers) (vec_len r.results) r.rescued.items r.finished r.faults) }
+    ensures refused { IfErr result (λ f. RefusesRun (length (contexts_of N.wiring)) (vec_len bodies) f.why) }
     ensures no_seats { IfErr result (λ f. f.why ≡ BodiesDiffer → f.seats.items ≡ []) }
     ensures made { IfErr result (λ f. IsNoSeat f.why → AreFirstSeats (slots N.wiring) (vec_len bodies + vec_len callers) f.seats.items) }
     ensures memory { IfErr result (λ f. f.why ≡ OutOfMemory → 0 < vec_len bodies + vec_len callers) }
     ensures kept { IfErr result (λ f. f.why ≢ NoThread → (f.bodies.items ≡ bodies.items) × (f.callers.items ≡ callers.items)) }
 {
-    let lanes = bodies.len();
+    let wanted = bodies.len();
     let count = callers.len();
     let Space {
+        contexts,
         mut board,
         mut seats,
         rescued,
         results,
-    } = match reserve(rt, alloc, runtime, lanes, count) {
+    } = match reserve(rt, alloc, runtime, wanted, count) {
         Ok(space) => space,
         Err(NoSpace { seats, why }) => return Err(RunFault {
             seats,
@@ -138,7 +140,12 @@ pub fn run_all<
         }),
     };
     add_callers(&mut board.callers.waiting, &mut seats, &mut callers);
-    add_lanes(&mut board.lanes.waiting, &mut seats, &mut bodies);
+    add_contexts(
+        &mut board.contexts.waiting,
+        &mut seats,
+        &mut bodies,
+        &contexts,
+    );
     let board = run_threads(rt, runtime, board);
     let back = Back {
         seats,
@@ -147,11 +154,11 @@ pub fn run_all<
         rescued,
         results,
     };
-    if board.lanes.ends.len() != lanes
+    if board.contexts.ends.len() != wanted
         || board.callers.ends.len() != count
-        || !are_last_first(&board.lanes.ends)
+        || !are_last_first(&board.contexts.ends, &contexts)
     {
         return Err(hand_back(board, back));
     }
-    Ok(gather(board, back))
+    Ok(gather(board, back, &contexts))
 }

@@ -1,27 +1,31 @@
-//! What a run takes before any thread starts: a seat for each lane and each caller, and memory for their jobs, for what comes
-//! back of them and for their answers.
+//! What a run takes before any thread starts: a list of the contexts, a seat for each of them and for each caller, and memory for
+//! their jobs, for what comes back of them and for their answers.
 //!
 //! It takes time and memory in the number of seats times that of items or of workqueues, whichever is larger: for each of these a
 //! seat has 176 bytes of counts.
 
-ghost use Rattle.std.specs.Prelude.{◌≡◌, ℕ, ◌+◌, ◌*◌, ◌<◌, ◌≤◌, ◌^◌, [], replicate, vec_len, vec_capacity, IfOk, OnOk, IfErr, OnErr};
+ghost use Rattle.std.specs.Prelude.{◌≡◌, ℕ, ◌+◌, ◌*◌, ◌<◌, ◌≤◌, ◌^◌, [], length, replicate, vec_len, vec_capacity, IfOk, OnOk, IfErr, OnErr};
 ghost use Rattle.std.specs.List.{All};
 ghost use Rattle.wq_counts.specs.Counting.{counts_each};
 ghost use Rattle.wq_held.specs.Locked.{slots};
+ghost use Rattle.wq_rescuer.specs.Contexts.{contexts_of};
 ghost use Rattle.wq_rescuer.specs.Serving.{AreFirstSeats, HasRoomFor, IsNoSeat, RefusesRun};
 ghost use Rattle.wq_rescuer.specs.declared.running.RunWhy.TheVariants.{BodiesDiffer, OutOfMemory};
 
 use crate::board::Board;
 use crate::calling::Caller;
+use crate::contexts::{contexts_of, count_contexts};
 use crate::running::RunWhy;
 use std::alloc::{AllocError, Allocator};
 use std::sync::Wait;
 use wq_api::{CallError, Naming, Seat, SeatError, WqRuntime};
+use wq_core::Context;
 use wq_execution::{Body, Rescued};
 
-/// Seats, and room: for the jobs, for what comes back of them, and for the answers.
+/// The contexts, seats, and room: for the jobs, for what comes back of them, and for the answers.
 #[derive(Drop)]
 pub(crate) struct Space<N: Naming, A: Allocator, B: Body + Drop, C: Caller + Drop> {
+    pub(crate) contexts: Vec<Context, A>,
     pub(crate) board: Board<N, A, B, C>,
     pub(crate) seats: Vec<Seat<N, A>, A>,
     pub(crate) rescued: Vec<Result<Rescued, CallError>, A>,
@@ -36,24 +40,27 @@ pub(crate) struct NoSpace<N: Naming, A: Allocator> {
 }
 
 impl<N: Naming, A: Allocator + Copy, B: Body + Drop, C: Caller + Drop> Space<N, A, B, C> {
-    /// Room for this many lanes and callers, without a seat. The only error is out of memory (20), and never where there is
-    /// neither a lane nor a caller.
-    fn new(alloc: A, lanes: usize, callers: usize) -> Result<Self, AllocError>
-        requires { lanes + callers < 2 ^ 64 }
-        ensures lanes { IfOk result (λ r. HasRoomFor lanes (vec_len r.board.lanes.waiting) (vec_capacity r.board.lanes.waiting)
-            × HasRoomFor lanes (vec_len r.board.lanes.ends) (vec_capacity r.board.lanes.ends)
-            × HasRoomFor lanes (vec_len r.rescued) (vec_capacity r.rescued)) }
+    /// Room for these contexts and this many callers, without a seat. The only error is out of memory (20), and never where there
+    /// is neither a context nor a caller.
+    fn new(alloc: A, contexts: Vec<Context, A>, callers: usize) -> Result<Self, AllocError>
+        requires { vec_len contexts + callers < 2 ^ 64 }
+        ensures all { IfOk result (λ r. r.contexts.items ≡ contexts.items) }
+        ensures contexts { IfOk result (λ r. HasRoomFor (vec_len contexts) (vec_len r.board.contexts.waiting) (vec_capacity r.board.contexts.waiting)
+            × HasRoomFor (vec_len contexts) (vec_len r.board.contexts.ends) (vec_capacity r.board.contexts.ends)
+            × HasRoomFor (vec_len contexts) (vec_len r.rescued) (vec_capacity r.rescued)) }
         ensures callers { IfOk result (λ r. HasRoomFor callers (vec_len r.board.callers.waiting) (vec_capacity r.board.callers.waiting)
             × HasRoomFor callers (vec_len r.board.callers.ends) (vec_capacity r.board.callers.ends)
             × HasRoomFor callers (vec_len r.results) (vec_capacity r.results)) }
-        ensures seats { IfOk result (λ r. (r.seats.items ≡ []) × (lanes + callers ≤ vec_capacity r.seats)) }
-        ensures memory { OnErr result (0 < lanes + callers) }
+        ensures seats { IfOk result (λ r. (r.seats.items ≡ []) × (vec_len contexts + callers ≤ vec_capacity r.seats)) }
+        ensures memory { OnErr result (0 < vec_len contexts + callers) }
     {
-        let seats = Vec::with_capacity(alloc, lanes + callers)?;
-        let rescued = Vec::with_capacity(alloc, lanes)?;
+        let count = contexts.len();
+        let seats = Vec::with_capacity(alloc, count + callers)?;
+        let rescued = Vec::with_capacity(alloc, count)?;
         let results = Vec::with_capacity(alloc, callers)?;
-        let board = Board::new(alloc, lanes, callers)?;
+        let board = Board::new(alloc, count, callers)?;
         Ok(Space {
+            contexts,
             board,
             seats,
             rescued,
@@ -88,42 +95,68 @@ fn make_seats<N: Naming, A: Allocator + Copy, R: Wait>(
     Ok(())
 }
 
-/// Seats and room for this many lanes and callers. The error is that of `run_all`, up to the first thread.
+/// Lists the contexts of a runtime, which are so many, and makes room for them and for this many callers. The only error is out of
+/// memory (20), and never where there is neither a context nor a caller.
+fn take_room<N: Naming, A: Allocator + Copy, R: Wait, B: Body + Drop, C: Caller + Drop>(
+    rt: &R,
+    alloc: A,
+    runtime: &WqRuntime<N, A>,
+    count: usize,
+    callers: usize,
+) -> Result<Space<N, A, B, C>, AllocError>
+    requires all { count ≡ length (contexts_of N.wiring) }
+    requires few { count + callers < 2 ^ 64 }
+    ensures all { IfOk result (λ r. r.contexts.items ≡ contexts_of N.wiring) }
+    ensures contexts { IfOk result (λ r. HasRoomFor count (vec_len r.board.contexts.waiting) (vec_capacity r.board.contexts.waiting)
+        × HasRoomFor count (vec_len r.board.contexts.ends) (vec_capacity r.board.contexts.ends)
+        × HasRoomFor count (vec_len r.rescued) (vec_capacity r.rescued)) }
+    ensures callers { IfOk result (λ r. HasRoomFor callers (vec_len r.board.callers.waiting) (vec_capacity r.board.callers.waiting)
+        × HasRoomFor callers (vec_len r.board.callers.ends) (vec_capacity r.board.callers.ends)
+        × HasRoomFor callers (vec_len r.results) (vec_capacity r.results)) }
+    ensures seats { IfOk result (λ r. (r.seats.items ≡ []) × (count + callers ≤ vec_capacity r.seats)) }
+    ensures memory { OnErr result (0 < count + callers) }
+{
+    let contexts = contexts_of(rt, alloc, runtime)?;
+    Space::new(alloc, contexts, callers)
+}
+
+/// The contexts, seats and room for a run with this many bodies and callers. The error is that of `run_all`, up to the first thread.
 pub(crate) fn reserve<N: Naming, A: Allocator + Copy, R: Wait, B: Body + Drop, C: Caller + Drop>(
     rt: &R,
     alloc: A,
     runtime: &WqRuntime<N, A>,
-    lanes: usize,
+    bodies: usize,
     callers: usize,
 ) -> Result<Space<N, A, B, C>, NoSpace<N, A>>
-    requires { lanes + callers < 2 ^ 64 }
-    ensures few { OnOk result ((lanes ≡ N.wiring.lanes) × (lanes ≤ 256)) }
-    ensures lanes { IfOk result (λ r. HasRoomFor lanes (vec_len r.board.lanes.waiting) (vec_capacity r.board.lanes.waiting)
-        × HasRoomFor lanes (vec_len r.board.lanes.ends) (vec_capacity r.board.lanes.ends)
-        × HasRoomFor lanes (vec_len r.rescued) (vec_capacity r.rescued)) }
+    requires { bodies + callers < 2 ^ 64 }
+    ensures few { OnOk result (bodies ≤ 65536) }
+    ensures all { IfOk result (λ r. (bodies ≡ length (contexts_of N.wiring)) × (r.contexts.items ≡ contexts_of N.wiring)) }
+    ensures contexts { IfOk result (λ r. HasRoomFor bodies (vec_len r.board.contexts.waiting) (vec_capacity r.board.contexts.waiting)
+        × HasRoomFor bodies (vec_len r.board.contexts.ends) (vec_capacity r.board.contexts.ends)
+        × HasRoomFor bodies (vec_len r.rescued) (vec_capacity r.rescued)) }
     ensures callers { IfOk result (λ r. HasRoomFor callers (vec_len r.board.callers.waiting) (vec_capacity r.board.callers.waiting)
         × HasRoomFor callers (vec_len r.board.callers.ends) (vec_capacity r.board.callers.ends)
         × HasRoomFor callers (vec_len r.results) (vec_capacity r.results)) }
-    ensures seats { IfOk result (λ r. (vec_len r.seats ≡ lanes + callers) × (lanes + callers ≤ vec_capacity r.seats)
+    ensures seats { IfOk result (λ r. (vec_len r.seats ≡ bodies + callers) × (bodies + callers ≤ vec_capacity r.seats)
         × All (λ seat. seat ≡ replicate (counts_each * slots N.wiring) 0) r.seats.items) }
-    ensures refused { IfErr result (λ e. RefusesRun N.wiring.lanes lanes e.why) }
+    ensures refused { IfErr result (λ e. RefusesRun (length (contexts_of N.wiring)) bodies e.why) }
     ensures no_seats { IfErr result (λ e. e.why ≡ BodiesDiffer → e.seats.items ≡ []) }
-    ensures made { IfErr result (λ e. IsNoSeat e.why → AreFirstSeats (slots N.wiring) (lanes + callers) e.seats.items) }
-    ensures memory { IfErr result (λ e. e.why ≡ OutOfMemory → 0 < lanes + callers) }
+    ensures made { IfErr result (λ e. IsNoSeat e.why → AreFirstSeats (slots N.wiring) (bodies + callers) e.seats.items) }
+    ensures memory { IfErr result (λ e. e.why ≡ OutOfMemory → 0 < bodies + callers) }
 {
-    if lanes != usize::from(runtime.lanes(rt)) {
+    if bodies != count_contexts(rt, runtime) {
         return Err(NoSpace {
             seats: Vec::new(alloc),
             why: RunWhy::BodiesDiffer,
         });
     }
-    let Ok(mut space) = Space::new(alloc, lanes, callers) else {
+    let Ok(mut space) = take_room(rt, alloc, runtime, bodies, callers) else {
         return Err(NoSpace {
             seats: Vec::new(alloc),
             why: RunWhy::OutOfMemory,
         });
     };
-    match make_seats(rt, alloc, runtime, &mut space.seats, lanes + callers) {
+    match make_seats(rt, alloc, runtime, &mut space.seats, bodies + callers) {
         Ok(()) => Ok(space),
         Err(why) => Err(NoSpace {
             seats: space.seats,

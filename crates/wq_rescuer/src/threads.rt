@@ -1,7 +1,7 @@
-//! Threads: one for each lane, and then one for each caller.
+//! Threads: one for each context, and then one for each caller.
 //!
 //! Each thread is started one level deeper than the one before, and joined on the way back: the callers first, and after
-//! `destroy` the lanes. Where a thread can't be made, no further one is started. The stack is as deep as there are lanes and
+//! `destroy` the contexts. Where a thread can't be made, no further one is started. The stack is as deep as there are contexts and
 //! callers.
 
 ghost use Rattle.std.specs.Prelude.{◌≡◌, ℕ, ◌+◌, ◌≤◌, vec_len, vec_capacity};
@@ -41,9 +41,9 @@ fn run_callers<
     }
 }
 
-/// Starts the lanes that no thread has taken yet, and then the callers. It waits until the callers have made their calls and the
-/// lanes have nothing left to do.
-fn run_lanes<
+/// Starts the contexts that no thread has taken yet, and then the callers. It waits until the callers have made their calls and
+/// the contexts have nothing left to do.
+fn run_contexts<
     's,
     E,
     N: Naming + Send + Sync + 's,
@@ -52,18 +52,18 @@ fn run_lanes<
     B: Body + Send + Drop + 's,
     C: Caller + Send + Drop + 's,
 >(scope: &Scope<'s, E>, rt: &'s R, runtime: &'s WqRuntime<N, A>, board: &mut Board<N, A, B, C>)
-    ensures lanes { vec_len board.new.lanes.waiting + vec_len board.new.lanes.ends ≤ vec_len board.old.lanes.waiting + vec_len board.old.lanes.ends }
-    ensures room { vec_capacity board.new.lanes.ends ≡ vec_capacity board.old.lanes.ends }
+    ensures contexts { vec_len board.new.contexts.waiting + vec_len board.new.contexts.ends ≤ vec_len board.old.contexts.waiting + vec_len board.old.contexts.ends }
+    ensures room { vec_capacity board.new.contexts.ends ≡ vec_capacity board.old.contexts.ends }
 {
-    let Some(job) = board.lanes.waiting.pop() else {
+    let Some(job) = board.contexts.waiting.pop() else {
         run_callers(scope, rt, runtime, &mut board.callers);
         runtime.destroy(rt);
         return;
     };
     match scope.spawn(move || job.serve(rt, runtime)) {
         Ok(thread) => {
-            run_lanes(scope, rt, runtime, board);
-            board.lanes.ends.push_reserved(thread.join(rt));
+            run_contexts(scope, rt, runtime, board);
+            board.contexts.ends.push_reserved(thread.join(rt));
         }
         Err(_) => runtime.destroy(rt),
     }
@@ -79,7 +79,7 @@ pub(crate) fn run_threads<
 >(rt: &R, runtime: &WqRuntime<N, A>, board: Board<N, A, B, C>) -> Board<N, A, B, C> {
     thread::scope(thread::scope_env(), rt, move |scope| -> Board<N, A, B, C> {
         let mut board = board;
-        run_lanes(scope, rt, runtime, &mut board);
+        run_contexts(scope, rt, runtime, &mut board);
         board
     })
 }

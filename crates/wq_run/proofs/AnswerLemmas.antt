@@ -10,9 +10,9 @@ use Rattle.wq_run.specs.declared.fault.RunStop.TheVariants.{OutOfMemory, Thread,
 use Rattle.wq_run.specs.Fault.{Stops}
 use Rattle.wq_run.specs.Running.{HasRuntime, IsRunnable, Runs, RunsDeclared}
 
-pub Runs-declared : (text : List ℕ) (s : Declared) (end : End) (out : List ℕ) → declaration text ≡ Ok s → RunsDeclared s end out → Runs text end out
-Runs-declared text s end out is runs =
-    subst (λ (d : Result Declared Refusal). MatchResult d (λ x. RunsDeclared x end out) (λ r. IsRefused r end out)) (sym is) runs
+pub Runs-declared : (helpers : ℕ) (text : List ℕ) (s : Declared) (end : End) (out : List ℕ) → declaration text ≡ Ok s → RunsDeclared helpers s end out → Runs helpers text end out
+Runs-declared helpers text s end out is runs =
+    subst (λ (d : Result Declared Refusal). MatchResult d (λ x. RunsDeclared helpers x end out) (λ r. IsRefused r end out)) (sym is) runs
 
 IsRunnable-declared : (text : List ℕ) (s : Declared) → declaration text ≡ Ok s → HasRuntime s → IsRunnable text
 IsRunnable-declared text s is has = subst (λ (d : Result Declared Refusal). MatchResult d HasRuntime (λ r. ⊥)) (sym is) has

@@ -22,11 +22,11 @@ use Rattle.wq_run.specs.Fault.{Stops}
 use Rattle.wq_run.specs.Run.{IsRun, IsRunnableInput, only}
 use Rattle.wq_run.specs.Running.{HasRuntime, IsRunnable, Runs, RunsDeclared, RunsTexts, run_why}
 
-module _ (one other : List ℕ) (declared : declaration one ≡ declaration other) where
-  pub Runs-same : (end : End) (out : List ℕ) → Runs one end out → Runs other end out
-  Runs-same end out runs = subst (λ (d : Result Declared Refusal). MatchResult d (λ s. RunsDeclared s end out) (λ r. IsRefused r end out)) declared runs
+module _ (helpers : ℕ) (one other : List ℕ) (declared : declaration one ≡ declaration other) where
+  pub Runs-same : (end : End) (out : List ℕ) → Runs helpers one end out → Runs helpers other end out
+  Runs-same end out runs = subst (λ (d : Result Declared Refusal). MatchResult d (λ s. RunsDeclared helpers s end out) (λ r. IsRefused r end out)) declared runs
 
-  RunsTexts-same : (outcome : Outcome) (out : List ℕ) → RunsTexts (only one) outcome out → RunsTexts (only other) outcome out
+  RunsTexts-same : (outcome : Outcome) (out : List ℕ) → RunsTexts helpers (only one) outcome out → RunsTexts helpers (only other) outcome out
   RunsTexts-same outcome out h = (
     Runs-same outcome.end out h.0,
     subst (λ (d : Result Declared Refusal). MatchResult d (λ _. outcome.why ≡ run_why outcome.end) (λ r. outcome.why ≡ refused_for Declaration r)) declared h.1,
@@ -35,18 +35,18 @@ module _ (one other : List ℕ) (declared : declaration one ≡ declaration othe
   IsRunnable-same : IsRunnable one → IsRunnable other
   IsRunnable-same runnable = subst (λ (d : Result Declared Refusal). MatchResult d HasRuntime (λ r. ⊥)) declared runnable
 
-module _ {R : Type 0} {remaining : R → Option (List ℕ)} {old new : Meter R} {bytes : List ℕ} (came : HasGivenBytes remaining old new max_declaration bytes)
+module _ {R : Type 0} (helpers : ℕ) {remaining : R → Option (List ℕ)} {old new : Meter R} {bytes : List ℕ} (came : HasGivenBytes remaining old new max_declaration bytes)
     (texts : Given) (is : texts ≡ only bytes) where
   declared_same : declaration bytes ≡ declaration came.given.text
   declared_same = ap declaration came.prefix ∙ declaration-take came.given.text
 
   pub IsRun-read : (outcome : Outcome) (IsWritten : List ℕ → Type 0) (IsTold : Given → Type 0) (out : List ℕ)
-      → RunsTexts texts outcome out → IsWritten out → IsTold texts → IsRun remaining old new outcome IsWritten IsTold
+      → RunsTexts helpers texts outcome out → IsWritten out → IsTold texts → IsRun helpers remaining old new outcome IsWritten IsTold
   IsRun-read outcome IsWritten IsTold out runs written told = record {
     text = came.given.text;
     given = came.given.gives;
     out = out;
-    answer = RunsTexts-same bytes came.given.text declared_same outcome out (subst (λ (t : Given). RunsTexts t outcome out) is runs);
+    answer = RunsTexts-same helpers bytes came.given.text declared_same outcome out (subst (λ (t : Given). RunsTexts helpers t outcome out) is runs);
     written = written;
     told = subst (λ (read : List ℕ). IsTold (only read)) came.prefix (subst IsTold is told);
   }
@@ -55,7 +55,7 @@ module _ {R : Type 0} {remaining : R → Option (List ℕ)} {old new : Meter R} 
   IsRunnableInput-read runnable = record {
     text = came.given.text;
     given = came.given.gives;
-    runnable = IsRunnable-same bytes came.given.text declared_same (subst (λ (t : Given). IsRunnable t.first) is runnable);
+    runnable = IsRunnable-same helpers bytes came.given.text declared_same (subst (λ (t : Given). IsRunnable t.first) is runnable);
   }
 
   Stops-read : (why : RunStop) → Stops (IsRunnable texts.first) why → Stops (IsRunnableInput remaining old new) why

@@ -20,65 +20,65 @@ one_width s a b one two few many =
     let same : a.lanes ≡ b.lanes = ap (λ (x : Assignment). x.lanes) (IsPlan-unique (declared_waits s) a b one two) in
     absurd (omega (arith, same, few, many))
 
-one_end : (s : Declared) (end other : End) (out printed : List ℕ) → IsSound s → RunsDeclared s end out → RunsDeclared s other printed → end ≡ other
-one_end s Good Good out printed sound one two = refl
-one_end s Good Bad out printed sound one two = absurd (not_both s one.assignment two.circle sound one.plan two.walked)
-one_end s Good Refused out printed sound one two = absurd (one_width s one.assignment two.assignment one.plan two.plan one.few two.many)
-one_end s Bad Good out printed sound one two = absurd (not_both s two.assignment one.circle sound two.plan one.walked)
-one_end s Bad Bad out printed sound one two = refl
-one_end s Bad Refused out printed sound one two = absurd (not_both s two.assignment one.circle sound two.plan one.walked)
-one_end s Refused Good out printed sound one two = absurd (one_width s two.assignment one.assignment two.plan one.plan two.few one.many)
-one_end s Refused Bad out printed sound one two = absurd (not_both s one.assignment two.circle sound one.plan two.walked)
-one_end s Refused Refused out printed sound one two = refl
+one_end : (helpers others : ℕ) (s : Declared) (end other : End) (out printed : List ℕ) → IsSound s → RunsDeclared helpers s end out → RunsDeclared others s other printed → end ≡ other
+one_end helpers others s Good Good out printed sound one two = refl
+one_end helpers others s Good Bad out printed sound one two = absurd (not_both s one.assignment two.circle sound one.plan two.walked)
+one_end helpers others s Good Refused out printed sound one two = absurd (one_width s one.assignment two.assignment one.plan two.plan one.few two.many)
+one_end helpers others s Bad Good out printed sound one two = absurd (not_both s two.assignment one.circle sound two.plan one.walked)
+one_end helpers others s Bad Bad out printed sound one two = refl
+one_end helpers others s Bad Refused out printed sound one two = absurd (not_both s two.assignment one.circle sound two.plan one.walked)
+one_end helpers others s Refused Good out printed sound one two = absurd (one_width s two.assignment one.assignment two.plan one.plan two.few one.many)
+one_end helpers others s Refused Bad out printed sound one two = absurd (not_both s one.assignment two.circle sound one.plan two.walked)
+one_end helpers others s Refused Refused out printed sound one two = refl
 
-one_text : (s : Declared) (end : End) (out printed : List ℕ) → IsSound s → end ≢ Good → RunsDeclared s end out → RunsDeclared s end printed → out ≡ printed
-one_text s Good out printed sound other one two = absurd (other refl)
-one_text s Bad out printed sound other one two = PrintsCircle-unique s out printed sound one two
-one_text s Refused out printed sound other one two = one.text ∙ sym two.text
+one_text : (helpers others : ℕ) (s : Declared) (end : End) (out printed : List ℕ) → IsSound s → end ≢ Good → RunsDeclared helpers s end out → RunsDeclared others s end printed → out ≡ printed
+one_text helpers others s Good out printed sound other one two = absurd (other refl)
+one_text helpers others s Bad out printed sound other one two = PrintsCircle-unique s out printed sound one two
+one_text helpers others s Refused out printed sound other one two = one.text ∙ sym two.text
 
-ends : (declared : Result Declared Refusal) (end other : End) (out printed : List ℕ) → ((s : Declared) → declared ≡ Ok s → IsSound s)
-    → MatchResult declared (λ s. RunsDeclared s end out) (λ r. IsRefused r end out)
-    → MatchResult declared (λ s. RunsDeclared s other printed) (λ r. IsRefused r other printed) → end ≡ other
-ends (Ok s) end other out printed sound one two = one_end s end other out printed (sound s refl) one two
-ends (Err r) end other out printed sound one two = one.0 ∙ sym two.0
+ends : (helpers others : ℕ) (declared : Result Declared Refusal) (end other : End) (out printed : List ℕ) → ((s : Declared) → declared ≡ Ok s → IsSound s)
+    → MatchResult declared (λ s. RunsDeclared helpers s end out) (λ r. IsRefused r end out)
+    → MatchResult declared (λ s. RunsDeclared others s other printed) (λ r. IsRefused r other printed) → end ≡ other
+ends helpers others (Ok s) end other out printed sound one two = one_end helpers others s end other out printed (sound s refl) one two
+ends helpers others (Err r) end other out printed sound one two = one.0 ∙ sym two.0
 
-texts : (declared : Result Declared Refusal) (end : End) (out printed : List ℕ) → ((s : Declared) → declared ≡ Ok s → IsSound s) → end ≢ Good
-    → MatchResult declared (λ s. RunsDeclared s end out) (λ r. IsRefused r end out)
-    → MatchResult declared (λ s. RunsDeclared s end printed) (λ r. IsRefused r end printed) → out ≡ printed
-texts (Ok s) end out printed sound other one two = one_text s end out printed (sound s refl) other one two
-texts (Err r) end out printed sound other one two = one.1 ∙ sym two.1
+texts : (helpers others : ℕ) (declared : Result Declared Refusal) (end : End) (out printed : List ℕ) → ((s : Declared) → declared ≡ Ok s → IsSound s) → end ≢ Good
+    → MatchResult declared (λ s. RunsDeclared helpers s end out) (λ r. IsRefused r end out)
+    → MatchResult declared (λ s. RunsDeclared others s end printed) (λ r. IsRefused r end printed) → out ≡ printed
+texts helpers others (Ok s) end out printed sound other one two = one_text helpers others s end out printed (sound s refl) other one two
+texts helpers others (Err r) end out printed sound other one two = one.1 ∙ sym two.1
 
-pub Runs-end : (text : List ℕ) (end other : End) (out printed : List ℕ) → Runs text end out → Runs text other printed → end ≡ other
-Runs-end text end other out printed = ends (declaration text) end other out printed (IsSound-declaration text)
+pub Runs-end : (helpers others : ℕ) (text : List ℕ) (end other : End) (out printed : List ℕ) → Runs helpers text end out → Runs others text other printed → end ≡ other
+Runs-end helpers others text end other out printed = ends helpers others (declaration text) end other out printed (IsSound-declaration text)
 
-pub Runs-text : (text : List ℕ) (end : End) (out printed : List ℕ) → end ≢ Good → Runs text end out → Runs text end printed → out ≡ printed
-Runs-text text end out printed = texts (declaration text) end out printed (IsSound-declaration text)
+pub Runs-text : (helpers others : ℕ) (text : List ℕ) (end : End) (out printed : List ℕ) → end ≢ Good → Runs helpers text end out → Runs others text end printed → out ≡ printed
+Runs-text helpers others text end out printed = texts helpers others (declaration text) end out printed (IsSound-declaration text)
 
-refused : (declared : Result Declared Refusal) (out : List ℕ) → MatchResult declared (λ s. AnswersDeclared s Refused out) (λ r. IsRefused r Refused out)
-    → MatchResult declared (λ s. RunsDeclared s Refused out) (λ r. IsRefused r Refused out)
-refused (Ok s) out is = absurd is
-refused (Err r) out is = is
+refused : (helpers : ℕ) (declared : Result Declared Refusal) (out : List ℕ) → MatchResult declared (λ s. AnswersDeclared s Refused out) (λ r. IsRefused r Refused out)
+    → MatchResult declared (λ s. RunsDeclared helpers s Refused out) (λ r. IsRefused r Refused out)
+refused helpers (Ok s) out is = absurd is
+refused helpers (Err r) out is = is
 
-pub Runs-refused : (text out : List ℕ) → Answers text Refused out → Runs text Refused out
-Runs-refused text out = refused (declaration text) out
+pub Runs-refused : (helpers : ℕ) (text out : List ℕ) → Answers text Refused out → Runs helpers text Refused out
+Runs-refused helpers text out = refused helpers (declaration text) out
 
-runnable : (declared : Result Declared Refusal) (out : List ℕ) → MatchResult declared (λ s. RunsDeclared s Good out) (λ r. IsRefused r Good out)
+runnable : (helpers : ℕ) (declared : Result Declared Refusal) (out : List ℕ) → MatchResult declared (λ s. RunsDeclared helpers s Good out) (λ r. IsRefused r Good out)
     → MatchResult declared HasRuntime (λ r. ⊥)
-runnable (Ok s) out is = record { assignment = is.assignment; plan = is.plan; few = is.few }
-runnable (Err r) out is = absurd (let same : Good ≡ Refused = is.0 in cc)
+runnable helpers (Ok s) out is = record { assignment = is.assignment; plan = is.plan; few = is.few }
+runnable helpers (Err r) out is = absurd (let same : Good ≡ Refused = is.0 in cc)
 
-pub IsRunnable-run : (text out : List ℕ) → Runs text Good out → IsRunnable text
-IsRunnable-run text out = runnable (declaration text) out
+pub IsRunnable-run : (helpers : ℕ) (text out : List ℕ) → Runs helpers text Good out → IsRunnable text
+IsRunnable-run helpers text out = runnable helpers (declaration text) out
 
-good_end : (s : Declared) (end : End) (out : List ℕ) → IsSound s → HasRuntime s → RunsDeclared s end out → end ≡ Good
-good_end s Good out sound has is = refl
-good_end s Bad out sound has is = absurd (not_both s has.assignment is.circle sound has.plan is.walked)
-good_end s Refused out sound has is = absurd (one_width s has.assignment is.assignment has.plan is.plan has.few is.many)
+good_end : (helpers : ℕ) (s : Declared) (end : End) (out : List ℕ) → IsSound s → HasRuntime s → RunsDeclared helpers s end out → end ≡ Good
+good_end helpers s Good out sound has is = refl
+good_end helpers s Bad out sound has is = absurd (not_both s has.assignment is.circle sound has.plan is.walked)
+good_end helpers s Refused out sound has is = absurd (one_width s has.assignment is.assignment has.plan is.plan has.few is.many)
 
-good_ends : (declared : Result Declared Refusal) (end : End) (out : List ℕ) → ((s : Declared) → declared ≡ Ok s → IsSound s) → MatchResult declared HasRuntime (λ r. ⊥)
-    → MatchResult declared (λ s. RunsDeclared s end out) (λ r. IsRefused r end out) → end ≡ Good
-good_ends (Ok s) end out sound has is = good_end s end out (sound s refl) has is
-good_ends (Err r) end out sound has is = absurd has
+good_ends : (helpers : ℕ) (declared : Result Declared Refusal) (end : End) (out : List ℕ) → ((s : Declared) → declared ≡ Ok s → IsSound s) → MatchResult declared HasRuntime (λ r. ⊥)
+    → MatchResult declared (λ s. RunsDeclared helpers s end out) (λ r. IsRefused r end out) → end ≡ Good
+good_ends helpers (Ok s) end out sound has is = good_end helpers s end out (sound s refl) has is
+good_ends helpers (Err r) end out sound has is = absurd has
 
-pub Runs-runnable : (text : List ℕ) (end : End) (out : List ℕ) → IsRunnable text → Runs text end out → end ≡ Good
-Runs-runnable text end out = good_ends (declaration text) end out (IsSound-declaration text)
+pub Runs-runnable : (helpers : ℕ) (text : List ℕ) (end : End) (out : List ℕ) → IsRunnable text → Runs helpers text end out → end ≡ Good
+Runs-runnable helpers text end out = good_ends helpers (declaration text) end out (IsSound-declaration text)

@@ -2,7 +2,7 @@
 use Rattle.std.specs.Prelude.{◌≡◌, ℕ, ◌+◌, ◌*◌, ◌<◌, ◌≤◌, List, length, true, Option, None, Result, MatchResult}
 use Rattle.wq_items.specs.Table.{flush_count}
 use Rattle.wq_groups.specs.Assignment.{Assignment}
-use Rattle.wq_core.specs.Wiring.{wiring}
+use Rattle.wq_core.specs.Wiring.{Wiring, wiring, with_helpers}
 use Rattle.wq_plan.specs.Plan.{IsPlan}
 use Rattle.wq_counts.specs.declared.kind.Kind.{Kind}
 use Rattle.wq_counts.specs.Counting.{tally}
@@ -32,11 +32,15 @@ rows_for s = 5 * length s.table.names + 2 * flush_count s.table.waits
 abbrev pub yes_tally : BookView → ℕ → Kind → ℕ
 yes_tally book i kind = tally book.rows i kind true
 
--- the plan was run, as far as a text can show it: there is a book, which was closed with all seats. It is idle and a legal
--- history under the plan, and the seats' counts agree with it, item by item and workqueue by workqueue. What is printed is the
--- text of the book's tallies, and of the faults that the rescuers counted. It isn't said that the book is that of the threads,
--- nor that none of them was refused
-pub record PrintsRun (s : Declared) (out : List ℕ) : Type 0 where
+-- what a runtime of a plan is made of, if each workqueue that isn't ordered has this many helpers
+abbrev pub run_wiring : ℕ → Declared → Assignment → Wiring
+run_wiring helpers s a = with_helpers (wiring (declared_waits s) a) helpers
+
+-- the plan was run with this many helpers, as far as a text can show it: there is a book, which was closed with all seats. It is
+-- idle and a legal history under the plan, and the seats' counts agree with it, item by item and workqueue by workqueue. What is
+-- printed is the text of the book's tallies, and of the faults that rescuers and helpers counted. It isn't said that the book is
+-- that of the threads, nor that none of them was refused
+pub record PrintsRun (helpers : ℕ) (s : Declared) (out : List ℕ) : Type 0 where
   pub assignment : Assignment
   pub plan : IsPlan (declared_waits s) assignment
   pub few : assignment.lanes ≤ max_runtime_lanes
@@ -45,10 +49,10 @@ pub record PrintsRun (s : Declared) (out : List ℕ) : Type 0 where
   pub rescued : List (Result Rescued CallError)
   pub finished : ℕ
   pub faults : ℕ
-  pub ran : IsRan (wiring (declared_waits s) assignment) assignment.lanes 2 seats runs 2 2 rescued finished faults
+  pub ran : IsRan (run_wiring helpers s assignment) 2 seats runs 2 2 rescued finished faults
   pub book : BookView
   pub counts : List ℕ
-  pub closed : IsClosed (wiring (declared_waits s) assignment) (rows_for s) seats book counts true
+  pub closed : IsClosed (run_wiring helpers s assignment) (rows_for s) seats book counts true
   pub text : out ≡ report_text s assignment (yes_tally book) faults
 
 -- the plan has more workqueues than a runtime may have, which is refused (69)
@@ -58,16 +62,16 @@ pub record IsTooWide (s : Declared) (out : List ℕ) : Type 0 where
   pub many : max_runtime_lanes < assignment.lanes
   pub text : out ≡ refusal_text (record { code = 69; line = 0 })
 
--- the answer to a declaration: its plan is run, or is too wide for a runtime; or its groups wait in a circle, which is printed
--- as `plan` prints it
-abbrev pub RunsDeclared : Declared → End → List ℕ → Type 0
-RunsDeclared s Good out = PrintsRun s out
-RunsDeclared s Bad out = PrintsCircle s out
-RunsDeclared s Refused out = IsTooWide s out
+-- the answer to a declaration: its plan is run with this many helpers, or is too wide for a runtime; or its groups wait in a
+-- circle, which is printed as `plan` prints it
+abbrev pub RunsDeclared : ℕ → Declared → End → List ℕ → Type 0
+RunsDeclared helpers s Good out = PrintsRun helpers s out
+RunsDeclared helpers s Bad out = PrintsCircle s out
+RunsDeclared helpers s Refused out = IsTooWide s out
 
--- the answer to a text: the answer to what it declares, or its refusal
-abbrev pub Runs : List ℕ → End → List ℕ → Type 0
-Runs text end out = MatchResult (declaration text) (λ s. RunsDeclared s end out) (λ r. IsRefused r end out)
+-- the answer to a text, with this many helpers: the answer to what it declares, or its refusal
+abbrev pub Runs : ℕ → List ℕ → End → List ℕ → Type 0
+Runs helpers text end out = MatchResult (declaration text) (λ s. RunsDeclared helpers s end out) (λ r. IsRefused r end out)
 
 -- the declaration has a plan that a runtime can have
 pub record HasRuntime (s : Declared) : Type 0 where
@@ -91,6 +95,6 @@ run_why Refused = refused_for which.Declaration (record { code = 69; line = 0 })
 abbrev pub SaysUnrun : List ℕ → End → Option Why → Type 0
 SaysUnrun text end why = MatchResult (declaration text) (λ _. why ≡ run_why end) (λ r. why ≡ refused_for which.Declaration r)
 
--- the answer to the first of these texts, and why
-abbrev pub RunsTexts : Given → Outcome → List ℕ → Type 0
-RunsTexts texts outcome out = Runs texts.first outcome.end out × SaysUnrun texts.first outcome.end outcome.why
+-- the answer to the first of these texts, with this many helpers, and why
+abbrev pub RunsTexts : ℕ → Given → Outcome → List ℕ → Type 0
+RunsTexts helpers texts outcome out = Runs helpers texts.first outcome.end out × SaysUnrun texts.first outcome.end outcome.why

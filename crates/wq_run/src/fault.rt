@@ -76,8 +76,8 @@ impl From<AllocError> for RunStop {
 impl From<RunWhy> for RunStop {
     ghost from_gives = { λ why stop. stop ≡ stop_of_run why };
 
-    /// Why there is no answer where not everything was run. Each workqueue is given a body, and there are seats for 256
-    /// workqueues and two callers, so `BodiesDiffer` and `TooManySeats` never occur.
+    /// Why there is no answer where not everything was run. Each rescuer and each helper is given a body, and there are seats for
+    /// those of 256 workqueues and for two callers, so `BodiesDiffer` and `TooManySeats` never occur.
     fn from(why: RunWhy) -> RunStop {
         match why {
             RunWhy::OutOfMemory => RunStop::OutOfMemory,

@@ -6,24 +6,24 @@ ghost use Rattle.wq_commands.specs.declared.end.End.TheVariants.{Good, Bad, Refu
 ghost use Rattle.wq_commands.specs.Answer.{Answers};
 ghost use Rattle.wq_run.specs.Running.{IsRunnable, Runs};
 
-/// A text has one end of `run`. Unless that is a plan that was run, one text is printed for it.
+/// A text has one end of `run`, whatever the number of helpers. Unless that is a plan that was run, one text is printed for it.
 pub fn a_text_has_one_end()
-    ensures end { (text : List ℕ) (end other : End) (out printed : List ℕ) → Runs text end out → Runs text other printed → end ≡ other }
-    ensures out { (text : List ℕ) (end : End) (out printed : List ℕ) → end ≢ Good → Runs text end out → Runs text end printed → out ≡ printed }
+    ensures end { (helpers others : ℕ) (text : List ℕ) (end other : End) (out printed : List ℕ) → Runs helpers text end out → Runs others text other printed → end ≡ other }
+    ensures out { (helpers others : ℕ) (text : List ℕ) (end : End) (out printed : List ℕ) → end ≢ Good → Runs helpers text end out → Runs others text end printed → out ≡ printed }
 {}
 
 /// A circle is printed where `plan` prints one, and as `plan` prints it.
 pub fn a_circle_is_printed_as_by_plan()
-    ensures { (text out : List ℕ) → Runs text Bad out ↔ Answers text Bad out }
+    ensures { (helpers : ℕ) (text out : List ℕ) → Runs helpers text Bad out ↔ Answers text Bad out }
 {}
 
 /// What `plan` refuses, `run` refuses with the same text.
 pub fn a_refusal_is_printed_as_by_plan()
-    ensures { (text out : List ℕ) → Answers text Refused out → Runs text Refused out }
+    ensures { (helpers : ℕ) (text out : List ℕ) → Answers text Refused out → Runs helpers text Refused out }
 {}
 
 /// A plan is run exactly where a text declares items whose plan a runtime can have: at most 256 workqueues.
 pub fn what_is_runnable_is_run()
-    ensures run { (text : List ℕ) (end : End) (out : List ℕ) → IsRunnable text → Runs text end out → end ≡ Good }
-    ensures runnable { (text out : List ℕ) → Runs text Good out → IsRunnable text }
+    ensures run { (helpers : ℕ) (text : List ℕ) (end : End) (out : List ℕ) → IsRunnable text → Runs helpers text end out → end ≡ Good }
+    ensures runnable { (helpers : ℕ) (text out : List ℕ) → Runs helpers text Good out → IsRunnable text }
 {}

@@ -4,6 +4,7 @@
 //! executions and of writing the answer.
 
 ghost use Rattle.std.specs.Prelude.{◌≡◌, ◌≢◌, ◌≤◌, ◌+◌, ℕ, List, Err, IfOk, IfErr, OnErr};
+ghost use Rattle.wq_core.specs.Wiring.{max_helpers};
 ghost use Rattle.wq_meter.specs.Input.{HasFailed};
 ghost use Rattle.wq_meter.specs.Meter.{count_after, LosesPrefix, WritesPrefix, WritesWhole};
 ghost use Rattle.wq_meter.specs.Shell.{Tells};
@@ -42,12 +43,14 @@ fn answer_texts<R: Threads + Wait + Sync, A: Allocator + Copy + Send + Sync>(
     rt: &R,
     alloc: A,
     seed: u64,
+    helpers: u8,
     texts: &Texts<A>,
 ) -> Result<(Outcome, Vec<u8, A>), RunStop>
-    ensures answered { IfOk result (λ answer. RunsTexts texts.now answer.0 answer.1.items) }
+    requires few_helpers { helpers ≤ max_helpers }
+    ensures answered { IfOk result (λ answer. RunsTexts helpers texts.now answer.0 answer.1.items) }
     ensures stopped { IfErr result (Stops (IsRunnable texts.now.first)) }
 {
-    let Answered { end, text, why } = answer(rt, alloc, seed, texts.first())?;
+    let Answered { end, text, why } = answer(rt, alloc, seed, helpers, texts.first())?;
     Ok((Outcome { end, why }, text))
 }
 
@@ -56,12 +59,14 @@ fn write_answer<R: Threads + Wait + Sync, W: Write, A: Allocator + Copy + Send +
     rt: &R,
     alloc: A,
     seed: u64,
+    helpers: u8,
     texts: &Texts<A>,
     writer: &mut Metered<W>,
 ) -> Result<Outcome, Stopped<RunStop>>
-    ensures answered { IfOk result (λ outcome. (out : List ℕ) × RunsTexts texts.now outcome out
+    requires few_helpers { helpers ≤ max_helpers }
+    ensures answered { IfOk result (λ outcome. (out : List ℕ) × RunsTexts helpers texts.now outcome out
         × WritesWhole W.contents writer.old writer.new out) }
-    ensures prefix { result ≡ Err (Faulted WriteFault) → (outcome : Outcome) × (out : List ℕ) × RunsTexts texts.now outcome out
+    ensures prefix { result ≡ Err (Faulted WriteFault) → (outcome : Outcome) × (out : List ℕ) × RunsTexts helpers texts.now outcome out
         × WritesPrefix W.contents writer.old writer.new out }
     ensures unanswered { IfErr result (IfUnanswered (Stops (IsRunnable texts.now.first))) }
     ensures untouched { IfErr result (λ stopped. stopped ≢ Faulted WriteFault → writer.new ≡ writer.old) }
@@ -69,7 +74,7 @@ fn write_answer<R: Threads + Wait + Sync, W: Write, A: Allocator + Copy + Send +
     ensures write_failed { result ≡ Err (Faulted WriteFault) → writer.new.failures ≡ count_after writer.old.failures 1 }
     ensures no_write_failed { result ≢ Err (Faulted WriteFault) → writer.new.failures ≡ writer.old.failures }
 {
-    match answer_texts(rt, alloc, seed, texts) {
+    match answer_texts(rt, alloc, seed, helpers, texts) {
         Ok((outcome, text)) => {
             write_text(writer, &text)?;
             Ok(outcome)
@@ -104,14 +109,16 @@ fn respond<
     rt: &R,
     alloc: A,
     seed: u64,
+    helpers: u8,
     voice: &V,
     texts: &Texts<A>,
     writer: &mut Metered<W>,
     teller: &mut Metered<E>,
 ) -> Result<Outcome, Stopped<RunStop>>
-    ensures answered { IfOk result (λ outcome. (out : List ℕ) × RunsTexts texts.now outcome out
+    requires few_helpers { helpers ≤ max_helpers }
+    ensures answered { IfOk result (λ outcome. (out : List ℕ) × RunsTexts helpers texts.now outcome out
         × WritesWhole W.contents writer.old writer.new out × Tells E.contents teller.old teller.new (V.says voice.now texts.now outcome)) }
-    ensures prefix { result ≡ Err (Faulted WriteFault) → (outcome : Outcome) × (out : List ℕ) × RunsTexts texts.now outcome out
+    ensures prefix { result ≡ Err (Faulted WriteFault) → (outcome : Outcome) × (out : List ℕ) × RunsTexts helpers texts.now outcome out
         × WritesPrefix W.contents writer.old writer.new out }
     ensures unanswered { IfErr result (IfUnanswered (Stops (IsRunnable texts.now.first))) }
     ensures untouched { IfErr result (λ stopped. stopped ≢ Faulted WriteFault → writer.new ≡ writer.old) }
@@ -120,13 +127,14 @@ fn respond<
     ensures write_failed { result ≡ Err (Faulted WriteFault) → writer.new.failures ≡ count_after writer.old.failures 1 }
     ensures no_write_failed { result ≢ Err (Faulted WriteFault) → writer.new.failures ≡ writer.old.failures }
 {
-    let outcome = write_answer(rt, alloc, seed, texts, writer)?;
+    let outcome = write_answer(rt, alloc, seed, helpers, texts, writer)?;
     tell(alloc, voice, texts, &outcome, teller);
     Ok(outcome)
 }
 
 /// Carries out `run` as `carry_out` does the other commands: reads a declaration to its end, runs its plan, writes the answer, and
 /// then says what there is to be said. `run` is no `Command`: a method of a trait can't start threads that borrow what its type has.
+/// Each workqueue that isn't ordered has this many helpers beside its rescuer, at most 8.
 ///
 /// Of the declaration at most 1,048,577 bytes are read, in at most as many calls. The errors are `Fault::Read`, where the read
 /// failed, `Fault::Memory`, where memory for the text ran out, `Fault::Write`, where a write of the answer failed or took no byte,
@@ -146,18 +154,21 @@ pub fn carry_out_run<
     rt: &R,
     alloc: A,
     seed: u64,
+    helpers: u8,
     voice: &V,
     declaration: &mut Metered<D>,
     writer: &mut Metered<W>,
     teller: &mut Metered<E>,
 ) -> Result<Outcome, Stopped<RunStop>>
+    requires few_helpers { helpers ≤ max_helpers }
+
     // The answer to the text that the reader had is written, and nothing else; then it is said what there is to be said.
-    ensures answered { IfOk result (λ outcome. IsRun D.remaining declaration.old declaration.new outcome
+    ensures answered { IfOk result (λ outcome. IsRun helpers D.remaining declaration.old declaration.new outcome
         (WritesWhole W.contents writer.old writer.new)
         (λ texts. Tells E.contents teller.old teller.new (V.says voice.now texts outcome))) }
 
     // What a fault leaves.
-    ensures prefix { result ≡ Err (Faulted WriteFault) → (outcome : Outcome) × IsRun D.remaining declaration.old declaration.new outcome
+    ensures prefix { result ≡ Err (Faulted WriteFault) → (outcome : Outcome) × IsRun helpers D.remaining declaration.old declaration.new outcome
         (WritesPrefix W.contents writer.old writer.new)
         (λ _. teller.new ≡ teller.old) }
     ensures untouched { IfErr result (λ stopped. stopped ≢ Faulted WriteFault → writer.new ≡ writer.old) }
@@ -177,7 +188,7 @@ pub fn carry_out_run<
 {
     let text = read_text(alloc, declaration, MAX_DECLARATION)?;
     let texts = only(alloc, text);
-    let ended = respond(rt, alloc, seed, voice, &texts, writer, teller);
+    let ended = respond(rt, alloc, seed, helpers, voice, &texts, writer, teller);
     // Written as a call, so that the proof has one step for it.
     drop(texts);
     ended
@@ -187,8 +198,9 @@ pub fn carry_out_run<
 /// is no plan, it writes the text of the circle in which the groups wait, with a run that shows it; where the text is refused,
 /// the refusal.
 ///
-/// The plan has a rescuer thread for each workqueue, whose bodies make the declared flushes, and two callers, one for the items with
-/// even numbers and one for the others. Each queues its items once and then flushes them. A plan of more than 256 workqueues is refused (69).
+/// The plan has a rescuer thread for each workqueue, and this many helper threads, at most 8, for each that isn't ordered. Their bodies
+/// make the declared flushes. There are two callers, one for the items with even numbers and one for the others. Each queues its items
+/// once and then flushes them. A plan of more than 256 workqueues is refused (69).
 ///
 /// At most 1,048,577 bytes are read, in at most as many calls. The errors are those of `plan_cmd`: a read failed, out of memory,
 /// or a write failed or took no byte; and `Thread`, where a thread couldn't be made, and `Tally`, where the runtime couldn't
@@ -200,15 +212,18 @@ pub fn run_cmd<R: Threads + Wait + Sync, D: Read, W: Write, A: Allocator + Copy 
     rt: &R,
     alloc: A,
     seed: u64,
+    helpers: u8,
     declaration: &mut Metered<D>,
     writer: &mut Metered<W>,
 ) -> Result<End, CommandFault>
+    requires few_helpers { helpers ≤ max_helpers }
+
     // The answer to the text that the reader had is written, and nothing else.
-    ensures answered { IfOk result (λ end. (out : List ℕ) × RunsInput D.remaining declaration.old declaration.new end out
+    ensures answered { IfOk result (λ end. (out : List ℕ) × RunsInput helpers D.remaining declaration.old declaration.new end out
         × WritesWhole W.contents writer.old writer.new out) }
 
     // What a fault leaves.
-    ensures prefix { result ≡ Err (Common WriteFault) → (end : End) × (out : List ℕ) × RunsInput D.remaining declaration.old declaration.new end out
+    ensures prefix { result ≡ Err (Common WriteFault) → (end : End) × (out : List ℕ) × RunsInput helpers D.remaining declaration.old declaration.new end out
         × WritesPrefix W.contents writer.old writer.new out }
     ensures untouched { result ≡ Err (Common Memory) → writer.new ≡ writer.old }
     ensures unwritten { result ≡ Err (Common ReadFault) → writer.new ≡ writer.old }
@@ -227,6 +242,15 @@ pub fn run_cmd<R: Threads + Wait + Sync, D: Read, W: Write, A: Allocator + Copy 
     ensures no_write_failed { result ≢ Err (Common WriteFault) → writer.new.failures ≡ writer.old.failures }
 {
     let mut unsaid = Metered::new(io::sink());
-    let ended = carry_out_run(rt, alloc, seed, &Silent, declaration, writer, &mut unsaid);
+    let ended = carry_out_run(
+        rt,
+        alloc,
+        seed,
+        helpers,
+        &Silent,
+        declaration,
+        writer,
+        &mut unsaid,
+    );
     end_of_run(ended)
 }

@@ -1,12 +1,12 @@
 //! The answer of `run` to a declaration text, built in full in memory: the declaration is planned, and its plan is run.
 //!
 //! The runtime is named here, in the call of the function that makes it and works with it. It takes the time of planning and of
-//! all executions, and memory in the number of workqueues times that of items, besides the rows of the history: for each item a
-//! seat has 176 bytes and a body 4.
+//! all executions, and memory in the number of rescuers and helpers times that of items, besides the rows of the history: for each
+//! item a seat has 176 bytes and a body 4.
 
-ghost use Rattle.std.specs.Prelude.{◌≡◌, ◌≢◌, ◌+◌, ◌*◌, IfOk, IfErr, length};
+ghost use Rattle.std.specs.Prelude.{◌≡◌, ◌≢◌, ◌≤◌, ◌+◌, ◌*◌, ℕ, IfOk, IfErr, length};
 ghost use Rattle.wq_groups.specs.Declaration.{declaration_of};
-ghost use Rattle.wq_core.specs.Wiring.{wiring};
+ghost use Rattle.wq_core.specs.Wiring.{wiring, with_helpers, max_helpers};
 ghost use Rattle.wq_plan.specs.Plan.{IsPlan};
 ghost use Rattle.wq_items.specs.Table.{flush_count};
 ghost use Rattle.wq_plan.specs.Solve.{IsCircled};
@@ -56,7 +56,7 @@ fn refuse_runtime<A: Allocator + Copy>(
     Ok(printed)
 }
 
-/// Runs a plan in the runtime of this name, or refuses it where a runtime can't have this many workqueues.
+/// Runs a plan in the runtime of this name, which has this many helpers, or refuses it where a runtime can't have this many workqueues.
 fn run_named<N: Naming + Send + Sync, A: Allocator + Copy + Send + Sync, R: Threads + Wait + Sync>(
     rt: &R,
     alloc: A,
@@ -65,22 +65,24 @@ fn run_named<N: Naming + Send + Sync, A: Allocator + Copy + Send + Sync, R: Thre
     groups: &Groups<A>,
     assignment: &Assignment<A>,
     rows: u32,
+    helpers: u8,
 ) -> Result<(End, Vec<u8, A>), RunStop>
     requires name { blank.name ≡ N.name }
     requires parts { blank.parts ≡ N.parts }
     requires all_parts { N.parts ≡ 65536 }
     requires grouped { length groups.now.group_of ≡ length table.now.names }
     requires plan { IsPlan (declaration_of table.now groups.now) assignment.now }
-    requires of_wiring { N.wiring ≡ wiring (declaration_of table.now groups.now) assignment.now }
+    requires of_wiring { N.wiring ≡ with_helpers (wiring (declaration_of table.now groups.now) assignment.now) helpers }
+    requires few_helpers { helpers ≤ max_helpers }
     requires few_rows { rows ≡ rows_for (record { table = table.now; partition = groups.now }) }
     requires of_rows { N.rows ≡ rows }
-    ensures ran { IfOk result (λ printed. RunsDeclared (record { table = table.now; partition = groups.now }) printed.0 printed.1.items) }
+    ensures ran { IfOk result (λ printed. RunsDeclared helpers (record { table = table.now; partition = groups.now }) printed.0 printed.1.items) }
     ensures stopped { IfErr result (Stops (HasRuntime (record { table = table.now; partition = groups.now }))) }
 {
     // What holds of every table and of all groups.
     let _items = table.len();
     let _groups = groups.len();
-    match WqRuntime::<N, A>::new(alloc, blank, table, groups, assignment, rows) {
+    match WqRuntime::<N, A>::with_helpers(alloc, blank, table, groups, assignment, rows, helpers) {
         Ok(runtime) => {
             let text = serve(rt, alloc, runtime, table, groups, assignment)?;
             Ok((End::Good, text))
@@ -96,15 +98,17 @@ fn run_plan<A: Allocator + Copy + Send + Sync, R: Threads + Wait + Sync>(
     table: &ItemTable<'_, A>,
     groups: &Groups<A>,
     assignment: &Assignment<A>,
+    helpers: u8,
 ) -> Result<(End, Vec<u8, A>), RunStop>
     requires grouped { length groups.now.group_of ≡ length table.now.names }
     requires plan { IsPlan (declaration_of table.now groups.now) assignment.now }
-    ensures ran { IfOk result (λ printed. RunsDeclared (record { table = table.now; partition = groups.now }) printed.0 printed.1.items) }
+    requires few_helpers { helpers ≤ max_helpers }
+    ensures ran { IfOk result (λ printed. RunsDeclared helpers (record { table = table.now; partition = groups.now }) printed.0 printed.1.items) }
     ensures stopped { IfErr result (Stops (HasRuntime (record { table = table.now; partition = groups.now }))) }
 {
     let blank = Blank::new(65_536);
     let rows = rows_for(table);
-    run_named::<Brand, A, R>(rt, alloc, blank, table, groups, assignment, rows)
+    run_named::<Brand, A, R>(rt, alloc, blank, table, groups, assignment, rows, helpers)
 }
 
 /// Makes the text of the circle in which groups wait.
@@ -116,7 +120,7 @@ fn print_circle<A: Allocator + Copy>(
 ) -> Result<(End, Vec<u8, A>), RunStop>
     requires grouped { length groups.now.group_of ≡ length table.now.names }
     requires circled { IsCircled (declaration_of table.now groups.now) arcs.now }
-    ensures printed { IfOk result (λ printed. RunsDeclared (record { table = table.now; partition = groups.now }) printed.0 printed.1.items) }
+    ensures printed { (helpers : ℕ) → IfOk result (λ printed. RunsDeclared helpers (record { table = table.now; partition = groups.now }) printed.0 printed.1.items) }
     ensures stopped { IfErr result (Stops (HasRuntime (record { table = table.now; partition = groups.now }))) }
 {
     let text = text_of_circle(alloc, table, groups, arcs)?;
@@ -129,14 +133,16 @@ fn run_declared<A: Allocator + Copy + Send + Sync, R: Threads + Wait + Sync>(
     alloc: A,
     table: &ItemTable<'_, A>,
     groups: &Groups<A>,
+    helpers: u8,
 ) -> Result<(End, Vec<u8, A>), RunStop>
-    requires { length groups.now.group_of ≡ length table.now.names }
-    ensures ran { IfOk result (λ printed. RunsDeclared (record { table = table.now; partition = groups.now }) printed.0 printed.1.items) }
+    requires grouped { length groups.now.group_of ≡ length table.now.names }
+    requires few_helpers { helpers ≤ max_helpers }
+    ensures ran { IfOk result (λ printed. RunsDeclared helpers (record { table = table.now; partition = groups.now }) printed.0 printed.1.items) }
     ensures stopped { IfErr result (Stops (HasRuntime (record { table = table.now; partition = groups.now }))) }
 {
     let answer = solve(alloc, table, groups)?;
     let printed = match &answer {
-        Answer::Plan { assignment, .. } => run_plan(rt, alloc, table, groups, assignment),
+        Answer::Plan { assignment, .. } => run_plan(rt, alloc, table, groups, assignment, helpers),
         Answer::Circle { arcs } => print_circle(alloc, table, groups, arcs),
     };
     drop(answer);
@@ -169,13 +175,15 @@ fn run_explained<A: Allocator + Copy + Send + Sync, R: Threads + Wait + Sync>(
     alloc: A,
     table: &ItemTable<'_, A>,
     groups: &Groups<A>,
+    helpers: u8,
 ) -> Result<Answered<A>, RunStop>
-    requires { length groups.now.group_of ≡ length table.now.names }
-    ensures ran { IfOk result (λ a. RunsDeclared (record { table = table.now; partition = groups.now }) a.end a.text.items) }
+    requires grouped { length groups.now.group_of ≡ length table.now.names }
+    requires few_helpers { helpers ≤ max_helpers }
+    ensures ran { IfOk result (λ a. RunsDeclared helpers (record { table = table.now; partition = groups.now }) a.end a.text.items) }
     ensures why { IfOk result (λ a. a.why ≡ run_why a.end) }
     ensures stopped { IfErr result (Stops (HasRuntime (record { table = table.now; partition = groups.now }))) }
 {
-    let (end, text) = run_declared(rt, alloc, table, groups)?;
+    let (end, text) = run_declared(rt, alloc, table, groups, helpers)?;
     Ok(explained(end, text))
 }
 
@@ -184,15 +192,17 @@ pub(crate) fn answer<A: Allocator + Copy + Send + Sync, R: Threads + Wait + Sync
     rt: &R,
     alloc: A,
     seed: u64,
+    helpers: u8,
     text: &[u8],
 ) -> Result<Answered<A>, RunStop>
-    ensures ran { IfOk result (λ a. Runs text.now a.end a.text.items) }
+    requires few_helpers { helpers ≤ max_helpers }
+    ensures ran { IfOk result (λ a. Runs helpers text.now a.end a.text.items) }
     ensures why { IfOk result (λ a. SaysUnrun text.now a.end a.why) }
     ensures stopped { IfErr result (Stops (IsRunnable text.now)) }
 {
     match read_declaration(alloc, seed, text) {
         Ok(declared) => {
-            let answer = run_explained(rt, alloc, &declared.table, &declared.groups);
+            let answer = run_explained(rt, alloc, &declared.table, &declared.groups, helpers);
             // Written as a call, so that the proof has one step for it.
             drop(declared);
             answer

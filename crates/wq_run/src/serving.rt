@@ -1,12 +1,12 @@
 //! Running a plan on a runtime of it: its crew runs, the runtime is closed, and what happened is reported.
 //!
-//! The crew is that of `wq_script`: a body for each workqueue, which makes the declared flushes, and two callers. It takes the
-//! time of all executions and of writing the text, and time and memory in the number of workqueues times that of items.
+//! The crew is that of `wq_script`: a body for each rescuer and each helper, which makes the declared flushes, and two callers. It
+//! takes the time of all executions and of writing the text, and time and memory in the number of bodies times that of items.
 
 ghost use Rattle.std.specs.Prelude.{◌≡◌, ◌≤◌, ℕ, List, length, map, IfOk, IfErr, true};
 ghost use Rattle.std.specs.List.{All};
 ghost use Rattle.wq_groups.specs.Declaration.{declaration_of};
-ghost use Rattle.wq_core.specs.Wiring.{items, wiring};
+ghost use Rattle.wq_core.specs.Wiring.{items, wiring, with_helpers};
 ghost use Rattle.wq_plan.specs.Plan.{IsPlan};
 ghost use Rattle.wq_counts.specs.Counting.{made};
 ghost use Rattle.wq_history.specs.Book.{BookView};
@@ -29,13 +29,13 @@ use std::thread::Threads;
 use wq_api::{Closed, Naming, Seat, WqRuntime};
 use wq_groups::{Assignment, Groups};
 use wq_items::ItemTable;
-use wq_rescuer::{Body, Caller, Ran, run_all};
+use wq_rescuer::{Body, Caller, Ran, count_contexts, run_all};
 use wq_script::{ScriptBody, ScriptCaller, script_bodies, script_callers};
 
 /// Who runs a plan.
 #[derive(Drop)]
 struct Crew<'t, 'a, A: Allocator> {
-    /// A body for each workqueue.
+    /// A body for each rescuer and each helper.
     bodies: Vec<ScriptBody<'t, 'a, A>, A>,
     /// Two callers that share the items.
     callers: Vec<ScriptCaller<A>, A>,
@@ -44,18 +44,18 @@ struct Crew<'t, 'a, A: Allocator> {
 /// What the threads of a crew left.
 type CrewRan<'t, 'a, N, A> = Ran<N, A, ScriptBody<'t, 'a, A>, ScriptCaller<A>>;
 
-/// Makes the crew of a plan with this many workqueues. Each item of the table is queued and then flushed by one of the callers.
+/// Makes a crew with this many bodies. Each item of the table is queued and then flushed by one of the callers.
 fn make_crew<'t, 'a, A: Allocator + Copy>(
     alloc: A,
     table: &'t ItemTable<'a, A>,
-    lanes: u16,
+    bodies: usize,
 ) -> Result<Crew<'t, 'a, A>, AllocError>
     ensures waits { IfOk result (λ crew. All (λ b. b.waits ≡ table.now.waits) crew.bodies.items) }
     ensures width { IfOk result (λ crew. All (λ b. length b.runs ≡ length table.now.names) crew.bodies.items) }
     ensures never_ran { IfOk result (λ crew. All (λ b. NeverRan (runs_of b)) crew.bodies.items) }
     ensures callers { IfOk result (λ crew. crew.callers.items ≡ shared_by_two (length table.now.names)) }
 {
-    let bodies = script_bodies(alloc, table, lanes)?;
+    let bodies = script_bodies(alloc, table, bodies)?;
     match script_callers(alloc, table.len()) {
         Ok(callers) => Ok(Crew { bodies, callers }),
         Err(error) => {
@@ -79,9 +79,9 @@ fn run_crew<
     table: &'t ItemTable<'a, A>,
 ) -> Result<CrewRan<'t, 'a, N, A>, RunStop>
     requires items { items N.wiring ≡ length table.now.names }
-    ensures ran { IfOk result (λ r. IsRan N.wiring N.wiring.lanes 2 r.seats.items (map runs_of r.bodies.items) 2 2 r.rescued.items r.finished r.faults) }
+    ensures ran { IfOk result (λ r. IsRan N.wiring 2 r.seats.items (map runs_of r.bodies.items) 2 2 r.rescued.items r.finished r.faults) }
 {
-    let Crew { bodies, callers } = make_crew(alloc, table, runtime.lanes(rt))?;
+    let Crew { bodies, callers } = make_crew(alloc, table, count_contexts(rt, runtime))?;
     match run_all(rt, alloc, runtime, bodies, callers) {
         Ok(ran) => Ok(ran),
         Err(refused) => Err(RunStop::from(refused.why)),
@@ -158,9 +158,9 @@ pub(crate) fn serve<
     requires plan { IsPlan (declaration_of table.now groups.now) assignment.now }
     requires few { assignment.now.lanes ≤ max_runtime_lanes }
     requires items { items N.wiring ≡ length table.now.names }
-    requires of_wiring { N.wiring ≡ wiring (declaration_of table.now groups.now) assignment.now }
+    requires of_wiring { N.wiring ≡ with_helpers (wiring (declaration_of table.now groups.now) assignment.now) N.wiring.helpers }
     requires of_rows { N.rows ≡ rows_for (record { table = table.now; partition = groups.now }) }
-    ensures ran { IfOk result (λ text. PrintsRun (record { table = table.now; partition = groups.now }) text.items) }
+    ensures ran { IfOk result (λ text. PrintsRun N.wiring.helpers (record { table = table.now; partition = groups.now }) text.items) }
     ensures stopped { IfErr result (Stops (HasRuntime (record { table = table.now; partition = groups.now }))) }
 {
     match run_crew(rt, alloc, &runtime, table) {

@@ -14,9 +14,9 @@ use Rattle.wq_held.specs.declared.fault.CallError.{CallError}
 use Rattle.wq_held.specs.Errors.{call_code}
 use Rattle.wq_held.specs.Locked.{seat_rows, slots}
 use Rattle.wq_held.proofs.Locking.{items_within_slots}
-use Rattle.wq_under_lock.specs.Refusals.{RefusesWaitFor}
+use Rattle.wq_under_lock.specs.Refusals.{RefusesWaitIn}
 use Rattle.wq_held.specs.declared.fault.CallError.TheVariants.{HistoryFull, Closed, Undeclared, TooManyWaits, WrongLane, NotAsked, NoItem}
-use Rattle.wq_api.specs.WaitingCalls.{waited_for, RefusedWaitFor}
+use Rattle.wq_api.specs.WaitingCalls.{waited_for, RefusedWaitIn}
 use Rattle.wq_rescuer.specs.Executing.{SameFinished}
 use Rattle.wq_script.specs.Scripts.{waits_of, is_target, times_among, CountsWaits, CountsFirstWaits, CountsOnlyWaits}
 
@@ -135,21 +135,21 @@ CountsWaits-flushed w old new t unfinished has there is = subst (λ (c : List �
     (CountsWaits-wait (slots w) old t unfinished has (omega (arith, there, items_within_slots w))))
 
 -- a flush that is refused: its wait isn't counted, or it is
-CountsWaits-refused : (w : Wiring) (old new : List ℕ) (q : ℕ) (t : Target) (e : CallError) → HasCountsOf (slots w) old
-    → RefusedWaitFor w old new q t.whole t.item e → CountsWaits old new [] ⊎ CountsWaits old new (t ∷ [])
-CountsWaits-refused w old new q t HistoryFull has same = inl (unchanged old new same)
-CountsWaits-refused w old new q t Closed has same = inl (unchanged old new same)
-CountsWaits-refused w old new q t Undeclared has same = inl (unchanged old new same)
-CountsWaits-refused w old new q t TooManyWaits has same = inl (unchanged old new same)
-CountsWaits-refused w old new q t WrongLane has why = elim why [
+CountsWaits-refused : (w : Wiring) (old new : List ℕ) (q c : ℕ) (t : Target) (e : CallError) → HasCountsOf (slots w) old
+    → RefusedWaitIn w old new q c t.whole t.item e → CountsWaits old new [] ⊎ CountsWaits old new (t ∷ [])
+CountsWaits-refused w old new q c t HistoryFull has same = inl (unchanged old new same)
+CountsWaits-refused w old new q c t Closed has same = inl (unchanged old new same)
+CountsWaits-refused w old new q c t Undeclared has same = inl (unchanged old new same)
+CountsWaits-refused w old new q c t TooManyWaits has same = inl (unchanged old new same)
+CountsWaits-refused w old new q c t WrongLane has why = elim why [
   | inl same ↦ inl (unchanged old new same)
   | inr waited ↦ elim (cases_lt t.item (slots w)) [
     | inl lt ↦ inr (subst (λ (c : List ℕ). CountsWaits old c (t ∷ [])) (sym waited.2) (CountsWaits-wait (slots w) old t waited.1 has lt))
     | inr past ↦ inl (unchanged old new (waited.2 ∙ raised-none (slots w) old t.item (wait_kind t.whole) waited.1 has past))
   ]
 ]
-CountsWaits-refused w old new q t NotAsked has same = inl (unchanged old new same)
-CountsWaits-refused w old new q t NoItem has same = inl (unchanged old new same)
+CountsWaits-refused w old new q c t NotAsked has same = inl (unchanged old new same)
+CountsWaits-refused w old new q c t NoItem has same = inl (unchanged old new same)
 
 -- ---- nothing but waits and their ends
 
@@ -166,31 +166,31 @@ only-flushed old new whole b said is p waits ends =
     ∙ (raised_at-other (raised old b (wait_kind whole) said) (place b (over_kind whole) true) p (ends b whole)
     ∙ raised_at-other old (place b (wait_kind whole) said) p (waits b whole said))
 
-only-refused : (w : Wiring) (old new : List ℕ) (q : ℕ) (whole : Bool) (b : ℕ) (e : CallError) → RefusedWaitFor w old new q whole b e → CountsOnlyWaits old new
-only-refused w old new q whole b HistoryFull same = only-same old new same
-only-refused w old new q whole b Closed same = only-same old new same
-only-refused w old new q whole b Undeclared same = only-same old new same
-only-refused w old new q whole b TooManyWaits same = only-same old new same
-only-refused w old new q whole b WrongLane why = elim why [
+only-refused : (w : Wiring) (old new : List ℕ) (q c : ℕ) (whole : Bool) (b : ℕ) (e : CallError) → RefusedWaitIn w old new q c whole b e → CountsOnlyWaits old new
+only-refused w old new q c whole b HistoryFull same = only-same old new same
+only-refused w old new q c whole b Closed same = only-same old new same
+only-refused w old new q c whole b Undeclared same = only-same old new same
+only-refused w old new q c whole b TooManyWaits same = only-same old new same
+only-refused w old new q c whole b WrongLane why = elim why [
   | inl same ↦ only-same old new same
   | inr waited ↦ only-wait old new whole b waited.1 waited.2
 ]
-only-refused w old new q whole b NotAsked same = only-same old new same
-only-refused w old new q whole b NoItem same = only-same old new same
+only-refused w old new q c whole b NotAsked same = only-same old new same
+only-refused w old new q c whole b NoItem same = only-same old new same
 
 only-then : (a b c : List ℕ) → CountsOnlyWaits a b → CountsOnlyWaits b c → CountsOnlyWaits a c
 only-then a b c first second p waits ends = second p waits ends ∙ first p waits ends
 
 -- the number of a refusal is 60 only where the seat is full
-pub full_at_60 : (w : Wiring) (old new : List ℕ) (q : ℕ) (whole : Bool) (b : ℕ) (e : CallError) → RefusesWaitFor w old q e → RefusedWaitFor w old new q whole b e → call_code e ≡ 60
+pub full_at_60 : (w : Wiring) (old new : List ℕ) (q c : ℕ) (whole : Bool) (b : ℕ) (e : CallError) → RefusesWaitIn w old q c e → RefusedWaitIn w old new q c whole b e → call_code e ≡ 60
     → seat_rows ≤ sum new
-full_at_60 w old new q whole b HistoryFull why same is = subst (λ (c : List ℕ). seat_rows ≤ sum c) (sym same) why.1
-full_at_60 w old new q whole b Closed why same is = absurd why
-full_at_60 w old new q whole b Undeclared why same is = absurd (omega (arith, is))
-full_at_60 w old new q whole b TooManyWaits why same is = absurd (omega (arith, is))
-full_at_60 w old new q whole b WrongLane why same is = absurd (omega (arith, is))
-full_at_60 w old new q whole b NotAsked why same is = absurd why
-full_at_60 w old new q whole b NoItem why same is = absurd why
+full_at_60 w old new q c whole b HistoryFull why same is = subst (λ (c : List ℕ). seat_rows ≤ sum c) (sym same) why.1
+full_at_60 w old new q c whole b Closed why same is = absurd why
+full_at_60 w old new q c whole b Undeclared why same is = absurd (omega (arith, is))
+full_at_60 w old new q c whole b TooManyWaits why same is = absurd (omega (arith, is))
+full_at_60 w old new q c whole b WrongLane why same is = absurd (omega (arith, is))
+full_at_60 w old new q c whole b NotAsked why same is = absurd why
+full_at_60 w old new q c whole b NoItem why same is = absurd why
 
 -- ---- targets in order
 
@@ -221,15 +221,15 @@ HasFlushed-next w targets k t old now after unfinished lt is so_far has there wa
 }
 
 -- a refused flush counts nothing else either
-pub only_waits-refused : (w : Wiring) (targets : List Target) (t : Target) (old now after : List ℕ) (q : ℕ) (e : CallError)
-    → HasFlushed old now targets → RefusedWaitFor w now after q t.whole t.item e → CountsOnlyWaits old after
-only_waits-refused w targets t old now after q e so_far why = only-then old now after so_far.only (only-refused w now after q t.whole t.item e why)
+pub only_waits-refused : (w : Wiring) (targets : List Target) (t : Target) (old now after : List ℕ) (q c : ℕ) (e : CallError)
+    → HasFlushed old now targets → RefusedWaitIn w now after q c t.whole t.item e → CountsOnlyWaits old after
+only_waits-refused w targets t old now after q c e so_far why = only-then old now after so_far.only (only-refused w now after q c t.whole t.item e why)
 
 -- after a refusal it stops
-pub CountsFirstWaits-refused : (w : Wiring) (targets : List Target) (k : ℕ) (t : Target) (old now after : List ℕ) (q : ℕ) (e : CallError)
-    → k < length targets → t ≡ get_or targets k t → HasFlushed old now (take k targets) → HasCountsOf (slots w) now → RefusedWaitFor w now after q t.whole t.item e
+pub CountsFirstWaits-refused : (w : Wiring) (targets : List Target) (k : ℕ) (t : Target) (old now after : List ℕ) (q c : ℕ) (e : CallError)
+    → k < length targets → t ≡ get_or targets k t → HasFlushed old now (take k targets) → HasCountsOf (slots w) now → RefusedWaitIn w now after q c t.whole t.item e
     → CountsFirstWaits old after targets
-CountsFirstWaits-refused w targets k t old now after q e lt is so_far has why = elim (CountsWaits-refused w now after q t e has why) [
+CountsFirstWaits-refused w targets k t old now after q c e lt is so_far has why = elim (CountsWaits-refused w now after q c t e has why) [
   | inl none ↦ (k, omega arith, λ b whole. omega (arith, so_far.counted b whole, none b whole))
   | inr one ↦ (k + 1, omega arith, next targets k t old now after lt is so_far.counted one)
 ]

@@ -1,7 +1,7 @@
-//! Who runs a plan: a scripted body for each workqueue, and two scripted callers that share the items.
+//! Who runs a plan: a scripted body for each rescuer and each helper, and two scripted callers that share the items.
 //!
 //! The bodies make the flushes that their items declare. A body or a caller takes time and memory in the number of items, and all
-//! bodies together in that times the number of workqueues: 4 bytes for each pair of an item and a workqueue.
+//! bodies together in that times their number: 4 bytes for each pair of an item and a body.
 
 ghost use Rattle.std.specs.Prelude.{◌≡◌, ◌<◌, length, vec_len, IfOk, OnErr};
 ghost use Rattle.std.specs.List.{All};
@@ -15,21 +15,21 @@ use crate::flushing::ScriptBody;
 use std::alloc::{AllocError, Allocator};
 use wq_items::{ItemId, ItemTable};
 
-/// Makes a body for each of this many workqueues, which makes the flushes that the items of the table declare. None has run
-/// anything. The only error is out of memory (20), and never where there is no workqueue.
+/// Makes this many bodies, each of which makes the flushes that the items of the table declare. None has run anything. The only
+/// error is out of memory (20), and never where no body is wanted.
 pub fn script_bodies<'t, 'a, A: Allocator + Copy>(
     alloc: A,
     table: &'t ItemTable<'a, A>,
-    lanes: u16,
+    count: usize,
 ) -> Result<Vec<ScriptBody<'t, 'a, A>, A>, AllocError>
     ensures waits { IfOk result (λ bs. All (λ b. b.waits ≡ table.now.waits) bs.items) }
     ensures width { IfOk result (λ bs. All (λ b. length b.runs ≡ length table.now.names) bs.items) }
     ensures never_ran { IfOk result (λ bs. All (λ b. NeverRan (runs_of b)) bs.items) }
-    ensures one_each { IfOk result (λ bs. vec_len bs ≡ lanes) }
-    ensures memory { OnErr result (0 < lanes) }
+    ensures one_each { IfOk result (λ bs. vec_len bs ≡ count) }
+    ensures memory { OnErr result (0 < count) }
 {
     let mut bodies = Vec::new(alloc);
-    for _ in 0..lanes {
+    for _ in 0..count {
         let body = ScriptBody::new(alloc, table)?;
         bodies.push(body)?;
     }

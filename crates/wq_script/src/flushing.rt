@@ -9,8 +9,8 @@ ghost use Rattle.std.specs.Prelude.{◌≡◌, ◌<◌, ◌≤◌, length, sum, 
 ghost use Rattle.wq_items.specs.Table.{targets_of};
 ghost use Rattle.wq_core.specs.Wiring.{items};
 ghost use Rattle.wq_held.specs.Locked.{seat_rows};
-ghost use Rattle.wq_under_lock.specs.Refusals.{RefusesWaitFor};
-ghost use Rattle.wq_api.specs.WaitingCalls.{waited_for, RefusedWaitFor};
+ghost use Rattle.wq_under_lock.specs.Refusals.{RefusesWaitIn};
+ghost use Rattle.wq_api.specs.WaitingCalls.{waited_for, RefusedWaitIn};
 ghost use Rattle.wq_rescuer.specs.Executing.{NeverRan, RanOnce, SameFinished};
 ghost use Rattle.wq_script.specs.Scripts.{runs_of, CountsWaits, CountsFirstWaits, CountsOnlyWaits, IsFlushCode, IsCodeOf};
 
@@ -64,7 +64,7 @@ fn flush_target<N: Naming, S: Allocator, R: Wait>(
     work: &mut Work<'_, N, S>,
 ) -> Result<bool, CallError>
     ensures counted { IfOk result (λ unfinished. (target.now.item < items N.wiring) × (work.new.seat.now ≡ waited_for work.old.seat.now target.now.whole target.now.item unfinished)) }
-    ensures refused { IfErr result (λ e. RefusesWaitFor N.wiring work.old.seat.now work.old.lane e × RefusedWaitFor N.wiring work.old.seat.now work.new.seat.now work.old.lane target.now.whole target.now.item e) }
+    ensures refused { IfErr result (λ e. RefusesWaitIn N.wiring work.old.seat.now work.old.context.lane work.old.context.helper e × RefusedWaitIn N.wiring work.old.seat.now work.new.seat.now work.old.context.lane work.old.context.helper target.now.whole target.now.item e) }
     ensures finished { SameFinished work.old.seat.now work.new.seat.now }
     ensures same_seat { work.new.seat.ghost_name ≡ work.old.seat.ghost_name }
     ensures flushed { work.new.flushed ≡ result }
@@ -110,7 +110,7 @@ impl<'t, 'a, A: Allocator + Copy> Body for ScriptBody<'t, 'a, A> {
     ///
     /// The error is the first refusal of a flush, and its number is the code of the fault: `HistoryFull` (60), where the seat is
     /// full; `Undeclared` (62) or `TooManyWaits` (63), where the runtime isn't of this table; `WrongLane` (64), where another
-    /// caller drives the same workqueue. The flushes before it are made, and those after it aren't.
+    /// caller drives the same rescuer or helper. The flushes before it are made, and those after it aren't.
     fn run<N: Naming, S: Allocator, R: Wait>(
         &mut self,
         rt: &R,

@@ -106,7 +106,7 @@ module _ {F : Type 0} (Seeds : Option ℕ → Type 0) (Opens : Text → Option F
     caused_file (replays declaration assignment run) = never_opened (declaration ∷ assignment ∷ run ∷ []) (Unit {0}) ⊥ result
     caused_file (finds declaration assignment) = never_opened (declaration ∷ option_to_list assignment) (Unit {0}) ⊥ result
     caused_file (draws declaration assignment) = never_opened (declaration ∷ option_to_list assignment) (Unit {0}) ⊥ result
-    caused_file (runs declaration) = never_opened (declaration ∷ []) (Unit {0}) (Unit {0}) result
+    caused_file (runs declaration helpers) = never_opened (declaration ∷ []) (Unit {0}) (Unit {0}) result
     caused_file (explains code) = λ alone path contains never. absurd (omega (arith, contains.1))
 
     pub caused_seed : (asked : Asked) → IsCaused Seeds Opens InputFailed asked result → ((code : Option Text) → asked ≢ explains code) → ((seed : ℕ) → ¬ Seeds (Some seed))
@@ -118,7 +118,7 @@ module _ {F : Type 0} (Seeds : Option ℕ → Type 0) (Opens : Text → Option F
     caused_seed (replays declaration assignment run) = λ caused other. never_drawn (declaration ∷ assignment ∷ run ∷ []) (Unit {0}) ⊥ result caused
     caused_seed (finds declaration assignment) = λ caused other. never_drawn (declaration ∷ option_to_list assignment) (Unit {0}) ⊥ result caused
     caused_seed (draws declaration assignment) = λ caused other. never_drawn (declaration ∷ option_to_list assignment) (Unit {0}) ⊥ result caused
-    caused_seed (runs declaration) = λ caused other. never_drawn (declaration ∷ []) (Unit {0}) (Unit {0}) result caused
+    caused_seed (runs declaration helpers) = λ caused other. never_drawn (declaration ∷ []) (Unit {0}) (Unit {0}) result caused
     caused_seed (explains code) = λ caused other never. absurd (other code refl)
 
   not_started : (files : List Text) (MayFail : Type 0) (result : Result End CommandFault) → EndsReady Seeds Opens files MayFail ⊥ result → (result ≡ Err Thread) ⊎ (result ≡ Err Tally) → ⊥
@@ -138,7 +138,7 @@ module _ {F : Type 0} (Seeds : Option ℕ → Type 0) (Opens : Text → Option F
   not_alone (Err Tally) caused is = caused
 
   pub only_run : (InputFailed : Type 0) (result : Result End CommandFault) (asked : Asked) → IsCaused Seeds Opens InputFailed asked result
-      → (result ≡ Err Thread) ⊎ (result ≡ Err Tally) → (path : Text) × (asked ≡ runs path)
+      → (result ≡ Err Thread) ⊎ (result ≡ Err Tally) → (path : Text) × (helpers : ℕ) × (asked ≡ runs path helpers)
   only_run InputFailed result (plans None) caused is = absurd (not_started [] InputFailed result caused is)
   only_run InputFailed result (plans (Some file)) caused is = absurd (not_started (file ∷ []) (Unit {0}) result caused is)
   only_run InputFailed result (checks declaration certificate) caused is = absurd (not_started (declaration ∷ certificate ∷ []) (Unit {0}) result caused is)
@@ -146,7 +146,7 @@ module _ {F : Type 0} (Seeds : Option ℕ → Type 0) (Opens : Text → Option F
   only_run InputFailed result (replays declaration assignment run) caused is = absurd (not_started (declaration ∷ assignment ∷ run ∷ []) (Unit {0}) result caused is)
   only_run InputFailed result (finds declaration assignment) caused is = absurd (not_started (declaration ∷ option_to_list assignment) (Unit {0}) result caused is)
   only_run InputFailed result (draws declaration assignment) caused is = absurd (not_started (declaration ∷ option_to_list assignment) (Unit {0}) result caused is)
-  only_run InputFailed result (runs declaration) caused is = (declaration, refl)
+  only_run InputFailed result (runs declaration helpers) caused is = (declaration, helpers, refl)
   only_run InputFailed result (explains code) caused is = absurd (not_alone result caused is)
 
 -- `explain` reads nothing and starts no threads

@@ -1,14 +1,17 @@
 -- The command that a parse of the program's words entered, and the files that it was given.
-use Rattle.std.proofs.Common.{refl, ap, ap₂, sym, subst, Result, Ok, Err, IsErrAnd, MatchResult, ◌∙◌, codes, Bool, true, false, cond, not, ◌==◌, ◌&&◌, [], ◌∷◌, List, Option, Some, None, ◌≡◌}
-use Rattle.std.specs.Prelude.{option_map, unwrap_or}
+use Rattle.std.proofs.Common.{refl, ap, ap₂, sym, subst, arith, ℕ, zero, suc, ◌≤◌, ◌⊎◌, inl, inr, Result, Ok, Err, IsErrAnd, MatchResult, ◌∙◌, codes, Bool, true, false, cond, not, ◌==◌, ◌&&◌, [], ◌∷◌, List, Option, Some, None, ◌≡◌}
+use Rattle.std.specs.Prelude.{option_map, pos, unwrap_or}
 use Rattle.std.specs.Str.{bytes_eq}
 use Rattle.std.specs.Borrow.{Bor}
-use Rattle.clap.specs.Words.{Row, Text, first_of, first_value, is_simple, rows_of, takes}
+use Rattle.clap.specs.Words.{Row, Text, first_of, first_value, is_simple, one_of, rows_of, takes}
+use Rattle.clap.specs.ValueTests.{accepts}
+use Rattle.clap.specs.declared.builder.value_parser.ValueParser.TheVariants.{Signed, Unsigned}
+use Rattle.clap.proofs.ValueTestLemmas.{accepts-Accepts}
 use Rattle.clap.specs.declared.parser.matches.Found.{Found}
 use Rattle.clap.proofs.WalkLemmas.{first_value-rows}
-use Rattle.clap.specs.Lexer.{long_of, short_of}
+use Rattle.clap.specs.Lexer.{long_of, short_of, without_minus}
 use Rattle.clap.proofs.OnLiterals.{clap_on_literals}
-use Rattle.wqplan.specs.CommandLine.{wqplan, is_no_option, Asked, Asks, AsksFor, Calls, GivesArguments, command_name}
+use Rattle.wqplan.specs.CommandLine.{wqplan, is_no_option, Asked, Asks, AsksFor, Calls, CallsRun, GivesArguments, HasFewHelpers, IsHelpers, command_name, digit, helpers_in}
 use Rattle.wqplan.specs.CommandLine.Asked.{plans, checks, judges, replays, finds, draws, runs, explains}
 
 -- if a negated part is one of those that hold, the part itself doesn't
@@ -161,14 +164,86 @@ asks_dot program declaration assignment p q =
     rw (bytes_eq-no_option declaration p, long_of-no_option declaration p, short_of-no_option declaration p)
     (rw (bytes_eq-no_option assignment q, long_of-no_option assignment q, short_of-no_option assignment q) (_, refl, (refl, refl)))
 
--- `wqplan run DECL` is taken, and gives it
+-- `wqplan run DECL` is taken, and gives it, and no helpers
 pub takes_run : (program declaration : Text) → is_no_option declaration ≡ true → takes wqplan (program ∷ codes "run" ∷ declaration ∷ []) ≡ true
 unfolding clap_on_literals
 takes_run program declaration p = rw (bytes_eq-no_option declaration p, long_of-no_option declaration p, short_of-no_option declaration p) refl
 
-pub asks_run : (program declaration : Text) → is_no_option declaration ≡ true → Asks (program ∷ codes "run" ∷ declaration ∷ []) (runs declaration)
+pub asks_run : (program declaration : Text) → is_no_option declaration ≡ true → Asks (program ∷ codes "run" ∷ declaration ∷ []) (runs declaration 0)
 unfolding clap_on_literals
-asks_run program declaration p = rw (bytes_eq-no_option declaration p, long_of-no_option declaration p, short_of-no_option declaration p) (_, refl, refl)
+asks_run program declaration p = rw (bytes_eq-no_option declaration p, long_of-no_option declaration p, short_of-no_option declaration p) (_, refl, (refl, refl, tt))
+
+-- a digit from 0 to 8 is a number of helpers, and no option
+digit_plain : (n : ℕ) → n ≤ 8 → is_no_option (digit n) ≡ true
+digit_plain zero few = refl
+digit_plain (suc zero) few = refl
+digit_plain (suc (suc zero)) few = refl
+digit_plain (suc (suc (suc zero))) few = refl
+digit_plain (suc (suc (suc (suc zero)))) few = refl
+digit_plain (suc (suc (suc (suc (suc zero))))) few = refl
+digit_plain (suc (suc (suc (suc (suc (suc zero)))))) few = refl
+digit_plain (suc (suc (suc (suc (suc (suc (suc zero))))))) few = refl
+digit_plain (suc (suc (suc (suc (suc (suc (suc (suc zero)))))))) few = refl
+digit_plain (suc (suc (suc (suc (suc (suc (suc (suc (suc n))))))))) few = absurd (omega (arith, few))
+
+digit_passes : (n : ℕ) → n ≤ 8 → accepts false (Signed (pos 0) (pos 8)) (digit n) ≡ true
+digit_passes zero few = refl
+digit_passes (suc zero) few = refl
+digit_passes (suc (suc zero)) few = refl
+digit_passes (suc (suc (suc zero))) few = refl
+digit_passes (suc (suc (suc (suc zero)))) few = refl
+digit_passes (suc (suc (suc (suc (suc zero))))) few = refl
+digit_passes (suc (suc (suc (suc (suc (suc zero)))))) few = refl
+digit_passes (suc (suc (suc (suc (suc (suc (suc zero))))))) few = refl
+digit_passes (suc (suc (suc (suc (suc (suc (suc (suc zero)))))))) few = refl
+digit_passes (suc (suc (suc (suc (suc (suc (suc (suc (suc n))))))))) few = absurd (omega (arith, few))
+
+digit_said : (n : ℕ) → n ≤ 8 → (helpers_in (Some (without_minus (digit n))) ≡ n) × IsHelpers (Some (without_minus (digit n)))
+digit_said zero few = (refl, accepts-Accepts false (Unsigned 0 8) (digit 0) refl)
+digit_said (suc zero) few = (refl, accepts-Accepts false (Unsigned 0 8) (digit 1) refl)
+digit_said (suc (suc zero)) few = (refl, accepts-Accepts false (Unsigned 0 8) (digit 2) refl)
+digit_said (suc (suc (suc zero))) few = (refl, accepts-Accepts false (Unsigned 0 8) (digit 3) refl)
+digit_said (suc (suc (suc (suc zero)))) few = (refl, accepts-Accepts false (Unsigned 0 8) (digit 4) refl)
+digit_said (suc (suc (suc (suc (suc zero))))) few = (refl, accepts-Accepts false (Unsigned 0 8) (digit 5) refl)
+digit_said (suc (suc (suc (suc (suc (suc zero)))))) few = (refl, accepts-Accepts false (Unsigned 0 8) (digit 6) refl)
+digit_said (suc (suc (suc (suc (suc (suc (suc zero))))))) few = (refl, accepts-Accepts false (Unsigned 0 8) (digit 7) refl)
+digit_said (suc (suc (suc (suc (suc (suc (suc (suc zero)))))))) few = (refl, accepts-Accepts false (Unsigned 0 8) (digit 8) refl)
+digit_said (suc (suc (suc (suc (suc (suc (suc (suc (suc n))))))))) few = absurd (omega (arith, few))
+
+-- `wqplan run DECL HELPERS` is taken, and gives both
+takes_run_with : (program declaration word : Text) → is_no_option declaration ≡ true → is_no_option word ≡ true → accepts false (Signed (pos 0) (pos 8)) word ≡ true
+    → takes wqplan (program ∷ codes "run" ∷ declaration ∷ word ∷ []) ≡ true
+unfolding clap_on_literals
+takes_run_with program declaration word p q passes =
+    rw (bytes_eq-no_option declaration p, long_of-no_option declaration p, short_of-no_option declaration p)
+    (rw (bytes_eq-no_option word q, long_of-no_option word q, short_of-no_option word q) (rw passes refl))
+
+-- a command that was met with such rows asks for a run
+asks_with : (met : Option (Text × List Row)) (rows : List Row) (declaration word : Text) (n : ℕ) → (helpers_in (Some word) ≡ n) × IsHelpers (Some word)
+    → met ≡ Some (codes "run", rows) → first_of (codes "DECL") rows ≡ Some declaration → one_of (codes "HELPERS") rows ≡ Some word → AsksFor met (runs declaration n)
+asks_with met rows declaration word n number is gives said = (rows, is, (gives, ap helpers_in said ∙ number.0, subst IsHelpers (sym said) number.1))
+
+asks_run_with : (program declaration word : Text) (n : ℕ) → (helpers_in (Some (without_minus word)) ≡ n) × IsHelpers (Some (without_minus word))
+    → is_no_option declaration ≡ true → is_no_option word ≡ true → Asks (program ∷ codes "run" ∷ declaration ∷ word ∷ []) (runs declaration n)
+unfolding clap_on_literals
+asks_run_with program declaration word n number p q =
+    rw (bytes_eq-no_option declaration p, long_of-no_option declaration p, short_of-no_option declaration p)
+    (rw (bytes_eq-no_option word q, long_of-no_option word q, short_of-no_option word q) (asks_with _ _ declaration (without_minus word) n number refl refl refl))
+
+-- a call of `run`, with the number of helpers or without it
+takes_CallsRun : (program : Text) (arguments : List Text) (declaration : Text) (helpers : ℕ) → CallsRun arguments declaration helpers → is_no_option declaration ≡ true
+    → takes wqplan (program ∷ codes "run" ∷ arguments) ≡ true
+takes_CallsRun program arguments declaration helpers (inl alone) p = ap (λ ws. takes wqplan (program ∷ codes "run" ∷ ws)) alone.0 ∙ takes_run program declaration p
+takes_CallsRun program arguments declaration helpers (inr both) p =
+    ap (λ ws. takes wqplan (program ∷ codes "run" ∷ ws)) both.0 ∙ takes_run_with program declaration (digit helpers) p (digit_plain helpers both.1) (digit_passes helpers both.1)
+
+asks_CallsRun : (program : Text) (arguments : List Text) (declaration : Text) (helpers : ℕ) → CallsRun arguments declaration helpers → is_no_option declaration ≡ true
+    → Asks (program ∷ codes "run" ∷ arguments) (runs declaration helpers)
+asks_CallsRun program arguments declaration helpers (inl alone) p =
+    subst (λ ws. Asks (program ∷ codes "run" ∷ ws) (runs declaration helpers)) (sym alone.0)
+    (subst (λ n. Asks (program ∷ codes "run" ∷ declaration ∷ []) (runs declaration n)) (sym alone.1) (asks_run program declaration p))
+asks_CallsRun program arguments declaration helpers (inr both) p =
+    subst (λ ws. Asks (program ∷ codes "run" ∷ ws) (runs declaration helpers)) (sym both.0) (asks_run_with program declaration (digit helpers) helpers (digit_said helpers both.1) p (digit_plain helpers both.1))
 
 -- `wqplan explain` is taken, and gives no CODE
 pub takes_list : (program : Text) → takes wqplan (program ∷ codes "explain" ∷ []) ≡ true
@@ -199,7 +274,7 @@ takes_Calls words (finds declaration None) (program, are, p) = ap (takes wqplan)
 takes_Calls words (finds declaration (Some assignment)) (program, are, p, q) = ap (takes wqplan) are ∙ takes_circles program declaration assignment p q
 takes_Calls words (draws declaration None) (program, are, p) = ap (takes wqplan) are ∙ takes_own_dot program declaration p
 takes_Calls words (draws declaration (Some assignment)) (program, are, p, q) = ap (takes wqplan) are ∙ takes_dot program declaration assignment p q
-takes_Calls words (runs declaration) (program, are, p) = ap (takes wqplan) are ∙ takes_run program declaration p
+takes_Calls words (runs declaration helpers) (program, arguments, are, calls, p) = ap (takes wqplan) are ∙ takes_CallsRun program arguments declaration helpers calls p
 takes_Calls words (explains None) (program, are) = ap (takes wqplan) are ∙ takes_list program
 takes_Calls words (explains (Some code)) (program, are, p) = ap (takes wqplan) are ∙ takes_explain program code p
 
@@ -213,7 +288,8 @@ Asks_Calls words (finds declaration None) (program, are, p) = subst (λ ws. Asks
 Asks_Calls words (finds declaration (Some assignment)) (program, are, p, q) = subst (λ ws. Asks ws (finds declaration (Some assignment))) (sym are) (asks_circles program declaration assignment p q)
 Asks_Calls words (draws declaration None) (program, are, p) = subst (λ ws. Asks ws (draws declaration None)) (sym are) (asks_own_dot program declaration p)
 Asks_Calls words (draws declaration (Some assignment)) (program, are, p, q) = subst (λ ws. Asks ws (draws declaration (Some assignment))) (sym are) (asks_dot program declaration assignment p q)
-Asks_Calls words (runs declaration) (program, are, p) = subst (λ ws. Asks ws (runs declaration)) (sym are) (asks_run program declaration p)
+Asks_Calls words (runs declaration helpers) (program, arguments, are, calls, p) =
+    subst (λ ws. Asks ws (runs declaration helpers)) (sym are) (asks_CallsRun program arguments declaration helpers calls p)
 Asks_Calls words (explains None) (program, are) = subst (λ ws. Asks ws (explains None)) (sym are) (asks_list program)
 Asks_Calls words (explains (Some code)) (program, are, p) = subst (λ ws. Asks ws (explains (Some code))) (sym are) (asks_explain program code p)
 
@@ -256,7 +332,7 @@ asked_by name rows =
     (cond (bytes_eq name (codes "replay")) (replays (file_of rows (codes "DECL")) (file_of rows (codes "ASSIGN")) (file_of rows (codes "RUN")))
     (cond (bytes_eq name (codes "circles")) (finds (file_of rows (codes "DECL")) (first_of (codes "ASSIGN") rows))
     (cond (bytes_eq name (codes "dot")) (draws (file_of rows (codes "DECL")) (first_of (codes "ASSIGN") rows))
-    (cond (bytes_eq name (codes "run")) (runs (file_of rows (codes "DECL"))) (explains (first_of (codes "CODE") rows))))))))
+    (cond (bytes_eq name (codes "run")) (runs (file_of rows (codes "DECL")) (helpers_in (one_of (codes "HELPERS") rows))) (explains (first_of (codes "CODE") rows))))))))
 
 file_of-is : (rows : List Row) (name file : Text) → first_of name rows ≡ Some file → file_of rows name ≡ file
 file_of-is rows name file is = ap (λ (o : Option Text). unwrap_or o []) is
@@ -270,7 +346,7 @@ asked_by-is rows (replays d a r) (gd, ga, gr) =
     rw (file_of-is rows (codes "DECL") d gd, file_of-is rows (codes "ASSIGN") a ga, file_of-is rows (codes "RUN") r gr) refl
 asked_by-is rows (finds d a) (gd, ga) = ap₂ finds (file_of-is rows (codes "DECL") d gd) ga
 asked_by-is rows (draws d a) (gd, ga) = ap₂ draws (file_of-is rows (codes "DECL") d gd) ga
-asked_by-is rows (runs d) g = ap runs (file_of-is rows (codes "DECL") d g)
+asked_by-is rows (runs d n) (gd, gn, few) = ap₂ runs (file_of-is rows (codes "DECL") d gd) gn
 asked_by-is rows (explains n) g = ap explains g
 
 -- the same matches give one command the same files
@@ -284,6 +360,21 @@ AsksFor-unique met a b (rows, is, gives) (others, also, given) =
     let names : command_name a ≡ command_name b = ap (λ (p : Text × List Row). p.0) both in
     let same : others ≡ rows = sym (ap (λ (p : Text × List Row). p.1) both) in
     GivesArguments-unique rows a b names gives (subst (λ (rs : List Row). GivesArguments rs b) same given)
+
+-- who asks for helpers asks for few
+pub few_helpers : (rows : List Row) (a : Asked) → GivesArguments rows a → HasFewHelpers a
+few_helpers rows (plans f) g = tt
+few_helpers rows (checks d c) g = tt
+few_helpers rows (judges d a) g = tt
+few_helpers rows (replays d a r) g = tt
+few_helpers rows (finds d a) g = tt
+few_helpers rows (draws d a) g = tt
+few_helpers rows (runs d n) (gd, gn, few) = subst (λ m. m ≤ 8) gn (few_in (one_of (codes "HELPERS") rows) few)
+  where
+    few_in : (word : Option Text) → IsHelpers word → helpers_in word ≤ 8
+    few_in None is = omega arith
+    few_in (Some word) is = is.3
+few_helpers rows (explains n) g = tt
 
 -- what holds for an error holds for the result that has it
 pub failed_with : {T E : Type 0} (r : Result T E) (e : E) (P : T → Type 0) (Q : E → Type 0) → IsErrAnd r (λ y. y ≡ e) → Q e → MatchResult r P Q

@@ -2,3 +2,4 @@ mod CommandLemmas
 mod CauseLemmas
 mod EndedLemmas
 mod NumberLemmas
+mod HelperLemmas

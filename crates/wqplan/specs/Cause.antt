@@ -18,7 +18,7 @@ files_of (judges declaration assignment) = declaration ∷ assignment ∷ []
 files_of (replays declaration assignment run) = declaration ∷ assignment ∷ run ∷ []
 files_of (finds declaration assignment) = declaration ∷ option_to_list assignment
 files_of (draws declaration assignment) = declaration ∷ option_to_list assignment
-files_of (runs declaration) = declaration ∷ []
+files_of (runs declaration helpers) = declaration ∷ []
 files_of (explains code) = []
 
 -- a seed was drawn, and each of these files was opened
@@ -58,7 +58,7 @@ IsCaused Seeds Opens InputFailed (judges declaration assignment) result = EndsRe
 IsCaused Seeds Opens InputFailed (replays declaration assignment run) result = EndsReady Seeds Opens (declaration ∷ assignment ∷ run ∷ []) (Unit {0}) ⊥ result
 IsCaused Seeds Opens InputFailed (finds declaration assignment) result = EndsReady Seeds Opens (declaration ∷ option_to_list assignment) (Unit {0}) ⊥ result
 IsCaused Seeds Opens InputFailed (draws declaration assignment) result = EndsReady Seeds Opens (declaration ∷ option_to_list assignment) (Unit {0}) ⊥ result
-IsCaused Seeds Opens InputFailed (runs declaration) result = EndsReady Seeds Opens (declaration ∷ []) (Unit {0}) (Unit {0}) result
+IsCaused Seeds Opens InputFailed (runs declaration helpers) result = EndsReady Seeds Opens (declaration ∷ []) (Unit {0}) (Unit {0}) result
 IsCaused Seeds Opens InputFailed (explains code) result = EndsAlone result
 
 -- what a command takes from standard input: a declaration up to the first byte past its limit, in at most as many calls, if `plan` is
@@ -71,5 +71,5 @@ ReadsInput remaining old new (judges declaration assignment) = new ≡ old
 ReadsInput remaining old new (replays declaration assignment run) = new ≡ old
 ReadsInput remaining old new (finds declaration assignment) = new ≡ old
 ReadsInput remaining old new (draws declaration assignment) = new ≡ old
-ReadsInput remaining old new (runs declaration) = new ≡ old
+ReadsInput remaining old new (runs declaration helpers) = new ≡ old
 ReadsInput remaining old new (explains code) = new ≡ old

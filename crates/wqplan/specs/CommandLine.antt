@@ -1,6 +1,8 @@
 -- The command line of the program, in the words of `clap`.
-use Rattle.std.specs.Prelude.{◌≡◌, ◌==◌, Bool, not, [], ◌∷◌, List, Option, Some, None, codes, true, option_map}
-use Rattle.clap.specs.Words.{App, Row, Rule, Text, first_of, new_app, new_rule, subcommand_of, with_rule, with_subcommand}
+use Rattle.std.specs.Prelude.{◌≡◌, ◌==◌, ◌+◌, ◌≤◌, ◌⊎◌, ℕ, Bool, not, [], ◌∷◌, List, Option, Some, None, codes, true, option_map, pos, nat_lt, if◌then◌else◌, Result, Ok, Err}
+use Rattle.std.specs.Str.Parse.{digits_value, without_leading_plus}
+use Rattle.clap.specs.Words.{App, IsUnsignedIn, Row, Rule, Text, first_of, new_app, new_rule, one_of, subcommand_of, with_rule, with_subcommand}
+use Rattle.clap.specs.declared.builder.value_parser.ValueParser.TheVariants.{Signed}
 use Rattle.wqplan.specs.declared.command_line.Request.{Request}
 use Rattle.wqplan.specs.declared.command_line.Request.TheVariants.{Plan, Check, Deadlock, Replay, Circles, Dot, Run, Explain}
 
@@ -32,9 +34,13 @@ circles = with_rule (with_rule (new_app (codes "circles")) (needed (codes "DECL"
 abbrev pub dot : App
 dot = with_rule (with_rule (new_app (codes "dot")) (needed (codes "DECL"))) (new_rule (codes "ASSIGN"))
 
--- `run DECL`
+-- a positional argument that is a number from 0 to this one
+abbrev pub counted : Text → ℕ → Rule
+counted name most = record (new_rule name) { parser = Some (Signed (pos 0) (pos most)) }
+
+-- `run DECL [HELPERS]`
 abbrev pub run : App
-run = with_rule (new_app (codes "run")) (needed (codes "DECL"))
+run = with_rule (with_rule (new_app (codes "run")) (needed (codes "DECL"))) (counted (codes "HELPERS") 8)
 
 -- `explain [CODE]`
 abbrev pub explain : App
@@ -52,7 +58,7 @@ wqplan =
     with_subcommand (with_subcommand (with_subcommand (with_subcommand (with_subcommand (with_subcommand (with_subcommand (with_subcommand bare plan.top) check.top) deadlock.top)
     replay.top) circles.top) dot.top) run.top) explain.top
 
--- a command and the paths of its files, or the word that it explains
+-- a command and the paths of its files and, for `run`, how many helpers there are, or the word that it explains
 pub data Asked : Type 0 where
   plans : Option Text → Asked
   checks : Text → Text → Asked
@@ -60,7 +66,7 @@ pub data Asked : Type 0 where
   replays : Text → Text → Text → Asked
   finds : Text → Option Text → Asked
   draws : Text → Option Text → Asked
-  runs : Text → Asked
+  runs : Text → ℕ → Asked
   explains : Option Text → Asked
 
 -- what a request asks for
@@ -71,7 +77,7 @@ spelled (Deadlock declaration assignment) = judges declaration.now assignment.no
 spelled (Replay declaration assignment steps) = replays declaration.now assignment.now steps.now
 spelled (Circles declaration assignment) = finds declaration.now (option_map (λ s. s.now) assignment)
 spelled (Dot declaration assignment) = draws declaration.now (option_map (λ s. s.now) assignment)
-spelled (Run declaration) = runs declaration.now
+spelled (Run declaration helpers) = runs declaration.now helpers
 spelled (Explain code) = explains (option_map (λ s. s.now) code)
 
 -- the name of the command that is asked for
@@ -82,10 +88,26 @@ command_name (judges declaration assignment) = codes "deadlock"
 command_name (replays declaration assignment steps) = codes "replay"
 command_name (finds declaration assignment) = codes "circles"
 command_name (draws declaration assignment) = codes "dot"
-command_name (runs declaration) = codes "run"
+command_name (runs declaration helpers) = codes "run"
 command_name (explains code) = codes "explain"
 
--- the matches of the command give it these files, or this word
+-- a word for the number of helpers is a number from 0 to 8
+abbrev pub IsHelpers : Option Text → Type 0
+IsHelpers None = Unit {0}
+IsHelpers (Some word) = IsUnsignedIn 0 8 word
+
+-- the number of helpers that the word says; without a word there are none
+abbrev pub helpers_in : Option Text → ℕ
+helpers_in None = 0
+helpers_in (Some word) = digits_value 10 (without_leading_plus word)
+
+-- the number of helpers where a word was read so: none without a word, and no more than 8
+abbrev pub few_read : {E : Type 0} → Result (Option ℕ) E → Option ℕ
+few_read (Ok None) = Some 0
+few_read (Ok (Some n)) = if nat_lt 8 n then None else Some n
+few_read (Err e) = None
+
+-- the matches of the command give it these files and this number, or this word
 abbrev pub GivesArguments : List Row → Asked → Type 0
 GivesArguments rows (plans file) = first_of (codes "FILE") rows ≡ file
 GivesArguments rows (checks declaration certificate) = (first_of (codes "DECL") rows ≡ Some declaration) × (first_of (codes "CERT") rows ≡ Some certificate)
@@ -94,12 +116,24 @@ GivesArguments rows (replays declaration assignment steps) =
     (first_of (codes "DECL") rows ≡ Some declaration) × (first_of (codes "ASSIGN") rows ≡ Some assignment) × (first_of (codes "RUN") rows ≡ Some steps)
 GivesArguments rows (finds declaration assignment) = (first_of (codes "DECL") rows ≡ Some declaration) × (first_of (codes "ASSIGN") rows ≡ assignment)
 GivesArguments rows (draws declaration assignment) = (first_of (codes "DECL") rows ≡ Some declaration) × (first_of (codes "ASSIGN") rows ≡ assignment)
-GivesArguments rows (runs declaration) = first_of (codes "DECL") rows ≡ Some declaration
+GivesArguments rows (runs declaration helpers) =
+    (first_of (codes "DECL") rows ≡ Some declaration) × (helpers_in (one_of (codes "HELPERS") rows) ≡ helpers) × IsHelpers (one_of (codes "HELPERS") rows)
 GivesArguments rows (explains code) = first_of (codes "CODE") rows ≡ code
 
 -- a command that was met, with its matches, asks for this
 abbrev pub AsksFor : Option (Text × List Row) → Asked → Type 0
 AsksFor met wanted = (rows : List Row) × (met ≡ Some (command_name wanted, rows)) × GivesArguments rows wanted
+
+-- no more than 8 helpers are asked for
+abbrev pub HasFewHelpers : Asked → Type 0
+HasFewHelpers (plans file) = Unit {0}
+HasFewHelpers (checks declaration certificate) = Unit {0}
+HasFewHelpers (judges declaration assignment) = Unit {0}
+HasFewHelpers (replays declaration assignment steps) = Unit {0}
+HasFewHelpers (finds declaration assignment) = Unit {0}
+HasFewHelpers (draws declaration assignment) = Unit {0}
+HasFewHelpers (runs declaration helpers) = helpers ≤ 8
+HasFewHelpers (explains code) = Unit {0}
 
 -- the words ask for this
 abbrev pub Asks : List Text → Asked → Type 0
@@ -110,8 +144,16 @@ abbrev pub is_no_option : Text → Bool
 is_no_option [] = true
 is_no_option (x ∷ xs) = not (x == 45)
 
--- the words are the program's name, a command, and after it its files or the word to explain, none of which looks like an
--- option
+-- a number below ten, written as a digit; `0` is 48
+abbrev pub digit : ℕ → Text
+digit n = (48 + n) ∷ []
+
+-- a run with this many helpers is asked for by this declaration's file alone, or by it and the number
+abbrev pub CallsRun : List Text → Text → ℕ → Type 0
+CallsRun words declaration helpers = ((words ≡ declaration ∷ []) × (helpers ≡ 0)) ⊎ ((words ≡ declaration ∷ digit helpers ∷ []) × (helpers ≤ 8))
+
+-- the words are the program's name, a command, and after it its files, for `run` maybe the number of helpers, or the word to
+-- explain. No file and no word looks like an option
 abbrev pub Calls : List Text → Asked → Type 0
 Calls words (plans None) = (program : Text) × (words ≡ program ∷ codes "plan" ∷ [])
 Calls words (plans (Some file)) = (program : Text) × (words ≡ program ∷ codes "plan" ∷ file ∷ []) × (is_no_option file ≡ true)
@@ -127,6 +169,7 @@ Calls words (finds declaration (Some assignment)) = (program : Text) × (words �
 Calls words (draws declaration None) = (program : Text) × (words ≡ program ∷ codes "dot" ∷ declaration ∷ []) × (is_no_option declaration ≡ true)
 Calls words (draws declaration (Some assignment)) = (program : Text) × (words ≡ program ∷ codes "dot" ∷ declaration ∷ assignment ∷ [])
     × (is_no_option declaration ≡ true) × (is_no_option assignment ≡ true)
-Calls words (runs declaration) = (program : Text) × (words ≡ program ∷ codes "run" ∷ declaration ∷ []) × (is_no_option declaration ≡ true)
+Calls words (runs declaration helpers) = (program : Text) × (arguments : List Text) × (words ≡ program ∷ codes "run" ∷ arguments) × CallsRun arguments declaration helpers
+    × (is_no_option declaration ≡ true)
 Calls words (explains None) = (program : Text) × (words ≡ program ∷ codes "explain" ∷ [])
 Calls words (explains (Some code)) = (program : Text) × (words ≡ program ∷ codes "explain" ∷ code ∷ []) × (is_no_option code ≡ true)

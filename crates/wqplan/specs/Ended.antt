@@ -57,9 +57,9 @@ abbrev pub EndsReplay : (List ℕ → List ℕ → Type 0) → List ℕ → List
 EndsReplay Holds declaration assignment run end out =
     (text lanes steps : List ℕ) × Holds declaration text × Holds assignment lanes × Holds run steps × Replays text lanes steps end out
 
--- `run`
-abbrev pub EndsRun : (List ℕ → List ℕ → Type 0) → List ℕ → End → List ℕ → Type 0
-EndsRun Holds declaration end out = (text : List ℕ) × Holds declaration text × Runs text end out
+-- `run`, with this many helpers
+abbrev pub EndsRun : (List ℕ → List ℕ → Type 0) → List ℕ → ℕ → End → List ℕ → Type 0
+EndsRun Holds declaration helpers end out = (text : List ℕ) × Holds declaration text × Runs helpers text end out
 
 -- `explain`, which reads no file
 abbrev pub EndsExplain : Option (List ℕ) → End → List ℕ → Type 0
@@ -73,7 +73,7 @@ EndsAsAsked Holds Input (judges declaration assignment) end out = EndsDeadlock H
 EndsAsAsked Holds Input (replays declaration assignment run) end out = EndsReplay Holds declaration assignment run end out
 EndsAsAsked Holds Input (finds declaration assignment) end out = EndsCircles Holds declaration assignment end out
 EndsAsAsked Holds Input (draws declaration assignment) end out = EndsDot Holds declaration assignment end out
-EndsAsAsked Holds Input (runs declaration) end out = EndsRun Holds declaration end out
+EndsAsAsked Holds Input (runs declaration helpers) end out = EndsRun Holds declaration helpers end out
 EndsAsAsked Holds Input (explains code) end out = EndsExplain code end out
 
 -- ---- what is written

@@ -2,16 +2,17 @@
 //!
 //! It is read by `clap`: one command, and positional arguments alone. The time is linear in the words.
 
-ghost use Rattle.std.specs.Prelude.{◌≡◌, ℕ, List, Option, Some, codes, false, IfOk, IfSome, IsSome, MatchResult, map};
-ghost use Rattle.clap.specs.Words.{app_of, found_of, kind_of, rows_of, rule_of, subcommand_rows_of};
+ghost use Rattle.std.specs.Prelude.{◌≡◌, ◌≤◌, ℕ, List, Option, Some, codes, false, IfOk, IfSome, IsSome, MatchResult, map};
+ghost use Rattle.clap.specs.Words.{app_of, found_of, kind_of, one_of, rows_of, rule_of, subcommand_rows_of};
 ghost use Rattle.clap.specs.declared.error.kind.ErrorKind.TheVariants.{OutOfMemory};
-ghost use Rattle.wqplan.specs.CommandLine.{bare, check, circles, deadlock, dot, explain, needed, plan, replay, run, spelled, wqplan, Asked, Asks, AsksFor, Calls, GivesArguments, checks, draws, finds, judges, replays, runs};
+ghost use Rattle.wqplan.specs.CommandLine.{bare, check, circles, counted, deadlock, dot, explain, needed, plan, replay, run, spelled, wqplan, Asked, Asks, AsksFor, Calls, GivesArguments, HasFewHelpers, IsHelpers, few_read, helpers_in, checks, draws, finds, judges, replays, runs};
 
 use crate::help;
 use clap::error::ErrorKind;
-use clap::{Arg, ArgMatches, Command, Error};
+use clap::{Arg, ArgMatches, Command, Error, value_parser};
 use std::alloc::{AllocError, Global};
 use std::convert::AsStr;
+use std::num::ParseIntError;
 use std::rt::Env;
 use std::{env, io};
 
@@ -49,9 +50,10 @@ pub(crate) enum Request<'a> {
         declaration: &'a str,
         assignment: Option<&'a str>,
     },
-    /// A run of the plan of the declaration in this file.
+    /// A run of the plan of the declaration in this file, with this many helpers, at most 8, for each workqueue that isn't ordered.
     Run {
         declaration: &'a str,
+        helpers: u8,
     },
     /// The explanation of this number or name, or the list of all that have one.
     Explain {
@@ -151,15 +153,27 @@ fn dot<'a>(alloc: Global) -> Result<Command<'a>, AllocError>
         .arg(assignment)
 }
 
+/// The argument HELPERS of `run`.
+fn helpers<'a>(alloc: Global) -> Arg<'a>
+    ensures rule { rule_of result ≡ counted (codes "HELPERS") 8 }
+    ensures own { result.global ≡ false }
+{
+    Arg::new(alloc, "HELPERS")
+        .help(help::HELPERS)
+        .value_parser(value_parser!(u8).range(0..=8))
+}
+
 /// The command `run`.
 fn run<'a>(alloc: Global) -> Result<Command<'a>, AllocError>
     ensures { IfOk result (λ command. app_of command ≡ run) }
 {
     let declaration = file(alloc, "DECL", help::DECL);
+    let helpers = helpers(alloc);
     Command::new(alloc, "run")
         .about(help::RUN)
         .after_help(help::STATUSES)
-        .arg(declaration)
+        .arg(declaration)?
+        .arg(helpers)
 }
 
 /// The command `explain`.
@@ -266,13 +280,42 @@ fn dot_request<'a>(given: &ArgMatches<'a>) -> Option<Request<'a>>
     })
 }
 
-/// The request for `run`. Its file is in all matches that a parse gives.
+/// The number of helpers that was read, if it is 8 at most; 0 where there was no word for it.
+fn few_read(read: Result<Option<u8>, ParseIntError>) -> Option<u8>
+    ensures { result ≡ few_read read }
+{
+    match read {
+        Ok(None) => Some(0),
+        Ok(Some(helpers)) => {
+            if helpers > 8 {
+                return None;
+            }
+            Some(helpers)
+        }
+        Err(_) => None,
+    }
+}
+
+/// How many helpers are asked for: none without a word for it. There is a number in all matches that a parse gives.
+fn helpers_given<'a>(given: &ArgMatches<'a>) -> Option<u8>
+    ensures number { IfSome result (λ n. helpers_in (one_of (codes "HELPERS") (rows_of (found_of given.now))) ≡ n) }
+    ensures few { IfSome result (λ n. IsHelpers (one_of (codes "HELPERS") (rows_of (found_of given.now)))) }
+    ensures all { IsHelpers (one_of (codes "HELPERS") (rows_of (found_of given.now))) → IsSome result }
+{
+    few_read(given.try_get_one::<u8>("HELPERS"))
+}
+
+/// The request for `run`. Its file, and a number of helpers where it is asked for, are in all matches that a parse gives.
 fn run_request<'a>(given: &ArgMatches<'a>) -> Option<Request<'a>>
     ensures asked { IfSome result (λ request. AsksFor (Some (codes "run", rows_of (found_of given.now))) (spelled request)) }
-    ensures all { (declaration : List ℕ) → GivesArguments (rows_of (found_of given.now)) (runs declaration) → IsSome result }
+    ensures all { (declaration : List ℕ) (helpers : ℕ) → GivesArguments (rows_of (found_of given.now)) (runs declaration helpers) → IsSome result }
 {
     let declaration = given.get_str("DECL")?;
-    Some(Request::Run { declaration })
+    let helpers = helpers_given(given)?;
+    Some(Request::Run {
+        declaration,
+        helpers,
+    })
 }
 
 /// The request of the command that a parse has entered. There is none where that is `help`.
@@ -314,6 +357,7 @@ fn entered<'a>(matches: &ArgMatches<'a>) -> Option<Request<'a>>
 /// The error is a mistake in the words, a request for help or the version, or out of memory.
 pub(crate) fn parse<'a, S: AsStr>(alloc: Global, words: &'a [S]) -> Result<Request<'a>, Error>
     ensures asked { IfOk result (λ request. Asks (map S.text words.entry.now) (spelled request)) }
+    ensures few_helpers { IfOk result (λ request. HasFewHelpers (spelled request)) }
     ensures called { (wanted : Asked) → Calls (map S.text words.entry.now) wanted
         → MatchResult result (λ request. spelled request ≡ wanted) (λ e. kind_of e ≡ OutOfMemory) }
 {

@@ -56,6 +56,9 @@ pub(crate) const DRAWN_ASSIGN: &str =
 /// What RUN is.
 pub(crate) const STEPS: &str = "The steps of a run";
 
+/// What HELPERS is.
+pub(crate) const HELPERS: &str = "Helpers of each unordered workqueue, 0 to 8; none if left out";
+
 /// What CODE is.
 pub(crate) const CODE: &str =
     "A number, as in `no CODE ..`, or a name. Without CODE all are listed";

@@ -40,5 +40,5 @@ pub fn what_cannot_be_opened_is_not_read<'a, O: World<'a>, I: Read>()
 pub fn only_run_is_stopped_by_threads<'a, O: World<'a>, I: Read>()
     ensures { (world : O) (old new : Meter I) (asked : Asked) (result : Result End CommandFault) →
         IsCaused (O.seeds world) (O.opens world) (HasFailed old new) asked result →
-        (result ≡ Err Thread) ⊎ (result ≡ Err Tally) → (path : List ℕ) × (asked ≡ runs path) }
+        (result ≡ Err Thread) ⊎ (result ≡ Err Tally) → (path : List ℕ) × (helpers : ℕ) × (asked ≡ runs path helpers) }
 {}

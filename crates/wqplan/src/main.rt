@@ -6,6 +6,8 @@
 //! error would give the status 1, which means a bad answer. The running time is that of the command.
 #![tactic(auto)]
 
+ghost use Rattle.wqplan.specs.CommandLine.{HasFewHelpers, spelled};
+
 mod command_line;
 mod ending;
 mod help;
@@ -32,7 +34,9 @@ fn perform<
     'a,
     R: Files + Input + Print + Eprint + AllocGlobal + RandomSource + Threads + Wait + Sync,
     E: Write,
->(rt: &'a R, request: Request<'a>, error: &mut Metered<E>) -> Result<End, CommandFault> {
+>(rt: &'a R, request: Request<'a>, error: &mut Metered<E>) -> Result<End, CommandFault>
+    requires few_helpers { HasFewHelpers (spelled request) }
+{
     let mut input = Metered::new(Named::new(rt, STDIN, rt.reader()));
     let mut writer = Metered::new(io::writer(rt));
     performing::perform(

@@ -4,14 +4,14 @@
 //! `carry_out` reads them, writes the answer, and says what is wrong, where something is; for `run`, `carry_out_run` does. The
 //! running time is that of the command.
 
-ghost use Rattle.std.specs.Prelude.{◌≡◌, ◌≢◌, ◌∷◌, ℕ, List, [], Err, IfErr, IfOk, IfSome, None, OnErr, Some, option_map, option_to_list};
+ghost use Rattle.std.specs.Prelude.{◌≡◌, ◌≢◌, ◌≤◌, ◌∷◌, ℕ, List, [], Err, IfErr, IfOk, IfSome, None, OnErr, Some, option_map, option_to_list};
 ghost use Rattle.wq_meter.specs.Input.{HasFailed, IsInput};
 ghost use Rattle.wq_meter.specs.Meter.{count_after, WritesPrefix, WritesWhole};
 ghost use Rattle.wq_meter.specs.Shell.{AreFrom, Given, kept};
 ghost use Rattle.wq_meter.specs.declared.shell.Stopped.TheVariants.{Faulted};
 ghost use Rattle.wq_commands.specs.Answer.{Answers};
 ghost use Rattle.wq_run.specs.Running.{RunsTexts};
-ghost use Rattle.wqplan.specs.CommandLine.{plans, spelled};
+ghost use Rattle.wqplan.specs.CommandLine.{HasFewHelpers, plans, spelled};
 ghost use Rattle.wqplan.specs.Cause.{EndsAlone, EndsReady, IsCaused, IsReady, IsUnready, ReadsInput};
 ghost use Rattle.wqplan.specs.Status.{end_or_common, explained_or_common};
 ghost use Rattle.wqplan.specs.Ended.{EndedBy, EndsAsAsked, EndsCheck, EndsCircles, EndsDeadlock, EndsDot, EndsExplain, EndsPlan, EndsReplay, EndsRun, Has, IsInputIf};
@@ -503,40 +503,44 @@ fn dot<'a, O: World<'a>, W: Write, E: Write>(
     }
 }
 
-/// Carries out `run` on this reader.
+/// Carries out `run` on this reader, with this many helpers.
 fn run_on<R: Threads + Wait + Sync, V: Voice<Global, Outcome>, D: Read + Drop, W: Write, E: Write>(
     rt: &R,
     alloc: Global,
     seed: u64,
+    helpers: u8,
     voice: &V,
     declared: D,
     writer: &mut Metered<W>,
     teller: &mut Metered<E>,
 ) -> Result<Outcome, Stopped<RunStop>>
+    requires few_helpers { helpers ≤ 8 }
     ensures answered { IfOk result (λ outcome. (texts : Given) × (out : List ℕ) × IsInput (D.remaining declared) texts.first
-        × RunsTexts texts outcome out × WritesWhole W.contents writer.old writer.new out) }
+        × RunsTexts helpers texts outcome out × WritesWhole W.contents writer.old writer.new out) }
     ensures prefix { result ≡ Err (Faulted Fault.Write) → (outcome : Outcome) × (texts : Given) × (out : List ℕ)
-        × IsInput (D.remaining declared) texts.first × RunsTexts texts outcome out × WritesPrefix W.contents writer.old writer.new out }
+        × IsInput (D.remaining declared) texts.first × RunsTexts helpers texts outcome out × WritesPrefix W.contents writer.old writer.new out }
     ensures untouched { IfErr result (λ stopped. stopped ≢ Faulted Fault.Write → writer.new ≡ writer.old) }
     ensures unsaid { OnErr result (teller.new ≡ teller.old) }
     ensures write_failed { result ≡ Err (Faulted Fault.Write) → writer.new.failures ≡ count_after writer.old.failures 1 }
     ensures no_write_failed { result ≢ Err (Faulted Fault.Write) → writer.new.failures ≡ writer.old.failures }
 {
     let mut input = Metered::new(declared);
-    carry_out_run(rt, alloc, seed, voice, &mut input, writer, teller)
+    carry_out_run(rt, alloc, seed, helpers, voice, &mut input, writer, teller)
 }
 
-/// Runs the plan of the declaration in this file.
+/// Runs the plan of the declaration in this file, with this many helpers.
 fn run<'a, O: World<'a>, R: Threads + Wait + Sync, W: Write, E: Write>(
     world: &O,
     rt: &R,
     alloc: Global,
     declaration: &'a str,
+    helpers: u8,
     writer: &mut Metered<W>,
     teller: &mut Metered<E>,
 ) -> Result<End, CommandFault>
+    requires few_helpers { helpers ≤ 8 }
     ensures ended { EndedBy W.contents writer.old writer.new (EndsRun (Has (O.opens world.now) O.File.Read.remaining)
-        declaration.now) result }
+        declaration.now helpers) result }
     ensures caused { EndsReady (O.seeds world.now) (O.opens world.now) (declaration.now ∷ []) (Unit {0}) (Unit {0}) result }
     ensures unsaid { OnErr result (teller.new ≡ teller.old) }
 {
@@ -544,7 +548,7 @@ fn run<'a, O: World<'a>, R: Threads + Wait + Sync, W: Write, E: Write>(
         return Err(CommandFault::Common(Fault::Read));
     };
     let voice = Diagnosing::one(seed, declaration);
-    let ended = run_on(rt, alloc, seed, &voice, declared, writer, teller);
+    let ended = run_on(rt, alloc, seed, helpers, &voice, declared, writer, teller);
     end_of_run(ended)
 }
 
@@ -572,6 +576,7 @@ pub(crate) fn perform<'a, O: World<'a>, R: Threads + Wait + Sync, I: Read, W: Wr
     writer: &mut Metered<W>,
     teller: &mut Metered<E>,
 ) -> Result<End, CommandFault>
+    requires few_helpers { HasFewHelpers (spelled request) }
     ensures ended { EndedBy W.contents writer.old writer.new (EndsAsAsked (Has (O.opens world.now) O.File.Read.remaining)
         (IsInput (I.remaining input.old.device)) (spelled request.entry)) result }
     ensures caused { IsCaused (O.seeds world.now) (O.opens world.now) (HasFailed input.old input.new) (spelled request.entry) result }
@@ -601,7 +606,10 @@ pub(crate) fn perform<'a, O: World<'a>, R: Threads + Wait + Sync, I: Read, W: Wr
             declaration,
             assignment,
         } => dot(world, alloc, declaration, assignment, writer, teller),
-        Request::Run { declaration } => run(world, rt, alloc, declaration, writer, teller),
+        Request::Run {
+            declaration,
+            helpers,
+        } => run(world, rt, alloc, declaration, helpers, writer, teller),
         Request::Explain { code } => explain(alloc, code, writer),
     }
 }

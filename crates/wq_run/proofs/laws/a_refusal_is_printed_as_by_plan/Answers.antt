@@ -2,4 +2,4 @@ use Rattle.wq_run.proofs.Uniqueness.{Runs-refused}
 use Rattle.wq_run.proofs.laws.a_refusal_is_printed_as_by_plan.Goals as goal
 
 pub returns : goal.returns
-returns c = λ text out is. Runs-refused text out is
+returns c = λ helpers text out is. Runs-refused helpers text out is

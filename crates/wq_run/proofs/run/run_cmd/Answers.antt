@@ -11,7 +11,7 @@ use Rattle.wq_run.proofs.run.run_cmd.Goals as goal
 pub returns-clause-answered : goal.returns-clause-answered
 returns-clause-answered g c =
     IfOk-weaker c.end_of_run.result _ _ (λ end is. ended_with c.carry_out_run-ended.result end _
-    (λ end. (out : List ℕ) × RunsInput g.D.Read.remaining c.args.declaration.now c.carry_out_run-ended.new.declaration end out
+    (λ end. (out : List ℕ) × RunsInput c.args.helpers g.D.Read.remaining c.args.declaration.now c.carry_out_run-ended.new.declaration end out
     × WritesWhole g.W.Write.contents c.args.writer.now c.carry_out_run-ended.new.writer out)
     (λ outcome h. (h.out, record { text = h.text; given = h.given; answer = h.answer.0 }, h.written))
     c.carry_out_run-ended.ensures.answered is) c.end_of_run.ensures.end

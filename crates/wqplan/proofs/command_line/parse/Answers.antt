@@ -2,7 +2,7 @@ use Rattle.std.proofs.Common.{false, true, ap, sym, subst, map, ◌≡◌, ◌�
 use Rattle.clap.specs.Words.{App, app_of, is_simple, kind_of, subcommand_of, subcommand_rows_of, takes}
 use Rattle.clap.specs.declared.error.kind.ErrorKind.TheVariants.{OutOfMemory}
 use Rattle.wqplan.specs.CommandLine.{wqplan, spelled, AsksFor}
-use Rattle.wqplan.proofs.CommandLemmas.{wqplan_is_simple, takes_Calls, Asks_Calls, AsksFor-unique, failed_with}
+use Rattle.wqplan.proofs.CommandLemmas.{wqplan_is_simple, takes_Calls, Asks_Calls, AsksFor-unique, failed_with, few_helpers}
 use Rattle.wqplan.proofs.command_line.parse.Goals as goal
 
 pub returns-in_err-matches-clause-called : goal.returns-in_err-matches-clause-called
@@ -41,3 +41,6 @@ returns-clause-called g c = λ wanted is.
     let asked = subst (λ met. AsksFor met wanted) (sym entered_is) (Asks_Calls words wanted is) in
     let bad : false ≡ true = c.in-None.ensures.all wanted asked in
     cc
+
+pub returns-in-Some-clause-few_helpers : goal.returns-in-Some-clause-few_helpers
+returns-in-Some-clause-few_helpers g c = let asked = c.in-Some.ensures.asked in few_helpers asked.0 (spelled c.in-Some.request) asked.2

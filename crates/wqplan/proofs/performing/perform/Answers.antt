@@ -1,6 +1,6 @@
-use Rattle.std.proofs.Common.{subst, sym}
+use Rattle.std.proofs.Common.{refl, subst, sym}
 use Rattle.wq_meter.specs.Input.{IsInput}
-use Rattle.wqplan.specs.CommandLine.{spelled}
+use Rattle.wqplan.specs.CommandLine.{HasFewHelpers, spelled}
 use Rattle.wqplan.specs.Ended.{EndedBy, EndsAsAsked, Has}
 use Rattle.wqplan.proofs.performing.perform.Goals as goal
 
@@ -18,3 +18,6 @@ pub returns-in-Replay-clause-ended : goal.returns-in-Replay-clause-ended
 returns-in-Replay-clause-ended g c =
     subst (λ r. EndedBy g.W.Write.contents c.args.writer.now c.replay.new.writer (EndsAsAsked (Has (g.O.World.opens c.args.world.now) g.O.File.Read.remaining) (IsInput (g.I.Read.remaining c.args.input.now.device)) (spelled r)) c.replay.result)
     (sym c.in-Replay.is) c.replay.ensures.ended
+
+pub run-requires : goal.run-requires
+run-requires g c = λ κs. (c.type_bounds.sync-R, ((refl, tt), subst (λ r. HasFewHelpers (spelled r)) c.in-Run.is c.requires.few_helpers))

@@ -1,7 +1,8 @@
 use Rattle.std.proofs.Common.{◌≡◌, ◌+◌, ◌*◌, ◌≤◌, map, vec_len, vec_capacity}
 use Rattle.std.specs.List.{sum_by}
-use Rattle.wq_rescuer.specs.Serving.{AreLastFirst, AreServed, finished_by, faults_by}
-use Rattle.wq_rescuer.proofs.gathering.gather_lanes.Given as goal
+use Rattle.wq_rescuer.specs.Serving.{finished_by, faults_by}
+use Rattle.wq_rescuer.proofs.Handovers.{AreLeft, AreServedTo}
+use Rattle.wq_rescuer.proofs.gathering.gather_contexts.Given as goal
 
 -- what is gone was added to each list, and what it says is true; what is left is in order
 abbrev pub invariant-loop-end : goal.invariant-loop-end
@@ -12,12 +13,12 @@ invariant-loop-end g l =
     × (vec_capacity l.seats ≡ vec_capacity l.fn.seats)
     × (vec_capacity l.bodies ≡ vec_capacity l.fn.bodies)
     × (vec_capacity l.rescued ≡ vec_capacity l.fn.rescued)
-    × AreServed g.N.Naming.wiring (vec_len l.seats) l.seats.items (map g.B.Body.runs l.bodies.items) l.rescued.items
+    × AreServedTo g.N.Naming.wiring l.contexts (vec_len l.seats) l.seats.items (map g.B.Body.runs l.bodies.items) l.rescued.items
     × (l.finished ≡ sum_by finished_by l.rescued.items)
     × (l.faults ≡ sum_by faults_by l.rescued.items)
     × (l.finished ≤ vec_len l.seats * 4294967295)
     × (l.faults ≤ vec_len l.seats * 4294967295)
-    × AreLastFirst (vec_len l.fn.ends) (map (λ end. end.lane) l.ends.items)
+    × AreLeft l.contexts (vec_len l.seats) (map (λ end. end.context) l.ends.items)
 
 abbrev pub decreases-loop-end : goal.decreases-loop-end
 decreases-loop-end g l = vec_len l.ends
