@@ -16,6 +16,7 @@ PAGES += [f"docs/{name}.md" for name in ("ARCHITECTURE", "DECISIONS", "DEFINITIO
 FOLDERS = ["crates", "tests", "bench", "man"]
 OF_OTHERS = """
     check_flush_dependency connect_work create_workqueue destroy_workqueue disable_work drain_workqueue enable_work
+    find_worker_executing_work worker_thread
     flush_workqueue max_active start_flush_work work_busy CONFIG_PROVE_LOCKING FitsInMemory SmallVec
 """.split()
 # What stands for any name.

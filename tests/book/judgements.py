@@ -217,7 +217,9 @@ JUDGEMENTS = [
         # What is no row: `yes` of ends, an item with an ask about a workqueue.
         (WHOLE_ENDS + "0a0001000100000002000000", f"refused 75 at 7 / {ENDING}"),
         (WHOLE_RUNS + "090201000100000002000000", f"refused 75 at 4 / {RUNNING}"),
-        (WHOLE_RUNS + "090101000100010002000000", f"refused 75 at 4 / {RUNNING}"),
+        # A row of a helper, which the workqueue hasn't; one of a helper that no workqueue has is no row.
+        (WHOLE_RUNS + "090101000100010002000000", f"refused 76 at 4 / {RUNNING}"),
+        (WHOLE_RUNS + "090101000100090002000000", f"refused 75 at 4 / {RUNNING}"),
         (WHOLE_C + "0b0101000000000001000000", f"refused 75 at 2 / {ASKED}"),
         (WHOLE_C + "0b0100010000000001000000", f"refused 75 at 2 / {ASKED}"),
         (WHOLE_C + "0b0200000000000001000000", f"refused 75 at 2 / {ASKED}"),

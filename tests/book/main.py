@@ -11,6 +11,7 @@ import sys
 sys.dont_write_bytecode = True
 sys.path.append(str(pathlib.Path(__file__).resolve().parent.parent))
 import calls  # noqa: E402  (beside this file)
+import helpers  # noqa: E402
 import judgements  # noqa: E402
 import machines  # noqa: E402
 from tables import Case, run_cases, text_of  # noqa: E402  (in the folder above)
@@ -27,17 +28,22 @@ def status_of(answer):
     return 2 if last[0] in (b"mistake", b"refused") else 0
 
 
-def book(table, declaration, assignment, rows, events, answer):
-    """A run of `book`. Its arguments are numbers of texts, but for the rows."""
+def with_helpers(count):
+    """The words before the others, with so many helpers."""
+    return [] if count is None else ["helpers", str(count)]
+
+
+def book(table, declaration, assignment, rows, events, answer, count=None):
+    """A run of `book`. Its arguments are numbers of texts, but for the rows and the number of helpers, if it is named."""
     texts = [text_of(text) for text in (declaration, assignment, events)]
-    return Case(table, ["book", 0, 1, str(rows), 2], texts, answer, status_of(answer))
+    return Case(table, [*with_helpers(count), "book", 0, 1, str(rows), 2], texts, answer, status_of(answer))
 
 
-def kept_book(table, declaration, assignment, rows, made, written):
+def kept_book(table, declaration, assignment, rows, made, written, count=None):
     """A run of `book` in which these calls are made, each with what is printed for it, and these rows are written."""
     events = " / ".join(line for line, _ in made)
     lines = [printed for _, printed in made] + [f"rows {len(written)}"] + written
-    return book(table, declaration, assignment, rows, events, text_of(" / ".join(lines)))
+    return book(table, declaration, assignment, rows, events, text_of(" / ".join(lines)), count)
 
 
 def table_cases():
@@ -56,6 +62,7 @@ def table_cases():
             texts = [text_of(declaration), text_of(assignment), history.encode("latin-1")]
             wanted = text_of(answer)
             yield Case("histories", ["check", 0, 1, 2], texts, wanted, status_of(wanted))
+    yield from helper_cases()
     # What a book writes is a legal history.
     table = "rows of books that are judged"
     for declaration, assignment, _, _, written in calls.BOOKS:
@@ -75,6 +82,25 @@ def table_cases():
         yield Case("command lines", arguments, [b""], b"", 2, complains=True)
     for arguments in [["book", 0, 0, "1", "nowhere"], ["check", "nowhere", 0, 0]]:
         yield Case("faults", arguments, [b""], b"", 3, complains=True)
+
+
+def helper_cases():
+    """A case for each row of the tables with helpers."""
+    for count, declaration, assignment, rows, made, written in helpers.BOOKS:
+        yield kept_book("books with helpers", declaration, assignment, rows, made, written, count)
+        texts = [text_of(declaration), text_of(assignment), text_of(" / ".join(written))]
+        wanted = b"legal %d\n" % len(written)
+        yield Case("rows of books with helpers that are judged", [*with_helpers(count), "check", 0, 1, 2], texts, wanted, 0,
+                   first_line=True)
+    for line in helpers.MISTAKES:
+        yield book("calls of helpers that are mistakes", *helpers.ONE, 5, line, b"mistake line 1\n", 1)
+    for count, declaration, assignment, histories in helpers.JUDGEMENTS:
+        for history, answer in histories:
+            texts = [text_of(declaration), text_of(assignment), history.encode("latin-1")]
+            wanted = text_of(answer)
+            yield Case("histories with helpers", [*with_helpers(count), "check", 0, 1, 2], texts, wanted, status_of(wanted))
+    for arguments in helpers.WRONG:
+        yield Case("command lines with helpers", arguments, [b""], b"", 2, complains=True)
 
 
 def main(arguments):

@@ -2,11 +2,12 @@
 #
 #     book.py book DECL ASSIGN ROWS EVENTS
 #     book.py check DECL ASSIGN HEX
+#     book.py helpers H ..
 #
-# It prints what `book` and `check` of `test_runtime` print. It was written from docs/FORMAT.md alone, "Histories" above all;
+# The last form is one of the others, with H helpers. It prints what `book` and `check` of `test_runtime` print. It was written from docs/FORMAT.md alone, "Histories" above all;
 # see plan.py for what such a model is. A book's state is here the replay of its rows and nothing
 # else: each call says what it answers and which row that appends, and the row alone changes the
-# state.
+# state. A context is a workqueue and the number of a helper, or RESCUER.
 
 import collections
 import dataclasses
@@ -17,12 +18,14 @@ sys.dont_write_bytecode = True
 import certificate  # noqa: E402  (beside this file)
 import declaration  # noqa: E402
 from declaration import Refused, split_lines, split_words  # noqa: E402
-from steps import State  # noqa: E402
+from steps import RESCUER, State  # noqa: E402
 
 # Limits
 ROW_LIMIT = 16_777_216
 LANE_LIMIT = 65_535
 NUMBER_LIMIT = 4_294_967_295
+HELPER_LIMIT = 8
+HELPER_WORD_LIMIT = 255
 ROW_BYTES = 12
 
 # The refusals of calls.
@@ -48,8 +51,10 @@ WITH_ITEM = EVENTS[:-2]
 ALWAYS_YES = ("start", "over", "finish", "told", "overall", "toldlane")
 STEPS = {"waitall": b"waitwq", "overall": b"overwq"}
 
-# The words of the calls, in EVENTS of the test program.
+# The words of the calls, in EVENTS of the test program; those of contexts may be a helper's, with HELP before them.
 CALLS = ("queue", "cancel", "start", "wait", "over", "finish", "ask", "told", "waitall", "asklane", "toldlane", "close")
+HELPED = ("start", "wait", "over", "finish", "waitall")
+HELP = "help"
 
 
 # Packed rows --------------------------------------------------------------------------------------
@@ -64,27 +69,30 @@ class Row:
     item: int  # of waits and their ends the target; 0 where the event names none
     lane: int  # the workqueue; 0 where the event names none
     number: int
+    helper: int = RESCUER  # RESCUER, too, where the event is of no context
 
 
 def packed(row):
     """Packed rows: the bytes of a row."""
     event = EVENTS.index(row.event) + 1
-    return struct.pack("<BBHHHI", event, row.yes, row.item, row.lane, 0, row.number)
+    return struct.pack("<BBHHBBI", event, row.yes, row.item, row.lane, row.helper, 0, row.number)
 
 
 def unpacked(piece):
     """The row of which the bytes are the packing, or None."""
     if len(piece) != ROW_BYTES:
         return None
-    event, yes, item, lane, zeros, number = struct.unpack("<BBHHHI", piece)
-    if not 1 <= event <= len(EVENTS) or yes > 1 or zeros != 0:
+    event, yes, item, lane, helper, zero, number = struct.unpack("<BBHHBBI", piece)
+    if not 1 <= event <= len(EVENTS) or yes > 1 or helper > HELPER_LIMIT or zero != 0:
         return None
     event = EVENTS[event - 1]
     if event in ALWAYS_YES and yes == 0:
         return None
     if event not in WITH_LANE and lane != 0 or event not in WITH_ITEM and item != 0:
         return None
-    return Row(event, yes == 1, item, lane, number)
+    if event not in OF_LANE and helper != 0:
+        return None
+    return Row(event, yes == 1, item, lane, number, helper)
 
 
 # Events and rows ----------------------------------------------------------------------------------
@@ -98,10 +106,10 @@ def step_of(event, lane, name):
 class Replay:
     """The state that rows leave, and how many asks of each item and of each workqueue wait."""
 
-    def __init__(self, declared, assignment):
+    def __init__(self, declared, assignment, helpers=0):
         self.declared = declared
         self.lanes = range(assignment.count)
-        self.state = State(declared, assignment)
+        self.state = State(declared, assignment, helpers)
         self.asks = collections.Counter()  # by name
         self.lane_asks = collections.Counter()  # by workqueue
 
@@ -122,14 +130,14 @@ class Replay:
     def is_busy_below(self, lane, number):
         return any(entry.number < number for entry in self.state.unfinished_on(lane))
 
-    def waiting(self, lane):
-        """The target of the wait by `flush` that lasts on the workqueue, or None."""
-        entry = self.state.running.get(lane)
+    def waiting(self, lane, helper=RESCUER):
+        """The target of the wait by `flush` that lasts in the context, or None."""
+        entry = self.state.running.get((lane, helper))
         return entry.target if entry is not None and entry.over == b"over" else None
 
-    def waiting_all(self, lane):
+    def waiting_all(self, lane, helper=RESCUER):
         """The same of a wait by `flushwq`."""
-        entry = self.state.running.get(lane)
+        entry = self.state.running.get((lane, helper))
         return entry.target if entry is not None and entry.over == b"overwq" else None
 
     def asks_waiting(self):
@@ -140,7 +148,7 @@ class Replay:
         """No entry is unfinished."""
         return not self.state.running and not self.state.pending_of
 
-    def standing(self, event, lane, item):
+    def standing(self, event, lane, item, helper=RESCUER):
         """The `yes` and the number that the row has if it may stand here; None if it may not.
 
         The number is None where any will do.
@@ -161,7 +169,7 @@ class Replay:
             return self.is_unfinished(name), state.next_number
         if event == "told":
             return (True, None) if self.asks[name] > 0 else None
-        if lane not in self.lanes or not state.may(step_of(event, lane, name)):
+        if lane not in self.lanes or not state.may(step_of(event, lane, name), helper):
             return None
         if event == "start":
             return True, entry.number
@@ -169,12 +177,12 @@ class Replay:
             return self.is_unfinished(name), state.next_number
         if event == "waitall":
             return self.is_busy(state.workqueue_of[name]), state.next_number
-        running = state.running[lane]
+        running = state.running[lane, helper]
         return True, running.number if event == "finish" else running.mark
 
     def may_stand(self, row):
         """The row may stand here, with the `yes` and the number of the table."""
-        stands = self.standing(row.event, row.lane, row.item)
+        stands = self.standing(row.event, row.lane, row.item, row.helper)
         if stands is None:
             return False
         if row.event == "told":
@@ -187,7 +195,7 @@ class Replay:
         """What it does. The row may stand here."""
         name = self.name(row.item)
         if row.event in OF_LANE:
-            self.state.make(step_of(row.event, row.lane, name))
+            self.state.make(step_of(row.event, row.lane, name), row.helper)
         elif row.event in ("queue", "cancel"):
             if row.yes:
                 self.state.make(step_of(row.event, None, name))
@@ -204,12 +212,12 @@ class Replay:
 # Judging a history --------------------------------------------------------------------------------
 
 
-def judge(declared, assignment, text):
+def judge(declared, assignment, text, helpers=0):
     """The first faulty row, counted from 1, with its fault; the number of rows and None if none is.
 
     The third is the replay of the rows before the faulty one, or of all.
     """
-    replay = Replay(declared, assignment)
+    replay = Replay(declared, assignment, helpers)
     pieces = [text[at:at + ROW_BYTES] for at in range(0, len(text), ROW_BYTES)]
     for number, piece in enumerate(pieces, start=1):
         row = unpacked(piece)
@@ -251,16 +259,16 @@ class LaneAsk:
 class Book:
     """The calls of a book. Each call but `make` changes nothing.
 
-    It returns the answer, and the row that is appended or None.
+    It returns the answer, and the row that is appended or None. Calls of a context are the rescuer's, or the helper's that is named.
     """
 
-    def __init__(self, declared, assignment, row_count):
+    def __init__(self, declared, assignment, row_count, helpers=0):
         if row_count > ROW_LIMIT:
             raise Refused(TOO_MANY_ROWS, 0)
         self.row_count = row_count
         self.rows = []
         self.closed = False
-        self.replay = Replay(declared, assignment)
+        self.replay = Replay(declared, assignment, helpers)
         self.declares = self.replay.state.targets  # by name, the targets of its flushes of both kinds
 
     # Rows kept free
@@ -285,11 +293,11 @@ class Book:
 
     # The calls
 
-    def row(self, event, yes, lane, item, number=None):
+    def row(self, event, yes, lane, item, number=None, helper=RESCUER):
         """The row that a call appends. It may stand here with this `yes`."""
-        stands = self.replay.standing(event, lane, item)
+        stands = self.replay.standing(event, lane, item, helper)
         assert stands is not None and stands[0] == yes
-        return Row(event, yes, item, lane, stands[1] if number is None else number)
+        return Row(event, yes, item, lane, stands[1] if number is None else number, helper)
 
     def queue(self, item):
         name = self.replay.name(item)
@@ -345,35 +353,46 @@ class Book:
             return "not yet", None
         return "done", self.row("toldlane", True, ask.lane, 0, ask.mark)
 
-    def wrong_lane(self, lane, waits):
-        """What is refused where the lane runs nothing, or its entry waits or doesn't."""
-        entry = self.replay.state.running.get(lane)
+    def no_context(self, lane, helper):
+        """What is refused where there is no such context."""
         if lane not in self.replay.lanes:
             return Refusal(WRONG_LANE, "no lane")
+        if (lane, helper) not in self.replay.state.contexts_of(lane):
+            return Refusal(WRONG_LANE, "ordered" if lane in self.replay.state.ordered else "no helper")
+        return None
+
+    def wrong_lane(self, lane, helper, waits):
+        """What is refused where the context runs nothing, or its entry waits or doesn't."""
+        entry = self.replay.state.running.get((lane, helper))
+        refusal = self.no_context(lane, helper)
+        if refusal is not None:
+            return refusal
         if entry is None:
             return Refusal(WRONG_LANE, "runs nothing")
         if (entry.target is not None) != waits:
             return Refusal(WRONG_LANE, "doesn't wait" if waits else "waits")
         return None
 
-    def start(self, lane):
+    def start(self, lane, helper=RESCUER):
         state = self.replay.state
-        if lane not in self.replay.lanes:
-            return Refusal(WRONG_LANE, "no lane"), None
-        if lane in state.running:
+        refusal = self.no_context(lane, helper)
+        if refusal is not None:
+            return refusal, None
+        if (lane, helper) in state.running:
             return Refusal(WRONG_LANE, "runs"), None
-        if not state.pending[lane]:
+        entry = state.first_to_start(lane)
+        if entry is None:
             return None, None
-        item = self.replay.declared.items.index(state.pending[lane][0].item)
-        return item, self.row("start", True, lane, item)
+        item = self.replay.declared.items.index(entry.item)
+        return item, self.row("start", True, lane, item, helper=helper)
 
-    def wait_by(self, event, lane, item):
+    def wait_by(self, event, lane, item, helper):
         """A wait of either kind."""
-        refusal = self.wrong_lane(lane, waits=False)
+        refusal = self.wrong_lane(lane, helper, waits=False)
         if refusal is not None:
             return refusal, None
         state, name = self.replay.state, self.replay.name(item)
-        entry = state.running[lane]
+        entry = state.running[lane, helper]
         word, _, _ = step_of(event, lane, name)
         if (word, name) not in state.declared[entry.item]:
             why = "no item" if name is None else "kind" if name in self.declares[entry.item] else "item"
@@ -381,46 +400,46 @@ class Book:
         if entry.waits == len(self.declares[entry.item]):
             return Refusal(TOO_MANY_WAITS), None
         waits = self.replay.is_unfinished(name) if event == "wait" else self.replay.is_busy(state.workqueue_of[name])
-        return waits, self.row(event, waits, lane, item)
+        return waits, self.row(event, waits, lane, item, helper=helper)
 
-    def wait(self, lane, item):
-        return self.wait_by("wait", lane, item)
+    def wait(self, lane, item, helper=RESCUER):
+        return self.wait_by("wait", lane, item, helper)
 
-    def waitall(self, lane, item):
-        return self.wait_by("waitall", lane, item)
+    def waitall(self, lane, item, helper=RESCUER):
+        return self.wait_by("waitall", lane, item, helper)
 
-    def over(self, lane):
-        refusal = self.wrong_lane(lane, waits=True)
+    def over(self, lane, helper=RESCUER):
+        refusal = self.wrong_lane(lane, helper, waits=True)
         if refusal is not None:
             return refusal, None
         state = self.replay.state
-        entry = state.running[lane]
+        entry = state.running[lane, helper]
         item = self.replay.declared.items.index(entry.target)
         if entry.over == STEPS["overall"]:
             if self.replay.is_busy_below(state.workqueue_of[entry.target], entry.mark):
                 return False, None
-            return True, self.row("overall", True, lane, item)
+            return True, self.row("overall", True, lane, item, helper=helper)
         if self.replay.is_unfinished_below(entry.target, entry.mark):
             return False, None
-        return True, self.row("over", True, lane, item)
+        return True, self.row("over", True, lane, item, helper=helper)
 
-    def finish(self, lane):
-        refusal = self.wrong_lane(lane, waits=False)
+    def finish(self, lane, helper=RESCUER):
+        refusal = self.wrong_lane(lane, helper, waits=False)
         if refusal is not None:
             return refusal, None
-        item = self.replay.declared.items.index(self.replay.state.running[lane].item)
-        return "ok", self.row("finish", True, lane, item)
+        item = self.replay.declared.items.index(self.replay.state.running[lane, helper].item)
+        return "ok", self.row("finish", True, lane, item, helper=helper)
 
     def close(self):
         return "ok", None
 
-    def look(self, word, *arguments):
-        """What the call would answer, and the row that it would append."""
-        return getattr(self, word)(*arguments)
+    def look(self, word, *arguments, **context):
+        """What the call would answer, and the row that it would append. The context is `helper=` where it isn't the rescuer's."""
+        return getattr(self, word)(*arguments, **context)
 
-    def make(self, word, *arguments):
+    def make(self, word, *arguments, **context):
         """Makes the call, and returns its answer."""
-        answer, row = self.look(word, *arguments)
+        answer, row = self.look(word, *arguments, **context)
         if row is not None:
             assert self.replay.may_stand(row)
             self.replay.append(row)
@@ -449,30 +468,40 @@ def number_of(word, most):
     return number
 
 
-def lane_words(replay, lane):
-    """What is shown of a workqueue: what runs, and what this one waits for."""
-    entry = replay.state.running.get(lane)
-    target, whole = replay.waiting(lane), replay.waiting_all(lane)
+def lane_words(replay, lane, helper=RESCUER):
+    """What is shown of a context: what runs, and what this one waits for."""
+    entry = replay.state.running.get((lane, helper))
+    target, whole = replay.waiting(lane, helper), replay.waiting_all(lane, helper)
     return [b"-" if entry is None else entry.item, target or (b"wq:" + whole if whole else b"-")]
 
 
 class Play:
     """The calls of EVENTS, made one after the other, and what is printed of them."""
 
-    def __init__(self, declared, assignment, row_count):
+    def __init__(self, declared, assignment, row_count, helpers=0):
         self.declared = declared
-        self.book = Book(declared, assignment, row_count)
+        self.helpers = helpers
+        self.book = Book(declared, assignment, row_count, helpers)
         self.item_number = {name: number for number, name in enumerate(declared.items)}
         # The asks that were handed out, by the word that hands them in; None once they are.
         self.asks = {"told": [], "toldlane": []}
         self.called = None  # the arguments of the last call
+        self.helper = RESCUER  # the helper that made it, if one did
         self.was_closed = False  # before the last call
 
     def item(self, word):
         return self.item_number.get(word, len(self.declared.items))
 
     def call_of(self, words):
-        """The call that a line asks for: its word, its arguments, and the K of a `told` or a `toldlane`."""
+        """The call that a line asks for: its word, its arguments, the K of a `told` or a `toldlane`, and its context: the helper,
+        by its name, if it is one's.
+        """
+        if words[0] == HELP.encode() and len(words) > 3:
+            word, arguments, *_ = self.call_of([words[1], words[2], *words[4:]])
+            if word not in HELPED:
+                raise Mistake
+            # Helpers are numbered from 1, so none has the number of the rescuer.
+            return word, arguments, None, {"helper": number_of(words[3], HELPER_WORD_LIMIT) or None}
         word, *further = words
         try:
             word = word.decode("ascii")
@@ -482,17 +511,17 @@ class Play:
         if word not in CALLS or len(further) != wanted:
             raise Mistake
         if word == "close":
-            return word, [], None
+            return word, [], None, {}
         if word in ("queue", "cancel", "ask"):
-            return word, [self.item(further[0])], None
+            return word, [self.item(further[0])], None, {}
         if word in self.asks:
             place = number_of(further[0], NUMBER_LIMIT)
             asks = self.asks[word]
             if place >= len(asks) or asks[place] is None:
                 raise Mistake
-            return word, [asks[place]], place
+            return word, [asks[place]], place, {}
         lane = number_of(further[0], LANE_LIMIT)
-        return word, [lane] + [self.item(name) for name in further[1:]], None
+        return word, [lane] + [self.item(name) for name in further[1:]], None, {}
 
     def answer_line(self, word, answer):
         """The words of an answer."""
@@ -513,21 +542,24 @@ class Play:
         words.append(b"idle" if replay.is_idle() else b"busy")
         words.append(b"closed" if self.book.closed else b"open")
         for lane in replay.lanes:
-            words += lane_words(replay, lane)
+            for helper in range(RESCUER, RESCUER + 1 + self.helpers):
+                words += lane_words(replay, lane, helper)
         return b" ".join(words)
 
     def make(self, words):
         """Makes the call that a line asks for. Returns its word, its answer, and its line."""
-        word, arguments, place = self.call_of(words)
+        word, arguments, place, context = self.call_of(words)
         self.called, self.was_closed = arguments, self.book.closed
-        answer = self.book.make(word, *arguments)
+        self.helper = context.get("helper", RESCUER)
+        answer = self.book.make(word, *arguments, **context)
         if isinstance(answer, Ask):
             self.asks["told"].append(answer)
         if isinstance(answer, LaneAsk):
             self.asks["toldlane"].append(answer)
         if place is not None and answer != "not yet":
             self.asks[word][place] = None
-        return word, answer, self.answer_line(word, answer) + b" " + self.state_line()
+        line = self.answer_line(word, answer) + b" " + self.state_line()
+        return f"{HELP} {word}" if context else word, answer, line
 
     def end_lines(self):
         """What is printed after the last line of EVENTS."""
@@ -554,7 +586,7 @@ def read_both(declaration_text, assignment_text):
     return declared, certificate.read_assignment(assignment_text, declared)
 
 
-def answer_book(declaration_text, assignment_text, row_count, events, note=None):
+def answer_book(declaration_text, assignment_text, row_count, events, note=None, helpers=0):
     """The bytes that are printed, and the exit status.
 
     `note` is told the word and the answer of each call, the free rows before it, and the play after
@@ -566,7 +598,7 @@ def answer_book(declaration_text, assignment_text, row_count, events, note=None)
     except Refused as refused:
         return refused.answer()
     try:
-        play = Play(declared, assignment, row_count)
+        play = Play(declared, assignment, row_count, helpers)
     except Refused as refused:
         note("refused 68")
         return b"refused %d\n" % refused.code, 2
@@ -601,7 +633,7 @@ def bytes_of(digits):
     return bytes.fromhex(digits.decode("ascii"))
 
 
-def answer_check(declaration_text, assignment_text, digits):
+def answer_check(declaration_text, assignment_text, digits, helpers=0):
     """The bytes that are printed, and the exit status."""
     try:
         declared, assignment = read_both(declaration_text, assignment_text)
@@ -611,7 +643,7 @@ def answer_check(declaration_text, assignment_text, digits):
         text = bytes_of(digits)
     except Mistake:
         return b"mistake\n", 2
-    at, fault, replay = judge(declared, assignment, text)
+    at, fault, replay = judge(declared, assignment, text, helpers)
     state = replay.state
     printed = [b"legal %d" % at if fault is None else b"refused %d at %d" % (fault, at)]
     printed.append(b"next %d" % state.next_number)
@@ -621,18 +653,35 @@ def answer_check(declaration_text, assignment_text, digits):
         names = [name for name in declared.items if name in pending]
         line = b"lane %d runs %s waits %s pending" % (lane, runs, waits)
         printed.append(b" ".join([line] + names))
+        for helper in range(RESCUER + 1, RESCUER + 1 + helpers):
+            runs, waits = lane_words(replay, lane, helper)
+            printed.append(b"lane %d helper %d runs %s waits %s" % (lane, helper, runs, waits))
     return ended(printed, 0 if fault is None else 1)
+
+
+def with_helpers(helpers, words):
+    """The words of a command line, with so many helpers."""
+    return words if helpers == 0 else ["helpers", str(helpers), *words]
+
+
+def without_helpers(words):
+    """How many helpers the words of a command line say, and what else they say."""
+    return (int(words[1]), words[2:]) if words[:1] == ["helpers"] else (0, words)
 
 
 def main(arguments):
     """Faults and exit statuses. Of the faults of the system only `fault read` is here."""
     try:
+        helpers = 0
+        if arguments[:1] == ["helpers"]:
+            _, helpers, *arguments = arguments
+            helpers = number_of(helpers.encode(), HELPER_LIMIT)
         command, *places = arguments
         if (command, len(places)) not in (("book", 4), ("check", 3)):
             raise Mistake
         row_count = number_of(places.pop(2).encode(), NUMBER_LIMIT) if command == "book" else None
     except (Mistake, ValueError):
-        usage = "usage: book.py book DECL ASSIGN ROWS EVENTS | check DECL ASSIGN HEX"
+        usage = "usage: book.py [helpers H] book DECL ASSIGN ROWS EVENTS | check DECL ASSIGN HEX"
         print(usage, file=sys.stderr)
         return 2
     try:
@@ -645,9 +694,9 @@ def main(arguments):
         print("fault read", file=sys.stderr)
         return 3
     if command == "book":
-        printed, status = answer_book(*texts[:2], row_count, texts[2])
+        printed, status = answer_book(*texts[:2], row_count, texts[2], helpers=helpers)
     else:
-        printed, status = answer_check(*texts)
+        printed, status = answer_check(*texts, helpers)
     sys.stdout.buffer.write(printed)
     return status
 

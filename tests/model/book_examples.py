@@ -111,6 +111,47 @@ TABLES = [
     ]),
 ]
 
+# The same with helpers, whose number comes first.
+THREE = ("item a / item b / item c", "wq 0 a b c")
+SHARED = ("item a / item b / ordered a b", "wq 0 a b")
+
+HELPED = [
+    (1, *THREE, 20, [
+        ("queue a", "true free 17 busy open - - - -", "010100000000000000000000"),
+        ("queue b", "true free 14 busy open - - - -", "010101000000000001000000"),
+        ("help start 0 1", "a free 14 busy open - - a -", "030100000000010000000000"),
+        ("queue a", "true free 11 busy open - - a -", "010100000000000002000000"),
+        ("start 0", "b free 11 busy open b - a -", "030101000000000001000000"),
+        ("help start 0 1", "refused 64 free 11 busy open b - a -", ""),
+        ("finish 0", "ok free 11 busy open - - a -", "060101000000000001000000"),
+        ("start 0", "none free 11 busy open - - a -", ""),
+        ("help start 0 2", "refused 64 free 11 busy open - - a -", ""),
+        ("help finish 0 1", "ok free 11 busy open - - - -", "060100000000010000000000"),
+        ("start 0", "a free 11 busy open a - - -", "030100000000000002000000"),
+        ("help start 0 1", "none free 11 busy open a - - -", ""),
+        ("finish 0", "ok free 11 idle open - - - -", "060100000000000002000000"),
+    ]),
+    (1, *SHARED, 20, [
+        ("queue a", "true free 17 busy open - - - -", "010100000000000000000000"),
+        ("help start 0 1", "refused 64 free 17 busy open - - - -", ""),
+        ("start 0", "a free 17 busy open a - - -", "030100000000000000000000"),
+    ]),
+    (2, *WHOLE, 20, [
+        ("queue c", "true free 17 busy open - - - - - - - - - - - -", "010102000000000000000000"),
+        ("queue a", "true free 12 busy open - - - - - - - - - - - -", "010100000000000001000000"),
+        ("help start 0 2", "c free 12 busy open - - - - c - - - - - - -", "030102000000020000000000"),
+        ("help start 1 1", "a free 12 busy open - - - - c - - - a - - -", "030100000100010001000000"),
+        ("help waitall 1 1 b", "true free 12 busy open - - - - c - - - a wq:b - -", "090101000100010002000000"),
+        ("queue c", "true free 9 busy open - - - - c - - - a wq:b - -", "010102000000000002000000"),
+        ("start 0", "none free 9 busy open - - - - c - - - a wq:b - -", ""),
+        ("help over 1 1", "false free 9 busy open - - - - c - - - a wq:b - -", ""),
+        ("help finish 0 2", "ok free 9 busy open - - - - - - - - a wq:b - -", "060102000000020000000000"),
+        ("help over 1 1", "true free 9 busy open - - - - - - - - a - - -", "0a0101000100010002000000"),
+        ("help finish 1 1", "ok free 9 busy open - - - - - - - - - - - -", "060100000100010001000000"),
+        ("over 1", "refused 64 free 9 busy open - - - - - - - - - - - -", ""),
+    ]),
+]
+
 # Judged histories: the declaration, the assignment, the bytes in hexadecimal, and what is printed.
 FIVE = [
     "010100000000000000000000", "030100000100000000000000", "040001000100000001000000",
@@ -151,29 +192,56 @@ JUDGED = [
 ]
 
 
+# The same with one helper: the rows of the first four make a state, and the others come behind them.
+HELPED_ROWS = [
+    "010100000000000000000000", "010101000000000001000000", "030101000000010001000000", "010101000000000002000000",
+    "030100000000000000000000", "060100000000000000000000", "060101000000010001000000", "030101000000000002000000",
+]
+RUN_APART = "lane 0 helper 1 runs b waits -"
+
+HELPED_JUDGED = [
+    (1, *THREE, "".join(HELPED_ROWS),
+     "legal 8 / next 3 / lane 0 runs b waits - pending / lane 0 helper 1 runs - waits -"),
+    (1, *THREE, "".join(HELPED_ROWS[:3]), f"legal 3 / next 2 / lane 0 runs - waits - pending a / {RUN_APART}"),
+    (0, *THREE, "".join(HELPED_ROWS[:3]), "refused 76 at 3 / next 2 / lane 0 runs - waits - pending a b"),
+    (1, *THREE, "".join(HELPED_ROWS[:4]) + "030101000000000002000000",
+     f"refused 76 at 5 / next 3 / lane 0 runs - waits - pending a b / {RUN_APART}"),
+    (1, *THREE, "".join(HELPED_ROWS[:6]) + "030101000000000002000000",
+     f"refused 76 at 7 / next 3 / lane 0 runs - waits - pending b / {RUN_APART}"),
+    (1, *THREE, "".join(HELPED_ROWS[:2]) + "030101000000020001000000",
+     "refused 76 at 3 / next 2 / lane 0 runs - waits - pending a b / lane 0 helper 1 runs - waits -"),
+    (1, *THREE, "".join(HELPED_ROWS[:2]) + "030101000000090001000000",
+     "refused 75 at 3 / next 2 / lane 0 runs - waits - pending a b / lane 0 helper 1 runs - waits -"),
+    (1, *SHARED, "010100000000000000000000 030100000000010000000000",
+     "refused 76 at 2 / next 1 / lane 0 runs - waits - pending a / lane 0 helper 1 runs - waits -"),
+]
+
+
 def cases():
     """What each example is, the words of the command line, and what is printed, with the status.
 
     Among the words are the files as bytes.
     """
-    for number, (declared, assigned, row_count, lines) in enumerate(TABLES, start=1):
+    tables = [(0, *table) for table in TABLES] + HELPED
+    for number, (helpers, declared, assigned, row_count, lines) in enumerate(tables, start=1):
         rows = [row for _, _, row in lines if row]
         printed = [line for _, line, _ in lines] + [f"rows {len(rows)}"] + rows
         events = text(" / ".join(line for line, _, _ in lines))
         words = ["book", text(declared), text(assigned), str(row_count), events]
-        yield f"the worked history {number}", words, (text(" / ".join(printed)), 0)
-    for number, (declared, assigned, digits, printed) in enumerate(JUDGED, start=1):
+        yield f"the worked history {number}", book.with_helpers(helpers, words), (text(" / ".join(printed)), 0)
+    judged = [(0, *history) for history in JUDGED] + HELPED_JUDGED
+    for number, (helpers, declared, assigned, digits, printed) in enumerate(judged, start=1):
         words = ["check", text(declared), text(assigned), digits.encode()]
         status = 0 if printed.startswith("legal") else 1
-        yield f"the judged history {number}", words, (text(printed), status)
+        yield f"the judged history {number}", book.with_helpers(helpers, words), (text(printed), status)
 
 
 def model_answer(words):
     """What the model prints, and its status. The words have one of the forms of the page."""
-    command, *further = words
+    helpers, (command, *further) = book.without_helpers(words)
     if command == "book":
-        return book.answer_book(*further[:2], int(further[2]), further[3])
-    return book.answer_check(*further)
+        return book.answer_book(*further[:2], int(further[2]), further[3], helpers=helpers)
+    return book.answer_check(*further, helpers)
 
 
 def failures():

@@ -9,8 +9,11 @@
 # - The same in longer walks over larger declarations, where one random way is tried.
 # - The free rows are counted again, from the rows alone.
 # - The judge says of the rows of a book that they are legal, and finds the state of the book.
-# - Of each event, workqueue and item at most one row may stand, but for Told and ToldLane rows: of
+# - Of each event, context and item at most one row may stand, but for Told and ToldLane rows: of
 #   those each up to a number, if any.
+# - No item runs in two contexts at once.
+# - A book without a call of a helper answers the same whatever the number of its helpers.
+# All of this is done of books without helpers and of books with some.
 #
 # The steps are those of a second model, which is here and knows nothing of the one in steps.py.
 
@@ -21,9 +24,10 @@ import sys
 sys.dont_write_bytecode = True
 import book  # noqa: E402  (beside this file)
 import make_books  # noqa: E402
-from book import EVENTS, WITH_ITEM, WITH_LANE, Row, packed, unpacked  # noqa: E402
+from book import EVENTS, OF_LANE, WITH_ITEM, WITH_LANE, Row, packed, unpacked  # noqa: E402
 from command_line import seed_and_counts  # noqa: E402
 from deadlock import circle_of  # noqa: E402
+from steps import RESCUER  # noqa: E402
 
 DEFAULT_SEED = "1"
 DEFAULT_DECLARATIONS = 60
@@ -38,8 +42,9 @@ class TooMany(Exception):
 class Ways:
     """The ways on from a state: a state is (pending, running, asks), all tuples.
 
-    `pending` has for each lane the pairs of item and number in order, `running` for each lane None
-    or (item, number, waits, target, mark), and `asks` the pairs of whom they are about and mark.
+    `pending` has for each lane the pairs of item and number in order, `running` for each lane what
+    its contexts run, the rescuer first: None or (item, number, waits, target, mark). `asks` has the
+    pairs of whom they are about and mark.
     A target is a pair of its kind, whether a whole lane is waited for, and the item; and so is whom an
     ask is about, with the lane in the place of the item. Items are numbers here. Nothing is queued on
     these ways, so the next number stays as it is.
@@ -60,30 +65,33 @@ class Ways:
         """An entry of the item with a number below this one is pending or runs."""
         pending, running, _ = state
         return any(other == item and number < below for part in pending for other, number in part) \
-            or any(entry and entry[0] == item and entry[1] < below for entry in running)
+            or any(entry and entry[0] == item and entry[1] < below for contexts in running for entry in contexts)
 
     def finds_on(self, state, lane, below):
         """An entry of any item on the lane."""
         pending, running, _ = state
         return any(number < below for _, number in pending[lane]) \
-            or running[lane] is not None and running[lane][1] < below
+            or any(entry and entry[1] < below for entry in running[lane])
 
     def holds_back(self, state, target, mark):
         """Something is unfinished that this wait is for."""
         whole, item = target
         return self.finds_on(state, self.lane_of[item], mark) if whole else self.finds(state, item, mark)
 
-    def lane_ways(self, state, lane):
+    def context_ways(self, state, lane, context):
         pending, running, asks = state
-        entry = running[lane]
+        entry = running[lane][context]
 
         def runs(changed):
-            return running[:lane] + (changed,) + running[lane + 1:]
+            contexts = running[lane][:context] + (changed,) + running[lane][context + 1:]
+            return running[:lane] + (contexts,) + running[lane + 1:]
 
         if entry is None:
-            if pending[lane]:
-                item, number = pending[lane][0]
-                rest = pending[:lane] + (pending[lane][1:],) + pending[lane + 1:]
+            busy = {other[0] for other in running[lane] if other}
+            able = [at for at, (item, _) in enumerate(pending[lane]) if item not in busy]
+            for at in able if context else able[:1]:
+                item, number = pending[lane][at]
+                rest = pending[:lane] + (pending[lane][:at] + pending[lane][at + 1:],) + pending[lane + 1:]
                 yield rest, runs((item, number, 0, None, None)), asks
             return
         item, number, waits, target, mark = entry
@@ -100,7 +108,8 @@ class Ways:
         """The states one row later."""
         pending, running, asks = state
         for lane in self.lanes:
-            yield from self.lane_ways(state, lane)
+            for context in range(len(running[lane])):
+                yield from self.context_ways(state, lane, context)
             for at in range(len(pending[lane])):
                 rest = pending[lane][:at] + pending[lane][at + 1:]
                 yield pending[:lane] + (rest,) + pending[lane + 1:], running, asks
@@ -135,12 +144,15 @@ def state_of(play):
     )
     running = []
     for lane in replay.lanes:
-        entry = replay.state.running.get(lane)
-        if entry is None:
-            running.append(None)
-            continue
-        target = None if entry.target is None else (entry.over == b"overwq", number[entry.target])
-        running.append((number[entry.item], entry.number, entry.waits, target, entry.mark))
+        contexts = []
+        for context in replay.state.contexts_of(lane):
+            entry = replay.state.running.get(context)
+            if entry is None:
+                contexts.append(None)
+                continue
+            target = None if entry.target is None else (entry.over == b"overwq", number[entry.target])
+            contexts.append((number[entry.item], entry.number, entry.waits, target, entry.mark))
+        running.append(tuple(contexts))
     asks = [((False, number[ask.name]), ask.mark) for ask in play.asks["told"] if ask is not None]
     asks += [((True, ask.lane), ask.mark) for ask in play.asks["toldlane"] if ask is not None]
     return pending, tuple(running), tuple(sorted(asks))
@@ -156,10 +168,10 @@ def kept_by_rows(declared, rows):
         elif row.event == "cancel" and row.yes:
             del left[row.number]
         elif row.event == "start":
-            runs[row.lane] = row.number
+            runs[row.lane, row.helper] = row.number
             left[row.number] -= 1
         elif row.event in ("wait", "over", "waitall", "overall"):
-            left[runs[row.lane]] -= 1
+            left[runs[row.lane, row.helper]] -= 1
         elif row.event == "finish":
             del left[row.number]
         elif row.event in ("ask", "asklane"):
@@ -185,22 +197,44 @@ def look_at_rows(play, declared, assignment):
     made = play.book
     demand(made.kept() == kept_by_rows(declared, made.rows), "the rows kept free")
     text = b"".join(map(packed, made.rows))
-    at, fault, replay = book.judge(declared, assignment, text)
+    at, fault, replay = book.judge(declared, assignment, text, play.helpers)
     demand((at, fault) == (len(made.rows), None), "the rows of a book are legal")
     demand((replay.asks, replay.lane_asks) == (made.replay.asks, made.replay.lane_asks), "the asks that wait")
     demand(parts_of(replay.state) == parts_of(made.replay.state), "the state is that of the rows")
     for row in made.rows:
         demand(unpacked(packed(row)) == row, "what is packed is unpacked")
+    running = [entry.item for entry in made.replay.state.running.values()]
+    demand(len(set(running)) == len(running), "no item runs in two contexts")
+    demand(set(running) == set(made.replay.state.running_of), "what runs is known by item, too")
+    look_at_helpers(play, declared, assignment)
+
+
+def look_at_helpers(play, declared, assignment):
+    """The rows up to the first one of a helper are legal, and leave the same, with any number of helpers."""
+    rows = play.book.rows
+    first = next((at for at, row in enumerate(rows) if row.helper != RESCUER), len(rows))
+    text = b"".join(map(packed, rows[:first]))
+    ends = [book.judge(declared, assignment, text, helpers) for helpers in (0, 1, 8)]
+    for at, fault, replay in ends:
+        demand((at, fault) == (first, None), "they are legal with any number of helpers")
+        demand(parts_of(replay.state) == parts_of(ends[0][2].state), "they leave the same with any number of helpers")
+        demand(replay.state.is_stuck() == ends[0][2].state.is_stuck(), "they end stuck with any number of helpers or with none")
+
+
+def contexts_of(play, event, assignment):
+    """The contexts that a row of this event may name, and some that it may not."""
+    lanes = range(assignment.count + 1) if event in WITH_LANE else [0]
+    return [(lane, helper) for lane in lanes for helper in (range(play.helpers + 2) if event in OF_LANE else [RESCUER])]
 
 
 def look_at_standing(play, declared, assignment):
-    """At most one row of each event, workqueue and item may stand, but for Told and ToldLane rows."""
+    """At most one row of each event, context and item may stand, but for Told and ToldLane rows."""
     replay = play.book.replay
     most = replay.state.next_number + 2
     for event in EVENTS:
         for item in range(len(declared.items) + 1) if event in WITH_ITEM else [0]:
-            for lane in range(assignment.count + 1) if event in WITH_LANE else [0]:
-                rows = [Row(event, yes, item, lane, number)
+            for lane, helper in contexts_of(play, event, assignment):
+                rows = [Row(event, yes, item, lane, number, helper)
                         for yes in (True, False) for number in range(most)]
                 stand = [row for row in rows if replay.may_stand(row)]
                 if event in ("told", "toldlane"):
@@ -242,7 +276,8 @@ def look_at_small(seed, number):
     choose = random.Random(f"{seed} small book {number}")
     declared, assignment = small_case(choose)
     is_safe = not circle_of(declared, assignment)
-    walk = make_books.Walk(choose, declared, assignment, choose.choice([5, 9, 14, 20, 30, 60]))
+    row_count, helpers = choose.choice([5, 9, 14, 20, 30, 60]), choose.choice([0, 0, 1, 2])
+    walk = make_books.Walk(choose, declared, assignment, row_count, helpers)
     looked = 0
     for count in range(1, 41):
         walk.make_calls(count)
@@ -258,7 +293,8 @@ def look_at_walk(seed, number):
     choose = random.Random(f"{seed} book walk {number}")
     _, declared = make_books.make_declaration(choose)
     _, assignment = make_books.make_assignment(choose, declared)
-    walk = make_books.Walk(choose, declared, assignment, choose.choice([20, 50, 100, 400]))
+    row_count, helpers = choose.choice([20, 50, 100, 400]), choose.choice([0, 1, 3, 8])
+    walk = make_books.Walk(choose, declared, assignment, row_count, helpers)
     for count in range(20, 201, 20):
         walk.make_calls(count)
         ways = Ways(declared, assignment, walk.play.book.replay.state.next_number)

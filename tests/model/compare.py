@@ -149,6 +149,9 @@ COMMANDS = {
     ),
 }
 
+# The words behind DECL of the cases of `run`, in turn. They change no answer.
+HELPERS = [[], ["2"], ["8"], ["0"], ["1"], ["5"]]
+
 # Each random case of `run` makes threads, so there is one for so many of the other commands.
 CASES_FOR_A_RUN = 5
 
@@ -174,6 +177,11 @@ def kind_of(command, answer):
     return None
 
 
+def words_behind(command, number):
+    """The words of the command line behind the files, in the case of this number."""
+    return HELPERS[number % len(HELPERS)] if command == "run" else []
+
+
 def ask(program, command, texts, folder, number):
     """The program's answer, what it prints to standard error, and whether that belongs to the answer."""
     places, given = [], None
@@ -185,7 +193,8 @@ def ask(program, command, texts, folder, number):
             with open(places[-1], "wb") as file:
                 file.write(text)
     try:
-        ended = time_limit.run([program, command, *places], input=given, capture_output=True)
+        words = [*places, *words_behind(command, number)]
+        ended = time_limit.run([program, command, *words], input=given, capture_output=True)
         files = meant(ended.stdout, [os.fsencode(place) for place in places] or [STDIN])
         is_right = belongs(ended.stdout, ended.stderr, files)
         return (ended.stdout, ended.returncode), ended.stderr, is_right
@@ -275,6 +284,8 @@ def show_difference(seed, number, difference, folder):
     print(f"FAILED  {command}, {difference.what} (seed {seed})")
     for name, text in zip(COMMANDS[command][3], difference.texts):
         print(f"    {name}: {show_bytes(text, folder, f'{command}{number}.{name}')}")
+    for word in words_behind(command, number):
+        print(f"    and behind it: {word}")
     printed, status = difference.wanted
     place = show_bytes(printed, folder, f"{command}{number}.wanted")
     print(f"    wanted:  status {status}, {place}")

@@ -12,7 +12,7 @@ import declaration  # noqa: E402
 from circle import arcs_of, find_circle  # noqa: E402
 from command_line import answer_texts  # noqa: E402
 from declaration import Refused  # noqa: E402
-from steps import State  # noqa: E402
+from steps import RESCUER, State  # noqa: E402
 
 
 def circle_of(declared, assignment):
@@ -29,7 +29,7 @@ def queued_first(declared, circle):
 
 def step_as_declared(state, workqueue):
     """Deadlocking runs, 3: the step that the workqueue can make as declared, or None."""
-    entry = state.running.get(workqueue)
+    entry = state.running.get((workqueue, RESCUER))
     if entry is None:
         pending = state.pending[workqueue]
         return (b"start", workqueue, pending[0].item) if pending else None
@@ -62,8 +62,8 @@ def deadlocking_run(declared, assignment):
         workqueue = heapq.heappop(able)
         step = step_as_declared(state, workqueue)
         if step is None:
-            if workqueue in state.running:
-                entry = state.running[workqueue]
+            if (workqueue, RESCUER) in state.running:
+                entry = state.running[workqueue, RESCUER]
                 waiting[state.waited_for(entry.over, entry.target)[-1].item].append(workqueue)
             continue
         state.make(step)

@@ -29,6 +29,7 @@ import make_books  # noqa: E402
 import time_limit  # noqa: E402  (in the folder above)
 from command_line import seed_and_counts  # noqa: E402
 from make_books import kind_of  # noqa: E402
+from steps import RESCUER  # noqa: E402
 
 DEFAULT_SEED = "1"
 DEFAULT_SEQUENCES = 1_000
@@ -36,12 +37,16 @@ DEFAULT_HISTORIES = 1_500
 WORKERS = 3
 LINES_SHOWN = 12
 
-# How often each kind of answer comes at least in 2,000 cases: of the calls and of the judge; of the
-# causes for which it refuses; and in how many different rows each of its faults is met.
-FEWEST_IN_2000 = 50
+# How often each kind of answer comes at least in 2,000 cases: of the calls and of the judge, and of
+# calls of helpers; of the causes for which it refuses, and those in rows of helpers; and in how many
+# different rows each of its faults is met.
+FEWEST_IN_2000 = 30
+FEWEST_OF_HELPERS_IN_2000 = 12
 FEWEST_CAUSES_IN_2000 = 5
+FEWEST_CAUSES_OF_HELPERS_IN_2000 = 1  # so that the rarest may be missing in fewer histories
 FEWEST_PLACES_IN_2000 = 30
 
+OF_CONTEXTS = ("start", "wait", "over", "finish", "waitall", "overall")
 JUDGED = ["legal", "75", "76", "mistake", "legal (unchanged)", "legal (told others)",
           "legal (packable)", "legal (any bytes)"]
 CAUSES = [f"76 {event}: {why}" for event, whys in (
@@ -58,6 +63,7 @@ CAUSES = [f"76 {event}: {why}" for event, whys in (
     ("asklane", ["may not stand", "yes", "number"]),
     ("toldlane", ["may not stand", "number"]),
 ) for why in whys]
+CAUSES += [cause.replace("76 ", "76 help ") for cause in CAUSES if cause.split()[1][:-1] in OF_CONTEXTS]
 
 
 @dataclasses.dataclass
@@ -92,6 +98,7 @@ class Kinds:
         kind = kind_of(word, answer)
         self.counts[kind] += 1
         remarks = refusal_remarks if isinstance(answer, book.Refusal) else answer_remarks
+        remarks = helper_remarks if kind.startswith("help ") else remarks
         for remark, holds in remarks(kind, free, play):
             if holds:
                 self.counts[f"{kind} ({remark})"] += 1
@@ -113,13 +120,32 @@ def refusal_remarks(kind, free, play):
         return [("closed", made.closed)]
     if kind in ("wait 62 item", "waitall 62 item"):
         state = made.replay.state
-        entry = state.running[play.called[0]]
+        entry = state.running[play.called[0], RESCUER]
         left = len(made.declares[entry.item]) - entry.waits
         others = {state.workqueue_of[target] for word, target in state.declared[entry.item] if word == b"waitwq"}
         remarks = [("no wait is left", left == 0), ("a wait is left", left > 0)]
         return remarks + [("its workqueue is declared", state.workqueue_of[name] in others)] * (kind[:7] == "waitall")
     if kind in ("wait 63", "waitall 63"):
         return [("waits of both kinds were made", {"wait", "waitall"} <= set(waits_of(made.rows, play.called[0])))]
+    return []
+
+
+def helper_remarks(kind, free, play):
+    """The same of a helper's call."""
+    state = play.book.replay.state
+    if kind == "help start none":
+        return [("something is pending", state.pending[play.called[0]] != [])]
+    if kind == "help over false":
+        return [("of a workqueue", state.running[play.called[0], play.helper].over == b"overwq")]
+    full, row = ("no row was free", free == 0), play.book.rows[-1] if play.book.rows else None
+    if kind == "help start item":
+        others = [context for context in state.contexts_of(row.lane) if context != (row.lane, row.helper)]
+        return [full, ("another context runs", any(context in state.running for context in others)),
+                ("not the first entry", any(entry.number < row.number for entry in state.pending[row.lane]))]
+    if kind == "help over true":
+        return [full, ("of a workqueue", row.event == "overall")]
+    if kind == "help finish ok":
+        return [full, ("it is pending", play.book.replay.name(row.item) in state.pending_of)]
     return []
 
 
@@ -130,7 +156,7 @@ def answer_remarks(kind, free, play):
     if kind == "close ok":
         return [("closed", play.was_closed)]
     if kind == "over false":
-        entry = state.running[play.called[0]]
+        entry = state.running[play.called[0], RESCUER]
         pending = state.pending_of.get(entry.target)
         whole = entry.over == b"overwq"
         return [("its target is pending", not whole and pending is not None and pending.number < entry.mark),
@@ -140,7 +166,9 @@ def answer_remarks(kind, free, play):
         ask = play.called[0]
         left = [entry for entry in state.unfinished_on(ask.lane) if entry.number < ask.mark]
         return [("one entry is left", len(left) == 1)]
-    if kind in ("start none", "told not yet"):
+    if kind == "start none":
+        return [("something is pending", state.pending[play.called[0]] != [])]
+    if kind == "told not yet":
         return []
     full, last = ("no row was free", free == 0), ("it was the last free row", free == 1)
     filled = ("no row is free then", play.book.free() == 0)
@@ -149,14 +177,14 @@ def answer_remarks(kind, free, play):
         return {
             "asklane idle": [last],
             "asklane waiting": [filled, ("nothing is pending", not state.pending[lane]),
-                                ("nothing runs", lane not in state.running)],
+                                ("nothing runs", not any(context in state.running for context in state.contexts_of(lane)))],
             "toldlane done": [full, ("its workqueue is busy", replay.is_busy(lane)),
                               ("another ask of it waits", replay.lane_asks[lane] > 0)],
         }[kind]
 
     name = replay.name(rows[-1].item)  # of the row that the call appended
-    entry = state.running.get(state.workqueue_of[name])
-    runs = entry is not None and entry.item == name
+    entry = state.running_of.get(name)
+    runs = entry is not None
     whole = rows[-1].event in ("waitall", "overall")
     busy = replay.is_busy(state.workqueue_of[name])
     if kind == "finish ok":
@@ -172,8 +200,8 @@ def answer_remarks(kind, free, play):
         "ask waiting": [filled],
         "told done": [full, ("its item is unfinished", replay.is_unfinished(name)),
                       ("another ask of it waits", replay.asks[name] > 0)],
-        "start item": [full],
-        "wait true": [full, ("for itself", runs and entry is state.running.get(rows[-1].lane))],
+        "start item": [full, ("not the first entry", any(other.number < rows[-1].number for other in state.pending[rows[-1].lane]))],
+        "wait true": [full, ("for itself", runs and entry is state.running.get((rows[-1].lane, RESCUER)))],
         "waitall true": [full, ("for its own workqueue", state.workqueue_of[name] == rows[-1].lane),
                          ("its target is idle", not replay.is_unfinished(name))],
         "over true": [full, ("its target is unfinished", not whole and replay.is_unfinished(name)),
@@ -182,32 +210,32 @@ def answer_remarks(kind, free, play):
 
 
 def waits_of(rows, lane):
-    """The waits of the entry that runs on the workqueue behind these rows, last first."""
+    """The waits of the entry that the rescuer of the workqueue runs behind these rows, last first."""
     waits = []
     for row in reversed(rows):
-        if row.event == "start" and row.lane == lane:
+        if (row.event, row.lane, row.helper) == ("start", lane, RESCUER):
             break
-        if row.event in ("wait", "waitall") and row.lane == lane:
+        if row.event in ("wait", "waitall") and (row.lane, row.helper) == (lane, RESCUER):
             waits.append(row.event)
     return waits
 
 
-def judged_kinds(words, made):
+def judged_kinds(words, made, helpers):
     """The kinds of a judged history's answer, and the place of its fault or 0."""
     declared, assignment = book.read_both(*words[1:3])
     try:
         text = book.bytes_of(words[3])
     except book.Mistake:
         return ["mistake"], 0
-    at, fault, replay = book.judge(declared, assignment, text)
+    at, fault, replay = book.judge(declared, assignment, text, helpers)
     if fault is None:
         return ["legal", f"legal ({made})"], 0
     if fault == book.BAD_ROW:
         return ["75"], at
     row = book.unpacked(text[book.ROW_BYTES * (at - 1):book.ROW_BYTES * at])
-    stands = replay.standing(row.event, row.lane, row.item)
+    stands = replay.standing(row.event, row.lane, row.item, row.helper)
     why = "may not stand" if stands is None else "yes" if stands[0] != row.yes else "number"
-    return ["76", f"76 {row.event}: {why}"], at
+    return ["76", f"76 {'' if row.helper == RESCUER else 'help '}{row.event}: {why}"], at
 
 
 # The cases ----------------------------------------------------------------------------------------
@@ -245,11 +273,13 @@ def random_case(seed, number, sequences):
     place = None
     if number < sequences:
         words = make_books.random_book_case(seed, number)
-        answer = book.answer_book(*words[1:3], int(words[3]), words[4], kinds.note)
+        helpers, (_, *texts, row_count, events) = book.without_helpers(words)
+        answer = book.answer_book(*texts, int(row_count), events, kinds.note, helpers)
     else:
         words, made = make_books.random_check_case(seed, number - sequences)
-        answer = book.answer_check(*words[1:])
-        names, at = judged_kinds(words, made)
+        helpers, plain = book.without_helpers(words)
+        answer = book.answer_check(*plain[1:], helpers)
+        names, at = judged_kinds(plain, made, helpers)
         kinds.counts.update(f"judged {name}" for name in names)
         place = (names[0], at)
     return Case(f"case {number}", words, *answer), kinds.counts, place
@@ -264,12 +294,13 @@ NAMES = {"book": ["declaration", "assignment", None, "events"],
 def write_files(case, folder):
     """The words of the command line, with the names of the files, which are written."""
     words = []
-    for number, word in enumerate(case.words):
+    first = 2 if case.words[:1] == ["helpers"] else 0
+    for number, word in enumerate(case.words, start=-first):
         if isinstance(word, str):
             words.append(word)
             continue
-        names = NAMES.get(case.words[0], [])
-        name = names[number - 1] if number - 1 < len(names) and names[number - 1] else "file"
+        names = NAMES.get(case.words[first], []) if first < len(case.words) else []
+        name = names[number - 1] if 0 < number <= len(names) and names[number - 1] else "file"
         words.append(os.path.join(folder, f"{number}.{name}"))
         if word is None:
             words[-1] = os.path.join(folder, "there_is_none")
@@ -400,10 +431,14 @@ def compare_all(program, seed, count, sequences):
 
 def floors_of(sequences, histories):
     """How often each kind must come at least."""
-    floors = {kind: FEWEST_IN_2000 * sequences // 2_000 for kind in make_books.KINDS}
+    floors = {}
+    for kind in make_books.KINDS:
+        fewest = FEWEST_OF_HELPERS_IN_2000 if kind.startswith("help ") else FEWEST_IN_2000
+        floors[kind] = fewest * sequences // 2_000
     floors |= {f"judged {kind}": FEWEST_IN_2000 * histories // 2_000 for kind in JUDGED}
-    rarer = CAUSES + ["mistake", "legal (any bytes)"]
-    floors |= {f"judged {kind}": FEWEST_CAUSES_IN_2000 * histories // 2_000 for kind in rarer}
+    for kind in CAUSES + ["mistake", "legal (any bytes)"]:
+        fewest = FEWEST_CAUSES_OF_HELPERS_IN_2000 if kind.startswith("76 help ") else FEWEST_CAUSES_IN_2000
+        floors[f"judged {kind}"] = fewest * histories // 2_000
     return floors
 
 

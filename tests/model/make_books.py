@@ -7,7 +7,8 @@ import random
 
 import book
 from book import (
-    EVENTS, LANE_LIMIT, NUMBER_LIMIT, OF_LANE, ROW_BYTES, ROW_LIMIT, WITH_ITEM, WITH_LANE, Ask, LaneAsk, Row, packed,
+    EVENTS, HELPED, HELPER_LIMIT, HELPER_WORD_LIMIT, LANE_LIMIT, NUMBER_LIMIT, OF_LANE, ROW_BYTES, ROW_LIMIT, WITH_ITEM,
+    WITH_LANE, Ask, LaneAsk, Row, packed, with_helpers,
 )
 from certificate import LINE_LIMIT, TEXT_LIMIT
 from declaration import read_declaration
@@ -16,6 +17,7 @@ from make_certificates import (
     any_assignment, assignment_of, own_assignment, plan_lines, wq_lines,
 )
 from make_declarations import Line, flush_lines, join, make_lines, numbered_items, spell
+from steps import RESCUER
 
 FEWEST_CALLS = 200
 
@@ -75,8 +77,8 @@ def kind_of(word, answer):
         return f"{word} {answer.code}" + (f" {answer.why}" if answer.why else "")
     if isinstance(answer, (Ask, LaneAsk)):
         return f"{word} waiting"
-    if word == "start":
-        return "start none" if answer is None else "start item"
+    if word.split()[-1] == "start":
+        return f"{word} {'none' if answer is None else 'item'}"
     if isinstance(answer, bool):
         return f"{word} {'true' if answer else 'false'}"
     return f"{word} {answer}"
@@ -100,7 +102,8 @@ KINDS = [
     "asklane 60 idle", "asklane 60 waiting", "asklane 60 waiting (one row too few)", "asklane 64",
     "toldlane done", "toldlane done (no row was free)", "toldlane done (its workqueue is busy)",
     "toldlane done (another ask of it waits)", "toldlane not yet", "toldlane not yet (one entry is left)",
-    "start item", "start item (no row was free)", "start none", "start 64 no lane", "start 64 runs",
+    "start item", "start item (no row was free)", "start item (not the first entry)", "start none",
+    "start none (something is pending)", "start 64 no lane", "start 64 runs",
     "wait true", "wait false", "wait true (no row was free)", "wait true (for itself)",
     "wait 62 item", "wait 62 no item", "wait 62 item (no wait is left)",
     "wait 62 item (a wait is left)", "wait 62 kind", "wait 63", "wait 63 (waits of both kinds were made)",
@@ -119,7 +122,18 @@ KINDS = [
     "finish ok", "finish ok (no row was free)", "finish ok (waits were left)",
     "finish ok (it is pending)", "finish 64 no lane", "finish 64 runs nothing", "finish 64 waits",
     "close ok", "close ok (closed)", "refused 68", "mistake",
-]
+    # Calls of helpers.
+    "help start item", "help start item (no row was free)", "help start item (another context runs)",
+    "help start item (not the first entry)", "help start none", "help start none (something is pending)", "help start 64 runs",
+    "help wait true", "help wait false", "help wait 62 item", "help wait 62 no item",
+    "help wait 62 kind", "help wait 63", "help wait 64 waits",
+    "help waitall true", "help waitall false", "help waitall 62 item",
+    "help waitall 62 no item", "help waitall 62 kind", "help waitall 63", "help waitall 64 waits",
+    "help over true", "help over true (no row was free)", "help over true (of a workqueue)", "help over false",
+    "help over false (of a workqueue)", "help over 64 doesn't wait",
+    "help finish ok", "help finish ok (no row was free)", "help finish ok (it is pending)", "help finish 64 waits",
+] + [f"help {word} 64 {why}" for word in HELPED for why in ("no lane", "ordered", "no helper")] + [
+    f"help {word} 64 runs nothing" for word in HELPED if word != "start"]
 
 
 # Random calls -------------------------------------------------------------------------------------
@@ -136,11 +150,12 @@ NO_NAMES = [b"zz", b"?", b"a!", b"-", b"0", b"\xff\xc3", b"queue", b"x" * 70, b"
 class Walk:
     """Calls that are made up one after the other, each in the state that those before it leave."""
 
-    def __init__(self, choose, declared, assignment, row_count):
+    def __init__(self, choose, declared, assignment, row_count, helpers=0):
         self.choose = choose
         self.declared = declared
         self.lane_count = assignment.count
-        self.play = book.Play(declared, assignment, row_count)
+        self.helpers = helpers
+        self.play = book.Play(declared, assignment, row_count, helpers)
         self.lines = []  # the words of each call
         self.kinds = collections.Counter()
         self.no_names = [name for name in NO_NAMES if name not in declared.group_of]
@@ -148,6 +163,7 @@ class Walk:
                         for word, weight in WEIGHTS.items()}
         self.phase, self.phase_left = self.weights, 0
         self.wild = choose.choice([0.02, 0.1, 0.3])  # how often a call takes no care
+        self.rescuers = choose.choice([0.1, 0.5, 0.5])  # how often a call is a rescuer's where it might be a helper's
         self.most_used = 0
 
     def any_lane(self):
@@ -161,20 +177,36 @@ class Walk:
             return self.choose.choice(self.no_names)
         return self.choose.choice(self.declared.items)
 
-    def lane_for(self, word):
-        """A lane for which the call may be answered, mostly; None where there is none, mostly."""
+    def any_context(self):
+        """A lane and a helper, of which one may be missing."""
+        choose, helpers = self.choose, self.helpers
+        lane = self.any_lane()
+        if choose.random() < (0.4 if helpers else 0.9):
+            return lane, RESCUER
+        missing = [0, helpers + 1, HELPER_LIMIT, HELPER_LIMIT + 1, HELPER_WORD_LIMIT]
+        return lane, choose.choice(missing) if not helpers or choose.random() < 0.2 else choose.randint(1, helpers)
+
+    def context_for(self, word):
+        """A context for which the call may be answered, mostly; None where there is none, mostly."""
         choose, state = self.choose, self.play.book.replay.state
         if word == "start":
             lanes = [lane for lane in range(self.lane_count)
-                     if state.pending[lane] and lane not in state.running]
+                     if state.first_to_start(lane) or state.pending[lane] and choose.random() < 0.2]
+            contexts = [context for lane in lanes for context in state.contexts_of(lane) if context not in state.running]
         else:
-            lanes = [lane for lane, entry in state.running.items()
-                     if (entry.target is not None) == (word == "over")]
-            over = [lane for lane in lanes if word == "over" and self.play.book.look(word, lane)[0] is True]
-            lanes = over if over and choose.random() < 0.7 else lanes
+            wrong = choose.random() < 0.06
+            contexts = [context for context, entry in state.running.items()
+                        if wrong or (entry.target is not None) == (word == "over")]
+            over = [(lane, helper) for lane, helper in contexts
+                    if word == "over" and self.play.book.look(word, lane, helper=helper)[0] is True]
+            contexts = over if over and choose.random() < 0.7 else contexts
         if choose.random() < 0.03 + 0.3 * self.wild:
-            return self.any_lane()
-        return choose.choice(sorted(lanes)) if lanes else None
+            return self.any_context()
+        # The rescuers are as likely as the helpers or less, though there are fewer of them.
+        rescuers = [context for context in contexts if context[1] == RESCUER]
+        if rescuers and choose.random() < self.rescuers:
+            contexts = rescuers
+        return choose.choice(sorted(contexts)) if contexts else None
 
     def any_call(self):
         """The words of a call, or None where there is nothing for it."""
@@ -187,12 +219,14 @@ class Walk:
         if word in self.play.asks:
             places = [place for place, ask in enumerate(self.play.asks[word]) if ask is not None]
             return self.rather([word.encode(), b"%d" % choose.choice(places)]) if places else None
-        lane = self.lane_for(word)
-        if lane is None:
+        context = self.context_for(word)
+        if context is None:
             return None
-        words = [word.encode(), b"%d" % lane]
+        lane, helper = context
+        named = helper != RESCUER or choose.random() < 0.01  # no helper has the number 0
+        words = [b"help", word.encode(), b"%d" % lane, b"%d" % helper] if named else [word.encode(), b"%d" % lane]
         if word in ("wait", "waitall"):
-            target = self.target_for(word, self.play.book.replay.state.running.get(lane))
+            target = self.target_for(word, self.play.book.replay.state.running.get(context))
             if target is None:
                 return None
             words.append(target)
@@ -204,12 +238,19 @@ class Walk:
         None where there is none of this kind, mostly.
         """
         choose, replay = self.choose, self.play.book.replay
+        if entry is None:
+            return self.any_item()
         step, _, _ = book.step_of(word, None, None)
-        targets = [target for kind, target in replay.state.waits[entry.item] if kind == step] if entry is not None else []
-        if choose.random() < 0.08 + 0.3 * self.wild:
-            others = self.play.book.declares[entry.item] if entry is not None else []
+        targets = [target for kind, target in replay.state.waits[entry.item] if kind == step]
+        if choose.random() < 0.1 + 0.3 * self.wild:
+            others = self.play.book.declares[entry.item]
+            unlike = [name for name in others if name not in targets]
+            if unlike and choose.random() < 0.8:
+                return choose.choice(unlike)
             if others and choose.random() < 0.2:
                 return choose.choice(others)
+            if choose.random() < 0.15:
+                return choose.choice(self.no_names)
             workqueues = {replay.state.workqueue_of[target] for target in targets}
             beside = [name for name in self.declared.items
                       if replay.state.workqueue_of[name] in workqueues and name not in others]
@@ -224,13 +265,13 @@ class Walk:
 
     def rather(self, words):
         """The call, or often None where it changes nothing."""
-        word, arguments, _ = self.play.call_of(words)
-        _, row = self.play.book.look(word, *arguments)
+        word, arguments, _, context = self.play.call_of(words)
+        _, row = self.play.book.look(word, *arguments, **context)
         return words if row is not None or self.choose.random() < 0.4 else None
 
     def kind(self, words):
-        word, arguments, _ = self.play.call_of(words)
-        return kind_of(word, self.play.book.look(word, *arguments)[0])
+        word, arguments, _, context = self.play.call_of(words)
+        return kind_of(f"help {word}" if context else word, self.play.book.look(word, *arguments, **context)[0])
 
     def next_call(self):
         choose = self.choose
@@ -279,6 +320,10 @@ def closings(choose, count):
     return [choose.randrange(first, count) for _ in range(choose.choice([1, 1, 2]))]
 
 
+def any_helpers(choose):
+    return choose.choice([0, 0, 1, 1, 2, 3, 8, choose.randint(1, 8)])
+
+
 def any_row_count(choose):
     way = choose.random()
     if way < 0.02:
@@ -302,6 +347,11 @@ MISTAKES = [
     b"waitall", b"waitall 0", b"waitall a 0", b"waitall 0 a a", b"waitall 65536 a", b"waitwq 0 a", b"overall 0", b"overall 0 a",
     b"overwq 0", b"asklane", b"asklane a", b"asklane 0 0", b"asklane 65536", b"asklane 00", b"ask 0 a", b"toldlane",
     b"toldlane a", b"toldlane 0 0", b"toldlane 00", b"toldlane 4294967295", b"flushwq 0", b"waitingall 0", b"AskLane 0",
+    b"help", b"help start", b"help start 0", b"help start 0 256", b"help start 0 00", b"help start 0 -1", b"help start 0 1 a",
+    b"help start a 1", b"help start 65536 1", b"help wait 0 1", b"help wait 0 a 1", b"help wait 0 1 a a", b"help waitall 0 1",
+    b"help over 0 x", b"help over 0", b"help finish 65536 1", b"help finish 0 1 a", b"help queue a 1", b"help cancel a 1",
+    b"help ask a 1", b"help asklane 0 1", b"help told 0 1", b"help close 1", b"help help start 0 1", b"helpstart 0 1",
+    b"start help 0 1", b"help_start 0 1", b"help start 0 1#", b"Help start 0 1", b"help overall 0 1", b"help next 0 1",
 ]
 
 
@@ -331,19 +381,20 @@ def random_book_case(seed, number):
     choose = random.Random(f"{seed} book {number}")
     declaration_text, declared = make_declaration(choose)
     assignment_text, assignment = make_assignment(choose, declared)
+    helpers = any_helpers(choose)
     count = choose.choice([FEWEST_CALLS, choose.randint(FEWEST_CALLS, 240)])
     if choose.random() < 0.02:
         count = choose.randint(400, 1_200)
     closed_at = closings(choose, count)
 
     row_count = any_row_count(choose)
-    walk = Walk(choose, declared, assignment, row_count)
+    walk = Walk(choose, declared, assignment, row_count, helpers)
     if choose.random() < 0.25:
         # A book with just as many rows as these calls need, or a few less.
-        before = Walk(choose, declared, assignment, ROW_LIMIT)
+        before = Walk(choose, declared, assignment, ROW_LIMIT, helpers)
         before.make_calls(choose.randint(20, count), closed_at)
         row_count = max(0, before.most_used - choose.choice([0, 0, 1, 1, 2, 3]))
-        walk = Walk(choose, declared, assignment, row_count)
+        walk = Walk(choose, declared, assignment, row_count, helpers)
         walk.make_again(before.lines)
     walk.make_calls(count, closed_at)
 
@@ -352,7 +403,7 @@ def random_book_case(seed, number):
         row_count = choose.choice([ROW_LIMIT + 1, ROW_LIMIT + 1, 2 * ROW_LIMIT, NUMBER_LIMIT,
                                    choose.randint(ROW_LIMIT + 1, NUMBER_LIMIT)])
     events = spelled(choose, lines)
-    return ["book", declaration_text, assignment_text, str(row_count), events]
+    return with_helpers(helpers, ["book", declaration_text, assignment_text, str(row_count), events])
 
 
 # Mutated histories --------------------------------------------------------------------------------
@@ -367,24 +418,31 @@ class History:
     pieces: list
     declared: object
     assignment: object
+    helpers: int
 
     def any_place(self, choose):
         return choose.randrange(len(self.pieces))
+
+    def row_of(self, choose, events):
+        """A row of one of the events, with its place, or None if there is none."""
+        rows = [(at, book.unpacked(piece)) for at, piece in enumerate(self.pieces)]
+        rows = [(at, row) for at, row in rows if row is not None and row.event in events]
+        if not rows:
+            return None
+        # The events are as likely as each other, of rescuers and of helpers, though some stand in few rows.
+        kind = choose.choice(sorted({(row.event, row.helper != RESCUER) for _, row in rows}))
+        return choose.choice([(at, row) for at, row in rows if (row.event, row.helper != RESCUER) == kind])
 
     def change(self, choose, events, **changes):
         """Changes something of a row of one of the events, if there is one.
 
         What it becomes is what the function of the row says.
         """
-        rows = [(at, book.unpacked(piece)) for at, piece in enumerate(self.pieces)]
-        rows = [(at, row) for at, row in rows if row is not None and row.event in events]
-        if not rows:
-            return
-        # The events are as likely as each other, though some stand in few rows.
-        event = choose.choice(sorted({row.event for _, row in rows}))
-        at, row = choose.choice([(at, row) for at, row in rows if row.event == event])
-        changes = {field: become(row) for field, become in changes.items()}
-        self.pieces[at] = packed(dataclasses.replace(row, **changes))
+        found = self.row_of(choose, events)
+        if found is not None:
+            at, row = found
+            changes = {field: become(row) for field, become in changes.items()}
+            self.pieces[at] = packed(dataclasses.replace(row, **changes))
 
 
 def change_yes(choose, history):
@@ -410,14 +468,29 @@ def change_rare(choose, history):
 
 def change_end(choose, history):
     """An end of a wait for a whole workqueue, of another number, target or kind."""
-    count = len(history.declared.items)
+    items = range(len(history.declared.items) + 1)
     way = choose.random()
-    if way < 0.5:
+    if way < 0.4:
         history.change(choose, ("overall",), number=lambda row: other_number(choose, row.number))
-    elif way < 0.8:
-        history.change(choose, ("overall",), item=lambda row: choose.randrange(count + 1))
+    elif way < 0.85:
+        history.change(choose, ("overall",), item=lambda row: choose.choice([item for item in items if item != row.item]))
     else:
         history.change(choose, ("overall",), event=lambda row: "over")
+
+
+def change_of_context(choose, history):
+    """A row of a context, with another item, number or `yes`."""
+    found = history.row_of(choose, OF_LANE)
+    if found is None:
+        return
+    at, row = found
+    if choose.random() < 0.3:
+        changes = {"item": choose.randrange(len(history.declared.items) + 1)}
+    elif row.event in ("wait", "waitall") and choose.random() < 0.6:
+        changes = {"yes": not row.yes}
+    else:
+        changes = {"number": other_number(choose, row.number)}
+    history.pieces[at] = packed(dataclasses.replace(row, **changes))
 
 
 def change_wait(choose, history):
@@ -442,6 +515,12 @@ def change_lane(choose, history):
     history.change(choose, WITH_LANE, lane=lambda row: choose.choice(lanes))
 
 
+def change_helper(choose, history):
+    """A row of another context of its workqueue, or of a helper that is missing."""
+    helpers = [0, 1, HELPER_LIMIT, min(history.helpers + 1, HELPER_LIMIT)] + list(range(history.helpers + 1)) * 2
+    history.change(choose, OF_LANE, helper=lambda row: choose.choice(helpers))
+
+
 def change_event(choose, history):
     """A row of another event, with what else it has."""
     if choose.random() < 0.5:
@@ -456,8 +535,9 @@ def change_event(choose, history):
     event = choose.choice(events)
     lane = row.lane if event in WITH_LANE else 0
     item = row.item if event in WITH_ITEM else 0
+    helper = row.helper if event in OF_LANE else RESCUER
     yes = row.yes or event in book.ALWAYS_YES
-    history.pieces[at] = packed(dataclasses.replace(row, event=event, item=item, lane=lane, yes=yes))
+    history.pieces[at] = packed(dataclasses.replace(row, event=event, item=item, lane=lane, yes=yes, helper=helper))
 
 
 def change_kind(choose, history):
@@ -469,7 +549,7 @@ def change_kind(choose, history):
         return
     at, row = choose.choice(waits)
     changed = [(at, row)] + [(later, end) for later, end in rows[at + 1:] if end is not None and end.event in OF_LANE
-                             and end.lane == row.lane][:1]
+                             and (end.lane, end.helper) == (row.lane, row.helper)][:1]
     for at, row in changed:
         history.pieces[at] = packed(dataclasses.replace(row, event=other.get(row.event, row.event)))
 
@@ -501,7 +581,9 @@ def any_row(choose, history):
     lane = choose.choice([lanes, LANE_LIMIT] + list(range(lanes)) * 3)
     number = choose.choice([0, 1, 2, len(history.pieces), choose.randint(0, 20), NUMBER_LIMIT])
     yes = event in book.ALWAYS_YES or choose.random() < 0.5
-    return Row(event, yes, item if event in WITH_ITEM else 0, lane if event in WITH_LANE else 0, number)
+    helper = choose.choice([RESCUER, RESCUER, choose.randint(1, HELPER_LIMIT), choose.randint(0, history.helpers)])
+    return Row(event, yes, item if event in WITH_ITEM else 0, lane if event in WITH_LANE else 0, number,
+               helper if event in OF_LANE else RESCUER)
 
 
 def insert_any(choose, history):
@@ -510,18 +592,25 @@ def insert_any(choose, history):
 
 def standing_rows(choose, history, at):
     """The rows that may stand at this place; of the Told rows a few."""
-    _, _, replay = book.judge(history.declared, history.assignment, b"".join(history.pieces[:at]))
+    _, _, replay = book.judge(history.declared, history.assignment, b"".join(history.pieces[:at]), history.helpers)
     rows = []
     for event in EVENTS:
         for item in range(len(history.declared.items)) if event in WITH_ITEM else [0]:
-            for lane in replay.lanes if event in WITH_LANE else [0]:
-                stands = replay.standing(event, lane, item)
+            for lane, helper in contexts_for(replay, event):
+                stands = replay.standing(event, lane, item, helper)
                 if stands is not None:
                     yes, number = stands
                     if number is None:
                         number = choose.choice([0, least_unfinished(replay, event, lane, item)])
-                    rows.append(Row(event, yes, item, lane, number))
+                    rows.append(Row(event, yes, item, lane, number, helper))
     return rows
+
+
+def contexts_for(replay, event):
+    """The workqueues and contexts that a row of this event may name."""
+    if event in OF_LANE:
+        return [context for lane in replay.lanes for context in replay.state.contexts_of(lane)]
+    return [(lane, RESCUER) for lane in replay.lanes] if event in WITH_LANE else [(0, RESCUER)]
 
 
 def least_unfinished(replay, event, lane, item):
@@ -547,17 +636,21 @@ def insert_nearly(choose, history):
     rows = standing_rows(choose, history, at)
     if not rows:
         return
-    events = sorted({row.event for row in rows})
-    weights = [1 if event in ("queue", "cancel", "ask", "asklane") else 20 if event == "overall" else 3 for event in events]
-    event = choose.choices(events, weights)[0]
-    row = choose.choice([row for row in rows if row.event == event])
+    events = sorted({(row.event, row.helper != RESCUER) for row in rows})
+    rarer = {"overall": 20, "over": 12, "wait": 6, "waitall": 6, "finish": 4}
+    weights = [rarer.get(event, 1 if event in ("queue", "cancel", "ask", "asklane") else 3) for event, _ in events]
+    event, helps = choose.choices(events, weights)[0]
+    row = choose.choice([row for row in rows if (row.event, row.helper != RESCUER) == (event, helps)])
     way = choose.random()
     if way < 0.25:
         missing = choose.choice([len(history.declared.items), LANE_LIMIT])
         changes = {"item": missing}
         if event not in WITH_ITEM or event in WITH_LANE and choose.random() < 0.5:
             changes = {"lane": choose.choice([history.assignment.count, LANE_LIMIT])}
-    elif way < 0.6 and event not in book.ALWAYS_YES:
+    elif way < 0.35 and event in OF_LANE:
+        helpers = [0, min(row.helper + 1, HELPER_LIMIT), min(history.helpers + 1, HELPER_LIMIT)]
+        changes = {"helper": choose.choice(helpers)}
+    elif way < 0.65 and event not in book.ALWAYS_YES:
         changes = {"yes": not row.yes}
     elif event in ("told", "toldlane"):
         changes = {"number": min(row.number + 1, NUMBER_LIMIT)}
@@ -592,13 +685,15 @@ def unpackable_byte(choose, history):
     """A byte that the packing of this row can't have."""
     at = history.any_place(choose)
     row = book.unpacked(history.pieces[at])
-    changes = [(0, 0), (0, 13), (0, 255), (1, 2), (1, 255), (6, 1), (7, 1), (6, 128), (7, 255)]
+    changes = [(0, 0), (0, 13), (0, 255), (1, 2), (1, 255), (6, 9), (7, 1), (6, 128), (7, 255)]
     if row is not None and row.event in book.ALWAYS_YES:
         changes += [(1, 0)] * 4
     if row is not None and row.event not in WITH_LANE:
         changes += [(4, 1), (5, 1), (4, 255), (5, 128)]
     if row is not None and row.event not in WITH_ITEM:
         changes += [(2, 1), (3, 1), (2, 255), (3, 128)] * 2
+    if row is not None and row.event not in OF_LANE:
+        changes += [(6, 1), (6, 8)]
     put_byte(history, at, *choose.choice(changes))
 
 
@@ -633,8 +728,8 @@ def insert_bytes(choose, history):
 
 PACKABLE = [
     change_yes, change_number, change_told, change_item, change_lane, change_event, drop, double,
-    swap, move, insert_any, cut_rows, change_rare, change_rare, change_wait, change_kind,
-] + [change_end] * 5 + [insert_legal] * 2 + [insert_nearly] * 8
+    swap, move, insert_any, cut_rows, change_rare, change_rare, change_wait, change_kind, change_helper, change_helper,
+] + [change_end] * 5 + [insert_legal] * 2 + [insert_nearly] * 12 + [change_of_context] * 14
 ANY_BYTES = [
     replace_byte, replace_byte, flip_bit, unpackable_byte, unpackable_byte, cut_middle, cut_last,
     add_bytes, drop_byte, double_byte, insert_bytes,
@@ -643,7 +738,7 @@ ANY_BYTES = [
 
 def tell_others(choose, history):
     """Other numbers of all Told and ToldLane rows, which are legal too."""
-    replay = book.Replay(history.declared, history.assignment)
+    replay = book.Replay(history.declared, history.assignment, history.helpers)
     for at, piece in enumerate(history.pieces):
         row = book.unpacked(piece)
         if row.event in ("told", "toldlane"):
@@ -679,10 +774,11 @@ def random_check_case(seed, number):
     choose = random.Random(f"{seed} history {number}")
     declaration_text, declared = make_declaration(choose)
     assignment_text, assignment = make_assignment(choose, declared)
-    walk = Walk(choose, declared, assignment, ROW_LIMIT)
+    helpers = any_helpers(choose)
+    walk = Walk(choose, declared, assignment, ROW_LIMIT, helpers)
     walk.make_calls(choose.choice([choose.randint(0, 12), choose.randint(12, 80),
                                    choose.randint(12, 80), choose.randint(80, 300)]))
-    history = History([packed(row) for row in walk.play.book.rows], declared, assignment)
+    history = History([packed(row) for row in walk.play.book.rows], declared, assignment, helpers)
 
     way = choose.random()
     made = "unchanged"
@@ -695,12 +791,13 @@ def random_check_case(seed, number):
             if history.pieces:
                 choose.choice(PACKABLE if way < 0.65 else ANY_BYTES)(choose, history)
     digits = spelled_digits(choose, b"".join(history.pieces))
-    return ["check", declaration_text, assignment_text, digits], made
+    return with_helpers(helpers, ["check", declaration_text, assignment_text, digits]), made
 
 
 # Cases at the limits ------------------------------------------------------------------------------
 
 ONE = [b"item a\n", b"wq 0 a\n"]
+SHARED = [b"item a\nitem b\nordered a b\n", b"wq 0 a b\n"]
 TWO = [b"item a\nitem b\nflush a b\n", b"wq 0 b\nwq 1 a\n"]
 WHOLE = [b"item a\nitem b\nitem c\nflushwq a b\n", b"wq 0 b c\nwq 1 a\n"]
 NONE = [b"", b""]
@@ -726,8 +823,8 @@ def limit_book_cases():
     """What each case is, and the words of its command line; files are bytes, missing ones None."""
     cases = []
 
-    def add(what, files, row_count, events):
-        cases.append((what, ["book", *files, str(row_count), events]))
+    def add(what, files, row_count, events, helpers=0):
+        cases.append((what, with_helpers(helpers, ["book", *files, str(row_count), events])))
 
     add("no line", ONE, 0, b"")
     add("blank lines", ONE, 5, b"\n \t\n# x\n\r\n#\r\r\n")
@@ -761,6 +858,22 @@ def limit_book_cases():
     add("asks of both, numbered by themselves", ONE, 50,
         b"queue a\nask a\nasklane 0\nasklane 0\nask a\ncancel a\ntold 1\ntoldlane 0\ntoldlane 1\ntold 0\ntold 2\n")
     add("an item with the name of a wait", [b"item wq:\n", b"wq 0"], 50, b"")
+
+    every = b"".join(b"help %s 0 %d\nhelp wait 0 %d b\nhelp waitall 0 %d b\n" % (word, helper, helper, helper)
+                     for helper in (0, 1, 2, 7, 8, 9, 255) for word in (b"start", b"over", b"finish"))
+    for helpers in 0, 1, 2, 8:
+        for files in (TWO, WHOLE, SHARED, [b"item a\nitem b\n", b"wq 0 a b\n"], [b"item a\nitem b\n", b"wq 0\nwq 1 a b\n"], NONE):
+            add(f"{helpers} helpers", files, 60, b"queue a\nqueue b\n" + every + b"start 0\n" + every + b"finish 0\n", helpers)
+    for line in (b"help start 4095 1", b"help start 65535 1", b"help start 65536 1", b"help start 0 256", b"help wait 0 256 a"):
+        add("numbers of a helper's call", ONE, 50, b"queue a\n" + line + b"\nqueue a\n", 1)
+    many = [join(*numbered_items(9)), b"wq 0 " + b" ".join(b"i%04d" % number for number in range(9))]
+    queued = b"".join(b"queue i%04d\n" % number for number in range(9))
+    add("each context runs an item", many, 100,
+        queued + b"".join(b"help start 0 %d\n" % helper for helper in range(8, 0, -1)) + b"start 0\n" + queued
+        + b"start 0\nfinish 0\nstart 0\nhelp start 0 1\nhelp finish 0 5\nhelp start 0 5\nhelp finish 0 1\nhelp start 0 1\n", 8)
+    add("16,384 waits of a helper", [join(b"item a", b"item b", *flush_lines(b"a", [b"b"] * 16_384)), b"wq 0 b\nwq 1 a\n"], 32_771,
+        b"queue a\nhelp start 1 1\n" + b"help wait 1 1 b\nhelp over 1 1\n" * 16_384
+        + b"help wait 1 1 b\nhelp finish 1 1\nqueue b\n", 1)
 
     for row_count in range(8):
         add(f"{row_count} rows", ONE, row_count,
@@ -829,8 +942,8 @@ def limit_check_cases():
     """What each case is, and the words of its command line."""
     cases = []
 
-    def add(what, files, digits):
-        cases.append((what, ["check", *files, digits]))
+    def add(what, files, digits, helpers=0):
+        cases.append((what, with_helpers(helpers, ["check", *files, digits])))
 
     digits = FIVE.hex().encode()
     add("upper case", TWO, digits.upper())
@@ -869,6 +982,20 @@ def limit_check_cases():
                     row = bytes([event, yes, item & 255, item >> 8, lane, 0, 0, 0, 0, 0, 0, 0])
                     add("a row alone", TWO, row.hex().encode())
                     add("a row behind an ask", WHOLE, (asked + row).hex().encode())
+                    if yes and item <= 2 and lane <= 1:
+                        for helper in 1, 2, 8, 9:
+                            row = bytes([event, yes, item & 255, item >> 8, lane, 0, helper, 0, 0, 0, 0, 0])
+                            add("a row of a helper", WHOLE, (asked + row).hex().encode(), 2)
+
+    # A helper starts what isn't the first entry; the other contexts may not.
+    apart = ["010100000000000000000000", "010101000000000001000000", "030101000000010001000000", "010101000000000002000000"]
+    for helpers in 0, 1, 2, 8:
+        for helper in 0, 1, 2, 8:
+            for item in 0, 1:
+                for number in 0, 1, 2:
+                    last = "03010%d0000000%d000%d000000" % (item, helper, number)
+                    add("a start behind those of a helper", [b"item a\nitem b\n", b"wq 0 a b"], "".join([*apart, last]).encode(),
+                        helpers)
 
     # Long histories: 349,525 rows are the most that the digits can spell.
     none, one = bytes.fromhex("020000000000000000000000"), bytes.fromhex("070000000000000000000000")
@@ -886,6 +1013,11 @@ def fault_cases():
     """What each case is, the words of its command line, and the status."""
     cases = []
     files = [*ONE, "5", b"queue a\n"]
+    for words in (["helpers"], ["helpers", "1"], ["helpers", "9", "book", *files], ["helpers", "x", "book", *files],
+                  ["helpers", "01", "book", *files], ["helpers", "256", "book", *files], ["helpers", "9", "check", *ONE, b""],
+                  ["helpers", "1", "helpers", "1", "book", *files], ["helper", "1", "book", *files], ["helpers", "book", *files],
+                  ["book", "helpers", "1", *files], ["helpers", "-1", "check", *ONE, b""]):
+        cases.append(("the command line, with helpers", words, 2))
     for words in ([], ["book"], ["check"], ["books", *files], ["book", *files, "x"],
                   ["book", *files[:3]], ["check", *ONE], ["check", *ONE, b"", b""],
                   ["Book", *files], ["--help", *files], ["book", *ONE, b"queue a\n", "5"]):

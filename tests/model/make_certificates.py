@@ -12,7 +12,7 @@ from declaration import ITEM_LIMIT, read_declaration, split_words
 from make_declarations import (
     BAD_BYTES, Line, item_count_of, join, make_lines, numbered_items, put_faults, spell,
 )
-from steps import State
+from steps import RESCUER, State
 
 KEYWORDS = [b"plan", b"wq", b"chain", b"circle", b"arc", b"run", b"queue", b"cancel", b"start",
             b"wait", b"waitwq", b"over", b"overwq", b"finish"]
@@ -315,8 +315,8 @@ def near_step(choose, declared, wqs, state):
     running = list(state.running)
     if running and way < 0.85:
         # The running entries, whether they wait or not.
-        workqueue = choose.choice(running)
-        entry = state.running[workqueue]
+        workqueue, helper = choose.choice(running)
+        entry = state.running[workqueue, helper]
         targets = [entry.target] if entry.target else state.targets[entry.item] + [entry.item]
         if choose.random() < 0.4:
             targets = declared.items
@@ -375,7 +375,7 @@ def is_faithful(state, step):
     word, workqueue, name = step
     if word in (b"start", b"over", b"overwq"):
         return True
-    entry = state.running[workqueue]
+    entry = state.running[workqueue, RESCUER]
     waits = state.waits[entry.item]
     if word == b"finish":
         return entry.waits == len(waits)

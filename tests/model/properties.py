@@ -714,19 +714,24 @@ def look_at_search(choose):
     parts = choose.choice(list(search.partitions(len(declared.groups))))
     count = max(parts, default=-1) + 1
     workqueue_of = {name: parts[group] for name, group in declared.group_of.items()}
-    state = State(declared, certificate.Assignment(workqueue_of, count))
-    steps, found = search.Steps(search.waits_of(declared), workqueue_of), search.begin(count)
+    helpers = choose.choice([0, 0, 1, 2, 8])
+    ordered = {workqueue_of[group[0]] for group in declared.groups if len(group) > 1}
+    state = State(declared, certificate.Assignment(workqueue_of, count), helpers)
+    steps = search.Steps(search.waits_of(declared), workqueue_of, ordered, helpers)
+    found = steps.begin(count)
     all_steps = [(word, None, name) for word in (b"queue", b"cancel") for name in declared.items]
-    all_steps += [(word, number, name) for word in EXECUTIONS
-                  for number in range(count) for name in declared.items]
+    all_steps += [search.named(word, number, name, context) for word in EXECUTIONS
+                  for number in range(count) for name in declared.items for context in range(helpers + 2)]
     for _ in range(60):
         behind = dict(steps.all_steps(found))
-        may = [step for step in all_steps if state.may(step)]
+        may = [step for step in all_steps if state.may(step[:3], *step[3:])]
         demand(sorted(map(repr, may)) == sorted(map(repr, behind)), "both allow the same steps")
         demand(state.is_stuck() == (not list(steps.executions(found))
-                                    and found != search.begin(count)), "both are stuck")
+                                    and found != steps.begin(count)), "both are stuck")
+        starts = {search.named(*step, helper) for step, helper in state.helper_starts()}
+        demand(starts == {step for step, _ in steps.helper_starts(found)}, "both have the same starts of helpers")
         step = choose.choice(may)
-        state.make(step)
+        state.make(step[:3], *step[3:])
         found = behind[step]
 
 
@@ -736,7 +741,7 @@ def look_at_searches(seed, walks, declarations):
         look_at_search(random.Random(f"{seed} walk {number}"))
     for number in range(declarations):
         text = search.make_declaration(random.Random(f"{seed} model {number}"))
-        _, wrong = search.look_at_declaration(search.ask_model, text)
+        *_, wrong = search.look_at_declaration(search.ask_model, text)
         demand(not wrong, f"the search finds what the model answers: {text!r}: {wrong}")
 
 

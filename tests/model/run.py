@@ -1,5 +1,5 @@
-# A model of `wqplan run DECL`. It says what is printed of a plan that was run, as docs/FORMAT.md asks
-# for in "The command `run`". No thread runs here: the page says what comes of every order of them.
+# A model of `wqplan run DECL [HELPERS]`. It says what is printed of a plan that was run, as docs/FORMAT.md asks
+# for in "The command `run`". No thread runs here: the page says what comes of every order of them, with any number of helpers.
 # See plan.py for what the model is.
 
 import sys
@@ -9,8 +9,9 @@ import plan  # noqa: E402  (beside this file)
 from command_line import answer_texts  # noqa: E402
 from declaration import TEXT_LIMIT, Refused, read_declaration  # noqa: E402
 
-# The most workqueues that a runtime has.
+# The most workqueues that a runtime has, and how many helpers each may have.
 WORKQUEUE_LIMIT = 256
+HELPERS = {str(number) for number in range(9)}
 
 
 def run_text(items, workqueue_of, count):
@@ -35,10 +36,11 @@ def answer(text):
 
 def main(arguments):
     """The exit status."""
-    if len(arguments) != 2 or arguments[0] != "run":
-        print("usage: run.py run DECL", file=sys.stderr)
+    command, *places = arguments or [None]
+    if command != "run" or len(places) not in (1, 2) or not set(places[1:]) <= HELPERS:
+        print("usage: run.py run DECL [HELPERS]", file=sys.stderr)
         return 2
-    return answer_texts(answer, arguments[1:], (TEXT_LIMIT,))
+    return answer_texts(answer, places[:1], (TEXT_LIMIT,))
 
 
 if __name__ == "__main__":

@@ -7,7 +7,8 @@
 # docs/FORMAT.md, "Steps", and knows nothing of circles. `PROGRAM deadlock` must answer `safe` where
 # no run ends stuck, and where one deadlocks a run that does; `PROGRAM plan` must have as many
 # workqueues as the smallest assignment by which no run ends stuck, and a circle where there is
-# none. Where PROGRAM is `-`, the model is asked in its place.
+# none. Where PROGRAM is `-`, the model is asked in its place. Of the smaller declarations all runs with one and
+# with two helpers are gone through, too: some run ends stuck exactly where one without helpers does.
 
 import functools
 import itertools
@@ -26,6 +27,12 @@ from make_declarations import join  # noqa: E402
 DEFAULT_SEED = "1"
 DEFAULT_DECLARATIONS = 600
 
+# With so many helpers a run ends stuck where one does without them. That is looked at where there are no more items and flushes than
+# these.
+HELPERS = (1, 2)
+HELPED_ITEMS = 3
+HELPED_FLUSHES = 3
+
 # The numbers of items and of flushes of a declaration, each as often as it stands here. All states
 # of the larger ones take their time.
 SIZES = [(1, 1), (1, 2), (2, 1), (2, 2), (2, 3), (2, 4), (3, 1), (3, 2), (3, 3), (3, 4), (3, 4),
@@ -36,39 +43,55 @@ SIZES = [(1, 1), (1, 2), (2, 1), (2, 2), (2, 3), (2, 4), (3, 1), (3, 2), (3, 3),
 # There is no end to the numbers of entries and marks, so they are left out of a state. The pending
 # entries of a workqueue stand in the order of their numbers anyway. An item has at most two
 # unfinished entries: one runs, and one is pending, which has the higher number. So all that a mark
-# says of its target is how many of these have a number below it, and this is kept. An entry that is
-# queued later has a number that isn't below the mark. It is the same with a wait for a whole
-# workqueue, of which each unfinished entry counts: what runs there has the lowest number of all.
+# says of an item is how many of these have a number below it, and this is kept, for each item of
+# which the wait is: for a whole workqueue these are all its items. An entry that is queued later
+# has a number that isn't below the mark.
 #
-# A state has a pair for each workqueue: the items of its pending entries, and what runs, or None.
-# What runs is the item, the count of its waits, and while it waits the word and the target of its
-# wait, and how many unfinished entries it waits for; else None and 0.
+# A state has a pair for each workqueue: the items of its pending entries, and what runs in each of
+# its contexts, the rescuer's first, or None. What runs is the item, the count of its waits, and
+# while it waits the word and the target of its wait, and the pairs of an item and a number for
+# which it waits: the one or two entries of the item with the lowest numbers. Else None and no pair.
+#
+# A step is as certificate.py reads it; that of a helper has the number of the helper behind it.
 
 
-def begin(count):
-    return (((), None),) * count
+def replaced(state, workqueue, pending, contexts):
+    return state[:workqueue] + ((pending, contexts),) + state[workqueue + 1:]
 
 
-def replaced(state, workqueue, pending, running):
-    return state[:workqueue] + ((pending, running),) + state[workqueue + 1:]
+def with_context(contexts, number, running):
+    return contexts[:number] + (running,) + contexts[number + 1:]
 
 
-def runs(state, workqueue, item):
-    """Whether the item is what runs on the workqueue."""
-    running = state[workqueue][1]
-    return running is not None and running[0] == item
+def runs(contexts, item):
+    """Whether the item runs in one of these contexts."""
+    for running in contexts:
+        if running is not None and running[0] == item:
+            return True
+    return False
 
 
-def without_one(state, waits, count):
-    """The state in which each of these waits that is for `count` or more entries is for one less.
+def without(state, item, number):
+    """The state in which no wait is for an entry of the item any longer, one that is gone.
 
-    So it is where the entry is gone that is number `count` of those for which they are.
+    The number is its place, from 1, among the unfinished entries of its item.
     """
-    for workqueue, (pending, running) in enumerate(state):
-        if running is not None and running[2] in waits and running[3] >= count:
-            item_of, made, wait, entries = running
-            state = replaced(state, workqueue, pending, (item_of, made, wait, entries - 1))
+    for workqueue, (pending, contexts) in enumerate(state):
+        for context, running in enumerate(contexts):
+            if running is not None and any(other == item and count >= number for other, count in running[3]):
+                entries = ((other, count - (other == item)) for other, count in running[3])
+                left = (*running[:3], tuple((other, count) for other, count in entries if count))
+                contexts = with_context(contexts, context, left)
+                state = replaced(state, workqueue, pending, contexts)
     return state
+
+
+def in_one_order(state):
+    """The state in which the helpers of each workqueue are numbered by what they run.
+
+    Runs that differ in the numbers of helpers alone end in the same way.
+    """
+    return tuple((pending, contexts[:1] + tuple(sorted(contexts[1:], key=repr))) for pending, contexts in state)
 
 
 def waits_of(declared):
@@ -80,84 +103,111 @@ def waits_of(declared):
 
 
 class Steps:
-    """The table of the steps, of the items with these waits, under an assignment."""
+    """The table of the steps, of the items with these waits, under an assignment.
 
-    def __init__(self, waits, workqueue_of):
+    Each workqueue but those that are ordered has so many helpers.
+    """
+
+    def __init__(self, waits, workqueue_of, ordered=(), helpers=0):
         self.waits, self.workqueue_of = waits, workqueue_of
+        self.ordered, self.helpers = ordered, helpers
+        self.items_on = {workqueue: [item for item in workqueue_of if workqueue_of[item] == workqueue]
+                         for workqueue in set(workqueue_of.values())}
+
+    def begin(self, count):
+        """The state without entries, of so many workqueues."""
+        return tuple(((), (None,) * (1 if number in self.ordered else 1 + self.helpers)) for number in range(count))
 
     def unfinished(self, state, item):
         """How many entries of the item are unfinished."""
-        workqueue = self.workqueue_of[item]
-        return (item in state[workqueue][0]) + runs(state, workqueue, item)
+        pending, contexts = state[self.workqueue_of[item]]
+        return (item in pending) + runs(contexts, item)
 
     def waited_for(self, state, wait):
-        """How many entries a wait that begins now is for."""
+        """The entries that a wait that begins now is for."""
         word, target = wait
-        pending, running = state[self.workqueue_of[target]]
-        if word == b"wait":
-            return self.unfinished(state, target)
-        return len(pending) + (running is not None)
-
-    def without(self, state, item, number_of_item, number):
-        """The state in which no wait is for an entry of the item any longer, one that is gone.
-
-        The numbers are its places, from 1, among the unfinished entries of its item and of its workqueue.
-        """
-        here = self.workqueue_of[item]
-        of_workqueue = [(b"waitwq", other) for other in self.workqueue_of if self.workqueue_of[other] == here]
-        return without_one(without_one(state, [(b"wait", item)], number_of_item), of_workqueue, number)
+        items = [target] if word == b"wait" else self.items_on[self.workqueue_of[target]]
+        entries = [(item, self.unfinished(state, item)) for item in items]
+        return tuple((item, count) for item, count in entries if count)
 
     def queueings(self, state):
         """Each `queue` that may be made, with the state behind it."""
         for item, workqueue in self.workqueue_of.items():
-            pending, running = state[workqueue]
+            pending, contexts = state[workqueue]
             if item not in pending:
-                behind = replaced(state, workqueue, pending + (item,), running)
+                behind = replaced(state, workqueue, pending + (item,), contexts)
                 yield (b"queue", None, item), behind
 
     def cancellations(self, state):
         """Each `cancel` that may be made, with the state behind it."""
         for item, workqueue in self.workqueue_of.items():
-            pending, running = state[workqueue]
+            pending, _ = state[workqueue]
             if item in pending:
-                number = pending.index(item) + 1 + (running is not None)
-                behind = self.without(state, item, self.unfinished(state, item), number)
                 left = tuple(other for other in pending if other != item)
-                yield (b"cancel", None, item), replaced(behind, workqueue, left,
-                                                        behind[workqueue][1])
+                behind = without(state, item, self.unfinished(state, item))
+                yield (b"cancel", None, item), replaced(behind, workqueue, left, behind[workqueue][1])
+
+    def starts(self, state, workqueue, context, items):
+        """The starts of these pending items in a context."""
+        pending, contexts = state[workqueue]
+        for item in items:
+            left = tuple(other for other in pending if other != item)
+            running = with_context(contexts, context, (item, 0, None, ()))
+            yield named(b"start", workqueue, item, context), replaced(state, workqueue, left, running)
+
+    def helper_starts(self, state):
+        """Each `start` of a helper that may be made, with the state behind it."""
+        for workqueue, (pending, contexts) in enumerate(state):
+            able = [item for item in pending if not runs(contexts, item)]
+            for context in range(1, len(contexts)):
+                if contexts[context] is None:
+                    yield from self.starts(state, workqueue, context, able)
 
     def executions(self, state):
-        """Each step of the workqueues that may be made, with the state behind it."""
-        for workqueue, (pending, running) in enumerate(state):
-            if running is None:
-                if pending:
-                    starts = pending[0], 0, None, 0
-                    yield ((b"start", workqueue, pending[0]),
-                           replaced(state, workqueue, pending[1:], starts))
-                continue
-            item, made, wait, entries = running
-            if wait is None:
-                behind = self.without(replaced(state, workqueue, pending, None), item, 1, 1)
-                yield (b"finish", workqueue, item), behind
-                if made < len(self.waits[item]):
-                    for word, other in set(self.waits[item]):
-                        waiting = item, made + 1, (word, other), self.waited_for(state, (word, other))
-                        yield ((word, workqueue, other),
-                               replaced(state, workqueue, pending, waiting))
-            elif entries == 0:
-                word, target = wait
-                behind = replaced(state, workqueue, pending, (item, made, None, 0))
-                yield (b"over" if word == b"wait" else b"overwq", workqueue, target), behind
+        """Each other step of the workqueues that may be made, with the state behind it."""
+        for workqueue, (pending, contexts) in enumerate(state):
+            if contexts[0] is None and pending:
+                able = (item for item in pending if not runs(contexts, item))
+                yield from self.starts(state, workqueue, 0, itertools.islice(able, 1))
+            for context, running in enumerate(contexts):
+                if running is not None:
+                    yield from self.steps_of(state, workqueue, context)
+
+    def steps_of(self, state, workqueue, context):
+        """Each step of what runs in this context."""
+        pending, contexts = state[workqueue]
+        item, made, wait, entries = contexts[context]
+
+        def with_running(running):
+            return replaced(state, workqueue, pending, with_context(contexts, context, running))
+
+        if wait is not None:
+            word, target = wait
+            if not entries:
+                over = b"over" if word == b"wait" else b"overwq"
+                yield named(over, workqueue, target, context), with_running((item, made, None, ()))
+            return
+        yield named(b"finish", workqueue, item, context), without(with_running(None), item, 1)
+        if made < len(self.waits[item]):
+            for other in set(self.waits[item]):
+                word, target = other
+                waiting = item, made + 1, other, self.waited_for(state, other)
+                yield named(word, workqueue, target, context), with_running(waiting)
 
     def all_steps(self, state):
-        return [*self.executions(state), *self.queueings(state), *self.cancellations(state)]
+        return [*self.executions(state), *self.helper_starts(state), *self.queueings(state), *self.cancellations(state)]
+
+
+def named(word, workqueue, name, context):
+    """A step of a context."""
+    return (word, workqueue, name) if context == 0 else (word, workqueue, name, context)
 
 
 # Searches ----------------------------------------------------------------------------------------
 
 
-def numbered(waits, workqueue_of):
-    """The workqueue and the waits of each item, where items and workqueues are numbers in place of names.
+def numbered(waits, workqueue_of, ordered):
+    """The workqueue of each item, whether that is ordered, and the waits, where items and workqueues are numbers in place of names.
 
     Of all orders of the items it is the one that makes these the least. So it is the same for all assignments that differ in names,
     in the order of the items and in the numbers of the workqueues alone: their runs are the same but for these.
@@ -166,24 +216,36 @@ def numbered(waits, workqueue_of):
     def in_order(items):
         number = {item: at for at, item in enumerate(items)}
         workqueues = {}  # their numbers, in the order of their first items
-        return tuple((workqueues.setdefault(workqueue_of[item], len(workqueues)),
+        return tuple((workqueues.setdefault(workqueue_of[item], len(workqueues)), workqueue_of[item] in ordered,
                       tuple((word, number[target]) for word, target in waits[item])) for item in items)
 
     return min(map(in_order, itertools.permutations(waits)))
 
 
+def steps_of_rows(rows, helpers):
+    """The steps of items as `numbered` answers them, and how many workqueues there are."""
+    waits = {item: waits for item, (_, _, waits) in enumerate(rows)}
+    workqueue_of = {item: workqueue for item, (workqueue, _, _) in enumerate(rows)}
+    ordered = {workqueue for workqueue, is_ordered, _ in rows if is_ordered}
+    return Steps(waits, workqueue_of, ordered, helpers), 1 + max(workqueue_of.values(), default=-1)
+
+
 @functools.cache
 def ends(rows):
-    """Whether some run ends stuck, and whether some run deadlocks; `rows` is what `numbered` answers."""
-    steps = Steps({item: waits for item, (_, waits) in enumerate(rows)},
-                  {item: workqueue for item, (workqueue, _) in enumerate(rows)})
-    count = 1 + max((workqueue for workqueue, _ in rows), default=-1)
+    """Whether some run without helpers ends stuck, and whether some run deadlocks."""
+    steps, count = steps_of_rows(rows, 0)
     return has_stuck_run(steps, count), has_deadlock(steps, count)
+
+
+@functools.cache
+def ends_stuck(rows, helpers):
+    """Whether some run with so many helpers ends stuck."""
+    return has_stuck_run(*steps_of_rows(rows, helpers))
 
 
 def has_stuck_run(steps, count):
     """Whether some run ends stuck. Items are queued and cancelled at any time, however often."""
-    first = begin(count)
+    first = steps.begin(count)
     seen = {first}
     left = [first]
     while left:
@@ -191,8 +253,10 @@ def has_stuck_run(steps, count):
         new = {behind for _, behind in steps.executions(state)}
         if not new and state != first:
             return True  # an entry is unfinished, since the state isn't the empty one
+        new.update(behind for _, behind in steps.helper_starts(state))
         new.update(behind for _, behind in steps.queueings(state))
         new.update(behind for _, behind in steps.cancellations(state))
+        new = set(map(in_one_order, new)) if steps.helpers > 1 else new
         new -= seen
         seen |= new
         left += new
@@ -204,7 +268,7 @@ def is_as_declared(steps, state, step):
     word, workqueue, name = step
     if word not in (b"wait", b"waitwq", b"finish"):
         return True
-    item, made, _, _ = state[workqueue][1]
+    item, made, _, _ = state[workqueue][1][0]
     waits = steps.waits[item]
     if word == b"finish":
         return made == len(waits)
@@ -213,13 +277,13 @@ def is_as_declared(steps, state, step):
 
 def has_deadlock(steps, count):
     """Whether some run deadlocks: each item is queued once, and none is cancelled."""
-    first = begin(count), frozenset(steps.waits)
+    first = steps.begin(count), frozenset(steps.waits)
     seen = {first}
     left = [first]
     while left:
         state, not_queued = left.pop()
         executions = list(steps.executions(state))
-        if not executions and not not_queued and state != begin(count):
+        if not executions and not not_queued and state != steps.begin(count):
             return True
         new = {(behind, not_queued) for step, behind in executions
                if is_as_declared(steps, state, step)}
@@ -233,7 +297,7 @@ def has_deadlock(steps, count):
 
 def is_deadlock(steps, count, run):
     """Whether this run deadlocks: whether it is one of those that has_deadlock looks for."""
-    state = begin(count)
+    state = steps.begin(count)
     for step in run:
         behind = dict(steps.all_steps(state))
         if step not in behind or not is_as_declared(steps, state, step):
@@ -241,7 +305,7 @@ def is_deadlock(steps, count, run):
         state = behind[step]
     queued = [name for word, _, name in run if word == b"queue"]
     once = sorted(queued) == sorted(steps.waits) and all(word != b"cancel" for word, _, _ in run)
-    return once and state != begin(count) and not list(steps.executions(state))
+    return once and state != steps.begin(count) and not list(steps.executions(state))
 
 
 # Declarations and assignments --------------------------------------------------------------------
@@ -302,13 +366,20 @@ def printed_run_deadlocks(declared, steps, count, printed):
         return False
 
 
+def is_helped(declared):
+    """Whether the runs with helpers are gone through, too."""
+    return len(declared.items) <= HELPED_ITEMS and len(declared.flushes) <= HELPED_FLUSHES
+
+
 def look_at_assignment(ask, text, declared, parts):
     """Whether no run ends stuck, and what is wrong with the answer of `deadlock`, or None."""
     count = max(parts, default=-1) + 1
     workqueue_of = {name: parts[group] for name, group in declared.group_of.items()}
     waits = waits_of(declared)
+    ordered = {workqueue_of[group[0]] for group in declared.groups if len(group) > 1}
     steps = Steps(waits, workqueue_of)
-    stuck, deadlocks = ends(numbered(waits, workqueue_of))
+    rows = numbered(waits, workqueue_of, ordered)
+    stuck, deadlocks = ends(rows)
     assignment = assignment_text(declared, parts)
     printed, status = ask("deadlock", [text, assignment])
     is_safe = (printed, status) == (b"safe\n", 0)
@@ -318,11 +389,15 @@ def look_at_assignment(ask, text, declared, parts):
             f"deadlock, {assignment!r}: some run ends stuck: {stuck}, some run deadlocks: "
             f"{deadlocks}, the answer: {printed!r}, status {status}"
         )
+    if is_helped(declared):
+        for helpers in HELPERS:
+            if ends_stuck(rows, helpers) != stuck:
+                return not stuck, f"{assignment!r}: some run ends stuck: {stuck}; with {helpers} helpers: {not stuck}"
     return not stuck, None
 
 
 def look_at_declaration(ask, text):
-    """How many assignments were looked at, and what is wrong with the answers."""
+    """How many assignments were looked at, and how many of them with helpers, too; and what is wrong with the answers."""
     declared = read_declaration(text)
     wrong = []
     counts = []
@@ -338,7 +413,7 @@ def look_at_declaration(ask, text):
     head = b"plan %d\n" % min(counts) if counts else b"circle "
     if not printed.startswith(head) or status != (0 if counts else 1):
         wrong.append(f"plan: {head!r} is wanted, the answer: {printed!r}, status {status}")
-    return looked, wrong
+    return looked, looked if is_helped(declared) else 0, wrong
 
 
 def ask_model(command, texts):
@@ -356,7 +431,7 @@ def main(arguments):
         print(f"search: there is nothing to run at {program}")
         return 1
 
-    looked = 0
+    looked = helped = 0
     with tempfile.TemporaryDirectory(prefix="search_") as folder:
 
         def ask(command, texts):
@@ -366,13 +441,13 @@ def main(arguments):
 
         for number in range(count):
             text = make_declaration(random.Random(f"{seed} search {number}"))
-            assignments, wrong = look_at_declaration(ask, text)
-            looked += assignments
+            assignments, with_helpers, wrong = look_at_declaration(ask, text)
+            looked, helped = looked + assignments, helped + with_helpers
             if wrong:
                 print(f"FAILED  search, declaration {number} (seed {seed}): {text!r}")
                 print("\n".join(f"    {line}" for line in wrong))
                 return 1
-    print(f"search: {count} declarations, {looked} assignments agree")
+    print(f"search: {count} declarations, {looked} assignments agree, {helped} of them with helpers, too")
     return 0
 
 

@@ -19,10 +19,16 @@ class Entry:
     over: bytes = None  # while it waits, the word of the step by which the wait is over
 
 
-class State:
-    """State, and the table of the steps. A step is as certificate.py reads it."""
+# The context that a workqueue has for certain; its helpers are numbered from 1.
+RESCUER = 0
 
-    def __init__(self, declaration, assignment):
+
+class State:
+    """State, the table of the steps, and those of helpers. A step is as certificate.py reads it, and the helper that makes it,
+    if one does, comes beside it.
+    """
+
+    def __init__(self, declaration, assignment, helpers=0):
         # By item its flushes in order of place: the target of each, and the word of its wait with the target.
         self.targets = {item: [] for item in declaration.items}
         self.waits = {item: [] for item in declaration.items}
@@ -31,37 +37,55 @@ class State:
             self.waits[item].append((WAIT[directive], target))
         self.declared = {item: frozenset(waits) for item, waits in self.waits.items()}
         self.workqueue_of = assignment.workqueue_of
+        self.helpers = helpers  # of each workqueue that isn't ordered
+        self.ordered = {assignment.workqueue_of[group[0]] for group in declaration.groups if len(group) > 1}
+        self.workqueues = range(assignment.count)
         self.next_number = 0
         self.pending = collections.defaultdict(list)  # by workqueue
         self.pending_of = {}  # by item, its pending entry: there is never more than one
-        self.running = {}  # by workqueue, where an entry runs
+        self.running = {}  # by context, a workqueue and RESCUER or a helper: what runs there
+        self.running_of = {}  # the same by item: no item ever runs in two contexts
+
+    def contexts_of(self, workqueue):
+        """The contexts of the workqueue, in order."""
+        is_ordered = workqueue in self.ordered or workqueue not in self.workqueues
+        return [(workqueue, helper) for helper in range(1 if is_ordered else 1 + self.helpers)]
 
     def unfinished(self, item):
-        """The entries of the item that are pending or run. It runs on its own workqueue alone."""
-        running = self.running.get(self.workqueue_of[item])
-        entries = [running] if running is not None and running.item == item else []
+        """The entries of the item that are pending or run, in the order of their numbers."""
+        entries = [self.running_of[item]] if item in self.running_of else []
         return entries + ([self.pending_of[item]] if item in self.pending_of else [])
 
     def unfinished_on(self, workqueue):
         """The entries that run or are pending on the workqueue, in the order of their numbers."""
-        running = self.running.get(workqueue)
-        return ([running] if running is not None else []) + self.pending[workqueue]
+        running = [self.running[context] for context in self.contexts_of(workqueue) if context in self.running]
+        return sorted(running + self.pending[workqueue], key=lambda entry: entry.number)
+
+    def first_to_start(self, workqueue):
+        """The first pending entry whose item doesn't run in any context, or None."""
+        return next((entry for entry in self.pending[workqueue] if entry.item not in self.running_of), None)
 
     def waited_for(self, word, target):
         """The unfinished entries that a wait for this target is for, where this step ends it."""
         return self.unfinished(target) if word == b"over" else self.unfinished_on(self.workqueue_of[target])
 
-    def may(self, step):
+    def may(self, step, helper=RESCUER):
         """May be made where."""
         word, workqueue, name = step
         if word == b"queue":
             return name not in self.pending_of
         if word == b"cancel":
             return name in self.pending_of
-        entry = self.running.get(workqueue)
+        if helper != RESCUER and (workqueue, helper) not in self.contexts_of(workqueue):
+            return False
+        entry = self.running.get((workqueue, helper))
         if word == b"start":
-            pending = self.pending[workqueue]
-            return entry is None and pending != [] and pending[0].item == name
+            if entry is not None:
+                return False
+            if helper != RESCUER:
+                return name in self.pending_of and self.workqueue_of[name] == workqueue and name not in self.running_of
+            first = self.first_to_start(workqueue)
+            return first is not None and first.item == name
         if entry is None:
             return False
         if word in (b"wait", b"waitwq"):
@@ -73,9 +97,10 @@ class State:
             )
         return entry.target is None and entry.item == name  # finish
 
-    def make(self, step):
+    def make(self, step, helper=RESCUER):
         """What it does. The step may be made."""
         word, workqueue, name = step
+        context = workqueue, helper
         if word == b"queue":
             self.pending_of[name] = Entry(name, self.next_number)
             self.pending[self.workqueue_of[name]].append(self.pending_of[name])
@@ -83,37 +108,55 @@ class State:
         elif word == b"cancel":
             self.pending[self.workqueue_of[name]].remove(self.pending_of.pop(name))
         elif word == b"start":
-            self.running[workqueue] = self.pending[workqueue].pop(0)
-            del self.pending_of[name]
+            entry = self.pending_of.pop(name)
+            self.pending[workqueue].remove(entry)
+            self.running[context] = self.running_of[name] = entry
         elif word in (b"wait", b"waitwq"):
-            entry = self.running[workqueue]
+            entry = self.running[context]
             entry.target, entry.mark, entry.over = name, self.next_number, OVER[word]
             entry.waits += 1
         elif word in (b"over", b"overwq"):
-            entry = self.running[workqueue]
+            entry = self.running[context]
             entry.target = entry.mark = entry.over = None
         else:
-            del self.running[workqueue]
+            del self.running[context], self.running_of[name]
+
+    def steps_of(self, workqueue, helper):
+        """Each step of what this context runs that may be made, `finish` and those of waits."""
+        entry = self.running.get((workqueue, helper))
+        if entry is None:
+            return
+        steps = [(entry.over, workqueue, entry.target)] if entry.target is not None else []
+        steps.append((b"finish", workqueue, entry.item))
+        steps += [(word, workqueue, target) for word, target in dict.fromkeys(self.waits[entry.item])]
+        yield from (step for step in steps if self.may(step, helper))
 
     def rescuer_steps(self):
-        """Each step of the workqueues, `start`, `finish` and those of waits, that may be made."""
+        """Each step of the rescuers, `start`, `finish` and those of waits, that may be made."""
         for workqueue in sorted(set(self.workqueue_of.values())):
-            steps = []
-            if workqueue in self.running:
-                entry = self.running[workqueue]
-                if entry.target is not None:
-                    steps.append((entry.over, workqueue, entry.target))
-                steps.append((b"finish", workqueue, entry.item))
-                for word, target in dict.fromkeys(self.waits[entry.item]):
-                    steps.append((word, workqueue, target))
-            elif self.pending[workqueue]:
-                steps.append((b"start", workqueue, self.pending[workqueue][0].item))
-            yield from (step for step in steps if self.may(step))
+            yield from self.steps_of(workqueue, RESCUER)
+            first = self.first_to_start(workqueue)
+            if first is not None and (workqueue, RESCUER) not in self.running:
+                yield b"start", workqueue, first.item
+
+    def helper_steps(self):
+        """Each step of the helpers but `start` that may be made, with its helper."""
+        for workqueue, helper in sorted(self.running):
+            if helper != RESCUER:
+                yield from ((step, helper) for step in self.steps_of(workqueue, helper))
+
+    def helper_starts(self):
+        """Each `start` of a helper that may be made, with its helper."""
+        for item, entry in self.pending_of.items():
+            for workqueue, helper in self.contexts_of(self.workqueue_of[item]):
+                step = b"start", workqueue, item
+                if helper != RESCUER and self.may(step, helper):
+                    yield step, helper
 
     def is_stuck(self):
-        """An entry is unfinished, and no workqueue can make a step."""
+        """An entry is unfinished, and no step may be made but `queue`, `cancel` and the `start` of a helper."""
         unfinished = any(self.unfinished(item) for item in self.targets)
-        return unfinished and next(self.rescuer_steps(), None) is None
+        return unfinished and next(self.rescuer_steps(), None) is None and next(self.helper_steps(), None) is None
 
 
 def end_of_run(declaration, assignment, steps):
@@ -130,7 +173,7 @@ def end_of_run(declaration, assignment, steps):
         elif word == b"cancel":
             as_declared = False
         elif word in WAIT.values() or word == b"finish":
-            entry = state.running[workqueue]
+            entry = state.running[workqueue, RESCUER]
             waits = state.waits[entry.item]
             if word == b"finish":
                 as_declared = as_declared and entry.waits == len(waits)

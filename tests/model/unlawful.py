@@ -1,6 +1,6 @@
 # A model of what standard error says of a step that may not be made: docs/FORMAT.md, "Diagnoses", the table of `not lawful N`.
 
-from steps import OVER, State
+from steps import OVER, RESCUER, State
 
 
 def reason(declared, assignment, steps):
@@ -19,7 +19,7 @@ def why_not(state, assignment, word, workqueue, name):
         return b"`%s` is pending already" % name
     if word == b"cancel":
         return b"`%s` isn't pending" % name
-    runs = state.running.get(workqueue)
+    runs = state.running.get((workqueue, RESCUER))
     pending = state.pending[workqueue]
     if runs is None and not pending and workqueue >= assignment.count:
         return b"there is no workqueue %d" % workqueue

@@ -31,11 +31,12 @@ STATUS = {
 }
 
 
-def case(table, command, texts, answer):
+def case(table, command, texts, answer, *behind):
+    """A case; what comes behind the texts are words of the command line."""
     answer = text_of(answer)
     status = STATUS[answer.split(maxsplit=1)[0].decode()]
     texts = [text_of(text) for text in texts]
-    return Case(table, [command, *range(len(texts))], texts, answer, status, diagnoses=True)
+    return Case(table, [command, *range(len(texts)), *behind], texts, answer, status, diagnoses=True)
 
 
 def table_cases():
@@ -94,6 +95,13 @@ def table_cases():
     ]:
         for text, answer in rows:
             yield case(table, "run", [text], answer)
+    for text, answer in runs.RUNS + runs.OTHERS:
+        for helpers in runs.HELPERS:
+            yield case("plans that are run with helpers", "run", [text], answer, helpers)
+    for text, answer in runs.LIMITS:
+        yield case("limits of what is run with helpers", "run", [text], answer, "8")
+    for words in runs.WRONG_HELPERS:
+        yield Case("what is no number of helpers", ["run", 0, *words], [b"item a\n"], b"", 2, complains=True)
     for command, texts, fronts in prefixes.PREFIXES:
         yield from prefix_cases(command, [text_of(text) for text in texts], fronts)
 
@@ -141,6 +149,8 @@ def follow_ups(cases):
     """What must be said of the plans, the circles and the runs that are printed."""
     for given in cases:
         texts, answer = given.texts, given.answer
+        if not answer:
+            continue
         word, *rest = answer.split(maxsplit=2)
         if word == b"plan":
             yield case("plans that are checked", "check", [texts[0], answer], b"yes %s\n" % rest[0])

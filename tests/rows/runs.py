@@ -2,7 +2,7 @@
 #
 # The rules are those of "The command `run`" in docs/FORMAT.md, from which each answer was worked out by
 # hand: an item is on the workqueue of its plan, is queued once and finished once. A circle and a refusal
-# are those of `plan`.
+# are those of `plan`. With helpers all of this is the same.
 
 
 def ran(*lanes):
@@ -11,6 +11,10 @@ def ran(*lanes):
     items = [f"item {item} wq {lane} queued 1 cancelled 0 finished 1" for item, lane in lanes]
     return " / ".join([f"workqueues {count}", *items, "faults 0"])
 
+
+# With so many helpers the same is printed, and these words are no number of helpers.
+HELPERS = ["0", "2", "8"]
+WRONG_HELPERS = [["9"], ["-1"], ["x"], ["2x"], [""], ["256"], ["1.0"], ["2", "3"]]
 
 # Declarations that have a plan, and what is printed of it.
 RUNS = [

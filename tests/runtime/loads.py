@@ -1,7 +1,7 @@
 # Runs loads in many threads, and judges what is printed of each:
 #
 #     loads.py PROGRAM                  short loads, which take some seconds
-#     loads.py PROGRAM SEEDS CALLS      for each seed one with rows for all calls and one with too few
+#     loads.py PROGRAM SEEDS CALLS      for each seed one with rows for all calls and one with too few, without helpers and with 1, 3, 8
 #
 # PROGRAM is `test_runtime`. What its threads meet depends on their schedule, so no text is compared.
 # `test_runtime stress` prints what each thread was answered, what each seat counted, what the closed
@@ -37,6 +37,7 @@ CALLS_OF_A_SECOND = 1000
 MOST_SLOW = 2
 
 CALLERS = 4
+HELPERS = [0, 1, 3, 8]
 KINDS = ["queue", "cancel", "wait", "over", "ask", "told", "finish", "waitall", "overall", "asklane", "toldlane"]
 ASKED = ["queue", "cancel", "flush", "sync", "wait", "flushwq", "waitall"]
 REFUSALS = [60, 61, 62, 63, 64, 65, 66]
@@ -106,6 +107,13 @@ REFUSED = [
     ("item a / item a", "nope", 5, "refused 7 line 2"),
     ("item a / item b", "wq 0 a", 5, "refused 41 line 0"),
 ]
+# The same with nine helpers.
+REFUSED_HELPERS = [
+    ("item a", calls.LANES_257, 16_777_217, "refused 69"),
+    (*calls.SELF, 16_777_217, "refused 68"),
+    (*calls.SELF, 5, "refused 74"),
+    (*calls.ONE, 5, "refused 74"),
+]
 
 
 class Odd(Exception):
@@ -170,7 +178,8 @@ def made(counts, kind, *answers):
 class Printed:
     """What is printed of a load."""
 
-    lanes: list  # how many executions were finished, and how many of them with a fault
+    contexts: list  # of each rescuer and helper, its workqueue and its number; 0 is the rescuer's
+    lanes: list  # of each of them, how many executions were finished, and how many of them with a fault
     callers: list  # what each answered
     said: list  # of each seat, what its thread was answered
     late: list  # of each caller, what it was answered once the runtime was destroyed
@@ -186,8 +195,9 @@ class Printed:
     def read(cls, text):
         lines = Lines(text)
         lines.one(r"nanoseconds \d+")
-        lanes = [(int(finished), int(faults))
-                 for _, finished, faults in lines.some(r"lane (\d+) finished (\d+) faults (\d+)")]
+        served = [[int(number or 0) for number in numbers]
+                  for numbers in lines.some(r"lane (\d+)(?: helper (\d+))? finished (\d+) faults (\d+)")]
+        contexts, lanes = [(q, h) for q, h, _, _ in served], [(finished, faults) for _, _, finished, faults in served]
         callers = [answer for (answer,) in lines.some(r"caller (.+)")]
         said, late = [], []
         for seat in range(len(lanes) + len(callers)):
@@ -207,7 +217,7 @@ class Printed:
         lines.end()
         if len(rows) != int(count):
             raise Odd(f"{len(rows)} rows where there should be {count}")
-        return cls(lanes, callers, said, late, seats, agree, sums, int(total), idle, int(free),
+        return cls(contexts, lanes, callers, said, late, seats, agree, sums, int(total), idle, int(free),
                    bytes.fromhex("".join(rows)))
 
     def refused(self):
@@ -219,11 +229,11 @@ class Printed:
 class History:
     """The rows of a history, judged by the model and counted."""
 
-    def __init__(self, declared, assignment, text):
-        self.length, self.fault, replay = book.judge(declared, assignment, text)
+    def __init__(self, declared, assignment, text, helpers):
+        self.length, self.fault, replay = book.judge(declared, assignment, text, helpers)
         self.is_idle = replay.is_idle()
         self.made = collections.Counter()
-        self.of_lane = [collections.Counter() for _ in range(assignment.count)]  # what only its rescuer makes
+        self.of_context = collections.defaultdict(collections.Counter)  # what only a rescuer or a helper makes
         if self.fault is None:
             for at in range(0, len(text), book.ROW_BYTES):
                 self.note(declared, book.unpacked(text[at:at + book.ROW_BYTES]))
@@ -235,7 +245,7 @@ class History:
         what = counted, row.event, row.yes
         self.made[what] += 1
         if row.event in book.OF_LANE:
-            self.of_lane[row.lane][what] += 1
+            self.of_context[row.lane, row.helper][what] += 1
 
 
 @dataclasses.dataclass
@@ -247,23 +257,30 @@ class Load:
     rows: int
     calls: int
     seed: int
+    helpers: int = 0
 
-    def faults_of_body(self, q, printed, history):
-        """What isn't so of the rescuer of a workqueue and its body."""
-        said, seat = printed.said[q], printed.seats[q]
-        finished, faults = printed.lanes[q]
+    def faults_of_body(self, number, printed, history):
+        """What isn't so of a rescuer or a helper and its body."""
+        said, seat, context = printed.said[number], printed.seats[number], printed.contexts[number]
+        finished, faults = printed.lanes[number]
+        who = f"workqueue {context[0]}" + (f", helper {context[1]}" if context[1] else "")
         if faults or not may_be(said, BODY):
-            yield f"the body of workqueue {q} was answered what it can't be"
+            yield f"the body of {who} was answered what it can't be"
         for kind in "queue", "cancel", "wait", "waitall":
             if any(made(seat, kind, answer) != said[kind, answer] for answer in (True, False)):
-                yield f"the seat of workqueue {q} counts other answers to {kind}"
+                yield f"the seat of {who} counts other answers to {kind}"
         ends = [made(seat, kind, True) for kind in ("over", "overall", "finish")]
         if ends != [answered(said, "wait"), answered(said, "waitall"), finished]:
-            yield f"the seat of workqueue {q} counts other ends"
+            yield f"the seat of {who} counts other ends"
         if any(made(seat, kind, True, False) for kind in ("ask", "told", "asklane", "toldlane")):
-            yield f"the seat of workqueue {q} counts asks"
-        if history.of_lane[q] != {what: count for what, count in seat.items() if what[1] in book.OF_LANE}:
-            yield f"the rows of workqueue {q} aren't those that its seat counts"
+            yield f"the seat of {who} counts asks"
+        if history.of_context[context] != {what: count for what, count in seat.items() if what[1] in book.OF_LANE}:
+            yield f"the rows of {who} aren't those that its seat counts"
+
+    def contexts(self, declared, assignment):
+        """The rescuer of each workqueue and its helpers: a workqueue with an ordered group of two has none."""
+        state = book.State(declared, assignment, self.helpers)
+        return [context for q in range(assignment.count) for context in state.contexts_of(q)]
 
     def faults_of_caller(self, number, printed):
         """What isn't so of a caller."""
@@ -306,15 +323,15 @@ class Load:
         """What doesn't fit together in what is printed."""
         declared = declaration.read_declaration(text_of(self.declared))
         assignment = certificate.read_assignment(text_of(self.assigned), declared)
-        if len(printed.lanes) != assignment.count or len(printed.callers) != CALLERS:
+        if printed.contexts != self.contexts(declared, assignment) or len(printed.callers) != CALLERS:
             yield "somebody is missing"
             return
-        history = History(declared, assignment, printed.rows)
+        history = History(declared, assignment, printed.rows, self.helpers)
         if history.fault is not None:
             yield f"row {history.length} isn't legal: {history.fault}"
             return
-        for q in range(assignment.count):
-            yield from self.faults_of_body(q, printed, history)
+        for number in range(len(printed.contexts)):
+            yield from self.faults_of_body(number, printed, history)
         for number in range(CALLERS):
             yield from self.faults_of_caller(number, printed)
         yield from self.faults_of_end(printed, len(declared.items), assignment.count)
@@ -338,7 +355,8 @@ class Load:
         with tempfile.TemporaryDirectory(prefix="loads_") as folder:
             for name, text in ("declaration", self.declared), ("assignment", self.assigned):
                 pathlib.Path(folder, name).write_bytes(text_of(text))
-            words = ["stress", "declaration", "assignment", *map(str, (self.rows, self.seed, self.calls))]
+            words = ["helpers", str(self.helpers)] if self.helpers else []
+            words += ["stress", "declaration", "assignment", *map(str, (self.rows, self.seed, self.calls))]
             run = subprocess.run([program, *words], cwd=folder, stdin=subprocess.DEVNULL, capture_output=True,
                                  timeout=seconds)
         took = f"{time.monotonic() - begun:.2f} s"
@@ -360,19 +378,19 @@ def put(printed):
 
 
 def long_loads(seeds, each):
-    """For each seed a load with rows for all calls, and one with too few."""
-    for seed in range(1, seeds + 1):
+    """For each seed and each number of helpers a load with rows for all calls, and one with too few."""
+    for seed, helpers in itertools.product(range(1, seeds + 1), HELPERS):
         for name, rows, must_be_full in [
             ("rows for all", min(16_777_216, 40 * each + 100), False),
             ("too few rows", each + 100, True),
         ]:
-            yield f"seed {seed}, {name}", Load(*SIXTEEN, rows, each, seed), must_be_full
+            yield f"seed {seed}, helpers {helpers}, {name}", Load(*SIXTEEN, rows, each, seed, helpers), must_be_full
 
 
 def short_loads():
     for number, load in enumerate(SHORT, start=1):
-        for seed in 1, 4_294_967_295:
-            yield f"short load {number}, seed {seed}", Load(*load, seed), None
+        for seed, helpers in (1, 0), (4_294_967_295, 0), (1, 1), (2, 3), (3, 8):
+            yield f"short load {number}, seed {seed}, helpers {helpers}", Load(*load, seed, helpers), None
     yield from long_loads(3, 1000)
 
 
@@ -417,6 +435,10 @@ def cases():
         texts = [text_of(declared), text_of(assigned)]
         yield Case("loads that don't begin", ["stress", 0, 1, str(rows), "1", "10"], texts, text_of(answer), 2)
         yield Case("loads that don't begin", ["bench", 0, 1, str(rows), "rounds", "1", "10"], texts, text_of(answer), 2)
+    for declared, assigned, rows, answer in REFUSED_HELPERS:
+        texts = [text_of(declared), text_of(assigned)]
+        words = ["helpers", "9", "stress", 0, 1, str(rows), "1", "10"]
+        yield Case("loads that don't begin", words, texts, text_of(answer), 2)
     # A wrong command line prints nothing to standard output; a file that isn't there is a fault.
     for words in [
         ["stress"], ["stress", 0, 0, "1", "1"], ["stress", 0, 0, "1", "1", "x"], ["stress", 0, 0, "1", "x", "1"],

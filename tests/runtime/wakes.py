@@ -36,6 +36,8 @@ B_IS_BEHIND = f"{A_RUNS} / queue 0 b: true"
 C_RUNS = "queue 1 c: true / next 1: c"
 D_RUNS = "queue 2 d: true / next 2: d"
 A_ENDS = "finish 0 a: ok / destroy: ok"
+HELPED_A = "queue 0 a: true / help next 0 1: a"
+HELPED_A_ENDS = "help finish 0 1 a: ok / destroy: ok"
 BOTH_END = f"finish 1 c: ok / {A_ENDS}"
 
 
@@ -52,9 +54,14 @@ class Wake:
     waking: str
     after: str
     counted: str = ""
+    helpers: int = 0  # how many each workqueue has
 
     def name(self):
         return f"{self.call} wakes {self.sleepers}"
+
+    def words(self):
+        """The words of the command line before the texts."""
+        return [*(["helpers", str(self.helpers)] if self.helpers else []), "calls"]
 
     def parts(self):
         """The lines and their answers, each part by itself, in the order of the text."""
@@ -114,6 +121,29 @@ WAKES = [
          "waitall 2 a: true|false", "cancel b: true", "finish 2 d: ok / destroy: ok"),
     Wake("cancel_work_sync", "a body that waits for the whole workqueue", f"queue 0 b: true / {D_RUNS}",
          "waitall 2 a: true|false", "sync b: true", "finish 2 d: ok / destroy: ok"),
+    # With a helper on each workqueue. Who is idle sleeps while the item of what is pending runs elsewhere.
+    Wake("queue_work", "a helper", "", "help next 0 1: a", "queue 0 a: true", HELPED_A_ENDS, helpers=1),
+    Wake("help_finish_work", "a rescuer, for whom the item's next entry is pending", f"{HELPED_A} / queue 0 a: true",
+         "next 0: a", "help finish 0 1 a: ok", A_ENDS, helpers=1),
+    Wake("finish_work", "a helper, for whom the item's next entry is pending", f"{A_RUNS} / queue 0 a: true",
+         "help next 0 1: a", "finish 0 a: ok", HELPED_A_ENDS, helpers=1),
+    Wake("queue_work", "a rescuer, behind an entry whose item a helper runs", f"{HELPED_A} / queue 0 a: true",
+         "next 0: b", "queue 0 b: true", f"finish 0 b: ok / cancel a: true / {HELPED_A_ENDS}", helpers=1),
+    Wake("help_finish_work", "two callers that flush the item", HELPED_A,
+         "flush a: true|false / flush a: true|false", "help finish 0 1 a: ok", "destroy: ok", helpers=1),
+    Wake("help_finish_work", "two callers that flush the workqueue", HELPED_A,
+         "flushwq 0: ok / flushwq 0: ok", "help finish 0 1 a: ok", "destroy: ok", "made lane 0 toldlane yes 2", helpers=1),
+    Wake("help_finish_work", "a body of a rescuer that waits for the item", f"{HELPED_A} / {C_RUNS}",
+         "wait 1 a: true|false", "help finish 0 1 a: ok", "finish 1 c: ok / destroy: ok", helpers=1),
+    Wake("finish_work", "a body of a helper that waits for the item", f"{A_RUNS} / queue 1 c: true / help next 1 1: c",
+         "help wait 1 1 a: true|false", "finish 0 a: ok", "help finish 1 1 c: ok / destroy: ok", helpers=1),
+    Wake("cancel_work", "a body of a helper that waits for the item", f"{B_IS_BEHIND} / queue 1 c: true / help next 1 1: c",
+         "help wait 1 1 b: true|false", "cancel b: true", f"help finish 1 1 c: ok / {A_ENDS}", helpers=1),
+    Wake("help_finish_work", "a body of a helper that waits for the whole workqueue", f"{HELPED_A} / queue 2 d: true / help next 2 1: d",
+         "help waitall 2 1 a: true|false", "help finish 0 1 a: ok", "help finish 2 1 d: ok / destroy: ok", helpers=1),
+    Wake("help_finish_work", "two callers that destroy", HELPED_A, "destroy: ok / destroy: ok", "help finish 0 1 a: ok", "", helpers=1),
+    Wake("destroy", "the rescuers and helpers of two workqueues", "",
+         "next 0: none / help next 0 1: none / next 1: none / help next 1 1: none", "destroy: ok", "", helpers=1),
 ]
 
 LOST = f"it didn't end within {SECONDS} s, so a wake-up is lost"
@@ -122,7 +152,7 @@ LOST = f"it didn't end within {SECONDS} s, so a wake-up is lost"
 def tried(program, files, wake):
     """What comes of a round: None where it is as it should be, `late` where it also shows nothing, or what is wrong."""
     try:
-        run = time_limit.run([program, "calls", *files], capture_output=True, timeout=SECONDS)
+        run = time_limit.run([program, *wake.words(), *files], capture_output=True, timeout=SECONDS)
     except time_limit.TookTooLong:
         return LOST
     match = re.fullmatch(wake.printed(), run.stdout)

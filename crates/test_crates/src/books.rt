@@ -3,7 +3,7 @@
 //! What each call answers in which state, and the judgement of a history, are tested in tests/book. The rules are those of
 //! "Histories" in docs/FORMAT.md, from which each row was worked out by hand. The tests take time in the number of calls.
 
-use crate::declared::core_in;
+use crate::declared::{core_in, helped_core_in};
 use linked_list_allocator::LocalHeap;
 use std::alloc::{Allocator, Global};
 use std::process::Abort;
@@ -176,6 +176,70 @@ fn an_execution_waits_for_a_whole_lane(rt: HostRuntime) -> Result<(), Fail> {
 fn a_caller_waits_for_a_whole_lane(rt: HostRuntime) -> Result<(), Fail> {
     let mut book = whole_book(rt.alloc(), 6)?;
     ask_about_a_lane(&rt, &mut book);
+    Ok(())
+}
+
+/// Two items on one lane, which may run at the same time.
+const FREE: &str = "item a\nitem b\n";
+
+/// The same, but they may not.
+const ORDERED: &str = "item a\nitem b\nordered a b\n";
+
+/// The rows that `share_a_lane` writes, packed.
+const SHARED: &[u8; 96] = &[
+    1, 1, 0, 0, 0, 0, 0, 0, 0, 0, 0, 0, // Queue a, yes, 0
+    1, 1, 1, 0, 0, 0, 0, 0, 1, 0, 0, 0, // Queue b, yes, 1
+    3, 1, 0, 0, 0, 0, 1, 0, 0, 0, 0, 0, // Start by helper 1 of lane 0 a, yes, 0
+    1, 1, 0, 0, 0, 0, 0, 0, 2, 0, 0, 0, // Queue a, yes, 2
+    3, 1, 1, 0, 0, 0, 0, 0, 1, 0, 0, 0, // Start on lane 0 b, yes, 1
+    6, 1, 1, 0, 0, 0, 0, 0, 1, 0, 0, 0, // Finish on lane 0 b, yes, 1
+    6, 1, 0, 0, 0, 0, 1, 0, 0, 0, 0, 0, // Finish by helper 1 of lane 0 a, yes, 0
+    3, 1, 0, 0, 0, 0, 0, 0, 2, 0, 0, 0, // Start on lane 0 a, yes, 2
+];
+
+/// Has a helper run a while the rescuer of the lane runs b, and a is queued again, in a book with 9 rows.
+fn share_a_lane(rt: &impl Abort, book: &mut Book<Global>) {
+    let (a, b, q) = (ItemId::new(0), ItemId::new(1), LaneId::new(0));
+    assert!(rt; book.queue(a) == Ok(true) && book.queue(b) == Ok(true));
+    assert!(rt; book.help_start(q, 0) == Err(BookError::WrongLane));
+    assert!(rt; book.help_start(q, 2) == Err(BookError::WrongLane));
+    assert!(rt; book.help_start(q, 1) == Ok(Some(a)));
+    assert!(rt; book.queue(a) == Ok(true) && book.running(q).is_none());
+    assert!(rt; book.start(q) == Ok(Some(b)) && book.help_running(q, 1) == Some(a));
+    assert!(rt; book.finish(q).is_ok());
+    // What is pending can't be started, since the helper runs its item.
+    assert!(rt; book.is_pending_on(q) && book.start(q) == Ok(None));
+    assert!(rt; book.help_wait(q, 1, b) == Err(BookError::Undeclared));
+    assert!(rt; book.help_over(q, 1) == Err(BookError::WrongLane));
+    assert!(rt; book.help_finish(q, 1).is_ok() && book.help_running(q, 1).is_none());
+    assert!(rt; book.start(q) == Ok(Some(a)) && !book.is_pending_on(q));
+    assert!(rt; book.packed() == SHARED.as_slice());
+}
+
+/// The book of a declaration and of the lane of each group, with a helper for an unordered lane, and with room for 9 rows.
+fn helped_book(alloc: Global, text: &str, lane_of_group: &[u16]) -> Result<Book<Global>, Fail> {
+    let core = helped_core_in(alloc, alloc, text, 1, lane_of_group, 1)??;
+    Ok(Book::new(alloc, core, 9)?)
+}
+
+#[test]
+fn a_helper_runs_an_item_beside_the_rescuer(rt: HostRuntime) -> Result<(), Fail> {
+    let mut book = helped_book(rt.alloc(), FREE, &[0, 0])?;
+    share_a_lane(&rt, &mut book);
+    Ok(())
+}
+
+/// Asserts that lane 0 has no helper.
+fn assert_unhelped(rt: &impl Abort, book: &mut Book<Global>) {
+    let q = LaneId::new(0);
+    assert!(rt; book.help_start(q, 1) == Err(BookError::WrongLane));
+    assert!(rt; book.helpers_of(q) == 0 && book.packed().is_empty());
+}
+
+#[test]
+fn an_ordered_lane_has_no_helper(rt: HostRuntime) -> Result<(), Fail> {
+    let mut book = helped_book(rt.alloc(), ORDERED, &[0])?;
+    assert_unhelped(&rt, &mut book);
     Ok(())
 }
 

@@ -2,7 +2,7 @@
 //!
 //! It takes time in the lengths of the texts.
 
-ghost use Rattle.std.specs.Prelude.{◌≡◌, length, IfOk};
+ghost use Rattle.std.specs.Prelude.{◌≡◌, ◌≤◌, length, IfOk};
 ghost use Rattle.wq_core.specs.State.{empty_state};
 
 use std::alloc::{AllocError, Allocator};
@@ -41,7 +41,29 @@ pub(crate) fn assigned<A: Allocator + Copy>(
     Ok(Assignment::new(lanes, of_group))
 }
 
-/// The machine, on a heap, of a declaration and the lane of each group, which are on another heap.
+/// The machine, on a heap, of a declaration and the lane of each group, which are on another heap; with this many helpers for each
+/// unordered lane.
+pub(crate) fn helped_core_in<A: Allocator + Copy>(
+    parts: A,
+    heap: A,
+    text: &str,
+    lanes: u16,
+    lane_of_group: &[u16],
+    helpers: u8,
+) -> Result<Result<Core<A>, AllocError>, Fail>
+    requires { helpers ≤ 8 }
+    ensures { IfOk result (λ made. IfOk made (λ core. core.state ≡ empty_state core.wiring)) }
+{
+    let declared = declared(parts, text)?;
+    let assignment = assigned(parts, lanes, lane_of_group)?.ok_or("a lane too many")?;
+    if assignment.groups() != usize::from(declared.groups.len()) {
+        return Err(Fail::from("another number of groups"));
+    }
+    let Declaration { table, groups } = &declared;
+    Ok(Core::with_helpers(heap, table, groups, &assignment, helpers))
+}
+
+/// The machine, on a heap, of a declaration and the lane of each group, which are on another heap; without helpers.
 pub(crate) fn core_in<A: Allocator + Copy>(
     parts: A,
     heap: A,
@@ -51,10 +73,5 @@ pub(crate) fn core_in<A: Allocator + Copy>(
 ) -> Result<Result<Core<A>, AllocError>, Fail>
     ensures { IfOk result (λ made. IfOk made (λ core. core.state ≡ empty_state core.wiring)) }
 {
-    let declared = declared(parts, text)?;
-    let assignment = assigned(parts, lanes, lane_of_group)?.ok_or("a lane too many")?;
-    if assignment.groups() != usize::from(declared.groups.len()) {
-        return Err(Fail::from("another number of groups"));
-    }
-    Ok(Core::new(heap, &declared.table, &declared.groups, &assignment))
+    helped_core_in(parts, heap, text, lanes, lane_of_group, 0)
 }

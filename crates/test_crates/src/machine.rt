@@ -4,11 +4,11 @@
 //! steps are lawful and which numbers they give is tested in tests/rows and tests/book, too. The tests take time in the number of
 //! steps.
 
-use crate::declared::core_in;
-use std::alloc::Global;
+use crate::declared::{core_in, helped_core_in};
+use std::alloc::{Allocator, Global};
 use std::process::Abort;
 use std::test::Fail;
-use wq_core::{Core, Entry, RunError, Running, Step, StepError, Waiting};
+use wq_core::{Core, Entry, HelpStep, RunError, Running, Step, StepError, Waiting};
 use wq_groups::LaneId;
 use wq_items::ItemId;
 
@@ -213,5 +213,57 @@ fn a_machine_says_how_it_stands(rt: HostRuntime) -> Result<(), Fail> {
     assert_wiring(&rt, &core);
     wait_for_pending(&rt, &mut core);
     assert_stands(&rt, &core);
+    Ok(())
+}
+
+/// Three items on one lane, none of which waits.
+pub(crate) const FREE: &str = "item a\nitem b\nitem c\n";
+
+/// What helper 1 of lane 0 does.
+fn helped(deed: HelpStep) -> Step {
+    Step::Help(LaneId::new(0), 1, deed)
+}
+
+/// Has the lane's helper start the second item, which is queued again; so its rescuer can start only the first. At the end the
+/// rescuer runs the second item, after the helper.
+pub(crate) fn help<A: Allocator>(rt: &impl Abort, core: &mut Core<A>) {
+    let b = ItemId::new(1);
+    let steps = [
+        (step_of(Queue(0)), Some(0)),
+        (step_of(Queue(1)), Some(1)),
+        (helped(HelpStep::Start(b)), Some(1)),
+        (step_of(Queue(1)), Some(2)),
+        (step_of(Start(0, 1)), None),
+        (step_of(Start(0, 0)), Some(0)),
+        (step_of(Finish(0, 0)), Some(0)),
+        (step_of(Start(0, 1)), None),
+    ];
+    for (step, number) in &steps {
+        assert!(rt; core.peek(step) == *number && core.step(*step).ok() == *number);
+    }
+    assert!(rt; core.work_left() == 3 && core.enabled() == Some(LaneId::new(0)));
+    assert!(rt; core.declared(LaneId::new(0)).is_none());
+    assert!(rt; core.step(helped(HelpStep::Finish(b))) == Ok(1));
+    assert!(rt; core.step(step_of(Start(0, 1))) == Ok(2));
+}
+
+#[test]
+fn a_helper_runs_what_the_rescuer_may_not_start(rt: HostRuntime) -> Result<(), Fail> {
+    let mut core = helped_core_in(rt.alloc(), rt.alloc(), FREE, 1, &[0, 0, 0], 1)??;
+    help(&rt, &mut core);
+    Ok(())
+}
+
+/// Two items that may not run at the same time, and one of its own.
+const ORDERED: &str = "item a\nitem b\nitem c\nordered a b\n";
+
+#[test]
+fn a_lane_has_helpers_where_it_is_unordered(rt: HostRuntime) -> Result<(), Fail> {
+    let core = helped_core_in(rt.alloc(), rt.alloc(), ORDERED, 3, &[1, 0], 8)??;
+    assert!(rt; core.helpers() == 8);
+    // The lane of the third item, that of the other two, and one without items; there is no other.
+    for (q, helpers) in [(0, 8), (1, 0), (2, 8), (3, 0)] {
+        assert!(rt; core.helpers_of(LaneId::new(q)) == helpers, "lane {q}");
+    }
     Ok(())
 }

@@ -5,6 +5,7 @@
 ghost use Rattle.std.specs.Prelude.{◌≡◌};
 
 use std::test::Fail;
+use wq_core::HelpStep;
 use wq_groups::LaneId;
 use wq_history::{Event, Row, Rows, pack, unpack};
 use wq_items::ItemId;
@@ -24,6 +25,11 @@ const PACKED: &[u8; 24] = &[
     4, 0, 1, 0, 1, 0, 0, 0, 1, 0, 0, 0, // Wait on lane 1 for item 1, no, 1
     8, 1, 2, 1, 0, 0, 0, 0, 4, 3, 2, 1, // Told of item 0x0102, yes, 0x01020304
 ];
+
+/// The start of item 1 by helper 1 of lane 0; and the same, but by a helper that there can't be.
+const HELPED: &[u8; 12] = &[3, 1, 1, 0, 0, 0, 1, 0, 1, 0, 0, 0];
+
+const NO_HELPER: &[u8; 12] = &[3, 1, 1, 0, 0, 0, 9, 0, 1, 0, 0, 0];
 
 fn row(event: Event, yes: bool, number: u32) -> Row
     ensures { result ≡ record { event = event; yes = yes; number = number } }
@@ -62,5 +68,15 @@ fn rows_of_whole_lanes_are_packed_and_read_again(rt: HostRuntime) -> Result<(), 
     assert!(rt; history.packed() == packed);
     assert!(rt; unpack(&packed[..12]) == Some(waited) && unpack(&packed[12..]) == Some(asked));
     assert!(rt; unpack(NO_ROW.as_slice()).is_none());
+    Ok(())
+}
+
+#[test]
+fn rows_of_helpers_are_packed_and_read_again(rt: HostRuntime) -> Result<(), Fail> {
+    let deed = HelpStep::Start(ItemId::new(1));
+    let helped = row(Event::Help(LaneId::new(0), 1, deed), true, 1);
+    assert!(rt; pack(&helped).as_slice() == HELPED.as_slice());
+    assert!(rt; unpack(HELPED.as_slice()) == Some(helped));
+    assert!(rt; unpack(NO_HELPER.as_slice()).is_none());
     Ok(())
 }

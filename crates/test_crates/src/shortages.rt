@@ -8,9 +8,9 @@ ghost use Rattle.std.specs.Prelude.{◌≡◌};
 ghost use Rattle.wq_core.specs.State.{empty_state};
 
 use crate::books::{HISTORY, PAIR, PAIR_LANES, make_each_call};
-use crate::declared::core_in;
+use crate::declared::{core_in, helped_core_in};
 use crate::machine::Made::{Over, Queue, Start, Wait};
-use crate::machine::{Made, step_of};
+use crate::machine::{FREE, Made, help, step_of};
 use linked_list_allocator::LocalHeap;
 use std::alloc::{AllocError, Allocator};
 use std::process::Abort;
@@ -56,6 +56,19 @@ fn runs_until_stuck(rt: &impl Abort, ample: &Heap, heap: &Heap) -> Result<bool, 
     match core_in(ample, heap, CROSSED, 2, &[0, 1, 1, 0])? {
         Ok(mut core) => {
             get_stuck(rt, heap, &mut core);
+            Ok(true)
+        }
+        Err(AllocError) => Ok(false),
+    }
+}
+
+/// Makes a machine with a helper, and has it help, which takes no memory. Says whether it was made.
+fn helps(rt: &impl Abort, ample: &Heap, heap: &Heap) -> Result<bool, Fail> {
+    match helped_core_in(ample, heap, FREE, 1, &[0, 0, 0], 1)? {
+        Ok(mut core) => {
+            let refused = heap.has_refused();
+            help(rt, &mut core);
+            assert!(rt; heap.has_refused() == refused);
             Ok(true)
         }
         Err(AllocError) => Ok(false),
@@ -117,6 +130,7 @@ fn is_refused(
     let ample = RefusingHeap::ample(local);
     let heap = RefusingHeap::new(local, refusing, nth);
     let made = runs_until_stuck(rt, &ample, &heap)?
+        && helps(rt, &ample, &heap)?
         && keeps_book(rt, &ample, &heap)?
         && judges(rt, &ample, &heap)?;
     assert!(rt;

@@ -19,6 +19,7 @@ fn answer_declared<R: Threads + Wait + Clock + Sync>(
     rt: &R,
     alloc: Global,
     rows: u32,
+    helpers: u8,
     table: &ItemTable<'_, Global>,
     groups: &Groups<Global>,
     assigned: &[u8],
@@ -36,6 +37,7 @@ fn answer_declared<R: Threads + Wait + Clock + Sync>(
                 groups,
                 assignment: &assignment,
                 rows,
+                helpers,
             };
             run(rt, alloc, &bed, load, out)
         }
@@ -44,12 +46,13 @@ fn answer_declared<R: Threads + Wait + Clock + Sync>(
     }
 }
 
-/// Runs a load on a runtime of these texts and this many rows, and adds what came of it; or the refusal of the first text that has to
-/// be refused. Returns the status.
+/// Runs a load on a runtime of these texts, this many rows and this many helpers, and adds what came of it; or the refusal of the first
+/// text that has to be refused. Returns the status.
 pub fn answer<R: Threads + Wait + Clock + Sync>(
     rt: &R,
     alloc: Global,
     rows: u32,
+    helpers: u8,
     texts: &Texts,
     load: Load,
     out: &mut String,
@@ -59,6 +62,7 @@ pub fn answer<R: Threads + Wait + Clock + Sync>(
             rt,
             alloc,
             rows,
+            helpers,
             &d.table,
             &d.groups,
             &texts.assigned,

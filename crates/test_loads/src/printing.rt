@@ -5,11 +5,13 @@ use crate::load::{Load, Task};
 use crate::server::Server;
 use std::alloc::{AllocError, Global};
 use std::time::Duration;
+use test_sessions::put_contexts;
 use test_sessions::testbed::{fault, kind_word, put_done, put_item, put_made, put_rows};
 use wq_api::{CallError, Closed, Kind, Naming, Seat, WqRuntime};
+use wq_core::Context;
 use wq_groups::LaneId;
 use wq_items::{ItemId, ItemTable};
-use wq_rescuer::{Body, Caller, Ran, Rescued, RunFault};
+use wq_rescuer::{Body, Caller, Ran, RunFault};
 
 /// Prints that not everything was run. Returns the status.
 pub(crate) fn put_unrun<N: Naming, B: Body + Drop, C: Caller + Drop>(
@@ -18,21 +20,6 @@ pub(crate) fn put_unrun<N: Naming, B: Body + Drop, C: Caller + Drop>(
 ) -> Result<u8, AllocError> {
     writeln!(out, "refused {}", refused.why.code())?;
     Ok(1)
-}
-
-/// Prints what the rescuers answered, lane by lane.
-fn put_rescued(out: &mut String, lanes: &[Result<Rescued, CallError>]) -> Result<(), AllocError> {
-    for (q, lane) in lanes.iter().enumerate() {
-        match lane {
-            Ok(lane) => writeln!(
-                out,
-                "lane {q} finished {} faults {}",
-                lane.finished, lane.faults
-            )?,
-            Err(error) => writeln!(out, "lane {q} refused {}", error.code())?,
-        }
-    }
-    Ok(())
 }
 
 /// Prints what the callers answered.
@@ -107,14 +94,14 @@ fn put_seat_of_lane<N: Naming>(
 fn put_seats<N: Naming>(
     out: &mut String,
     table: &ItemTable<'_, Global>,
-    lanes: usize,
+    lanes: u16,
     seats: &[Seat<N, Global>],
 ) -> Result<(), AllocError> {
     for (number, seat) in seats.iter().enumerate() {
         for i in 0..table.len() {
             put_seat(out, table, number, seat, ItemId::new(i))?;
         }
-        for q in 0..u16::try_from(lanes).unwrap_or(u16::MAX) {
+        for q in 0..lanes {
             put_seat_of_lane(out, number, seat, LaneId::new(q))?;
         }
     }
@@ -159,15 +146,17 @@ fn put_left<N: Naming>(
     out: &mut String,
     table: &ItemTable<'_, Global>,
     load: Load,
+    lanes: u16,
+    contexts: &[Context],
     ran: &Ran<N, Global, Server<'_, '_>, Client<'_>>,
     took: Duration,
 ) -> Result<(), AllocError> {
     writeln!(out, "nanoseconds {}", took.as_nanos())?;
-    put_rescued(out, &ran.rescued)?;
+    put_contexts(out, contexts, &ran.rescued)?;
     put_results(out, &ran.results)?;
     if load.task == Task::Stress {
         put_answers(out, &ran.bodies, &ran.callers)?;
-        put_seats(out, table, ran.rescued.len(), &ran.seats)?;
+        put_seats(out, table, lanes, &ran.seats)?;
     }
     Ok(())
 }
@@ -178,10 +167,12 @@ pub(crate) fn conclude<N: Naming>(
     table: &ItemTable<'_, Global>,
     load: Load,
     runtime: WqRuntime<N, Global>,
+    lanes: u16,
+    contexts: &[Context],
     ran: Ran<N, Global, Server<'_, '_>, Client<'_>>,
     took: Duration,
 ) -> Result<u8, AllocError> {
-    let printed = put_left(out, table, load, &ran, took);
+    let printed = put_left(out, table, load, lanes, contexts, &ran, took);
     let Ran { seats, .. } = ran;
     let status = close(out, table, load, runtime, seats);
     printed.and(status)

@@ -1,9 +1,9 @@
-//! Makes a runtime, in which a rescuer serves each lane and callers call. It takes the time of the calls.
+//! Makes a runtime, in which rescuers and helpers serve the lanes and callers call. It takes the time of the calls.
 
 ghost use Rattle.std.specs.Prelude.{◌≡◌, length, vec_len, slice_index, IfOk};
 ghost use Rattle.std.specs.List.{All};
 ghost use Rattle.wq_groups.specs.Declaration.{declaration_of};
-ghost use Rattle.wq_core.specs.Wiring.{wiring};
+ghost use Rattle.wq_core.specs.Wiring.{wiring, with_helpers};
 ghost use Rattle.wq_rescuer.specs.Executing.{NeverRan};
 
 use crate::client::Client;
@@ -20,20 +20,20 @@ use std::time::{Clock, Instant};
 use test_sessions::testbed::{Bed, fault, make};
 use wq_api::{Naming, WqRuntime};
 use wq_items::ItemTable;
-use wq_rescuer::run_all;
+use wq_rescuer::{contexts_of, run_all};
 
-/// Makes a body for each of this many lanes. Each can count all items of a table, and has run nothing.
+/// Makes this many bodies. Each can count all items of a table, and has run nothing.
 fn make_servers<'t, 'a>(
     alloc: Global,
     load: Load,
     table: &'t ItemTable<'a, Global>,
-    lanes: u16,
+    count: usize,
 ) -> Result<Vec<Server<'t, 'a>>, AllocError>
     ensures width { IfOk result (λ ss. All (λ s. vec_len s.runs ≡ length table.now.names) ss.items) }
     ensures never_ran { IfOk result (λ ss. All (λ s. NeverRan (slice_index s.runs.items)) ss.items) }
 {
     let mut servers = Vec::new(alloc);
-    for number in 0..lanes {
+    for number in 0..count {
         let server = Server::new(alloc, load, table, number)?;
         servers.push(server)?;
     }
@@ -65,10 +65,11 @@ fn run_counted<N: Naming + Send + Sync, R: Threads + Wait + Clock + Sync>(
     working: &AtomicU32,
     out: &mut String,
 ) -> Result<u8, AllocError>
-    requires { N.wiring ≡ wiring (declaration_of bed.now.table.now bed.now.groups.now) bed.now.assignment.now }
+    requires { N.wiring ≡ with_helpers (wiring (declaration_of bed.now.table.now bed.now.groups.now) bed.now.assignment.now) bed.now.helpers }
 {
     let lanes = runtime.lanes(rt);
-    let servers = make_servers(alloc, load, bed.table, lanes)?;
+    let contexts = contexts_of(rt, alloc, &runtime)?;
+    let servers = make_servers(alloc, load, bed.table, contexts.len())?;
     let clients = make_clients(alloc, load, bed.table.len(), lanes, working)?;
     let Ok(begun) = Instant::now(rt) else {
         return fault(out, "clock");
@@ -80,7 +81,7 @@ fn run_counted<N: Naming + Send + Sync, R: Threads + Wait + Clock + Sync>(
     let Ok(took) = begun.elapsed(rt) else {
         return fault(out, "clock");
     };
-    conclude(out, bed.table, load, runtime, ran, took)
+    conclude(out, bed.table, load, runtime, lanes, &contexts, ran, took)
 }
 
 /// Makes the runtime of this name and runs a load on it. Returns the status.
@@ -95,7 +96,7 @@ fn run_named<N: Naming + Send + Sync, R: Threads + Wait + Clock + Sync>(
     requires name { blank.name ≡ N.name }
     requires parts { blank.parts ≡ N.parts }
     requires all_parts { N.parts ≡ 65536 }
-    requires of_wiring { N.wiring ≡ wiring (declaration_of bed.now.table.now bed.now.groups.now) bed.now.assignment.now }
+    requires of_wiring { N.wiring ≡ with_helpers (wiring (declaration_of bed.now.table.now bed.now.groups.now) bed.now.assignment.now) bed.now.helpers }
     requires of_rows { N.rows ≡ bed.now.rows }
 {
     let Some(runtime) = make::<N>(alloc, blank, bed, out)? else {

@@ -1,4 +1,4 @@
-//! The body of a workqueue. In a load that is measured it does nothing but count its runs. In a stress it makes some calls at
+//! The body of a rescuer or a helper. In a load that is measured it does nothing but count its runs. In a stress it makes some calls at
 //! random.
 //!
 //! A run takes constant time in a load that is measured; in a stress it takes the time of the calls, whose number is that of the item's
@@ -28,12 +28,12 @@ pub(crate) struct Server<'t, 'a> {
 }
 
 impl<'t, 'a> Server<'t, 'a> {
-    /// Makes the body of the workqueue with this number, which can count the runs of all items of a table.
+    /// Makes the body of the context with this number, which can count the runs of all items of a table.
     pub(crate) fn new(
         alloc: Global,
         load: Load,
         table: &'t ItemTable<'a, Global>,
-        number: u16,
+        number: usize,
     ) -> Result<Self, AllocError>
         ensures width { IfOk result (λ s. vec_len s.runs ≡ length table.now.names) }
         ensures never_ran { IfOk result (λ s. s.runs.items ≡ replicate (length table.now.names) 0) }
@@ -44,7 +44,10 @@ impl<'t, 'a> Server<'t, 'a> {
         Ok(Server {
             table,
             makes_calls: load.task == Task::Stress,
-            random: Random::new(load.seed, u32::from(load.callers) + u32::from(number)),
+            random: Random::new(
+                load.seed,
+                u32::from(load.callers).saturating_add(u32::try_from(number).unwrap_or(u32::MAX)),
+            ),
             runs,
             tally: Tally::new(),
         })

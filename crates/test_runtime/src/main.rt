@@ -12,12 +12,13 @@ use std::thread::Threads;
 use std::time::Clock;
 use test_loads::Load;
 use test_sessions::testbed::{
-    MAX_TEXT, Setting, ended, misused, print_answer, read_file, read_texts, unread, words,
+    MAX_HELPERS, MAX_TEXT, Setting, ended, misused, print_answer, read_file, read_texts, unread,
+    without_helpers, words,
 };
 use test_sessions::{Request, Task, answer};
 use wq_commands::Fault;
 
-const USAGE: &str = "usage: test_runtime book DECL ASSIGN ROWS EVENTS \
+const USAGE: &str = "usage: test_runtime [helpers N] book DECL ASSIGN ROWS EVENTS \
     | check DECL ASSIGN HEX | calls DECL ASSIGN ROWS CALLS | crew DECL ASSIGN ROWS DEEDS \
     | report DECL ASSIGN ROWS DEEDS | script DECL ASSIGN ROWS [ACTS] \
     | stress DECL ASSIGN ROWS SEED CALLS | bench DECL ASSIGN ROWS rounds|storm|fill CALLERS N";
@@ -30,12 +31,14 @@ struct Order<'a> {
     path: Option<&'a str>,
 }
 
-/// The task of a subcommand in these files, with the words after them. A history that is judged has as many rows as it has.
+/// The task of a subcommand in these files, with the words after them and this many helpers, of which a book has 8 at most. A
+/// history that is judged has as many rows as it has.
 fn order_of<'a>(
     command: &str,
     declaration: &'a str,
     assignment: &'a str,
     rest: &'a [String],
+    helpers: u8,
 ) -> Option<Order<'a>> {
     let (task, rows, path) = match (command, rest) {
         ("book", [rows, path]) => (Task::Book, rows.as_str(), Some(path.as_str())),
@@ -47,7 +50,10 @@ fn order_of<'a>(
         ("script", [rows, path]) => (Task::Acts, rows.as_str(), Some(path.as_str())),
         _ => return None,
     };
-    let setting = Setting::parse(declaration, assignment, rows)?;
+    if helpers > MAX_HELPERS && matches!(task, Task::Book | Task::Check) {
+        return None;
+    }
+    let setting = Setting::parse(declaration, assignment, rows, helpers)?;
     Some(Order {
         setting,
         task,
@@ -74,6 +80,7 @@ fn perform<R: Files + Print + AllocGlobal + Threads + Wait + Clock + Sync>(
         rt,
         rt.alloc(),
         order.setting.rows,
+        order.setting.helpers,
         &texts,
         &request,
         &mut out,
@@ -87,10 +94,17 @@ fn session<R: Files + Print + Eprint + AllocGlobal + Threads + Wait + Clock + Sy
     rt: &R,
     command: &str,
     words: &[String],
+    helpers: u8,
 ) -> Option<u8> {
     match words {
         [declaration, assignment, rest @ ..] => {
-            let order = order_of(command, declaration.as_str(), assignment.as_str(), rest)?;
+            let order = order_of(
+                command,
+                declaration.as_str(),
+                assignment.as_str(),
+                rest,
+                helpers,
+            )?;
             Some(ended(rt, perform(rt, &order)))
         }
         _ => None,
@@ -116,7 +130,15 @@ fn run_load<R: Files + Print + AllocGlobal + Threads + Wait + Clock + Sync>(
 ) -> Result<u8, Fault> {
     let texts = read_texts(rt, setting)?;
     let mut out = String::new(rt.alloc());
-    let status = test_loads::answer(rt, rt.alloc(), setting.rows, &texts, load, &mut out)?;
+    let status = test_loads::answer(
+        rt,
+        rt.alloc(),
+        setting.rows,
+        setting.helpers,
+        &texts,
+        load,
+        &mut out,
+    )?;
     print_answer(rt, &out, status)
 }
 
@@ -125,10 +147,16 @@ fn loaded<R: Files + Print + Eprint + AllocGlobal + Threads + Wait + Clock + Syn
     rt: &R,
     command: &str,
     words: &[String],
+    helpers: u8,
 ) -> Option<u8> {
     match words {
         [declaration, assignment, rows, rest @ ..] => {
-            let setting = Setting::parse(declaration.as_str(), assignment.as_str(), rows.as_str())?;
+            let setting = Setting::parse(
+                declaration.as_str(),
+                assignment.as_str(),
+                rows.as_str(),
+                helpers,
+            )?;
             let load = load_of(command, rest)?;
             Some(ended(rt, run_load(rt, &setting, load)))
         }
@@ -142,12 +170,13 @@ fn dispatch<R: Files + Print + Eprint + AllocGlobal + Threads + Wait + Clock + S
     rt: &R,
     words: &[String],
 ) -> Option<u8> {
+    let (helpers, words) = without_helpers(words)?;
     match words {
-        [_, command, rest @ ..] => match command.as_str() {
+        [command, rest @ ..] => match command.as_str() {
             "book" | "check" | "calls" | "crew" | "report" | "script" => {
-                session(rt, command.as_str(), rest)
+                session(rt, command.as_str(), rest, helpers)
             }
-            "stress" | "bench" => loaded(rt, command.as_str(), rest),
+            "stress" | "bench" => loaded(rt, command.as_str(), rest, helpers),
             _ => None,
         },
         _ => None,

@@ -18,6 +18,7 @@ fn answer_declared<R: Threads + Wait + Clock + Sync>(
     rt: &R,
     alloc: Global,
     rows: u32,
+    helpers: u8,
     table: &ItemTable<'_, Global>,
     groups: &Groups<Global>,
     assigned: &[u8],
@@ -35,6 +36,7 @@ fn answer_declared<R: Threads + Wait + Clock + Sync>(
                 groups,
                 assignment: &assignment,
                 rows,
+                helpers,
             };
             let status = request.perform(rt, alloc, &bed, out);
             // Written as a call, so that the proof has one step for it.
@@ -46,12 +48,13 @@ fn answer_declared<R: Threads + Wait + Clock + Sync>(
     }
 }
 
-/// Does what is asked with what these texts say and with so many rows, or refuses the first of them that has to be refused. Returns
-/// the status.
+/// Does what is asked with what these texts say, with so many rows and so many helpers, or refuses the first text that has to be
+/// refused. Returns the status.
 pub fn answer<R: Threads + Wait + Clock + Sync>(
     rt: &R,
     alloc: Global,
     rows: u32,
+    helpers: u8,
     texts: &Texts,
     request: &Request<'_>,
     out: &mut String,
@@ -62,6 +65,7 @@ pub fn answer<R: Threads + Wait + Clock + Sync>(
                 rt,
                 alloc,
                 rows,
+                helpers,
                 &declared.table,
                 &declared.groups,
                 &texts.assigned,

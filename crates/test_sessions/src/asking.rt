@@ -1,6 +1,6 @@
 //! The calls of a runtime that a text asks for, line by line. Reading a line takes time in its length.
 
-use crate::testbed::{item_of, lane_of};
+use crate::testbed::{helper_of, item_of, lane_of};
 use std::alloc::Global;
 use wq_groups::LaneId;
 use wq_items::{ItemId, ItemTable};
@@ -17,6 +17,9 @@ pub(crate) enum Counted {
     Wait(LaneId, ItemId),
     WaitAll(LaneId, ItemId),
     Finish(LaneId, ItemId),
+    HelpWait(LaneId, u8, ItemId),
+    HelpWaitAll(LaneId, u8, ItemId),
+    HelpFinish(LaneId, u8, ItemId),
 }
 
 /// What a line asks for.
@@ -34,8 +37,11 @@ pub(crate) enum Call {
     /// What the seat that is in use has counted of a lane.
     TellLane(LaneId),
     Next(LaneId),
+    HelpNext(LaneId, u8),
     Lanes,
     Lane(ItemId),
+    /// How many helpers a lane has.
+    Helpers(LaneId),
     Destroy,
     /// Closes with this many of the seats.
     Close(u32),
@@ -62,6 +68,7 @@ fn call_of(table: &ItemTable<'_, Global>, word: &[u8], what: &[u8]) -> Option<Ca
         b"counted" => Call::Tell(item_of(table, what)),
         b"countedlane" => Call::TellLane(lane_of(what)?),
         b"next" => Call::Next(lane_of(what)?),
+        b"helpers" => Call::Helpers(lane_of(what)?),
         b"seats" => Call::Seats(number(what)?),
         b"use" => Call::Use(number(what)?),
         b"close" => Call::Close(number(what)?),
@@ -82,12 +89,38 @@ fn call_on_lane(word: &[u8], q: LaneId, item: ItemId) -> Option<Call> {
     Some(Call::Counted(call))
 }
 
+/// The call of a helper that this word asks for, of an item.
+fn help_on_lane(word: &[u8], q: LaneId, h: u8, item: ItemId) -> Option<Call> {
+    let call = match word {
+        b"wait" => Counted::HelpWait(q, h, item),
+        b"waitall" => Counted::HelpWaitAll(q, h, item),
+        b"finish" => Counted::HelpFinish(q, h, item),
+        _ => return None,
+    };
+    Some(Call::Counted(call))
+}
+
+/// The call of a helper that the words after `help` ask for; none where they have the form of no call.
+fn read_help(table: &ItemTable<'_, Global>, mut words: Words<'_>) -> Option<Call> {
+    let word = words.next()?;
+    let q = lane_of(words.next()?.bytes())?;
+    let h = helper_of(words.next()?.bytes())?;
+    match (words.next(), words.next()) {
+        (None, _) if word.bytes() == b"next".as_slice() => Some(Call::HelpNext(q, h)),
+        (Some(name), None) => help_on_lane(word.bytes(), q, h, item_of(table, name.bytes())),
+        _ => None,
+    }
+}
+
 /// The call that a line asks for by its first word and the words after it; none where it has the form of no call.
 pub(crate) fn read_call(
     table: &ItemTable<'_, Global>,
     word: &[u8],
     mut words: Words<'_>,
 ) -> Option<Call> {
+    if word == b"help".as_slice() {
+        return read_help(table, words);
+    }
     match (words.next(), words.next(), words.next()) {
         (None, _, _) => call_alone(word),
         (Some(what), None, _) => call_of(table, word, what.bytes()),

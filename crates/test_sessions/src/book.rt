@@ -5,10 +5,11 @@ use crate::asks::{ask, give_up_all, tell};
 use crate::lane_asks;
 use crate::lines::{Listener, tell_text};
 use crate::testbed::{
-    Bed, item_of, lane_of, mistake, put_code, put_item, put_item_or_none, put_rows, put_waiting,
+    Bed, helper_of, item_of, lane_of, mistake, put_code, put_item, put_item_or_none, put_rows,
+    put_waiting,
 };
 use std::alloc::{AllocError, Global};
-use wq_core::Core;
+use wq_core::{Core, MAX_HELPERS};
 use wq_groups::LaneId;
 use wq_history::{Asked, Book, BookError, LaneAsked};
 use wq_items::{ItemId, ItemTable};
@@ -30,6 +31,11 @@ enum Call {
     WaitAll(LaneId, ItemId),
     Over(LaneId),
     Finish(LaneId),
+    HelpStart(LaneId, u8),
+    HelpWait(LaneId, u8, ItemId),
+    HelpWaitAll(LaneId, u8, ItemId),
+    HelpOver(LaneId, u8),
+    HelpFinish(LaneId, u8),
     Close,
 }
 
@@ -59,8 +65,42 @@ fn wait_on(word: &[u8], q: LaneId, item: ItemId) -> Option<Call> {
     }
 }
 
+/// The call of a helper that this word asks for.
+fn help_alone(word: &[u8], q: LaneId, h: u8) -> Option<Call> {
+    match word {
+        b"start" => Some(Call::HelpStart(q, h)),
+        b"over" => Some(Call::HelpOver(q, h)),
+        b"finish" => Some(Call::HelpFinish(q, h)),
+        _ => None,
+    }
+}
+
+/// The wait that this word asks for, of what a helper of a lane runs, for an item.
+fn help_wait(word: &[u8], q: LaneId, h: u8, item: ItemId) -> Option<Call> {
+    match word {
+        b"wait" => Some(Call::HelpWait(q, h, item)),
+        b"waitall" => Some(Call::HelpWaitAll(q, h, item)),
+        _ => None,
+    }
+}
+
+/// The call of a helper that the words after `help` ask for; none where they have the form of no call.
+fn read_help(table: &ItemTable<'_, Global>, mut words: Words<'_>) -> Option<Call> {
+    let word = words.next()?;
+    let q = lane_of(words.next()?.bytes())?;
+    let h = helper_of(words.next()?.bytes())?;
+    match (words.next(), words.next()) {
+        (None, _) => help_alone(word.bytes(), q, h),
+        (Some(name), None) => help_wait(word.bytes(), q, h, item_of(table, name.bytes())),
+        _ => None,
+    }
+}
+
 /// The call that a line asks for by its first word and the words after it; none where it has the form of no call.
 fn read_call(table: &ItemTable<'_, Global>, word: &[u8], mut words: Words<'_>) -> Option<Call> {
+    if word == b"help".as_slice() {
+        return read_help(table, words);
+    }
     match (words.next(), words.next(), words.next()) {
         (None, _, _) if word == b"close".as_slice() => Some(Call::Close),
         (Some(what), None, _) => call_of(table, word, what.bytes()),
@@ -100,28 +140,53 @@ fn put_started(
     }
 }
 
-/// Adds the state of a book, after an answer, and the end of the line.
+/// Adds what the rescuer of a lane runs and waits for, and then so many helpers.
+fn put_lane(
+    out: &mut String,
+    table: &ItemTable<'_, Global>,
+    book: &Book<Global>,
+    helpers: u8,
+    q: LaneId,
+) -> Result<(), AllocError> {
+    out.push(' ')?;
+    put_item_or_none(out, table, book.running(q))?;
+    out.push(' ')?;
+    put_waiting(out, table, book.waiting(q), book.waiting_all(q))?;
+    for h in 0..helpers {
+        let h = h + 1;
+        out.push(' ')?;
+        put_item_or_none(out, table, book.help_running(q, h))?;
+        out.push(' ')?;
+        put_waiting(
+            out,
+            table,
+            book.help_waiting(q, h),
+            book.help_waiting_all(q, h),
+        )?;
+    }
+    Ok(())
+}
+
+/// Adds the state of a book with so many helpers, after an answer, and the end of the line.
 fn put_state(
     out: &mut String,
     table: &ItemTable<'_, Global>,
     book: &Book<Global>,
+    helpers: u8,
 ) -> Result<(), AllocError> {
     let entries = if book.is_idle() { "idle" } else { "busy" };
     let door = if book.is_closed() { "closed" } else { "open" };
     write!(out, " free {} {entries} {door}", book.free_rows())?;
     for q in 0..u16::try_from(book.lanes()).unwrap_or(u16::MAX) {
-        let q = LaneId::new(q);
-        out.push(' ')?;
-        put_item_or_none(out, table, book.running(q))?;
-        out.push(' ')?;
-        put_waiting(out, table, book.waiting(q), book.waiting_all(q))?;
+        put_lane(out, table, book, helpers, LaneId::new(q))?;
     }
     out.push('\n')
 }
 
-/// A book, and the asks that it handed out.
+/// A book, how many helpers each lane has that isn't ordered, and the asks that were handed out.
 struct Desk {
     book: Book<Global>,
+    helpers: u8,
     asks: Vec<Option<Asked>>,
     lane_asks: Vec<Option<LaneAsked>>,
 }
@@ -149,6 +214,11 @@ impl Desk {
             Call::WaitAll(q, item) => put_said(out, book.wait_all(q, item)),
             Call::Over(q) => put_said(out, book.over(q)),
             Call::Finish(q) => put_finished(out, book.finish(q)),
+            Call::HelpStart(q, h) => put_started(out, table, book.help_start(q, h)),
+            Call::HelpWait(q, h, item) => put_said(out, book.help_wait(q, h, item)),
+            Call::HelpWaitAll(q, h, item) => put_said(out, book.help_wait_all(q, h, item)),
+            Call::HelpOver(q, h) => put_said(out, book.help_over(q, h)),
+            Call::HelpFinish(q, h) => put_finished(out, book.help_finish(q, h)),
             Call::Close => {
                 book.close();
                 out.push_str("ok")
@@ -163,6 +233,7 @@ impl Desk {
             book,
             asks,
             lane_asks,
+            helpers: _,
         } = self;
         give_up_all(asks);
         lane_asks::give_up_all(lane_asks);
@@ -183,7 +254,7 @@ impl Listener for Desk {
         };
         let is_made = self.make(table, call, out)?;
         if is_made {
-            put_state(out, table, &self.book)?;
+            put_state(out, table, &self.book, self.helpers)?;
         }
         Ok(is_made)
     }
@@ -209,11 +280,13 @@ fn call_book(
     alloc: Global,
     table: &ItemTable<'_, Global>,
     book: Book<Global>,
+    helpers: u8,
     text: &[u8],
     out: &mut String,
 ) -> Result<u8, AllocError> {
     let mut desk = Desk {
         book,
+        helpers,
         asks: Vec::new(alloc),
         lane_asks: Vec::new(alloc),
     };
@@ -231,9 +304,10 @@ pub(crate) fn keep_book(
     text: &[u8],
     out: &mut String,
 ) -> Result<u8, AllocError> {
-    let core = Core::new(alloc, bed.table, bed.groups, bed.assignment)?;
+    let helpers = bed.helpers.min(MAX_HELPERS);
+    let core = Core::with_helpers(alloc, bed.table, bed.groups, bed.assignment, helpers)?;
     match Book::new(alloc, core, bed.rows) {
-        Ok(book) => call_book(alloc, bed.table, book, text, out),
+        Ok(book) => call_book(alloc, bed.table, book, helpers, text, out),
         Err(BookError::OutOfMemory) => Err(AllocError),
         Err(error) => {
             writeln!(out, "refused {}", error.code())?;

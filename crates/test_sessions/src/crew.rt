@@ -1,11 +1,11 @@
-//! A rescuer for each lane and a thread for each caller. Their bodies and callers do what a text says.
+//! A rescuer for each lane, its helpers, and a thread for each caller. Their bodies and callers do what a text says.
 //!
 //! It takes the time of the bodies and the callers, and then that of printing the history that they leave.
 
 ghost use Rattle.std.specs.Prelude.{◌≡◌, vec_len, slice_index, IfOk};
 ghost use Rattle.std.specs.List.{All};
 ghost use Rattle.wq_groups.specs.Declaration.{declaration_of};
-ghost use Rattle.wq_core.specs.Wiring.{wiring};
+ghost use Rattle.wq_core.specs.Wiring.{wiring, with_helpers};
 ghost use Rattle.wq_rescuer.specs.Executing.{NeverRan};
 
 use crate::deed::{Deed, Plot};
@@ -19,7 +19,7 @@ use std::sync::Wait;
 use std::thread::Threads;
 use wq_api::{Naming, WqRuntime};
 use wq_items::ItemTable;
-use wq_rescuer::{Ran, RunFault, run_all};
+use wq_rescuer::{Ran, RunFault, contexts_of, run_all};
 
 /// Bodies or callers that do these things, and can count this many items. Their numbers begin with this one.
 fn make_doers<'a>(
@@ -67,11 +67,11 @@ impl Crew {
         if let Some(line) = tell_text(&mut plot, table, text, &mut unused)? {
             return Ok(Err(line));
         }
-        let flags = Flags::new(alloc, plot.count())?;
+        let flags = Flags::new(alloc, plot.count(), table.len())?;
         Ok(Ok(Crew { plot, flags }))
     }
 
-    /// Has rescuers and callers do what the text says.
+    /// Has rescuers, helpers and callers do what the text says.
     fn perform<N: Naming + Send + Sync, R: Threads + Wait + Sync>(
         &self,
         rt: &R,
@@ -79,7 +79,7 @@ impl Crew {
         runtime: &WqRuntime<N, Global>,
         bed: &Bed<'_>,
     ) -> Result<CrewRan<'_, N>, AllocError>
-        requires { N.wiring ≡ wiring (declaration_of bed.now.table.now bed.now.groups.now) bed.now.assignment.now }
+        requires { N.wiring ≡ with_helpers (wiring (declaration_of bed.now.table.now bed.now.groups.now) bed.now.assignment.now) bed.now.helpers }
     {
         let items = bed.table.len();
         let bodies = make_doers(alloc, &self.flags, 0, items, &self.plot.bodies)?;
@@ -88,7 +88,7 @@ impl Crew {
         Ok(run_all(rt, alloc, runtime, bodies, callers))
     }
 
-    /// Has rescuers and callers do it, closes the runtime, and adds what is to be printed of it. Returns the status.
+    /// Has rescuers, helpers and callers do it, closes the runtime, and adds what is to be printed of it. Returns the status.
     pub(crate) fn run<N: Naming + Send + Sync, R: Threads + Wait + Sync>(
         &self,
         rt: &R,
@@ -98,9 +98,13 @@ impl Crew {
         account: Account,
         out: &mut String,
     ) -> Result<u8, AllocError>
-        requires { N.wiring ≡ wiring (declaration_of bed.now.table.now bed.now.groups.now) bed.now.assignment.now }
+        requires { N.wiring ≡ with_helpers (wiring (declaration_of bed.now.table.now bed.now.groups.now) bed.now.assignment.now) bed.now.helpers }
     {
+        let contexts = contexts_of(rt, alloc, &runtime)?;
         let ran = self.perform(rt, alloc, &runtime, bed);
-        put_end(out, alloc, bed, runtime, ran, account)
+        let status = put_end(out, alloc, bed, runtime, &contexts, ran, account);
+        // Written as a call, so that the proof has one step for it.
+        drop(contexts);
+        status
     }
 }

@@ -30,6 +30,8 @@ pub(crate) enum Deed {
     Dawdle,
     /// Sees whether so many have dawdled.
     Seen(u32),
+    /// A body goes on for a while, and sees whether its item is run only once at a time. A caller skips this.
+    Alone,
     /// A caller says that the end has come, destroys the runtime, and looks whether those that lingered have ended. A body skips
     /// this.
     Destroy,
@@ -38,7 +40,7 @@ pub(crate) enum Deed {
 /// What a line says.
 #[derive(Clone, Copy)]
 enum Entry {
-    /// A body begins, that of the next lane.
+    /// A body begins, that of the next rescuer or helper.
     Body,
     /// A caller begins.
     Caller,
@@ -54,6 +56,7 @@ fn entry_alone(word: &[u8]) -> Option<Entry> {
         b"meet" => Some(Entry::Deed(Deed::Meet)),
         b"linger" => Some(Entry::Deed(Deed::Linger)),
         b"dawdle" => Some(Entry::Deed(Deed::Dawdle)),
+        b"alone" => Some(Entry::Deed(Deed::Alone)),
         b"destroy" => Some(Entry::Deed(Deed::Destroy)),
         _ => None,
     }
@@ -170,7 +173,7 @@ fn act_of(deed: Deed) -> Option<Act> {
         Deed::Cancel(item) => Some(Act::Cancel(item)),
         Deed::CancelSync(item) => Some(Act::CancelSync(item)),
         Deed::FlushLane(q) => Some(Act::FlushLane(q)),
-        Deed::FlushAll(_) | Deed::GiveUp(_) => None,
+        Deed::FlushAll(_) | Deed::GiveUp(_) | Deed::Alone => None,
         Deed::Meet | Deed::Linger | Deed::Dawdle | Deed::Seen(_) | Deed::Destroy => None,
     }
 }

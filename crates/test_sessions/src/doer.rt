@@ -74,6 +74,7 @@ fn do_in_body<N: Naming, A: Allocator, R: Wait>(
         Deed::Linger => return Ok(flags.linger()),
         Deed::Dawdle => return Ok(flags.dawdle()),
         Deed::Seen(count) => return Ok(flags.have_dawdled(count)),
+        Deed::Alone => return Ok(flags.run_alone(work.item())),
     };
     match answer {
         Ok(_) => Ok(true),
@@ -165,7 +166,7 @@ fn do_in_caller<N: Naming, A: Allocator, R: Wait>(
         Deed::Cancel(item) => runtime.cancel_work(rt, seat, item),
         Deed::CancelSync(item) => runtime.cancel_work_sync(rt, seat, item),
         Deed::FlushLane(q) => runtime.flush_workqueue(rt, seat, q).and(Ok(true)),
-        Deed::FlushAll(_) | Deed::GiveUp(_) => return Ok(true),
+        Deed::FlushAll(_) | Deed::GiveUp(_) | Deed::Alone => return Ok(true),
         Deed::Meet => return Ok(flags.meet(number)),
         Deed::Linger => return Ok(flags.linger()),
         Deed::Dawdle => return Ok(flags.dawdle()),

@@ -3,10 +3,10 @@
 ghost use Rattle.std.specs.Prelude.{◌≡◌, ◌≤◌, ◌*◌, length};
 ghost use Rattle.wq_core.specs.State.{empty_state};
 
-use crate::testbed::{Bed, put_item_or_none, put_waiting};
+use crate::testbed::{Bed, put_context, put_item_or_none, put_waiting};
 use hex::FromHexError;
 use std::alloc::{AllocError, Global};
-use wq_core::Core;
+use wq_core::{Context, Core, MAX_HELPERS};
 use wq_groups::LaneId;
 use wq_history::{MAX_ROWS, RowError, RowFault, check_rows};
 use wq_items::{ItemId, ItemTable};
@@ -32,23 +32,37 @@ fn bytes_of(alloc: Global, text: &[u8]) -> Result<Option<Vec<u8>>, AllocError> {
     }
 }
 
-/// Adds the state of a lane.
+/// Adds what a context runs, and what that waits for.
+fn put_running(
+    out: &mut String,
+    table: &ItemTable<'_, Global>,
+    core: &Core<Global>,
+    context: &Context,
+) -> Result<(), AllocError> {
+    out.push_str(" runs ")?;
+    let running = core.running_in(context.lane, context.helper);
+    put_item_or_none(out, table, running.map(|r| r.entry.item))?;
+    out.push_str(" waits ")?;
+    let (target, whole) = match core
+        .running_in(context.lane, context.helper)
+        .and_then(|r| r.waiting)
+    {
+        None => (None, None),
+        Some(waiting) if waiting.whole => (None, Some(waiting.target)),
+        Some(waiting) => (Some(waiting.target), None),
+    };
+    put_waiting(out, table, target, whole)
+}
+
+/// Adds the state of a lane, without its helpers.
 fn put_lane(
     out: &mut String,
     table: &ItemTable<'_, Global>,
     core: &Core<Global>,
     q: LaneId,
 ) -> Result<(), AllocError> {
-    write!(out, "lane {} runs ", q.get())?;
-    let running = core.running_on(q);
-    put_item_or_none(out, table, running.map(|r| r.entry.item))?;
-    out.push_str(" waits ")?;
-    let (target, whole) = match core.running_on(q).and_then(|r| r.waiting) {
-        None => (None, None),
-        Some(waiting) if waiting.whole => (None, Some(waiting.target)),
-        Some(waiting) => (Some(waiting.target), None),
-    };
-    put_waiting(out, table, target, whole)?;
+    write!(out, "lane {}", q.get())?;
+    put_running(out, table, core, &Context::rescuer(q))?;
     out.push_str(" pending")?;
     for i in 0..table.len() {
         let item = ItemId::new(i);
@@ -60,15 +74,37 @@ fn put_lane(
     out.push('\n')
 }
 
-/// Adds the state of a machine.
+/// Adds the state of so many helpers of a lane.
+fn put_helpers(
+    out: &mut String,
+    table: &ItemTable<'_, Global>,
+    core: &Core<Global>,
+    helpers: u8,
+    lane: LaneId,
+) -> Result<(), AllocError> {
+    for h in 0..helpers {
+        let context = Context {
+            lane,
+            helper: h + 1,
+        };
+        put_context(out, &context)?;
+        put_running(out, table, core, &context)?;
+        out.push('\n')?;
+    }
+    Ok(())
+}
+
+/// Adds the state of a machine, with so many helpers for each lane.
 fn put_replay(
     out: &mut String,
     table: &ItemTable<'_, Global>,
     core: &Core<Global>,
+    helpers: u8,
 ) -> Result<(), AllocError> {
     writeln!(out, "next {}", core.next_number())?;
     for q in 0..u16::try_from(core.lanes()).unwrap_or(u16::MAX) {
         put_lane(out, table, core, LaneId::new(q))?;
+        put_helpers(out, table, core, helpers, LaneId::new(q))?;
     }
     Ok(())
 }
@@ -94,6 +130,7 @@ fn judge_rows(
     alloc: Global,
     table: &ItemTable<'_, Global>,
     core: &mut Core<Global>,
+    helpers: u8,
     packed: &[u8],
     out: &mut String,
 ) -> Result<u8, AllocError>
@@ -102,7 +139,7 @@ fn judge_rows(
 {
     let judgement = check_rows(alloc, core, packed);
     let status = put_judgement(out, judgement)?;
-    put_replay(out, table, core)?;
+    put_replay(out, table, core, helpers)?;
     Ok(status)
 }
 
@@ -113,10 +150,17 @@ pub(crate) fn judge(
     text: &[u8],
     out: &mut String,
 ) -> Result<u8, AllocError> {
+    let helpers = bed.helpers.min(MAX_HELPERS);
     match bytes_of(alloc, text)? {
         Some(packed) if packed.len() <= 12 * MAX_ROWS as usize => {
-            let mut core = Core::new(alloc, bed.table, bed.groups, bed.assignment)?;
-            let status = judge_rows(alloc, bed.table, &mut core, &packed, out);
+            let mut core = Core::with_helpers(
+                alloc,
+                bed.table,
+                bed.groups,
+                bed.assignment,
+                helpers,
+            )?;
+            let status = judge_rows(alloc, bed.table, &mut core, helpers, &packed, out);
             drop(core);
             status
         }

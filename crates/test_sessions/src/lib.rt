@@ -24,4 +24,5 @@ mod sleeping;
 pub mod testbed;
 
 pub use answering::answer;
+pub use ran::put_contexts;
 pub use requests::{Request, Task};

@@ -1,8 +1,9 @@
-//! How threads see each other: a flag for each, one for the end, and a count of those that dawdled. Looking takes as long as the
-//! others let it wait, but at most 1,000,000,000 looks for each.
+//! How threads see each other: a flag for each, one for the end, a count of those that dawdled, and for each item how many run it.
+//! Looking takes as long as the others let it wait, but at most 1,000,000,000 looks for each.
 
 use std::alloc::{AllocError, Global};
 use std::sync::atomic::{AtomicBool, AtomicU32, Ordering};
+use wq_items::ItemId;
 
 /// How often a thread looks for another.
 const LOOKS: u32 = 1_000_000_000;
@@ -21,6 +22,8 @@ pub(crate) struct Flags {
     has_lingered: AtomicBool,
     /// How often a thread has dawdled.
     dawdled: AtomicU32,
+    /// How many runs of each item are under way that count themselves.
+    under_way: Vec<AtomicU32>,
 }
 
 /// Looks for a flag until it is set.
@@ -34,13 +37,18 @@ fn look(flag: &AtomicBool) -> bool {
 }
 
 impl Flags {
-    /// Flags for this many threads. None of them is set.
-    pub(crate) fn new(alloc: Global, count: usize) -> Result<Flags, AllocError> {
+    /// Flags for this many threads, and counts for this many items. None is set.
+    pub(crate) fn new(alloc: Global, count: usize, items: u16) -> Result<Flags, AllocError> {
         let mut here = Vec::new(alloc);
         for _ in 0..count {
             here.push(AtomicBool::new(false))?;
         }
+        let mut under_way = Vec::new(alloc);
+        for _ in 0..items {
+            under_way.push(AtomicU32::new(0))?;
+        }
         Ok(Flags {
+            under_way,
             here,
             is_ending: AtomicBool::new(false),
             has_lingered: AtomicBool::new(false),
@@ -83,6 +91,19 @@ impl Flags {
         }
         self.dawdled.fetch_add(1, Ordering::SeqCst);
         true
+    }
+
+    /// Counts a run of this item as under way, goes on for a while, and counts it no more. It returns whether no other one was under
+    /// way meanwhile.
+    pub(crate) fn run_alone(&self, item: ItemId) -> bool {
+        let Some(count) = self.under_way.get(usize::from(item.get())) else {
+            return false;
+        };
+        let mut is_alone = count.fetch_add(1, Ordering::SeqCst) == 0;
+        for _ in 0..FEW_LOOKS {
+            is_alone = count.load(Ordering::SeqCst) == 1 && is_alone;
+        }
+        count.fetch_sub(1, Ordering::SeqCst) == 1 && is_alone
     }
 
     /// Whether threads have dawdled so often at least.

@@ -1,9 +1,10 @@
-//! What is printed once all rescuers and callers have ended. It takes time in the length of what is printed.
+//! What is printed once all rescuers, helpers and callers have ended. It takes time in the length of what is printed.
 
-use crate::testbed::{Bed, fault, put_closed, put_done};
+use crate::testbed::{Bed, fault, put_closed, put_context, put_done};
 use std::alloc::{AllocError, Global};
 use std::{mem, str};
 use wq_api::{CallError, Naming, Seat, WqRuntime};
+use wq_core::Context;
 use wq_items::ItemTable;
 use wq_rescuer::{Body, Caller, Ran, Rescued, RunFault};
 use wq_run::report_text;
@@ -37,26 +38,31 @@ impl Shown for ScriptCaller<Global> {
     }
 }
 
-/// Adds what a rescuer answered.
+/// Adds what a context answered.
 fn put_rescued(
     out: &mut String,
-    q: usize,
+    context: &Context,
     rescued: &Result<Rescued, CallError>,
 ) -> Result<(), AllocError> {
+    put_context(out, context)?;
     match rescued {
-        Ok(lane) => writeln!(
+        Ok(rescued) => writeln!(
             out,
-            "lane {q} finished {} faults {}",
-            lane.finished, lane.faults
+            " finished {} faults {}",
+            rescued.finished, rescued.faults
         ),
-        Err(error) => writeln!(out, "lane {q} refused {}", error.code()),
+        Err(error) => writeln!(out, " refused {}", error.code()),
     }
 }
 
-/// Adds what the rescuers answered, lane by lane.
-fn put_lanes(out: &mut String, lanes: &[Result<Rescued, CallError>]) -> Result<(), AllocError> {
-    for (q, rescued) in lanes.iter().enumerate() {
-        put_rescued(out, q, rescued)?;
+/// Adds what the contexts answered, lane by lane: the rescuer, then its helpers.
+pub fn put_contexts(
+    out: &mut String,
+    contexts: &[Context],
+    rescued: &[Result<Rescued, CallError>],
+) -> Result<(), AllocError> {
+    for (context, rescued) in contexts.iter().zip(rescued.iter()) {
+        put_rescued(out, context, rescued)?;
     }
     Ok(())
 }
@@ -94,10 +100,11 @@ fn put_callers<C: Shown>(out: &mut String, callers: &[C]) -> Result<(), AllocErr
 /// Adds what all threads left.
 fn put_left<N: Naming, B: Body + Shown + Drop, C: Caller + Shown + Drop>(
     out: &mut String,
+    contexts: &[Context],
     ran: &Ran<N, Global, B, C>,
 ) -> Result<(), AllocError> {
     writeln!(out, "finished {} faults {}", ran.finished, ran.faults)?;
-    put_lanes(out, &ran.rescued)?;
+    put_contexts(out, contexts, &ran.rescued)?;
     put_bodies(out, &ran.bodies)?;
     put_results(out, &ran.results)?;
     put_callers(out, &ran.callers)
@@ -145,9 +152,10 @@ fn put_ran<N: Naming, B: Body + Shown + Drop, C: Caller + Shown + Drop>(
     out: &mut String,
     table: &ItemTable<'_, Global>,
     runtime: WqRuntime<N, Global>,
+    contexts: &[Context],
     ran: Ran<N, Global, B, C>,
 ) -> Result<u8, AllocError> {
-    let printed = put_left(out, &ran);
+    let printed = put_left(out, contexts, &ran);
     let Ran { seats, .. } = ran;
     let status = close(out, table, runtime, seats);
     printed.and(status)
@@ -202,11 +210,12 @@ pub(crate) fn put_end<N: Naming, B: Body + Shown + Drop, C: Caller + Shown + Dro
     alloc: Global,
     bed: &Bed<'_>,
     runtime: WqRuntime<N, Global>,
+    contexts: &[Context],
     ran: Result<Result<Ran<N, Global, B, C>, RunFault<N, Global, B, C>>, AllocError>,
     account: Account,
 ) -> Result<u8, AllocError> {
     match (ran, account) {
-        (Ok(Ok(ran)), Account::Whole) => put_ran(out, bed.table, runtime, ran),
+        (Ok(Ok(ran)), Account::Whole) => put_ran(out, bed.table, runtime, contexts, ran),
         (Ok(Ok(ran)), Account::Report) => put_report(out, alloc, bed, runtime, ran),
         (Ok(Err(refused)), _) => put_refused(out, runtime, refused),
         (Err(error), _) => {

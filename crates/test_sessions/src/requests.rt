@@ -2,7 +2,7 @@
 
 ghost use Rattle.std.specs.Prelude.{◌≡◌};
 ghost use Rattle.wq_groups.specs.Declaration.{declaration_of};
-ghost use Rattle.wq_core.specs.Wiring.{wiring};
+ghost use Rattle.wq_core.specs.Wiring.{wiring, with_helpers};
 
 use crate::book::keep_book;
 use crate::crew::Crew;
@@ -22,9 +22,9 @@ use wq_api::{Naming, WqRuntime};
 /// What is to be done.
 #[derive(Clone, Copy)]
 pub enum Task {
-    /// The calls of a text are made of a book.
+    /// The calls of a text are made of a book. It has 8 helpers at most.
     Book,
-    /// The rows of a history are judged, which the text has in hexadecimal digits.
+    /// The rows of a history are judged, which the text has in hexadecimal digits. There are 8 helpers at most.
     Check,
     /// The calls of a text are made of a runtime, in one thread but for those that sleep.
     Calls,
@@ -78,7 +78,7 @@ impl Play<'_> {
         bed: &Bed<'_>,
         out: &mut String,
     ) -> Result<u8, AllocError>
-        requires { N.wiring ≡ wiring (declaration_of bed.now.table.now bed.now.groups.now) bed.now.assignment.now }
+        requires { N.wiring ≡ with_helpers (wiring (declaration_of bed.now.table.now bed.now.groups.now) bed.now.assignment.now) bed.now.helpers }
     {
         match self {
             Play::Calls(text) => keep_session(rt, alloc, runtime, bed.table, *text, out),
@@ -104,7 +104,7 @@ fn play_named<N: Naming + Send + Sync, R: Threads + Wait + Clock + Sync>(
     requires name { blank.name ≡ N.name }
     requires parts { blank.parts ≡ N.parts }
     requires all_parts { N.parts ≡ 65536 }
-    requires of_wiring { N.wiring ≡ wiring (declaration_of bed.now.table.now bed.now.groups.now) bed.now.assignment.now }
+    requires of_wiring { N.wiring ≡ with_helpers (wiring (declaration_of bed.now.table.now bed.now.groups.now) bed.now.assignment.now) bed.now.helpers }
     requires of_rows { N.rows ≡ bed.now.rows }
 {
     match make::<N>(alloc, blank, bed, out)? {

@@ -1,11 +1,11 @@
-//! A rescuer for each lane whose body makes the declared flushes of its items, and two callers that queue all items and then
-//! flush them, or one caller that makes the calls of a text.
+//! A rescuer for each lane and its helpers, whose bodies make the declared flushes of their items, and two callers that queue all
+//! items and then flush them, or one caller that makes the calls of a text.
 //!
 //! It takes the time of the bodies and the callers, and then that of printing the history that they leave.
 
 ghost use Rattle.std.specs.Prelude.{◌≡◌};
 ghost use Rattle.wq_groups.specs.Declaration.{declaration_of};
-ghost use Rattle.wq_core.specs.Wiring.{wiring};
+ghost use Rattle.wq_core.specs.Wiring.{wiring, with_helpers};
 
 use crate::lines::tell_text;
 use crate::ran::{Account, put_end};
@@ -15,7 +15,7 @@ use std::sync::Wait;
 use std::thread::Threads;
 use wq_api::{Naming, WqRuntime};
 use wq_items::ItemTable;
-use wq_rescuer::{Ran, RunFault, run_all};
+use wq_rescuer::{Ran, RunFault, contexts_of, count_contexts, run_all};
 use wq_script::{Act, ScriptBody, ScriptCaller, script_bodies, script_callers};
 
 /// The calls of the caller; without them there are the two callers that queue and flush all items.
@@ -61,7 +61,7 @@ impl Script {
         Ok(callers)
     }
 
-    /// Has rescuers make the declared flushes while the callers call.
+    /// Has rescuers and helpers make the declared flushes while the callers call.
     fn perform<'t, N: Naming + Send + Sync, R: Threads + Wait + Sync>(
         &self,
         rt: &R,
@@ -69,14 +69,14 @@ impl Script {
         runtime: &WqRuntime<N, Global>,
         bed: &Bed<'t>,
     ) -> Result<ScriptRan<'t, 't, N>, AllocError>
-        requires { N.wiring ≡ wiring (declaration_of bed.now.table.now bed.now.groups.now) bed.now.assignment.now }
+        requires { N.wiring ≡ with_helpers (wiring (declaration_of bed.now.table.now bed.now.groups.now) bed.now.assignment.now) bed.now.helpers }
     {
-        let bodies = script_bodies(alloc, bed.table, runtime.lanes(rt))?;
+        let bodies = script_bodies(alloc, bed.table, count_contexts(rt, runtime))?;
         let callers = self.callers(alloc, bed.table.len())?;
         Ok(run_all(rt, alloc, runtime, bodies, callers))
     }
 
-    /// Has rescuers and callers do it, closes the runtime, and adds what came of it. Returns the status.
+    /// Has rescuers, helpers and callers do it, closes the runtime, and adds what came of it. Returns the status.
     pub(crate) fn run<N: Naming + Send + Sync, R: Threads + Wait + Sync>(
         &self,
         rt: &R,
@@ -85,9 +85,12 @@ impl Script {
         bed: &Bed<'_>,
         out: &mut String,
     ) -> Result<u8, AllocError>
-        requires { N.wiring ≡ wiring (declaration_of bed.now.table.now bed.now.groups.now) bed.now.assignment.now }
+        requires { N.wiring ≡ with_helpers (wiring (declaration_of bed.now.table.now bed.now.groups.now) bed.now.assignment.now) bed.now.helpers }
     {
+        let contexts = contexts_of(rt, alloc, &runtime)?;
         let ran = self.perform(rt, alloc, &runtime, bed);
-        put_end(out, alloc, bed, runtime, ran, Account::Whole)
+        let status = put_end(out, alloc, bed, runtime, &contexts, ran, Account::Whole);
+        drop(contexts);
+        status
     }
 }

@@ -72,6 +72,13 @@ fn make_counted<N: Naming, R: Wait>(
         Counted::Wait(q, item) => put_said(out, runtime.wait_for(rt, seat, q, item)),
         Counted::WaitAll(q, item) => put_said(out, runtime.wait_all_for(rt, seat, q, item)),
         Counted::Finish(q, item) => put_done(out, runtime.finish_work(rt, seat, q, item)),
+        Counted::HelpWait(q, h, item) => put_said(out, runtime.help_wait_for(rt, seat, q, h, item)),
+        Counted::HelpWaitAll(q, h, item) => {
+            put_said(out, runtime.help_wait_all_for(rt, seat, q, h, item))
+        }
+        Counted::HelpFinish(q, h, item) => {
+            put_done(out, runtime.help_finish_work(rt, seat, q, h, item))
+        }
     }
 }
 
@@ -185,6 +192,8 @@ impl<N: Naming> Seats<N> {
             Call::Tell(item) => self.tell(item, out),
             Call::TellLane(q) => self.tell_lane(q, out),
             Call::Next(q) => put_next(out, table, runtime.next(rt, q)),
+            Call::HelpNext(q, h) => put_next(out, table, runtime.help_next(rt, q, h)),
+            Call::Helpers(q) => write!(out, "{}", runtime.helpers_of(rt, q)),
             Call::Lanes => write!(out, "{}", runtime.lanes(rt)),
             Call::Lane(item) => put_lane(out, runtime.lane_of(rt, item)),
             Call::Destroy => {

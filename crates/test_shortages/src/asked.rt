@@ -106,7 +106,16 @@ fn run<R: Threads + Wait + Sync, A: Allocator + Copy + Send + Sync>(
         teller,
     } = devices;
     let voice = Diagnosing::one(SEED, "d");
-    let ended = carry_out_run(rt, alloc, SEED, &voice, &mut readers.first, writer, teller);
+    let ended = carry_out_run(
+        rt,
+        alloc,
+        SEED,
+        2,
+        &voice,
+        &mut readers.first,
+        writer,
+        teller,
+    );
     end_of_run(ended)
 }
 

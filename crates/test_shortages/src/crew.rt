@@ -12,7 +12,7 @@ use std::sync::Wait;
 use std::thread::Threads;
 use wq_api::{Naming, WqRuntime};
 use wq_items::ItemTable;
-use wq_rescuer::{Ran, RunFault, RunWhy, run_all};
+use wq_rescuer::{Ran, RunFault, RunWhy, count_contexts, run_all};
 use wq_script::{script_bodies, script_callers};
 
 /// Runs all on a runtime of two lanes, and closes it. Where there is no memory for it, both bodies and both callers are handed
@@ -24,7 +24,7 @@ pub(crate) fn serve<
 >(rt: &R, ample: A, heap: A, runtime: WqRuntime<N, A>, table: &ItemTable<'_, A>) -> Outcome
     requires { items N.wiring ≡ length table.now.waits }
 {
-    let Ok(bodies) = script_bodies(ample, table, runtime.lanes(rt)) else {
+    let Ok(bodies) = script_bodies(ample, table, count_contexts(rt, &runtime)) else {
         return Outcome::Wrong;
     };
     let Ok(callers) = script_callers(ample, table.len()) else {

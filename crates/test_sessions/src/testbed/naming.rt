@@ -1,4 +1,4 @@
-//! Which item and which lane a word means. Finding an item takes constant time, on the average.
+//! Which item, which lane and which helper a word means. Finding an item takes constant time, on the average.
 
 use std::alloc::Global;
 use wq_groups::LaneId;
@@ -14,4 +14,9 @@ pub fn item_of(table: &ItemTable<'_, Global>, name: &[u8]) -> ItemId {
 pub fn lane_of(digits: &[u8]) -> Option<LaneId> {
     let q = u16::try_from(number(digits)?).ok()?;
     Some(LaneId::new(q))
+}
+
+/// The helper with the number in these digits, which is at most 255.
+pub fn helper_of(digits: &[u8]) -> Option<u8> {
+    u8::try_from(number(digits)?).ok()
 }

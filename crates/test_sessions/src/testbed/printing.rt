@@ -3,6 +3,7 @@
 use std::alloc::{AllocError, Global};
 use std::str;
 use wq_api::CallError;
+use wq_core::Context;
 use wq_items::{ItemId, ItemTable};
 
 /// Adds the refusal of a text. Returns the status.
@@ -34,6 +35,15 @@ pub fn put_done(out: &mut String, done: Result<(), CallError>) -> Result<(), All
         Ok(()) => out.push_str("ok"),
         Err(error) => put_code(out, error.code()),
     }
+}
+
+/// Adds which context it is: a lane's rescuer, or one of its helpers.
+pub fn put_context(out: &mut String, context: &Context) -> Result<(), AllocError> {
+    write!(out, "lane {}", context.lane.get())?;
+    if context.helper == 0 {
+        return Ok(());
+    }
+    write!(out, " helper {}", context.helper)
 }
 
 /// Adds the name of an item, or `-` where it has none.
