@@ -108,7 +108,7 @@ HasWaiter w q whole b (Err NoItem) = Unit {0}
 abbrev pub waited_for : List ℕ → Bool → ℕ → Bool → List ℕ
 waited_for old whole b unfinished = raised (raised old b (wait_kind whole) unfinished) b (over_kind whole) true
 
--- counts after a refused wait of this kind on lane q: if the lane no longer waits (64), its wait stays counted; otherwise
+-- counts after a refused wait of this kind of lane q's rescuer: if it no longer waits (64), its wait stays counted; otherwise
 -- nothing was counted
 abbrev pub RefusedWaitFor : Wiring → List ℕ → List ℕ → ℕ → Bool → ℕ → CallError → Type 0
 RefusedWaitFor w old new q whole b WrongLane = (new ≡ old) ⊎ ((q < w.lanes) × (unfinished : Bool) × (new ≡ raised old b (wait_kind whole) unfinished))

@@ -1,4 +1,4 @@
-//! The core machine: what may happen while memory is short, and what it does.
+//! The core machine: what may happen, however short memory is, and what it does.
 //!
 //! What the layer above relies on: a step is made exactly where it is lawful, with its effect. Each lane is a workqueue with
 //! WQ_MEM_RECLAIM, whose execution contexts are its rescuer and, unless it runs its items in order, up to 8 helpers
