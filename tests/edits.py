@@ -1,7 +1,8 @@
 """Tries wrong bodies: the prover must refuse each edit of tests/edits.
 
-It is run at the top of the repository. An edit is a file tests/edits/CRATE/MISTAKE.edit, in the form of `rt ci`: a line `file: src/a.rt`,
-and then pairs of lines `old: TEXT` and `new: TEXT`, of which each old text stands exactly once in that file.
+It is run at the top of the repository. An edit is a file tests/edits/CRATE/MISTAKE.edit, or tests/edits/CRATE/known/MISTAKE.edit if the
+gate is to try it each time. It has the form of `rt ci`: a line `file: src/a.rt`, and then pairs of lines `old: TEXT` and `new: TEXT`, of
+which each old text stands exactly once in that file.
 
 Several edits of a crate are tried in one round: one check of a copy of the crate, of exactly the edited functions (`rattle check --only`).
 No two edits of a round change one function, and no edited function calls another one, directly or over others. An edit that isn't
@@ -13,8 +14,9 @@ enough that it calls what isn't proved, that a proof file names what the edit to
 that the prover can't tell. In each round one function that isn't edited, and calls no edited one, has to be proved.
 
 The libraries below are brought up to date first, by `rattle build` into out/rlib. As with make, one is out of date where it is older than a
-source of its crate or than a library below it. RT_JOBS in the environment is how many rounds run at a time, 1 by default. The status is 0
-where each edit is refused, and 1 otherwise."""
+source of its crate or than a library below it. With --built they are taken as they are: the gate has just built them. RT_JOBS in the
+environment is how many rounds run at a time, 1 by default. The status is 0 where each edit is refused, and 1 otherwise. A run that finds
+no edit fails."""
 import argparse
 import collections
 import concurrent.futures
@@ -450,11 +452,18 @@ class Said:
         return f'NOT REFUSED: {function.name} is still proved'
 
 
+def homes(crate, given):
+    """The folders of the edits of a crate that are to be tried."""
+    all_of = [] if given.known else [f'tests/edits/{crate}']
+    return [*all_of, f'tests/edits/{crate}/known', *([f'crates/{crate}/must-fail'] if given.must_fail else [])]
+
+
 def look(tree):
     """Says which edits no longer apply. Returns how many do, and how many don't."""
     good = bad = 0
     folders = [(it, f'crates/{it}/must-fail') for it in sorted(os.listdir('crates'))]
-    folders += [(it, f'tests/edits/{it}') for it in sorted(os.listdir('tests/edits')) if os.path.isdir(f'tests/edits/{it}')]
+    mine = [it for it in sorted(os.listdir('tests/edits')) if os.path.isdir(f'tests/edits/{it}')]
+    folders += [(it, folder) for it in mine for folder in (f'tests/edits/{it}', f'tests/edits/{it}/known')]
     for crate, folder in folders:
         edits = edits_in(folder)
         found = Crate(tree, crate) if edits and crate in tree.uses else None
@@ -475,12 +484,13 @@ def try_all(tree, given):
     with concurrent.futures.ThreadPoolExecutor(int(jobs) if jobs.isdigit() and jobs != '0' else 1) as pool:
         try:
             for name in [it for it in tree.uses if not given.crates or it in given.crates]:
-                edits = edits_in(f'tests/edits/{name}') + (edits_in(f'crates/{name}/must-fail') if given.must_fail else [])
+                edits = [edit for folder in homes(name, given) for edit in edits_in(folder)]
                 if edits:
                     crate = Crate(tree, name)
                     words = {it: why for it in edits for why in [crate.why_not(it)] if why}
                     rounds = crate.rounds([it for it in edits if it not in words], given.alone)
-                    tree.bring_up_to_date(name)
+                    if not given.built:
+                        tree.bring_up_to_date(name)
                     begun.append((name, edits, words, [pool.submit(crate.tried, it) for it in rounds]))
             for name, edits, words, rounds in begun:
                 for found in rounds:
@@ -497,6 +507,8 @@ def try_all(tree, given):
         if os.path.isdir(f'tests/edits/{name}'):
             print(f'tests/edits/{name}: crates.txt has no such crate')
             bad += 1
+    if not good + bad:
+        raise Stop('there is no edit to try')
     return good, bad
 
 
@@ -506,6 +518,8 @@ def main():
     parser = argparse.ArgumentParser(prog='tests/edits.sh', description=about, epilog=more, formatter_class=how)
     parser.add_argument('crates', nargs='*', metavar='CRATE', help='tries the edits of these crates alone')
     for flag, what in (
+        ('--known', 'tries those in tests/edits/CRATE/known alone, as the gate does'),
+        ('--built', 'takes the libraries below as they are'),
         ('--alone', 'tries them one at a time; what it prints is the same'),
         ('--must-fail', 'tries those in crates/CRATE/must-fail too, which `rt ci` tries'),
         ('--look', 'tries none, and only says which no longer apply, those in must-fail among them'),

@@ -1,7 +1,7 @@
 #!/usr/bin/env bash
 # Tests tests/edits.py on a repository of two small crates: what it says of edits that are refused, and of each kind that isn't;
-# that one at a time they come to the same; which edits no longer apply; what it does about the library below; and that an
-# interrupt leaves nothing behind. It needs no program, and takes less than a minute.
+# that one at a time they come to the same; which edits no longer apply; which are the known ones; what it does about the library
+# below; and that an interrupt leaves nothing behind. It needs no program, and takes less than a minute.
 set -u
 script=$(realpath -- "$(dirname "$0")/edits.py")
 work=$(mktemp -d)
@@ -98,6 +98,8 @@ edit $edits f_breaks_a_callee '    THREE' '    THREE + 1' '    let two = low::tw
 edit $edits g_is_gone '    two + four()' '    two'
 edit $edits h_is_of_a_constant 'const THREE: u32 = 3;' 'const THREE: u32 = 4;'
 edit crates/high/must-fail i_is_gone_too '    two + four()' '    two'
+edit $edits/known j_is_gone_and_known '    two + four()' '    two'
+edit $edits/known k_refused_and_known '    7' '    8'
 
 # said [FLAG ..]: what the script says, without line numbers, and its status.
 said() {
@@ -109,7 +111,8 @@ check 'what no longer applies' "$(cat <<'END'
 crates/high/must-fail/i_is_gone_too.edit: its old text stands in src/lib.rt 0 times
 tests/edits/high/d_changes_nothing.edit: it changes nothing
 tests/edits/high/g_is_gone.edit: its old text stands in src/lib.rt 0 times
-edits: 6 apply, 3 do not
+tests/edits/high/known/j_is_gone_and_known.edit: its old text stands in src/lib.rt 0 times
+edits: 7 apply, 4 do not
 status 1
 END
 )" "$(said --look)"
@@ -124,12 +127,27 @@ high/e_does_not_compile: does not compile: src/lib.rt: ..
 high/f_breaks_a_callee: only a callee: five: ..
 high/g_is_gone: its old text stands in src/lib.rt 0 times
 high/h_is_of_a_constant: refused: three: returns
-edits: 3 passed, 5 failed
+high/j_is_gone_and_known: its old text stands in src/lib.rt 0 times
+high/k_refused_and_known: refused: seven: returns
+edits: 4 passed, 6 failed
 status 1
 END
 )" "$(said high)"
 
-rm $edits/[c-h]_*.edit crates/high/must-fail/*.edit
+rm $edits/[c-h]_*.edit $edits/known/j_*.edit crates/high/must-fail/*.edit
+check 'the known ones' "$(cat <<'END'
+high/k_refused_and_known: refused: seven: returns
+edits: 1 passed, 0 failed
+status 0
+END
+)" "$(said --known --built)"
+rm -r $edits/known
+check 'where there is none' "$(cat <<'END'
+edits: there is no edit to try
+status 1
+END
+)" "$(said --known --built)"
+
 check 'one at a time' "$(cat <<'END'
 high/a_refused_one: refused: five: returns
 high/b_refused_too: refused: larger: returns-else-a-b-clause-first, returns-then-a-b-clause-second
@@ -151,6 +169,7 @@ check 'what runs after an interrupt' gone "$(kill -0 $running 2>/dev/null && ech
 
 sed -i 's/^    2$/    3/' crates/low/src/lib.rt
 check 'a library that is out of date, and not proved' 'status 1' "$(said high | grep -v 'building the library low\|the library low isn.t proved')"
+check 'a library that is out of date, and taken as it is' 'status 0' "$(said high --built | tail -n 1)"
 
 echo "edits_test: $passed passed, $failed failed"
 [ "$failed" = 0 ]

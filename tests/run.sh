@@ -2,11 +2,11 @@
 # All tests.
 #
 #     bash tests/run.sh                      the gate
-#     bash tests/run.sh edits                the gate, and the wrong bodies of tests/edits
+#     bash tests/run.sh edits                the gate, with all wrong bodies of tests/edits in place of the known ones
 #     bash tests/run.sh program [PROGRAM]    the scripts that need no program but wqplan; takes minutes
 #
-# The gate is the toolchain's (proofs, must-fail edits, tests, the stored run), and then the scripts that test what no proof covers.
-# They use the programs that it leaves at crates/NAME/out/NAME. `program` takes the wqplan that install.sh built in ~/.cache/wqplan or
+# The gate is the toolchain's (proofs, must-fail edits, tests, the stored run), then the known wrong bodies (tests/edits/NAME/known), and
+# then the scripts that test what no proof covers. They use what it leaves at crates/NAME/out. `program` takes the wqplan that install.sh built in ~/.cache/wqplan or
 # $XDG_CACHE_HOME/wqplan, unless another one is named.
 #
 # What the toolchain says of a crate has the seconds since the start beside it. At the end come when each crate was proved, and the
@@ -102,8 +102,12 @@ fi
 part 'rt ci' toolchain
 read -r passed _ failed _ < <(grep -xE '[0-9]+ passed, [0-9]+ failed' "$work/said" | tail -n 1) || { passed=0 && failed=1; }
 [ "$status" -eq 0 ] || ends
+if [ "${1-}" = edits ]; then
+    script edits --built
+else
+    script edits --built --known
+fi
 for name in $alone $of_wqplan $of_others; do
     script "$name"
 done
-[ "${1-}" != edits ] || script edits
 ends

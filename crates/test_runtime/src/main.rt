@@ -1,27 +1,31 @@
 //! `test_runtime`: makes the calls of a book or of a runtime that a text asks for, has rescuers, bodies and callers do what a text or
 //! the declaration says, judges the rows of a history, or runs a load on a runtime in many threads, and prints what came of it.
 //!
-//! It is a program of the tests and of the measurements (bench/README.md), and never installed. "The test program `test_runtime`" in
-//! docs/FORMAT.md says what it reads and prints; no contract does. It takes the time of what is asked, and that of printing it.
+//! It is a program of the tests and of the measurements (bench/README.md), and never installed. What it
+//! reads and prints is in tests/FORMATS.md; no contract says so. It takes the time of what is asked, and that of printing it.
 #![tactic(auto)]
 
+mod loads;
+mod sessions;
+mod testbed;
+
+use crate::loads::Load;
+use crate::sessions::{Request, Task, answer};
+use crate::testbed::{
+    MAX_HELPERS, MAX_TEXT, Setting, ended, misused, print_answer, read_file, read_texts, unread,
+    without_helpers, words,
+};
 use std::process::ExitCode;
 use std::rt::{Env, Files};
 use std::sync::Wait;
 use std::thread::Threads;
 use std::time::Clock;
-use test_loads::Load;
-use test_sessions::testbed::{
-    MAX_HELPERS, MAX_TEXT, Setting, ended, misused, print_answer, read_file, read_texts, unread,
-    without_helpers, words,
-};
-use test_sessions::{Request, Task, answer};
 use wq_commands::Fault;
 
 const USAGE: &str = "usage: test_runtime [helpers N] book DECL ASSIGN ROWS EVENTS \
     | check DECL ASSIGN HEX | calls DECL ASSIGN ROWS CALLS | crew DECL ASSIGN ROWS DEEDS \
     | report DECL ASSIGN ROWS DEEDS | script DECL ASSIGN ROWS [ACTS] \
-    | stress DECL ASSIGN ROWS SEED CALLS | bench DECL ASSIGN ROWS rounds|storm|fill CALLERS N";
+    | stress DECL ASSIGN ROWS SEED CALLS | bench DECL ASSIGN ROWS rounds|storm|fill|sleep CALLERS N";
 
 /// A task in a setting, and the file of its text, if it has one.
 #[derive(Clone, Copy)]
@@ -130,7 +134,7 @@ fn run_load<R: Files + Print + AllocGlobal + Threads + Wait + Clock + Sync>(
 ) -> Result<u8, Fault> {
     let texts = read_texts(rt, setting)?;
     let mut out = String::new(rt.alloc());
-    let status = test_loads::answer(
+    let status = crate::loads::answer(
         rt,
         rt.alloc(),
         setting.rows,

@@ -1,0 +1,12 @@
+use Rattle.wq_groups.specs.Declaration.{declaration_of}
+use Rattle.wq_core.specs.Wiring.{wiring, with_helpers}
+use Rattle.test_runtime.proofs.sessions.requests.play_new.Given as goal
+
+abbrev pub ghosts-play_named-N-Naming : goal.ghosts-play_named-N-Naming
+ghosts-play_named-N-Naming g a = record {
+  wiring = with_helpers (wiring (declaration_of a.bed.now.table.now a.bed.now.groups.now) a.bed.now.assignment.now) a.bed.now.helpers;
+  rows = a.bed.now.rows;
+}
+
+abbrev pub ghosts-play_named-N-Ledger : goal.ghosts-play_named-N-Ledger
+ghosts-play_named-N-Ledger g a = record { name = a.blank.name; parts = a.blank.parts }

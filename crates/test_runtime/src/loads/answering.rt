@@ -1,0 +1,75 @@
+//! The answer to a declaration and an assignment: they are judged, and then a load is run. It takes the time of both.
+
+ghost use Rattle.std.specs.Prelude.{◌≡◌, length};
+
+use crate::loads::load::Load;
+use crate::loads::running::run;
+use crate::testbed::{Bed, SEED, Texts, refuse_text};
+use std::alloc::{AllocError, Global};
+use std::sync::Wait;
+use std::thread::Threads;
+use std::time::Clock;
+use wq_cert::{CertError, read_assignment};
+use wq_commands::{Stop, read_declaration};
+use wq_groups::Groups;
+use wq_items::ItemTable;
+
+/// Answers for the items of a table, in these groups, under the assignment in a text. Returns the status.
+fn answer_declared<R: Threads + Wait + Clock + Sync>(
+    rt: &R,
+    alloc: Global,
+    rows: u32,
+    helpers: u8,
+    table: &ItemTable<'_, Global>,
+    groups: &Groups<Global>,
+    assigned: &[u8],
+    load: Load,
+    out: &mut String,
+) -> Result<u8, AllocError>
+    requires { length groups.now.group_of ≡ length table.now.names }
+{
+    // What holds of all groups.
+    let _groups = groups.len();
+    match read_assignment(alloc, assigned, table, groups) {
+        Ok(assignment) => {
+            let bed = Bed {
+                table,
+                groups,
+                assignment: &assignment,
+                rows,
+                helpers,
+            };
+            run(rt, alloc, &bed, load, out)
+        }
+        Err(CertError::OutOfMemory) => Err(AllocError),
+        Err(fault) => refuse_text(out, fault.code(), fault.line()),
+    }
+}
+
+/// Runs a load on a runtime of these texts, this many rows and this many helpers, and adds what came of it; or the refusal of the first
+/// text that has to be refused. Returns the status.
+pub fn answer<R: Threads + Wait + Clock + Sync>(
+    rt: &R,
+    alloc: Global,
+    rows: u32,
+    helpers: u8,
+    texts: &Texts,
+    load: Load,
+    out: &mut String,
+) -> Result<u8, AllocError> {
+    match read_declaration(alloc, SEED, &texts.declared) {
+        Ok(d) => answer_declared(
+            rt,
+            alloc,
+            rows,
+            helpers,
+            &d.table,
+            &d.groups,
+            &texts.assigned,
+            load,
+            out,
+        ),
+        Err(Stop::Refused { code, line }) => refuse_text(out, code, line),
+        Err(Stop::OutOfMemory) => Err(AllocError),
+    }
+}

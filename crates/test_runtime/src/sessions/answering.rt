@@ -1,0 +1,81 @@
+//! The answer to a declaration and an assignment: they are judged, and then what is asked is done with them. It takes the time of these.
+
+ghost use Rattle.std.specs.Prelude.{◌≡◌, length};
+
+use crate::sessions::requests::Request;
+use crate::testbed::{Bed, SEED, Texts, refuse_text};
+use std::alloc::{AllocError, Global};
+use std::sync::Wait;
+use std::thread::Threads;
+use std::time::Clock;
+use wq_cert::{CertError, read_assignment};
+use wq_commands::{Stop, read_declaration};
+use wq_groups::Groups;
+use wq_items::ItemTable;
+
+/// Does what is asked with the items of a table, in these groups, under the assignment in a text. Returns the status.
+fn answer_declared<R: Threads + Wait + Clock + Sync>(
+    rt: &R,
+    alloc: Global,
+    rows: u32,
+    helpers: u8,
+    table: &ItemTable<'_, Global>,
+    groups: &Groups<Global>,
+    assigned: &[u8],
+    request: &Request<'_>,
+    out: &mut String,
+) -> Result<u8, AllocError>
+    requires { length groups.now.group_of ≡ length table.now.names }
+{
+    // What holds of all groups.
+    let _groups = groups.len();
+    match read_assignment(alloc, assigned, table, groups) {
+        Ok(assignment) => {
+            let bed = Bed {
+                table,
+                groups,
+                assignment: &assignment,
+                rows,
+                helpers,
+            };
+            let status = request.perform(rt, alloc, &bed, out);
+            // Written as a call, so that the proof has one step for it.
+            drop(assignment);
+            status
+        }
+        Err(CertError::OutOfMemory) => Err(AllocError),
+        Err(fault) => refuse_text(out, fault.code(), fault.line()),
+    }
+}
+
+/// Does what is asked with what these texts say, with so many rows and so many helpers, or refuses the first text that has to be
+/// refused. Returns the status.
+pub fn answer<R: Threads + Wait + Clock + Sync>(
+    rt: &R,
+    alloc: Global,
+    rows: u32,
+    helpers: u8,
+    texts: &Texts,
+    request: &Request<'_>,
+    out: &mut String,
+) -> Result<u8, AllocError> {
+    match read_declaration(alloc, SEED, &texts.declared) {
+        Ok(declared) => {
+            let status = answer_declared(
+                rt,
+                alloc,
+                rows,
+                helpers,
+                &declared.table,
+                &declared.groups,
+                &texts.assigned,
+                request,
+                out,
+            );
+            drop(declared);
+            status
+        }
+        Err(Stop::Refused { code, line }) => refuse_text(out, code, line),
+        Err(Stop::OutOfMemory) => Err(AllocError),
+    }
+}

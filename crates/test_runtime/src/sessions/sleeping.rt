@@ -1,0 +1,86 @@
+//! Calls that sleep, each in a thread of its own, until a call of this thread wakes them.
+//!
+//! It takes a tenth of a second, in which they fall asleep, and the time of the calls. Where nobody wakes them, it never ends.
+
+use crate::sessions::asking::Call;
+use crate::sessions::seats::Seats;
+use std::alloc::{AllocError, Global};
+use std::sync::Wait;
+use std::thread;
+use std::thread::Threads;
+use std::time::{Clock, Duration};
+use wq_api::{Naming, WqRuntime};
+use wq_items::ItemTable;
+
+/// How many milliseconds the threads have to fall asleep.
+const NAP: u64 = 100;
+
+/// A call that is to sleep.
+#[derive(Drop)]
+pub(crate) struct Sleeper<N: Naming> {
+    /// The seat in which it counts, if there was one more.
+    pub(crate) seats: Seats<N>,
+    pub(crate) call: Call,
+    /// The words of its line, and then its answer.
+    pub(crate) said: String,
+}
+
+impl<N: Naming> Sleeper<N> {
+    /// Makes the call, and adds the answer.
+    fn make<R: Wait>(
+        &mut self,
+        rt: &R,
+        alloc: Global,
+        runtime: &WqRuntime<N, Global>,
+        table: &ItemTable<'_, Global>,
+    ) -> Result<(), AllocError> {
+        self.seats
+            .ask(rt, alloc, runtime, table, self.call, &mut self.said)
+    }
+
+    /// Makes the call in the thread that has taken the sleeper, and hands it back.
+    fn made<R: Wait>(
+        mut self,
+        rt: &R,
+        alloc: Global,
+        runtime: &WqRuntime<N, Global>,
+        table: &ItemTable<'_, Global>,
+    ) -> Result<Self, AllocError> {
+        self.make(rt, alloc, runtime, table)?;
+        Ok(self)
+    }
+}
+
+/// Makes calls that sleep, each in a thread of its own; a tenth of a second later makes the call that wakes them, and adds its answer; and
+/// waits until all of them are answered. Where a thread can't be made, this counts as out of memory.
+pub(crate) fn wake<N: Naming + Send + Sync, R: Threads + Wait + Clock + Sync>(
+    rt: &R,
+    alloc: Global,
+    runtime: &WqRuntime<N, Global>,
+    table: &ItemTable<'_, Global>,
+    sleepers: Vec<Sleeper<N>>,
+    seats: &mut Seats<N>,
+    call: Call,
+    out: &mut String,
+) -> Result<Vec<Sleeper<N>>, AllocError> {
+    thread::scope(
+        thread::scope_env(),
+        rt,
+        move |scope| -> Result<Vec<Sleeper<N>>, AllocError> {
+            let mut threads = Vec::new(alloc);
+            for sleeper in sleepers {
+                match scope.spawn(move || sleeper.made(rt, alloc, runtime, table)) {
+                    Ok(thread) => threads.push(thread)?,
+                    Err(_) => return Err(AllocError),
+                }
+            }
+            thread::sleep(rt, Duration::from_millis(NAP));
+            let made = seats.ask(rt, alloc, runtime, table, call, out);
+            let mut woken = Vec::new(alloc);
+            for thread in threads {
+                woken.push(thread.join(rt)?)?;
+            }
+            made.and(Ok(woken))
+        },
+    )
+}

@@ -1,4 +1,0 @@
-use Rattle.test_sessions.proofs.asks.give_up_all.Given as goal
-
-abbrev pub decreases-loop-slot : goal.decreases-loop-slot
-decreases-loop-slot l = goal.left-loop-slot l

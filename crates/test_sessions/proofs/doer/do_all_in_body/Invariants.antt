@@ -1,7 +1,0 @@
-use Rattle.std.proofs.Common.{◌≡◌}
-use Rattle.wq_rescuer.specs.Executing.{SameFinished}
-use Rattle.test_sessions.proofs.doer.do_all_in_body.Given as goal
-
--- no finish was counted, and the seat is the same
-abbrev pub invariant-loop-deed : goal.invariant-loop-deed
-invariant-loop-deed g l = SameFinished l.fn.work.seat.now l.work.seat.now × (l.work.seat.ghost_name ≡ l.fn.work.seat.ghost_name)
