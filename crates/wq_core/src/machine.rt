@@ -550,6 +550,7 @@ impl<A: Allocator> Core<A> {
 
     /// The number that a step would give; none where it wouldn't be made, because it isn't lawful (30) or the numbers are used up
     /// (31).
+    #[inline(always)]
     pub fn peek(&self, step: &Step) -> Option<u32>
         ensures some { IfSome result (λ n. IsDone self.now step.now n (machine_after self.now step.now)) }
         ensures none { IfNone result ((e : StepError) × IsRefusal self.now step.now e) }

@@ -223,6 +223,7 @@ Holds-held w rows parts b tallies sums seats left amount held book =
       of_wiring = held.of_wiring;
       of_rows = held.of_rows;
       legal = book;
+      few_helpers = held.few_helpers;
       safe = held.safe;
       not_stuck = subst (λ (x : Wiring). ¬ IsStuck w (state_after x b.rows)) (sym held.of_wiring) (held.safe w.helpers held.few_helpers (steps_of b.rows) (IsRun-legal w b.rows legal));
     }

@@ -73,12 +73,13 @@ pub record IsLedgered (w : Wiring) (tallies : List ℕ) (total : ℕ) : Type 0 w
   pub total_is : total ≡ sum tallies
 
 -- whenever the lock is taken, the book is of this wiring and has room for this many rows; its rows are a legal history whose
--- replay is its state, and rows are kept for what is to come; no run of the assignment ends stuck, whatever helpers there are, and
--- so its state isn't stuck
+-- replay is its state, and rows are kept for what is to come; each lane has at most 8 helpers; no run of the assignment ends stuck,
+-- whatever helpers there are, and so its state isn't stuck
 pub record Holds (w : Wiring) (rows : ℕ) (b : BookView) : Type 0 where
   pub of_wiring : b.wiring ≡ w
   pub of_rows : b.room ≡ rows
   pub legal : IsBook b
+  pub few_helpers : w.helpers ≤ max_helpers
   pub safe : IsSafe w
   pub not_stuck : ¬ IsStuck w (state b)
 

@@ -9,13 +9,14 @@
 
 ghost use Rattle.std.specs.Prelude.{◌≡◌, ℕ, ◌+◌, ◌<◌, ◌≤◌, ◌↔◌, [], sum, replicate, ◌*◌, true, false, IsTrue, IfOk, IfErr, OnOk, OnErr, IfSome, IfNone};
 ghost use Rattle.wq_core.specs.Wiring.{items, lane_of, max_helpers, helpers_of, HasContext};
-ghost use Rattle.wq_core.specs.State.{HasUnfinished};
+ghost use Rattle.wq_core.specs.State.{HasPending, HasUnfinished};
 ghost use Rattle.wq_core.specs.Deadlock.{IsSafe};
 ghost use Rattle.wq_rows.specs.declared.event.Event.TheVariants.{Queue, Cancel, Ask as AskEvent, Told as ToldEvent};
 ghost use Rattle.wq_counts.specs.declared.kind.Kind.TheVariants.{Queue as QueueKind, Cancel as CancelKind, Finish as FinishKind};
 ghost use Rattle.wq_counts.specs.Counting.{counts_each, wait_kind, raised, counted_rows};
 ghost use Rattle.wq_history.specs.Events.{wait_event, finish_event};
 ghost use Rattle.wq_history.specs.Book.{BookView, state, free, AppendsOne, IsWrongToStart, IsNotAwake, RefusesQueue, RefusesItem, RefusesAskLane, RefusesLane, RefusesWait};
+ghost use Rattle.wq_history.specs.Waits.{IsMet, EndOf};
 ghost use Rattle.wq_history.specs.Answers.{AnswersAsk, AnswersTold, AnswersAskLane, AnswersToldLane, AnswersStart};
 ghost use Rattle.wq_held.specs.Errors.{RefusedAs};
 ghost use Rattle.wq_held.specs.Locked.{max_runtime_lanes, slots, RefusesAskAndCancel, IsOnLane, HeldView, Holds, CountsAsk, CountsTold, CountsAskLane, CountsToldLane, CountsOver, AsksAndCancels, CountsAskAndCancel, HasNothingPending, RunsItem, WaitsFor, AnswersOverOf, IsWrongToGoOn, IsWrongToFinish, RefusesClose, Closes};
@@ -181,6 +182,20 @@ impl<N: Naming, A: Allocator> Held<N, A> {
         ensures { IsTrue result ↔ HasNothingPending self.now.book q }
     {
         !self.book.is_pending_on(q)
+    }
+
+    /// Whether an entry of an item is pending; false for an item that doesn't exist.
+    pub fn is_pending(&self, item: ItemId) -> bool
+        ensures { IsTrue result ↔ HasPending (state self.now.book) item }
+    {
+        self.book.is_pending(item)
+    }
+
+    /// Whether nobody who serves a workqueue has anything more to do: the book is closed, and nothing is pending on it.
+    pub fn has_ended(&self, q: LaneId) -> bool
+        ensures { IsTrue result ↔ IsMet self.now.book (EndOf q) }
+    {
+        self.is_closed() && self.nothing_pending_on(q)
     }
 
     /// The number of free rows.

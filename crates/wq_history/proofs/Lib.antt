@@ -6,3 +6,7 @@ pub mod LegalRows
 pub mod KeptRows
 pub mod WaitEvents
 pub mod Deeds
+pub mod Startable
+pub mod Wakes
+pub mod Crews
+pub mod Idle

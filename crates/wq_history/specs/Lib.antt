@@ -7,4 +7,6 @@ pub mod Reserve
 pub mod Book
 pub mod Counts
 pub mod Answers
+pub mod Waits
+pub mod Sleeping
 pub mod Judging

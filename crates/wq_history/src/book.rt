@@ -681,11 +681,11 @@ impl<A: Allocator> Book<A> {
         self.closed
     }
 
-    /// Whether no entry is unfinished.
+    /// Whether no entry is unfinished. Then no work is left, and only then.
     pub fn is_idle(&self) -> bool
         ensures { IsTrue result ↔ (¬ HasUnfinished (state self.now)) }
     {
-        self.core.is_idle()
+        self.work == 0
     }
 
     /// Whether some ask is waiting. Where none is, for each item and each lane as many callers were told as asked about it with

@@ -42,6 +42,7 @@ fn is_lane<A: Allocator>(core: &Core<A>, q: LaneId) -> bool
 }
 
 /// Whether a step is lawful and gives this number.
+#[inline(always)]
 fn makes<A: Allocator>(core: &Core<A>, step: &Step, number: u32) -> bool
     requires { core.now.state.next < 4294967295 }
     ensures { IsTrue result ↔ Makes core.now.wiring core.now.state step.now number }

@@ -19,6 +19,10 @@ ghost use Rattle.wq_history.specs.declared.asking.Subject.TheVariants.{Item as O
 ghost use Rattle.wq_history.specs.Events.{steps_of, subject_in, begins_to_wait, ends_a_wait, is_ask, is_told};
 ghost use Rattle.wq_history.specs.History.{state_after, asks_waiting, IsThere, MayCome, MayFollow, IsLegal};
 ghost use Rattle.wq_history.specs.Reserve.{reserved, rows_needed};
+ghost use Rattle.wq_history.specs.declared.sleepers.Wake.{Wake};
+ghost use Rattle.wq_history.specs.Book.{BookView, IsBook, Appends};
+ghost use Rattle.wq_history.specs.Waits.{Condition, BecomesMet, WakesBy, WakesEnough, WakesOne, sleepers_for, every_context};
+ghost use Rattle.wq_history.specs.Sleeping.{Crew, Moves, IsCovered};
 
 /// A history is legal exactly where it is legal without its last row, and that row may follow the others.
 pub fn a_history_is_legal_row_by_row()
@@ -80,4 +84,24 @@ pub fn no_more_are_told_than_asked()
         count_by (ends_a_wait x) rows ≤ count_by (begins_to_wait x) rows }
     ensures in_all { (w : Wiring) (rows : List Row) → IsLegal w rows →
         count_by (λ (row : Row). is_told row.event) rows ≤ count_by (λ (row : Row). is_ask row.event && row.yes) rows }
+{}
+
+/// Whom an event wakes, and whom the closing of a book wakes, is enough: each who sleeps for a condition that becomes true, and one
+/// context for each entry more that it may start.
+pub fn an_event_wakes_enough()
+    ensures event { (old new : BookView) (event : Event) (said : Bool) (n : ℕ) (wake : Wake) → IsBook old →
+        old.wiring.helpers ≤ max_helpers → Appends old new event said n → WakesBy new event said wake → WakesEnough old new wake }
+    ensures closing { (old : BookView) → WakesEnough old (record old { closed = true }) every_context }
+{}
+
+/// Where enough are woken, somebody is woken for each condition that becomes true.
+pub fn whoever_can_go_on_is_woken()
+    ensures { (old new : BookView) (wake : Wake) (c : Condition) → WakesEnough old new wake → BecomesMet old new c →
+        WakesOne wake (sleepers_for old.wiring c) }
+{}
+
+/// Whatever happens to the contexts of a lane: nobody sleeps, or for each entry that may be started somebody was woken and hasn't
+/// looked, or will be woken. So once all were woken and have looked, nobody sleeps beside an entry that may be started.
+pub fn no_wake_up_of_a_context_is_lost()
+    ensures { (old new : Crew) → Moves old new → IsCovered old → IsCovered new }
 {}

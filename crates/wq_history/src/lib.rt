@@ -13,6 +13,7 @@ mod fault;
 mod judging;
 pub mod laws;
 mod row_error;
+mod sleepers;
 mod waits;
 
 pub use asking::{Ask, Asked, LaneAsk, LaneAsked, LaneTold, Subject, Told};
@@ -20,5 +21,6 @@ pub use book::Book;
 pub use fault::BookError;
 pub use judging::check_rows;
 pub use row_error::{RowError, RowFault};
+pub use sleepers::{Sleepers, Wake, WokenContexts};
 pub use waits::{event_of, finish_event, over_event, wait_event};
 pub use wq_rows::{Event, MAX_ROWS, Row, Rows, pack, unpack};

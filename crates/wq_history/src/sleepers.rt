@@ -1,0 +1,79 @@
+//! Those who sleep until something has happened to a book, and whom an event wakes.
+//!
+//! Those for whom the same events count are a group: they sleep on one condition variable. Nothing is computed here, and each call
+//! takes constant time.
+
+ghost use Rattle.std.specs.Prelude.{◌≡◌};
+ghost use Rattle.wq_history.specs.Waits.{nobody, one_context, every_context};
+
+use wq_groups::LaneId;
+
+/// A group of those who sleep.
+#[derive(Clone, Copy, Debug, PartialEq, Eq)]
+pub enum Sleepers {
+    /// The contexts of this lane that have nothing to start.
+    Contexts(LaneId),
+    /// Whoever waits until entries of this lane have ended: callers, and what contexts of any lane run.
+    Waiters(LaneId),
+    /// Callers who wait until nothing is unfinished.
+    Destroyers,
+}
+
+/// Which contexts are woken.
+#[derive(Clone, Copy, Debug, PartialEq, Eq)]
+pub enum WokenContexts {
+    /// None.
+    Nobody,
+    /// One of this lane, if one sleeps there.
+    One(LaneId),
+    /// All of this lane.
+    All(LaneId),
+    /// All of all lanes.
+    Everybody,
+}
+
+/// Who is woken.
+#[derive(Clone, Copy, Debug, PartialEq, Eq)]
+pub struct Wake {
+    /// Which contexts.
+    pub contexts: WokenContexts,
+    /// All who wait until entries of this lane have ended.
+    pub waiters: Option<LaneId>,
+    /// Whether all are woken who wait until nothing is unfinished.
+    pub destroyers: bool,
+}
+
+impl Wake {
+    /// Nobody.
+    pub fn nobody() -> Wake
+        ensures { result ≡ nobody }
+    {
+        Wake {
+            contexts: WokenContexts::Nobody,
+            waiters: None,
+            destroyers: false,
+        }
+    }
+
+    /// One context of a lane.
+    pub fn one_context(q: LaneId) -> Wake
+        ensures { result ≡ one_context q }
+    {
+        Wake {
+            contexts: WokenContexts::One(q),
+            waiters: None,
+            destroyers: false,
+        }
+    }
+
+    /// All contexts of all lanes.
+    pub fn every_context() -> Wake
+        ensures { result ≡ every_context }
+    {
+        Wake {
+            contexts: WokenContexts::Everybody,
+            waiters: None,
+            destroyers: false,
+        }
+    }
+}
